@@ -1,0 +1,34 @@
+-- Prices of amounts under a rate, in exact numbers.
+use Rattle.std.specs.Prelude.{ℕ, ◌≡◌, ◌+◌, ◌-◌, ◌*◌, ◌/◌, ◌<◌, ◌≤◌, min, Result, Ok, Err, nat_lt, ◌==◌, ◌||◌, if◌then◌else◌}
+use Rattle.money_core.specs.Fraction.{Fraction, IsFraction}
+use Rattle.money_core.specs.declared.rate.RateFault.{RateFault}
+use Rattle.money_core.specs.declared.rate.RateFault.TheVariants.{Zero, Limit}
+
+-- the price of an amount is the whole part of amount * numerator / denominator
+abbrev pub IsPrice : Fraction → ℕ → ℕ → Type 0
+IsPrice f amount price =
+    (price * f.denominator ≤ amount * f.numerator) × (amount * f.numerator < (price + 1) * f.denominator)
+
+-- and this computes it
+abbrev pub price_of : Fraction → ℕ → ℕ
+price_of f amount = amount * f.numerator / f.denominator
+
+-- the amount is within its limit, its price within its bound, and no larger amount is so
+pub record IsGreatestAmount (f : Fraction) (limit max amount : ℕ) : Type 0 where
+  pub within : amount ≤ limit
+  pub price_fits : price_of f amount ≤ max
+  pub greatest : (larger : ℕ) → larger ≤ limit → price_of f larger ≤ max → larger ≤ amount
+
+-- and this computes it
+abbrev pub greatest_amount : Fraction → ℕ → ℕ → ℕ
+greatest_amount f limit max =
+    if nat_lt (((max + 1) * f.denominator - 1) / f.numerator) limit
+    then ((max + 1) * f.denominator - 1) / f.numerator
+    else limit
+
+-- the rate of two numbers, or the first fault
+abbrev pub rate_at : ℕ → ℕ → Result Fraction RateFault
+rate_at numerator denominator =
+    if numerator == 0 || denominator == 0 then Err Zero
+    else (if nat_lt 1_000_000_000_000 numerator || nat_lt 1_000_000_000_000 denominator then Err Limit
+    else Ok (record { numerator = numerator; denominator = denominator }))

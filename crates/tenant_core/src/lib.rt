@@ -1,0 +1,6 @@
+//! Books of tenants.
+#![tactic(auto)]
+
+mod text;
+
+pub use text::Text;

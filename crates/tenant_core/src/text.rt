@@ -1,0 +1,51 @@
+//! Short texts in fixed room.
+
+ghost use Rattle.std.specs.Prelude.{◌≡◌, ◌≤◌, length, IsSome, IfSome, ◌↔◌};
+
+use arrayvec::ArrayVec;
+use std::marker::Model;
+
+/// At most `N` bytes, kept in place: no call of it takes memory.
+#[derive(Drop)]
+pub struct Text<const N: usize> {
+    bytes: ArrayVec<u8, N>,
+}
+
+impl<const N: usize> Model for Text<N> {
+    ghost use Rattle.std.specs.Prelude.{List, ℕ};
+
+    ghost Value = { List ℕ };
+
+    ghost view = { λ t. t.bytes.items };
+}
+
+impl<const N: usize> Text<N> {
+    /// The text of these bytes, unless there are more than `N`.
+    pub fn from_bytes(bytes: &[u8]) -> Option<Text<N>>
+        ensures fits { IsSome result ↔ (length bytes.now ≤ N) }
+        ensures same { IfSome result (λ t. t ≡ bytes.now) }
+    {
+        let mut copy = ArrayVec::new();
+        match copy.try_extend_from_slice(bytes) {
+            Ok(()) => Some(Text { bytes: copy }),
+            Err(_) => None,
+        }
+    }
+
+    /// The bytes.
+    pub fn as_bytes(&self) -> &[u8]
+        ensures value { result.now ≡ self.now }
+        ensures short { length result.now ≤ N }
+    {
+        self.bytes.as_slice()
+    }
+
+    /// The same text once more.
+    pub fn copy(&self) -> Text<N>
+        ensures { result ≡ self.now }
+    {
+        let mut bytes = ArrayVec::new();
+        let _ = bytes.try_extend_from_slice(self.bytes.as_slice());
+        Text { bytes }
+    }
+}
