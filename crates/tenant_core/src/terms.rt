@@ -1,0 +1,77 @@
+//! What a tenant's setup says, before anything is tested.
+
+use crate::items::Items;
+use crate::text::Text;
+use money_core::Rate;
+
+/// A peer's number: peers are numbered from 0 in the order in which they are added.
+pub type PeerNo = u16;
+
+/// What a peer is to the tenant.
+#[derive(Clone, Copy, Debug, PartialEq, Eq)]
+pub enum Role {
+    /// A customer below the tenant, with an address below the tenant's own.
+    Child,
+    /// A neighbour beside it.
+    Peer,
+}
+
+/// What is agreed with a peer.
+#[derive(Drop)]
+pub struct PeerTerms {
+    pub name: Text<32>,
+    pub role: Role,
+    /// What the peer shows with the packets that it sends.
+    pub token: Text<64>,
+    /// Where the peer takes packets, and what is shown there.
+    pub url: Text<255>,
+    pub out_token: Text<64>,
+    /// The code of the peer's asset, and how many decimal places a unit of it has.
+    pub asset: Text<16>,
+    pub scale: u8,
+    /// The greatest amount of one packet, in the peer's units.
+    pub cap: u64,
+    /// The most that the peer may owe, in its units.
+    pub ceiling: u64,
+    /// The most that may be owed to the peer, in its units.
+    pub credit: u64,
+    /// How many packets at once, and how many a second after that.
+    pub burst: u32,
+    pub per_second: u32,
+    /// What the peer owes at the start, in its units.
+    pub balance: i64,
+}
+
+/// Packets for addresses that begin with the prefix go to the peer.
+#[derive(Drop)]
+pub struct RouteTerms {
+    pub prefix: Text<1023>,
+    pub peer: PeerNo,
+}
+
+/// What packets of one peer for another cost.
+#[derive(Clone, Copy)]
+pub struct RateTerms {
+    pub from: PeerNo,
+    pub to: PeerNo,
+    pub rate: Rate,
+}
+
+/// A tenant as its setup describes it.
+#[derive(Drop)]
+pub struct TenantTerms {
+    pub name: Text<32>,
+    /// The tenant's own address.
+    pub address: Text<900>,
+    /// What an operator shows who governs the tenant.
+    pub admin: Text<64>,
+    /// How many places the journal of a period has.
+    pub journal: u64,
+    /// By how many milliseconds a packet's expiry is brought forward.
+    pub margin: u64,
+    /// For how many milliseconds a packet may be held at most.
+    pub hold: u64,
+    pub peers: Items<PeerTerms>,
+    pub route: RouteTerms,
+    pub rate: RateTerms,
+}
