@@ -1,1 +1,5 @@
-
+pub mod Key
+pub mod State
+pub mod Route
+pub mod Judge
+pub mod Setup
