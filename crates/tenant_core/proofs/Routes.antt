@@ -38,7 +38,7 @@ begins_at [] rest = empty_first rest
 begins_at (b ∷ p) rest = by (eqb b 46) (begins_at p rest) (some_segment p) (some_segment (p ++ rest))
   where
     by : (t : Bool) → begins_with (segments p) (segments (p ++ rest)) ≡ is_boundary rest → ((x : List ℕ) × ((xs : List (List ℕ)) × (segments p ≡ x ∷ xs))) → ((x : List ℕ) × ((xs : List (List ℕ)) × (segments (p ++ rest) ≡ x ∷ xs)))
-       → begins_with (cond t ([] ∷ segments p) (onto_first b (segments p))) (cond t ([] ∷ segments (p ++ rest)) (onto_first b (segments (p ++ rest)))) ≡ is_boundary rest
+        → begins_with (cond t ([] ∷ segments p) (onto_first b (segments p))) (cond t ([] ∷ segments (p ++ rest)) (onto_first b (segments (p ++ rest)))) ≡ is_boundary rest
     by true e h k = e
     by false e h k = onto_both b (segments p) (segments (p ++ rest)) h.0 k.0 h.1.0 k.1.0 h.1.1 k.1.1 ∙ e
 
@@ -54,8 +54,9 @@ begins_only (b ∷ p) (c ∷ d) h = by (begins_only p d) (eqb b 46) (eqb c 46) r
   where
     went : (begins_with (segments p) (segments d) ≡ true → (rest : List ℕ) × (d ≡ p ++ rest)) → b ≡ c → begins_with (segments p) (segments d) ≡ true → (rest : List ℕ) × (c ∷ d ≡ b ∷ (p ++ rest))
     went before e k = let r = before k in (r.0, rw (e, r.1) refl)
+
     by : (begins_with (segments p) (segments d) ≡ true → (rest : List ℕ) × (d ≡ p ++ rest)) → (t u : Bool) → eqb b 46 ≡ t → eqb c 46 ≡ u → ((x : List ℕ) × ((xs : List (List ℕ)) × (segments p ≡ x ∷ xs))) → ((x : List ℕ) × ((xs : List (List ℕ)) × (segments d ≡ x ∷ xs)))
-       → begins_with (cond t ([] ∷ segments p) (onto_first b (segments p))) (cond u ([] ∷ segments d) (onto_first c (segments d))) ≡ true → (rest : List ℕ) × (c ∷ d ≡ b ∷ (p ++ rest))
+        → begins_with (cond t ([] ∷ segments p) (onto_first b (segments p))) (cond u ([] ∷ segments d) (onto_first c (segments d))) ≡ true → (rest : List ℕ) × (c ∷ d ≡ b ∷ (p ++ rest))
     by before true true e f s k h = went before (eqb-true b 46 e ∙ sym (eqb-true c 46 f)) h
     by before true false e f s k h = let bad = rw k.1.1 at h in absurd cc
     by before false true e f s k h = let bad = rw s.1.1 at h in absurd cc

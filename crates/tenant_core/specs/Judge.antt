@@ -42,16 +42,17 @@ outgoing_expiry o expiry clock = min (expiry - o.margin) (clock + o.hold)
 abbrev pub refuse : RejectCode → Verdict
 refuse code = Refuse code None
 
-abbrev pub priced : State → Peer → Peer → Key → ℕ → Option Fraction → Verdict
-priced s from to key clock None = refuse Unreachable
-priced s from to key clock (Some rate) =
+-- a packet for that peer, at that rate; `hold` is the number that it is held under
+abbrev pub priced : Opening → ℕ → Peer → Peer → Key → ℕ → Option Fraction → Verdict
+priced o hold from to key clock None = refuse Unreachable
+priced o hold from to key clock (Some rate) =
     if nat_lt to.terms.cap (price_of rate key.amount) then Refuse AmountTooLarge (Some (key.amount, greatest_amount rate from.terms.cap to.terms.cap))
-    else (if nat_le (outgoing_expiry s.opening key.expiry clock) clock then refuse InsufficientTimeout
-    else Forward (next_hold s) to.number (price_of rate key.amount) (outgoing_expiry s.opening key.expiry clock))
+    else (if nat_le (outgoing_expiry o key.expiry clock) clock then refuse InsufficientTimeout
+    else Forward hold to.number (price_of rate key.amount) (outgoing_expiry o key.expiry clock))
 
-abbrev pub routed : State → Peer → Key → ℕ → Option Peer → Verdict
-routed s from key clock None = refuse Unreachable
-routed s from key clock (Some to) = priced s from to key clock (rate_between s.opening from.number to.number)
+abbrev pub routed : Opening → ℕ → Peer → Key → ℕ → Option Peer → Verdict
+routed o hold from key clock None = refuse Unreachable
+routed o hold from key clock (Some to) = priced o hold from to key clock (rate_between o from.number to.number)
 
 -- the journal has no room for another entry, its answer and those of all open holds
 abbrev pub is_full : State → Bool
@@ -63,7 +64,7 @@ judged s None key clock = Unknown
 judged s (Some from) key clock =
     if is_full s then NoRoom
     else (if nat_le key.expiry clock then refuse InsufficientTimeout
-    else routed s from key clock (onward s.opening from key.destination))
+    else routed s.opening (next_hold s) from key clock (onward s.opening from key.destination))
 
 abbrev pub judge : State → List ℕ → Key → ℕ → Verdict
 judge s token key now = judged s (peer_with_token token s.opening.peers) key (max (clock_of s) now)

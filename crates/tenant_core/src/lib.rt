@@ -1,8 +1,11 @@
 //! Books of tenants.
 #![tactic(auto)]
 
+mod book;
 mod items;
 mod journal;
+mod judge;
+mod numbered;
 mod opening;
 mod route;
 mod setup;
@@ -10,6 +13,7 @@ mod terms;
 mod text;
 mod verdict;
 
+pub use book::Book;
 pub use items::Items;
 pub use journal::{DecideEntry, Entry, Outcome, PrepareKey, Record};
 pub use opening::{Opening, Peer};

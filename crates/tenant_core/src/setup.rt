@@ -78,10 +78,7 @@ fn is_each_within(peers: &[PeerTerms]) -> bool
 fn are_peers_within(peers: &[PeerTerms]) -> bool
     ensures { result ≡ are_peers_within peers.now }
 {
-    peers.len() <= 256
-        && is_each_within(peers)
-        && names_differ(peers)
-        && tokens_differ(peers)
+    peers.len() <= 256 && is_each_within(peers) && names_differ(peers) && tokens_differ(peers)
 }
 
 fn are_times_within(terms: &TenantTerms) -> bool
