@@ -1,5 +1,5 @@
 -- The verdict on a Prepare: that of the first check which fails, in the order of the cases below.
-use Rattle.std.specs.Prelude.{ℕ, ◌+◌, ◌-◌, Bool, true, false, ◌&&◌, not, List, length, find, max, min, Option, Some, None, nat_lt, nat_le, ◌==◌, if◌then◌else◌}
+use Rattle.std.specs.Prelude.{ℕ, ◌≤◌, ◌+◌, ◌-◌, Bool, true, false, ◌&&◌, not, List, length, find, max, min, Option, Some, None, nat_lt, nat_le, ◌==◌, if◌then◌else◌}
 use Rattle.std.specs.Str.{bytes_eq}
 use Rattle.money_core.specs.Fraction.{Fraction}
 use Rattle.money_core.specs.Price.{price_of, greatest_amount}
@@ -70,17 +70,29 @@ abbrev pub judge : State → List ℕ → Key → ℕ → Verdict
 judge s token key now = judged s (peer_with_token token s.opening.peers) key (max (clock_of s) now)
 
 -- the record of a Prepare
-abbrev pub decide_record : Peer → Key → ℕ → Verdict → Record
-decide_record from key now v =
+abbrev pub decide_record : ℕ → Key → ℕ → Verdict → Record
+decide_record peer key now v =
     record {
-      entry = Decide (record { peer = from.number; amount = key.amount; expiry = key.expiry; condition = key.condition; destination = key.destination; now = now });
+      entry = Decide (record { peer = peer; amount = key.amount; expiry = key.expiry; condition = key.condition; destination = key.destination; now = now });
       outcome = Packet v;
     }
 
--- what a decide leaves: one record more, but none for an unknown token or a full journal
-abbrev pub kept : State → Option Peer → Key → ℕ → Verdict → State
+-- the peer under whose number a Prepare is recorded: none for an unknown token or a full journal
+abbrev pub recording_peer : State → Option Peer → Option ℕ
+recording_peer s None = None
+recording_peer s (Some from) = if is_full s then None else Some from.number
+
+-- what a decide leaves: one record more, or the state as it was
+abbrev pub kept : State → Option ℕ → Key → ℕ → Verdict → State
 kept s None key now v = s
-kept s (Some from) key now v = if is_full s then s else recorded s (decide_record from key now v)
+kept s (Some peer) key now v = recorded s (decide_record peer key now v)
 
 abbrev pub decided : State → List ℕ → Key → ℕ → State
-decided s token key now = kept s (peer_with_token token s.opening.peers) key now (judge s token key now)
+decided s token key now = kept s (recording_peer s (peer_with_token token s.opening.peers)) key now (judge s token key now)
+
+-- a packet that goes on expires no later than it did
+abbrev pub IsSooner : Verdict → ℕ → Type 0
+IsSooner Unknown expiry = Unit {0}
+IsSooner NoRoom expiry = Unit {0}
+IsSooner (Refuse code amounts) expiry = Unit {0}
+IsSooner (Forward hold peer amount outgoing) expiry = outgoing ≤ expiry

@@ -4,7 +4,7 @@ ghost use Rattle.std.specs.Prelude.{◌≡◌, ◌≤◌, Some, None};
 ghost use Rattle.std.specs.Option.{option_copied};
 ghost use Rattle.std.specs.Str.{bytes_eq};
 ghost use Rattle.tenant_core.specs.Key.{key_of};
-ghost use Rattle.tenant_core.specs.Judge.{peer_with_token, peer_numbered, onward, rate_between, outgoing_expiry, refuse, priced, routed};
+ghost use Rattle.tenant_core.specs.Judge.{peer_with_token, peer_numbered, onward, rate_between, outgoing_expiry, refuse, priced, routed, IsSooner};
 
 use crate::journal::PrepareKey;
 use crate::opening::{Opening, Peer};
@@ -63,7 +63,8 @@ fn outgoing_expiry(opening: &Opening, expiry: u64, clock: u64) -> u64
         .min(clock + opening.hold)
 }
 
-fn refuse(code: RejectCode) -> Verdict
+/// A refusal that names no amounts.
+pub fn refuse(code: RejectCode) -> Verdict
     ensures { result ≡ refuse code }
 {
     Verdict::Refuse {
@@ -82,7 +83,8 @@ fn priced(
 ) -> Verdict
     requires clock { clock ≤ 253_400_000_000_000 }
     requires hold { opening.now.hold ≤ 600_000 }
-    ensures { result ≡ priced opening.now hold from.now to.now (key_of key.now) clock (rate_between opening.now from.now.number to.now.number) }
+    ensures sooner { IsSooner result key.now.expiry }
+    ensures verdict { result ≡ priced opening.now hold from.now to.now (key_of key.now) clock (rate_between opening.now from.now.number to.now.number) }
 {
     let Some(rate) = rate_between(opening, from.number, to.number) else {
         return refuse(RejectCode::Unreachable);
@@ -118,7 +120,8 @@ pub fn routed(
 ) -> Verdict
     requires clock { clock ≤ 253_400_000_000_000 }
     requires hold { opening.now.hold ≤ 600_000 }
-    ensures { result ≡ routed opening.now hold from.now (key_of key.now) clock (onward opening.now from.now key.now.destination) }
+    ensures verdict { result ≡ routed opening.now hold from.now (key_of key.now) clock (onward opening.now from.now key.now.destination) }
+    ensures sooner { IsSooner result key.now.expiry }
 {
     match onward(opening, from, &key.destination) {
         Some(to) => priced(opening, hold, from, to, key, clock),

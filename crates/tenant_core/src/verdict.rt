@@ -34,3 +34,15 @@ pub enum Verdict {
         expiry: u64,
     },
 }
+
+impl Verdict {
+    ghost use Rattle.std.specs.Prelude.{◌≡◌};
+    ghost use Rattle.tenant_core.specs.State.{is_forward};
+
+    /// Whether the packet goes on.
+    pub fn is_forward(&self) -> bool
+        ensures { result ≡ is_forward self.now }
+    {
+        matches!(self, Verdict::Forward { .. })
+    }
+}
