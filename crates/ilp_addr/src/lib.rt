@@ -1,0 +1,14 @@
+//! Addresses of the Interledger, moments, and the calendar text of a packet's expiry.
+#![tactic(auto)]
+
+mod address;
+mod calendar;
+mod fault;
+pub mod laws;
+mod moment;
+mod stamp;
+
+pub use address::Address;
+pub use fault::AddrFault;
+pub use moment::Moment;
+pub use stamp::Stamp;
