@@ -1,8 +1,7 @@
 //! Days of the Gregorian calendar.
 
-ghost use Rattle.std.specs.Prelude.{◌≡◌, ◌<◌, ◌≤◌, ◌↔◌, pos, IsTrue, is_some, IsSome, IfSome};
-ghost use Rattle.jiff_core.specs.Calendar.{days_from_civil, IsDate};
-ghost use Rattle.ilp_addr.specs.Timestamp.{is_civil_date};
+ghost use Rattle.std.specs.Prelude.{◌≡◌, ◌<◌, ◌≤◌, ◌≤ℤ◌, ◌↔◌, pos, IsSome, IfSome};
+ghost use Rattle.jiff_core.specs.Calendar.{days_from_civil, IsDate, IsCivilDate};
 
 use jiff::civil::Date;
 
@@ -19,4 +18,21 @@ pub(crate) fn day_number(year: u16, month: u8, day: u8) -> Option<i32>
         Ok(date) => Some(date.to_plain().to_unix_epoch_day()),
         Err(_) => None,
     }
+}
+
+/// The year, the month and the day of the month, that many days after 1970-01-01.
+pub(crate) fn date_of(days: u32) -> (u16, u8, u8)
+    requires { days ≤ 2_932_896 }
+    ensures date { IsCivilDate (pos result.0) result.1 result.2 }
+    ensures number { days_from_civil (pos result.0) result.1 result.2 ≡ pos days }
+{
+    let date = jiff_core::civil::Date::from_days_since_min(days + 4_371_587);
+    (unsigned_year(date.year), date.month, date.day)
+}
+
+fn unsigned_year(year: i16) -> u16
+    requires { pos 0 ≤ℤ year }
+    ensures { pos result ≡ year }
+{
+    year as u16
 }

@@ -1,13 +1,13 @@
 //! The calendar text of a Prepare's expiry (RFC 0027, "ILP Prepare").
 
-ghost use Rattle.std.specs.Prelude.{◌≡◌, ◌≤◌, ◌<◌, ◌+◌, ℕ, All, pos, is_some, IfOk, Ok, IfSome, length};
+ghost use Rattle.std.specs.Prelude.{◌≡◌, ◌≤◌, ◌<◌, ◌+◌, ◌/◌, ◌%◌, ℕ, All, pos, is_some, IfOk, Ok, IfSome, length};
 ghost use Rattle.jiff_core.specs.Calendar.{days_from_civil};
 ghost use Rattle.std.specs.Char.{IsAsciiDigit, is_ascii_digit};
 ghost use Rattle.std.specs.List.{list_all};
 ghost use Rattle.ilp_addr.specs.Timestamp as spec;
-ghost use Rattle.ilp_addr.specs.Timestamp.{IsTimestamp, latest, moment_of, timestamp_at, millis_at, nearest_moment, two_at, digit_at};
+ghost use Rattle.ilp_addr.specs.Timestamp.{IsTimestamp, latest, moment_of, timestamp_at, timestamp_of, millis_at, nearest_moment, two_at, digit_at};
 
-use crate::calendar::day_number;
+use crate::calendar::{date_of, day_number};
 use crate::fault::AddrFault;
 
 /// The milliseconds of a day.
@@ -39,6 +39,63 @@ impl Stamp {
         }
         parse_digits(text)
     }
+
+    /// Writes the text of the moment, in milliseconds since 1970-01-01T00:00:00 UTC.
+    pub fn write(moment: u64, out: &mut [u8])
+        requires moment { moment ≤ latest }
+        requires len { length out.old ≡ 17 }
+        ensures { out.new ≡ timestamp_of moment }
+    {
+        let (year, month, day) = date_of((moment / DAY_MILLIS) as u32);
+        let text = calendar_text(year, month, day, (moment % DAY_MILLIS) as u32);
+        out.copy_from_slice(&text);
+    }
+}
+
+#[tactic(auto, unfolding(crate::specs::Timestamp::calendar_text))]
+fn calendar_text(year: u16, month: u8, day: u8, millis: u32) -> [u8; 17]
+    requires year { year < 10_000 }
+    requires month { month < 100 }
+    requires day { day < 100 }
+    requires millis { millis < 86_400_000 }
+    ensures { result ≡ spec.calendar_text year month day millis }
+{
+    let (century, of_century) = (year as u32 / 100, year as u32 % 100);
+    let (month, day) = (month as u32, day as u32);
+    let (hour, minute, second) = (millis / 3_600_000, millis / 60_000 % 60, millis / 1000 % 60);
+    let millisecond = millis % 1000;
+    [
+        tens(century),
+        ones(century),
+        tens(of_century),
+        ones(of_century),
+        tens(month),
+        ones(month),
+        tens(day),
+        ones(day),
+        tens(hour),
+        ones(hour),
+        tens(minute),
+        ones(minute),
+        tens(second),
+        ones(second),
+        b'0' + (millisecond / 100) as u8,
+        tens(millisecond % 100),
+        ones(millisecond % 100),
+    ]
+}
+
+fn tens(number: u32) -> u8
+    requires { number < 100 }
+    ensures { result ≡ 48 + number / 10 }
+{
+    b'0' + (number / 10) as u8
+}
+
+fn ones(number: u32) -> u8
+    ensures { result ≡ 48 + number % 10 }
+{
+    b'0' + (number % 10) as u8
 }
 
 fn are_digits(text: &[u8; 17]) -> bool
