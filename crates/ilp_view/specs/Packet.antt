@@ -1,0 +1,50 @@
+-- What packets are: their frames and their parts (RFC 0027).
+use Rattle.std.specs.Prelude.{◌≡◌, ◌<◌, ◌≤◌, ◌^◌, ℕ, List, ◌∷◌, ◌++◌, length}
+use Rattle.std.specs.Int.{w64, to_be_bytes}
+use Rattle.oer_core.specs.Length.{IsLength}
+use Rattle.ilp_addr.specs.Address.{IsAddress}
+use Rattle.ilp_addr.specs.Timestamp.{IsTimestamp}
+
+-- A frame of that kind: a type byte, the length of the contents in any spelling, and the contents, in
+-- at most 34,000 bytes (RFC 0027, "Packet Format").
+pub record IsFrame (frame : List ℕ) (kind : ℕ) (spelling contents : List ℕ) : Type 0 where
+  pub bytes : frame ≡ kind ∷ spelling ++ contents
+  pub spelled : IsLength spelling (length contents)
+  pub size : length frame ≤ 34000
+
+-- The parts of a Prepare, each as it stands in the frame, with the spellings of the lengths and the
+-- bytes after the last field (RFC 0027, "ILP Prepare").
+pub record Prepare : Type 0 where
+  pub contents_length : List ℕ
+  pub amount : ℕ
+  pub expiry : List ℕ
+  pub condition : List ℕ
+  pub destination_length : List ℕ
+  pub destination : List ℕ
+  pub data_length : List ℕ
+  pub payload : List ℕ
+  pub extra : List ℕ
+
+-- The fields of a Prepare in their order (RFC 0027, "ILP Prepare").
+abbrev pub prepare_contents : Prepare → List ℕ
+prepare_contents p = to_be_bytes w64 p.amount ++ (p.expiry ++ (p.condition ++ (p.destination_length ++ (p.destination ++ (p.data_length ++ (p.payload ++ p.extra))))))
+
+-- The frame of a Prepare, from its parts (RFC 0027, "ILP Prepare").
+abbrev pub prepare_frame : Prepare → List ℕ
+prepare_frame p = 12 ∷ p.contents_length ++ prepare_contents p
+
+-- The frame is a Prepare with these parts, and each keeps its rule (RFC 0027, "ILP Prepare").
+pub record IsPrepare (frame : List ℕ) (p : Prepare) : Type 0 where
+  pub framed : IsFrame frame 12 p.contents_length (prepare_contents p)
+  pub amount : p.amount < 2 ^ 64
+  pub expiry : IsTimestamp p.expiry
+  pub condition : length p.condition ≡ 32
+  pub destination_length : IsLength p.destination_length (length p.destination)
+  pub destination : IsAddress p.destination
+  pub data_length : IsLength p.data_length (length p.payload)
+  pub payload : length p.payload ≤ 32768
+
+-- The frame that is sent on: the same parts in the same spellings, but for the amount and the expiry
+-- (RFC 0027, "ILP Prepare").
+abbrev pub with_amount_and_expiry : Prepare → ℕ → List ℕ → List ℕ
+with_amount_and_expiry p amount expiry = prepare_frame (record p { amount = amount; expiry = expiry })

@@ -1,0 +1,81 @@
+-- Reading a frame from the first byte on, with the first fault that is met.
+use Rattle.std.specs.Prelude.{◌≡◌, ℕ, List, [], ◌∷◌, length, take, drop, Result, Ok, Err, nat_lt, ◌==◌, if◌then◌else◌}
+use Rattle.oer_core.specs.declared.fault.OerFault.{OerFault}
+use Rattle.oer_core.specs.Length.{◌>>=◌, length_at, number_at}
+use Rattle.ilp_addr.specs.declared.fault.AddrFault.{AddrFault}
+use Rattle.ilp_addr.specs.Address.{address_at}
+use Rattle.ilp_addr.specs.Timestamp.{timestamp_at}
+use Rattle.ilp_view.specs.declared.fault.ViewFault.{ViewFault}
+use Rattle.ilp_view.specs.declared.fault.ViewFault.TheVariants.{Kind, Oer, Field, AfterEnd, Size}
+use Rattle.ilp_view.specs.Packet.{Prepare}
+
+-- What is wrong with a length or a number is one fault.
+abbrev pub as_oer : {A : Type 0} → Result A OerFault → Result A ViewFault
+as_oer (Ok x) = Ok x
+as_oer (Err e) = Err Oer
+
+-- What is wrong with an address or a date is one fault.
+abbrev pub as_field : {A : Type 0} → Result A AddrFault → Result A ViewFault
+as_field (Ok x) = Ok x
+as_field (Err e) = Err Field
+
+-- That many bytes, and the bytes after them.
+unfoldable pub fixed_at : ℕ → List ℕ → Result (List ℕ × List ℕ) ViewFault
+fixed_at count bytes = if nat_lt (length bytes) count then Err Oer else Ok (take count bytes, drop count bytes)
+
+-- An octet string: how its length is spelled, its text, and the bytes after it.
+unfoldable pub string_at : List ℕ → Result (List ℕ × List ℕ × List ℕ) ViewFault
+string_at bytes = do
+  r ← as_oer (length_at 34000 bytes)
+  if nat_lt (length (drop r.1 bytes)) r.0 then Err Oer else Ok (take r.1 bytes, take r.0 (drop r.1 bytes), drop r.0 (drop r.1 bytes))
+
+-- A date and time in 17 digits, and the bytes after it.
+unfoldable pub expiry_at : List ℕ → Result (List ℕ × List ℕ) ViewFault
+expiry_at bytes = do
+  text ← fixed_at 17 bytes
+  moment ← as_field (timestamp_at text.0)
+  Ok text
+
+-- An octet string that holds an address.
+unfoldable pub destination_at : List ℕ → Result (List ℕ × List ℕ × List ℕ) ViewFault
+destination_at bytes = do
+  s ← string_at bytes
+  address ← as_field (address_at s.1)
+  Ok s
+
+-- An octet string of at most 32,768 bytes.
+unfoldable pub data_at : List ℕ → Result (List ℕ × List ℕ × List ℕ) ViewFault
+data_at bytes = do
+  s ← string_at bytes
+  if nat_lt 32768 (length s.1) then Err Size else Ok s
+
+-- A length and as many bytes as it says, with none after them.
+unfoldable pub whole_string : List ℕ → Result (List ℕ × List ℕ) ViewFault
+whole_string bytes = do
+  s ← string_at bytes
+  if length s.2 == 0 then Ok (s.0, s.1) else Err AfterEnd
+
+-- The length and the contents behind the type byte of that kind.
+unfoldable pub behind_type : ℕ → List ℕ → Result (List ℕ × List ℕ) ViewFault
+behind_type kind [] = Err Kind
+behind_type kind (b ∷ rest) = if b == kind then whole_string rest else Err Kind
+
+-- The spelling of the length and the contents of a frame of that kind.
+unfoldable pub envelope_at : ℕ → List ℕ → Result (List ℕ × List ℕ) ViewFault
+envelope_at kind frame = if nat_lt 34000 (length frame) then Err Size else behind_type kind frame
+
+-- The parts of a Prepare, its contents read field by field.
+unfoldable pub prepare_fields : List ℕ → List ℕ → Result Prepare ViewFault
+prepare_fields spelling contents = do
+  amount ← as_oer (number_at contents)
+  expiry ← expiry_at amount.1
+  condition ← fixed_at 32 expiry.1
+  destination ← destination_at condition.1
+  payload ← data_at destination.2
+  Ok (record { contents_length = spelling; amount = amount.0; expiry = expiry.0; condition = condition.0; destination_length = destination.0; destination = destination.1; data_length = payload.0; payload = payload.1; extra = payload.2 })
+
+-- The parts of the Prepare that the frame is, or the first fault.
+unfoldable pub prepare_at : List ℕ → Result Prepare ViewFault
+prepare_at frame = do
+  e ← envelope_at 12 frame
+  prepare_fields e.0 e.1

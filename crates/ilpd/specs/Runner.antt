@@ -1,0 +1,115 @@
+-- What the runner of one tenant and one worker shows, and what its steps do to it.
+use Rattle.std.specs.Prelude.{ℕ, ◌≡◌, ◌+◌, Bool, true, List, [], ◌∷◌, Option, Some, None, Result, Ok, Err, ◌==◌, if◌then◌else◌, is_ok}
+use Rattle.ilp_view.specs.declared.fault.ViewFault.{ViewFault}
+use Rattle.ilp_view.specs.Packet.{Prepare}
+use Rattle.ilp_view.specs.Reading.{prepare_at}
+use Rattle.tenant_core.specs.State.{State}
+use Rattle.tenant_core.specs.Judge.{judge, decided}
+use Rattle.tenant_core.specs.declared.verdict.Verdict.{Verdict}
+use Rattle.tenant_core.specs.declared.verdict.Verdict.TheVariants.{Unknown, NoRoom, Refuse, Forward}
+use Rattle.ilpd.specs.World.{Stage, Tenant, Hand, key_in, said, arrive_reply}
+use Rattle.ilpd.specs.declared.carried.Carried.{Carried}
+use Rattle.ilpd.specs.declared.carried.Carried.TheVariants.{Nothing, Ready, Waiting}
+use Rattle.ilpd.specs.declared.step.Step.{Step}
+use Rattle.ilpd.specs.declared.step.Step.TheVariants.{Load, Decide}
+use Rattle.ilpd.specs.declared.step.Output.{Output}
+use Rattle.ilpd.specs.declared.step.Output.TheVariants.{Busy, Idle}
+
+pub record Run : Type 0 where
+  pub book : State
+  pub next_call : ℕ
+  pub carried : Carried
+
+-- a frame that reads is a call that may be decided
+abbrev pub stage_of_frame : List ℕ → Result Prepare ViewFault → Option Stage
+stage_of_frame token (Ok p) = Some (Stage.Ready token p)
+stage_of_frame token (Err f) = None
+
+abbrev pub calls_of : Carried → ℕ → Option Stage
+calls_of Nothing = λ n. None
+calls_of (Ready call token frame) = λ n. if n == call then stage_of_frame token (prepare_at frame) else None
+calls_of (Waiting call hold) = λ n. if n == call then Some (Stage.Sent hold) else None
+
+abbrev pub tenant_of : Run → Tenant
+tenant_of r = record { book = r.book; next_call = r.next_call; calls = calls_of r.carried }
+
+-- the worker has the number 0, and the tenant too
+abbrev pub hand_of : Carried → Hand
+hand_of Nothing = Hand.Free
+hand_of (Ready call token frame) = Hand.Has 0 call
+hand_of (Waiting call hold) = Hand.Awaits 0 call
+
+abbrev pub hands_of : Run → ℕ → Hand
+hands_of r = λ w. if w == 0 then hand_of r.carried else Hand.Free
+
+-- what is carried after that verdict
+abbrev pub carried_after : ℕ → Verdict → Carried
+carried_after call Unknown = Nothing
+carried_after call NoRoom = Nothing
+carried_after call (Refuse code amounts) = Nothing
+carried_after call (Forward hold peer amount expiry) = Waiting call hold
+
+abbrev pub load_output : Run → Carried → List ℕ → Output
+load_output r Nothing bytes = arrive_reply (tenant_of r) (prepare_at bytes)
+load_output r (Ready call token frame) bytes = Busy
+load_output r (Waiting call hold) bytes = Busy
+
+abbrev pub take_in : Run → List ℕ → List ℕ → Result Prepare ViewFault → Run
+take_in r token bytes (Ok p) = record { book = r.book; next_call = r.next_call + 1; carried = Ready r.next_call token bytes }
+take_in r token bytes (Err f) = r
+
+abbrev pub load_moved : Run → Carried → List ℕ → List ℕ → Run
+load_moved r Nothing token bytes = take_in r token bytes (prepare_at bytes)
+load_moved r (Ready call k frame) token bytes = r
+load_moved r (Waiting call hold) token bytes = r
+
+abbrev pub packet_output : Run → List ℕ → Result Prepare ViewFault → ℕ → Output
+packet_output r token (Ok p) now = said (tenant_of r) p (judge r.book token (key_in p) now)
+packet_output r token (Err f) now = Idle
+
+abbrev pub decide_output : Run → Carried → ℕ → Output
+decide_output r Nothing now = Idle
+decide_output r (Ready call token frame) now = packet_output r token (prepare_at frame) now
+decide_output r (Waiting call hold) now = Idle
+
+abbrev pub packet_moved : Run → ℕ → List ℕ → Result Prepare ViewFault → ℕ → Run
+packet_moved r call token (Ok p) now =
+    record {
+      book = decided r.book token (key_in p) now;
+      next_call = r.next_call;
+      carried = carried_after call (judge r.book token (key_in p) now);
+    }
+packet_moved r call token (Err f) now = r
+
+abbrev pub decide_moved : Run → Carried → ℕ → Run
+decide_moved r Nothing now = r
+decide_moved r (Ready call token frame) now = packet_moved r call token (prepare_at frame) now
+decide_moved r (Waiting call hold) now = r
+
+-- what a step puts out, and what it leaves
+abbrev pub output_of : Run → Step → Output
+output_of r (Load worker tenant token bytes) = load_output r r.carried bytes
+output_of r (Decide worker now) = decide_output r r.carried now
+
+abbrev pub moved : Run → Step → Run
+moved r (Load worker tenant token bytes) = load_moved r r.carried token bytes
+moved r (Decide worker now) = decide_moved r r.carried now
+
+abbrev pub outputs_of : Run → List Step → List Output
+outputs_of r [] = []
+outputs_of r (s ∷ ss) = output_of r s ∷ outputs_of (moved r s) ss
+
+abbrev pub run_after : Run → List Step → Run
+run_after r [] = r
+run_after r (s ∷ ss) = run_after (moved r s) ss
+
+-- a frame that is carried reads
+abbrev pub IsReadable : Carried → Type 0
+IsReadable Nothing = Unit {0}
+IsReadable (Ready call token frame) = is_ok (prepare_at frame) ≡ true
+IsReadable (Waiting call hold) = Unit {0}
+
+-- steps of the one worker for the one tenant
+abbrev pub IsOurs : Step → Type 0
+IsOurs (Load worker tenant token bytes) = (worker ≡ 0) × (tenant ≡ 0)
+IsOurs (Decide worker now) = worker ≡ 0
