@@ -9,4 +9,4 @@ pub record Key : Type 0 where
   pub destination : List ℕ
 
 abbrev pub key_of : PrepareKey → Key
-key_of k = record { amount = k.amount; expiry = k.expiry; condition = k.condition.now; destination = k.destination }
+key_of k = record { amount = k.amount; expiry = k.expiry; condition = k.condition.now; destination = k.destination.now }

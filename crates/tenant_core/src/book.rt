@@ -156,7 +156,7 @@ fn decide_record(peer: PeerNo, key: &PrepareKey<'_>, now: Moment, verdict: Verdi
             amount: key.amount,
             expiry: key.expiry,
             condition: *key.condition,
-            destination: text_of(&key.destination),
+            destination: text_of(key.destination),
             now: now.millis(),
         }),
         outcome: Outcome::Packet(verdict),

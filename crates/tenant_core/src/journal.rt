@@ -6,14 +6,14 @@ use crate::verdict::Verdict;
 use ilp_addr::Address;
 
 /// What a Prepare says that a tenant decides by.
-#[derive(Drop)]
+#[derive(Clone, Copy)]
 pub struct PrepareKey<'a> {
     /// In the sender's units.
     pub amount: u64,
     /// Milliseconds since 1970-01-01, at most 253,402,128,000,000.
     pub expiry: u64,
     pub condition: &'a [u8; 32],
-    pub destination: Address<'a>,
+    pub destination: &'a Address<'a>,
 }
 
 /// A Prepare that a peer brought, and the moment.

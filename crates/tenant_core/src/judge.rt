@@ -120,10 +120,10 @@ pub fn routed(
 ) -> Verdict
     requires clock { clock ≤ 253_400_000_000_000 }
     requires hold { opening.now.hold ≤ 600_000 }
-    ensures verdict { result ≡ routed opening.now hold from.now (key_of key.now) clock (onward opening.now from.now key.now.destination) }
+    ensures verdict { result ≡ routed opening.now hold from.now (key_of key.now) clock (onward opening.now from.now key.now.destination.now) }
     ensures sooner { IsSooner result key.now.expiry }
 {
-    match onward(opening, from, &key.destination) {
+    match onward(opening, from, key.destination) {
         Some(to) => priced(opening, hold, from, to, key, clock),
         None => refuse(RejectCode::Unreachable),
     }
