@@ -1,2 +1,3 @@
 pub mod Splits
 pub mod Fronts
+pub mod Runs

@@ -8,6 +8,7 @@ ghost use Rattle.ilpd.specs.Words.{parts, three_of, five_of};
 
 use crate::step::{Bytes, Step, text_within};
 use hex::FromHexError;
+use ilp_addr::Moment;
 use std::alloc::{AllocError, AllocFailed, Global};
 use tenant_core::Text;
 use thiserror::Error;
@@ -17,9 +18,6 @@ pub const MOST_BYTES: usize = 16_777_216;
 
 /// The most bytes of a line, without its end.
 pub const MOST_LINE: usize = 70_000;
-
-/// The last moment, in milliseconds since 1970-01-01, that a script may name.
-pub const LAST_MOMENT: u64 = 253_400_000_000_000;
 
 /// What is wrong with a script.
 #[derive(Clone, Copy, Debug, PartialEq, Eq, Error)]
@@ -261,7 +259,7 @@ fn decide_of(workers: usize, worker: &[u8], now: &[u8]) -> Option<Step>
     ensures { result ≡ decide_of workers worker.now now.now }
 {
     let worker = number_below(workers as u64, worker)?;
-    let now = number_below(LAST_MOMENT + 1, now)?;
+    let now = Moment::new(number_below(Moment::MAX_MILLIS + 1, now)?)?;
     Some(Step::Decide {
         worker: worker as usize,
         now,

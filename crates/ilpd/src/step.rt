@@ -3,6 +3,7 @@
 ghost use Rattle.std.specs.Prelude.{◌≡◌};
 ghost use Rattle.ilpd.specs.Words.{text_within};
 
+use ilp_addr::Moment;
 use std::marker::Model;
 use tenant_core::Text;
 
@@ -58,8 +59,7 @@ pub enum Step {
     /// A worker decides what becomes of its frame, or of its answer.
     Decide {
         worker: usize,
-        /// The moment, in milliseconds since 1970-01-01.
-        now: u64,
+        now: Moment,
     },
 }
 

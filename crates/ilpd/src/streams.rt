@@ -77,3 +77,22 @@ pub fn read_script<R: Read + Device>(
     }
     Err(StreamFault::Size)
 }
+
+/// Writes the text, all of it where no fault comes and a front of it in any case.
+pub fn write_text<W: Write + Device>(writer: &mut W, text: &[u8]) -> Result<(), StreamFault>
+    ensures whole { OnOk result (Appends (W.contents writer.old) (W.contents writer.new) text.now) }
+    ensures front { AppendsFront text.now (W.contents writer.old) (W.contents writer.new) }
+    ensures size { result ≢ Err StreamFault.Size }
+    ensures device { result ≡ Err StreamFault.Device → W.failure_count writer.old < W.failure_count writer.new }
+{
+    let before = writer.failures();
+    let mut done = 0;
+    while done < text.len() {
+        match writer.write(&text[done..]) {
+            Ok(n) if n > 0 => done += n,
+            _ if writer.failures() > before => return Err(StreamFault::Device),
+            _ => return Err(StreamFault::Memory),
+        }
+    }
+    Ok(())
+}
