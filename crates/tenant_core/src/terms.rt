@@ -1,5 +1,7 @@
 //! What a tenant's setup says, before anything is tested.
 
+ghost use Rattle.std.specs.Prelude.{◌≡◌};
+
 use crate::items::Items;
 use crate::text::Text;
 use money_core::Rate;
@@ -42,11 +44,46 @@ pub struct PeerTerms {
     pub balance: i64,
 }
 
+impl PeerTerms {
+    /// The same terms once more.
+    pub fn copy(&self) -> PeerTerms
+        ensures { result ≡ self.now }
+    {
+        PeerTerms {
+            name: self.name.copy(),
+            role: self.role,
+            token: self.token.copy(),
+            url: self.url.copy(),
+            out_token: self.out_token.copy(),
+            asset: self.asset.copy(),
+            scale: self.scale,
+            cap: self.cap,
+            ceiling: self.ceiling,
+            credit: self.credit,
+            burst: self.burst,
+            per_second: self.per_second,
+            balance: self.balance,
+        }
+    }
+}
+
 /// Packets for addresses that begin with the prefix go to the peer.
 #[derive(Drop)]
 pub struct RouteTerms {
     pub prefix: Text<1023>,
     pub peer: PeerNo,
+}
+
+impl RouteTerms {
+    /// The same route once more.
+    pub fn copy(&self) -> RouteTerms
+        ensures { result ≡ self.now }
+    {
+        RouteTerms {
+            prefix: self.prefix.copy(),
+            peer: self.peer,
+        }
+    }
 }
 
 /// What packets of one peer for another cost.

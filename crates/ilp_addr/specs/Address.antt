@@ -1,0 +1,55 @@
+-- Addresses (RFC 0015, "Address Requirements").
+use Rattle.std.specs.Prelude.{◌≤◌, ℕ, Bool, not, ◌&&◌, ◌||◌, ◌==◌, nat_le, nat_lt, List, [], ◌∷◌, length, codes, IsTrue, Result, Ok, Err, if◌then◌else◌}
+use Rattle.std.specs.List.{slice_split, list_all, list_any}
+use Rattle.std.specs.Str.{bytes_eq}
+use Rattle.ilp_addr.specs.declared.fault.AddrFault.{AddrFault}
+use Rattle.ilp_addr.specs.declared.fault.AddrFault.TheVariants.{Scheme, Segment, Length}
+
+-- the parts between the dots, the scheme first
+abbrev pub segments : List ℕ → List (List ℕ)
+segments bytes = slice_split (λ b. b == 46) bytes
+
+-- the allocation schemes (RFC 0015, "Allocation Schemes")
+abbrev pub schemes : List (List ℕ)
+schemes = codes "g" ∷ codes "private" ∷ codes "example" ∷ codes "peer" ∷ codes "self" ∷ codes "test" ∷ codes "test1" ∷ codes "test2" ∷ codes "test3" ∷ codes "local" ∷ []
+
+-- the text is an allocation scheme
+unfoldable pub is_scheme : List ℕ → Bool
+is_scheme text = list_any (λ scheme. bytes_eq text scheme) schemes
+
+-- the byte lies from low to high, both included
+abbrev pub is_between : ℕ → ℕ → ℕ → Bool
+is_between low high b = nat_le low b && nat_le b high
+
+-- a letter, a digit, `_`, `~` or `-`
+unfoldable pub is_segment_byte : ℕ → Bool
+is_segment_byte b = is_between 97 122 b || is_between 65 90 b || is_between 48 57 b || (b == 95) || (b == 126) || (b == 45)
+
+-- one or more of these bytes
+unfoldable pub is_segment : List ℕ → Bool
+is_segment text = not (length text == 0) && list_all is_segment_byte text
+
+-- a scheme and one or more segments
+abbrev pub AreAddressParts : List (List ℕ) → Type 0
+AreAddressParts [] = ⊥
+AreAddressParts (scheme ∷ []) = ⊥
+AreAddressParts (scheme ∷ first ∷ others) = IsTrue (is_scheme scheme) × IsTrue (is_segment first) × IsTrue (list_all is_segment others)
+
+-- at most 1,023 bytes, which are a scheme and one or more segments
+pub record IsAddress (bytes : List ℕ) : Type 0 where
+  pub short : length bytes ≤ 1023
+  pub parts : AreAddressParts (segments bytes)
+
+-- the segments behind a scheme, checked
+abbrev pub with_segments : List ℕ → List (List ℕ) → Result (List ℕ) AddrFault
+with_segments bytes parts = if list_all is_segment parts then Ok bytes else Err Segment
+
+-- the parts of an address, checked from left to right
+abbrev pub parts_at : List ℕ → List (List ℕ) → Result (List ℕ) AddrFault
+parts_at bytes [] = Err Scheme
+parts_at bytes (scheme ∷ []) = Err Scheme
+parts_at bytes (scheme ∷ first ∷ others) = if is_scheme scheme then with_segments bytes (first ∷ others) else Err Scheme
+
+-- the address that the bytes are, or the first fault
+unfoldable pub address_at : List ℕ → Result (List ℕ) AddrFault
+address_at bytes = if nat_lt 1023 (length bytes) then Err Length else parts_at bytes (segments bytes)

@@ -1,0 +1,4 @@
+pub mod Results
+pub mod Lengths
+pub mod Octets
+pub mod Numbers

@@ -1,0 +1,14 @@
+//! Lengths, octet strings and 64-bit numbers as Interledger packets spell them (RFC 0030, OER),
+//! read and written without allocation, and the trait of a device whose faults are counted.
+#![tactic(auto)]
+
+mod device;
+mod fault;
+mod reading;
+
+pub use device::Device;
+pub use fault::OerFault;
+pub use reading::{read_length, read_octets, read_u64};
+
+#[cfg(test)]
+mod tests;

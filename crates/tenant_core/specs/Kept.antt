@@ -1,0 +1,22 @@
+-- What a book keeps beside its records.
+use Rattle.std.specs.Prelude.{ℕ, ◌≡◌, ◌≤◌, ◌+◌, ◌*◌, length, vec_capacity, vec_len}
+use Rattle.tenant_core.specs.declared.book.Book.TheInside.{Inside}
+use Rattle.tenant_core.specs.State.{State, clock_of, hold_count, open_holds}
+
+abbrev pub state_of : Inside → State
+state_of b = record { opening = b.opening; records = b.records.items }
+
+pub record IsKept (b : Inside) : Type 0 where
+  -- there is room for each entry that the journal may have
+  pub room : b.opening.journal ≤ vec_capacity b.records
+  -- entries and the answers of open holds fit the journal
+  pub fits : length b.records.items + open_holds (state_of b) ≤ b.opening.journal
+  -- the running numbers are what the records say
+  pub clock : b.clock ≡ clock_of (state_of b)
+  pub holds : b.holds ≡ hold_count (state_of b)
+  -- the clock is a moment, and the numbers of holds and times are small
+  pub early : b.clock ≤ 253_400_000_000_000
+  pub short_journal : b.opening.journal ≤ 16_384
+  pub short_hold : b.opening.hold ≤ 600_000
+  pub first_hold : b.opening.next_hold ≤ 16_384 * b.opening.period
+  pub few_periods : b.opening.period ≤ 4_294_967_295

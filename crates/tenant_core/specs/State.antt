@@ -1,0 +1,80 @@
+-- A tenant's state: an opening and the records since. Every question about it is one about that list.
+use Rattle.std.specs.Prelude.{ℕ, ◌+◌, Bool, true, false, List, [], ◌∷◌, ◌++◌, length, fold, max, count_by, map}
+use Rattle.tenant_core.specs.declared.opening.Opening.{Opening}
+use Rattle.tenant_core.specs.declared.opening.Peer.{Peer}
+use Rattle.tenant_core.specs.declared.terms.PeerTerms.{PeerTerms}
+use Rattle.tenant_core.specs.declared.terms.TenantTerms.{TenantTerms}
+use Rattle.tenant_core.specs.declared.journal.Entry.{Entry}
+use Rattle.tenant_core.specs.declared.journal.Entry.TheVariants.{Decide}
+use Rattle.tenant_core.specs.declared.journal.Outcome.{Outcome}
+use Rattle.tenant_core.specs.declared.journal.Outcome.TheVariants.{Packet}
+use Rattle.tenant_core.specs.declared.journal.Record.{Record}
+use Rattle.tenant_core.specs.declared.verdict.Verdict.{Verdict}
+use Rattle.tenant_core.specs.declared.verdict.Verdict.TheVariants.{Unknown, NoRoom, Refuse, Forward}
+
+pub record State : Type 0 where
+  pub opening : Opening
+  pub records : List Record
+
+-- the peers of a setup under their numbers, the first under n
+abbrev pub numbered : ℕ → List PeerTerms → List Peer
+numbered n [] = []
+numbered n (p ∷ ps) = record { number = n; terms = p } ∷ numbered (n + 1) ps
+
+-- what the first period of a tenant begins with
+abbrev pub opening_of : ℕ → TenantTerms → ℕ → Opening
+opening_of tenant t start =
+    record {
+      tenant = tenant;
+      name = t.name;
+      address = t.address;
+      journal = t.journal;
+      margin = t.margin;
+      hold = t.hold;
+      period = 0;
+      clock = start;
+      next_hold = 0;
+      peers = numbered 0 t.peers;
+      route = t.route;
+      rate = t.rate;
+    }
+
+abbrev pub opened : Opening → State
+opened o = record { opening = o; records = [] }
+
+-- the moment that was handed in with an entry
+abbrev pub moment_of : Entry → ℕ
+moment_of (Decide d) = d.now
+
+-- the later of the clock so far and the record's moment
+abbrev pub later : ℕ → Record → ℕ
+later clock r = max clock (moment_of r.entry)
+
+-- a tenant's clock: the greatest moment of its opening and its entries
+abbrev pub clock_of : State → ℕ
+clock_of s = fold later s.opening.clock s.records
+
+abbrev pub is_forward : Verdict → Bool
+is_forward Unknown = false
+is_forward NoRoom = false
+is_forward (Refuse code amounts) = false
+is_forward (Forward hold peer amount expiry) = true
+
+-- a hold is a Prepare that went on
+abbrev pub holds : Outcome → Bool
+holds (Packet v) = is_forward v
+
+-- how many holds a state has, and how many of them await an answer
+abbrev pub hold_count : State → ℕ
+hold_count s = count_by (λ r. holds r.outcome) s.records
+
+abbrev pub open_holds : State → ℕ
+open_holds s = hold_count s
+
+-- the number of the next hold: holds are numbered over all periods
+abbrev pub next_hold : State → ℕ
+next_hold s = s.opening.next_hold + hold_count s
+
+-- the state with one record more
+abbrev pub recorded : State → Record → State
+recorded s r = record s { records = s.records ++ r ∷ [] }

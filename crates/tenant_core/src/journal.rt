@@ -1,0 +1,47 @@
+//! What a tenant's journal is made of.
+
+use crate::terms::PeerNo;
+use crate::text::Text;
+use crate::verdict::Verdict;
+use ilp_addr::Address;
+
+/// What a Prepare says that a tenant decides by.
+#[derive(Drop)]
+pub struct PrepareKey<'a> {
+    /// In the sender's units.
+    pub amount: u64,
+    /// Milliseconds since 1970-01-01, at most 253,402,128,000,000.
+    pub expiry: u64,
+    pub condition: &'a [u8; 32],
+    pub destination: Address<'a>,
+}
+
+/// A Prepare that a peer brought, and the moment.
+#[derive(Drop)]
+pub struct DecideEntry {
+    pub peer: PeerNo,
+    pub amount: u64,
+    pub expiry: u64,
+    pub condition: [u8; 32],
+    pub destination: Text<1023>,
+    pub now: u64,
+}
+
+/// One event of a tenant.
+#[derive(Drop)]
+pub enum Entry {
+    Decide(DecideEntry),
+}
+
+/// What an event led to.
+#[derive(Clone, Copy, Debug, PartialEq, Eq)]
+pub enum Outcome {
+    Packet(Verdict),
+}
+
+/// An entry with its outcome.
+#[derive(Drop)]
+pub struct Record {
+    pub entry: Entry,
+    pub outcome: Outcome,
+}

@@ -1,0 +1,24 @@
+//! Copies of what a setup says.
+
+ghost use Rattle.std.specs.Prelude.{◌≡◌, ◌≤◌, length, IfOk};
+ghost use Rattle.tenant_core.specs.State.{numbered};
+
+use crate::items::Items;
+use crate::opening::Peer;
+use crate::terms::{PeerNo, PeerTerms};
+use std::alloc::{AllocError, Global};
+
+/// The peers of a setup under their numbers, from 0 on.
+pub fn numbered(alloc: Global, peers: &[PeerTerms]) -> Result<Items<Peer>, AllocError>
+    requires { length peers.now ≤ 256 }
+    ensures { IfOk result (λ items. items ≡ numbered 0 peers.now) }
+{
+    let mut list = Vec::with_capacity(alloc, peers.len())?;
+    for (number, terms) in peers.iter().enumerate() {
+        list.push_reserved(Peer {
+            number: number as PeerNo,
+            terms: terms.copy(),
+        });
+    }
+    Ok(Items::from_vec(list))
+}
