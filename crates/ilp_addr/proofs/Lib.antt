@@ -1,2 +1,6 @@
 pub mod Dots
 pub mod Parts
+pub mod Digits
+pub mod Countdown
+pub mod CalendarText
+pub mod OneText

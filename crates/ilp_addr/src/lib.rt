@@ -2,9 +2,13 @@
 #![tactic(auto)]
 
 mod address;
+mod calendar;
 mod fault;
+pub mod laws;
 mod moment;
+mod stamp;
 
 pub use address::Address;
 pub use fault::AddrFault;
 pub use moment::Moment;
+pub use stamp::Stamp;

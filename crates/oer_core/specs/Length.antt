@@ -1,12 +1,16 @@
 -- Lengths, octet strings and 64-bit numbers as bytes, as relations and as functions on lists.
-use Rattle.std.specs.Prelude.{◌≡◌, ◌<◌, ◌≤◌, ◌+◌, ◌-◌, ◌*◌, ◌⊎◌, ℕ, List, [], ◌∷◌, ◌++◌, length, take, drop, fold, Result, Ok, Err, nat_lt, nat_le, ◌==◌, ◌||◌, if◌then◌else◌}
-use Rattle.std.specs.Int.{w64, from_be_bytes}
+use Rattle.std.specs.Prelude.{◌≡◌, ◌<◌, ◌≤◌, ◌+◌, ◌-◌, ◌*◌, ◌⊎◌, ℕ, zero, suc, List, [], ◌∷◌, ◌++◌, length, take, drop, fold, slice_index, Result, Ok, Err, nat_lt, nat_le, ◌==◌, ◌||◌, if◌then◌else◌}
+use Rattle.std.specs.Int.{w64, from_be_bytes, to_be_bytes}
 use Rattle.oer_core.specs.declared.fault.OerFault.{OerFault}
 use Rattle.oer_core.specs.declared.fault.OerFault.TheVariants.{Short, BadLength, TooLong}
 
 -- The number that the bytes spell, the highest byte first.
 abbrev pub big_endian : List ℕ → ℕ
 big_endian bytes = fold (λ n b. n * 256 + b) 0 bytes
+
+-- Each number of the list is a byte.
+abbrev pub AreBytes : List ℕ → Type 0
+AreBytes bytes = (i : ℕ) → slice_index bytes i < 256
 
 -- The bytes spell the length n: one byte below 128, or 128 + k and then n in k bytes, of which more may
 -- stand than n needs (RFC 0030, "Variable-Length Octet Strings"; X.696, 8.6).
@@ -15,6 +19,22 @@ IsLength [] n = ⊥
 IsLength (b ∷ bytes) n =
     ((b < 128) × (bytes ≡ []) × (n ≡ b))
     ⊎ ((128 < b) × (b ≤ 136) × (length bytes ≡ b - 128) × (n ≡ big_endian bytes))
+
+-- The bytes from the first that is not zero.
+unfoldable pub without_leading_zeros : List ℕ → List ℕ
+without_leading_zeros [] = []
+without_leading_zeros (zero ∷ bytes) = without_leading_zeros bytes
+without_leading_zeros (suc b ∷ bytes) = suc b ∷ bytes
+
+-- The spelling of a length below 2 ^ 64 that has the fewest bytes (RFC 0030, "Variable-Length Octet Strings").
+unfoldable pub shortest_length : ℕ → List ℕ
+shortest_length n =
+    if nat_lt n 128 then n ∷ []
+    else ((128 + length (without_leading_zeros (to_be_bytes w64 n))) ∷ without_leading_zeros (to_be_bytes w64 n))
+
+-- The octet string that holds the text, its length in the fewest bytes.
+abbrev pub octet_string : List ℕ → List ℕ
+octet_string text = shortest_length (length text) ++ text
 
 -- The bytes are an octet string that holds the text: a spelling of its length, then the text
 -- (RFC 0030, "Variable-Length Octet Strings").

@@ -4,11 +4,14 @@
 
 mod device;
 mod fault;
+pub mod laws;
 mod reading;
+mod writing;
 
 pub use device::Device;
 pub use fault::OerFault;
 pub use reading::{read_length, read_octets, read_u64};
+pub use writing::{write_length, write_octets, write_u64};
 
 #[cfg(test)]
 mod tests;

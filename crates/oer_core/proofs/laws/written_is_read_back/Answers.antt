@@ -1,0 +1,18 @@
+use Rattle.std.proofs.Common.{◌≡◌, ◌+◌, length, drop, List, ℕ, ◌++◌, ap, ◌∙◌, refl}
+use Rattle.std.specs.Int.{w64, to_be_bytes}
+use Rattle.oer_core.specs.Length.{shortest_length, octet_string, length_at, octets_at, number_at}
+use Rattle.oer_core.proofs.Lengths.{length_again}
+use Rattle.oer_core.proofs.Octets.{octets_again}
+use Rattle.oer_core.proofs.Numbers.{number_again}
+use Rattle.oer_core.proofs.Overwriting.{drop-overwritten}
+use Rattle.oer_core.proofs.Shortest.{shortest_spells}
+use Rattle.oer_core.proofs.laws.written_is_read_back.Goals as goal
+
+pub returns-clause-lengths : goal.returns-clause-lengths
+returns-clause-lengths c = λ old at n limit within fits small. ap (length_at limit) (drop-overwritten old at (shortest_length n) within) ∙ length_again limit n (shortest_length n) (drop (at + length (shortest_length n)) old) (shortest_spells n fits) small
+
+pub returns-clause-strings : goal.returns-clause-strings
+returns-clause-strings c = λ old text at limit within fits small. ap (octets_at limit) (drop-overwritten old at (octet_string text) within) ∙ octets_again limit (octet_string text) text (drop (at + length (octet_string text)) old) (shortest_length (length text), shortest_spells (length text) fits, refl) small
+
+pub returns-clause-numbers : goal.returns-clause-numbers
+returns-clause-numbers c = λ old at n within fits. ap number_at (drop-overwritten old at (to_be_bytes w64 n) within) ∙ number_again n (drop (at + 8) old) fits

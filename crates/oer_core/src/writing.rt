@@ -1,0 +1,111 @@
+ghost use Rattle.std.specs.Prelude.{◌≡◌, ◌+◌, ◌≤◌, ◌↔◌, ◌++◌, length, take, drop, IfOk, IfErr, IsOk, IsTrue};
+ghost use Rattle.std.specs.Int.{w64, to_be_bytes};
+ghost use Rattle.oer_core.specs.Length.{shortest_length, without_leading_zeros, octet_string};
+ghost use Rattle.oer_core.specs.Writing.{overwritten};
+
+use crate::fault::OerFault;
+
+fn has_room(out: &[u8], at: usize, count: usize) -> bool
+    ensures { IsTrue result ↔ (at + count ≤ length out.now) }
+{
+    at <= out.len() && count <= out.len() - at
+}
+
+fn put(out: &mut [u8], at: usize, bytes: &[u8])
+    requires { at + length bytes.now ≤ length out.old }
+    ensures { out.new ≡ overwritten out.old at bytes.now }
+{
+    out[at..at + bytes.len()].copy_from_slice(bytes);
+}
+
+#[tactic(auto, unfolding(crate::specs::Length::without_leading_zeros))]
+fn digits_of(bytes: &[u8]) -> &[u8]
+    ensures digits { result.now ≡ without_leading_zeros bytes.now }
+    ensures within { length result.now ≤ length bytes.now }
+{
+    let mut rest = bytes;
+    while let [0, after @ ..] = rest {
+        rest = after;
+    }
+    rest
+}
+
+#[tactic(auto, unfolding(crate::specs::Length::shortest_length))]
+fn length_size(count: usize) -> usize
+    ensures size { result ≡ length (shortest_length count) }
+    ensures within { result ≤ 9 }
+{
+    if count < 128 {
+        return 1;
+    }
+    let bytes = (count as u64).to_be_bytes();
+    digits_of(&bytes).len() + 1
+}
+
+#[tactic(auto, unfolding(crate::specs::Length::shortest_length))]
+fn put_length(out: &mut [u8], at: usize, count: usize) -> usize
+    requires { at + length (shortest_length count) ≤ length out.old }
+    ensures end { result ≡ at + length (shortest_length count) }
+    ensures written { out.new ≡ overwritten out.old at (shortest_length count) }
+{
+    if count < 128 {
+        put(out, at, &[count as u8]);
+        return at + 1;
+    }
+    let bytes = (count as u64).to_be_bytes();
+    let digits = digits_of(&bytes);
+    put(out, at, &[128 + digits.len() as u8]);
+    put(out, at + 1, digits);
+    at + 1 + digits.len()
+}
+
+/// Writes the shortest spelling of the length `count` into `out` from place `at` on, and gives the
+/// place after it. Every other byte of `out` stays.
+///
+/// Errors: `Short` where it does not fit, also where `at` is past the end; nothing is written then.
+/// (RFC 0030)
+pub fn write_length(out: &mut [u8], at: usize, count: usize) -> Result<usize, OerFault>
+    ensures fits { IsOk result ↔ (at + length (shortest_length count) ≤ length out.old) }
+    ensures ok { IfOk result (λ end. (end ≡ at + length (shortest_length count)) × (out.new ≡ overwritten out.old at (shortest_length count))) }
+    ensures err { IfErr result (λ e. (e ≡ OerFault.Short) × (out.new ≡ out.old)) }
+{
+    if !has_room(out, at, length_size(count)) {
+        return Err(OerFault::Short);
+    }
+    Ok(put_length(out, at, count))
+}
+
+/// Writes `bytes` as an octet string into `out` from place `at` on, its length in the shortest
+/// spelling, and gives the place after it. Every other byte of `out` stays.
+///
+/// Errors: `Short` where it does not fit, also where `at` is past the end; nothing is written then.
+/// (RFC 0030)
+pub fn write_octets(out: &mut [u8], at: usize, bytes: &[u8]) -> Result<usize, OerFault>
+    ensures fits { IsOk result ↔ (at + length (octet_string bytes.now) ≤ length out.old) }
+    ensures ok { IfOk result (λ end. (end ≡ at + length (octet_string bytes.now)) × (out.new ≡ overwritten out.old at (octet_string bytes.now))) }
+    ensures err { IfErr result (λ e. (e ≡ OerFault.Short) × (out.new ≡ out.old)) }
+{
+    if !has_room(out, at, length_size(bytes.len()) + bytes.len()) {
+        return Err(OerFault::Short);
+    }
+    let text_at = put_length(out, at, bytes.len());
+    put(out, text_at, bytes);
+    Ok(text_at + bytes.len())
+}
+
+/// Writes `value` as eight bytes, the highest first, into `out` from place `at` on, and gives the
+/// place after it. Every other byte of `out` stays.
+///
+/// Errors: `Short` where they do not fit, also where `at` is past the end; nothing is written then.
+/// (RFC 0030, UInt64)
+pub fn write_u64(out: &mut [u8], at: usize, value: u64) -> Result<usize, OerFault>
+    ensures fits { IsOk result ↔ (at + 8 ≤ length out.old) }
+    ensures ok { IfOk result (λ end. (end ≡ at + 8) × (out.new ≡ overwritten out.old at (to_be_bytes w64 value))) }
+    ensures err { IfErr result (λ e. (e ≡ OerFault.Short) × (out.new ≡ out.old)) }
+{
+    if !has_room(out, at, 8) {
+        return Err(OerFault::Short);
+    }
+    put(out, at, &value.to_be_bytes());
+    Ok(at + 8)
+}
