@@ -1,2 +1,4 @@
 pub mod Splits
 pub mod Fronts
+pub mod Peers
+pub mod Texts

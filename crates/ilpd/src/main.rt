@@ -3,6 +3,7 @@
 
 mod printed;
 mod script;
+mod setup;
 mod step;
 
 fn main() {}
