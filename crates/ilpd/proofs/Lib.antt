@@ -1,3 +1,5 @@
 pub mod Splits
 pub mod Fronts
 pub mod Runs
+pub mod Peers
+pub mod Texts

@@ -5,3 +5,4 @@ pub mod Streams
 pub mod Replies
 pub mod Runner
 pub mod World
+pub mod Setup

@@ -4,6 +4,7 @@
 mod carried;
 mod printed;
 mod script;
+mod setup;
 mod step;
 mod streams;
 
