@@ -3,3 +3,4 @@ pub mod Fronts
 pub mod Runs
 pub mod Peers
 pub mod Texts
+pub mod Known

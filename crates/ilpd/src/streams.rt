@@ -88,7 +88,8 @@ pub fn write_text<W: Write + Device>(writer: &mut W, text: &[u8]) -> Result<(), 
     let before = writer.failures();
     let mut done = 0;
     while done < text.len() {
-        match writer.write(&text[done..]) {
+        let (_, rest) = text.split_at(done);
+        match writer.write(rest) {
             Ok(n) if n > 0 => done += n,
             _ if writer.failures() > before => return Err(StreamFault::Device),
             _ => return Err(StreamFault::Memory),

@@ -1,0 +1,65 @@
+//! The runner of a script: one tenant, and one worker.
+
+ghost use Rattle.std.specs.Prelude.{◌≡◌, ◌≤◌, IfOk, length};
+ghost use Rattle.std.specs.Int.{w64, to_be_bytes};
+ghost use Rattle.tenant_core.specs.Judge.{peer_numbered};
+ghost use Rattle.ilpd.specs.World.{said, malformed_by, peer_name};
+ghost use Rattle.ilpd.specs.Replies.{refusal_reply, busy_reply};
+
+use crate::carried::Carried;
+use crate::replies::{busy_reply, refusal_reply};
+use crate::step::{Bytes, Malformed, Output, Step};
+use ilp_addr::Moment;
+use ilp_view::{PrepareView, ViewFault};
+use std::alloc::{AllocError, Global};
+use std::marker::Model;
+use tenant_core::{Book, PrepareKey, Text, Verdict};
+
+/// One tenant's book and one worker. Contracts see what they show to the one-tenant connector.
+#[derive(Drop)]
+pub struct Runner {
+    book: Book,
+    next_call: u64,
+    carried: Carried,
+}
+
+impl Model for Runner {
+    ghost use Rattle.std.specs.Prelude.{◌≡◌};
+    ghost use Rattle.ilpd.specs.Runner.{Run, IsReadable};
+
+    ghost Value = { Run };
+
+    ghost view = { λ r. record { book = r.book; next_call = r.next_call; carried = r.carried } };
+
+    ghost invariant = { λ r. (r.book.opening.tenant ≡ 0) × IsReadable r.carried };
+}
+
+fn malformed_by(fault: ViewFault) -> Malformed
+    ensures { result ≡ malformed_by fault }
+{
+    match fault {
+        ViewFault::Kind => Malformed::Kind,
+        ViewFault::Oer => Malformed::Oer,
+        ViewFault::Field => Malformed::Field,
+        ViewFault::AfterEnd => Malformed::AfterEnd,
+        ViewFault::Size | ViewFault::Short => Malformed::Size,
+    }
+}
+
+impl Runner {
+    ghost use Rattle.std.specs.Prelude.{◌≡◌, ◌≤◌, ◌<◌, ◌+◌, ◌^◌, IfOk, length};
+    ghost use Rattle.ilpd.specs.Runner.{Run, output_of, moved, outputs_of, run_after, load_output, load_moved, decide_output, decide_moved, IsOurs};
+    ghost use Rattle.ilpd.specs.declared.carried.Carried.TheVariants.{Nothing};
+
+    /// The runner of a book of tenant 0, with nothing in hand.
+    pub fn new(book: Book) -> Runner
+        requires { book.opening.tenant ≡ 0 }
+        ensures { result ≡ record { book = book; next_call = 0; carried = Nothing } }
+    {
+        Runner {
+            book,
+            next_call: 0,
+            carried: Carried::Nothing,
+        }
+    }
+}
