@@ -16,3 +16,6 @@ pub use moment::Moment;
 pub use prefix::Prefix;
 pub use segments::Segments;
 pub use stamp::Stamp;
+
+#[cfg(test)]
+mod tests;
