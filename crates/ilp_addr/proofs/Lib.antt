@@ -4,3 +4,4 @@ pub mod Digits
 pub mod Countdown
 pub mod CalendarText
 pub mod OneText
+pub mod Boundary

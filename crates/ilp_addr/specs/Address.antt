@@ -1,8 +1,10 @@
 -- Addresses (RFC 0015, "Address Requirements").
-use Rattle.std.specs.Prelude.{◌≤◌, ℕ, Bool, not, ◌&&◌, ◌||◌, ◌==◌, nat_le, nat_lt, List, [], ◌∷◌, length, codes, IsTrue, Result, Ok, Err, if◌then◌else◌}
+use Rattle.std.specs.Prelude.{◌≡◌, true, false, ◌++◌, ◌-◌, take, slice_index, ◌≤◌, ℕ, Bool, not, ◌&&◌, ◌||◌, ◌==◌, nat_le, nat_lt, List, [], ◌∷◌, length, codes, IsTrue, Result, Ok, Err, if◌then◌else◌}
 use Rattle.std.specs.List.{slice_split, list_all, list_any}
 use Rattle.std.specs.Str.{bytes_eq}
 use Rattle.ilp_addr.specs.declared.fault.AddrFault.{AddrFault}
+use Rattle.ilp_addr.specs.declared.fault.PrefixError.{PrefixError}
+use Rattle.ilp_addr.specs.declared.fault.PrefixError.TheVariants.{Fault, Memory}
 use Rattle.ilp_addr.specs.declared.fault.AddrFault.TheVariants.{Scheme, Segment, Length}
 
 -- the parts between the dots, the scheme first
@@ -53,3 +55,53 @@ parts_at bytes (scheme ∷ first ∷ others) = if is_scheme scheme then with_seg
 -- the address that the bytes are, or the first fault
 unfoldable pub address_at : List ℕ → Result (List ℕ) AddrFault
 address_at bytes = if nat_lt 1023 (length bytes) then Err Length else parts_at bytes (segments bytes)
+
+-- ---- prefixes (RFC 0015, "Address Prefixes")
+
+-- the segments of a prefix; the empty prefix has none
+abbrev pub prefix_segments : List ℕ → List (List ℕ)
+prefix_segments [] = []
+prefix_segments (b ∷ bytes) = segments (b ∷ bytes)
+
+-- nothing, a scheme alone, or a scheme and segments
+abbrev pub ArePrefixParts : List (List ℕ) → Type 0
+ArePrefixParts [] = Unit {0}
+ArePrefixParts (scheme ∷ others) = IsTrue (is_scheme scheme) × IsTrue (list_all is_segment others)
+
+-- at most 1,023 bytes: nothing, a scheme alone, or an address
+pub record IsPrefix (bytes : List ℕ) : Type 0 where
+  pub short : length bytes ≤ 1023
+  pub parts : ArePrefixParts (prefix_segments bytes)
+
+-- the bytes, less one dot at their end
+abbrev pub without_last_dot : List ℕ → List ℕ
+without_last_dot bytes = if slice_index bytes (length bytes - 1) == 46 then take (length bytes - 1) bytes else bytes
+
+-- the parts of a prefix, checked from left to right
+abbrev pub prefix_parts_at : List ℕ → List (List ℕ) → Result (List ℕ) AddrFault
+prefix_parts_at bytes [] = Ok bytes
+prefix_parts_at bytes (scheme ∷ others) = if is_scheme scheme then with_segments bytes others else Err Scheme
+
+-- the prefix that the bytes are, or the first fault
+unfoldable pub prefix_of : List ℕ → Result (List ℕ) AddrFault
+prefix_of bytes = if nat_lt 1023 (length bytes) then Err Length else prefix_parts_at bytes (prefix_segments bytes)
+
+-- the prefix that the bytes spell, with or without a dot at the end, or the first fault
+unfoldable pub prefix_at : List ℕ → Result (List ℕ) AddrFault
+prefix_at bytes = if bytes_eq bytes (46 ∷ []) then Err Scheme else prefix_of (without_last_dot bytes)
+
+-- what came is what reading gives, unless memory ran out
+abbrev pub GivesPrefix : Result (List ℕ) PrefixError → Result (List ℕ) AddrFault → Type 0
+GivesPrefix (Ok bytes) read = read ≡ Ok bytes
+GivesPrefix (Err (Fault fault)) read = read ≡ Err fault
+GivesPrefix (Err Memory) read = Unit {0}
+
+-- the first segments are the prefix's, and others may follow
+abbrev pub Begins : List (List ℕ) → List (List ℕ) → Type 0
+Begins prefix segments = (rest : List (List ℕ)) × (segments ≡ prefix ++ rest)
+
+-- the test of Begins
+unfoldable pub begins_with : List (List ℕ) → List (List ℕ) → Bool
+begins_with [] segments = true
+begins_with (first ∷ prefix) [] = false
+begins_with (first ∷ prefix) (segment ∷ segments) = bytes_eq first segment && begins_with prefix segments

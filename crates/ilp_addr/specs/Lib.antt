@@ -1,2 +1,3 @@
 pub mod Address
+pub mod Segments
 pub mod Timestamp

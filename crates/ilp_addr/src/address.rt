@@ -1,15 +1,15 @@
 //! Addresses (RFC 0015).
 
-ghost use Rattle.std.specs.Prelude.{◌≡◌, ◌≤◌, ◌∷◌, ℕ, [], List, length, Ok, Err, IfOk, MatchResult, MatchOption};
-ghost use Rattle.std.specs.List.{list_all};
-ghost use Rattle.ilp_addr.specs.Address as spec;
-ghost use Rattle.ilp_addr.specs.Address.{segments, IsAddress, address_at};
+ghost use Rattle.std.specs.Prelude.{◌≡◌, ◌≤◌, ◌↔◌, ℕ, List, length, Ok, Err, IfOk, IsTrue, MatchResult};
+ghost use Rattle.ilp_addr.specs.Address.{segments, prefix_segments, Begins, begins_with, IsAddress, address_at};
 
 use crate::fault::AddrFault;
+use crate::prefix::Prefix;
+use crate::segments::{Segments, are_segments, is_scheme, segments_begin, split_at_dot};
 use std::marker::Model;
 
 /// The most bytes that an address may have (RFC 0015, "Address Requirements").
-pub const MAX_LEN: usize = 1023;
+pub(crate) const MAX_LEN: usize = 1023;
 
 /// An address: an allocation scheme and one or more segments, with a dot between any two
 /// (RFC 0015, "Address Requirements"). It borrows its bytes.
@@ -27,6 +27,8 @@ impl<'a> Model for Address<'a> {
 }
 
 impl<'a> Address<'a> {
+    ghost use Rattle.ilp_addr.specs.Segments.{segments_left};
+
     /// The address that the bytes spell.
     ///
     /// The errors are, in the order in which they are looked for: `Length` where there are more
@@ -52,6 +54,22 @@ impl<'a> Address<'a> {
     {
         self.bytes
     }
+
+    /// The parts of the address between its dots, the scheme first.
+    pub fn segments(&self) -> Segments<'a>
+        ensures { segments_left result ≡ segments self.now }
+    {
+        Segments::new(self.bytes)
+    }
+
+    /// Whether the segments of the prefix are the first segments of the address (RFC 0015,
+    /// "Address Prefixes"). The empty prefix begins each address.
+    pub fn begins_with(&self, prefix: &Prefix) -> bool
+        ensures begins { IsTrue result ↔ Begins (prefix_segments prefix.now) (segments self.now) }
+        ensures exact { result ≡ begins_with (prefix_segments prefix.now) (segments self.now) }
+    {
+        segments_begin(self.bytes, prefix.bytes())
+    }
 }
 
 #[tactic(auto, unfolding(crate::specs::Address::address_at))]
@@ -71,52 +89,4 @@ fn check_address(bytes: &[u8]) -> Result<(), AddrFault>
         return Err(AddrFault::Segment);
     }
     Ok(())
-}
-
-// What stands before the first dot, and what stands after it.
-pub(crate) fn split_at_dot(bytes: &[u8]) -> Option<(&[u8], &[u8])>
-    ensures { MatchOption result (segments bytes.now ≡ bytes.now ∷ []) (λ r. segments bytes.now ≡ r.0.now ∷ segments r.1.now) }
-{
-    for (i, byte) in bytes.iter().enumerate() {
-        if *byte == b'.' {
-            return Some((&bytes[..i], &bytes[i + 1..]));
-        }
-    }
-    None
-}
-
-pub(crate) fn are_segments(bytes: &[u8]) -> bool
-    ensures { result ≡ list_all spec.is_segment (segments bytes.now) }
-{
-    bytes.split(|b| *b == b'.').all(is_segment)
-}
-
-#[tactic(auto, unfolding(crate::specs::Address::is_segment))]
-fn is_segment(text: &[u8]) -> bool
-    ensures { result ≡ spec.is_segment text.now }
-{
-    !text.is_empty() && text.iter().all(|b| is_segment_byte(*b))
-}
-
-#[tactic(auto, unfolding(crate::specs::Address::is_segment_byte))]
-fn is_segment_byte(byte: u8) -> bool
-    ensures { result ≡ spec.is_segment_byte byte }
-{
-    matches!(byte, b'a'..=b'z' | b'A'..=b'Z' | b'0'..=b'9' | b'_' | b'~' | b'-')
-}
-
-#[tactic(auto, unfolding(crate::specs::Address::is_scheme))]
-pub(crate) fn is_scheme(text: &[u8]) -> bool
-    ensures { result ≡ spec.is_scheme text.now }
-{
-    text == b"g".as_slice()
-        || text == b"private".as_slice()
-        || text == b"example".as_slice()
-        || text == b"peer".as_slice()
-        || text == b"self".as_slice()
-        || text == b"test".as_slice()
-        || text == b"test1".as_slice()
-        || text == b"test2".as_slice()
-        || text == b"test3".as_slice()
-        || text == b"local".as_slice()
 }

@@ -6,9 +6,16 @@ mod calendar;
 mod fault;
 pub mod laws;
 mod moment;
+mod prefix;
+mod segments;
 mod stamp;
 
 pub use address::Address;
-pub use fault::AddrFault;
+pub use fault::{AddrFault, PrefixError};
 pub use moment::Moment;
+pub use prefix::Prefix;
+pub use segments::Segments;
 pub use stamp::Stamp;
+
+#[cfg(test)]
+mod tests;

@@ -1,3 +1,4 @@
 pub mod FieldLaws
 pub mod PrepareLaws
 pub mod Moments
+pub mod Writes

@@ -1,7 +1,7 @@
 -- A frame that is read is a Prepare with the parts that were read, and each Prepare is read.
-use Rattle.std.proofs.Common.{◌≡◌, ◌≤◌, ◌<◌, ◌+◌, ◌^◌, ℕ, List, ◌∷◌, ◌++◌, length, get_or, Result, Ok, Err, refl, sym, ap, subst, ◌∙◌, append_assoc, arith}
+use Rattle.std.proofs.Common.{◌≡◌, ◌≤◌, ◌<◌, ◌+◌, ◌^◌, ℕ, List, ◌∷◌, ◌++◌, length, get_or, Result, Ok, Err, IfOk, refl, sym, ap, subst, ◌∙◌, append_assoc, arith}
 use Rattle.std.specs.Int.{w64, to_be_bytes}
-use Rattle.std.proofs.lemmas.List.{get_or-append-add}
+use Rattle.std.proofs.lemmas.List.{get_or-append-add, length-append}
 use Rattle.oer_core.specs.Length.{AreBytes, IsLength, ◌>>=◌, number_at}
 use Rattle.oer_core.proofs.Results.{bind_ok}
 use Rattle.oer_core.proofs.Numbers.{number_takes, number_again}
@@ -49,6 +49,9 @@ record Takes (spelling contents : List ℕ) (p : Prepare) : Type 0 where
   pub data_length : IsLength p.data_length (length p.payload)
   pub payload : length p.payload ≤ 32768
 
+joined : (all a after_a e after_e c after_c s d after_d f : List ℕ) → all ≡ a ++ after_a → after_a ≡ e ++ after_e → after_e ≡ c ++ after_c → after_c ≡ s ++ (d ++ after_d) → after_d ≡ f → all ≡ a ++ (e ++ (c ++ (s ++ (d ++ f))))
+joined all a after_a e after_e c after_c s d after_d f p q r t u = cc
+
 fields_take : (spelling contents : List ℕ) (p : Prepare) → AreBytes contents → prepare_fields spelling contents ≡ Ok p → Takes spelling contents p
 unfolding prepare_fields
 fields_take spelling contents p fits read =
@@ -62,13 +65,9 @@ fields_take spelling contents p fits read =
     let tc = fixed_takes 32 e.0.1 c.0 c.1 in
     let td = destination_takes c.0.1 d.0 d.1 in
     let tf = data_takes d.0.2 f.0 f.1 in
-    let whole = ta.1
-    ∙ ap (λ (x : List ℕ). to_be_bytes w64 a.0.0 ++ x) (te.0
-    ∙ ap (λ (x : List ℕ). e.0.0 ++ x) (tc.0
-    ∙ ap (λ (x : List ℕ). c.0.0 ++ x) (td.0
-    ∙ ap (λ (x : List ℕ). d.0.0 ++ (d.0.1 ++ x)) tf.0))) in
+    let whole = joined contents (to_be_bytes w64 a.0.0) a.0.1 e.0.0 e.0.1 c.0.0 c.0.1 d.0.0 d.0.1 d.0.2 (f.0.0 ++ (f.0.1 ++ f.0.2)) ta.1 te.0 tc.0 td.0 tf.0 in
     let same : parts spelling a.0 e.0 c.0 d.0 f.0 ≡ p = same_ok (parts spelling a.0 e.0 c.0 d.0 f.0) p f.2 in
-    subst (λ (q : Prepare). Takes spelling contents q) same (record { same_spelling = refl; same_contents = whole; amount = ta.0; expiry = te.1; condition = tc.1; destination_length = td.1; destination = td.2; data_length = tf.1; payload = tf.2 })
+    subst (λ (q : Prepare). Takes spelling contents q) same (record { same_spelling = refl {a = spelling}; same_contents = whole; amount = ta.0; expiry = te.1; condition = tc.1; destination_length = td.1; destination = td.2; data_length = tf.1; payload = tf.2 })
 
 AreBytes-contents : (frame front contents : List ℕ) → frame ≡ front ++ contents → AreBytes frame → AreBytes contents
 AreBytes-contents frame front contents e fits = λ i. subst (λ (b : ℕ). b < 256) (ap (λ (x : List ℕ). get_or x (length front + i) 0) e ∙ get_or-append-add front contents i 0) (fits (length front + i))
@@ -105,3 +104,28 @@ fields_again frame p is =
 pub prepare_again : (frame : List ℕ) (p : Prepare) → IsPrepare frame p → prepare_at frame ≡ Ok p
 unfolding prepare_at
 prepare_again frame p is = rw (envelope_again 12 frame p.contents_length (prepare_contents p) is.framed) (fields_again frame p is)
+
+-- another amount and another date leave the frame a Prepare
+pub replaced_is : (p : Prepare) (amount : ℕ) (text : List ℕ) → IsPrepare (prepare_frame p) p → amount < 2 ^ 64 → IsTimestamp text → IsPrepare (prepare_frame (record p { amount = amount; expiry = text })) (record p { amount = amount; expiry = text })
+replaced_is p amount text is small date =
+    let q : Prepare = record p { amount = amount; expiry = text } in
+    let rest : List ℕ = p.condition ++ (p.destination_length ++ (p.destination ++ (p.data_length ++ (p.payload ++ p.extra)))) in
+    let before : length (to_be_bytes w64 p.amount ++ (p.expiry ++ rest)) ≡ 8 + length (p.expiry ++ rest) = length-append (to_be_bytes w64 p.amount) (p.expiry ++ rest) in
+    let after : length (to_be_bytes w64 amount ++ (text ++ rest)) ≡ 8 + length (text ++ rest) = length-append (to_be_bytes w64 amount) (text ++ rest) in
+    let same : length (prepare_contents p) ≡ length (prepare_contents q) = omega (arith, length-append p.expiry rest, length-append text rest, is.expiry.len, date.len) in
+    let size : length (prepare_frame q) ≤ 34000 = omega (arith, length-append (12 ∷ p.contents_length) (prepare_contents p), length-append (12 ∷ p.contents_length) (prepare_contents q), is.framed.size) in
+    record {
+      framed = record { bytes = refl; spelled = subst (λ (n : ℕ). IsLength p.contents_length n) same is.framed.spelled; size = size };
+      amount = small;
+      expiry = date;
+      condition = is.condition;
+      destination_length = is.destination_length;
+      destination = is.destination;
+      data_length = is.data_length;
+      payload = is.payload;
+    }
+
+-- what a result holds, from what it holds
+pub if_ok_then : {A E : Type 0} (r : Result A E) (P Q : A → Type 0) → IfOk r P → ((x : A) → P x → Q x) → IfOk r Q
+if_ok_then (Ok x) P Q holds then = then x holds
+if_ok_then (Err e) P Q holds then = tt

@@ -1,7 +1,7 @@
 -- What packets are: their frames and their parts (RFC 0027).
-use Rattle.std.specs.Prelude.{◌≡◌, ◌<◌, ◌≤◌, ◌^◌, ℕ, List, ◌∷◌, ◌++◌, length}
+use Rattle.std.specs.Prelude.{◌≡◌, ◌<◌, ◌≤◌, ◌+◌, ◌^◌, ℕ, List, ◌∷◌, ◌++◌, length}
 use Rattle.std.specs.Int.{w64, to_be_bytes}
-use Rattle.oer_core.specs.Length.{IsLength}
+use Rattle.oer_core.specs.Length.{IsLength, octet_string}
 use Rattle.ilp_addr.specs.Address.{IsAddress}
 use Rattle.ilp_addr.specs.Timestamp.{IsTimestamp}
 
@@ -48,3 +48,15 @@ pub record IsPrepare (frame : List ℕ) (p : Prepare) : Type 0 where
 -- (RFC 0027, "ILP Prepare").
 abbrev pub with_amount_and_expiry : Prepare → ℕ → List ℕ → List ℕ
 with_amount_and_expiry p amount expiry = prepare_frame (record p { amount = amount; expiry = expiry })
+
+-- The frame of a Fulfill, its lengths in the fewest bytes (RFC 0027, "ILP Fulfill").
+abbrev pub fulfill_frame : List ℕ → List ℕ → List ℕ
+fulfill_frame fulfillment payload = 13 ∷ octet_string (fulfillment ++ octet_string payload)
+
+-- The frame of a Reject, its lengths in the fewest bytes (RFC 0027, "ILP Reject").
+abbrev pub reject_frame : List ℕ → List ℕ → List ℕ → List ℕ → List ℕ
+reject_frame code triggered_by message payload = 14 ∷ octet_string (code ++ (octet_string triggered_by ++ (octet_string message ++ octet_string payload)))
+
+-- Parts of a Reject that leave its frame within 34,000 bytes and its data within 32,768.
+abbrev pub FitsReject : List ℕ → List ℕ → List ℕ → Type 0
+FitsReject triggered_by message payload = (length payload ≤ 32768) × (length triggered_by + length message + length payload ≤ 33984)

@@ -2,10 +2,12 @@
 //! lent from the frame, and no reader allocates.
 #![tactic(auto)]
 
+mod answers;
 mod fault;
 mod fields;
 mod prepare;
 
+pub use answers::write_reject;
 pub use fault::ViewFault;
 pub use prepare::PrepareView;
 

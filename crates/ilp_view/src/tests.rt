@@ -1,5 +1,7 @@
 use super::*;
+use std::alloc::Global;
 use std::process::Abort;
+use std::test::Fail;
 
 // The SHA-256 hash of 32 zero bytes.
 const CONDITION: &[u8; 32] =
@@ -12,6 +14,17 @@ const BASE: &[u8; 73] =
 // The same with lengths in more bytes than they need.
 const LONG_FORM: &[u8; 76] =
     b"\x0c\x82\0H\0\0\0\0\0\0\x03\xe820300101000010000fhz\xad\xf8b\xbdwl\x8f\xc1\x8b\x8e\x9f\x8e\x20\x08\x97\x14\x85n\xe23\xb3\x90\x2aY\x1d\x0d_\x29\x25\x0cg.acme.bob.x\x81\0";
+
+// Both with amount 1500 and until 2030-01-01T00:00:09Z.
+const FORWARDED: &[u8; 73] =
+    b"\x0cG\0\0\0\0\0\0\x05\xdc20300101000009000fhz\xad\xf8b\xbdwl\x8f\xc1\x8b\x8e\x9f\x8e \x08\x97\x14\x85n\xe23\xb3\x90\x2aY\x1d\x0d_\x29\x25\x0cg.acme.bob.x\0";
+
+const LONG_FORWARDED: &[u8; 76] =
+    b"\x0c\x82\0H\0\0\0\0\0\0\x05\xdc20300101000009000fhz\xad\xf8b\xbdwl\x8f\xc1\x8b\x8e\x9f\x8e \x08\x97\x14\x85n\xe23\xb3\x90\x2aY\x1d\x0d_\x29\x25\x0cg.acme.bob.x\x81\0";
+
+// A Reject with code F08, by g.acme, whose data are the amounts 1000 and 999.
+const REJECTED: &[u8; 46] =
+    b"\x0e\x2cF08\x06g.acme\x10amount too large\x10\0\0\0\0\0\0\x03\xe8\0\0\0\0\0\0\x03\xe7";
 
 // The thirteenth month.
 const NO_DATE: &[u8; 73] =
@@ -54,4 +67,34 @@ fn faults(rt: HostRuntime) {
     assert_eq!(rt; fault_of(&longer), Some(ViewFault::AfterEnd));
     assert_eq!(rt; fault_of(&[0x0c; 34_001]), Some(ViewFault::Size));
     assert_eq!(rt; fault_of(NO_DATE), Some(ViewFault::Field));
+}
+
+fn forwarded(rt: &impl Abort, alloc: Global, frame: &[u8]) -> Result<Vec<u8>, Fail> {
+    let view = PrepareView::read(frame)?;
+    assert_eq!(rt; view.amount(), 1000);
+    Ok(view.forwarded(alloc, 1500, EXPIRY - 1000)?)
+}
+
+#[test]
+fn forwards(rt: HostRuntime) -> Result<(), Fail> {
+    let frame = forwarded(&rt, rt.alloc(), BASE)?;
+    assert!(rt; frame.as_slice() == FORWARDED.as_slice());
+    let frame = forwarded(&rt, rt.alloc(), LONG_FORM)?;
+    assert!(rt; frame.as_slice() == LONG_FORWARDED.as_slice());
+    Ok(())
+}
+
+#[test]
+fn rejects(rt: HostRuntime) {
+    let mut out = [9; 47];
+    let amounts = b"\0\0\0\0\0\0\x03\xe8\0\0\0\0\0\0\x03\xe7";
+    let written = write_reject(&mut out, b"F08", b"g.acme", b"amount too large", amounts);
+    assert_eq!(rt; written, Ok(46));
+    let mut expected = [9; 47];
+    expected[..46].copy_from_slice(REJECTED);
+    assert_eq!(rt; out, expected);
+    let mut little = [9; 45];
+    let written = write_reject(&mut little, b"F08", b"g.acme", b"amount too large", amounts);
+    assert_eq!(rt; written, Err(ViewFault::Short));
+    assert_eq!(rt; little, [9; 45]);
 }

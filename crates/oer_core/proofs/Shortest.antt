@@ -1,5 +1,5 @@
 -- The spelling with the fewest bytes: it is one, and no other is shorter.
-use Rattle.std.proofs.Common.{◌≡◌, ◌≤◌, ◌<◌, ◌+◌, ◌-◌, ◌*◌, ◌^◌, zero, suc, ℕ, List, [], ◌∷◌, ◌⊎◌, length, fold, ltb, refl, sym, ap, subst, ◌∙◌, inl, inr, add-one, arith}
+use Rattle.std.proofs.Common.{◌≡◌, ◌≤◌, ◌<◌, ◌+◌, ◌-◌, ◌*◌, ◌/◌, ◌%◌, ◌^◌, zero, suc, ℕ, List, [], ◌∷◌, ◌⊎◌, length, fold, ltb, refl, sym, ap, subst, ◌∙◌, inl, inr, add-one, arith}
 use Rattle.std.specs.Int.{w64, to_be_bytes, from_be_bytes}
 use Rattle.std.proofs.lemmas.Bool.{cases_lt, lt-ltb, le-ltb}
 use Rattle.std.proofs.lemmas.Nat.{from_be_bytes-to_be_bytes_8, mul-le}
@@ -95,3 +95,16 @@ no_shorter n (b ∷ bs) fits bytes spelled =
                 rw (le-ltb n 128 ge) (omega arith)
           ]
     ]
+
+-- two bytes of digits are enough below 65,536
+two_digits : (n : ℕ) → n < 65536 → IsLength (130 ∷ n / 256 ∷ n % 256 ∷ []) n
+two_digits n small = inr (omega arith, omega arith, refl, omega arith)
+
+two_are_bytes : (n : ℕ) → n < 65536 → AreBytes (130 ∷ n / 256 ∷ n % 256 ∷ [])
+two_are_bytes n small zero = omega arith
+two_are_bytes n small (suc zero) = omega arith
+two_are_bytes n small (suc (suc zero)) = omega arith
+two_are_bytes n small (suc (suc (suc i))) = omega arith
+
+pub short_length : (n : ℕ) → n < 65536 → length (shortest_length n) ≤ 3
+short_length n small = no_shorter n (130 ∷ n / 256 ∷ n % 256 ∷ []) (omega arith) (two_are_bytes n small) (two_digits n small)

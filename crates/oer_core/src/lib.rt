@@ -11,7 +11,9 @@ mod writing;
 pub use device::Device;
 pub use fault::OerFault;
 pub use reading::{read_length, read_octets, read_u64};
-pub use writing::{write_length, write_octets, write_u64};
+pub use writing::{
+    length_size, put_bytes, put_length, put_octets, write_length, write_octets, write_u64,
+};
 
 #[cfg(test)]
 mod tests;

@@ -11,7 +11,9 @@ fn has_room(out: &[u8], at: usize, count: usize) -> bool
     at <= out.len() && count <= out.len() - at
 }
 
-fn put(out: &mut [u8], at: usize, bytes: &[u8])
+/// Writes `bytes` into `out` from place `at` on, where they are known to fit. Every other byte of
+/// `out` stays.
+pub fn put_bytes(out: &mut [u8], at: usize, bytes: &[u8])
     requires { at + length bytes.now ≤ length out.old }
     ensures { out.new ≡ overwritten out.old at bytes.now }
 {
@@ -30,8 +32,9 @@ fn digits_of(bytes: &[u8]) -> &[u8]
     rest
 }
 
+/// How many bytes the shortest spelling of the length `count` takes, at most 9. (RFC 0030)
 #[tactic(auto, unfolding(crate::specs::Length::shortest_length))]
-fn length_size(count: usize) -> usize
+pub fn length_size(count: usize) -> usize
     ensures size { result ≡ length (shortest_length count) }
     ensures within { result ≤ 9 }
 {
@@ -42,21 +45,36 @@ fn length_size(count: usize) -> usize
     digits_of(&bytes).len() + 1
 }
 
+/// Writes the shortest spelling of the length `count` into `out` from place `at` on, where it is known
+/// to fit, and gives the place after it. Every other byte of `out` stays. (RFC 0030)
 #[tactic(auto, unfolding(crate::specs::Length::shortest_length))]
-fn put_length(out: &mut [u8], at: usize, count: usize) -> usize
+pub fn put_length(out: &mut [u8], at: usize, count: usize) -> usize
     requires { at + length (shortest_length count) ≤ length out.old }
     ensures end { result ≡ at + length (shortest_length count) }
     ensures written { out.new ≡ overwritten out.old at (shortest_length count) }
 {
     if count < 128 {
-        put(out, at, &[count as u8]);
+        put_bytes(out, at, &[count as u8]);
         return at + 1;
     }
     let bytes = (count as u64).to_be_bytes();
     let digits = digits_of(&bytes);
-    put(out, at, &[128 + digits.len() as u8]);
-    put(out, at + 1, digits);
+    put_bytes(out, at, &[128 + digits.len() as u8]);
+    put_bytes(out, at + 1, digits);
     at + 1 + digits.len()
+}
+
+/// Writes `bytes` as an octet string into `out` from place `at` on, its length in the shortest
+/// spelling, where it is known to fit, and gives the place after it. Every other byte of `out` stays.
+/// (RFC 0030)
+pub fn put_octets(out: &mut [u8], at: usize, bytes: &[u8]) -> usize
+    requires { at + length (octet_string bytes.now) ≤ length out.old }
+    ensures end { result ≡ at + length (octet_string bytes.now) }
+    ensures written { out.new ≡ overwritten out.old at (octet_string bytes.now) }
+{
+    let text_at = put_length(out, at, bytes.len());
+    put_bytes(out, text_at, bytes);
+    text_at + bytes.len()
 }
 
 /// Writes the shortest spelling of the length `count` into `out` from place `at` on, and gives the
@@ -88,9 +106,7 @@ pub fn write_octets(out: &mut [u8], at: usize, bytes: &[u8]) -> Result<usize, Oe
     if !has_room(out, at, length_size(bytes.len()) + bytes.len()) {
         return Err(OerFault::Short);
     }
-    let text_at = put_length(out, at, bytes.len());
-    put(out, text_at, bytes);
-    Ok(text_at + bytes.len())
+    Ok(put_octets(out, at, bytes))
 }
 
 /// Writes `value` as eight bytes, the highest first, into `out` from place `at` on, and gives the
@@ -106,6 +122,6 @@ pub fn write_u64(out: &mut [u8], at: usize, value: u64) -> Result<usize, OerFaul
     if !has_room(out, at, 8) {
         return Err(OerFault::Short);
     }
-    put(out, at, &value.to_be_bytes());
+    put_bytes(out, at, &value.to_be_bytes());
     Ok(at + 8)
 }

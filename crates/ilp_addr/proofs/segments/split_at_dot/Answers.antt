@@ -4,7 +4,7 @@ use Rattle.std.proofs.lemmas.List.Elements.{All-more}
 use Rattle.std.proofs.lemmas.List.{take_rest}
 use Rattle.std.proofs.lemmas.List.Splits.{slice_split_none}
 use Rattle.ilp_addr.proofs.Dots.{segments_at}
-use Rattle.ilp_addr.proofs.address.split_at_dot.Goals as goal
+use Rattle.ilp_addr.proofs.segments.split_at_dot.Goals as goal
 
 pub returns-then-byte-eq46 : goal.returns-then-byte-eq46
 returns-then-byte-eq46 c = rw take_rest (segments_at c.args.bytes.now _ c.loop-i-test.true c.if-byte-eq46.true c.loop-i.invariant)

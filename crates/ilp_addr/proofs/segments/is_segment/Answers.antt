@@ -4,7 +4,7 @@ use Rattle.std.proofs.lemmas.Iterator.{YieldsList-from_slice}
 use Rattle.std.proofs.lemmas.Iterator.Search.{all_from_yields_List}
 use Rattle.std.proofs.lemmas.Grind.{common_steps}
 use Rattle.ilp_addr.specs.Address.{is_segment, is_segment_byte}
-use Rattle.ilp_addr.proofs.address.is_segment.Goals as goal
+use Rattle.ilp_addr.proofs.segments.is_segment.Goals as goal
 
 pub returns-then-not-is_empty : goal.returns-then-not-is_empty
 unfolding is_segment

@@ -1,0 +1,115 @@
+//! Prefixes of addresses (RFC 0015, "Address Prefixes").
+
+ghost use Rattle.std.specs.Prelude.{◌≡◌, ◌≢◌, ◌≤◌, ◌∷◌, ℕ, [], List, length, Ok, Err, IfOk, MatchResult};
+ghost use Rattle.ilp_addr.specs.Address.{IsPrefix, prefix_at, prefix_of, without_last_dot, GivesPrefix};
+
+use crate::address::MAX_LEN;
+use crate::fault::{AddrFault, PrefixError};
+use crate::segments::{are_segments, is_scheme, split_at_dot};
+use std::alloc::{AllocError, Global};
+use std::marker::Model;
+
+/// The beginning of addresses: nothing, an allocation scheme, or an address (RFC 0015, "Address
+/// Prefixes"). It holds its bytes without a dot at the end.
+#[derive(Debug, Drop)]
+pub struct Prefix {
+    bytes: Vec<u8>,
+}
+
+impl Model for Prefix {
+    ghost Value = { List ℕ };
+
+    ghost view = { λ p. p.bytes.items };
+
+    ghost invariant = { λ p. IsPrefix p.bytes.items };
+}
+
+impl Prefix {
+    /// The prefix that the bytes spell, with or without a dot at the end.
+    ///
+    /// The errors are, in the order in which they are looked for: `Fault(Scheme)` for a dot alone,
+    /// `Fault(Length)` where there are more than 1,023 bytes, `Fault(Scheme)` where no allocation
+    /// scheme comes first, `Fault(Segment)` where a segment is empty or has a byte that is not
+    /// allowed, and `Memory` where there is no memory for the bytes.
+    pub fn parse(alloc: Global, bytes: &[u8]) -> Result<Prefix, PrefixError>
+        // What is read is a prefix, and all of the bytes but a dot at the end.
+        ensures found { IfOk result (λ p. IsPrefix p × (p ≡ without_last_dot bytes.now)) }
+        // Each prefix is read, unless memory runs out.
+        ensures only { bytes.now ≢ 46 ∷ [] → IsPrefix (without_last_dot bytes.now) → GivesPrefix result (Ok (without_last_dot bytes.now)) }
+        // Which fault comes.
+        ensures exact { GivesPrefix result (prefix_at bytes.now) }
+    {
+        read(alloc, bytes)
+    }
+
+    /// The bytes of the prefix, at most 1,023, without a dot at the end.
+    pub fn bytes(&self) -> &[u8]
+        ensures value { result.now ≡ self.now }
+        ensures prefix { IsPrefix self.now }
+        ensures short { length result.now ≤ 1023 }
+    {
+        &self.bytes
+    }
+
+    /// The same prefix in memory of its own.
+    pub fn copy(&self, alloc: Global) -> Result<Prefix, AllocError>
+        ensures { IfOk result (λ p. p ≡ self.now) }
+    {
+        let bytes = Vec::from_slice(alloc, &self.bytes)?;
+        Ok(Prefix { bytes })
+    }
+}
+
+fn read(alloc: Global, bytes: &[u8]) -> Result<Prefix, PrefixError>
+    ensures { GivesPrefix result (prefix_at bytes.now) }
+{
+    let bytes = prefix_bytes(bytes)?;
+    let bytes = Vec::from_slice(alloc, bytes)?;
+    Ok(Prefix { bytes })
+}
+
+// The bytes of the prefix that the bytes spell.
+#[tactic(auto, unfolding(crate::specs::Address::prefix_at))]
+fn prefix_bytes(bytes: &[u8]) -> Result<&[u8], AddrFault>
+    ensures { MatchResult result (λ r. prefix_at bytes.now ≡ Ok r.now) (λ e. prefix_at bytes.now ≡ Err e) }
+{
+    if bytes == b".".as_slice() {
+        return Err(AddrFault::Scheme);
+    }
+    check_prefix(strip_last_dot(bytes))
+}
+
+fn strip_last_dot(bytes: &[u8]) -> &[u8]
+    ensures { result.now ≡ without_last_dot bytes.now }
+{
+    match bytes {
+        [front @ .., b'.'] => front,
+        _ => bytes,
+    }
+}
+
+#[tactic(auto, unfolding(crate::specs::Address::prefix_of))]
+fn check_prefix(bytes: &[u8]) -> Result<&[u8], AddrFault>
+    ensures { MatchResult result (λ r. prefix_of bytes.now ≡ Ok r.now) (λ e. prefix_of bytes.now ≡ Err e) }
+{
+    if bytes.is_empty() {
+        return Ok(bytes);
+    }
+    if bytes.len() > MAX_LEN {
+        return Err(AddrFault::Length);
+    }
+    let Some((scheme, rest)) = split_at_dot(bytes) else {
+        return if is_scheme(bytes) {
+            Ok(bytes)
+        } else {
+            Err(AddrFault::Scheme)
+        };
+    };
+    if !is_scheme(scheme) {
+        return Err(AddrFault::Scheme);
+    }
+    if !are_segments(rest) {
+        return Err(AddrFault::Segment);
+    }
+    Ok(bytes)
+}

@@ -1,0 +1,107 @@
+//! The parts of an address between its dots (RFC 0015).
+
+ghost use Rattle.std.specs.Prelude.{◌≡◌, ◌∷◌, [], MatchOption};
+ghost use Rattle.std.specs.List.{list_all};
+ghost use Rattle.std.specs.Iterator.{item_count};
+ghost use Rattle.ilp_addr.specs.Address as spec;
+ghost use Rattle.ilp_addr.specs.Address.{segments, prefix_segments, begins_with};
+
+/// The parts of an address between its dots, the scheme first.
+#[derive(Debug, Drop)]
+pub struct Segments<'a> {
+    rest: Option<&'a [u8]>,
+}
+
+impl<'a> Segments<'a> {
+    ghost use Rattle.ilp_addr.specs.Segments.{segments_left};
+
+    pub(crate) fn new(bytes: &'a [u8]) -> Segments<'a>
+        ensures { segments_left result ≡ segments bytes.now }
+    {
+        Segments { rest: Some(bytes) }
+    }
+}
+
+impl<'a> Iterator for Segments<'a> {
+    ghost use Rattle.ilp_addr.specs.Segments.{segments_left, GivesFirstSegment};
+
+    type Item = &'a [u8];
+
+    ghost next_gives = { GivesFirstSegment };
+
+    ghost remaining = { item_count segments_left };
+
+    fn next(&mut self) -> Option<&'a [u8]> {
+        let bytes = self.rest?;
+        let Some((first, rest)) = split_at_dot(bytes) else {
+            self.rest = None;
+            return Some(bytes);
+        };
+        self.rest = Some(rest);
+        Some(first)
+    }
+}
+
+/// Whether the segments of the prefix are the first segments of the bytes.
+pub(crate) fn segments_begin(bytes: &[u8], prefix: &[u8]) -> bool
+    ensures { result ≡ begins_with (prefix_segments prefix.now) (segments bytes.now) }
+{
+    prefix.is_empty() || begins_at_dot(bytes, prefix)
+}
+
+fn begins_at_dot(bytes: &[u8], prefix: &[u8]) -> bool
+    ensures { result ≡ begins_with (segments prefix.now) (segments bytes.now) }
+{
+    let Some(rest) = bytes.strip_prefix(prefix) else {
+        return false;
+    };
+    rest.is_empty() || rest[0] == b'.'
+}
+
+// What stands before the first dot, and what stands after it.
+pub(crate) fn split_at_dot(bytes: &[u8]) -> Option<(&[u8], &[u8])>
+    ensures { MatchOption result (segments bytes.now ≡ bytes.now ∷ []) (λ r. segments bytes.now ≡ r.0.now ∷ segments r.1.now) }
+{
+    for (i, byte) in bytes.iter().enumerate() {
+        if *byte == b'.' {
+            return Some((&bytes[..i], &bytes[i + 1..]));
+        }
+    }
+    None
+}
+
+pub(crate) fn are_segments(bytes: &[u8]) -> bool
+    ensures { result ≡ list_all spec.is_segment (segments bytes.now) }
+{
+    bytes.split(|b| *b == b'.').all(is_segment)
+}
+
+#[tactic(auto, unfolding(crate::specs::Address::is_segment))]
+fn is_segment(text: &[u8]) -> bool
+    ensures { result ≡ spec.is_segment text.now }
+{
+    !text.is_empty() && text.iter().all(|b| is_segment_byte(*b))
+}
+
+#[tactic(auto, unfolding(crate::specs::Address::is_segment_byte))]
+fn is_segment_byte(byte: u8) -> bool
+    ensures { result ≡ spec.is_segment_byte byte }
+{
+    matches!(byte, b'a'..=b'z' | b'A'..=b'Z' | b'0'..=b'9' | b'_' | b'~' | b'-')
+}
+
+#[tactic(auto, unfolding(crate::specs::Address::is_scheme))]
+pub(crate) fn is_scheme(text: &[u8]) -> bool
+    ensures { result ≡ spec.is_scheme text.now }
+{
+    text == b"g".as_slice()
+        || text == b"private".as_slice()
+        || text == b"example".as_slice()
+        || text == b"peer".as_slice()
+        || text == b"self".as_slice()
+        || text == b"test".as_slice()
+        || text == b"test1".as_slice()
+        || text == b"test2".as_slice()
+        || text == b"test3".as_slice()
+        || text == b"local".as_slice()
+}

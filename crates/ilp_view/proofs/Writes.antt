@@ -1,0 +1,50 @@
+-- How long written frames are, and that several writes one behind the other are one.
+use Rattle.std.proofs.Common.{◌≡◌, ◌≤◌, ◌<◌, ◌+◌, suc, ℕ, List, [], ◌∷◌, ◌++◌, length, refl, sym, ap, ◌∙◌, append_assoc, arith}
+use Rattle.std.proofs.lemmas.List.{length-append}
+use Rattle.oer_core.specs.Length.{shortest_length, octet_string}
+use Rattle.oer_core.specs.Writing.{overwritten}
+use Rattle.oer_core.proofs.Shortest.{short_length}
+use Rattle.oer_core.proofs.Overwriting.{overwritten_next}
+use Rattle.ilp_view.specs.Packet.{FitsReject, reject_frame}
+
+pub octets_short : (text : List ℕ) → length text < 65536 → length (octet_string text) ≤ length text + 3
+octets_short text small = omega (arith, short_length (length text) small, length-append (shortest_length (length text)) text)
+
+pub length-contents : (code t m p : List ℕ) → length code ≡ 3 → length (code ++ (t ++ (m ++ p))) ≡ 3 + length t + length m + length p
+length-contents code t m p len = omega (arith, length-append code (t ++ (m ++ p)), length-append t (m ++ p), length-append m p)
+
+pub reject_within : (code t m p : List ℕ) → length code ≡ 3 → FitsReject t m p → length (reject_frame code t m p) ≤ 34000
+reject_within code t m p len fits =
+    let contents : List ℕ = code ++ (octet_string t ++ (octet_string m ++ octet_string p)) in
+    let n : length contents ≡ 3 + length (octet_string t) + length (octet_string m) + length (octet_string p) = length-contents code (octet_string t) (octet_string m) (octet_string p) len in
+    let a : length (octet_string t) ≤ length t + 3 = octets_short t (omega arith) in
+    let b : length (octet_string m) ≤ length m + 3 = octets_short m (omega arith) in
+    let c : length (octet_string p) ≤ length p + 3 = octets_short p (omega arith) in
+    let most : length contents ≤ 33996 = omega arith in
+    let whole : length (octet_string contents) ≤ length contents + 3 = octets_short contents (omega arith) in
+    omega arith
+
+pub reject_written : (old x1 x2 x3 x4 x5 x6 spelling code t m p : List ℕ) (a b d kind : ℕ)
+    → x1 ≡ overwritten old 0 (kind ∷ [])
+    → a ≡ 1 + length spelling → x2 ≡ overwritten x1 1 spelling
+    → length code ≡ 3 → x3 ≡ overwritten x2 a code
+    → b ≡ a + 3 + length t → x4 ≡ overwritten x3 (a + 3) t
+    → d ≡ b + length m → x5 ≡ overwritten x4 b m
+    → x6 ≡ overwritten x5 d p
+    → 1 + length spelling + 3 + length t + length m + length p ≤ length old
+    → x6 ≡ overwritten old 0 (kind ∷ (spelling ++ (code ++ (t ++ (m ++ p)))))
+reject_written old x1 x2 x3 x4 x5 x6 spelling code t m p a b d kind w1 e2 w2 len w3 e4 w4 e5 w5 w6 fits =
+    let front : List ℕ = kind ∷ [] in
+    let l2 : length (front ++ spelling) ≡ 1 + length spelling = omega (arith, length-append front spelling) in
+    let l3 : length (front ++ spelling ++ code) ≡ 4 + length spelling = omega (arith, length-append (front ++ spelling) code) in
+    let l4 : length (front ++ spelling ++ code ++ t) ≡ 4 + length spelling + length t = omega (arith, length-append (front ++ spelling ++ code) t) in
+    let l5 : length (front ++ spelling ++ code ++ t ++ m) ≡ 4 + length spelling + length t + length m = omega (arith, length-append (front ++ spelling ++ code ++ t) m) in
+    let s2 = overwritten_next old front spelling x1 x2 1 w1 refl w2 (omega arith) in
+    let s3 = overwritten_next old (front ++ spelling) code x2 x3 a s2 (omega arith) w3 (omega arith) in
+    let s4 = overwritten_next old (front ++ spelling ++ code) t x3 x4 (a + 3) s3 (omega arith) w4 (omega arith) in
+    let s5 = overwritten_next old (front ++ spelling ++ code ++ t) m x4 x5 b s4 (omega arith) w5 (omega arith) in
+    let s6 = overwritten_next old (front ++ spelling ++ code ++ t ++ m) p x5 x6 d s5 (omega arith) w6 (omega arith) in
+    s6 ∙ ap (λ (x : List ℕ). overwritten old 0 (kind ∷ x)) (regrouped spelling code t m p)
+  where
+    regrouped : (s c t m p : List ℕ) → s ++ c ++ t ++ m ++ p ≡ s ++ (c ++ (t ++ (m ++ p)))
+    regrouped s c t m p = simp append_assoc

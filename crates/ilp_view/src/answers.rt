@@ -1,0 +1,50 @@
+//! Writing the two answers to a Prepare.
+
+ghost use Rattle.std.specs.Prelude.{◌≡◌, ◌≤◌, ◌+◌, ◌↔◌, length, IfOk, IfErr, IsOk};
+ghost use Rattle.oer_core.specs.Length.{octet_string};
+ghost use Rattle.oer_core.specs.Writing.{overwritten};
+ghost use Rattle.ilp_view.specs.Packet.{reject_frame, FitsReject};
+
+use crate::fault::ViewFault;
+use oer_core::{length_size, put_bytes, put_length, put_octets};
+
+/// The type byte of a Reject (RFC 0027).
+pub(crate) const REJECT: u8 = 14;
+
+fn octets_size(text: &[u8]) -> usize
+    requires { length text.now ≤ 34000 }
+    ensures size { result ≡ length (octet_string text.now) }
+    ensures within { result ≤ length text.now + 3 }
+{
+    length_size(text.len()) + text.len()
+}
+
+/// Writes the Reject of these parts at the front of `out`, each length in the fewest bytes, and gives
+/// the length of its frame, at most 34,000 bytes. Every other byte of `out` stays.
+///
+/// The error is `Short` where the frame does not fit; nothing is written then. (RFC 0027, "ILP Reject")
+pub fn write_reject(
+    out: &mut [u8],
+    code: &[u8; 3],
+    triggered_by: &[u8],
+    message: &[u8],
+    payload: &[u8],
+) -> Result<usize, ViewFault>
+    requires { FitsReject triggered_by.now message.now payload.now }
+    ensures fits { IsOk result ↔ (length (reject_frame code.now triggered_by.now message.now payload.now) ≤ length out.old) }
+    ensures within { length (reject_frame code.now triggered_by.now message.now payload.now) ≤ 34000 }
+    ensures ok { IfOk result (λ end. (end ≡ length (reject_frame code.now triggered_by.now message.now payload.now))
+        × (out.new ≡ overwritten out.old 0 (reject_frame code.now triggered_by.now message.now payload.now))) }
+    ensures err { IfErr result (λ e. (e ≡ ViewFault.Short) × (out.new ≡ out.old)) }
+{
+    let size = 3 + octets_size(triggered_by) + octets_size(message) + octets_size(payload);
+    if out.len() < 1 + length_size(size) + size {
+        return Err(ViewFault::Short);
+    }
+    put_bytes(out, 0, &[REJECT]);
+    let at = put_length(out, 1, size);
+    put_bytes(out, at, code);
+    let at = put_octets(out, at + 3, triggered_by);
+    let at = put_octets(out, at, message);
+    Ok(put_octets(out, at, payload))
+}
