@@ -1,11 +1,9 @@
 -- The Rejects that a connector writes (RFC 0027, "ILP Reject" and "Error Codes").
 use Rattle.std.specs.Prelude.{ℕ, List, [], ◌∷◌, ◌++◌, Option, Some, None, codes}
 use Rattle.std.specs.Int.{w64, to_be_bytes}
+use Rattle.ilp_view.specs.Packet.{reject_frame}
 use Rattle.tenant_core.specs.declared.verdict.RejectCode.{RejectCode}
 use Rattle.tenant_core.specs.declared.verdict.RejectCode.TheVariants.{Unreachable, AmountTooLarge, InsufficientTimeout}
-
-abbrev pub reject_frame : List ℕ → List ℕ → List ℕ → List ℕ → List ℕ
-reject_frame code triggered_by message payload = code ++ triggered_by ++ message ++ payload
 
 -- the three bytes of a code
 abbrev pub code_of : RejectCode → List ℕ

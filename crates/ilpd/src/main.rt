@@ -3,6 +3,8 @@
 
 mod carried;
 mod printed;
+mod replies;
+mod runner;
 mod script;
 mod setup;
 mod step;

@@ -62,4 +62,49 @@ impl Runner {
             carried: Carried::Nothing,
         }
     }
+
+    /// Does one step, and gives its output. The one error is want of memory.
+    pub fn step(&mut self, alloc: Global, step: &Step) -> Result<Output, AllocError>
+        requires ours { IsOurs step.now }
+        requires room { self.old.next_call < 2 ^ 63 }
+        ensures output { IfOk result (λ output. output ≡ output_of self.old step.now) }
+        ensures moved { IfOk result (λ output. self.new ≡ moved self.old step.now) }
+        ensures counted { self.new.next_call ≤ self.old.next_call + 1 }
+    {
+        match step {
+            Step::Load { token, bytes, .. } => self.load(alloc, token, bytes.as_slice()),
+            Step::Decide { now, .. } => self.decide(alloc, *now),
+        }
+    }
+
+    fn load(
+        &mut self,
+        alloc: Global,
+        token: &Text<64>,
+        bytes: &[u8],
+    ) -> Result<Output, AllocError>
+        requires { self.old.next_call < 2 ^ 63 }
+        ensures output { IfOk result (λ output. output ≡ load_output self.old self.old.carried bytes.now) }
+        ensures moved { IfOk result (λ output. self.new ≡ load_moved self.old self.old.carried token.now bytes.now) }
+        ensures counted { self.new.next_call ≤ self.old.next_call + 1 }
+    {
+        if !matches!(self.carried, Carried::Nothing) {
+            return Ok(Output::Busy);
+        }
+        if let Err(fault) = PrepareView::read(bytes) {
+            return Ok(Output::Bad {
+                tenant: 0,
+                kind: malformed_by(fault),
+            });
+        }
+        let frame = Bytes::from_vec(Vec::from_slice(alloc, bytes)?);
+        let call = self.next_call;
+        self.carried = Carried::Ready {
+            call,
+            token: token.copy(),
+            frame,
+        };
+        self.next_call = call + 1;
+        Ok(Output::Loaded { tenant: 0, call })
+    }
 }

@@ -5,7 +5,7 @@ ghost use Rattle.tenant_core.specs.Key.{key_of};
 ghost use Rattle.tenant_core.specs.Judge.{decide_record};
 
 use crate::journal::{DecideEntry, Entry, Outcome, PrepareKey, Record};
-use crate::judge::{peer_with_token, refuse, routed};
+use crate::judge::{peer_numbered, peer_with_token, refuse, routed};
 use crate::numbered::numbered;
 use crate::opening::Opening;
 use crate::setup::TenantSetup;
@@ -38,7 +38,8 @@ impl Model for Book {
 }
 
 impl Book {
-    ghost use Rattle.std.specs.Prelude.{◌≡◌, ◌+◌, ◌<◌, ◌≤◌, ℕ, length, IfOk};
+    ghost use Rattle.std.specs.Prelude.{◌≡◌, ◌+◌, ◌<◌, ◌≤◌, ℕ, length, IfOk, IfSome, option_copied, option_map};
+    ghost use Rattle.tenant_core.specs.Judge.{peer_numbered};
     ghost use Rattle.tenant_core.specs.State.{State, opened, opening_of, open_holds};
 
     /// The book of a tenant's first period, in which nothing has happened. `tenant` is the tenant's place among
@@ -78,6 +79,24 @@ impl Book {
         })
     }
 
+    /// The tenant's place among all tenants.
+    pub fn tenant(&self) -> usize
+        ensures { result ≡ self.now.opening.tenant }
+    {
+        self.opening.tenant
+    }
+
+    /// The name of the peer of that number.
+    pub fn peer_name(&self, peer: PeerNo) -> Option<&[u8]>
+        ensures value { option_copied result ≡ option_map (λ p. p.terms.name) (peer_numbered peer self.now.opening.peers) }
+        ensures short { IfSome result (λ name. length name.now ≤ 32) }
+    {
+        match peer_numbered(self.opening.peers.as_slice(), peer) {
+            Some(peer) => Some(peer.terms.name.as_bytes()),
+            None => None,
+        }
+    }
+
     /// The tenant's own address.
     pub fn address(&self) -> &[u8]
         ensures value { result.now ≡ self.now.opening.address }
@@ -103,6 +122,7 @@ impl Book {
     pub fn decide(&mut self, token: &[u8], key: &PrepareKey<'_>, now: Moment) -> Verdict
         ensures verdict { result ≡ judge self.old token.now (key_of key.now) now }
         ensures records { self.new ≡ decided self.old token.now (key_of key.now) now }
+        ensures opening { self.new.opening ≡ self.old.opening }
         ensures room { length self.new.records + open_holds self.new ≤ self.new.opening.journal }
         ensures sooner { IsSooner result key.now.expiry }
     {

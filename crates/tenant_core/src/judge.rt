@@ -27,7 +27,8 @@ pub fn peer_with_token<'a>(peers: &'a [Peer], token: &[u8]) -> Option<&'a Peer>
     peers.iter().find(|peer| shows(peer, token))
 }
 
-fn peer_numbered(peers: &[Peer], number: PeerNo) -> Option<&Peer>
+/// The peer of this number.
+pub fn peer_numbered(peers: &[Peer], number: PeerNo) -> Option<&Peer>
     ensures { option_copied result ≡ peer_numbered number peers.now }
 {
     peers.iter().find(|peer| peer.number == number)
