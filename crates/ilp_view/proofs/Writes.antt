@@ -13,7 +13,7 @@ octets_short text small = omega (arith, short_length (length text) small, length
 pub length-contents : (code t m p : List ℕ) → length code ≡ 3 → length (code ++ (t ++ (m ++ p))) ≡ 3 + length t + length m + length p
 length-contents code t m p len = omega (arith, length-append code (t ++ (m ++ p)), length-append t (m ++ p), length-append m p)
 
-pub reject_within : (code t m p : List ℕ) → length code ≡ 3 → FitsReject t m p → length (reject_frame code t m p) ≤ 34000
+pub reject_within : (code t m p : List ℕ) → length code ≡ 3 → FitsReject t m p → length (reject_frame code t m p) ≤ 16 + length t + length m + length p
 reject_within code t m p len fits =
     let contents : List ℕ = code ++ (octet_string t ++ (octet_string m ++ octet_string p)) in
     let n : length contents ≡ 3 + length (octet_string t) + length (octet_string m) + length (octet_string p) = length-contents code (octet_string t) (octet_string m) (octet_string p) len in

@@ -32,7 +32,7 @@ pub fn write_reject(
 ) -> Result<usize, ViewFault>
     requires { FitsReject triggered_by.now message.now payload.now }
     ensures fits { IsOk result ↔ (length (reject_frame code.now triggered_by.now message.now payload.now) ≤ length out.old) }
-    ensures within { length (reject_frame code.now triggered_by.now message.now payload.now) ≤ 34000 }
+    ensures within { length (reject_frame code.now triggered_by.now message.now payload.now) ≤ 16 + length triggered_by.now + length message.now + length payload.now }
     ensures ok { IfOk result (λ end. (end ≡ length (reject_frame code.now triggered_by.now message.now payload.now))
         × (out.new ≡ overwritten out.old 0 (reject_frame code.now triggered_by.now message.now payload.now))) }
     ensures err { IfErr result (λ e. (e ≡ ViewFault.Short) × (out.new ≡ out.old)) }

@@ -8,6 +8,7 @@ use Rattle.ilp_view.specs.Packet.{Prepare}
 use Rattle.ilp_view.specs.Reading.{prepare_at}
 use Rattle.tenant_core.specs.State.{State}
 use Rattle.tenant_core.specs.Judge.{judge, decided, peer_with_token, recording_peer}
+use Rattle.tenant_core.specs.declared.opening.Opening.{Opening}
 use Rattle.tenant_core.specs.declared.verdict.Verdict.{Verdict}
 use Rattle.tenant_core.specs.declared.verdict.Verdict.TheVariants.{Unknown, NoRoom, Refuse, Forward}
 use Rattle.ilpd.specs.World.{Stage, Tenant, Event, Hand, Owner, put, number_of, key_in, said, stage_after, arrive_reply, arrive_after, reply_alone, after_alone, run_alone, left_alone, owner, told, hands_after, owners, own_steps, seen_by, NobodysAreRight, AreOutputs}
@@ -70,11 +71,11 @@ kept_tenant s token k now = by (recording_peer s (peer_with_token token s.openin
     by None = refl
     by (Some p) = refl
 
-told_by : (t : Tenant) (p : Prepare) (call : ℕ) (v : Verdict) → hand_of (carried_after call v) ≡ told (Hand.Has 0 call) (said t p v)
-told_by t p call Unknown = refl
-told_by t p call NoRoom = refl
-told_by t p call (Refuse code amounts) = refl
-told_by t p call (Forward hold peer amount expiry) = refl
+told_by : (o : Opening) (p : Prepare) (call : ℕ) (v : Verdict) → hand_of (carried_after call v) ≡ told (Hand.Has 0 call) (said o p v)
+told_by o p call Unknown = refl
+told_by o p call NoRoom = refl
+told_by o p call (Refuse code amounts) = refl
+told_by o p call (Forward hold peer amount expiry) = refl
 
 calls_by : (call : ℕ) (v : Verdict) → calls_of (carried_after call v) ≡ at_one call (stage_after v) None
 calls_by call Unknown = sym (no_choice call None)
@@ -123,17 +124,16 @@ loads b n (Waiting call hold) token bytes z h = record { output = refl; tenant =
 decides_ready : (b : State) (n call now : ℕ) (token frame : List ℕ) (o : Result Prepare ViewFault) → prepare_at frame ≡ o → is_ok o ≡ true → Simulates (run b n (Ready call token frame)) (Decide 0 now)
 decides_ready b n call now token frame (Ok p) e h =
     let here : eqb call call ≡ true = eq-eqb call call refl in
-    let t = tenant_of (run b n (Ready call token frame)) in
     let v = judge b token (key_in p) now in
     let over = put_over call (stage_of_frame token (prepare_at frame)) (stage_after v) None in
     let calls : calls_of (carried_after call v) ≡ put (calls_of (Ready call token frame)) call (stage_after v) = calls_by call v ∙ sym over in
     record {
       output = rw (here, e) refl;
       tenant = rw (here, e) (λ i. record { book = decided b token (key_in p) now; next_call = n; calls = calls i });
-      hands = rw e (sym (put_over 0 (Hand.Has 0 call) (hand_of (carried_after call v)) Hand.Free) ∙ ap (put (hands_of (run b n (Ready call token frame))) 0) (told_by t p call v));
+      hands = rw e (sym (put_over 0 (Hand.Has 0 call) (hand_of (carried_after call v)) Hand.Free) ∙ ap (put (hands_of (run b n (Ready call token frame))) 0) (told_by b.opening p call v));
       owned = refl;
       readable = rw e (readable_by call v);
-      numbered = rw e (ap (λ (o : Rattle.tenant_core.specs.declared.opening.Opening.Opening). o.tenant) (kept_tenant b token (key_in p) now));
+      numbered = rw e (ap (λ (o : Opening). o.tenant) (kept_tenant b token (key_in p) now));
     }
 decides_ready b n call now token frame (Err f) e h = absurd cc
 

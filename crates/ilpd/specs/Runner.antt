@@ -64,7 +64,7 @@ load_moved r (Ready call k frame) token bytes = r
 load_moved r (Waiting call hold) token bytes = r
 
 abbrev pub packet_output : Run → List ℕ → Result Prepare ViewFault → ℕ → Output
-packet_output r token (Ok p) now = said (tenant_of r) p (judge r.book token (key_in p) now)
+packet_output r token (Ok p) now = said r.book.opening p (judge r.book token (key_in p) now)
 packet_output r token (Err f) now = Idle
 
 abbrev pub decide_output : Run → Carried → ℕ → Output

@@ -9,6 +9,7 @@ use Rattle.ilp_view.specs.Reading.{prepare_at}
 use Rattle.tenant_core.specs.Key.{Key}
 use Rattle.tenant_core.specs.State.{State}
 use Rattle.tenant_core.specs.Judge.{judge, decided, peer_numbered}
+use Rattle.tenant_core.specs.declared.opening.Opening.{Opening}
 use Rattle.tenant_core.specs.declared.opening.Peer.{Peer}
 use Rattle.tenant_core.specs.declared.verdict.RejectCode.{RejectCode}
 use Rattle.tenant_core.specs.declared.verdict.RejectCode.TheVariants.{Unreachable, AmountTooLarge, InsufficientTimeout}
@@ -66,12 +67,12 @@ peer_name (Some p) = p.terms.name
 
 -- what a verdict on a packet is answered with; the packet that goes on is the one that came, with another amount
 -- and another expiry
-abbrev pub said : Tenant → Prepare → Verdict → Output
-said s p Unknown = Stranger (number_of s)
-said s p NoRoom = Reply (number_of s) (busy_reply s.book.opening.address)
-said s p (Refuse code amounts) = Reply (number_of s) (refusal_reply s.book.opening.address code amounts)
-said s p (Forward hold peer amount expiry) =
-    Send (number_of s) (peer_name (peer_numbered peer s.book.opening.peers)) hold (with_amount_and_expiry p amount (timestamp_of expiry))
+abbrev pub said : Opening → Prepare → Verdict → Output
+said o p Unknown = Stranger o.tenant
+said o p NoRoom = Reply o.tenant (busy_reply o.address)
+said o p (Refuse code amounts) = Reply o.tenant (refusal_reply o.address code amounts)
+said o p (Forward hold peer amount expiry) =
+    Send o.tenant (peer_name (peer_numbered peer o.peers)) hold (with_amount_and_expiry p amount (timestamp_of expiry))
 
 -- the call after that verdict: it awaits its answer where the packet went on, else it has ended
 abbrev pub stage_after : Verdict → Option Stage
@@ -90,7 +91,7 @@ arrive_after s token (Err f) = s
 
 abbrev pub decide_reply : Tenant → Option Stage → ℕ → Output
 decide_reply s None now = Idle
-decide_reply s (Some (Ready token p)) now = said s p (judge s.book token (key_in p) now)
+decide_reply s (Some (Ready token p)) now = said s.book.opening p (judge s.book token (key_in p) now)
 decide_reply s (Some (Sent hold)) now = Idle
 
 abbrev pub decide_after : Tenant → ℕ → Option Stage → ℕ → Tenant

@@ -14,5 +14,8 @@ pub enum Carried {
         frame: Bytes,
     },
     /// The packet went on, and awaits its answer under that hold.
-    Waiting { call: u64, hold: u64 },
+    Waiting {
+        call: u64,
+        hold: u64,
+    },
 }

@@ -1,7 +1,6 @@
 //! The Rejects that the connector writes.
 
-ghost use Rattle.std.specs.Prelude.{◌≡◌, ◌≤◌, ◌++◌, [], IfOk, codes, length};
-ghost use Rattle.std.specs.Int.{w64, to_be_bytes};
+ghost use Rattle.std.specs.Prelude.{◌≡◌, ◌≤◌, [], IfOk, Some, codes, length};
 ghost use Rattle.ilp_view.specs.Packet.{reject_frame};
 ghost use Rattle.ilpd.specs.Replies.{code_of, message_of, amounts_data, refusal_reply, busy_reply};
 
@@ -70,19 +69,29 @@ pub fn refusal_reply(
     ensures { IfOk result (λ reply. reply ≡ refusal_reply address.now code amounts) }
 {
     match amounts {
-        None => reject(alloc, code_of(code), address, message_of(code), &[]),
-        Some((received, greatest)) => {
-            let data = two_amounts(received, greatest);
-            reject(alloc, code_of(code), address, message_of(code), &data)
-        }
+        None => refusal(alloc, address, code, &[]),
+        Some(amounts) => refusal(alloc, address, code, &two_amounts(amounts)),
     }
 }
 
-fn two_amounts(received: u64, greatest: u64) -> [u8; 16]
-    ensures { result ≡ to_be_bytes w64 received ++ to_be_bytes w64 greatest }
+fn refusal(
+    alloc: Global,
+    address: &[u8],
+    code: RejectCode,
+    payload: &[u8],
+) -> Result<Bytes, AllocError>
+    requires address { length address.now ≤ 900 }
+    requires payload { length payload.now ≤ 16 }
+    ensures { IfOk result (λ reply. reply ≡ reject_frame (code_of code) address.now (message_of code) payload.now) }
 {
-    let [a0, a1, a2, a3, a4, a5, a6, a7] = received.to_be_bytes();
-    let [b0, b1, b2, b3, b4, b5, b6, b7] = greatest.to_be_bytes();
+    reject(alloc, code_of(code), address, message_of(code), payload)
+}
+
+fn two_amounts(amounts: (u64, u64)) -> [u8; 16]
+    ensures { result ≡ amounts_data (Some amounts) }
+{
+    let [a0, a1, a2, a3, a4, a5, a6, a7] = amounts.0.to_be_bytes();
+    let [b0, b1, b2, b3, b4, b5, b6, b7] = amounts.1.to_be_bytes();
     [
         a0, a1, a2, a3, a4, a5, a6, a7, b0, b1, b2, b3, b4, b5, b6, b7,
     ]

@@ -1,10 +1,10 @@
 //! The runner of a script: one tenant, and one worker.
 
 ghost use Rattle.std.specs.Prelude.{◌≡◌, ◌≤◌, IfOk, length};
-ghost use Rattle.std.specs.Int.{w64, to_be_bytes};
-ghost use Rattle.tenant_core.specs.Judge.{peer_numbered};
-ghost use Rattle.ilpd.specs.World.{said, malformed_by, peer_name};
-ghost use Rattle.ilpd.specs.Replies.{refusal_reply, busy_reply};
+ghost use Rattle.ilp_addr.specs.Timestamp.{latest};
+ghost use Rattle.tenant_core.specs.Judge.{peer_numbered, judge, decided, IsSooner};
+ghost use Rattle.ilpd.specs.World.{said, malformed_by, peer_name, key_in};
+ghost use Rattle.ilpd.specs.Runner.{carried_after};
 
 use crate::carried::Carried;
 use crate::replies::{busy_reply, refusal_reply};
@@ -13,7 +13,7 @@ use ilp_addr::Moment;
 use ilp_view::{PrepareView, ViewFault};
 use std::alloc::{AllocError, Global};
 use std::marker::Model;
-use tenant_core::{Book, PrepareKey, Text, Verdict};
+use tenant_core::{Book, PeerNo, PrepareKey, Text, Verdict};
 
 /// One tenant's book and one worker. Contracts see what they show to the one-tenant connector.
 #[derive(Drop)]
@@ -77,12 +77,7 @@ impl Runner {
         }
     }
 
-    fn load(
-        &mut self,
-        alloc: Global,
-        token: &Text<64>,
-        bytes: &[u8],
-    ) -> Result<Output, AllocError>
+    fn load(&mut self, alloc: Global, token: &Text<64>, bytes: &[u8]) -> Result<Output, AllocError>
         requires { self.old.next_call < 2 ^ 63 }
         ensures output { IfOk result (λ output. output ≡ load_output self.old self.old.carried bytes.now) }
         ensures moved { IfOk result (λ output. self.new ≡ load_moved self.old self.old.carried token.now bytes.now) }
@@ -93,7 +88,7 @@ impl Runner {
         }
         if let Err(fault) = PrepareView::read(bytes) {
             return Ok(Output::Bad {
-                tenant: 0,
+                tenant: self.book.tenant(),
                 kind: malformed_by(fault),
             });
         }
@@ -105,6 +100,100 @@ impl Runner {
             frame,
         };
         self.next_call = call + 1;
-        Ok(Output::Loaded { tenant: 0, call })
+        Ok(Output::Loaded {
+            tenant: self.book.tenant(),
+            call,
+        })
+    }
+
+    fn decide(&mut self, alloc: Global, now: Moment) -> Result<Output, AllocError>
+        ensures output { IfOk result (λ output. output ≡ decide_output self.old self.old.carried now) }
+        ensures moved { IfOk result (λ output. self.new ≡ decide_moved self.old self.old.carried now) }
+        ensures counted { self.new.next_call ≡ self.old.next_call }
+    {
+        let Carried::Ready { call, token, frame } = &self.carried else {
+            return Ok(Output::Idle);
+        };
+        let call = *call;
+        let Ok(packet) = PrepareView::read(frame.as_slice()) else {
+            return Ok(Output::Idle);
+        };
+        let (output, verdict) = decided(alloc, &mut self.book, token.as_bytes(), &packet, now)?;
+        self.carried = carried_after(call, verdict);
+        Ok(output)
+    }
+}
+
+fn carried_after(call: u64, verdict: Verdict) -> Carried
+    ensures { result ≡ carried_after call verdict }
+{
+    match verdict {
+        Verdict::Forward { hold, .. } => Carried::Waiting { call, hold },
+        Verdict::Unknown | Verdict::NoRoom | Verdict::Refuse { .. } => Carried::Nothing,
+    }
+}
+
+// The output of a decide, and the verdict behind it.
+fn decided(
+    alloc: Global,
+    book: &mut Book,
+    token: &[u8],
+    packet: &PrepareView<'_>,
+    now: Moment,
+) -> Result<(Output, Verdict), AllocError>
+    ensures book { book.new ≡ decided book.old token.now (key_in packet.now) now }
+    ensures verdict { IfOk result (λ r. r.1 ≡ judge book.old token.now (key_in packet.now) now) }
+    ensures output { IfOk result (λ r. r.0 ≡ said book.old.opening packet.now (judge book.old token.now (key_in packet.now) now)) }
+{
+    let key = PrepareKey {
+        amount: packet.amount(),
+        expiry: packet.expiry(),
+        condition: packet.condition().try_into().unwrap(),
+        destination: packet.destination(),
+    };
+    let verdict = book.decide(token, &key, now);
+    Ok((said(alloc, book, packet, verdict)?, verdict))
+}
+
+fn said(
+    alloc: Global,
+    book: &Book,
+    packet: &PrepareView<'_>,
+    verdict: Verdict,
+) -> Result<Output, AllocError>
+    requires { IsSooner verdict latest }
+    ensures { IfOk result (λ output. output ≡ said book.now.opening packet.now verdict) }
+{
+    let tenant = book.tenant();
+    Ok(match verdict {
+        Verdict::Unknown => Output::Stranger { tenant },
+        Verdict::NoRoom => Output::Reply {
+            tenant,
+            bytes: busy_reply(alloc, book.address())?,
+        },
+        Verdict::Refuse { code, amounts } => Output::Reply {
+            tenant,
+            bytes: refusal_reply(alloc, book.address(), code, amounts)?,
+        },
+        Verdict::Forward {
+            hold,
+            peer,
+            amount,
+            expiry,
+        } => Output::Send {
+            tenant,
+            peer: peer_name(book, peer),
+            hold,
+            frame: Bytes::from_vec(packet.forwarded(alloc, amount, expiry)?),
+        },
+    })
+}
+
+fn peer_name(book: &Book, peer: PeerNo) -> Text<32>
+    ensures { result ≡ peer_name (peer_numbered peer book.now.opening.peers) }
+{
+    match book.peer_name(peer) {
+        Some(name) => Text::from_bytes(name).unwrap(),
+        None => Text::from_bytes(&[]).unwrap(),
     }
 }

@@ -57,10 +57,7 @@ fn take_some<R: Read + Device>(
 }
 
 /// All that the reader has left, where that is at most 16,777,216 bytes. At most one byte more is taken from it.
-pub fn read_script<R: Read + Device>(
-    alloc: Global,
-    reader: &mut R,
-) -> Result<Vec<u8>, StreamFault>
+pub fn read_script<R: Read + Device>(alloc: Global, reader: &mut R) -> Result<Vec<u8>, StreamFault>
     ensures whole { IfOk result (λ text. IfSome (R.remaining reader.old) (λ bytes. text.items ≡ bytes)) }
     ensures short { IfOk result (λ text. length text.items ≤ 16_777_216) }
     ensures size { result ≡ Err StreamFault.Size → IfSome (R.remaining reader.old) (λ bytes. 16_777_216 < length bytes) }
