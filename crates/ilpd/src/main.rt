@@ -5,5 +5,7 @@ mod printed;
 mod script;
 mod setup;
 mod step;
+#[cfg(test)]
+mod tests;
 
 fn main() {}
