@@ -9,5 +9,7 @@ mod script;
 mod setup;
 mod step;
 mod streams;
+#[cfg(test)]
+mod tests;
 
 fn main() {}
