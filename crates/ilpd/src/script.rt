@@ -1,9 +1,9 @@
 //! Replay scripts: what each line has a worker do.
 
-ghost use Rattle.std.specs.Prelude.{◌≡◌, ◌==◌, ◌<◌, ◌∷◌, length, ◌≢◌, [], option_copied, option_map, min, nat_lt, IfOk};
+ghost use Rattle.std.specs.Prelude.{◌≡◌, ◌==◌, ◌<◌, ◌∷◌, length, ◌≢◌, [], option_copied, option_map, min, nat_lt, IfOk, All};
 ghost use Rattle.std.specs.List.{position, list_all};
 ghost use Rattle.std.specs.Str.{bytes_eq};
-ghost use Rattle.ilpd.specs.Script.{lines_of, words_of, is_digit, is_numeral, value_of, number_below, tenant_of, is_token_byte, token_of, frame_of, load_of, decide_of, step_of_words, is_skipped, meaning_of, steps_of_script, Gives};
+ghost use Rattle.ilpd.specs.Script.{lines_of, words_of, is_digit, is_numeral, value_of, number_below, tenant_of, is_token_byte, token_of, frame_of, load_of, decide_of, step_of_words, is_skipped, meaning_of, steps_of_script, Gives, FitsIn};
 ghost use Rattle.ilpd.specs.Words.{parts, three_of, five_of};
 
 use crate::step::{Bytes, Step, text_within};
@@ -341,6 +341,19 @@ pub fn parse_script(
     text: &[u8],
 ) -> Result<Vec<Step>, ScriptError>
     ensures exact { Gives (λ steps. steps.items) result (steps_of_script names.now workers text.now) }
+    // Its steps name workers and tenants that are there.
+    ensures fit { IfOk result (λ steps. All (FitsIn workers (length names.now)) steps.items) }
+{
+    read_steps(alloc, names, workers, text)
+}
+
+fn read_steps(
+    alloc: Global,
+    names: &[Text<32>],
+    workers: usize,
+    text: &[u8],
+) -> Result<Vec<Step>, ScriptError>
+    ensures { Gives (λ steps. steps.items) result (steps_of_script names.now workers text.now) }
 {
     if text.len() > MOST_BYTES {
         return Err(ScriptError::Fault(ScriptFault::Size));

@@ -1,32 +1,7 @@
-use Rattle.std.proofs.Common.{rules, ◌∙◌, sym, arith}
-use Rattle.std.proofs.lemmas.List.{nil_from_length}
-use Rattle.std.proofs.lemmas.Bool.{eqb-true}
-use Rattle.ilpd.specs.Script.{steps_of_script}
-use Rattle.ilpd.proofs.Fronts.{skips, adds, fails, ends, reads_lines}
-use Rattle.ilpd.proofs.script.parse_script.Goals.{in-Skipped, in-Runs+in_ok-push-in-Runs}
+use Rattle.std.proofs.Common.{ℕ, List, Result, Ok, Err, ◌≡◌}
+use Rattle.std.specs.Prelude.{IfOk}
+use Rattle.ilpd.proofs.Fits.{if_read_fit}
 use Rattle.ilpd.proofs.script.parse_script.Goals as goal
 
-pub returns-then-text-gt-MOST_BYTES : goal.returns-then-text-gt-MOST_BYTES
-unfolding steps_of_script
-returns-then-text-gt-MOST_BYTES c = search rules
-
-pub returns-in-Bad : goal.returns-in-Bad
-returns-in-Bad c = record {
-  exact = reads_lines c.args.names.now c.args.workers c.args.text.now (omega arith)
-      ∙ fails c.loop-rest.steps.items c.args.names.now c.args.workers c.loop-rest.number c.loop-rest.rest.now c.first_line.result.0.now c.first_line.result.1.now _ _ c.first_line.ensures.value c.in_ok-meaning_of.ensures c.in-Bad.is c.loop-rest.invariant.read;
-}
-
-pub loop-rest-preserved : goal.loop-rest-preserved
-loop-rest-preserved c = record {
-  numbered = omega (arith, c.first_line.ensures.shorter);
-  read = elim c.match-branch-2.branch [
-    | in-Skipped w ↦ rw w.steps-is (skips c.loop-rest.steps.items c.args.names.now c.args.workers c.loop-rest.number c.loop-rest.rest.now c.first_line.result.0.now c.first_line.result.1.now _ _ c.first_line.ensures.value c.in_ok-meaning_of.ensures w.in-Skipped.is c.loop-rest.invariant.read)
-    | in-Runs+in_ok-push-in-Runs w ↦ rw (w.steps-is, w.in_ok-push-in-Runs.ensures.items) (adds c.loop-rest.steps.items c.args.names.now c.args.workers c.loop-rest.number c.loop-rest.rest.now c.first_line.result.0.now c.first_line.result.1.now _ w.in-Runs.step _ c.first_line.ensures.value c.in_ok-meaning_of.ensures w.in-Runs.is c.loop-rest.invariant.read)
-  ];
-}
-
-pub returns : goal.returns
-returns c = record {
-  exact = reads_lines c.args.names.now c.args.workers c.args.text.now (omega arith)
-      ∙ ends c.loop-rest.steps.items c.args.names.now c.args.workers c.loop-rest.number c.loop-rest.rest.now _ (nil_from_length _ (eqb-true _ _ (sym c.loop-rest-test.ensures))) c.loop-rest.invariant.read;
-}
+pub returns-clause-fit : goal.returns-clause-fit
+returns-clause-fit c = if_read_fit c.args.names.now c.args.workers c.args.text.now c.read_steps.result c.read_steps.ensures
