@@ -1,9 +1,9 @@
 -- The steps of a script name workers and tenants that are there.
 use Rattle.std.proofs.Common.{◌≡◌, ◌<◌, ◌+◌, ℕ, List, [], ◌∷◌, length, Bool, true, false, cond, Option, Some, None, Result, Ok, Err, refl, sym, ap, subst, ◌∙◌, arith}
-use Rattle.std.specs.Prelude.{option_and_then, IfOk, codes, ◌&&◌, nat_lt}
+use Rattle.std.specs.Prelude.{option_and_then, IfOk, IfSome, codes, ◌&&◌, nat_lt}
 use Rattle.std.specs.List.{All, AllByRecursion, list_all, position}
 use Rattle.std.specs.Str.{bytes_eq}
-use Rattle.std.proofs.lemmas.Bool.{ltb-true}
+use Rattle.std.proofs.lemmas.Bool.{ltb-true, lt-ltb}
 use Rattle.std.proofs.lemmas.List.Elements.{All-from_recursion}
 use Rattle.std.proofs.lemmas.List.Quantifiers.{position-Some}
 use Rattle.ilpd.specs.Script.{number_below, tenant_of, token_of, frame_of, load_of, decide_of, step_of_words, words_of, meaning_of, is_empty, is_numeral, value_of, is_skipped, then_steps, step_or_bad, steps_from, steps_of_script, lines_of, last_moment, FitsIn, Gives}
@@ -118,3 +118,9 @@ read_fits names workers text steps e = All-from_recursion (FitsIn workers (lengt
 pub if_read_fit : (names : List (List ℕ)) (workers : ℕ) (text : List ℕ) (r : Result (Vec Step) ScriptError) → Gives (λ steps. steps.items) r (steps_of_script names workers text) → IfOk r (λ steps. All (FitsIn workers (length names)) steps.items)
 if_read_fit names workers text (Ok steps) given = read_fits names workers text steps.items given
 if_read_fit names workers text (Err e) given = tt
+
+-- a script that is too long is refused for that
+pub too_long : (names : List (List ℕ)) (workers : ℕ) (known : Option (List ℕ)) → IfSome known (λ script. 16_777_216 < length script) → IfSome known (λ script. steps_of_script names workers script ≡ Err ScriptFault.Size)
+unfolding steps_of_script
+too_long names workers None h = tt
+too_long names workers (Some script) h = rw (lt-ltb 16_777_216 (length script) h) refl

@@ -67,3 +67,10 @@ LeavesWritten (fault.Script f) setup_text known old new = Keeps old new
 
 abbrev pub IsAnswered : Setup → List Step → List ℕ → Type 0
 IsAnswered setup steps written = (outputs : List Output) × AreOutputs (tenant_at_start setup) all_free steps outputs × (written ≡ printed_lines (names_in setup) outputs)
+
+-- the script of a setup that is well formed is refused by its own first fault
+abbrev pub RefusesScript : ReplayFault → Setup → Option (List ℕ) → Type 0
+RefusesScript fault.Memory setup known = Unit {0}
+RefusesScript fault.Device setup known = Unit {0}
+RefusesScript (fault.Setup f) setup known = ⊥
+RefusesScript (fault.Script f) setup known = IfSome known (λ script. steps_of_script (names_in setup) 1 script ≡ Err f)
