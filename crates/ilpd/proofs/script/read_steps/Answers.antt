@@ -12,8 +12,8 @@ returns-then-text-gt-MOST_BYTES c = search rules
 
 pub returns-in-Bad : goal.returns-in-Bad
 returns-in-Bad c = (
-      reads_lines c.args.names.now c.args.workers c.args.text.now (omega arith)
-      ∙ fails c.loop-rest.steps.items c.args.names.now c.args.workers c.loop-rest.number c.loop-rest.rest.now c.first_line.result.0.now c.first_line.result.1.now _ _ c.first_line.ensures.value c.in_ok-meaning_of.ensures c.in-Bad.is c.loop-rest.invariant.read)
+    reads_lines c.args.names.now c.args.workers c.args.text.now (omega arith)
+    ∙ fails c.loop-rest.steps.items c.args.names.now c.args.workers c.loop-rest.number c.loop-rest.rest.now c.first_line.result.0.now c.first_line.result.1.now _ _ c.first_line.ensures.value c.in_ok-meaning_of.ensures c.in-Bad.is c.loop-rest.invariant.read)
 
 pub loop-rest-preserved : goal.loop-rest-preserved
 loop-rest-preserved c = record {
@@ -26,5 +26,5 @@ loop-rest-preserved c = record {
 
 pub returns : goal.returns
 returns c = (
-      reads_lines c.args.names.now c.args.workers c.args.text.now (omega arith)
-      ∙ ends c.loop-rest.steps.items c.args.names.now c.args.workers c.loop-rest.number c.loop-rest.rest.now _ (nil_from_length _ (eqb-true _ _ (sym c.loop-rest-test.ensures))) c.loop-rest.invariant.read)
+    reads_lines c.args.names.now c.args.workers c.args.text.now (omega arith)
+    ∙ ends c.loop-rest.steps.items c.args.names.now c.args.workers c.loop-rest.number c.loop-rest.rest.now _ (nil_from_length _ (eqb-true _ _ (sym c.loop-rest-test.ensures))) c.loop-rest.invariant.read)
