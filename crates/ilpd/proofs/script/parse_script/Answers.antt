@@ -1,32 +1,35 @@
-use Rattle.std.proofs.Common.{rules, ◌∙◌, sym, arith}
-use Rattle.std.proofs.lemmas.List.{nil_from_length}
-use Rattle.std.proofs.lemmas.Bool.{eqb-true}
-use Rattle.ilpd.specs.Script.{steps_of_script}
-use Rattle.ilpd.proofs.Fronts.{skips, adds, fails, ends, reads_lines}
-use Rattle.ilpd.proofs.script.parse_script.Goals.{in-Skipped, in-Runs+in_ok-push-in-Runs}
+use Rattle.std.proofs.Common.{Result, subst, rules, arith}
+use Rattle.ilpd.specs.declared.step.Step.{Step}
+use Rattle.ilpd.specs.declared.script.ScriptFault.{ScriptFault}
+use Rattle.ilpd.specs.declared.script.ScriptFault.TheVariants.{Size, Line}
+use Rattle.std.proofs.Common.{List}
+use Rattle.ilpd.specs.Script.{lines_of, steps_from, steps_of_script, AreSteps, Gives}
+use Rattle.ilpd.proofs.Fronts.{reads_lines}
+use Rattle.ilpd.proofs.Scripts.{gives_ok, gives_err, steps_are, steps_again, first_bad, never_size}
 use Rattle.ilpd.proofs.script.parse_script.Goals as goal
 
-pub returns-then-text-gt-MOST_BYTES : goal.returns-then-text-gt-MOST_BYTES
+pub returns-then-text-gt-MOST_BYTES-clause-exact : goal.returns-then-text-gt-MOST_BYTES-clause-exact
 unfolding steps_of_script
-returns-then-text-gt-MOST_BYTES c = search rules
+returns-then-text-gt-MOST_BYTES-clause-exact c = search rules
 
-pub returns-in-Bad : goal.returns-in-Bad
-returns-in-Bad c = record {
-  exact = reads_lines c.args.names.now c.args.workers c.args.text.now (omega arith)
-      ∙ fails c.loop-rest.steps.items c.args.names.now c.args.workers c.loop-rest.number c.loop-rest.rest.now c.first_line.result.0.now c.first_line.result.1.now _ _ c.first_line.ensures.value c.in_ok-meaning_of.ensures c.in-Bad.is c.loop-rest.invariant.read;
-}
+pub returns-clause-found : goal.returns-clause-found
+returns-clause-found c =
+    let lines = lines_of c.args.text.now in
+    gives_ok c.steps_of.result (steps_from c.args.names.now c.args.workers 1 lines) (AreSteps c.args.names.now c.args.workers lines) c.steps_of.ensures (λ steps e. steps_are c.args.names.now c.args.workers 1 lines steps e)
 
-pub loop-rest-preserved : goal.loop-rest-preserved
-loop-rest-preserved c = record {
-  numbered = omega (arith, c.first_line.ensures.shorter);
-  read = elim c.match-branch-2.branch [
-    | in-Skipped w ↦ rw w.steps-is (skips c.loop-rest.steps.items c.args.names.now c.args.workers c.loop-rest.number c.loop-rest.rest.now c.first_line.result.0.now c.first_line.result.1.now _ _ c.first_line.ensures.value c.in_ok-meaning_of.ensures w.in-Skipped.is c.loop-rest.invariant.read)
-    | in-Runs+in_ok-push-in-Runs w ↦ rw (w.steps-is, w.in_ok-push-in-Runs.ensures.items) (adds c.loop-rest.steps.items c.args.names.now c.args.workers c.loop-rest.number c.loop-rest.rest.now c.first_line.result.0.now c.first_line.result.1.now _ w.in-Runs.step _ c.first_line.ensures.value c.in_ok-meaning_of.ensures w.in-Runs.is c.loop-rest.invariant.read)
-  ];
-}
+pub returns-clause-only : goal.returns-clause-only
+returns-clause-only c = λ steps short are.
+    subst (λ (read : Result (List Step) ScriptFault). Gives (λ v. v.items) c.steps_of.result read) (steps_again c.args.names.now c.args.workers 1 (lines_of c.args.text.now) steps are) c.steps_of.ensures
 
-pub returns : goal.returns
-returns c = record {
-  exact = reads_lines c.args.names.now c.args.workers c.args.text.now (omega arith)
-      ∙ ends c.loop-rest.steps.items c.args.names.now c.args.workers c.loop-rest.number c.loop-rest.rest.now _ (nil_from_length _ (eqb-true _ _ (sym c.loop-rest-test.ensures))) c.loop-rest.invariant.read;
-}
+pub returns-clause-first_bad : goal.returns-clause-first_bad
+returns-clause-first_bad c = λ number is.
+    first_bad c.args.names.now c.args.workers (lines_of c.args.text.now) number (gives_err c.steps_of.result (steps_from c.args.names.now c.args.workers 1 (lines_of c.args.text.now)) (Line number) c.steps_of.ensures is)
+
+pub returns-clause-size : goal.returns-clause-size
+returns-clause-size c = (
+  λ is. absurd (never_size c.args.names.now c.args.workers 1 (lines_of c.args.text.now) (gives_err c.steps_of.result (steps_from c.args.names.now c.args.workers 1 (lines_of c.args.text.now)) Size c.steps_of.ensures is)),
+  λ long. absurd (omega arith),
+)
+
+pub returns-clause-exact : goal.returns-clause-exact
+returns-clause-exact c = rw (reads_lines c.args.names.now c.args.workers c.args.text.now (omega arith)) c.steps_of.ensures
