@@ -5,3 +5,5 @@ pub mod Runs
 pub mod Peers
 pub mod Texts
 pub mod Known
+pub mod Fits
+pub mod Replays

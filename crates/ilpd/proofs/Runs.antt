@@ -1,7 +1,9 @@
 -- Each step of the runner is the step of the one-tenant connector that it shows.
-use Rattle.std.proofs.Common.{◌≡◌, ◌<◌, ◌+◌, ℕ, suc, List, [], ◌∷◌, length, Bool, true, false, cond, eqb, Option, Some, None, Result, Ok, Err, refl, sym, ap, subst, ◌∙◌, arith}
+use Rattle.std.proofs.Common.{◌≡◌, ◌<◌, ◌≤◌, ◌+◌, ℕ, suc, List, [], ◌∷◌, ◌++◌, length, drop, Bool, true, false, cond, eqb, Option, Some, None, Result, Ok, Err, refl, sym, ap, subst, ◌∙◌, arith}
 use Rattle.std.specs.Prelude.{if◌then◌else◌, ◌==◌, is_ok}
-use Rattle.std.specs.List.{AllByRecursion}
+use Rattle.std.specs.List.{All, AllByRecursion}
+use Rattle.std.proofs.lemmas.List.{append-nil, drop_all}
+use Rattle.std.proofs.lemmas.List.Elements.{recursion_from_All}
 use Rattle.std.proofs.lemmas.Bool.{eq-eqb}
 use Rattle.ilp_view.specs.declared.fault.ViewFault.{ViewFault}
 use Rattle.ilp_view.specs.Packet.{Prepare}
@@ -11,8 +13,9 @@ use Rattle.tenant_core.specs.Judge.{judge, decided, peer_with_token, recording_p
 use Rattle.tenant_core.specs.declared.opening.Opening.{Opening}
 use Rattle.tenant_core.specs.declared.verdict.Verdict.{Verdict}
 use Rattle.tenant_core.specs.declared.verdict.Verdict.TheVariants.{Unknown, NoRoom, Refuse, Forward}
-use Rattle.ilpd.specs.World.{Stage, Tenant, Event, Hand, Owner, put, number_of, key_in, said, stage_after, arrive_reply, arrive_after, reply_alone, after_alone, run_alone, left_alone, owner, told, hands_after, owners, own_steps, seen_by, NobodysAreRight, AreOutputs}
-use Rattle.ilpd.specs.Runner.{Run, stage_of_frame, calls_of, tenant_of, hand_of, hands_of, carried_after, output_of, moved, outputs_of, run_after, IsReadable, IsOurs}
+use Rattle.ilpd.specs.Script.{FitsIn}
+use Rattle.ilpd.specs.World.{Stage, Tenant, Event, Hand, Owner, put, number_of, key_in, said, stage_after, arrive_reply, arrive_after, reply_alone, after_alone, run_alone, left_alone, owner, told, hands_after, owners, own_steps, seen_by, NobodysAreRight, AreOutputs, IsLeft}
+use Rattle.ilpd.specs.Runner.{Run, stage_of_frame, calls_of, tenant_of, hand_of, hands_of, carried_after, output_of, moved, outputs_of, run_after, IsReadable}
 use Rattle.ilpd.specs.declared.carried.Carried.{Carried}
 use Rattle.ilpd.specs.declared.carried.Carried.TheVariants.{Nothing, Ready, Waiting}
 use Rattle.ilpd.specs.declared.step.Step.{Step}
@@ -42,10 +45,10 @@ pub record Simulates (r : Run) (step : Step) : Type 0 where
   pub numbered : (moved r step).book.opening.tenant ≡ r.book.opening.tenant
 
 -- one value everywhere, and another at one place
-abbrev always : {A : Type 0} → A → ℕ → A
+abbrev pub always : {A : Type 0} → A → ℕ → A
 always d = λ n. d
 
-abbrev at_one : {A : Type 0} → ℕ → A → A → ℕ → A
+abbrev pub at_one : {A : Type 0} → ℕ → A → A → ℕ → A
 at_one c a d = λ n. if n == c then a else d
 
 -- a value put where another was
@@ -57,7 +60,7 @@ put_over c a b d = λ i n. by (eqb n c) i
     by false = refl
 
 -- the same value on both sides
-no_choice : {A : Type 0} (c : ℕ) (d : A) → at_one c d d ≡ always d
+pub no_choice : {A : Type 0} (c : ℕ) (d : A) → at_one c d d ≡ always d
 no_choice c d = λ i n. by (eqb n c) i
   where
     by : (t : Bool) → cond t d d ≡ d
@@ -143,9 +146,14 @@ decides b n (Ready call token frame) now h = decides_ready b n call now token fr
 decides b n (Waiting call hold) now h = record { output = refl; tenant = refl; hands = same_hands b n (Waiting call hold); owned = tt; readable = tt; numbered = refl }
 
 -- each step of the runner is the step of its tenant
-pub simulates : (r : Run) (step : Step) → r.book.opening.tenant ≡ 0 → IsReadable r.carried → IsOurs step → Simulates r step
-simulates r (Load worker tenant token bytes) z h ours = rw (ours.0, ours.1) (loads r.book r.next_call r.carried token bytes z h)
-simulates r (Decide worker now) z h ours = rw ours (decides r.book r.next_call r.carried now h)
+pub simulates : (r : Run) (step : Step) → r.book.opening.tenant ≡ 0 → IsReadable r.carried → FitsIn 1 1 step → Simulates r step
+simulates r (Load worker tenant token bytes) z h ours =
+    let first : worker ≡ 0 = omega arith in
+    let own : tenant ≡ 0 = omega arith in
+    rw (first, own) (loads r.book r.next_call r.carried token bytes z h)
+simulates r (Decide worker now) z h ours =
+    let first : worker ≡ 0 = omega arith in
+    rw first (decides r.book r.next_call r.carried now h)
 
 -- one step more in front
 seen_more : (t : Tenant) (o : Owner) (x : Output) (os : List Owner) (xs : List Output) → IsOwned o → x ≡ says t o → seen_by 0 os xs ≡ run_alone (leaves t o) (own_steps 0 os)
@@ -171,7 +179,7 @@ pub record ShowsOneTenant (r : Run) (steps : List Step) : Type 0 where
   pub left : left_alone (tenant_of r) (own_steps 0 (owners_of r steps)) ≡ tenant_of (run_after r steps)
   pub nobodys : NobodysAreRight (owners_of r steps) (outputs_of r steps)
 
-pub shows_one_tenant : (r : Run) (steps : List Step) → r.book.opening.tenant ≡ 0 → IsReadable r.carried → AllByRecursion IsOurs steps → ShowsOneTenant r steps
+pub shows_one_tenant : (r : Run) (steps : List Step) → r.book.opening.tenant ≡ 0 → IsReadable r.carried → AllByRecursion (FitsIn 1 1) steps → ShowsOneTenant r steps
 shows_one_tenant r [] z h ours = record { each_step = refl; alone = refl; left = refl; nobodys = tt }
 shows_one_tenant r (s ∷ ss) z h ours =
     let sim = simulates r s z h ours.0 in
@@ -189,7 +197,7 @@ shows_one_tenant r (s ∷ ss) z h ours =
     }
 
 -- what a run puts out are the outputs of its tenant's own steps
-pub are_outputs : (r : Run) (steps : List Step) → r.book.opening.tenant ≡ 0 → IsReadable r.carried → AllByRecursion IsOurs steps → AreOutputs (tenant_of r) (hands_of r) steps (outputs_of r steps)
+pub are_outputs : (r : Run) (steps : List Step) → r.book.opening.tenant ≡ 0 → IsReadable r.carried → AllByRecursion (FitsIn 1 1) steps → AreOutputs (tenant_of r) (hands_of r) steps (outputs_of r steps)
 are_outputs r steps z h ours =
     let s = shows_one_tenant r steps z h ours in
     record {
@@ -197,3 +205,20 @@ are_outputs r steps z h ours =
       alone = subst (λ (n : ℕ). seen_by n (owners_of r steps) (outputs_of r steps) ≡ run_alone (tenant_of r) (own_steps n (owners_of r steps))) (sym z) s.alone;
       nobodys = s.nobodys;
     }
+
+-- a loop over the steps ends with the outputs of all, and where all of them lead
+pub ran : (r last : Run) (steps : List Step) (outputs : List Output) (i : ℕ) → length steps ≤ i → outputs ++ outputs_of last (drop i steps) ≡ outputs_of r steps → outputs ≡ outputs_of r steps
+ran r last steps outputs i past e = sym (append-nil outputs) ∙ ap (λ (rest : List Step). outputs ++ outputs_of last rest) (sym (drop_all i steps past)) ∙ e
+
+pub ended : (r last : Run) (steps : List Step) (i : ℕ) → length steps ≤ i → run_after last (drop i steps) ≡ run_after r steps → last ≡ run_after r steps
+ended r last steps i past e = ap (run_after last) (sym (drop_all i steps past)) ∙ e
+
+pub run_outputs : (r : Run) (steps : List Step) (outputs : List Output) → r.book.opening.tenant ≡ 0 → IsReadable r.carried → All (FitsIn 1 1) steps → outputs ≡ outputs_of r steps → AreOutputs (tenant_of r) (hands_of r) steps outputs
+run_outputs r steps outputs z h fit e =
+    subst (λ (xs : List Output). AreOutputs (tenant_of r) (hands_of r) steps xs) (sym e) (are_outputs r steps z h (recursion_from_All (FitsIn 1 1) steps fit))
+
+pub run_left : (r last : Run) (steps : List Step) (outputs : List Output) → r.book.opening.tenant ≡ 0 → IsReadable r.carried → All (FitsIn 1 1) steps → outputs ≡ outputs_of r steps → last ≡ run_after r steps → IsLeft (tenant_of r) (hands_of r) steps outputs (tenant_of last)
+run_left r last steps outputs z h fit e f =
+    let s = shows_one_tenant r steps z h (recursion_from_All (FitsIn 1 1) steps fit) in
+    let numbered = subst (λ (n : ℕ). left_alone (tenant_of r) (own_steps n (owners_of r steps)) ≡ tenant_of (run_after r steps)) (sym z) s.left in
+    subst (λ (xs : List Output). IsLeft (tenant_of r) (hands_of r) steps xs (tenant_of last)) (sym e) (numbered ∙ ap tenant_of (sym f))

@@ -4,5 +4,6 @@ pub mod Printed
 pub mod Streams
 pub mod Replies
 pub mod Runner
+pub mod Replay
 pub mod World
 pub mod Setup

@@ -108,8 +108,3 @@ abbrev pub IsReadable : Carried → Type 0
 IsReadable Nothing = Unit {0}
 IsReadable (Ready call token frame) = is_ok (prepare_at frame) ≡ true
 IsReadable (Waiting call hold) = Unit {0}
-
--- steps of the one worker for the one tenant
-abbrev pub IsOurs : Step → Type 0
-IsOurs (Load worker tenant token bytes) = (worker ≡ 0) × (tenant ≡ 0)
-IsOurs (Decide worker now) = worker ≡ 0

@@ -1,5 +1,5 @@
 -- Replay scripts: ASCII lines of words, each line a step of a worker.
-use Rattle.std.specs.Prelude.{◌≡◌, ℕ, ◌+◌, ◌-◌, ◌*◌, List, [], ◌∷◌, ◌++◌, length, fold, Bool, true, false, not, ◌&&◌, ◌||◌, ◌==◌, nat_lt, nat_le, if◌then◌else◌, Option, Some, None, option_and_then, Result, Ok, Err, codes}
+use Rattle.std.specs.Prelude.{◌≡◌, ◌<◌, ℕ, ◌+◌, ◌-◌, ◌*◌, List, [], ◌∷◌, ◌++◌, length, fold, Bool, true, false, not, ◌&&◌, ◌||◌, ◌==◌, nat_lt, nat_le, if◌then◌else◌, Option, Some, None, option_and_then, Result, Ok, Err, codes}
 use Rattle.std.specs.List.{slice_split, list_all, list_any, position, filter_map, AllByRecursion}
 use Rattle.std.specs.Str.{bytes_eq}
 use Rattle.std.specs.Result.{result_ok}
@@ -158,6 +158,11 @@ pub record IsFirstBad (names : List (List ℕ)) (workers : ℕ) (lines : List (L
   pub place : number ≡ length before + 1
   pub none_before : AllByRecursion (λ l. ¬ (IsBad names workers l)) before
   pub is_bad : IsBad names workers line
+
+-- the step names a worker and a tenant that are there
+abbrev pub FitsIn : ℕ → ℕ → Step → Type 0
+FitsIn workers tenants (Load worker tenant token bytes) = (worker < workers) × (tenant < tenants)
+FitsIn workers tenants (Decide worker now) = worker < workers
 
 -- what reading gave is this, unless memory ran out
 abbrev pub Fails : {Y : Type 0} → ScriptError → Result Y ScriptFault → Type 0

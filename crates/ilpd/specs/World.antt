@@ -208,3 +208,7 @@ pub record AreOutputs (tenant : Tenant) (hands : ℕ → Hand) (steps : List Ste
   pub each_step : length outputs ≡ length steps
   pub alone : seen_by (number_of tenant) (owners hands steps outputs) outputs ≡ run_alone tenant (own_steps (number_of tenant) (owners hands steps outputs))
   pub nobodys : NobodysAreRight (owners hands steps outputs) outputs
+
+-- and that is where the one-tenant connector ends
+abbrev pub IsLeft : Tenant → (ℕ → Hand) → List Step → List Output → Tenant → Type 0
+IsLeft tenant hands steps outputs after = left_alone tenant (own_steps (number_of tenant) (owners hands steps outputs)) ≡ after

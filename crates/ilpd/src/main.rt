@@ -3,6 +3,7 @@
 
 mod carried;
 mod printed;
+mod replay;
 mod replies;
 mod runner;
 mod script;

@@ -48,7 +48,10 @@ fn malformed_by(fault: ViewFault) -> Malformed
 
 impl Runner {
     ghost use Rattle.std.specs.Prelude.{◌≡◌, ◌≤◌, ◌<◌, ◌+◌, ◌^◌, IfOk, length};
-    ghost use Rattle.ilpd.specs.Runner.{Run, output_of, moved, outputs_of, run_after, load_output, load_moved, decide_output, decide_moved, IsOurs};
+    ghost use Rattle.ilpd.specs.Runner.{Run, output_of, moved, outputs_of, run_after, load_output, load_moved, decide_output, decide_moved, tenant_of, hands_of};
+    ghost use Rattle.std.specs.Prelude.{All};
+    ghost use Rattle.ilpd.specs.Script.{FitsIn};
+    ghost use Rattle.ilpd.specs.World.{AreOutputs, IsLeft};
     ghost use Rattle.ilpd.specs.declared.carried.Carried.TheVariants.{Nothing};
 
     /// The runner of a book of tenant 0, with nothing in hand.
@@ -65,7 +68,7 @@ impl Runner {
 
     /// Does one step, and gives its output. The one error is want of memory.
     pub fn step(&mut self, alloc: Global, step: &Step) -> Result<Output, AllocError>
-        requires ours { IsOurs step.now }
+        requires fits { FitsIn 1 1 step.now }
         requires room { self.old.next_call < 2 ^ 63 }
         ensures output { IfOk result (λ output. output ≡ output_of self.old step.now) }
         ensures moved { IfOk result (λ output. self.new ≡ moved self.old step.now) }
@@ -75,6 +78,22 @@ impl Runner {
             Step::Load { token, bytes, .. } => self.load(alloc, token, bytes.as_slice()),
             Step::Decide { now, .. } => self.decide(alloc, *now),
         }
+    }
+
+    /// Does the steps in order, and gives their outputs: those of the one-tenant connector on the tenant's own steps.
+    /// The one error is want of memory.
+    pub fn run(&mut self, alloc: Global, steps: &[Step]) -> Result<Vec<Output>, AllocError>
+        requires fit { All (FitsIn 1 1) steps.now }
+        requires room { self.old.next_call + length steps.now ≤ 2 ^ 63 }
+        ensures outputs { IfOk result (λ outputs. AreOutputs (tenant_of self.old) (hands_of self.old) steps.now outputs.items) }
+        ensures left { IfOk result (λ outputs. IsLeft (tenant_of self.old) (hands_of self.old) steps.now outputs.items (tenant_of self.new)) }
+    {
+        let _ = &self.carried;
+        let mut outputs = Vec::with_capacity(alloc, steps.len())?;
+        for step in steps {
+            outputs.push(self.step(alloc, step)?)?;
+        }
+        Ok(outputs)
     }
 
     fn load(&mut self, alloc: Global, token: &Text<64>, bytes: &[u8]) -> Result<Output, AllocError>

@@ -1,9 +1,9 @@
 //! Replay scripts: what each line has a worker do.
 
-ghost use Rattle.std.specs.Prelude.{◌≡◌, ◌==◌, ◌<◌, ◌≤◌, ◌↔◌, ℕ, List, Ok, Err, ◌∷◌, length, ◌≢◌, [], option_copied, option_map, min, nat_lt, IfOk};
+ghost use Rattle.std.specs.Prelude.{◌≡◌, ◌==◌, ◌<◌, ◌≤◌, ◌↔◌, ℕ, List, Ok, Err, ◌∷◌, length, ◌≢◌, [], option_copied, option_map, min, nat_lt, IfOk, All};
 ghost use Rattle.std.specs.List.{position, list_all};
 ghost use Rattle.std.specs.Str.{bytes_eq};
-ghost use Rattle.ilpd.specs.Script.{lines_of, words_of, is_digit, is_numeral, value_of, number_below, tenant_of, is_token_byte, token_of, frame_of, load_of, decide_of, step_of_words, is_skipped, meaning_of, steps_from, steps_of_script, AreSteps, IsFirstBad, Gives};
+ghost use Rattle.ilpd.specs.Script.{lines_of, words_of, is_digit, is_numeral, value_of, number_below, tenant_of, is_token_byte, token_of, frame_of, load_of, decide_of, step_of_words, is_skipped, meaning_of, steps_from, steps_of_script, AreSteps, IsFirstBad, FitsIn, Gives};
 ghost use Rattle.ilpd.specs.Words.{parts, three_of, five_of};
 
 use crate::step::{Bytes, Step, text_within};
@@ -375,6 +375,8 @@ pub fn parse_script(
         → IsFirstBad names.now workers (lines_of text.now) number }
     // A text is too long for a script before anything else is wrong with it.
     ensures size { (result ≡ Err (ScriptError.Fault ScriptFault.Size)) ↔ (MOST_BYTES < length text.now) }
+    // Its steps name workers and tenants that are there.
+    ensures fit { IfOk result (λ steps. All (FitsIn workers (length names.now)) steps.items) }
     ensures exact { Gives (λ v. v.items) result (steps_of_script names.now workers text.now) }
 {
     if text.len() > MOST_BYTES {

@@ -5,6 +5,7 @@ use Rattle.ilpd.specs.declared.script.ScriptFault.TheVariants.{Size, Line}
 use Rattle.std.proofs.Common.{List}
 use Rattle.ilpd.specs.Script.{lines_of, steps_from, steps_of_script, AreSteps, Gives}
 use Rattle.ilpd.proofs.Fronts.{reads_lines}
+use Rattle.ilpd.proofs.Fits.{if_read_fit}
 use Rattle.ilpd.proofs.Scripts.{gives_ok, gives_err, steps_are, steps_again, first_bad, never_size}
 use Rattle.ilpd.proofs.script.parse_script.Goals as goal
 
@@ -33,3 +34,7 @@ returns-clause-size c = (
 
 pub returns-clause-exact : goal.returns-clause-exact
 returns-clause-exact c = rw (reads_lines c.args.names.now c.args.workers c.args.text.now (omega arith)) c.steps_of.ensures
+
+pub returns-clause-fit : goal.returns-clause-fit
+returns-clause-fit c =
+    if_read_fit c.args.names.now c.args.workers c.args.text.now c.steps_of.result (rw (reads_lines c.args.names.now c.args.workers c.args.text.now (omega arith)) c.steps_of.ensures)

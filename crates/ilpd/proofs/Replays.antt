@@ -1,0 +1,21 @@
+-- What a replay writes, from the parts that it is made of.
+use Rattle.std.proofs.Common.{◌≡◌, ℕ, List, [], ◌∷◌, Option, Some, None, Result, Ok, Err, refl, sym, ap, subst, ◌∙◌}
+use Rattle.tenant_core.specs.State.{State, opened, opening_of}
+use Rattle.ilpd.specs.Printed.{printed_lines}
+use Rattle.ilpd.specs.Replay.{tenant_at_start, names_in, IsAnswered}
+use Rattle.ilpd.specs.Runner.{Run, tenant_of, hands_of}
+use Rattle.ilpd.specs.World.{Hand, Tenant, AreOutputs, all_free}
+use Rattle.ilpd.specs.declared.carried.Carried.TheVariants.{Nothing}
+use Rattle.ilpd.specs.declared.setup.Setup.{Setup}
+use Rattle.ilpd.specs.declared.step.Output.{Output}
+use Rattle.ilpd.specs.declared.step.Step.{Step}
+use Rattle.ilpd.proofs.Runs.{no_choice}
+
+-- the runner of a new book shows the tenant of the setup, and a worker with nothing in hand
+pub answered_by : (setup : Setup) (steps : List Step) (book : State) (run : Run) (outputs : List Output) (names : List (List ℕ)) (text : List ℕ)
+    → book ≡ opened (opening_of 0 setup.tenant setup.start) → run ≡ (let r : Run = record { book = book; next_call = 0; carried = Nothing } in r)
+    → AreOutputs (tenant_of run) (hands_of run) steps outputs → names ≡ names_in setup → text ≡ printed_lines names outputs → IsAnswered setup steps text
+answered_by setup steps book run outputs names text opened_so run_so are named printed =
+    let begun : run ≡ (let r : Run = record { book = opened (opening_of 0 setup.tenant setup.start); next_call = 0; carried = Nothing } in r) = run_so ∙ ap (λ (b : State). record { book = b; next_call = 0; carried = Nothing }) opened_so in
+    let at_start = subst (λ (r : Run). AreOutputs (tenant_of r) (hands_of r) steps outputs) begun are in
+    (outputs, subst (λ (hands : ℕ → Hand). AreOutputs (tenant_at_start setup) hands steps outputs) (no_choice 0 Hand.Free) at_start, printed ∙ ap (λ (ns : List (List ℕ)). printed_lines ns outputs) named)
