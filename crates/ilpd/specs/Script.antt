@@ -1,6 +1,6 @@
 -- Replay scripts: ASCII lines of words, each line a step of a worker.
-use Rattle.std.specs.Prelude.{◌≡◌, ◌<◌, ℕ, ◌+◌, ◌-◌, ◌*◌, List, [], ◌∷◌, length, fold, Bool, true, false, not, ◌&&◌, ◌||◌, ◌==◌, nat_lt, nat_le, if◌then◌else◌, Option, Some, None, option_and_then, Result, Ok, Err, codes}
-use Rattle.std.specs.List.{slice_split, list_all, list_any, position}
+use Rattle.std.specs.Prelude.{◌≡◌, ◌<◌, ℕ, ◌+◌, ◌-◌, ◌*◌, List, [], ◌∷◌, ◌++◌, length, fold, Bool, true, false, not, ◌&&◌, ◌||◌, ◌==◌, nat_lt, nat_le, if◌then◌else◌, Option, Some, None, option_and_then, Result, Ok, Err, codes}
+use Rattle.std.specs.List.{slice_split, list_all, list_any, position, filter_map, AllByRecursion}
 use Rattle.std.specs.Str.{bytes_eq}
 use Rattle.std.specs.Result.{result_ok}
 use Rattle.hex.specs.Hex.{decode_of}
@@ -134,6 +134,36 @@ steps_of_script names workers text =
     if nat_lt 16_777_216 (length text) then Err Size
     else steps_from names workers 1 (lines_of text)
 
+-- a line that says nothing of a script's
+abbrev pub IsBad : List (List ℕ) → ℕ → List ℕ → Type 0
+IsBad names workers line = meaning_of names workers line ≡ Bad
+
+-- the step of a line, if it has one
+abbrev pub step_in : Meaning → Option Step
+step_in Skipped = None
+step_in (Runs step) = Some step
+step_in Bad = None
+
+-- no line is bad, and these are the steps of those that have one, in order
+pub record AreSteps (names : List (List ℕ)) (workers : ℕ) (lines : List (List ℕ)) (steps : List Step) : Type 0 where
+  pub no_bad : AllByRecursion (λ line. ¬ (IsBad names workers line)) lines
+  pub in_order : steps ≡ filter_map (λ line. step_in (meaning_of names workers line)) lines
+
+-- the line of that number, from 1, is bad, and none before it
+pub record IsFirstBad (names : List (List ℕ)) (workers : ℕ) (lines : List (List ℕ)) (number : ℕ) : Type 0 where
+  pub before : List (List ℕ)
+  pub line : List ℕ
+  pub after : List (List ℕ)
+  pub parts : lines ≡ before ++ line ∷ after
+  pub place : number ≡ length before + 1
+  pub none_before : AllByRecursion (λ l. ¬ (IsBad names workers l)) before
+  pub is_bad : IsBad names workers line
+
+-- the step names a worker and a tenant that are there
+abbrev pub FitsIn : ℕ → ℕ → Step → Type 0
+FitsIn workers tenants (Load worker tenant token bytes) = (worker < workers) × (tenant < tenants)
+FitsIn workers tenants (Decide worker now) = worker < workers
+
 -- what reading gave is this, unless memory ran out
 abbrev pub Fails : {Y : Type 0} → ScriptError → Result Y ScriptFault → Type 0
 Fails errors.Memory read = Unit {0}
@@ -142,8 +172,3 @@ Fails (errors.Fault fault) read = read ≡ Err fault
 abbrev pub Gives : {X Y : Type 0} → (X → Y) → Result X ScriptError → Result Y ScriptFault → Type 0
 Gives view (Ok x) read = read ≡ Ok (view x)
 Gives view (Err error) read = Fails error read
-
--- the step names a worker and a tenant that are there
-abbrev pub FitsIn : ℕ → ℕ → Step → Type 0
-FitsIn workers tenants (Load worker tenant token bytes) = (worker < workers) × (tenant < tenants)
-FitsIn workers tenants (Decide worker now) = worker < workers

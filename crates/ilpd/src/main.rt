@@ -6,6 +6,8 @@ mod command_line;
 mod device;
 mod printed;
 mod replay;
+#[cfg(test)]
+mod replay_tests;
 mod replies;
 mod runner;
 mod script;

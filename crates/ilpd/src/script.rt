@@ -1,9 +1,9 @@
 //! Replay scripts: what each line has a worker do.
 
-ghost use Rattle.std.specs.Prelude.{◌≡◌, ◌==◌, ◌<◌, ◌∷◌, length, ◌≢◌, [], option_copied, option_map, min, nat_lt, IfOk, All};
+ghost use Rattle.std.specs.Prelude.{◌≡◌, ◌==◌, ◌<◌, ◌≤◌, ◌↔◌, ℕ, List, Ok, Err, ◌∷◌, length, ◌≢◌, [], option_copied, option_map, min, nat_lt, IfOk, All};
 ghost use Rattle.std.specs.List.{position, list_all};
 ghost use Rattle.std.specs.Str.{bytes_eq};
-ghost use Rattle.ilpd.specs.Script.{lines_of, words_of, is_digit, is_numeral, value_of, number_below, tenant_of, is_token_byte, token_of, frame_of, load_of, decide_of, step_of_words, is_skipped, meaning_of, steps_of_script, Gives, FitsIn};
+ghost use Rattle.ilpd.specs.Script.{lines_of, words_of, is_digit, is_numeral, value_of, number_below, tenant_of, is_token_byte, token_of, frame_of, load_of, decide_of, step_of_words, is_skipped, meaning_of, steps_from, steps_of_script, AreSteps, IsFirstBad, FitsIn, Gives};
 ghost use Rattle.ilpd.specs.Words.{parts, three_of, five_of};
 
 use crate::step::{Bytes, Step, text_within};
@@ -327,37 +327,15 @@ fn meaning_of(
     })
 }
 
-/// The steps of a script, for the tenants of these names, numbered from 0, and so many workers.
-///
-/// A script has at most [`MOST_BYTES`] bytes, else the fault is `Size`. Its lines end with a line
-/// feed each, which the last may lack, and are ASCII, of at most [`MOST_LINE`] bytes without it.
-/// Empty lines and those that begin with `#` are skipped. Any other is `load W TENANT TOKEN HEX`
-/// or `decide W NOW`, with one space between two words; the fault `Line` has the number, from 1,
-/// of the first that is neither.
-pub fn parse_script(
+fn steps_of(
     alloc: Global,
     names: &[Text<32>],
     workers: usize,
     text: &[u8],
 ) -> Result<Vec<Step>, ScriptError>
-    ensures exact { Gives (λ steps. steps.items) result (steps_of_script names.now workers text.now) }
-    // Its steps name workers and tenants that are there.
-    ensures fit { IfOk result (λ steps. All (FitsIn workers (length names.now)) steps.items) }
+    requires { length text.now ≤ MOST_BYTES }
+    ensures { Gives (λ steps. steps.items) result (steps_from names.now workers 1 (lines_of text.now)) }
 {
-    read_steps(alloc, names, workers, text)
-}
-
-fn read_steps(
-    alloc: Global,
-    names: &[Text<32>],
-    workers: usize,
-    text: &[u8],
-) -> Result<Vec<Step>, ScriptError>
-    ensures { Gives (λ steps. steps.items) result (steps_of_script names.now workers text.now) }
-{
-    if text.len() > MOST_BYTES {
-        return Err(ScriptError::Fault(ScriptFault::Size));
-    }
     let mut steps = Vec::new(alloc);
     let mut rest = text;
     let mut number: usize = 1;
@@ -372,4 +350,37 @@ fn read_steps(
         number += 1;
     }
     Ok(steps)
+}
+
+/// The steps of a script, for the tenants of these names, numbered from 0, and so many workers.
+///
+/// A script has at most [`MOST_BYTES`] bytes, else the fault is `Size`. Its lines end with a line
+/// feed each, which the last may lack, and are ASCII, of at most [`MOST_LINE`] bytes without it.
+/// Empty lines and those that begin with `#` are skipped. Any other is `load W TENANT TOKEN HEX`
+/// or `decide W NOW`, with one space between two words; the fault `Line` has the number, from 1,
+/// of the first that is neither.
+pub fn parse_script(
+    alloc: Global,
+    names: &[Text<32>],
+    workers: usize,
+    text: &[u8],
+) -> Result<Vec<Step>, ScriptError>
+    // What is read is what the lines say.
+    ensures found { IfOk result (λ steps. AreSteps names.now workers (lines_of text.now) steps.items) }
+    // What the lines say is read, unless memory runs out.
+    ensures only { (steps : List Step) → length text.now ≤ MOST_BYTES → AreSteps names.now workers (lines_of text.now) steps
+        → Gives (λ v. v.items) result (Ok steps) }
+    // A line that is named is the first bad one.
+    ensures first_bad { (number : ℕ) → result ≡ Err (ScriptError.Fault (ScriptFault.Line number))
+        → IsFirstBad names.now workers (lines_of text.now) number }
+    // A text is too long for a script before anything else is wrong with it.
+    ensures size { (result ≡ Err (ScriptError.Fault ScriptFault.Size)) ↔ (MOST_BYTES < length text.now) }
+    // Its steps name workers and tenants that are there.
+    ensures fit { IfOk result (λ steps. All (FitsIn workers (length names.now)) steps.items) }
+    ensures exact { Gives (λ v. v.items) result (steps_of_script names.now workers text.now) }
+{
+    if text.len() > MOST_BYTES {
+        return Err(ScriptError::Fault(ScriptFault::Size));
+    }
+    steps_of(alloc, names, workers, text)
 }

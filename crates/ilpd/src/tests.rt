@@ -98,7 +98,7 @@ fn scripts_name_their_first_bad_line(rt: HostRuntime) -> Result<(), Fail> {
             },
             Step::Decide { worker: same, now },
         ] => {
-            assert_eq!(rt; (*worker, *tenant, *same, *now), (1, 0, 1, 77));
+            assert_eq!(rt; (*worker, *tenant, *same, now.millis()), (1, 0, 1, 77));
             assert_eq!(rt; token.as_bytes(), b"tok".as_slice());
             assert_eq!(rt; bytes.as_slice(), [12u8, 255].as_slice());
         }
@@ -158,7 +158,7 @@ fn changed(alloc: Global, from: &str, to: &str) -> Result<String, AllocError> {
 #[test]
 fn setups_give_their_first_fault(rt: HostRuntime) -> Result<(), Fail> {
     let setup = read_setup(rt.alloc(), SETUP.as_bytes())?;
-    assert_eq!(rt; setup.start, 1893456000000);
+    assert_eq!(rt; setup.start.millis(), 1893456000000);
     let terms = setup.tenant.terms();
     assert_eq!(rt;
         (terms.journal, terms.margin, terms.hold),

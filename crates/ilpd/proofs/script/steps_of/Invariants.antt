@@ -1,7 +1,7 @@
 use Rattle.std.proofs.Common.{◌≡◌, ◌+◌, ◌≤◌, length}
 use Rattle.ilpd.specs.Script.{lines_of, steps_from}
 use Rattle.ilpd.proofs.Fronts.{with_front}
-use Rattle.ilpd.proofs.script.read_steps.Given as goal
+use Rattle.ilpd.proofs.script.steps_of.Given as goal
 
 abbrev pub invariant-loop-rest : goal.invariant-loop-rest
 invariant-loop-rest l = record {
