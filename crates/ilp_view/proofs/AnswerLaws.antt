@@ -1,6 +1,6 @@
 -- A frame that is read is a Fulfill or a Reject with the parts that were read, and each is read; no
 -- frame begins another.
-use Rattle.std.proofs.Common.{◌≡◌, ◌≤◌, ◌+◌, ℕ, List, [], ◌∷◌, ◌++◌, length, take, drop, Result, Ok, Err, refl, sym, ap, subst, ◌∙◌, append_assoc, arith}
+use Rattle.std.proofs.Common.{◌≡◌, ◌≤◌, ℕ, List, [], ◌∷◌, ◌++◌, length, drop, Result, Ok, refl, sym, ap, subst, ◌∙◌, append_assoc, arith}
 use Rattle.std.proofs.lemmas.List.{append_cancel_left, length-append, nil_from_length}
 use Rattle.oer_core.specs.Length.{IsLength, ◌>>=◌}
 use Rattle.oer_core.proofs.Results.{bind_ok}

@@ -1,5 +1,5 @@
 -- Reading a frame from the first byte on, with the first fault that is met.
-use Rattle.std.specs.Prelude.{◌≡◌, ℕ, List, [], ◌∷◌, length, take, drop, Result, Ok, Err, nat_lt, ◌==◌, if◌then◌else◌}
+use Rattle.std.specs.Prelude.{ℕ, List, [], ◌∷◌, length, take, drop, Result, Ok, Err, nat_lt, ◌==◌, if◌then◌else◌}
 use Rattle.oer_core.specs.declared.fault.OerFault.{OerFault}
 use Rattle.oer_core.specs.Length.{◌>>=◌, length_at, number_at}
 use Rattle.ilp_addr.specs.declared.fault.AddrFault.{AddrFault}
