@@ -135,5 +135,6 @@ fn rejects_are_read(rt: HostRuntime) {
     expect_reject(&rt, b"\x0e\x07F00\0\x01\xff\0", b"", b"\xff");
     expect_reject(&rt, b"\x0e\x07F00\x01A\0\0", b"A", b"");
     laws::no_frame_begins_another();
+    laws::parts_are_the_only_ones();
     laws::written_is_read_back();
 }
