@@ -13,7 +13,9 @@ segments bytes = slice_split (λ b. b == 46) bytes
 
 -- the allocation schemes (RFC 0015, "Allocation Schemes")
 abbrev pub schemes : List (List ℕ)
-schemes = codes "g" ∷ codes "private" ∷ codes "example" ∷ codes "peer" ∷ codes "self" ∷ codes "test" ∷ codes "test1" ∷ codes "test2" ∷ codes "test3" ∷ codes "local" ∷ []
+schemes =
+    codes "g" ∷ codes "private" ∷ codes "example" ∷ codes "peer" ∷ codes "self"
+    ∷ codes "test" ∷ codes "test1" ∷ codes "test2" ∷ codes "test3" ∷ codes "local" ∷ []
 
 -- the text is an allocation scheme
 unfoldable pub is_scheme : List ℕ → Bool
@@ -25,7 +27,9 @@ is_between low high b = nat_le low b && nat_le b high
 
 -- a letter, a digit, `_`, `~` or `-`
 unfoldable pub is_segment_byte : ℕ → Bool
-is_segment_byte b = is_between 97 122 b || is_between 65 90 b || is_between 48 57 b || (b == 95) || (b == 126) || (b == 45)
+is_segment_byte b =
+    is_between 97 122 b || is_between 65 90 b || is_between 48 57 b
+    || (b == 95) || (b == 126) || (b == 45)
 
 -- one or more of these bytes
 unfoldable pub is_segment : List ℕ → Bool
@@ -35,7 +39,8 @@ is_segment text = not (length text == 0) && list_all is_segment_byte text
 abbrev pub AreAddressParts : List (List ℕ) → Type 0
 AreAddressParts [] = ⊥
 AreAddressParts (scheme ∷ []) = ⊥
-AreAddressParts (scheme ∷ first ∷ others) = IsTrue (is_scheme scheme) × IsTrue (is_segment first) × IsTrue (list_all is_segment others)
+AreAddressParts (scheme ∷ first ∷ others) =
+    IsTrue (is_scheme scheme) × IsTrue (is_segment first) × IsTrue (list_all is_segment others)
 
 -- at most 1,023 bytes, which are a scheme and one or more segments
 pub record IsAddress (bytes : List ℕ) : Type 0 where
@@ -50,11 +55,13 @@ with_segments bytes parts = if list_all is_segment parts then Ok bytes else Err 
 abbrev pub parts_at : List ℕ → List (List ℕ) → Result (List ℕ) AddrFault
 parts_at bytes [] = Err Scheme
 parts_at bytes (scheme ∷ []) = Err Scheme
-parts_at bytes (scheme ∷ first ∷ others) = if is_scheme scheme then with_segments bytes (first ∷ others) else Err Scheme
+parts_at bytes (scheme ∷ first ∷ others) =
+    if is_scheme scheme then with_segments bytes (first ∷ others) else Err Scheme
 
 -- the address that the bytes are, or the first fault
 unfoldable pub address_at : List ℕ → Result (List ℕ) AddrFault
-address_at bytes = if nat_lt 1023 (length bytes) then Err Length else parts_at bytes (segments bytes)
+address_at bytes =
+    if nat_lt 1023 (length bytes) then Err Length else parts_at bytes (segments bytes)
 
 -- ---- prefixes (RFC 0015, "Address Prefixes")
 
@@ -75,20 +82,24 @@ pub record IsPrefix (bytes : List ℕ) : Type 0 where
 
 -- the bytes, less one dot at their end
 abbrev pub without_last_dot : List ℕ → List ℕ
-without_last_dot bytes = if slice_index bytes (length bytes - 1) == 46 then take (length bytes - 1) bytes else bytes
+without_last_dot bytes =
+    if slice_index bytes (length bytes - 1) == 46 then take (length bytes - 1) bytes else bytes
 
 -- the parts of a prefix, checked from left to right
 abbrev pub prefix_parts_at : List ℕ → List (List ℕ) → Result (List ℕ) AddrFault
 prefix_parts_at bytes [] = Ok bytes
-prefix_parts_at bytes (scheme ∷ others) = if is_scheme scheme then with_segments bytes others else Err Scheme
+prefix_parts_at bytes (scheme ∷ others) =
+    if is_scheme scheme then with_segments bytes others else Err Scheme
 
 -- the prefix that the bytes are, or the first fault
 unfoldable pub prefix_of : List ℕ → Result (List ℕ) AddrFault
-prefix_of bytes = if nat_lt 1023 (length bytes) then Err Length else prefix_parts_at bytes (prefix_segments bytes)
+prefix_of bytes =
+    if nat_lt 1023 (length bytes) then Err Length else prefix_parts_at bytes (prefix_segments bytes)
 
 -- the prefix that the bytes spell, with or without a dot at the end, or the first fault
 unfoldable pub prefix_at : List ℕ → Result (List ℕ) AddrFault
-prefix_at bytes = if bytes_eq bytes (46 ∷ []) then Err Scheme else prefix_of (without_last_dot bytes)
+prefix_at bytes =
+    if bytes_eq bytes (46 ∷ []) then Err Scheme else prefix_of (without_last_dot bytes)
 
 -- what came is what reading gives, unless memory ran out
 abbrev pub GivesPrefix : Result (List ℕ) PrefixError → Result (List ℕ) AddrFault → Type 0
@@ -104,4 +115,5 @@ Begins prefix segments = (rest : List (List ℕ)) × (segments ≡ prefix ++ res
 unfoldable pub begins_with : List (List ℕ) → List (List ℕ) → Bool
 begins_with [] segments = true
 begins_with (first ∷ prefix) [] = false
-begins_with (first ∷ prefix) (segment ∷ segments) = bytes_eq first segment && begins_with prefix segments
+begins_with (first ∷ prefix) (segment ∷ segments) =
+    bytes_eq first segment && begins_with prefix segments

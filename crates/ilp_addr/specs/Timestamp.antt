@@ -14,25 +14,31 @@ digit_at text place = slice_index text place - 48
 abbrev pub two_at : List ℕ → ℕ → ℕ
 two_at text place = 10 * digit_at text place + digit_at text (place + 1)
 
--- the parts of the text, in its order
+-- the year, of four digits
 unfoldable pub year_of : List ℕ → ℕ
 year_of text = 100 * two_at text 0 + two_at text 2
 
+-- the month, from 1
 unfoldable pub month_of : List ℕ → ℕ
 month_of text = two_at text 4
 
+-- the day of the month, from 1
 unfoldable pub day_of : List ℕ → ℕ
 day_of text = two_at text 6
 
+-- the hour of the day
 unfoldable pub hour_of : List ℕ → ℕ
 hour_of text = two_at text 8
 
+-- the minute of the hour
 unfoldable pub minute_of : List ℕ → ℕ
 minute_of text = two_at text 10
 
+-- the second of the minute
 unfoldable pub second_of : List ℕ → ℕ
 second_of text = two_at text 12
 
+-- the millisecond of the second, of three digits
 unfoldable pub millisecond_of : List ℕ → ℕ
 millisecond_of text = 100 * digit_at text 14 + two_at text 15
 
@@ -47,22 +53,34 @@ pub record IsTimestamp (text : List ℕ) : Type 0 where
 
 -- the calendar has the date
 abbrev pub is_civil_date : ℕ → ℕ → ℕ → Bool
-is_civil_date year month day = nat_le 1 month && nat_le month 12 && nat_le 1 day && nat_le day (days_in_month (pos year) month)
+is_civil_date year month day =
+    nat_le 1 month && nat_le month 12 && nat_le 1 day && nat_le day (days_in_month (pos year) month)
 
 -- the day has the time
 abbrev pub is_time : ℕ → ℕ → ℕ → Bool
 is_time hour minute second = nat_lt hour 24 && nat_lt minute 60 && nat_lt second 60
 
+-- the text names a date that the calendar has
+abbrev pub has_date : List ℕ → Bool
+has_date text = is_civil_date (year_of text) (month_of text) (day_of text)
+
+-- the text names a time that the day has
+abbrev pub has_time : List ℕ → Bool
+has_time text = is_time (hour_of text) (minute_of text) (second_of text)
+
 -- the test of IsTimestamp
 unfoldable pub is_timestamp : List ℕ → Bool
 is_timestamp text =
-    (length text == 17) && list_all is_ascii_digit text
-    && is_civil_date (year_of text) (month_of text) (day_of text)
-    && is_time (hour_of text) (minute_of text) (second_of text)
+    (length text == 17) && list_all is_ascii_digit text && has_date text && has_time text
+
+-- the days from 1970-01-01 to the date that the text names, negative before it
+abbrev pub day_number_of : List ℕ → ℤ
+day_number_of text = days_from_civil (pos (year_of text)) (month_of text) (day_of text)
 
 -- the milliseconds since the day began
 unfoldable pub millis_of_day : List ℕ → ℕ
-millis_of_day text = 3_600_000 * hour_of text + 60_000 * minute_of text + 1000 * second_of text + millisecond_of text
+millis_of_day text =
+    3_600_000 * hour_of text + 60_000 * minute_of text + 1000 * second_of text + millisecond_of text
 
 -- the milliseconds of that many days, and more
 unfoldable pub millis_at : ℤ → ℕ → ℤ
@@ -70,7 +88,7 @@ millis_at day millis = pos 86_400_000 *ℤ day +ℤ pos millis
 
 -- the milliseconds from 1970-01-01T00:00 to the moment that the text names, negative before it
 unfoldable pub instant_of : List ℕ → ℤ
-instant_of text = millis_at (days_from_civil (pos (year_of text)) (month_of text) (day_of text)) (millis_of_day text)
+instant_of text = millis_at (day_number_of text) (millis_of_day text)
 
 -- 9999-12-30T00:00, the last moment that an expiry is read as
 abbrev pub latest : ℕ
@@ -89,13 +107,15 @@ moment_of text = nearest_moment (instant_of text)
 unfoldable pub timestamp_at : List ℕ → Result ℕ AddrFault
 timestamp_at text = if is_timestamp text then Ok (moment_of text) else Err NotADate
 
--- the decimal digits of a number below 100, below 1,000 and below 10,000
+-- the decimal digits of a number below 100, before the rest of a text
 abbrev pub two_digits : ℕ → List ℕ → List ℕ
 two_digits n rest = (48 + n / 10) ∷ (48 + n % 10) ∷ rest
 
+-- of one below 1,000
 abbrev pub three_digits : ℕ → List ℕ → List ℕ
 three_digits n rest = (48 + n / 100) ∷ two_digits (n % 100) rest
 
+-- of one below 10,000
 abbrev pub four_digits : ℕ → List ℕ → List ℕ
 four_digits n rest = two_digits (n / 100) (two_digits (n % 100) rest)
 
@@ -103,8 +123,8 @@ four_digits n rest = two_digits (n / 100) (two_digits (n % 100) rest)
 unfoldable pub calendar_text : ℕ → ℕ → ℕ → ℕ → List ℕ
 calendar_text year month day millis =
     four_digits year (two_digits month (two_digits day
-    (two_digits (millis / 3_600_000) (two_digits (millis / 60_000 % 60) (two_digits (millis / 1000 % 60)
-    (three_digits (millis % 1000) []))))))
+    (two_digits (millis / 3_600_000) (two_digits (millis / 60_000 % 60)
+    (two_digits (millis / 1000 % 60) (three_digits (millis % 1000) []))))))
 
 -- the year of a day and the days before it in that year, counted off from `year` on by whole years
 unfoldable pub year_after : ℕ → ℕ → ℕ → ℕ × ℕ
@@ -113,7 +133,7 @@ year_after (suc n) year days =
     if nat_lt days (days_in_year (pos year)) then (year, days)
     else year_after n (year + 1) (days - days_in_year (pos year))
 
--- the month of a day and its day in the month from 1 on, counted off from `month` on by whole months
+-- the month of a day and its day of the month, counted off from `month` on by whole months
 unfoldable pub month_after : ℕ → ℕ → ℕ → ℕ → ℕ × ℕ
 month_after zero year month days = (month, days + 1)
 month_after (suc n) year month days =

@@ -74,7 +74,8 @@ impl<'a> Address<'a> {
 
 #[tactic(auto, unfolding(crate::specs::Address::address_at))]
 fn check_address(bytes: &[u8]) -> Result<(), AddrFault>
-    ensures { MatchResult result (λ _. address_at bytes.now ≡ Ok bytes.now) (λ e. address_at bytes.now ≡ Err e) }
+    ensures { MatchResult result (λ _. address_at bytes.now ≡ Ok bytes.now)
+        (λ e. address_at bytes.now ≡ Err e) }
 {
     if bytes.len() > MAX_LEN {
         return Err(AddrFault::Length);

@@ -17,5 +17,6 @@ pub fn timestamp_of_names()
 
 /// No other timestamp names the moment.
 pub fn timestamp_of_is_unique()
-    ensures { (text : List ℕ) (m : ℕ) → IsTimestamp text → instant_of text ≡ pos m → text ≡ timestamp_of m }
+    ensures { (text : List ℕ) (m : ℕ) → IsTimestamp text → instant_of text ≡ pos m
+        → text ≡ timestamp_of m }
 {}

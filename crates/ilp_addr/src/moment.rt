@@ -6,7 +6,7 @@ use std::marker::Model;
 
 /// A moment: the milliseconds since 1970-01-01T00:00:00 UTC, up to 253,400,000,000,000, which is
 /// in the year 9999.
-#[derive(Clone, Copy, Debug)]
+#[derive(Clone, Copy, Debug, PartialEq, Eq, PartialOrd, Ord)]
 pub struct Moment {
     millis: u64,
 }

@@ -35,7 +35,8 @@ impl Prefix {
         // What is read is a prefix, and all of the bytes but a dot at the end.
         ensures found { IfOk result (λ p. IsPrefix p × (p ≡ without_last_dot bytes.now)) }
         // Each prefix is read, unless memory runs out.
-        ensures only { bytes.now ≢ 46 ∷ [] → IsPrefix (without_last_dot bytes.now) → GivesPrefix result (Ok (without_last_dot bytes.now)) }
+        ensures only { bytes.now ≢ 46 ∷ [] → IsPrefix (without_last_dot bytes.now)
+            → GivesPrefix result (Ok (without_last_dot bytes.now)) }
         // Which fault comes.
         ensures exact { GivesPrefix result (prefix_at bytes.now) }
     {
@@ -71,7 +72,8 @@ fn read(alloc: Global, bytes: &[u8]) -> Result<Prefix, PrefixError>
 // The bytes of the prefix that the bytes spell.
 #[tactic(auto, unfolding(crate::specs::Address::prefix_at))]
 fn prefix_bytes(bytes: &[u8]) -> Result<&[u8], AddrFault>
-    ensures { MatchResult result (λ r. prefix_at bytes.now ≡ Ok r.now) (λ e. prefix_at bytes.now ≡ Err e) }
+    ensures { MatchResult result (λ r. prefix_at bytes.now ≡ Ok r.now)
+        (λ e. prefix_at bytes.now ≡ Err e) }
 {
     if bytes == b".".as_slice() {
         return Err(AddrFault::Scheme);
@@ -90,7 +92,8 @@ fn strip_last_dot(bytes: &[u8]) -> &[u8]
 
 #[tactic(auto, unfolding(crate::specs::Address::prefix_of))]
 fn check_prefix(bytes: &[u8]) -> Result<&[u8], AddrFault>
-    ensures { MatchResult result (λ r. prefix_of bytes.now ≡ Ok r.now) (λ e. prefix_of bytes.now ≡ Err e) }
+    ensures { MatchResult result (λ r. prefix_of bytes.now ≡ Ok r.now)
+        (λ e. prefix_of bytes.now ≡ Err e) }
 {
     if bytes.is_empty() {
         return Ok(bytes);

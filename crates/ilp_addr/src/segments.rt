@@ -60,7 +60,8 @@ fn begins_at_dot(bytes: &[u8], prefix: &[u8]) -> bool
 
 // What stands before the first dot, and what stands after it.
 pub(crate) fn split_at_dot(bytes: &[u8]) -> Option<(&[u8], &[u8])>
-    ensures { MatchOption result (segments bytes.now ≡ bytes.now ∷ []) (λ r. segments bytes.now ≡ r.0.now ∷ segments r.1.now) }
+    ensures { MatchOption result (segments bytes.now ≡ bytes.now ∷ [])
+        (λ r. segments bytes.now ≡ r.0.now ∷ segments r.1.now) }
 {
     for (i, byte) in bytes.iter().enumerate() {
         if *byte == b'.' {

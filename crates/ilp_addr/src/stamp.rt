@@ -1,11 +1,10 @@
 //! The calendar text of a Prepare's expiry (RFC 0027, "ILP Prepare").
 
-ghost use Rattle.std.specs.Prelude.{◌≡◌, ◌≤◌, ◌<◌, ◌+◌, ◌/◌, ◌%◌, ℕ, All, pos, is_some, IfOk, Ok, IfSome, length};
-ghost use Rattle.jiff_core.specs.Calendar.{days_from_civil};
+ghost use Rattle.std.specs.Prelude.{◌≡◌, ◌≤◌, ◌<◌, ◌+◌, ◌/◌, ◌%◌, ℕ, All, is_some, IfOk, Ok, IfSome, length};
 ghost use Rattle.std.specs.Char.{IsAsciiDigit, is_ascii_digit};
 ghost use Rattle.std.specs.List.{list_all};
 ghost use Rattle.ilp_addr.specs.Timestamp as spec;
-ghost use Rattle.ilp_addr.specs.Timestamp.{IsTimestamp, latest, moment_of, timestamp_at, timestamp_of, millis_at, nearest_moment, two_at, digit_at};
+ghost use Rattle.ilp_addr.specs.Timestamp.{IsTimestamp, latest, moment_of, timestamp_at, timestamp_of, has_date, has_time, day_number_of, millis_at, nearest_moment, two_at, digit_at};
 
 use crate::calendar::{date_of, day_number};
 use crate::fault::AddrFault;
@@ -27,7 +26,8 @@ impl Stamp {
     /// day has no such time.
     pub fn parse(text: &[u8; 17]) -> Result<u64, AddrFault>
         // What is read is a timestamp, and its moment.
-        ensures found { IfOk result (λ moment. IsTimestamp text.now × (moment ≡ moment_of text.now)) }
+        ensures found { IfOk result
+            (λ moment. IsTimestamp text.now × (moment ≡ moment_of text.now)) }
         // Each timestamp is read.
         ensures only { IsTimestamp text.now → result ≡ Ok (moment_of text.now) }
         // Which answer comes.
@@ -125,8 +125,8 @@ fn two(text: &[u8], place: usize) -> u8
 #[tactic(auto, unfolding(crate::specs::Timestamp::year_of, crate::specs::Timestamp::month_of, crate::specs::Timestamp::day_of))]
 fn day_of(text: &[u8; 17]) -> Option<i32>
     requires { All IsAsciiDigit text.now }
-    ensures found { is_some result ≡ spec.is_civil_date (spec.year_of text.now) (spec.month_of text.now) (spec.day_of text.now) }
-    ensures value { IfSome result (λ n. n ≡ days_from_civil (pos (spec.year_of text.now)) (spec.month_of text.now) (spec.day_of text.now)) }
+    ensures found { is_some result ≡ has_date text.now }
+    ensures value { IfSome result (λ n. n ≡ day_number_of text.now) }
 {
     let year = 100 * two(text, 0) as u16 + two(text, 2) as u16;
     day_number(year, two(text, 4), two(text, 6))
@@ -135,7 +135,7 @@ fn day_of(text: &[u8; 17]) -> Option<i32>
 #[tactic(auto, unfolding(crate::specs::Timestamp::hour_of, crate::specs::Timestamp::minute_of, crate::specs::Timestamp::second_of, crate::specs::Timestamp::millisecond_of, crate::specs::Timestamp::millis_of_day))]
 fn millis_of_day(text: &[u8; 17]) -> Option<u32>
     requires { All IsAsciiDigit text.now }
-    ensures found { is_some result ≡ spec.is_time (spec.hour_of text.now) (spec.minute_of text.now) (spec.second_of text.now) }
+    ensures found { is_some result ≡ has_time text.now }
     ensures value { IfSome result (λ n. n ≡ spec.millis_of_day text.now) }
     ensures bound { IfSome result (λ n. n < 86_400_000) }
 {
