@@ -27,7 +27,10 @@ pub record Prepare : Type 0 where
 
 -- The fields of a Prepare in their order (RFC 0027, "ILP Prepare").
 abbrev pub prepare_contents : Prepare → List ℕ
-prepare_contents p = to_be_bytes w64 p.amount ++ (p.expiry ++ (p.condition ++ (p.destination_length ++ (p.destination ++ (p.data_length ++ (p.payload ++ p.extra))))))
+prepare_contents p =
+    to_be_bytes w64 p.amount ++ (p.expiry ++ (p.condition
+    ++ (p.destination_length ++ (p.destination
+    ++ (p.data_length ++ (p.payload ++ p.extra))))))
 
 -- The frame of a Prepare, from its parts (RFC 0027, "ILP Prepare").
 abbrev pub prepare_frame : Prepare → List ℕ
@@ -82,7 +85,10 @@ pub record Reject : Type 0 where
 
 -- The fields of a Reject in their order (RFC 0027, "ILP Reject").
 abbrev pub reject_contents : Reject → List ℕ
-reject_contents p = p.code ++ (p.triggered_by_length ++ (p.triggered_by ++ (p.message_length ++ (p.message ++ (p.data_length ++ (p.payload ++ p.extra))))))
+reject_contents p =
+    p.code ++ (p.triggered_by_length ++ (p.triggered_by
+    ++ (p.message_length ++ (p.message
+    ++ (p.data_length ++ (p.payload ++ p.extra))))))
 
 -- The frame is a Reject with these parts, and each keeps its rule; code, sender and message are any
 -- bytes (RFC 0027, "ILP Reject").
@@ -100,16 +106,35 @@ fulfill_frame fulfillment payload = 13 ∷ octet_string (fulfillment ++ octet_st
 
 -- The frame of a Reject, its lengths in the fewest bytes (RFC 0027, "ILP Reject").
 abbrev pub reject_frame : List ℕ → List ℕ → List ℕ → List ℕ → List ℕ
-reject_frame code triggered_by message payload = 14 ∷ octet_string (code ++ (octet_string triggered_by ++ (octet_string message ++ octet_string payload)))
+reject_frame code triggered_by message payload =
+    14 ∷ octet_string (code ++ (octet_string triggered_by ++ (octet_string message ++ octet_string payload)))
 
 -- Parts of a Reject that leave its frame within 34,000 bytes and its data within 32,768.
 abbrev pub FitsReject : List ℕ → List ℕ → List ℕ → Type 0
-FitsReject triggered_by message payload = (length payload ≤ 32768) × (length triggered_by + length message + length payload ≤ 33984)
+FitsReject triggered_by message payload =
+    (length payload ≤ 32768) × (length triggered_by + length message + length payload ≤ 33984)
 
 -- The parts of the Fulfill that is written so (RFC 0027, "ILP Fulfill").
 abbrev pub written_fulfill : List ℕ → List ℕ → Fulfill
-written_fulfill fulfillment payload = record { contents_length = shortest_length (length (fulfillment ++ octet_string payload)); fulfillment = fulfillment; data_length = shortest_length (length payload); payload = payload; extra = [] }
+written_fulfill fulfillment payload = record {
+  contents_length = shortest_length (length (fulfillment ++ octet_string payload));
+  fulfillment = fulfillment;
+  data_length = shortest_length (length payload);
+  payload = payload;
+  extra = [];
+}
 
 -- The parts of the Reject that is written so (RFC 0027, "ILP Reject").
 abbrev pub written_reject : List ℕ → List ℕ → List ℕ → List ℕ → Reject
-written_reject code triggered_by message payload = record { contents_length = shortest_length (length (code ++ (octet_string triggered_by ++ (octet_string message ++ octet_string payload)))); code = code; triggered_by_length = shortest_length (length triggered_by); triggered_by = triggered_by; message_length = shortest_length (length message); message = message; data_length = shortest_length (length payload); payload = payload; extra = [] }
+written_reject code triggered_by message payload = record {
+  contents_length = shortest_length (length (code
+      ++ (octet_string triggered_by ++ (octet_string message ++ octet_string payload))));
+  code = code;
+  triggered_by_length = shortest_length (length triggered_by);
+  triggered_by = triggered_by;
+  message_length = shortest_length (length message);
+  message = message;
+  data_length = shortest_length (length payload);
+  payload = payload;
+  extra = [];
+}

@@ -72,7 +72,17 @@ prepare_fields spelling contents = do
   condition ← fixed_at 32 expiry.1
   destination ← destination_at condition.1
   payload ← data_at destination.2
-  Ok (record { contents_length = spelling; amount = amount.0; expiry = expiry.0; condition = condition.0; destination_length = destination.0; destination = destination.1; data_length = payload.0; payload = payload.1; extra = payload.2 })
+  Ok (record {
+    contents_length = spelling;
+    amount = amount.0;
+    expiry = expiry.0;
+    condition = condition.0;
+    destination_length = destination.0;
+    destination = destination.1;
+    data_length = payload.0;
+    payload = payload.1;
+    extra = payload.2;
+  })
 
 -- The parts of the Prepare that the frame is, or the first fault.
 unfoldable pub prepare_at : List ℕ → Result Prepare ViewFault
@@ -85,7 +95,13 @@ unfoldable pub fulfill_fields : List ℕ → List ℕ → Result Fulfill ViewFau
 fulfill_fields spelling contents = do
   fulfillment ← fixed_at 32 contents
   payload ← data_at fulfillment.1
-  Ok (record { contents_length = spelling; fulfillment = fulfillment.0; data_length = payload.0; payload = payload.1; extra = payload.2 })
+  Ok (record {
+    contents_length = spelling;
+    fulfillment = fulfillment.0;
+    data_length = payload.0;
+    payload = payload.1;
+    extra = payload.2;
+  })
 
 -- The parts of the Fulfill that the frame is, or the first fault.
 unfoldable pub fulfill_at : List ℕ → Result Fulfill ViewFault
@@ -100,7 +116,17 @@ reject_fields spelling contents = do
   triggered_by ← string_at code.1
   message ← string_at triggered_by.2
   payload ← data_at message.2
-  Ok (record { contents_length = spelling; code = code.0; triggered_by_length = triggered_by.0; triggered_by = triggered_by.1; message_length = message.0; message = message.1; data_length = payload.0; payload = payload.1; extra = payload.2 })
+  Ok (record {
+    contents_length = spelling;
+    code = code.0;
+    triggered_by_length = triggered_by.0;
+    triggered_by = triggered_by.1;
+    message_length = message.0;
+    message = message.1;
+    data_length = payload.0;
+    payload = payload.1;
+    extra = payload.2;
+  })
 
 -- The parts of the Reject that the frame is, or the first fault.
 unfoldable pub reject_at : List ℕ → Result Reject ViewFault

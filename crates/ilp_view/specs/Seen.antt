@@ -8,7 +8,17 @@ use Rattle.ilp_addr.specs.Timestamp.{moment_of}
 
 -- The parts of a Prepare as the view lends them.
 abbrev pub prepare_of : PrepareParts → Prepare
-prepare_of v = record { contents_length = v.contents_length.now; amount = v.amount; expiry = v.expiry_text.now; condition = v.condition.now; destination_length = v.destination_length.now; destination = v.destination; data_length = v.data_length.now; payload = v.payload.now; extra = v.extra.now }
+prepare_of v = record {
+  contents_length = v.contents_length.now;
+  amount = v.amount;
+  expiry = v.expiry_text.now;
+  condition = v.condition.now;
+  destination_length = v.destination_length.now;
+  destination = v.destination;
+  data_length = v.data_length.now;
+  payload = v.payload.now;
+  extra = v.extra.now;
+}
 
 -- The parts keep their rules, and the moment is that of the text.
 pub record ArePrepareParts (v : PrepareParts) : Type 0 where
@@ -17,7 +27,13 @@ pub record ArePrepareParts (v : PrepareParts) : Type 0 where
 
 -- The parts of a Fulfill as the view lends them.
 abbrev pub fulfill_of : FulfillParts → Fulfill
-fulfill_of v = record { contents_length = v.contents_length.now; fulfillment = v.fulfillment.now; data_length = v.data_length.now; payload = v.payload.now; extra = v.extra.now }
+fulfill_of v = record {
+  contents_length = v.contents_length.now;
+  fulfillment = v.fulfillment.now;
+  data_length = v.data_length.now;
+  payload = v.payload.now;
+  extra = v.extra.now;
+}
 
 -- The sizes of the parts.
 pub record AreFulfillParts (v : FulfillParts) : Type 0 where
@@ -26,7 +42,17 @@ pub record AreFulfillParts (v : FulfillParts) : Type 0 where
 
 -- The parts of a Reject as the view lends them.
 abbrev pub reject_of : RejectParts → Reject
-reject_of v = record { contents_length = v.contents_length.now; code = v.code.now; triggered_by_length = v.triggered_by_length.now; triggered_by = v.triggered_by.now; message_length = v.message_length.now; message = v.message.now; data_length = v.data_length.now; payload = v.payload.now; extra = v.extra.now }
+reject_of v = record {
+  contents_length = v.contents_length.now;
+  code = v.code.now;
+  triggered_by_length = v.triggered_by_length.now;
+  triggered_by = v.triggered_by.now;
+  message_length = v.message_length.now;
+  message = v.message.now;
+  data_length = v.data_length.now;
+  payload = v.payload.now;
+  extra = v.extra.now;
+}
 
 -- The sizes of the parts.
 pub record AreRejectParts (v : RejectParts) : Type 0 where

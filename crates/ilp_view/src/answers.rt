@@ -2,7 +2,7 @@
 
 ghost use Rattle.std.specs.Prelude.{◌≡◌, ◌≤◌, ◌+◌, ◌↔◌, length, IfOk, IfErr, IsOk};
 ghost use Rattle.oer_core.specs.Length.{octet_string};
-ghost use Rattle.oer_core.specs.Writing.{overwritten};
+ghost use Rattle.oer_core.specs.Writing.{Writes};
 ghost use Rattle.ilp_view.specs.Packet.{fulfill_frame, reject_frame, FitsReject};
 
 use crate::fault::ViewFault;
@@ -31,8 +31,7 @@ pub fn write_fulfill(
     requires { length payload.now ≤ 32768 }
     ensures fits { IsOk result ↔ (length (fulfill_frame fulfillment.now payload.now) ≤ length out.old) }
     ensures within { length (fulfill_frame fulfillment.now payload.now) ≤ 34000 }
-    ensures ok { IfOk result (λ end. (end ≡ length (fulfill_frame fulfillment.now payload.now))
-        × (out.new ≡ overwritten out.old 0 (fulfill_frame fulfillment.now payload.now))) }
+    ensures ok { IfOk result (λ end. Writes out.old 0 (fulfill_frame fulfillment.now payload.now) out.new end) }
     ensures err { IfErr result (λ e. (e ≡ ViewFault.Short) × (out.new ≡ out.old)) }
 {
     let size = 32 + octets_size(payload);
@@ -57,10 +56,11 @@ pub fn write_reject(
     payload: &[u8],
 ) -> Result<usize, ViewFault>
     requires { FitsReject triggered_by.now message.now payload.now }
-    ensures fits { IsOk result ↔ (length (reject_frame code.now triggered_by.now message.now payload.now) ≤ length out.old) }
+    ensures fits { IsOk result
+        ↔ (length (reject_frame code.now triggered_by.now message.now payload.now) ≤ length out.old) }
     ensures within { length (reject_frame code.now triggered_by.now message.now payload.now) ≤ 34000 }
-    ensures ok { IfOk result (λ end. (end ≡ length (reject_frame code.now triggered_by.now message.now payload.now))
-        × (out.new ≡ overwritten out.old 0 (reject_frame code.now triggered_by.now message.now payload.now))) }
+    ensures ok { IfOk result (λ end.
+        Writes out.old 0 (reject_frame code.now triggered_by.now message.now payload.now) out.new end) }
     ensures err { IfErr result (λ e. (e ≡ ViewFault.Short) × (out.new ≡ out.old)) }
 {
     let size = 3 + octets_size(triggered_by) + octets_size(message) + octets_size(payload);
