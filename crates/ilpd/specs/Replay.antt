@@ -41,11 +41,12 @@ status_of (fault.Setup f) = 3
 status_of (fault.Script f) = 4
 status_of fault.Device = 5
 
--- the first fault of a script, and of a setup and then the script
+-- the first fault of a script, if it has one
 abbrev pub script_refusal : Result (List Step) ScriptFault → Option ReplayFault
 script_refusal (Ok steps) = None
 script_refusal (Err f) = Some (fault.Script f)
 
+-- the first fault of a setup and then of the script, if there is one
 abbrev pub refusal_of : Result Setup SetupFault → List ℕ → Option ReplayFault
 refusal_of (Ok setup) script = script_refusal (steps_of_script (names_in setup) 1 script)
 refusal_of (Err f) script = Some (fault.Setup f)
@@ -72,6 +73,7 @@ LeavesWritten fault.Device setup_text known old new = Keeps old new ⊎ IfSome k
 LeavesWritten (fault.Setup f) setup_text known old new = Keeps old new
 LeavesWritten (fault.Script f) setup_text known old new = Keeps old new
 
+-- the lines of the outputs of these steps, for the tenant of a setup
 abbrev pub IsAnswered : Setup → List Step → List ℕ → Type 0
 IsAnswered setup steps written = (outputs : List Output) × AreOutputs (tenant_at_start setup) all_free steps outputs × (written ≡ printed_lines (names_in setup) outputs)
 

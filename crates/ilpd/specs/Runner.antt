@@ -15,6 +15,7 @@ use Rattle.ilpd.specs.declared.step.Step.TheVariants.{Load, Decide}
 use Rattle.ilpd.specs.declared.step.Output.{Output}
 use Rattle.ilpd.specs.declared.step.Output.TheVariants.{Busy, Idle}
 
+-- what contracts see of a runner: the tenant's book and the number of its next call, and what the worker carries
 pub record Run : Type 0 where
   pub book : State
   pub next_call : ℕ
@@ -25,11 +26,13 @@ abbrev pub stage_of_frame : List ℕ → Result Prepare ViewFault → Option Sta
 stage_of_frame token (Ok p) = Some (Stage.Ready token p)
 stage_of_frame token (Err f) = None
 
+-- the calls of the tenant that have not ended, by number: the one that the worker carries
 abbrev pub calls_of : Carried → ℕ → Option Stage
 calls_of Nothing = λ n. None
 calls_of (Ready call token frame) = λ n. if n == call then stage_of_frame token (prepare_at frame) else None
 calls_of (Waiting call hold) = λ n. if n == call then Some (Stage.Sent hold) else None
 
+-- the tenant that a runner shows to the one-tenant connector
 abbrev pub tenant_of : Run → Tenant
 tenant_of r = record { book = r.book; next_call = r.next_call; calls = calls_of r.carried }
 
@@ -39,6 +42,7 @@ hand_of Nothing = Hand.Free
 hand_of (Ready call token frame) = Hand.Has 0 call
 hand_of (Waiting call hold) = Hand.Awaits 0 call
 
+-- the hands that it shows: one worker's
 abbrev pub hands_of : Run → ℕ → Hand
 hands_of r = λ w. if w == 0 then hand_of r.carried else Hand.Free
 
@@ -49,29 +53,35 @@ carried_after call NoRoom = Nothing
 carried_after call (Refuse code amounts) = Nothing
 carried_after call (Forward hold peer amount expiry) = Waiting call hold
 
+-- what a load puts out
 abbrev pub load_output : Run → Carried → List ℕ → Output
 load_output r Nothing bytes = arrive_reply (tenant_of r) (prepare_at bytes)
 load_output r (Ready call token frame) bytes = Busy
 load_output r (Waiting call hold) bytes = Busy
 
+-- a frame that reads is the next call
 abbrev pub take_in : Run → List ℕ → List ℕ → Result Prepare ViewFault → Run
 take_in r token bytes (Ok p) = record { book = r.book; next_call = r.next_call + 1; carried = Ready r.next_call token bytes }
 take_in r token bytes (Err f) = r
 
+-- what a load leaves
 abbrev pub load_moved : Run → Carried → List ℕ → List ℕ → Run
 load_moved r Nothing token bytes = take_in r token bytes (prepare_at bytes)
 load_moved r (Ready call k frame) token bytes = r
 load_moved r (Waiting call hold) token bytes = r
 
+-- what deciding a frame puts out
 abbrev pub packet_output : Run → List ℕ → Result Prepare ViewFault → ℕ → Output
 packet_output r token (Ok p) now = said r.book.opening p (judge r.book token (key_in p) now)
 packet_output r token (Err f) now = Idle
 
+-- what a decide puts out
 abbrev pub decide_output : Run → Carried → ℕ → Output
 decide_output r Nothing now = Idle
 decide_output r (Ready call token frame) now = packet_output r token (prepare_at frame) now
 decide_output r (Waiting call hold) now = Idle
 
+-- what deciding a frame leaves
 abbrev pub packet_moved : Run → ℕ → List ℕ → Result Prepare ViewFault → ℕ → Run
 packet_moved r call token (Ok p) now =
     record {
@@ -81,24 +91,28 @@ packet_moved r call token (Ok p) now =
     }
 packet_moved r call token (Err f) now = r
 
+-- what a decide leaves
 abbrev pub decide_moved : Run → Carried → ℕ → Run
 decide_moved r Nothing now = r
 decide_moved r (Ready call token frame) now = packet_moved r call token (prepare_at frame) now
 decide_moved r (Waiting call hold) now = r
 
--- what a step puts out, and what it leaves
+-- what a step puts out
 abbrev pub output_of : Run → Step → Output
 output_of r (Load worker tenant token bytes) = load_output r r.carried bytes
 output_of r (Decide worker now) = decide_output r r.carried now
 
+-- what a step leaves
 abbrev pub moved : Run → Step → Run
 moved r (Load worker tenant token bytes) = load_moved r r.carried token bytes
 moved r (Decide worker now) = decide_moved r r.carried now
 
+-- what steps put out
 abbrev pub outputs_of : Run → List Step → List Output
 outputs_of r [] = []
 outputs_of r (s ∷ ss) = output_of r s ∷ outputs_of (moved r s) ss
 
+-- what steps leave
 abbrev pub run_after : Run → List Step → Run
 run_after r [] = r
 run_after r (s ∷ ss) = run_after (moved r s) ss

@@ -15,19 +15,22 @@ use Rattle.ilpd.specs.declared.script.Meaning.{Meaning}
 use Rattle.ilpd.specs.declared.script.Meaning.TheVariants.{Skipped, Runs, Bad}
 
 infixl 10 ◌>>=◌
+-- the first that is missing leaves nothing
 abbrev pub ◌>>=◌ : {A B : Type 0} → Option A → (A → Option B) → Option B
 o >>= f = option_and_then f o
 
+-- the list has no element
 abbrev pub is_empty : {A : Type 0} → List A → Bool
 is_empty [] = true
 is_empty (x ∷ xs) = false
 
--- what stands between line feeds; what follows the last one is no line if it is empty
+-- a last part that is empty is no line
 abbrev pub without_empty_end : List (List ℕ) → List (List ℕ)
 without_empty_end [] = []
 without_empty_end (last ∷ []) = if is_empty last then [] else last ∷ []
 without_empty_end (line ∷ next ∷ lines) = line ∷ without_empty_end (next ∷ lines)
 
+-- the lines of a text, without their ends
 abbrev pub lines_of : List ℕ → List (List ℕ)
 lines_of text = without_empty_end (slice_split (λ b. b == 10) text)
 
@@ -39,6 +42,7 @@ words_of line = slice_split (λ b. b == 32) line
 abbrev pub value_of : List ℕ → ℕ
 value_of digits = fold (λ n d. n * 10 + (d - 48)) 0 digits
 
+-- a decimal digit
 abbrev pub is_digit : ℕ → Bool
 is_digit b = nat_le 48 b && nat_le b 57
 
@@ -104,6 +108,7 @@ abbrev pub is_skipped : List ℕ → Bool
 is_skipped [] = true
 is_skipped (first ∷ rest) = first == 35
 
+-- a line that spells no step is bad
 abbrev pub step_or_bad : Option Step → Meaning
 step_or_bad None = Bad
 step_or_bad (Some step) = Runs step
@@ -164,11 +169,12 @@ abbrev pub FitsIn : ℕ → ℕ → Step → Type 0
 FitsIn workers tenants (Load worker tenant token bytes) = (worker < workers) × (tenant < tenants)
 FitsIn workers tenants (Decide worker now) = worker < workers
 
--- what reading gave is this, unless memory ran out
+-- a fault is the one that reading gives, unless memory ran out
 abbrev pub Fails : {Y : Type 0} → ScriptError → Result Y ScriptFault → Type 0
 Fails errors.Memory read = Unit {0}
 Fails (errors.Fault fault) read = read ≡ Err fault
 
+-- what was read is what reading gives, unless memory ran out
 abbrev pub Gives : {X Y : Type 0} → (X → Y) → Result X ScriptError → Result Y ScriptFault → Type 0
 Gives view (Ok x) read = read ≡ Ok (view x)
 Gives view (Err error) read = Fails error read

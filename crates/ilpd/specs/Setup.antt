@@ -22,6 +22,7 @@ use Rattle.ilpd.specs.declared.setup.SetupError.TheVariants as errors
 use Rattle.ilpd.specs.declared.setup.Setup.{Setup}
 
 infixl 10 ◌>>=◌
+-- the first that is missing leaves nothing
 abbrev pub ◌>>=◌ : {A B : Type 0} → Option A → (A → Option B) → Option B
 o >>= f = option_and_then f o
 
@@ -51,9 +52,11 @@ abbrev pub or_default : {A : Type 0} → A → Option Data → Option A → Opti
 or_default default None found = Some default
 or_default default (Some there) found = found
 
+-- the integer at a key, or the default where nothing stands there
 unfoldable pub integer_or : ℤ → List ℕ → Members → Option ℤ
 integer_or default key members = or_default default (get_member key members) (integer_at key members)
 
+-- the number at a key, or the default where nothing stands there
 unfoldable pub number_or : ℕ → List ℕ → Members → Option ℕ
 number_or default key members = or_default default (get_member key members) (number_at 64 key members)
 
@@ -67,15 +70,17 @@ only_table no_items = None
 only_table (item only no_items) = as_table only
 only_table (item first (item second others)) = None
 
+-- the only item of the array at a key, which is a table
 unfoldable pub only_at : List ℕ → Members → Option Members
 only_at key members = array_at key members >>= only_table
 
--- what a peer is
+-- the role that a word names
 abbrev pub role_of : List ℕ → Option Role
 role_of word =
     if bytes_eq word (codes "child") then Some Child
     else (if bytes_eq word (codes "peer") then Some Peer else None)
 
+-- the role at a key
 unfoldable pub role_at : List ℕ → Members → Option Role
 role_at key members = string_at key members >>= role_of
 
@@ -97,6 +102,7 @@ peer_of t = do
   balance ← integer_or (pos 0) (codes "balance") t
   Some (record { name = name; role = role; token = token; url = url; out_token = out_token; asset = asset; scale = scale; cap = cap; ceiling = ceiling; credit = credit; burst = burst; per_second = per_second; balance = balance })
 
+-- a peer, if the value is a table
 abbrev pub peer_in : Data → Option PeerTerms
 peer_in value = as_table value >>= peer_of
 
@@ -108,6 +114,7 @@ peers_of (item first others) = do
   peers ← peers_of others
   Some (peer ∷ peers)
 
+-- the peers of the array at a key
 unfoldable pub peers_at : List ℕ → Members → Option (List PeerTerms)
 peers_at key members = array_at key members >>= peers_of
 
@@ -180,6 +187,7 @@ and_no_other None others = Err (Tenant 0)
 and_no_other (Some tenant) no_items = Ok tenant
 and_no_other (Some tenant) (item second others) = Err (Tenant 1)
 
+-- the tenant of the first item, where there is no other
 abbrev pub tenant_in : Items → Result TenantTerms SetupFault
 tenant_in no_items = Err (Tenant 0)
 tenant_in (item first others) = and_no_other (as_table first >>= tenant_of) others
@@ -189,6 +197,7 @@ unfoldable pub tenant_at : Option Items → Result TenantTerms SetupFault
 tenant_at None = Err (Tenant 0)
 tenant_at (Some tenants) = tenant_in tenants
 
+-- the number is 1
 abbrev pub is_one : Option ℕ → Bool
 is_one None = false
 is_one (Some n) = n == 1
@@ -197,6 +206,7 @@ is_one (Some n) = n == 1
 abbrev pub moment : ℕ → Option ℕ
 moment n = if nat_le n last_moment then Some n else None
 
+-- the start is looked at before the tenant
 abbrev pub from_start : Option ℕ → Result TenantTerms SetupFault → Result Setup SetupFault
 from_start None tenant = Err Start
 from_start (Some start) (Ok tenant) = Ok (record { start = start; tenant = tenant })
@@ -209,10 +219,12 @@ setup_in t =
     then from_start (number_at 64 (codes "start") t >>= moment) (tenant_at (array_at (codes "tenant") t))
     else Err Version
 
+-- a text that is no TOML is a fault
 abbrev pub document_of : Option Members → Result Members SetupFault
 document_of None = Err Toml
 document_of (Some members) = Ok members
 
+-- what a document that was read says
 abbrev pub then_setup : Result Members SetupFault → Result Setup SetupFault
 then_setup (Err fault) = Err fault
 then_setup (Ok members) = setup_in members
@@ -221,11 +233,12 @@ then_setup (Ok members) = setup_in members
 unfoldable pub setup_of : List ℕ → Result Setup SetupFault
 setup_of text = if is_utf8 text then then_setup (document_of (parse_document text)) else Err Toml
 
--- what reading gave is this, unless memory ran out
+-- a fault is the one that reading gives, unless memory ran out
 abbrev pub Fails : {Y : Type 0} → SetupError → Result Y SetupFault → Type 0
 Fails errors.Memory read = Unit {0}
 Fails (errors.Fault fault) read = read ≡ Err fault
 
+-- what was read is what reading gives, unless memory ran out
 abbrev pub Gives : {X Y : Type 0} → (X → Y) → Result X SetupError → Result Y SetupFault → Type 0
 Gives view (Ok x) read = read ≡ Ok (view x)
 Gives view (Err error) read = Fails error read

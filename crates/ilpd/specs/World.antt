@@ -39,7 +39,7 @@ pub data Event : Type 0 where
   Arrives : (token bytes : List ℕ) → Event
   Decides : (call now : ℕ) → Event
 
--- f with v at k
+-- the function f with v at k
 abbrev pub put : {A : Type 0} → (ℕ → A) → ℕ → A → ℕ → A
 put f k v = λ n. if n == k then v else f n
 
@@ -81,19 +81,23 @@ stage_after NoRoom = None
 stage_after (Refuse code amounts) = None
 stage_after (Forward hold peer amount expiry) = Some (Sent hold)
 
+-- what bytes are answered with when they arrive
 abbrev pub arrive_reply : Tenant → Result Prepare ViewFault → Output
 arrive_reply s (Ok p) = Loaded (number_of s) s.next_call
 arrive_reply s (Err f) = Bad (number_of s) (malformed_by f)
 
+-- what their arrival leaves
 abbrev pub arrive_after : Tenant → List ℕ → Result Prepare ViewFault → Tenant
 arrive_after s token (Ok p) = record { book = s.book; next_call = s.next_call + 1; calls = put s.calls s.next_call (Some (Ready token p)) }
 arrive_after s token (Err f) = s
 
+-- what the decide of a call is answered with
 abbrev pub decide_reply : Tenant → Option Stage → ℕ → Output
 decide_reply s None now = Idle
 decide_reply s (Some (Ready token p)) now = said s.book.opening p (judge s.book token (key_in p) now)
 decide_reply s (Some (Sent hold)) now = Idle
 
+-- what the decide of a call leaves
 abbrev pub decide_after : Tenant → ℕ → Option Stage → ℕ → Tenant
 decide_after s call None now = s
 decide_after s call (Some (Ready token p)) now =
@@ -104,20 +108,22 @@ decide_after s call (Some (Ready token p)) now =
     }
 decide_after s call (Some (Sent hold)) now = s
 
--- the one-tenant connector: what it says to an event, and where the event leaves it
+-- the one-tenant connector: what it says to an event
 abbrev pub reply_alone : Tenant → Event → Output
 reply_alone s (Arrives token bytes) = arrive_reply s (prepare_at bytes)
 reply_alone s (Decides call now) = decide_reply s (s.calls call) now
 
+-- the one-tenant connector: where an event leaves it
 abbrev pub after_alone : Tenant → Event → Tenant
 after_alone s (Arrives token bytes) = arrive_after s token (prepare_at bytes)
 after_alone s (Decides call now) = decide_after s call (s.calls call) now
 
--- a whole run of the one-tenant connector, and where it ends
+-- what the one-tenant connector says to events, one after the other
 abbrev pub run_alone : Tenant → List Event → List Output
 run_alone s [] = []
 run_alone s (e ∷ es) = reply_alone s e ∷ run_alone (after_alone s e) es
 
+-- where events leave it
 abbrev pub left_alone : Tenant → List Event → Tenant
 left_alone s [] = s
 left_alone s (e ∷ es) = left_alone (after_alone s e) es
@@ -145,6 +151,7 @@ decide_owner Free now = Nobody Idle
 decide_owner (Has t call) now = Own t (Decides call now)
 decide_owner (Awaits t call) now = Nobody Idle
 
+-- whose a step is, by what its worker has in hand
 abbrev pub owner : (ℕ → Hand) → Step → Owner
 owner hands (Load worker tenant token bytes) = load_owner (hands worker) tenant token bytes
 owner hands (Decide worker now) = decide_owner (hands worker) now
@@ -165,10 +172,12 @@ told hand (Stranger t) = Free
 told hand (Reply t bytes) = Free
 told hand (Send t peer hold frame) = awaiting hand
 
+-- the worker of a step
 abbrev pub worker_of : Step → ℕ
 worker_of (Load worker tenant token bytes) = worker
 worker_of (Decide worker now) = worker
 
+-- what the workers have in hand after a step with that output
 abbrev pub hands_after : (ℕ → Hand) → Step → Output → ℕ → Hand
 hands_after hands step output = put hands (worker_of step) (told (hands (worker_of step)) output)
 
@@ -191,7 +200,7 @@ seen_by t (o ∷ os) [] = []
 seen_by t (Own u e ∷ os) (x ∷ xs) = if u == t then x ∷ seen_by t os xs else seen_by t os xs
 seen_by t (Nobody o ∷ os) (x ∷ xs) = seen_by t os xs
 
--- nobody's steps have the outputs that are nobody's
+-- nobody's steps have the outputs that are nobody's: a busy worker's load, an idle worker's decide
 abbrev pub NobodysAreRight : List Owner → List Output → Type 0
 NobodysAreRight [] outputs = Unit {0}
 NobodysAreRight (o ∷ os) [] = Unit {0}
@@ -209,6 +218,6 @@ pub record AreOutputs (tenant : Tenant) (hands : ℕ → Hand) (steps : List Ste
   pub alone : seen_by (number_of tenant) (owners hands steps outputs) outputs ≡ run_alone tenant (own_steps (number_of tenant) (owners hands steps outputs))
   pub nobodys : NobodysAreRight (owners hands steps outputs) outputs
 
--- and that is where the one-tenant connector ends
+-- where the one-tenant connector ends on the tenant's own steps
 abbrev pub IsLeft : Tenant → (ℕ → Hand) → List Step → List Output → Tenant → Type 0
 IsLeft tenant hands steps outputs after = left_alone tenant (own_steps (number_of tenant) (owners hands steps outputs)) ≡ after

@@ -9,7 +9,7 @@ abbrev pub IsPrice : Fraction → ℕ → ℕ → Type 0
 IsPrice f amount price =
     (price * f.denominator ≤ amount * f.numerator) × (amount * f.numerator < (price + 1) * f.denominator)
 
--- and this computes it
+-- the price, computed
 abbrev pub price_of : Fraction → ℕ → ℕ
 price_of f amount = amount * f.numerator / f.denominator
 
@@ -19,7 +19,7 @@ pub record IsGreatestAmount (f : Fraction) (limit max amount : ℕ) : Type 0 whe
   pub price_fits : price_of f amount ≤ max
   pub greatest : (larger : ℕ) → larger ≤ limit → price_of f larger ≤ max → larger ≤ amount
 
--- and this computes it
+-- the greatest amount, computed
 abbrev pub greatest_amount : Fraction → ℕ → ℕ → ℕ
 greatest_amount f limit max =
     if nat_lt (((max + 1) * f.denominator - 1) / f.numerator) limit

@@ -78,6 +78,10 @@ impl Rate {
         ensures exact { result ≡ greatest_amount self limit max }
     {
         let most = ((max as u128 + 1) * self.denominator as u128 - 1) / self.numerator as u128;
-        if most < limit as u128 { most as u64 } else { limit }
+        if most < limit as u128 {
+            most as u64
+        } else {
+            limit
+        }
     }
 }

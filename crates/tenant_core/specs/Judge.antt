@@ -17,10 +17,11 @@ use Rattle.tenant_core.specs.declared.verdict.RejectCode.TheVariants.{Unreachabl
 use Rattle.tenant_core.specs.declared.verdict.Verdict.{Verdict}
 use Rattle.tenant_core.specs.declared.verdict.Verdict.TheVariants.{Unknown, NoRoom, Refuse, Forward}
 
--- the peer that shows this token, and the peer of this number
+-- the peer that shows this token
 abbrev pub peer_with_token : List ℕ → List Peer → Option Peer
 peer_with_token token peers = find (λ p. bytes_eq p.terms.token token) peers
 
+-- the peer of this number
 abbrev pub peer_numbered : ℕ → List Peer → Option Peer
 peer_numbered n peers = find (λ p. p.number == n) peers
 
@@ -39,6 +40,7 @@ rate_between o from to = if (o.rate.from == from) && (o.rate.to == to) then Some
 abbrev pub outgoing_expiry : Opening → ℕ → ℕ → ℕ
 outgoing_expiry o expiry clock = min (expiry - o.margin) (clock + o.hold)
 
+-- a refusal that names no amounts (RFC 0027, "Error Codes")
 abbrev pub refuse : RejectCode → Verdict
 refuse code = Refuse code None
 
@@ -50,6 +52,7 @@ priced o hold from to key clock (Some rate) =
     else (if nat_le (outgoing_expiry o key.expiry clock) clock then refuse InsufficientTimeout
     else Forward hold to.number (price_of rate key.amount) (outgoing_expiry o key.expiry clock))
 
+-- a packet with that peer to go on to, if there is one
 abbrev pub routed : Opening → ℕ → Peer → Key → ℕ → Option Peer → Verdict
 routed o hold from key clock None = refuse Unreachable
 routed o hold from key clock (Some to) = priced o hold from to key clock (rate_between o from.number to.number)
@@ -58,7 +61,7 @@ routed o hold from key clock (Some to) = priced o hold from to key clock (rate_b
 abbrev pub is_full : State → Bool
 is_full s = nat_lt s.opening.journal (length s.records + open_holds s + 2)
 
--- the clock is the one after this entry
+-- a packet of that peer, if its token is one's, at the clock after this entry
 abbrev pub judged : State → Option Peer → Key → ℕ → Verdict
 judged s None key clock = Unknown
 judged s (Some from) key clock =
@@ -66,6 +69,7 @@ judged s (Some from) key clock =
     else (if nat_le key.expiry clock then refuse InsufficientTimeout
     else routed s.opening (next_hold s) from key clock (onward s.opening from key.destination))
 
+-- the verdict on a Prepare that came with this token at this moment
 abbrev pub judge : State → List ℕ → Key → ℕ → Verdict
 judge s token key now = judged s (peer_with_token token s.opening.peers) key (max (clock_of s) now)
 
@@ -87,6 +91,7 @@ abbrev pub kept : State → Option ℕ → Key → ℕ → Verdict → State
 kept s None key now v = s
 kept s (Some peer) key now v = recorded s (decide_record peer key now v)
 
+-- the state after a Prepare was decided
 abbrev pub decided : State → List ℕ → Key → ℕ → State
 decided s token key now = kept s (recording_peer s (peer_with_token token s.opening.peers)) key now (judge s token key now)
 

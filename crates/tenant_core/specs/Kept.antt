@@ -3,9 +3,11 @@ use Rattle.std.specs.Prelude.{ℕ, ◌≡◌, ◌≤◌, ◌+◌, ◌*◌, lengt
 use Rattle.tenant_core.specs.declared.book.Book.TheInside.{Inside}
 use Rattle.tenant_core.specs.State.{State, clock_of, hold_count, open_holds}
 
+-- what contracts see of a book
 abbrev pub state_of : Inside → State
 state_of b = record { opening = b.opening; records = b.records.items }
 
+-- what is kept of the fields of a book
 pub record IsKept (b : Inside) : Type 0 where
   -- there is room for each entry that the journal may have
   pub room : b.opening.journal ≤ vec_capacity b.records

@@ -7,6 +7,7 @@ use Rattle.ilp_addr.specs.Address.{address_at}
 use Rattle.tenant_core.specs.declared.terms.PeerTerms.{PeerTerms}
 use Rattle.tenant_core.specs.declared.terms.TenantTerms.{TenantTerms}
 
+-- the number lies from low to high, both included
 abbrev pub is_between : ℕ → ℕ → ℕ → Bool
 is_between low high n = nat_le low n && nat_le n high
 
@@ -17,11 +18,12 @@ is_peer_within p =
     nat_le p.cap (2 ^ 62) && nat_le p.ceiling (2 ^ 62) && nat_le p.credit (2 ^ 62) && nat_le (unsigned_abs p.balance) (2 ^ 62)
     && (is_between 1 1_000_000 p.burst && nat_le p.per_second 1_000_000)
 
--- no two of the peers have the same name, and no two the same token
+-- no two of the peers have the same name
 abbrev pub names_differ : List PeerTerms → Bool
 names_differ [] = true
 names_differ (p ∷ ps) = not (list_any (λ q. bytes_eq q.name p.name) ps) && names_differ ps
 
+-- no two of the peers have the same token
 abbrev pub tokens_differ : List PeerTerms → Bool
 tokens_differ [] = true
 tokens_differ (p ∷ ps) = not (list_any (λ q. bytes_eq q.token p.token) ps) && tokens_differ ps

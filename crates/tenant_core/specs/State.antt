@@ -12,6 +12,7 @@ use Rattle.tenant_core.specs.declared.journal.Record.{Record}
 use Rattle.tenant_core.specs.declared.verdict.Verdict.{Verdict}
 use Rattle.tenant_core.specs.declared.verdict.Verdict.TheVariants.{Unknown, NoRoom, Refuse, Forward}
 
+-- what a period began with, and what happened since
 pub record State : Type 0 where
   pub opening : Opening
   pub records : List Record
@@ -39,6 +40,7 @@ opening_of tenant t start =
       rate = t.rate;
     }
 
+-- the state in which nothing has happened since
 abbrev pub opened : Opening → State
 opened o = record { opening = o; records = [] }
 
@@ -54,6 +56,7 @@ later clock r = max clock (moment_of r.entry)
 abbrev pub clock_of : State → ℕ
 clock_of s = fold later s.opening.clock s.records
 
+-- the packet goes on
 abbrev pub is_forward : Verdict → Bool
 is_forward Unknown = false
 is_forward NoRoom = false
@@ -64,10 +67,11 @@ is_forward (Forward hold peer amount expiry) = true
 abbrev pub holds : Outcome → Bool
 holds (Packet v) = is_forward v
 
--- how many holds a state has, and how many of them await an answer
+-- how many holds a state has
 abbrev pub hold_count : State → ℕ
 hold_count s = count_by (λ r. holds r.outcome) s.records
 
+-- how many holds await an answer
 abbrev pub open_holds : State → ℕ
 open_holds s = hold_count s
 
