@@ -1,5 +1,5 @@
 -- What the readers of single fields take, and what they read again.
-use Rattle.std.proofs.Common.{◌≡◌, ◌≤◌, ◌<◌, ◌+◌, ℕ, List, [], ◌∷◌, ◌++◌, length, take, drop, get_or, Bool, true, false, cond, ltb, eqb, Result, Ok, Err, refl, sym, ap, subst, ◌∙◌, append_assoc, arith, inl, inr}
+use Rattle.std.proofs.Common.{◌≡◌, ◌≤◌, ◌+◌, ℕ, List, [], ◌∷◌, ◌++◌, length, take, drop, Bool, true, false, cond, ltb, eqb, Result, Ok, Err, refl, sym, ap, subst, ◌∙◌, arith, inl, inr}
 use Rattle.std.proofs.lemmas.Bool.{ltb-false, le-ltb, eqb-true, eq-eqb}
 use Rattle.std.proofs.lemmas.List.{take_at, drop_at, take-append-drop, length-append, length-take-le, append-nil, nil_from_length}
 use Rattle.oer_core.specs.declared.fault.OerFault.{OerFault}
@@ -8,7 +8,7 @@ use Rattle.oer_core.proofs.Results.{bind_ok, guard_ok, chosen}
 use Rattle.oer_core.proofs.Lengths.{length_takes, length_again}
 use Rattle.ilp_addr.specs.declared.fault.AddrFault.{AddrFault}
 use Rattle.ilp_addr.specs.Address.{IsAddress, address_at}
-use Rattle.ilp_addr.specs.Timestamp.{IsTimestamp, moment_of, timestamp_at}
+use Rattle.ilp_addr.specs.Timestamp.{IsTimestamp, timestamp_at}
 use Rattle.ilp_addr.proofs.Parts.{address_found, address_again}
 use Rattle.ilp_addr.proofs.Digits.{read_is_timestamp, timestamp_is_read}
 use Rattle.ilp_view.specs.declared.fault.ViewFault.{ViewFault}

@@ -1,5 +1,5 @@
 -- A moment that an expiry is read as is not past the last one.
-use Rattle.std.proofs.Common.{◌≤◌, List, ℕ, min, arith}
+use Rattle.std.proofs.Common.{◌≤◌, List, ℕ, arith}
 use Rattle.std.specs.Prelude.{ℤ, pos, negsuc}
 use Rattle.ilp_addr.specs.Timestamp.{latest, nearest_moment, instant_of, moment_of}
 

@@ -1,11 +1,11 @@
 -- How long written frames are, and that several writes one behind the other are one.
-use Rattle.std.proofs.Common.{◌≡◌, ◌≤◌, ◌<◌, ◌+◌, suc, ℕ, List, [], ◌∷◌, ◌++◌, length, refl, sym, ap, ◌∙◌, append_assoc, arith}
+use Rattle.std.proofs.Common.{◌≡◌, ◌≤◌, ◌<◌, ◌+◌, ℕ, List, [], ◌∷◌, ◌++◌, length, refl, ap, ◌∙◌, append_assoc, arith}
 use Rattle.std.proofs.lemmas.List.{length-append}
 use Rattle.oer_core.specs.Length.{shortest_length, octet_string}
 use Rattle.oer_core.specs.Writing.{overwritten}
 use Rattle.oer_core.proofs.Shortest.{short_length}
 use Rattle.oer_core.proofs.Overwriting.{overwritten_next}
-use Rattle.ilp_view.specs.Packet.{FitsReject, reject_frame}
+use Rattle.ilp_view.specs.Packet.{FitsReject, fulfill_frame, reject_frame}
 
 pub octets_short : (text : List ℕ) → length text < 65536 → length (octet_string text) ≤ length text + 3
 octets_short text small = omega (arith, short_length (length text) small, length-append (shortest_length (length text)) text)
@@ -23,6 +23,30 @@ reject_within code t m p len fits =
     let most : length contents ≤ 33996 = omega arith in
     let whole : length (octet_string contents) ≤ length contents + 3 = octets_short contents (omega arith) in
     omega arith
+
+pub fulfill_within : (fulfillment payload : List ℕ) → length fulfillment ≡ 32 → length payload ≤ 32768 → length (fulfill_frame fulfillment payload) ≤ 34000
+fulfill_within fulfillment payload len small =
+    let contents : List ℕ = fulfillment ++ octet_string payload in
+    let longest : length (octet_string payload) ≤ length payload + 3 = octets_short payload (omega arith) in
+    let n : length contents ≡ 32 + length (octet_string payload) = omega (arith, length-append fulfillment (octet_string payload)) in
+    let whole : length (octet_string contents) ≤ length contents + 3 = octets_short contents (omega arith) in
+    omega arith
+
+pub fulfill_written : (old x1 x2 x3 x4 spelling fulfillment p : List ℕ) (a kind : ℕ)
+    → x1 ≡ overwritten old 0 (kind ∷ [])
+    → a ≡ 1 + length spelling → x2 ≡ overwritten x1 1 spelling
+    → length fulfillment ≡ 32 → x3 ≡ overwritten x2 a fulfillment
+    → x4 ≡ overwritten x3 (a + 32) p
+    → 1 + length spelling + 32 + length p ≤ length old
+    → x4 ≡ overwritten old 0 (kind ∷ (spelling ++ (fulfillment ++ p)))
+fulfill_written old x1 x2 x3 x4 spelling fulfillment p a kind w1 e2 w2 len w3 w4 fits =
+    let front : List ℕ = kind ∷ [] in
+    let l2 : length (front ++ spelling) ≡ 1 + length spelling = omega (arith, length-append front spelling) in
+    let l3 : length (front ++ spelling ++ fulfillment) ≡ 33 + length spelling = omega (arith, length-append (front ++ spelling) fulfillment) in
+    let s2 = overwritten_next old front spelling x1 x2 1 w1 refl w2 (omega arith) in
+    let s3 = overwritten_next old (front ++ spelling) fulfillment x2 x3 a s2 (omega arith) w3 (omega arith) in
+    let s4 = overwritten_next old (front ++ spelling ++ fulfillment) p x3 x4 (a + 32) s3 (omega arith) w4 (omega arith) in
+    s4 ∙ ap (λ (x : List ℕ). overwritten old 0 (kind ∷ x)) (append_assoc spelling fulfillment p)
 
 pub reject_written : (old x1 x2 x3 x4 x5 x6 spelling code t m p : List ℕ) (a b d kind : ℕ)
     → x1 ≡ overwritten old 0 (kind ∷ [])

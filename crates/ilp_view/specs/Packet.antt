@@ -1,7 +1,7 @@
 -- What packets are: their frames and their parts (RFC 0027).
-use Rattle.std.specs.Prelude.{◌≡◌, ◌<◌, ◌≤◌, ◌+◌, ◌^◌, ℕ, List, ◌∷◌, ◌++◌, length}
+use Rattle.std.specs.Prelude.{◌≡◌, ◌<◌, ◌≤◌, ◌+◌, ◌^◌, ℕ, List, [], ◌∷◌, ◌++◌, length}
 use Rattle.std.specs.Int.{w64, to_be_bytes}
-use Rattle.oer_core.specs.Length.{IsLength, octet_string}
+use Rattle.oer_core.specs.Length.{IsLength, shortest_length, octet_string}
 use Rattle.ilp_addr.specs.Address.{IsAddress}
 use Rattle.ilp_addr.specs.Timestamp.{IsTimestamp}
 
@@ -27,7 +27,10 @@ pub record Prepare : Type 0 where
 
 -- The fields of a Prepare in their order (RFC 0027, "ILP Prepare").
 abbrev pub prepare_contents : Prepare → List ℕ
-prepare_contents p = to_be_bytes w64 p.amount ++ (p.expiry ++ (p.condition ++ (p.destination_length ++ (p.destination ++ (p.data_length ++ (p.payload ++ p.extra))))))
+prepare_contents p =
+    to_be_bytes w64 p.amount ++ (p.expiry ++ (p.condition
+    ++ (p.destination_length ++ (p.destination
+    ++ (p.data_length ++ (p.payload ++ p.extra))))))
 
 -- The frame of a Prepare, from its parts (RFC 0027, "ILP Prepare").
 abbrev pub prepare_frame : Prepare → List ℕ
@@ -49,14 +52,89 @@ pub record IsPrepare (frame : List ℕ) (p : Prepare) : Type 0 where
 abbrev pub with_amount_and_expiry : Prepare → ℕ → List ℕ → List ℕ
 with_amount_and_expiry p amount expiry = prepare_frame (record p { amount = amount; expiry = expiry })
 
+-- The parts of a Fulfill, each as it stands in the frame (RFC 0027, "ILP Fulfill").
+pub record Fulfill : Type 0 where
+  pub contents_length : List ℕ
+  pub fulfillment : List ℕ
+  pub data_length : List ℕ
+  pub payload : List ℕ
+  pub extra : List ℕ
+
+-- The fields of a Fulfill in their order (RFC 0027, "ILP Fulfill").
+abbrev pub fulfill_contents : Fulfill → List ℕ
+fulfill_contents p = p.fulfillment ++ (p.data_length ++ (p.payload ++ p.extra))
+
+-- The frame is a Fulfill with these parts, and each keeps its rule (RFC 0027, "ILP Fulfill").
+pub record IsFulfill (frame : List ℕ) (p : Fulfill) : Type 0 where
+  pub framed : IsFrame frame 13 p.contents_length (fulfill_contents p)
+  pub fulfillment : length p.fulfillment ≡ 32
+  pub data_length : IsLength p.data_length (length p.payload)
+  pub payload : length p.payload ≤ 32768
+
+-- The parts of a Reject, each as it stands in the frame (RFC 0027, "ILP Reject").
+pub record Reject : Type 0 where
+  pub contents_length : List ℕ
+  pub code : List ℕ
+  pub triggered_by_length : List ℕ
+  pub triggered_by : List ℕ
+  pub message_length : List ℕ
+  pub message : List ℕ
+  pub data_length : List ℕ
+  pub payload : List ℕ
+  pub extra : List ℕ
+
+-- The fields of a Reject in their order (RFC 0027, "ILP Reject").
+abbrev pub reject_contents : Reject → List ℕ
+reject_contents p =
+    p.code ++ (p.triggered_by_length ++ (p.triggered_by
+    ++ (p.message_length ++ (p.message
+    ++ (p.data_length ++ (p.payload ++ p.extra))))))
+
+-- The frame is a Reject with these parts, and each keeps its rule; code, sender and message are any
+-- bytes (RFC 0027, "ILP Reject").
+pub record IsReject (frame : List ℕ) (p : Reject) : Type 0 where
+  pub framed : IsFrame frame 14 p.contents_length (reject_contents p)
+  pub code : length p.code ≡ 3
+  pub triggered_by_length : IsLength p.triggered_by_length (length p.triggered_by)
+  pub message_length : IsLength p.message_length (length p.message)
+  pub data_length : IsLength p.data_length (length p.payload)
+  pub payload : length p.payload ≤ 32768
+
 -- The frame of a Fulfill, its lengths in the fewest bytes (RFC 0027, "ILP Fulfill").
 abbrev pub fulfill_frame : List ℕ → List ℕ → List ℕ
 fulfill_frame fulfillment payload = 13 ∷ octet_string (fulfillment ++ octet_string payload)
 
 -- The frame of a Reject, its lengths in the fewest bytes (RFC 0027, "ILP Reject").
 abbrev pub reject_frame : List ℕ → List ℕ → List ℕ → List ℕ → List ℕ
-reject_frame code triggered_by message payload = 14 ∷ octet_string (code ++ (octet_string triggered_by ++ (octet_string message ++ octet_string payload)))
+reject_frame code triggered_by message payload =
+    14 ∷ octet_string (code ++ (octet_string triggered_by ++ (octet_string message ++ octet_string payload)))
 
 -- Parts of a Reject that leave its frame within 34,000 bytes and its data within 32,768.
 abbrev pub FitsReject : List ℕ → List ℕ → List ℕ → Type 0
-FitsReject triggered_by message payload = (length payload ≤ 32768) × (length triggered_by + length message + length payload ≤ 33984)
+FitsReject triggered_by message payload =
+    (length payload ≤ 32768) × (length triggered_by + length message + length payload ≤ 33984)
+
+-- The parts of the Fulfill that is written so (RFC 0027, "ILP Fulfill").
+abbrev pub written_fulfill : List ℕ → List ℕ → Fulfill
+written_fulfill fulfillment payload = record {
+  contents_length = shortest_length (length (fulfillment ++ octet_string payload));
+  fulfillment = fulfillment;
+  data_length = shortest_length (length payload);
+  payload = payload;
+  extra = [];
+}
+
+-- The parts of the Reject that is written so (RFC 0027, "ILP Reject").
+abbrev pub written_reject : List ℕ → List ℕ → List ℕ → List ℕ → Reject
+written_reject code triggered_by message payload = record {
+  contents_length = shortest_length (length (code
+      ++ (octet_string triggered_by ++ (octet_string message ++ octet_string payload))));
+  code = code;
+  triggered_by_length = shortest_length (length triggered_by);
+  triggered_by = triggered_by;
+  message_length = shortest_length (length message);
+  message = message;
+  data_length = shortest_length (length payload);
+  payload = payload;
+  extra = [];
+}

@@ -1,5 +1,5 @@
 -- Reading a frame from the first byte on, with the first fault that is met.
-use Rattle.std.specs.Prelude.{◌≡◌, ℕ, List, [], ◌∷◌, length, take, drop, Result, Ok, Err, nat_lt, ◌==◌, if◌then◌else◌}
+use Rattle.std.specs.Prelude.{ℕ, List, [], ◌∷◌, length, take, drop, Result, Ok, Err, nat_lt, ◌==◌, if◌then◌else◌}
 use Rattle.oer_core.specs.declared.fault.OerFault.{OerFault}
 use Rattle.oer_core.specs.Length.{◌>>=◌, length_at, number_at}
 use Rattle.ilp_addr.specs.declared.fault.AddrFault.{AddrFault}
@@ -7,7 +7,7 @@ use Rattle.ilp_addr.specs.Address.{address_at}
 use Rattle.ilp_addr.specs.Timestamp.{timestamp_at}
 use Rattle.ilp_view.specs.declared.fault.ViewFault.{ViewFault}
 use Rattle.ilp_view.specs.declared.fault.ViewFault.TheVariants.{Kind, Oer, Field, AfterEnd, Size}
-use Rattle.ilp_view.specs.Packet.{Prepare}
+use Rattle.ilp_view.specs.Packet.{Prepare, Fulfill, Reject}
 
 -- What is wrong with a length or a number is one fault.
 abbrev pub as_oer : {A : Type 0} → Result A OerFault → Result A ViewFault
@@ -72,10 +72,64 @@ prepare_fields spelling contents = do
   condition ← fixed_at 32 expiry.1
   destination ← destination_at condition.1
   payload ← data_at destination.2
-  Ok (record { contents_length = spelling; amount = amount.0; expiry = expiry.0; condition = condition.0; destination_length = destination.0; destination = destination.1; data_length = payload.0; payload = payload.1; extra = payload.2 })
+  Ok (record {
+    contents_length = spelling;
+    amount = amount.0;
+    expiry = expiry.0;
+    condition = condition.0;
+    destination_length = destination.0;
+    destination = destination.1;
+    data_length = payload.0;
+    payload = payload.1;
+    extra = payload.2;
+  })
 
 -- The parts of the Prepare that the frame is, or the first fault.
 unfoldable pub prepare_at : List ℕ → Result Prepare ViewFault
 prepare_at frame = do
   e ← envelope_at 12 frame
   prepare_fields e.0 e.1
+
+-- The parts of a Fulfill, its contents read field by field.
+unfoldable pub fulfill_fields : List ℕ → List ℕ → Result Fulfill ViewFault
+fulfill_fields spelling contents = do
+  fulfillment ← fixed_at 32 contents
+  payload ← data_at fulfillment.1
+  Ok (record {
+    contents_length = spelling;
+    fulfillment = fulfillment.0;
+    data_length = payload.0;
+    payload = payload.1;
+    extra = payload.2;
+  })
+
+-- The parts of the Fulfill that the frame is, or the first fault.
+unfoldable pub fulfill_at : List ℕ → Result Fulfill ViewFault
+fulfill_at frame = do
+  e ← envelope_at 13 frame
+  fulfill_fields e.0 e.1
+
+-- The parts of a Reject, its contents read field by field.
+unfoldable pub reject_fields : List ℕ → List ℕ → Result Reject ViewFault
+reject_fields spelling contents = do
+  code ← fixed_at 3 contents
+  triggered_by ← string_at code.1
+  message ← string_at triggered_by.2
+  payload ← data_at message.2
+  Ok (record {
+    contents_length = spelling;
+    code = code.0;
+    triggered_by_length = triggered_by.0;
+    triggered_by = triggered_by.1;
+    message_length = message.0;
+    message = message.1;
+    data_length = payload.0;
+    payload = payload.1;
+    extra = payload.2;
+  })
+
+-- The parts of the Reject that the frame is, or the first fault.
+unfoldable pub reject_at : List ℕ → Result Reject ViewFault
+reject_at frame = do
+  e ← envelope_at 14 frame
+  reject_fields e.0 e.1

@@ -2,14 +2,13 @@
 
 ghost use Rattle.std.specs.Prelude.{◌≡◌, ◌≤◌, ◌+◌, ◌↔◌, length, IfOk, IfErr, IsOk};
 ghost use Rattle.oer_core.specs.Length.{octet_string};
-ghost use Rattle.oer_core.specs.Writing.{overwritten};
-ghost use Rattle.ilp_view.specs.Packet.{reject_frame, FitsReject};
+ghost use Rattle.oer_core.specs.Writing.{Writes};
+ghost use Rattle.ilp_view.specs.Packet.{fulfill_frame, reject_frame, FitsReject};
 
 use crate::fault::ViewFault;
+use crate::fulfill::FULFILL;
+use crate::reject::REJECT;
 use oer_core::{length_size, put_bytes, put_length, put_octets};
-
-/// The type byte of a Reject (RFC 0027).
-pub(crate) const REJECT: u8 = 14;
 
 fn octets_size(text: &[u8]) -> usize
     requires { length text.now ≤ 34000 }
@@ -17,6 +16,32 @@ fn octets_size(text: &[u8]) -> usize
     ensures within { result ≤ length text.now + 3 }
 {
     length_size(text.len()) + text.len()
+}
+
+/// Writes the Fulfill of these parts at the front of `out`, each length in the fewest bytes, and gives
+/// the length of its frame, at most 34,000 bytes. Every other byte of `out` stays.
+///
+/// `payload` has at most 32,768 bytes. The error is `Short` where the frame does not fit; nothing is
+/// written then. (RFC 0027, "ILP Fulfill")
+pub fn write_fulfill(
+    out: &mut [u8],
+    fulfillment: &[u8; 32],
+    payload: &[u8],
+) -> Result<usize, ViewFault>
+    requires { length payload.now ≤ 32768 }
+    ensures fits { IsOk result ↔ (length (fulfill_frame fulfillment.now payload.now) ≤ length out.old) }
+    ensures within { length (fulfill_frame fulfillment.now payload.now) ≤ 34000 }
+    ensures ok { IfOk result (λ end. Writes out.old 0 (fulfill_frame fulfillment.now payload.now) out.new end) }
+    ensures err { IfErr result (λ e. (e ≡ ViewFault.Short) × (out.new ≡ out.old)) }
+{
+    let size = 32 + octets_size(payload);
+    if out.len() < 1 + length_size(size) + size {
+        return Err(ViewFault::Short);
+    }
+    put_bytes(out, 0, &[FULFILL]);
+    let at = put_length(out, 1, size);
+    put_bytes(out, at, fulfillment);
+    Ok(put_octets(out, at + 32, payload))
 }
 
 /// Writes the Reject of these parts at the front of `out`, each length in the fewest bytes, and gives
@@ -31,10 +56,12 @@ pub fn write_reject(
     payload: &[u8],
 ) -> Result<usize, ViewFault>
     requires { FitsReject triggered_by.now message.now payload.now }
-    ensures fits { IsOk result ↔ (length (reject_frame code.now triggered_by.now message.now payload.now) ≤ length out.old) }
-    ensures within { length (reject_frame code.now triggered_by.now message.now payload.now) ≤ 16 + length triggered_by.now + length message.now + length payload.now }
-    ensures ok { IfOk result (λ end. (end ≡ length (reject_frame code.now triggered_by.now message.now payload.now))
-        × (out.new ≡ overwritten out.old 0 (reject_frame code.now triggered_by.now message.now payload.now))) }
+    ensures fits { IsOk result
+        ↔ (length (reject_frame code.now triggered_by.now message.now payload.now) ≤ length out.old) }
+    ensures within { length (reject_frame code.now triggered_by.now message.now payload.now)
+        ≤ 16 + length triggered_by.now + length message.now + length payload.now }
+    ensures ok { IfOk result (λ end.
+        Writes out.old 0 (reject_frame code.now triggered_by.now message.now payload.now) out.new end) }
     ensures err { IfErr result (λ e. (e ≡ ViewFault.Short) × (out.new ≡ out.old)) }
 {
     let size = 3 + octets_size(triggered_by) + octets_size(message) + octets_size(payload);

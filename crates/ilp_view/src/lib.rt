@@ -5,11 +5,16 @@
 mod answers;
 mod fault;
 mod fields;
+mod fulfill;
+pub mod laws;
 mod prepare;
+mod reject;
 
-pub use answers::write_reject;
+pub use answers::{write_fulfill, write_reject};
 pub use fault::ViewFault;
+pub use fulfill::FulfillView;
 pub use prepare::PrepareView;
+pub use reject::RejectView;
 
 #[cfg(test)]
 mod tests;

@@ -98,3 +98,43 @@ fn rejects(rt: HostRuntime) {
     assert_eq!(rt; written, Err(ViewFault::Short));
     assert_eq!(rt; little, [9; 45]);
 }
+
+#[test]
+fn fulfills(rt: HostRuntime) {
+    let mut extended = [0; 36];
+    extended[..2].copy_from_slice(b"\x0d\x22");
+    extended[35] = 0x55;
+    let read = FulfillView::read(&extended);
+    assert!(rt; read.is_ok());
+    if let Ok(view) = read {
+        assert!(rt; view.fulfillment() == [0; 32].as_slice());
+        assert!(rt; view.payload().is_empty());
+    }
+    let mut out = [9; 36];
+    assert_eq!(rt; write_fulfill(&mut out, &[0; 32], b""), Ok(35));
+    extended[1] = 0x21;
+    extended[35] = 9;
+    assert_eq!(rt; out, extended);
+    assert!(rt; matches!(FulfillView::read(&out), Err(ViewFault::AfterEnd)));
+    assert!(rt; matches!(FulfillView::read(BASE), Err(ViewFault::Kind)));
+}
+
+fn expect_reject(rt: &impl Abort, frame: &[u8], triggered_by: &[u8], message: &[u8]) {
+    let read = RejectView::read(frame);
+    assert!(rt; read.is_ok());
+    if let Ok(view) = read {
+        assert!(rt; view.code() == b"F00".as_slice());
+        assert!(rt; view.triggered_by() == triggered_by);
+        assert!(rt; view.message() == message);
+        assert!(rt; view.payload().is_empty());
+    }
+}
+
+#[test]
+fn rejects_are_read(rt: HostRuntime) {
+    expect_reject(&rt, b"\x0e\x07F00\0\x01\xff\0", b"", b"\xff");
+    expect_reject(&rt, b"\x0e\x07F00\x01A\0\0", b"A", b"");
+    laws::no_frame_begins_another();
+    laws::parts_are_the_only_ones();
+    laws::written_is_read_back();
+}

@@ -34,6 +34,13 @@ pub record IsReplayed (setup_text script written : List ℕ) : Type 0 where
   pub outputs_are : AreOutputs (tenant_at_start setup) all_free steps outputs
   pub written_is : written ≡ printed_lines (names_in setup) outputs
 
+-- the exit status of a program that a replay with this fault ends
+abbrev pub status_of : ReplayFault → ℕ
+status_of fault.Memory = 1
+status_of (fault.Setup f) = 3
+status_of (fault.Script f) = 4
+status_of fault.Device = 5
+
 -- the first fault of a script, and of a setup and then the script
 abbrev pub script_refusal : Result (List Step) ScriptFault → Option ReplayFault
 script_refusal (Ok steps) = None

@@ -2,8 +2,12 @@
 #![tactic(auto)]
 
 mod carried;
+mod command_line;
+mod device;
 mod printed;
 mod replay;
+#[cfg(test)]
+mod replay_tests;
 mod replies;
 mod runner;
 mod script;
@@ -13,4 +17,53 @@ mod streams;
 #[cfg(test)]
 mod tests;
 
-fn main() {}
+use command_line::arguments;
+use device::Counted;
+use replay::{ReplayFault, replay};
+use std::io::ErrorKind;
+use std::process::ExitCode;
+use std::rt::{Env, Files};
+use std::{env, fs, io};
+
+/// Why the program ended early.
+#[derive(Drop)]
+enum Ending {
+    /// The command line asks for nothing that is there, or for help.
+    Usage(clap::Error),
+    Fault(ReplayFault),
+}
+
+fn fault_of(error: io::Error) -> Ending {
+    Ending::Fault(if error.kind() == ErrorKind::OutOfMemory {
+        ReplayFault::Memory
+    } else {
+        ReplayFault::Device
+    })
+}
+
+fn run(rt: &(impl Env + Files + Input + Print + AllocGlobal)) -> Result<(), Ending> {
+    let alloc = rt.alloc();
+    let words: Vec<String> = env::args(rt)
+        .map_err(fault_of)?
+        .collect(alloc)
+        .map_err(|_| Ending::Fault(ReplayFault::Memory))?;
+    let line = arguments(alloc, words.as_slice()).map_err(Ending::Usage)?;
+    let setup = fs::read(rt, line.setup).map_err(fault_of)?;
+    let mut reader = Counted::new(rt.reader());
+    let mut writer = Counted::new(io::writer(rt));
+    replay(alloc, setup.as_slice(), 1, &mut reader, &mut writer).map_err(Ending::Fault)
+}
+
+fn main(rt: HostRuntime) -> ExitCode {
+    match run(&rt) {
+        Ok(()) => ExitCode::SUCCESS,
+        Err(Ending::Usage(error)) => {
+            let _ = rt.eprint(&error);
+            ExitCode::from(2)
+        }
+        Err(Ending::Fault(fault)) => {
+            let _ = rt.eprintln(fault);
+            ExitCode::from(fault.status())
+        }
+    }
+}

@@ -35,8 +35,13 @@ pub enum ReplayFault {
 }
 
 impl ReplayFault {
+    ghost use Rattle.std.specs.Prelude.{◌≡◌};
+    ghost use Rattle.ilpd.specs.Replay.{status_of};
+
     /// The exit status of a program that a replay with this fault ends.
-    pub fn status(self) -> u8 {
+    pub fn status(self) -> u8
+        ensures { result ≡ status_of self }
+    {
         match self {
             ReplayFault::Memory => 1,
             ReplayFault::Setup(_) => 3,

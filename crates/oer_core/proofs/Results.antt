@@ -1,5 +1,5 @@
 -- Facts of results and tests, by cases.
-use Rattle.std.proofs.Common.{◌≡◌, ◌⊎◌, ℕ, Bool, true, false, cond, ◌||◌, Result, Ok, Err, IfOk, IsOkAnd, refl, inl, inr}
+use Rattle.std.proofs.Common.{◌≡◌, ◌⊎◌, Bool, true, false, cond, ◌||◌, Result, Ok, Err, IfOk, IsOkAnd, refl, inl, inr}
 use Rattle.oer_core.specs.Length.{◌>>=◌, Gives}
 
 -- which way a test went

@@ -52,9 +52,11 @@ fn length_of(bytes: &[u8], limit: usize) -> Result<(usize, usize), OerFault>
 /// it is over `limit`. (RFC 0030)
 pub fn read_length(bytes: &[u8], limit: usize) -> Result<(usize, usize), OerFault>
     // What is read is spelled so, by that many bytes, and within the limit.
-    ensures found { IfOk result (λ r. (r.1 ≤ length bytes.now) × IsLength (take r.1 bytes.now) r.0 × (r.0 ≤ limit)) }
+    ensures found { IfOk result (λ r.
+        (r.1 ≤ length bytes.now) × IsLength (take r.1 bytes.now) r.0 × (r.0 ≤ limit)) }
     // What is spelled so is read, whatever follows.
-    ensures only { (s rest : List ℕ) (n : ℕ) → IsLength s n → n ≤ limit → bytes.now ≡ s ++ rest → result ≡ Ok (n, length s) }
+    ensures only { (s rest : List ℕ) (n : ℕ) → IsLength s n → n ≤ limit
+        → bytes.now ≡ s ++ rest → result ≡ Ok (n, length s) }
     // Which fault it is.
     ensures exact { result ≡ length_at limit bytes.now }
 {
@@ -80,9 +82,11 @@ fn octets_of(bytes: &[u8], limit: usize) -> Result<(&[u8], &[u8]), OerFault>
 /// [`read_length`], and `Short` where the text passes the end. (RFC 0030)
 pub fn read_octets(bytes: &[u8], limit: usize) -> Result<(&[u8], &[u8]), OerFault>
     // What is read stands at the front, within the limit, and the rest after it.
-    ensures found { IfOk result (λ r. BeginsWithString bytes.now r.0.now r.1.now × (length r.0.now ≤ limit)) }
+    ensures found { IfOk result (λ r.
+        BeginsWithString bytes.now r.0.now r.1.now × (length r.0.now ≤ limit)) }
     // What stands at the front is read, whatever follows.
-    ensures only { (front text rest : List ℕ) → IsOctetString front text → length text ≤ limit → bytes.now ≡ front ++ rest
+    ensures only { (front text rest : List ℕ) → IsOctetString front text → length text ≤ limit
+        → bytes.now ≡ front ++ rest
         → IsOkAnd result (λ r. (r.0.now ≡ text) × (r.1.now ≡ rest)) }
     // Which fault it is.
     ensures exact { Gives (λ r. (r.0.now, r.1.now)) result (octets_at limit bytes.now) }

@@ -1,7 +1,7 @@
 ghost use Rattle.std.specs.Prelude.{◌≡◌, ◌+◌, ◌≤◌, ◌↔◌, ◌++◌, length, take, drop, IfOk, IfErr, IsOk, IsTrue};
 ghost use Rattle.std.specs.Int.{w64, to_be_bytes};
 ghost use Rattle.oer_core.specs.Length.{shortest_length, without_leading_zeros, octet_string};
-ghost use Rattle.oer_core.specs.Writing.{overwritten};
+ghost use Rattle.oer_core.specs.Writing.{overwritten, Writes};
 
 use crate::fault::OerFault;
 
@@ -84,7 +84,7 @@ pub fn put_octets(out: &mut [u8], at: usize, bytes: &[u8]) -> usize
 /// (RFC 0030)
 pub fn write_length(out: &mut [u8], at: usize, count: usize) -> Result<usize, OerFault>
     ensures fits { IsOk result ↔ (at + length (shortest_length count) ≤ length out.old) }
-    ensures ok { IfOk result (λ end. (end ≡ at + length (shortest_length count)) × (out.new ≡ overwritten out.old at (shortest_length count))) }
+    ensures ok { IfOk result (λ end. Writes out.old at (shortest_length count) out.new end) }
     ensures err { IfErr result (λ e. (e ≡ OerFault.Short) × (out.new ≡ out.old)) }
 {
     if !has_room(out, at, length_size(count)) {
@@ -100,7 +100,7 @@ pub fn write_length(out: &mut [u8], at: usize, count: usize) -> Result<usize, Oe
 /// (RFC 0030)
 pub fn write_octets(out: &mut [u8], at: usize, bytes: &[u8]) -> Result<usize, OerFault>
     ensures fits { IsOk result ↔ (at + length (octet_string bytes.now) ≤ length out.old) }
-    ensures ok { IfOk result (λ end. (end ≡ at + length (octet_string bytes.now)) × (out.new ≡ overwritten out.old at (octet_string bytes.now))) }
+    ensures ok { IfOk result (λ end. Writes out.old at (octet_string bytes.now) out.new end) }
     ensures err { IfErr result (λ e. (e ≡ OerFault.Short) × (out.new ≡ out.old)) }
 {
     if !has_room(out, at, length_size(bytes.len()) + bytes.len()) {
@@ -116,7 +116,7 @@ pub fn write_octets(out: &mut [u8], at: usize, bytes: &[u8]) -> Result<usize, Oe
 /// (RFC 0030, UInt64)
 pub fn write_u64(out: &mut [u8], at: usize, value: u64) -> Result<usize, OerFault>
     ensures fits { IsOk result ↔ (at + 8 ≤ length out.old) }
-    ensures ok { IfOk result (λ end. (end ≡ at + 8) × (out.new ≡ overwritten out.old at (to_be_bytes w64 value))) }
+    ensures ok { IfOk result (λ end. Writes out.old at (to_be_bytes w64 value) out.new end) }
     ensures err { IfErr result (λ e. (e ≡ OerFault.Short) × (out.new ≡ out.old)) }
 {
     if !has_room(out, at, 8) {

@@ -45,7 +45,7 @@ impl<const N: usize> Text<N> {
         ensures { result ≡ self.now }
     {
         let mut bytes = ArrayVec::new();
-        let _ = bytes.try_extend_from_slice(self.bytes.as_slice());
+        let _ = bytes.try_extend_from_slice(self.as_bytes());
         Text { bytes }
     }
 }

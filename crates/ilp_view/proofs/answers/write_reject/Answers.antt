@@ -1,8 +1,7 @@
-use Rattle.std.proofs.Common.{◌≡◌, ◌≤◌, ◌+◌, suc, ℕ, List, ◌∷◌, ◌++◌, length, refl, sym, ap, ◌∙◌, arith}
+use Rattle.std.proofs.Common.{◌≡◌, ◌+◌, ℕ, ◌∷◌, ◌++◌, length, refl, ap, ◌∙◌, arith}
 use Rattle.std.proofs.lemmas.List.{length-append}
 use Rattle.oer_core.specs.Length.{shortest_length, octet_string}
 use Rattle.oer_core.specs.Writing.{overwritten}
-use Rattle.ilp_view.specs.Packet.{reject_frame}
 use Rattle.ilp_view.proofs.Writes.{length-contents, reject_within, reject_written}
 use Rattle.ilp_view.proofs.answers.write_reject.Goals as goal
 

@@ -1,4 +1,4 @@
-use Rattle.std.proofs.Common.{◌≡◌, ◌+◌, length, drop, List, ℕ, ◌++◌, ap, ◌∙◌, refl}
+use Rattle.std.proofs.Common.{◌+◌, length, drop, ap, ◌∙◌, refl}
 use Rattle.std.specs.Int.{w64, to_be_bytes}
 use Rattle.oer_core.specs.Length.{shortest_length, octet_string, length_at, octets_at, number_at}
 use Rattle.oer_core.proofs.Lengths.{length_again}

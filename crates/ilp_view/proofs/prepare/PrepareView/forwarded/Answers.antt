@@ -1,4 +1,4 @@
-use Rattle.std.proofs.Common.{◌≡◌, ◌<◌, ◌≤◌, ◌^◌, List, ℕ, sym, ap, ◌∙◌, subst, arith}
+use Rattle.std.proofs.Common.{List, ℕ, sym, ap, ◌∙◌, subst, arith}
 use Rattle.ilp_addr.specs.Timestamp.{timestamp_of}
 use Rattle.ilp_addr.proofs.OneText.{text_has_moment}
 use Rattle.ilp_view.specs.Packet.{Prepare, IsPrepare, prepare_frame, with_amount_and_expiry}

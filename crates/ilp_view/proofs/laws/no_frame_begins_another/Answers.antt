@@ -1,0 +1,5 @@
+use Rattle.ilp_view.proofs.AnswerLaws.{no_frame_begins}
+use Rattle.ilp_view.proofs.laws.no_frame_begins_another.Goals as goal
+
+pub returns : goal.returns
+returns c = no_frame_begins

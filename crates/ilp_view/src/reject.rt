@@ -1,0 +1,125 @@
+//! A Reject: the answer that says why a Prepare was not fulfilled.
+
+ghost use Rattle.std.specs.Prelude.{◌≡◌, ◌≤◌, List, ℕ, length, IfOk, Ok};
+ghost use Rattle.oer_core.specs.Length.{Gives};
+ghost use Rattle.ilp_view.specs.Packet.{Reject, IsReject};
+ghost use Rattle.ilp_view.specs.Reading.{reject_at, reject_fields};
+ghost use Rattle.ilp_view.specs.Seen.{reject_of};
+
+use crate::fault::ViewFault;
+use crate::fields;
+use std::marker::Model;
+
+/// The type byte of a Reject (RFC 0027).
+pub(crate) const REJECT: u8 = 14;
+
+#[derive(Debug, Drop)]
+struct RejectParts<'a> {
+    contents_length: &'a [u8],
+    code: &'a [u8],
+    triggered_by_length: &'a [u8],
+    triggered_by: &'a [u8],
+    message_length: &'a [u8],
+    message: &'a [u8],
+    data_length: &'a [u8],
+    payload: &'a [u8],
+    extra: &'a [u8],
+}
+
+/// A Reject that was read, its parts lent from the frame (RFC 0027, "ILP Reject").
+#[derive(Debug, Drop)]
+pub struct RejectView<'a> {
+    parts: RejectParts<'a>,
+}
+
+impl<'a> Model for RejectView<'a> {
+    ghost use Rattle.ilp_view.specs.Packet.{Reject};
+
+    ghost Value = { Reject };
+
+    ghost use Rattle.ilp_view.specs.Seen.{reject_of, AreRejectParts};
+
+    ghost view = { λ v. reject_of v.parts };
+
+    ghost invariant = { λ v. AreRejectParts v.parts };
+}
+
+#[tactic(auto, unfolding(crate::specs::Reading::reject_fields))]
+fn fields_of<'a>(spelling: &'a [u8], contents: &'a [u8]) -> Result<RejectParts<'a>, ViewFault>
+    ensures { Gives reject_of result (reject_fields spelling.now contents.now) }
+{
+    let (code, rest) = fields::fixed(contents, 3)?;
+    let (triggered_by_length, triggered_by, rest) = fields::string(rest)?;
+    let (message_length, message, rest) = fields::string(rest)?;
+    let (data_length, payload, extra) = fields::payload(rest)?;
+    Ok(RejectParts {
+        contents_length: spelling,
+        code,
+        triggered_by_length,
+        triggered_by,
+        message_length,
+        message,
+        data_length,
+        payload,
+        extra,
+    })
+}
+
+#[tactic(auto, unfolding(crate::specs::Reading::reject_at))]
+fn parts_of(frame: &[u8]) -> Result<RejectParts<'_>, ViewFault>
+    ensures { Gives reject_of result (reject_at frame.now) }
+{
+    let (spelling, contents) = fields::envelope(REJECT, frame)?;
+    fields_of(spelling, contents)
+}
+
+impl<'a> RejectView<'a> {
+    /// The Reject that `frame` is, all of its bytes.
+    ///
+    /// The errors are, in the order in which they are looked for: `Size` where the frame is over
+    /// 34,000 bytes; `Kind` where it is empty or of another type; `Oer` where the length of the
+    /// contents cannot be read or passes the end; `AfterEnd` where bytes stand after the contents;
+    /// then, field by field, `Oer` where a field passes the end of the contents, and `Size` where the
+    /// data is over 32,768 bytes. (RFC 0027, "ILP Reject")
+    pub fn read(frame: &'a [u8]) -> Result<RejectView<'a>, ViewFault>
+        // What is read is the frame's parts.
+        ensures found { IfOk result (λ p. IsReject frame.now p) }
+        // Each Reject is read.
+        ensures only { (p : Reject) → IsReject frame.now p → result ≡ Ok p }
+        // Which fault it is.
+        ensures exact { result ≡ reject_at frame.now }
+    {
+        let parts = parts_of(frame)?;
+        Ok(RejectView { parts })
+    }
+
+    /// The code, as `F02`: three bytes of the frame, which may be any.
+    pub fn code(&self) -> &'a [u8]
+        ensures value { result.now ≡ self.now.code }
+        ensures size { length result.now ≡ 3 }
+    {
+        self.parts.code
+    }
+
+    /// The address of the node that rejected, or any other bytes that stand in its place.
+    pub fn triggered_by(&self) -> &'a [u8]
+        ensures { result.now ≡ self.now.triggered_by }
+    {
+        self.parts.triggered_by
+    }
+
+    /// The message for people, any bytes.
+    pub fn message(&self) -> &'a [u8]
+        ensures { result.now ≡ self.now.message }
+    {
+        self.parts.message
+    }
+
+    /// The data for the sender, at most 32,768 bytes of the frame.
+    pub fn payload(&self) -> &'a [u8]
+        ensures value { result.now ≡ self.now.payload }
+        ensures size { length result.now ≤ 32768 }
+    {
+        self.parts.payload
+    }
+}
