@@ -396,10 +396,19 @@ fn document_of(alloc: Global, text: &str) -> Result<Table, SetupError>
     }
 }
 
-/// Reads a setup, a TOML 1.0 document in UTF-8.
+/// Reads a setup, a TOML document in UTF-8. Keys that are not named here are ignored.
 ///
-/// Its keys are `version`, which is 1, `start`, and `tenant`, an array of one table for now.
-/// Unknown keys are ignored. The faults are looked for in the order of [`SetupFault`].
+/// - At the top: `version`, which is 1; `start`, in milliseconds since 1970-01-01; and `tenant`, an
+///   array of one table for now.
+/// - A tenant: `name`, `address` and `admin`; `journal` (1024 where it is left out), `margin` (1000)
+///   and `hold` (30000); tables `peer`, one table `route` and one table `rate`.
+/// - A peer: `name`, `role` (`child` or `peer`), `token`, `url`, `out_token`, `asset`, `scale`, `cap`,
+///   `ceiling`, `credit`, `burst`, `per_second`, and `balance` (0 where it is left out).
+/// - A route: `prefix`, whose dot at the end is dropped, and `peer`, a peer's name. A rate: `from` and
+///   `to`, peers' names, `num` and `den`.
+///
+/// The faults are looked for in the order of [`SetupFault`]; a key that lacks or is of another kind
+/// than wanted, and a limit of [`TenantSetup::new`] that is broken, is a fault of its tenant.
 #[tactic(auto, unfolding(crate::specs::Setup::setup_of))]
 pub fn read_setup(alloc: Global, text: &[u8]) -> Result<Setup, SetupError>
     ensures exact { Gives (λ s. s) result (setup_of text.now) }
