@@ -17,4 +17,6 @@ pub use prepare::PrepareView;
 pub use reject::RejectView;
 
 #[cfg(test)]
+mod table_tests;
+#[cfg(test)]
 mod tests;

@@ -280,6 +280,19 @@ fn bad_scripts(rt: HostRuntime) -> Result<(), Fail> {
     Ok(())
 }
 
+#[test]
+fn large_frames(rt: HostRuntime) -> Result<(), Fail> {
+    let alloc = rt.alloc();
+    for (bytes, word) in [(34_001, "size"), (34_000, "after")] {
+        let frame = "0c".repeat(alloc, bytes)?;
+        let script = format!(in alloc; "load 0 acme tok-alice {frame}\n")?;
+        let text = written(alloc, SETUP, script.as_str())?;
+        let line = format!(in alloc; "acme bad {word}\n")?;
+        assert!(rt; text.as_slice() == line.as_bytes(), "{bytes}");
+    }
+    Ok(())
+}
+
 /// Gives one byte at a time, and fails once that many were given.
 #[derive(Drop)]
 struct Dripping<'a> {
