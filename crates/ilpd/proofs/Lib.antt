@@ -7,3 +7,4 @@ pub mod Texts
 pub mod Known
 pub mod Fits
 pub mod Replays
+pub mod OneText

@@ -67,7 +67,7 @@ no_choice c d = λ i n. by (eqb n c) i
     by true = refl
     by false = refl
 
-kept_tenant : (s : State) (token : List ℕ) (k : Rattle.tenant_core.specs.Key.Key) (now : ℕ) → (decided s token k now).opening ≡ s.opening
+pub kept_tenant : (s : State) (token : List ℕ) (k : Rattle.tenant_core.specs.Key.Key) (now : ℕ) → (decided s token k now).opening ≡ s.opening
 kept_tenant s token k now = by (recording_peer s (peer_with_token token s.opening.peers))
   where
     by : (o : Option ℕ) → (Rattle.tenant_core.specs.Judge.kept s o k now (judge s token k now)).opening ≡ s.opening

@@ -4,6 +4,7 @@
 mod carried;
 mod command_line;
 mod device;
+mod laws;
 mod printed;
 mod replay;
 #[cfg(test)]
