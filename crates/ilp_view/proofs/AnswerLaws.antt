@@ -110,7 +110,7 @@ reject_fields_take spelling contents p read =
     let tf = data_takes m.0.2 f.0 f.1 in
     let whole = four_joined contents a.0.0 a.0.1 t.0.0 t.0.1 t.0.2 m.0.0 m.0.1 m.0.2 (f.0.0 ++ (f.0.1 ++ f.0.2)) ta.0 tt'.0 tm.0 tf.0 in
     let same : reject_parts spelling a.0 t.0 m.0 f.0 ≡ p = same_ok (reject_parts spelling a.0 t.0 m.0 f.0) p f.2 in
-    subst (λ (q : Reject). TakesReject spelling contents q) same (record { same_spelling = refl {a = spelling}; same_contents = whole; code = ta.1; triggered_by_length = tt'.1; message_length = tm.1; data_length = tf.1; payload = tf.2 })
+    subst (λ (q : Reject). TakesReject spelling contents q) {x = reject_parts spelling a.0 t.0 m.0 f.0} same (record { same_spelling = refl {a = spelling}; same_contents = whole; code = ta.1; triggered_by_length = tt'.1; message_length = tm.1; data_length = tf.1; payload = tf.2 })
 
 pub reject_takes : (frame : List ℕ) (p : Reject) → reject_at frame ≡ Ok p → IsReject frame p
 unfolding reject_at

@@ -67,7 +67,7 @@ fields_take spelling contents p fits read =
     let tf = data_takes d.0.2 f.0 f.1 in
     let whole = joined contents (to_be_bytes w64 a.0.0) a.0.1 e.0.0 e.0.1 c.0.0 c.0.1 d.0.0 d.0.1 d.0.2 (f.0.0 ++ (f.0.1 ++ f.0.2)) ta.1 te.0 tc.0 td.0 tf.0 in
     let same : parts spelling a.0 e.0 c.0 d.0 f.0 ≡ p = same_ok (parts spelling a.0 e.0 c.0 d.0 f.0) p f.2 in
-    subst (λ (q : Prepare). Takes spelling contents q) same (record { same_spelling = refl {a = spelling}; same_contents = whole; amount = ta.0; expiry = te.1; condition = tc.1; destination_length = td.1; destination = td.2; data_length = tf.1; payload = tf.2 })
+    subst (λ (q : Prepare). Takes spelling contents q) {x = parts spelling a.0 e.0 c.0 d.0 f.0} same (record { same_spelling = refl {a = spelling}; same_contents = whole; amount = ta.0; expiry = te.1; condition = tc.1; destination_length = td.1; destination = td.2; data_length = tf.1; payload = tf.2 })
 
 AreBytes-contents : (frame front contents : List ℕ) → frame ≡ front ++ contents → AreBytes frame → AreBytes contents
 AreBytes-contents frame front contents e fits = λ i. subst (λ (b : ℕ). b < 256) (ap (λ (x : List ℕ). get_or x (length front + i) 0) e ∙ get_or-append-add front contents i 0) (fits (length front + i))

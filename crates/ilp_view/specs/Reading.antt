@@ -23,27 +23,28 @@ as_field (Err e) = Err Field
 unfoldable pub fixed_at : ℕ → List ℕ → Result (List ℕ × List ℕ) ViewFault
 fixed_at count bytes = if nat_lt (length bytes) count then Err Oer else Ok (take count bytes, drop count bytes)
 
--- An octet string: how its length is spelled, its text, and the bytes after it.
+-- An octet string: how its length is spelled, its text, and the bytes after it (RFC 0030,
+-- "Variable-Length Octet Strings").
 unfoldable pub string_at : List ℕ → Result (List ℕ × List ℕ × List ℕ) ViewFault
 string_at bytes = do
   r ← as_oer (length_at 34000 bytes)
   if nat_lt (length (drop r.1 bytes)) r.0 then Err Oer else Ok (take r.1 bytes, take r.0 (drop r.1 bytes), drop r.0 (drop r.1 bytes))
 
--- A date and time in 17 digits, and the bytes after it.
+-- A date and time in 17 digits, and the bytes after it (RFC 0027, "ILP Prepare").
 unfoldable pub expiry_at : List ℕ → Result (List ℕ × List ℕ) ViewFault
 expiry_at bytes = do
   text ← fixed_at 17 bytes
   moment ← as_field (timestamp_at text.0)
   Ok text
 
--- An octet string that holds an address.
+-- An octet string that holds an address (RFC 0027, "ILP Prepare").
 unfoldable pub destination_at : List ℕ → Result (List ℕ × List ℕ × List ℕ) ViewFault
 destination_at bytes = do
   s ← string_at bytes
   address ← as_field (address_at s.1)
   Ok s
 
--- An octet string of at most 32,768 bytes.
+-- An octet string of at most 32,768 bytes (RFC 0027, "ILP Prepare").
 unfoldable pub data_at : List ℕ → Result (List ℕ × List ℕ × List ℕ) ViewFault
 data_at bytes = do
   s ← string_at bytes
@@ -60,7 +61,7 @@ unfoldable pub behind_type : ℕ → List ℕ → Result (List ℕ × List ℕ) 
 behind_type kind [] = Err Kind
 behind_type kind (b ∷ rest) = if b == kind then whole_string rest else Err Kind
 
--- The spelling of the length and the contents of a frame of that kind.
+-- The spelling of the length and the contents of a frame of that kind (RFC 0027, "Packet Format").
 unfoldable pub envelope_at : ℕ → List ℕ → Result (List ℕ × List ℕ) ViewFault
 envelope_at kind frame = if nat_lt 34000 (length frame) then Err Size else behind_type kind frame
 
@@ -84,7 +85,7 @@ prepare_fields spelling contents = do
     extra = payload.2;
   })
 
--- The parts of the Prepare that the frame is, or the first fault.
+-- The parts of the Prepare that the frame is, or the first fault (RFC 0027, "ILP Prepare").
 unfoldable pub prepare_at : List ℕ → Result Prepare ViewFault
 prepare_at frame = do
   e ← envelope_at 12 frame
@@ -103,7 +104,7 @@ fulfill_fields spelling contents = do
     extra = payload.2;
   })
 
--- The parts of the Fulfill that the frame is, or the first fault.
+-- The parts of the Fulfill that the frame is, or the first fault (RFC 0027, "ILP Fulfill").
 unfoldable pub fulfill_at : List ℕ → Result Fulfill ViewFault
 fulfill_at frame = do
   e ← envelope_at 13 frame
@@ -128,7 +129,7 @@ reject_fields spelling contents = do
     extra = payload.2;
   })
 
--- The parts of the Reject that the frame is, or the first fault.
+-- The parts of the Reject that the frame is, or the first fault (RFC 0027, "ILP Reject").
 unfoldable pub reject_at : List ℕ → Result Reject ViewFault
 reject_at frame = do
   e ← envelope_at 14 frame
