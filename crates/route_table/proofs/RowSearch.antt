@@ -1,5 +1,5 @@
 -- What a search through the rows says of the map of them.
-use Rattle.std.proofs.Common.{◌≡◌, ◌≤◌, ℕ, Bool, true, false, cond, leb, ◌||◌, List, [], ◌∷◌, arith, refl, sym, ap, subst, ◌∙◌, inl, inr, ◌⊎◌}
+use Rattle.std.proofs.Common.{◌≡◌, ◌≤◌, ℕ, Bool, true, false, cond, leb, ◌||◌, List, [], ◌∷◌, arith, refl, sym, ap, subst, ◌∙◌, inl, inr}
 use Rattle.std.specs.Prelude.{Option, Some, None, ◌↔◌, ◌==◌, IsTrue}
 use Rattle.std.specs.List.{list_any}
 use Rattle.std.specs.Option.{option_map}
@@ -8,18 +8,10 @@ use Rattle.ilp_addr.specs.Address.{segments, prefix_segments, begins_with}
 use Rattle.ilp_addr.proofs.Boundary.{begins_true, begins_test}
 use Rattle.route_table.specs.Routes.{RouteMap, Matches, NamesPeer, segment_count, best_route}
 use Rattle.route_table.specs.Rows.{Row, AreDistinct, better_row, longer_row, longest_row}
-use Rattle.route_table.proofs.BestRoute.{best_route-Some, best_route-None}
+use Rattle.route_table.proofs.BestRoute.{best_route-Some, best_route-None, or_true, or_right}
 use Rattle.route_table.proofs.RowLemmas.{InRows, get-routes_of, route_of, row_of, routes_of}
 
 -- ---- the rows of a peer
-
-or_true : (a b : Bool) → (a || b) ≡ true → (a ≡ true) ⊎ (b ≡ true)
-or_true true b e = inl refl
-or_true false b e = inr e
-
-or_right : (a b : Bool) → b ≡ true → (a || b) ≡ true
-or_right true b e = refl
-or_right false b e = e
 
 some_row : (rows : List Row) (n : ℕ) → list_any (λ row. row.1 == n) rows ≡ true → (p : List ℕ) × InRows (p, n) rows
 some_row [] n e = absurd cc
