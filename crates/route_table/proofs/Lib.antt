@@ -1,0 +1,4 @@
+pub mod Matching
+pub mod BestRoute
+pub mod RowLemmas
+pub mod RowSearch

@@ -1,0 +1,138 @@
+//! Routes by prefix.
+
+ghost use Rattle.std.specs.Prelude.{◌≡◌, ◌≢◌, ◌≤◌, ◌↔◌, ◌==◌, ℕ, IsTrue, IsOk, OnOk, OnErr, IfOk, IfSome, OnSome, IfNone, if◌then◌else◌, Ok, Err, List, false};
+ghost use Rattle.std.specs.FinMap.{empty, contains_key, insert, remove, len};
+ghost use Rattle.route_table.specs.Routes.{RouteMap, IsBestRoute, HasNoRoute, NamesPeer, best_route};
+
+use crate::fault::RouteFault;
+use crate::rows::{Row, longest_match, names, position_of};
+use ilp_addr::{Address, Prefix};
+use std::alloc::{AllocError, Global};
+use std::marker::Model;
+
+/// The number of a peer of the operator.
+pub type PeerNo = u16;
+
+/// The most routes that an operator may have.
+const MAX_ROUTES: usize = 4096;
+
+/// The routes of one operator: at most 4,096 prefixes, and for each the peer that packets for it
+/// go to.
+#[derive(Debug, Drop)]
+pub struct Routes {
+    rows: Vec<Row>,
+}
+
+impl Model for Routes {
+    ghost use Rattle.std.specs.Prelude.{ℕ};
+    ghost use Rattle.std.specs.Ordering.{nat_cmp};
+    ghost use Rattle.std.specs.Cmp.Lexicographic.{slice_cmp};
+    ghost use Rattle.std.specs.FinMap as map;
+    ghost use Rattle.std.specs.Coded.{coded_ℕ, coded_list};
+
+    ghost Value = { map.FinMap (slice_cmp nat_cmp) ℕ };
+
+    ghost coded = { map.code (coded_list coded_ℕ) coded_ℕ };
+
+    ghost use Rattle.route_table.specs.Rows.{AreRows};
+
+    ghost view = { λ r. map.from_entries r.rows.items };
+
+    ghost invariant = { λ r. AreRows r.rows.items };
+}
+
+impl Routes {
+    /// No routes.
+    pub fn new(alloc: Global) -> Routes
+        ensures { result ≡ empty }
+    {
+        Routes {
+            rows: Vec::new(alloc),
+        }
+    }
+
+    /// How many prefixes have a route.
+    pub fn len(&self) -> usize
+        ensures value { result ≡ len self.now }
+        ensures few { len self.now ≤ 4096 }
+    {
+        self.rows.len()
+    }
+
+    /// Whether no prefix has a route.
+    pub fn is_empty(&self) -> bool
+        ensures { result ≡ (len self.now == 0) }
+    {
+        self.rows.is_empty()
+    }
+
+    /// Sends packets for the prefix to the peer.
+    ///
+    /// The errors are, in the order in which they are looked for: `Present` where the prefix has a
+    /// route, `Full` where there are 4,096 routes, and `Memory` where there is no memory for one
+    /// more. An error leaves the routes as they were.
+    pub fn add(&mut self, prefix: Prefix, peer: PeerNo) -> Result<(), RouteFault>
+        ensures added { OnOk result (self.new ≡ insert self.old prefix peer) }
+        ensures unchanged { OnErr result (self.new ≡ self.old) }
+        ensures present { (result ≡ Err RouteFault.Present) ↔ IsTrue (contains_key self.old prefix) }
+        ensures full { (result ≡ Err RouteFault.Full)
+            ↔ ((contains_key self.old prefix ≡ false) × (len self.old ≡ 4096)) }
+        ensures never_absent { result ≢ Err RouteFault.Absent }
+    {
+        if position_of(&self.rows, &prefix).is_some() {
+            return Err(RouteFault::Present);
+        }
+        if self.len() == MAX_ROUTES {
+            return Err(RouteFault::Full);
+        }
+        if self.rows.push((prefix, peer)).is_err() {
+            return Err(RouteFault::Memory);
+        }
+        Ok(())
+    }
+
+    /// Takes away the route of the prefix. The error is `Absent`, where the prefix has none, and
+    /// leaves the routes as they were.
+    pub fn remove(&mut self, prefix: &Prefix) -> Result<(), RouteFault>
+        ensures exact { result ≡ (if contains_key self.old prefix.now
+            then Ok tt else Err RouteFault.Absent) }
+        ensures removed { OnOk result (self.new ≡ remove self.old prefix.now) }
+        ensures unchanged { OnErr result (self.new ≡ self.old) }
+    {
+        let Some(at) = position_of(&self.rows, prefix) else {
+            return Err(RouteFault::Absent);
+        };
+        let _removed = self.rows.remove(at);
+        Ok(())
+    }
+
+    /// The peer of the best route: of the prefixes that begin the destination the one with the
+    /// most segments (RFC 0015, "Address Prefixes"). `None` where no prefix begins it.
+    pub fn find(&self, destination: &Address<'_>) -> Option<PeerNo>
+        ensures exact { result ≡ best_route self.now destination.now }
+        ensures found { IfSome result (λ peer.
+            (prefix : List ℕ) × IsBestRoute self.now destination.now prefix peer) }
+        ensures none { IfNone result (HasNoRoute self.now destination.now) }
+    {
+        let (_, peer) = longest_match(&self.rows, destination)?;
+        Some(*peer)
+    }
+
+    /// Whether some prefix has a route to the peer.
+    pub fn names_peer(&self, peer: PeerNo) -> bool
+        ensures { IsTrue result ↔ NamesPeer self.now peer }
+    {
+        names(&self.rows, peer)
+    }
+
+    /// The same routes in memory of their own.
+    pub fn copy(&self, alloc: Global) -> Result<Routes, AllocError>
+        ensures { IfOk result (λ routes. routes ≡ self.now) }
+    {
+        let mut rows = Vec::with_capacity(alloc, self.len())?;
+        for (prefix, peer) in &self.rows {
+            rows.push((prefix.copy(alloc)?, *peer))?;
+        }
+        Ok(Routes { rows })
+    }
+}
