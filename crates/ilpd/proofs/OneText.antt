@@ -172,5 +172,5 @@ one_text setup script a b p q =
     let q_outputs_too = subst (λ (ss : List Step). AreOutputs (tenant_at_start p.setup) all_free ss q.outputs) (sym one_steps) q_outputs in
     let fits = rw p.steps_are at (script_fits (names_in p.setup) 1 script) in
     let one_outputs : p.outputs ≡ q.outputs = one_list p.steps (tenant_at_start p.setup) all_free p.outputs q.outputs refl (λ w. tt) fits p.outputs_are.each_step q_outputs_too.each_step
-        (determined (tenant_at_start p.setup) all_free p.steps p.outputs refl p.outputs_are) (determined (tenant_at_start p.setup) all_free p.steps q.outputs refl q_outputs_too) in
+    (determined (tenant_at_start p.setup) all_free p.steps p.outputs refl p.outputs_are) (determined (tenant_at_start p.setup) all_free p.steps q.outputs refl q_outputs_too) in
     p.written_is ∙ ap (printed_lines (names_in p.setup)) one_outputs ∙ ap (λ (s : Setup). printed_lines (names_in s) q.outputs) one_setup ∙ sym q.written_is
