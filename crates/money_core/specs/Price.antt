@@ -1,6 +1,6 @@
 -- Prices of amounts under a rate, in exact numbers.
-use Rattle.std.specs.Prelude.{ℕ, ◌≡◌, ◌+◌, ◌-◌, ◌*◌, ◌/◌, ◌<◌, ◌≤◌, min, Result, Ok, Err, nat_lt, ◌==◌, ◌||◌, if◌then◌else◌}
-use Rattle.money_core.specs.Fraction.{Fraction, IsFraction}
+use Rattle.std.specs.Prelude.{ℕ, ◌+◌, ◌-◌, ◌*◌, ◌/◌, ◌<◌, ◌≤◌, Result, Ok, Err, nat_lt, ◌==◌, ◌||◌, if◌then◌else◌}
+use Rattle.money_core.specs.Fraction.{Fraction}
 use Rattle.money_core.specs.declared.rate.RateFault.{RateFault}
 use Rattle.money_core.specs.declared.rate.RateFault.TheVariants.{Zero, Limit}
 

@@ -21,3 +21,6 @@ pub use setup::TenantSetup;
 pub use terms::{PeerNo, PeerTerms, RateTerms, Role, RouteTerms, TenantTerms};
 pub use text::Text;
 pub use verdict::{RejectCode, Verdict};
+
+#[cfg(test)]
+mod tests;
