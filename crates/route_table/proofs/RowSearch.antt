@@ -1,15 +1,21 @@
 -- What a search through the rows says of the map of them.
-use Rattle.std.proofs.Common.{◌≡◌, ◌≤◌, ℕ, Bool, true, false, cond, leb, ◌||◌, List, [], ◌∷◌, arith, refl, sym, ap, subst, ◌∙◌, inl, inr}
+use Rattle.std.proofs.Common.{◌≡◌, ◌≤◌, ℕ, Bool, true, false, cond, leb, ◌||◌, ◌&&◌, List, [], ◌∷◌, length, Ordering, Less, Equal, Greater, arith, refl, sym, ap, subst, ◌∙◌, inl, inr}
 use Rattle.std.specs.Prelude.{Option, Some, None, ◌↔◌, ◌==◌, IsTrue}
-use Rattle.std.specs.List.{list_any}
+use Rattle.std.specs.List.{list_all, list_any}
 use Rattle.std.specs.Option.{option_map}
+use Rattle.std.specs.Ordering.{nat_cmp, is_eq}
+use Rattle.std.specs.Cmp.Lexicographic.{slice_cmp}
+use Rattle.std.specs.FinMap.{entries, values, empty, entries-insert, get-entries, len-empty, len-entries}
+use Rattle.std.specs.FinMap.Entries.{by_order, put}
+use Rattle.std.proofs.lemmas.Cmp.{nat_list_cmp_total}
+use Rattle.std.proofs.lemmas.List.Folds.{list_all-map}
 use Rattle.std.proofs.lemmas.Bool.{eqb-true, eq-eqb, leb-true, leb-false}
 use Rattle.ilp_addr.specs.Address.{segments, prefix_segments, begins_with}
 use Rattle.ilp_addr.proofs.Boundary.{begins_true, begins_test}
 use Rattle.route_table.specs.Routes.{RouteMap, Matches, NamesPeer, segment_count, best_route}
 use Rattle.route_table.specs.Rows.{Row, AreDistinct, better_row, longer_row, longest_row}
 use Rattle.route_table.proofs.BestRoute.{best_route-Some, best_route-None, or_true, or_right}
-use Rattle.route_table.proofs.RowLemmas.{InRows, get-routes_of, route_of, row_of, routes_of}
+use Rattle.route_table.proofs.RowLemmas.{InRows, get-routes_of, route, route_of, row_of, routes_of}
 
 -- ---- the rows of a peer
 
@@ -31,6 +37,38 @@ names_decided rows n b distinct e = (
   λ t. let more = some_row rows n (sym e ∙ t) in (more.0, get-routes_of rows more.0 ∙ route_of rows distinct (more.0, n) more.1),
   λ named. e ∙ row_found rows named.0 n (row_of rows named.0 n (sym (get-routes_of rows named.0) ∙ named.1)),
 )
+
+-- ---- a test of each peer
+
+and_swap : (a b c : Bool) → (a && (b && c)) ≡ (b && (a && c))
+and_swap true b c = refl
+and_swap false true c = refl
+and_swap false false c = refl
+
+pass-put : (p : ℕ → Bool) (k : List ℕ) (n : ℕ) (es : List Row) → route k es ≡ None → list_all (λ row. p row.1) (put (slice_cmp nat_cmp) k n es) ≡ (p n && list_all (λ row. p row.1) es)
+pass-put p k n [] none = refl
+pass-put p k n (e ∷ es) none = placed (slice_cmp nat_cmp k e.0) none (λ later. pass-put p k n es later)
+  where
+    placed : (o : Ordering) → cond (is_eq o) (Some e.1) (route k es) ≡ None → (route k es ≡ None → list_all (λ row. p row.1) (put (slice_cmp nat_cmp) k n es) ≡ (p n && list_all (λ row. p row.1) es)) → list_all (λ row. p row.1) (by_order o ((k, n) ∷ e ∷ es) ((e.0, n) ∷ es) (e ∷ put (slice_cmp nat_cmp) k n es)) ≡ (p n && (p e.1 && list_all (λ row. p row.1) es))
+    placed Less none rest = refl
+    placed Equal none rest = absurd cc
+    placed Greater none rest = ap (λ b. p e.1 && b) (rest none) ∙ and_swap (p e.1) (p n) _
+
+none_pass : (p : ℕ → Bool) (es : List Row) → length es ≡ 0 → list_all (λ row. p row.1) es ≡ true
+none_pass p [] e = refl
+none_pass p (x ∷ es) e = absurd (omega arith)
+
+entries_pass : (p : ℕ → Bool) (rows : List Row) → AreDistinct rows → list_all (λ row. p row.1) (entries (routes_of rows)) ≡ list_all (λ row. p row.1) rows
+entries_pass p [] distinct = none_pass p (entries empty) (sym (len-entries empty) ∙ len-empty (slice_cmp nat_cmp) ℕ)
+entries_pass p (x ∷ rows) distinct =
+    let none : route x.0 (entries (routes_of rows)) ≡ None = sym (get-entries (routes_of rows) x.0) ∙ get-routes_of rows x.0 ∙ distinct.0 in
+    ap (list_all (λ row. p row.1)) (entries-insert nat_list_cmp_total (routes_of rows) x.0 x.1)
+    ∙ pass-put p x.0 x.1 (entries (routes_of rows)) none
+    ∙ ap (λ b. p x.1 && b) (entries_pass p rows distinct.1)
+
+-- each value of the map passes a test exactly where each row's peer does
+pub values_pass : (p : ℕ → Bool) (rows : List Row) → AreDistinct rows → list_all p (values (routes_of rows)) ≡ list_all (λ row. p row.1) rows
+values_pass p rows distinct = list_all-map p (λ (row : Row). row.1) (entries (routes_of rows)) ∙ entries_pass p rows distinct
 
 -- ---- the best row
 

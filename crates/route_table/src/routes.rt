@@ -1,11 +1,12 @@
 //! Routes by prefix.
 
-ghost use Rattle.std.specs.Prelude.{◌≡◌, ◌≢◌, ◌≤◌, ◌↔◌, ◌==◌, ℕ, IsTrue, IsOk, OnOk, OnErr, IfOk, IfSome, OnSome, IfNone, if◌then◌else◌, Ok, Err, List, false};
-ghost use Rattle.std.specs.FinMap.{empty, contains_key, insert, remove, len};
+ghost use Rattle.std.specs.Prelude.{◌≡◌, ◌≢◌, ◌≤◌, ◌↔◌, ◌==◌, ℕ, IsTrue, IsOk, OnOk, OnErr, IfOk, IfSome, OnSome, IfNone, if◌then◌else◌, nat_lt, Ok, Err, List, false};
+ghost use Rattle.std.specs.FinMap.{empty, contains_key, insert, remove, len, values};
+ghost use Rattle.std.specs.List.{list_all};
 ghost use Rattle.route_table.specs.Routes.{RouteMap, IsBestRoute, HasNoRoute, NamesPeer, best_route};
 
 use crate::fault::RouteFault;
-use crate::rows::{Row, longest_match, names, position_of};
+use crate::rows::{Row, longest_match, names, names_only_below, position_of};
 use ilp_addr::{Address, Prefix};
 use std::alloc::{AllocError, Global};
 use std::marker::Model;
@@ -123,6 +124,13 @@ impl Routes {
         ensures { IsTrue result ↔ NamesPeer self.now peer }
     {
         names(&self.rows, peer)
+    }
+
+    /// Whether each route's peer has a number below `count`.
+    pub fn names_only_below(&self, count: usize) -> bool
+        ensures { result ≡ list_all (λ peer. nat_lt peer count) (values self.now) }
+    {
+        names_only_below(&self.rows, count)
     }
 
     /// The same routes in memory of their own.

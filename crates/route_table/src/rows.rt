@@ -1,7 +1,7 @@
 //! Routes as they are kept: a prefix and its peer, in a row for each.
 
-ghost use Rattle.std.specs.Prelude.{◌≡◌, ◌==◌, None, count_by};
-ghost use Rattle.std.specs.List.{list_any, position_from};
+ghost use Rattle.std.specs.Prelude.{◌≡◌, ◌==◌, None, count_by, nat_lt};
+ghost use Rattle.std.specs.List.{list_all, list_any, position_from};
 ghost use Rattle.std.specs.Option.{option_copied};
 ghost use Rattle.std.specs.Str.{bytes_eq};
 ghost use Rattle.route_table.specs.Routes.{segment_count};
@@ -36,6 +36,13 @@ pub(crate) fn names(rows: &[Row], peer: PeerNo) -> bool
     ensures { result ≡ list_any (λ row. row.1 == peer) rows.now }
 {
     rows.iter().any(|row| row.1 == peer)
+}
+
+/// Whether each row's peer has a number below `count`.
+pub(crate) fn names_only_below(rows: &[Row], count: usize) -> bool
+    ensures { result ≡ list_all (λ row. nat_lt row.1 count) rows.now }
+{
+    rows.iter().all(|row| (row.1 as usize) < count)
 }
 
 fn better<'r>(best: Option<&'r Row>, row: &'r Row, destination: &Address<'_>) -> Option<&'r Row>

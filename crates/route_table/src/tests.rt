@@ -41,5 +41,7 @@ fn longest_prefix_by_segments(rt: HostRuntime) -> Result<(), Fail> {
     assert_eq!(rt; peer_for(&routes, b"g.acme.bo.x")?, Some(2));
     assert!(rt; routes.names_peer(2));
     assert!(rt; !routes.names_peer(3));
+    assert!(rt; routes.names_only_below(3));
+    assert!(rt; !routes.names_only_below(2));
     Ok(())
 }
