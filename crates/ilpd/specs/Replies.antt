@@ -3,18 +3,24 @@ use Rattle.std.specs.Prelude.{ℕ, List, [], ◌∷◌, ◌++◌, Option, Some, 
 use Rattle.std.specs.Int.{w64, to_be_bytes}
 use Rattle.ilp_view.specs.Packet.{reject_frame}
 use Rattle.tenant_core.specs.declared.verdict.RejectCode.{RejectCode}
-use Rattle.tenant_core.specs.declared.verdict.RejectCode.TheVariants.{Unreachable, AmountTooLarge, InsufficientTimeout}
+use Rattle.tenant_core.specs.declared.verdict.RejectCode.TheVariants.{Unreachable, AmountTooLarge, Busy, InsufficientLiquidity, RateLimited, InsufficientTimeout}
 
 -- the three bytes of a code
 abbrev pub code_of : RejectCode → List ℕ
 code_of Unreachable = codes "F02"
 code_of AmountTooLarge = codes "F08"
+code_of Busy = codes "T03"
+code_of InsufficientLiquidity = codes "T04"
+code_of RateLimited = codes "T05"
 code_of InsufficientTimeout = codes "R02"
 
 -- the message for people
 abbrev pub message_of : RejectCode → List ℕ
 message_of Unreachable = codes "unreachable"
 message_of AmountTooLarge = codes "amount too large"
+message_of Busy = codes "connector busy"
+message_of InsufficientLiquidity = codes "insufficient liquidity"
+message_of RateLimited = codes "rate limited"
 message_of InsufficientTimeout = codes "insufficient timeout"
 
 -- the received and the greatest amount, where they are told
@@ -28,4 +34,4 @@ refusal_reply address code amounts = reject_frame (code_of code) address (messag
 
 -- the refusal of a packet for which the journal has no room
 abbrev pub busy_reply : List ℕ → List ℕ
-busy_reply address = reject_frame (codes "T03") address (codes "connector busy") []
+busy_reply address = refusal_reply address Busy None

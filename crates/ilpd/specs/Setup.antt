@@ -1,15 +1,18 @@
 -- Setups: what a TOML document says of a tenant.
-use Rattle.std.specs.Prelude.{◌≡◌, ℕ, Bool, false, ◌-◌, ◌^◌, ℤ, pos, negsuc, List, [], ◌∷◌, length, take, slice_index, ◌==◌, nat_lt, nat_le, if◌then◌else◌, Option, Some, None, option_and_then, Result, Ok, Err, codes}
+use Rattle.std.specs.Prelude.{◌≡◌, ℕ, Bool, false, ◌^◌, ℤ, pos, negsuc, List, [], ◌∷◌, ◌++◌, set, ◌==◌, nat_lt, nat_le, if◌then◌else◌, Option, Some, None, option_and_then, Result, Ok, Err, codes}
 use Rattle.std.specs.List.{position}
+use Rattle.std.specs.FinMap.{empty, contains_key, insert, len}
 use Rattle.std.specs.Result.{result_ok}
 use Rattle.std.specs.Str.{bytes_eq, is_utf8}
 use Rattle.toml.specs.Data.{Data, Items, no_items, item, Members, get_member, as_str, as_integer, as_array, as_table}
 use Rattle.toml.specs.Parse.{parse_document}
+use Rattle.ilp_addr.specs.Address.{prefix_at}
 use Rattle.money_core.specs.Price.{rate_at}
+use Rattle.route_table.specs.Routes.{RouteMap}
+use Rattle.tenant_core.specs.Judge.{is_for_pair}
 use Rattle.tenant_core.specs.declared.terms.Role.{Role}
 use Rattle.tenant_core.specs.declared.terms.Role.TheVariants.{Child, Peer}
 use Rattle.tenant_core.specs.declared.terms.PeerTerms.{PeerTerms}
-use Rattle.tenant_core.specs.declared.terms.RouteTerms.{RouteTerms}
 use Rattle.tenant_core.specs.declared.terms.RateTerms.{RateTerms}
 use Rattle.tenant_core.specs.declared.terms.TenantTerms.{TenantTerms}
 use Rattle.tenant_core.specs.Setup.{is_tenant_setup}
@@ -64,15 +67,9 @@ number_or default key members = or_default default (get_member key members) (num
 unfoldable pub array_at : List ℕ → Members → Option Items
 array_at key members = get_member key members >>= as_array
 
--- the only item, which is a table
-abbrev pub only_table : Items → Option Members
-only_table no_items = None
-only_table (item only no_items) = as_table only
-only_table (item first (item second others)) = None
-
--- the only item of the array at a key, which is a table
-unfoldable pub only_at : List ℕ → Members → Option Members
-only_at key members = array_at key members >>= only_table
+-- the items of the array at a key, none where nothing stands there
+unfoldable pub items_at : List ℕ → Members → Option Items
+items_at key members = or_default no_items (get_member key members) (array_at key members)
 
 -- the role that a word names
 abbrev pub role_of : List ℕ → Option Role
@@ -114,10 +111,6 @@ peers_of (item first others) = do
   peers ← peers_of others
   Some (peer ∷ peers)
 
--- the peers of the array at a key
-unfoldable pub peers_at : List ℕ → Members → Option (List PeerTerms)
-peers_at key members = array_at key members >>= peers_of
-
 -- a number of at most 16 bits
 abbrev pub short_number : ℕ → Option ℕ
 short_number n = if nat_lt n (2 ^ 16) then Some n else None
@@ -133,17 +126,36 @@ peer_at peers key members = do
   place ← place_of_peer peers name
   short_number place
 
--- a prefix without one dot at its end
-abbrev pub without_dot : List ℕ → List ℕ
-without_dot text = if slice_index text (length text - 1) == 46 then take (length text - 1) text else text
+-- the prefix that a text spells: `*` is the empty one, which has no other spelling
+abbrev pub prefix_of : List ℕ → Option (List ℕ)
+prefix_of text =
+    if bytes_eq text (codes "*") then Some []
+    else (if bytes_eq text [] then None else result_ok (prefix_at text))
 
--- a route
-unfoldable pub route_of : List PeerTerms → Members → Option RouteTerms
-route_of peers t = do
+-- routes with one more, unless its prefix has one already or there are 4,096
+abbrev pub with_route : RouteMap → List ℕ → ℕ → Option RouteMap
+with_route routes prefix peer =
+    if contains_key routes prefix then None
+    else (if len routes == 4_096 then None else Some (insert routes prefix peer))
+
+-- routes with the one of a table
+unfoldable pub with_route_of : List PeerTerms → RouteMap → Members → Option RouteMap
+with_route_of peers routes t = do
   text ← string_at (codes "prefix") t
-  prefix ← text_within 1023 (without_dot text)
+  prefix ← prefix_of text
   peer ← peer_at peers (codes "peer") t
-  Some (record { prefix = prefix; peer = peer })
+  with_route routes prefix peer
+
+-- routes with the one of a value, if that is a table
+abbrev pub with_route_in : List PeerTerms → RouteMap → Data → Option RouteMap
+with_route_in peers routes value = as_table value >>= with_route_of peers routes
+
+-- routes with those of the items, in the order in which they stand
+unfoldable pub with_routes_of : List PeerTerms → RouteMap → Items → Option RouteMap
+with_routes_of peers routes no_items = Some routes
+with_routes_of peers routes (item first others) = do
+  more ← with_route_in peers routes first
+  with_routes_of peers more others
 
 -- a rate between two peers
 unfoldable pub rate_of : List PeerTerms → Members → Option RateTerms
@@ -155,18 +167,48 @@ rate_of peers t = do
   rate ← result_ok (rate_at num den)
   Some (record { from = from; to = to; rate = rate })
 
--- what a tenant's table says, where its peers, its one route and its one rate are these
-unfoldable pub terms_of : Members → List PeerTerms → Members → Members → Option TenantTerms
-terms_of t peers route_table rate_table = do
+-- a rate between two peers, if the value is a table
+abbrev pub rate_in : List PeerTerms → Data → Option RateTerms
+rate_in peers value = as_table value >>= rate_of peers
+
+-- rates with one more, in the place of one for the same pair if that stands there
+abbrev pub with_rate_at : List RateTerms → RateTerms → Option ℕ → List RateTerms
+with_rate_at rates rate None = rates ++ rate ∷ []
+with_rate_at rates rate (Some place) = set rates place rate
+
+-- rates with one more: for each pair the later counts
+abbrev pub with_rate : List RateTerms → RateTerms → List RateTerms
+with_rate rates rate = with_rate_at rates rate (position (is_for_pair rate.from rate.to) rates)
+
+-- rates with those of the items, in the order in which they stand
+unfoldable pub with_rates_of : List PeerTerms → List RateTerms → Items → Option (List RateTerms)
+with_rates_of peers rates no_items = Some rates
+with_rates_of peers rates (item first others) = do
+  rate ← rate_in peers first
+  with_rates_of peers (with_rate rates rate) others
+
+-- the peers of a tenant's table
+unfoldable pub peers_at : Members → Option (List PeerTerms)
+peers_at t = items_at (codes "peer") t >>= peers_of
+
+-- its routes, where its peers are these
+unfoldable pub routes_at : List PeerTerms → Members → Option RouteMap
+routes_at peers t = items_at (codes "route") t >>= with_routes_of peers empty
+
+-- its rates, where its peers are these
+unfoldable pub rates_at : List PeerTerms → Members → Option (List RateTerms)
+rates_at peers t = items_at (codes "rate") t >>= with_rates_of peers []
+
+-- what a tenant's table says, where its peers, its routes and its rates are these
+unfoldable pub terms_of : Members → List PeerTerms → RouteMap → List RateTerms → Option TenantTerms
+terms_of t peers routes rates = do
   name ← text_at 32 (codes "name") t
   address ← text_at 900 (codes "address") t
   admin ← text_at 64 (codes "admin") t
   journal ← number_or 1024 (codes "journal") t
   margin ← number_or 1000 (codes "margin") t
   hold ← number_or 30000 (codes "hold") t
-  route ← route_of peers route_table
-  rate ← rate_of peers rate_table
-  Some (record { name = name; address = address; admin = admin; journal = journal; margin = margin; hold = hold; peers = peers; route = route; rate = rate })
+  Some (record { name = name; address = address; admin = admin; journal = journal; margin = margin; hold = hold; peers = peers; routes = routes; rates = rates })
 
 -- the terms, if they keep the limits of a setup
 abbrev pub within_limits : TenantTerms → Option TenantTerms
@@ -175,10 +217,10 @@ within_limits terms = if is_tenant_setup terms then Some terms else None
 -- a tenant
 unfoldable pub tenant_of : Members → Option TenantTerms
 tenant_of t = do
-  peers ← peers_at (codes "peer") t
-  route ← only_at (codes "route") t
-  rate ← only_at (codes "rate") t
-  terms ← terms_of t peers route rate
+  peers ← peers_at t
+  routes ← routes_at peers t
+  rates ← rates_at peers t
+  terms ← terms_of t peers routes rates
   within_limits terms
 
 -- for now there is exactly one tenant, and a second is a fault of its own

@@ -7,12 +7,11 @@ use Rattle.ilp_view.specs.declared.fault.ViewFault.TheVariants as fault
 use Rattle.ilp_view.specs.Packet.{Prepare, with_amount_and_expiry}
 use Rattle.ilp_view.specs.Reading.{prepare_at}
 use Rattle.tenant_core.specs.Key.{Key}
-use Rattle.tenant_core.specs.State.{State}
-use Rattle.tenant_core.specs.Judge.{judge, decided, peer_numbered}
+use Rattle.tenant_core.specs.State.{State, peer_numbered}
+use Rattle.tenant_core.specs.Judge.{judge, decided}
 use Rattle.tenant_core.specs.declared.opening.Opening.{Opening}
 use Rattle.tenant_core.specs.declared.opening.Peer.{Peer}
 use Rattle.tenant_core.specs.declared.verdict.RejectCode.{RejectCode}
-use Rattle.tenant_core.specs.declared.verdict.RejectCode.TheVariants.{Unreachable, AmountTooLarge, InsufficientTimeout}
 use Rattle.tenant_core.specs.declared.verdict.Verdict.{Verdict}
 use Rattle.tenant_core.specs.declared.verdict.Verdict.TheVariants.{Unknown, NoRoom, Refuse, Forward}
 use Rattle.ilpd.specs.Replies.{busy_reply, refusal_reply}

@@ -17,6 +17,8 @@ mod step;
 mod streams;
 #[cfg(test)]
 mod tests;
+#[cfg(test)]
+mod verdict_tests;
 
 use command_line::arguments;
 use device::Counted;

@@ -9,7 +9,7 @@ use std::io;
 use std::io::{ErrorKind, Read, Write};
 use std::test::Fail;
 
-const SETUP: &str = "version = 1
+pub(crate) const SETUP: &str = "version = 1
 start = 1893456000000
 [[tenant]]
 name = \"acme\"
@@ -143,7 +143,7 @@ const FORWARDED: &str =
 const TOO_MUCH: &str =
     "acme loaded 0\nacme reply 0e2c46303806672e61636d6510616d6f756e7420746f6f206c617267651000000000000003e800000000000003e7\n";
 
-fn written(alloc: Global, setup: &str, script: &str) -> Result<Vec<u8>, ReplayFault> {
+pub(crate) fn written(alloc: Global, setup: &str, script: &str) -> Result<Vec<u8>, ReplayFault> {
     let mut reader = script.as_bytes();
     let mut text = Vec::new(alloc);
     replay(alloc, setup.as_bytes(), 1, &mut reader, &mut text)?;
@@ -222,7 +222,7 @@ static SETUPS: [(&str, &str, SetupFault); 30] = [
         "[[tenant.rate]]\n[[tenant.rate]]",
         SetupFault::Tenant(0),
     ),
-    ("[[tenant.route]]", "[[tenant.ways]]", SetupFault::Tenant(0)),
+    ("[[tenant.route]]", "[tenant.route]", SetupFault::Tenant(0)),
 ];
 
 #[test]

@@ -18,6 +18,9 @@ fn code_of(code: RejectCode) -> &'static [u8; 3]
     match code {
         RejectCode::Unreachable => b"F02",
         RejectCode::AmountTooLarge => b"F08",
+        RejectCode::Busy => b"T03",
+        RejectCode::InsufficientLiquidity => b"T04",
+        RejectCode::RateLimited => b"T05",
         RejectCode::InsufficientTimeout => b"R02",
     }
 }
@@ -29,6 +32,9 @@ fn message_of(code: RejectCode) -> &'static [u8]
     match code {
         RejectCode::Unreachable => b"unreachable",
         RejectCode::AmountTooLarge => b"amount too large",
+        RejectCode::Busy => b"connector busy",
+        RejectCode::InsufficientLiquidity => b"insufficient liquidity",
+        RejectCode::RateLimited => b"rate limited",
         RejectCode::InsufficientTimeout => b"insufficient timeout",
     }
 }
@@ -55,7 +61,7 @@ pub fn busy_reply(alloc: Global, address: &[u8]) -> Result<Bytes, AllocError>
     requires { length address.now ≤ 900 }
     ensures { IfOk result (λ reply. reply ≡ busy_reply address.now) }
 {
-    reject(alloc, b"T03", address, b"connector busy", &[])
+    refusal(alloc, address, RejectCode::Busy, &[])
 }
 
 /// The refusal of a packet, with the amounts that it names.

@@ -2,7 +2,8 @@
 
 ghost use Rattle.std.specs.Prelude.{◌≡◌, ◌≤◌, IfOk, length};
 ghost use Rattle.ilp_addr.specs.Timestamp.{latest};
-ghost use Rattle.tenant_core.specs.Judge.{peer_numbered, judge, decided, IsSooner};
+ghost use Rattle.tenant_core.specs.State.{peer_numbered};
+ghost use Rattle.tenant_core.specs.Judge.{judge, decided, IsSooner};
 ghost use Rattle.ilpd.specs.World.{said, malformed_by, peer_name, key_in};
 ghost use Rattle.ilpd.specs.Runner.{carried_after};
 
@@ -26,8 +27,12 @@ pub struct Runner {
 impl Model for Runner {
     ghost use Rattle.std.specs.Prelude.{◌≡◌};
     ghost use Rattle.ilpd.specs.Runner.{Run, IsReadable};
+    ghost use Rattle.std.specs.Coded.{codes};
+    ghost use Rattle.route_table.specs.contracts.routes.Routes as routes;
 
     ghost Value = { Run };
+
+    ghost coded = { Prim.hlevel (codes, routes.the_row.coded) };
 
     ghost view = { λ r. record { book = r.book; next_call = r.next_call; carried = r.carried } };
 

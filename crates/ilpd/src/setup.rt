@@ -1,19 +1,21 @@
 //! Setups: what a TOML document says of a tenant.
 
-ghost use Rattle.std.specs.Prelude.{◌≡◌, ◌^◌, option_copied, option_map, option_and_then, codes, IfOk};
+ghost use Rattle.std.specs.Prelude.{◌≡◌, ◌^◌, option_copied, option_map, option_and_then, codes, IfOk, OnOk, []};
+ghost use Rattle.std.specs.List.{position};
 ghost use Rattle.std.specs.Str.{bytes_eq};
-ghost use Rattle.toml.specs.Data.{get_member, as_integer, as_str};
+ghost use Rattle.std.specs.FinMap.{empty};
+ghost use Rattle.tenant_core.specs.Judge.{is_for_pair};
+ghost use Rattle.toml.specs.Data.{get_member, as_integer, as_str, as_table};
 ghost use Rattle.toml.specs.View.{view, items_view, array_view, table_view};
-ghost use Rattle.ilpd.specs.Setup.{string_at, text_at, integer_at, number_at, integer_or, number_or, array_at, only_table, only_at, role_of, role_at, peer_of, peer_in, peers_of, peers_at, place_of_peer, peer_at, without_dot, route_of, rate_of, terms_of, tenant_of, tenant_in, tenant_at, moment, setup_in, document_of, setup_of, Gives};
+ghost use Rattle.ilpd.specs.Setup.{string_at, text_at, integer_at, number_at, integer_or, number_or, array_at, items_at, role_of, role_at, peer_of, peer_in, peers_of, peers_at, place_of_peer, peer_at, prefix_of, with_route, with_route_of, with_route_in, with_routes_of, routes_at, rate_of, rate_in, with_rate, with_rates_of, rates_at, terms_of, tenant_of, and_no_other, tenant_in, tenant_at, moment, setup_in, document_of, setup_of, Gives};
 ghost use Rattle.toml.specs.Parse.{parse_document};
 
 use crate::step::text_within;
-use ilp_addr::Moment;
+use ilp_addr::{Moment, Prefix, PrefixError};
 use money_core::Rate;
+use route_table::{RouteFault, Routes};
 use std::alloc::{AllocError, AllocFailed, Global};
-use tenant_core::{
-    Items, PeerNo, PeerTerms, RateTerms, Role, RouteTerms, TenantSetup, TenantTerms, Text,
-};
+use tenant_core::{Items, PeerNo, PeerTerms, RateTerms, Role, TenantSetup, TenantTerms, Text};
 use thiserror::Error;
 use toml::{Table, Value};
 
@@ -156,13 +158,16 @@ fn array_at<'a>(table: &'a Table, key: &str) -> Option<&'a Vec<Value>>
     }
 }
 
-fn only_table(values: &[Value]) -> Option<&Table>
-    ensures { option_map (λ t. table_view t.now) result ≡ only_table (items_view values.now) }
+#[tactic(auto, unfolding(crate::specs::Setup::items_at))]
+fn items_at<'a>(table: &'a Table, key: &str) -> Option<&'a [Value]>
+    ensures { option_map (λ a. items_view a.now) result ≡ items_at key.now (table_view table.now) }
 {
-    match values {
-        [] => None,
-        [value] => value.as_table(),
-        [_, _, ..] => None,
+    if value_at(table, key).is_none() {
+        return Some(&[]);
+    }
+    match array_at(table, key) {
+        Some(values) => Some(values.as_slice()),
+        None => None,
     }
 }
 
@@ -174,16 +179,6 @@ fn role_at(table: &Table, key: &str) -> Option<Role>
         Some("child") => Some(Role::Child),
         Some("peer") => Some(Role::Peer),
         _ => None,
-    }
-}
-
-#[tactic(auto, unfolding(crate::specs::Setup::only_at))]
-fn only_at<'a>(table: &'a Table, key: &str) -> Option<&'a Table>
-    ensures { option_map (λ t. table_view t.now) result ≡ only_at key.now (table_view table.now) }
-{
-    match array_at(table, key) {
-        Some(values) => only_table(values.as_slice()),
-        None => None,
     }
 }
 
@@ -232,11 +227,11 @@ fn peers_of(alloc: Global, values: &[Value]) -> Result<Option<Vec<PeerTerms>>, A
 }
 
 #[tactic(auto, unfolding(crate::specs::Setup::peers_at))]
-fn peers_at(alloc: Global, table: &Table, key: &str) -> Result<Option<Vec<PeerTerms>>, AllocError>
-    ensures { IfOk result (λ peers. option_map (λ p. p.items) peers ≡ peers_at key.now (table_view table.now)) }
+fn peers_at(alloc: Global, table: &Table) -> Result<Option<Vec<PeerTerms>>, AllocError>
+    ensures { IfOk result (λ peers. option_map (λ p. p.items) peers ≡ peers_at (table_view table.now)) }
 {
-    match array_at(table, key) {
-        Some(values) => peers_of(alloc, values.as_slice()),
+    match items_at(table, "peer") {
+        Some(values) => peers_of(alloc, values),
         None => Ok(None),
     }
 }
@@ -262,23 +257,101 @@ fn peer_at(peers: &[PeerTerms], table: &Table, key: &str) -> Option<PeerNo>
     u16::try_from(place).ok()
 }
 
-fn without_dot(text: &[u8]) -> &[u8]
-    ensures { result.now ≡ without_dot text.now }
+// The prefix that a text spells, `None` where it spells none.
+fn prefix_of(alloc: Global, text: &[u8]) -> Result<Option<Prefix>, AllocError>
+    ensures { IfOk result (λ prefix. prefix ≡ prefix_of text.now) }
 {
-    match text {
-        [front @ .., b'.'] => front,
-        _ => text,
+    if text.is_empty() {
+        return Ok(None);
+    }
+    let spelled = if text == b"*".as_slice() { &[] } else { text };
+    match Prefix::parse(alloc, spelled) {
+        Ok(prefix) => Ok(Some(prefix)),
+        Err(PrefixError::Fault(_)) => Ok(None),
+        Err(PrefixError::Memory) => Err(AllocError),
     }
 }
 
-#[tactic(auto, unfolding(crate::specs::Setup::route_of))]
-fn route_of(peers: &[PeerTerms], table: &Table) -> Option<RouteTerms>
-    ensures { result ≡ route_of peers.now (table_view table.now) }
+// The routes with one more, `None` where there can be none.
+fn with_route(
+    mut routes: Routes,
+    prefix: Prefix,
+    peer: PeerNo,
+) -> Result<Option<Routes>, AllocError>
+    ensures { IfOk result (λ more. more ≡ with_route routes prefix peer) }
 {
-    let text = string_at(table, "prefix")?;
-    let prefix = text_within(without_dot(text.as_bytes()))?;
-    let peer = peer_at(peers, table, "peer")?;
-    Some(RouteTerms { prefix, peer })
+    match routes.add(prefix, peer) {
+        Ok(()) => Ok(Some(routes)),
+        Err(RouteFault::Memory) => Err(AllocError),
+        Err(RouteFault::Present | RouteFault::Absent | RouteFault::Full) => Ok(None),
+    }
+}
+
+#[tactic(auto, unfolding(crate::specs::Setup::with_route_of))]
+fn with_route_of(
+    alloc: Global,
+    peers: &[PeerTerms],
+    routes: Routes,
+    table: &Table,
+) -> Result<Option<Routes>, AllocError>
+    ensures { IfOk result (λ more. more ≡ with_route_of peers.now routes (table_view table.now)) }
+{
+    let Some(text) = string_at(table, "prefix") else {
+        return Ok(None);
+    };
+    let Some(prefix) = prefix_of(alloc, text.as_bytes())? else {
+        return Ok(None);
+    };
+    match peer_at(peers, table, "peer") {
+        Some(peer) => with_route(routes, prefix, peer),
+        None => Ok(None),
+    }
+}
+
+fn with_route_in(
+    alloc: Global,
+    peers: &[PeerTerms],
+    routes: Routes,
+    value: &Value,
+) -> Result<Option<Routes>, AllocError>
+    ensures { IfOk result (λ more. more ≡ with_route_in peers.now routes (view value.now)) }
+{
+    match value.as_table() {
+        Some(table) => with_route_of(alloc, peers, routes, table),
+        None => Ok(None),
+    }
+}
+
+#[tactic(auto, unfolding(crate::specs::Setup::with_routes_of))]
+fn routes_of(
+    alloc: Global,
+    peers: &[PeerTerms],
+    values: &[Value],
+) -> Result<Option<Routes>, AllocError>
+    ensures { IfOk result (λ routes. routes ≡ with_routes_of peers.now empty (items_view values.now)) }
+{
+    let mut routes = Routes::new(alloc);
+    for value in values {
+        let Some(more) = with_route_in(alloc, peers, routes, value)? else {
+            return Ok(None);
+        };
+        routes = more;
+    }
+    Ok(Some(routes))
+}
+
+#[tactic(auto, unfolding(crate::specs::Setup::routes_at))]
+fn routes_at(
+    alloc: Global,
+    peers: &[PeerTerms],
+    table: &Table,
+) -> Result<Option<Routes>, AllocError>
+    ensures { IfOk result (λ routes. routes ≡ routes_at peers.now (table_view table.now)) }
+{
+    match items_at(table, "route") {
+        Some(values) => routes_of(alloc, peers, values),
+        None => Ok(None),
+    }
 }
 
 #[tactic(auto, unfolding(crate::specs::Setup::rate_of))]
@@ -293,14 +366,74 @@ fn rate_of(peers: &[PeerTerms], table: &Table) -> Option<RateTerms>
     Some(RateTerms { from, to, rate })
 }
 
+fn rate_in(peers: &[PeerTerms], value: &Value) -> Option<RateTerms>
+    ensures { result ≡ rate_in peers.now (view value.now) }
+{
+    match value.as_table() {
+        Some(table) => rate_of(peers, table),
+        None => None,
+    }
+}
+
+fn place_of_pair(rates: &[RateTerms], from: PeerNo, to: PeerNo) -> Option<usize>
+    ensures { result ≡ position (is_for_pair from to) rates.now }
+{
+    rates
+        .iter()
+        .position(|rate| rate.from == from && rate.to == to)
+}
+
+// A rate more: for each pair the later counts.
+fn set_rate(rates: &mut Vec<RateTerms>, rate: RateTerms) -> Result<(), AllocError>
+    ensures { OnOk result (rates.new.items ≡ with_rate rates.old.items rate) }
+{
+    match place_of_pair(rates.as_slice(), rate.from, rate.to) {
+        Some(place) => rates[place] = rate,
+        None => rates.push(rate)?,
+    }
+    Ok(())
+}
+
+#[tactic(auto, unfolding(crate::specs::Setup::with_rates_of))]
+fn rates_of(
+    alloc: Global,
+    peers: &[PeerTerms],
+    values: &[Value],
+) -> Result<Option<Vec<RateTerms>>, AllocError>
+    ensures { IfOk result (λ rates. option_map (λ r. r.items) rates ≡ with_rates_of peers.now [] (items_view values.now)) }
+{
+    let mut rates = Vec::new(alloc);
+    for value in values {
+        let Some(rate) = rate_in(peers, value) else {
+            return Ok(None);
+        };
+        set_rate(&mut rates, rate)?;
+    }
+    Ok(Some(rates))
+}
+
+#[tactic(auto, unfolding(crate::specs::Setup::rates_at))]
+fn rates_at(
+    alloc: Global,
+    peers: &[PeerTerms],
+    table: &Table,
+) -> Result<Option<Vec<RateTerms>>, AllocError>
+    ensures { IfOk result (λ rates. option_map (λ r. r.items) rates ≡ rates_at peers.now (table_view table.now)) }
+{
+    match items_at(table, "rate") {
+        Some(values) => rates_of(alloc, peers, values),
+        None => Ok(None),
+    }
+}
+
 #[tactic(auto, unfolding(crate::specs::Setup::terms_of))]
 fn terms_of(
     table: &Table,
     peers: Vec<PeerTerms>,
-    route: &Table,
-    rate: &Table,
+    routes: Routes,
+    rates: Vec<RateTerms>,
 ) -> Option<TenantTerms>
-    ensures { result ≡ terms_of (table_view table.now) peers.items (table_view route.now) (table_view rate.now) }
+    ensures { result ≡ terms_of (table_view table.now) peers.items routes rates.items }
 {
     Some(TenantTerms {
         name: text_at(table, "name")?,
@@ -309,9 +442,9 @@ fn terms_of(
         journal: u64_or(1024, table, "journal")?,
         margin: u64_or(1000, table, "margin")?,
         hold: u64_or(30_000, table, "hold")?,
-        route: route_of(peers.as_slice(), route)?,
-        rate: rate_of(peers.as_slice(), rate)?,
         peers: Items::from_vec(peers),
+        routes,
+        rates: Items::from_vec(rates),
     })
 }
 
@@ -319,38 +452,53 @@ fn terms_of(
 fn tenant_of(alloc: Global, table: &Table) -> Result<Option<TenantSetup>, AllocError>
     ensures { IfOk result (λ tenant. tenant ≡ tenant_of (table_view table.now)) }
 {
-    let Some(peers) = peers_at(alloc, table, "peer")? else {
+    let Some(peers) = peers_at(alloc, table)? else {
         return Ok(None);
     };
-    let Some(route) = only_at(table, "route") else {
+    let Some(routes) = routes_at(alloc, peers.as_slice(), table)? else {
         return Ok(None);
     };
-    let Some(rate) = only_at(table, "rate") else {
+    let Some(rates) = rates_at(alloc, peers.as_slice(), table)? else {
         return Ok(None);
     };
-    match terms_of(table, peers, route, rate) {
+    match terms_of(table, peers, routes, rates) {
         Some(terms) => Ok(TenantSetup::new(terms)),
         None => Ok(None),
     }
 }
 
-/// The tenant of the first table, where there is no other.
+// The tenant, where it is one and no other follows.
+fn only_tenant(tenant: Option<TenantSetup>, others: &[Value]) -> Result<TenantSetup, SetupFault>
+    ensures { result ≡ and_no_other tenant (items_view others.now) }
+{
+    match (tenant, others) {
+        (None, _) => Err(SetupFault::Tenant(0)),
+        (Some(tenant), []) => Ok(tenant),
+        (Some(_), [_, ..]) => Err(SetupFault::Tenant(1)),
+    }
+}
+
+fn tenant_of_value(alloc: Global, value: &Value) -> Result<Option<TenantSetup>, AllocError>
+    ensures { IfOk result (λ tenant. tenant ≡ option_and_then tenant_of (as_table (view value.now))) }
+{
+    match value.as_table() {
+        Some(table) => tenant_of(alloc, table),
+        None => Ok(None),
+    }
+}
+
+// The tenant of the first table, where there is no other.
 fn tenant_in(alloc: Global, values: &[Value]) -> Result<TenantSetup, SetupError>
     ensures { Gives (λ t. t) result (tenant_in (items_view values.now)) }
 {
     let [first, others @ ..] = values else {
         return Err(SetupError::Fault(SetupFault::Tenant(0)));
     };
-    let Some(table) = first.as_table() else {
-        return Err(SetupError::Fault(SetupFault::Tenant(0)));
-    };
-    let Some(tenant) = tenant_of(alloc, table)? else {
-        return Err(SetupError::Fault(SetupFault::Tenant(0)));
-    };
-    if !others.is_empty() {
-        return Err(SetupError::Fault(SetupFault::Tenant(1)));
+    let tenant = tenant_of_value(alloc, first)?;
+    match only_tenant(tenant, others) {
+        Ok(tenant) => Ok(tenant),
+        Err(fault) => Err(SetupError::Fault(fault)),
     }
-    Ok(tenant)
 }
 
 #[tactic(auto, unfolding(crate::specs::Setup::tenant_at))]
@@ -401,11 +549,12 @@ fn document_of(alloc: Global, text: &str) -> Result<Table, SetupError>
 /// - At the top: `version`, which is 1; `start`, in milliseconds since 1970-01-01; and `tenant`, an
 ///   array of one table for now.
 /// - A tenant: `name`, `address` and `admin`; `journal` (1024 where it is left out), `margin` (1000)
-///   and `hold` (30000); tables `peer`, one table `route` and one table `rate`.
+///   and `hold` (30000); arrays of tables `peer`, `route` and `rate`, each empty where it is left out.
 /// - A peer: `name`, `role` (`child` or `peer`), `token`, `url`, `out_token`, `asset`, `scale`, `cap`,
 ///   `ceiling`, `credit`, `burst`, `per_second`, and `balance` (0 where it is left out).
-/// - A route: `prefix`, whose dot at the end is dropped, and `peer`, a peer's name. A rate: `from` and
-///   `to`, peers' names, `num` and `den`.
+/// - A route: `prefix`, whose dot at the end is dropped and which is `*` for the empty one, and `peer`, a
+///   peer's name. No two have the same prefix.
+/// - A rate: `from` and `to`, peers' names, `num` and `den`. Of two for the same ordered pair the later counts.
 ///
 /// The faults are looked for in the order of [`SetupFault`]; a key that lacks or is of another kind
 /// than wanted, and a limit of [`TenantSetup::new`] that is broken, is a fault of its tenant.

@@ -165,10 +165,10 @@ fn setups_give_their_first_fault(rt: HostRuntime) -> Result<(), Fail> {
         (64, 1000, 30_000)
     );
     assert_eq!(rt; terms.peers.as_slice().len(), 2);
-    assert_eq!(rt;
-        (terms.route.peer, terms.rate.from, terms.rate.to),
-        (1, 0, 1)
-    );
+    assert_eq!(rt; terms.routes.len(), 1);
+    let rates = terms.rates.as_slice();
+    assert_eq!(rt; rates.len(), 1);
+    assert_eq!(rt; (rates[0].from, rates[0].to), (0, 1));
     for (from, to, fault) in [
         ("version = 1", "version = 2", Some(SetupFault::Version)),
         (

@@ -1,7 +1,10 @@
 -- What a book keeps beside its records.
-use Rattle.std.specs.Prelude.{ℕ, ◌≡◌, ◌≤◌, ◌+◌, ◌*◌, length, vec_capacity, vec_len}
+use Rattle.std.specs.Prelude.{ℕ, ◌≡◌, ◌≤◌, ◌+◌, ◌*◌, true, length, vec_capacity}
+use Rattle.std.specs.List.{list_all}
 use Rattle.tenant_core.specs.declared.book.Book.TheInside.{Inside}
 use Rattle.tenant_core.specs.State.{State, clock_of, hold_count, open_holds}
+use Rattle.tenant_core.specs.Purse.{IsWithinBounds}
+use Rattle.tenant_core.specs.Setup.{is_peer_within}
 
 -- what contracts see of a book
 abbrev pub state_of : Inside → State
@@ -16,6 +19,9 @@ pub record IsKept (b : Inside) : Type 0 where
   -- the running numbers are what the records say
   pub clock : b.clock ≡ clock_of (state_of b)
   pub holds : b.holds ≡ hold_count (state_of b)
+  -- the limits of peers are small, and their purses keep their bounds
+  pub limits : list_all (λ p. is_peer_within p.terms) b.opening.peers ≡ true
+  pub purses : (n : ℕ) → IsWithinBounds (state_of b) n
   -- the clock is a moment, and the numbers of holds and times are small
   pub early : b.clock ≤ 253_400_000_000_000
   pub short_journal : b.opening.journal ≤ 16_384

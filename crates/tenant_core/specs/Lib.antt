@@ -1,6 +1,7 @@
 pub mod Key
 pub mod State
-pub mod Route
+pub mod Bucket
+pub mod Purse
 pub mod Judge
 pub mod Kept
 pub mod Setup

@@ -2,9 +2,11 @@
 use Rattle.std.specs.Prelude.{ℕ, ◌^◌, Bool, true, ◌&&◌, not, List, [], ◌∷◌, length, nat_lt, nat_le, ◌==◌, unsigned_abs}
 use Rattle.std.specs.List.{list_all, list_any}
 use Rattle.std.specs.Str.{bytes_eq}
-use Rattle.std.specs.Prelude.{is_ok}
-use Rattle.ilp_addr.specs.Address.{address_at}
+use Rattle.std.specs.FinMap.{values}
+use Rattle.route_table.specs.Routes.{RouteMap}
+use Rattle.tenant_core.specs.Judge.{is_for_pair}
 use Rattle.tenant_core.specs.declared.terms.PeerTerms.{PeerTerms}
+use Rattle.tenant_core.specs.declared.terms.RateTerms.{RateTerms}
 use Rattle.tenant_core.specs.declared.terms.TenantTerms.{TenantTerms}
 
 -- the number lies from low to high, both included
@@ -36,12 +38,24 @@ are_peers_within ps = nat_le (length ps) 256 && list_all is_peer_within ps && na
 abbrev pub are_times_within : TenantTerms → Bool
 are_times_within t = is_between 2 16_384 t.journal && nat_le t.margin 60_000 && is_between 1 600_000 t.hold
 
--- the route and the rate name peers that are there, and the rate two different ones
-abbrev pub are_peers_named : TenantTerms → Bool
-are_peers_named t =
-    nat_lt t.route.peer (length t.peers) && nat_lt t.rate.from (length t.peers) && nat_lt t.rate.to (length t.peers)
-    && not (t.rate.from == t.rate.to)
+-- each route leads to a peer that is there
+abbrev pub are_routes_within : ℕ → RouteMap → Bool
+are_routes_within count routes = list_all (λ peer. nat_lt peer count) (values routes)
 
--- the limits of a tenant's setup; its route's prefix is an address
+-- the rate is between two different peers that are there
+abbrev pub is_rate_within : ℕ → RateTerms → Bool
+is_rate_within count r = nat_lt r.from count && nat_lt r.to count && not (r.from == r.to)
+
+-- no two of the rates are for the same ordered pair
+abbrev pub pairs_differ : List RateTerms → Bool
+pairs_differ [] = true
+pairs_differ (r ∷ rs) = not (list_any (is_for_pair r.from r.to) rs) && pairs_differ rs
+
+-- at most 4,096 rates, each between two peers, no two for one pair
+abbrev pub are_rates_within : ℕ → List RateTerms → Bool
+are_rates_within count rs = nat_le (length rs) 4_096 && list_all (is_rate_within count) rs && pairs_differ rs
+
+-- the limits of a tenant's setup
 abbrev pub is_tenant_setup : TenantTerms → Bool
-is_tenant_setup t = are_times_within t && are_peers_within t.peers && are_peers_named t && is_ok (address_at t.route.prefix)
+is_tenant_setup t =
+    are_times_within t && are_peers_within t.peers && are_routes_within (length t.peers) t.routes && are_rates_within (length t.peers) t.rates

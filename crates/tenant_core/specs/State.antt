@@ -1,5 +1,5 @@
 -- A tenant's state: an opening and the records since. Every question about it is one about that list.
-use Rattle.std.specs.Prelude.{ℕ, ◌+◌, Bool, true, false, List, [], ◌∷◌, ◌++◌, length, fold, max, count_by, map}
+use Rattle.std.specs.Prelude.{ℕ, ◌+◌, ◌*◌, Bool, true, false, List, [], ◌∷◌, ◌++◌, fold, max, count_by, find, Option, ◌==◌}
 use Rattle.tenant_core.specs.declared.opening.Opening.{Opening}
 use Rattle.tenant_core.specs.declared.opening.Peer.{Peer}
 use Rattle.tenant_core.specs.declared.terms.PeerTerms.{PeerTerms}
@@ -17,10 +17,14 @@ pub record State : Type 0 where
   pub opening : Opening
   pub records : List Record
 
+-- a peer that was just added under that number: its bucket is full
+abbrev pub added : ℕ → PeerTerms → Peer
+added n p = record { number = n; terms = p; balance = p.balance; bucket = 1_000 * p.burst }
+
 -- the peers of a setup under their numbers, the first under n
 abbrev pub numbered : ℕ → List PeerTerms → List Peer
 numbered n [] = []
-numbered n (p ∷ ps) = record { number = n; terms = p } ∷ numbered (n + 1) ps
+numbered n (p ∷ ps) = added n p ∷ numbered (n + 1) ps
 
 -- what the first period of a tenant begins with
 abbrev pub opening_of : ℕ → TenantTerms → ℕ → Opening
@@ -36,8 +40,8 @@ opening_of tenant t start =
       clock = start;
       next_hold = 0;
       peers = numbered 0 t.peers;
-      route = t.route;
-      rate = t.rate;
+      routes = t.routes;
+      rates = t.rates;
     }
 
 -- the state in which nothing has happened since
@@ -78,6 +82,14 @@ open_holds s = hold_count s
 -- the number of the next hold: holds are numbered over all periods
 abbrev pub next_hold : State → ℕ
 next_hold s = s.opening.next_hold + hold_count s
+
+-- the peer of this number
+abbrev pub peer_numbered : ℕ → List Peer → Option Peer
+peer_numbered n peers = find (λ p. p.number == n) peers
+
+-- the entry is a packet of the peer of that number
+abbrev pub is_of : ℕ → Entry → Bool
+is_of n (Decide d) = d.peer == n
 
 -- the state with one record more
 abbrev pub recorded : State → Record → State

@@ -4,17 +4,27 @@ ghost use Rattle.std.specs.Prelude.{◌≡◌};
 ghost use Rattle.tenant_core.specs.Key.{key_of};
 ghost use Rattle.tenant_core.specs.Judge.{decide_record};
 
+use crate::bucket::is_admitted;
 use crate::journal::{DecideEntry, Entry, Outcome, PrepareKey, Record};
-use crate::judge::{peer_numbered, peer_with_token, refuse, routed};
+use crate::judge::{
+    onward, outgoing_expiry, peer_numbered, peer_with_token, rate_between, refuse, refuse_over,
+    stays_here,
+};
 use crate::numbered::numbered;
-use crate::opening::Opening;
+use crate::opening::{Opening, Peer};
+use crate::purse::{held_in, held_out, is_owed_more, owes_more};
 use crate::setup::TenantSetup;
-use crate::terms::PeerNo;
+use crate::terms::copied_rates;
 use crate::text::Text;
 use crate::verdict::{RejectCode, Verdict};
 use ilp_addr::{Address, Moment};
+use money_core::Rate;
+use route_table::PeerNo;
 use std::alloc::{AllocError, Global};
 use std::marker::Model;
+
+/// The most packets that a tenant holds at once.
+const MOST_HOLDS: u64 = 1_024;
 
 /// A tenant's book. Contracts see it as a `State`: what its period began with, and the records since.
 #[derive(Drop)]
@@ -27,8 +37,12 @@ pub struct Book {
 
 impl Model for Book {
     ghost use Rattle.tenant_core.specs.State.{State};
+    ghost use Rattle.std.specs.Coded.{codes};
+    ghost use Rattle.route_table.specs.contracts.routes.Routes as routes;
 
     ghost Value = { State };
+
+    ghost coded = { Prim.hlevel (codes, routes.the_row.coded) };
 
     ghost use Rattle.tenant_core.specs.Kept.{state_of, IsKept};
 
@@ -39,8 +53,7 @@ impl Model for Book {
 
 impl Book {
     ghost use Rattle.std.specs.Prelude.{◌≡◌, ◌+◌, ◌<◌, ◌≤◌, ℕ, length, IfOk, IfSome, option_copied, option_map};
-    ghost use Rattle.tenant_core.specs.Judge.{peer_numbered};
-    ghost use Rattle.tenant_core.specs.State.{State, opened, opening_of, open_holds};
+    ghost use Rattle.tenant_core.specs.State.{State, opened, opening_of, open_holds, peer_numbered};
 
     /// The book of a tenant's first period, in which nothing has happened. `tenant` is the tenant's place among
     /// all, below 64, and `start` its first clock. All the room that the period needs is taken now: the calls that
@@ -57,6 +70,8 @@ impl Book {
         let terms = setup.terms();
         let records = Vec::with_capacity(alloc, terms.journal as usize)?;
         let peers = numbered(alloc, terms.peers.as_slice())?;
+        let routes = terms.routes.copy(alloc)?;
+        let rates = copied_rates(alloc, terms.rates.as_slice())?;
         let opening = Opening {
             tenant,
             name: terms.name.copy(),
@@ -68,8 +83,8 @@ impl Book {
             clock: start.millis(),
             next_hold: 0,
             peers,
-            route: terms.route.copy(),
-            rate: terms.rate,
+            routes,
+            rates,
         };
         Ok(Book {
             opening,
@@ -97,6 +112,13 @@ impl Book {
         }
     }
 
+    /// How many entries the running period has.
+    pub fn entries(&self) -> usize
+        ensures { result ≡ length self.now.records }
+    {
+        self.records.len()
+    }
+
     /// The tenant's own address.
     pub fn address(&self) -> &[u8]
         ensures value { result.now ≡ self.now.opening.address }
@@ -107,23 +129,29 @@ impl Book {
 }
 
 impl Book {
-    ghost use Rattle.std.specs.Prelude.{◌≡◌, ◌≤◌, ◌+◌, length, OnSome};
+    ghost use Rattle.std.specs.Prelude.{◌≡◌, ◌≤◌, ◌+◌, ◌^◌, ℕ, Some, length, OnSome};
     ghost use Rattle.tenant_core.specs.Key.{key_of};
     ghost use Rattle.tenant_core.specs.State.{open_holds};
-    ghost use Rattle.tenant_core.specs.Judge.{judge, decided, recording_peer, peer_with_token, IsSooner};
+    ghost use Rattle.tenant_core.specs.Judge.{judge, decided, recording_peer, peer_with_token, admitted, routed, priced, held, IsSooner};
+    ghost use Rattle.tenant_core.specs.Purse.{is_over_ceiling, is_over_credit, balance_of, held_in_of, held_out_of, IsWithinBounds};
 
     /// Decides what becomes of a Prepare that came with this token at this moment, and records it.
     ///
     /// The checks, of which the first that fails gives the verdict: the token is a peer's (else `Unknown`); the
-    /// journal has room for the packet and its answer (else `NoRoom`); the expiry is after the clock; the route
-    /// leads on, to another peer than the sender; the pair has a rate; the price is within the next peer's cap; the
-    /// outgoing expiry is after the clock. After `Unknown` and `NoRoom` nothing has changed, the clock included.
-    /// The clock is the greatest moment so far.
+    /// journal has room for the packet and its answer (else `NoRoom`); the sender's bucket admits it (T05); the expiry
+    /// is after the clock (R02); the destination is neither a neighbour's, of the scheme `peer`, nor the tenant's own
+    /// address (F02); the amount is within the sender's cap (F08); the best route leads on, to another peer than the
+    /// sender (F02); the pair has a rate (F02); the price is within the next peer's cap (F08); the outgoing expiry is
+    /// after the clock (R02); the sender's balance, what is held from it and the amount are within its ceiling (T04); the
+    /// receiver's balance less what is held for it and the price is within its credit (T04); fewer than 1,024 packets
+    /// are held (T03). After `Unknown` and `NoRoom` nothing has changed, the clock included. The clock is the greatest
+    /// moment so far.
     pub fn decide(&mut self, token: &[u8], key: &PrepareKey<'_>, now: Moment) -> Verdict
         ensures verdict { result ≡ judge self.old token.now (key_of key.now) now }
         ensures records { self.new ≡ decided self.old token.now (key_of key.now) now }
         ensures opening { self.new.opening ≡ self.old.opening }
         ensures room { length self.new.records + open_holds self.new ≤ self.new.opening.journal }
+        ensures bounds { (peer : ℕ) → IsWithinBounds self.new peer }
         ensures sooner { IsSooner result key.now.expiry }
     {
         let (verdict, peer) = self.ruling(token, key, now);
@@ -152,18 +180,124 @@ impl Book {
         if self.records.len() as u64 + self.holds + 2 > self.opening.journal {
             return (Verdict::NoRoom, None);
         }
-        let verdict = if key.expiry <= clock {
-            refuse(RejectCode::InsufficientTimeout)
-        } else {
-            routed(
-                &self.opening,
-                self.opening.next_hold + self.holds,
-                from,
-                key,
-                clock,
-            )
-        };
-        (verdict, Some(from.number))
+        (self.admitted(from, key, clock), Some(from.number))
+    }
+
+    // The verdict on a packet that the journal has room for, at that clock.
+    fn admitted(&self, from: &Peer, key: &PrepareKey<'_>, clock: u64) -> Verdict
+        requires { clock ≤ 253_400_000_000_000 }
+        ensures verdict { result ≡ admitted self.now from.now (key_of key.now) clock }
+        ensures sooner { IsSooner result key.now.expiry }
+    {
+        let opening = &self.opening;
+        if !is_admitted(from, opening.clock, self.records.as_slice(), clock) {
+            return refuse(RejectCode::RateLimited);
+        }
+        if key.expiry <= clock {
+            return refuse(RejectCode::InsufficientTimeout);
+        }
+        if stays_here(opening, key.destination) {
+            return refuse(RejectCode::Unreachable);
+        }
+        if key.amount > from.terms.cap {
+            return refuse_over(key.amount, from.terms.cap);
+        }
+        match onward(opening, from.number, key.destination) {
+            Some(to) => self.routed(from, to, key, clock),
+            None => refuse(RejectCode::Unreachable),
+        }
+    }
+
+    // The verdict on a packet that a route leads on for.
+    fn routed(&self, from: &Peer, to: &Peer, key: &PrepareKey<'_>, clock: u64) -> Verdict
+        requires { clock ≤ 253_400_000_000_000 }
+        ensures verdict { result ≡ routed self.now from.now (key_of key.now) clock (Some to.now) }
+        ensures sooner { IsSooner result key.now.expiry }
+    {
+        match rate_between(&self.opening, from.number, to.number) {
+            Some(rate) => self.priced(from, to, key, clock, rate),
+            None => refuse(RejectCode::Unreachable),
+        }
+    }
+
+    // The verdict on a packet that has a price.
+    fn priced(
+        &self,
+        from: &Peer,
+        to: &Peer,
+        key: &PrepareKey<'_>,
+        clock: u64,
+        rate: Rate,
+    ) -> Verdict
+        requires { clock ≤ 253_400_000_000_000 }
+        ensures verdict { result ≡ priced self.now from.now to.now (key_of key.now) clock (Some rate) }
+        ensures sooner { IsSooner result key.now.expiry }
+    {
+        let price = rate.price(key.amount);
+        if price > to.terms.cap as u128 {
+            return refuse_over(key.amount, rate.greatest(from.terms.cap, to.terms.cap));
+        }
+        let expiry = outgoing_expiry(&self.opening, key.expiry, clock);
+        if expiry <= clock {
+            return refuse(RejectCode::InsufficientTimeout);
+        }
+        self.held(from, to, key.amount, price as u64, expiry)
+    }
+
+    // The verdict on a packet that would go on with that price and that expiry.
+    fn held(&self, from: &Peer, to: &Peer, amount: u64, price: u64, expiry: u64) -> Verdict
+        ensures verdict { result ≡ held self.now from.now to.now amount price expiry }
+        ensures sooner { IsSooner result expiry }
+    {
+        if self.is_over_ceiling(from, amount) || self.is_over_credit(to, price) {
+            return refuse(RejectCode::InsufficientLiquidity);
+        }
+        if self.holds >= MOST_HOLDS {
+            return refuse(RejectCode::Busy);
+        }
+        Verdict::Forward {
+            hold: self.opening.next_hold + self.holds,
+            peer: to.number,
+            amount: price,
+            expiry,
+        }
+    }
+
+    fn is_over_ceiling(&self, from: &Peer, amount: u64) -> bool
+        ensures { result ≡ is_over_ceiling self.now from.now amount }
+    {
+        let held = self.held_in(from.number) + amount as u128;
+        owes_more(self.balance(from.number), held, from.terms.ceiling)
+    }
+
+    fn is_over_credit(&self, to: &Peer, amount: u64) -> bool
+        ensures { result ≡ is_over_credit self.now to.now amount }
+    {
+        let held = self.held_out(to.number) + amount as u128;
+        is_owed_more(self.balance(to.number), held, to.terms.credit)
+    }
+
+    fn held_in(&self, peer: PeerNo) -> u128
+        ensures value { result ≡ held_in_of self.now peer }
+        ensures small { result ≤ 2 ^ 80 }
+    {
+        held_in(self.records.as_slice(), peer)
+    }
+
+    fn held_out(&self, peer: PeerNo) -> u128
+        ensures value { result ≡ held_out_of self.now peer }
+        ensures small { result ≤ 2 ^ 80 }
+    {
+        held_out(self.records.as_slice(), peer)
+    }
+
+    fn balance(&self, peer: PeerNo) -> i64
+        ensures { result ≡ balance_of self.now peer }
+    {
+        match peer_numbered(self.opening.peers.as_slice(), peer) {
+            Some(peer) => peer.balance,
+            None => 0,
+        }
     }
 }
 

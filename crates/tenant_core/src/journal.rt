@@ -1,9 +1,9 @@
 //! What a tenant's journal is made of.
 
-use crate::terms::PeerNo;
 use crate::text::Text;
 use crate::verdict::Verdict;
 use ilp_addr::Address;
+use route_table::PeerNo;
 
 /// What a Prepare says that a tenant decides by.
 #[derive(Clone, Copy)]

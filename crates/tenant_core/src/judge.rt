@@ -1,18 +1,17 @@
-//! The verdict of a Prepare, check by check.
+//! What the checks of a Prepare ask of a tenant.
 
-ghost use Rattle.std.specs.Prelude.{◌≡◌, ◌≤◌, Some, None};
+ghost use Rattle.std.specs.Prelude.{◌≡◌, ◌≤◌, ◌+◌, Some, None, Bool, codes};
 ghost use Rattle.std.specs.Option.{option_copied};
 ghost use Rattle.std.specs.Str.{bytes_eq};
-ghost use Rattle.tenant_core.specs.Key.{key_of};
-ghost use Rattle.tenant_core.specs.Judge.{peer_with_token, peer_numbered, onward, rate_between, outgoing_expiry, refuse, priced, routed, IsSooner};
+ghost use Rattle.ilp_addr.specs.Address.{segments};
+ghost use Rattle.tenant_core.specs.State.{peer_numbered};
+ghost use Rattle.tenant_core.specs.Judge.{peer_with_token, begins_at, stays_here, onward, rate_between, outgoing_expiry, refuse, refuse_over};
 
-use crate::journal::PrepareKey;
 use crate::opening::{Opening, Peer};
-use crate::route::leads_to;
-use crate::terms::PeerNo;
 use crate::verdict::{RejectCode, Verdict};
 use ilp_addr::Address;
 use money_core::Rate;
+use route_table::PeerNo;
 
 fn shows(peer: &Peer, token: &[u8]) -> bool
     ensures { result ≡ bytes_eq peer.now.terms.token token.now }
@@ -34,27 +33,45 @@ pub fn peer_numbered(peers: &[Peer], number: PeerNo) -> Option<&Peer>
     peers.iter().find(|peer| peer.number == number)
 }
 
-fn onward<'a>(opening: &'a Opening, from: &Peer, destination: &Address<'_>) -> Option<&'a Peer>
-    ensures { option_copied result ≡ onward opening.now from.now destination.now }
+fn begins_at(destination: &Address<'_>, scheme: &[u8]) -> bool
+    ensures { result ≡ begins_at scheme.now (segments destination.now) }
 {
-    let route = &opening.route;
-    if !leads_to(route.prefix.as_bytes(), destination.bytes()) || route.peer == from.number {
-        return None;
+    match destination.segments().next() {
+        Some(first) => first == scheme,
+        None => false,
     }
-    peer_numbered(opening.peers.as_slice(), route.peer)
 }
 
-fn rate_between(opening: &Opening, from: PeerNo, to: PeerNo) -> Option<Rate>
+/// Whether packets for the destination are not sent on: it is for direct neighbours, or the tenant's own address.
+pub fn stays_here(opening: &Opening, destination: &Address<'_>) -> bool
+    ensures { result ≡ stays_here opening.now destination.now }
+{
+    begins_at(destination, b"peer") || destination.bytes() == opening.address.as_bytes()
+}
+
+/// The peer that a packet of `from` goes on to: that of the best route, unless it leads back.
+pub fn onward<'a>(opening: &'a Opening, from: PeerNo, destination: &Address<'_>) -> Option<&'a Peer>
+    ensures { option_copied result ≡ onward opening.now from destination.now }
+{
+    match opening.routes.find(destination) {
+        Some(to) if to != from => peer_numbered(opening.peers.as_slice(), to),
+        _ => None,
+    }
+}
+
+/// The rate of an ordered pair of peers.
+pub fn rate_between(opening: &Opening, from: PeerNo, to: PeerNo) -> Option<Rate>
     ensures { result ≡ rate_between opening.now from to }
 {
-    if opening.rate.from == from && opening.rate.to == to {
-        Some(opening.rate.rate)
-    } else {
-        None
-    }
+    let rates = opening.rates.as_slice();
+    let terms = rates
+        .iter()
+        .find(|rate| rate.from == from && rate.to == to)?;
+    Some(terms.rate)
 }
 
-fn outgoing_expiry(opening: &Opening, expiry: u64, clock: u64) -> u64
+/// The expiry that a packet goes on with.
+pub fn outgoing_expiry(opening: &Opening, expiry: u64, clock: u64) -> u64
     requires clock { clock ≤ 253_400_000_000_000 }
     requires hold { opening.now.hold ≤ 600_000 }
     ensures { result ≡ outgoing_expiry opening.now expiry clock }
@@ -74,58 +91,12 @@ pub fn refuse(code: RejectCode) -> Verdict
     }
 }
 
-fn priced(
-    opening: &Opening,
-    hold: u64,
-    from: &Peer,
-    to: &Peer,
-    key: &PrepareKey<'_>,
-    clock: u64,
-) -> Verdict
-    requires clock { clock ≤ 253_400_000_000_000 }
-    requires hold { opening.now.hold ≤ 600_000 }
-    ensures sooner { IsSooner result key.now.expiry }
-    ensures verdict { result ≡ priced opening.now hold from.now to.now (key_of key.now) clock (rate_between opening.now from.now.number to.now.number) }
+/// The refusal of an amount, with the greatest that would go on.
+pub fn refuse_over(amount: u64, greatest: u64) -> Verdict
+    ensures { result ≡ refuse_over amount greatest }
 {
-    let Some(rate) = rate_between(opening, from.number, to.number) else {
-        return refuse(RejectCode::Unreachable);
-    };
-    let price = rate.price(key.amount);
-    if price > to.terms.cap as u128 {
-        let greatest = rate.greatest(from.terms.cap, to.terms.cap);
-        return Verdict::Refuse {
-            code: RejectCode::AmountTooLarge,
-            amounts: Some((key.amount, greatest)),
-        };
-    }
-    let expiry = outgoing_expiry(opening, key.expiry, clock);
-    if expiry <= clock {
-        return refuse(RejectCode::InsufficientTimeout);
-    }
-    Verdict::Forward {
-        hold,
-        peer: to.number,
-        amount: price as u64,
-        expiry,
-    }
-}
-
-/// The verdict on a packet of a peer for a journal that has room, at that clock. It is held under the number `hold`
-/// where it goes on.
-pub fn routed(
-    opening: &Opening,
-    hold: u64,
-    from: &Peer,
-    key: &PrepareKey<'_>,
-    clock: u64,
-) -> Verdict
-    requires clock { clock ≤ 253_400_000_000_000 }
-    requires hold { opening.now.hold ≤ 600_000 }
-    ensures verdict { result ≡ routed opening.now hold from.now (key_of key.now) clock (onward opening.now from.now key.now.destination.now) }
-    ensures sooner { IsSooner result key.now.expiry }
-{
-    match onward(opening, from, key.destination) {
-        Some(to) => priced(opening, hold, from, to, key, clock),
-        None => refuse(RejectCode::Unreachable),
+    Verdict::Refuse {
+        code: RejectCode::AmountTooLarge,
+        amounts: Some((amount, greatest)),
     }
 }

@@ -2,12 +2,14 @@
 #![tactic(auto)]
 
 mod book;
+mod bucket;
 mod items;
 mod journal;
 mod judge;
+pub mod laws;
 mod numbered;
 mod opening;
-mod route;
+mod purse;
 mod setup;
 mod terms;
 mod text;
@@ -17,8 +19,9 @@ pub use book::Book;
 pub use items::Items;
 pub use journal::{DecideEntry, Entry, Outcome, PrepareKey, Record};
 pub use opening::{Opening, Peer};
+pub use route_table::PeerNo;
 pub use setup::TenantSetup;
-pub use terms::{PeerNo, PeerTerms, RateTerms, Role, RouteTerms, TenantTerms};
+pub use terms::{PeerTerms, RateTerms, Role, TenantTerms};
 pub use text::Text;
 pub use verdict::{RejectCode, Verdict};
 

@@ -5,7 +5,8 @@ ghost use Rattle.tenant_core.specs.State.{numbered};
 
 use crate::items::Items;
 use crate::opening::Peer;
-use crate::terms::{PeerNo, PeerTerms};
+use crate::terms::PeerTerms;
+use route_table::PeerNo;
 use std::alloc::{AllocError, Global};
 
 /// The peers of a setup under their numbers, from 0 on.
@@ -18,6 +19,8 @@ pub fn numbered(alloc: Global, peers: &[PeerTerms]) -> Result<Items<Peer>, Alloc
         list.push_reserved(Peer {
             number: number as PeerNo,
             terms: terms.copy(),
+            balance: terms.balance,
+            bucket: 1_000 * terms.burst as u64,
         });
     }
     Ok(Items::from_vec(list))

@@ -1,14 +1,20 @@
 //! What a period begins with.
 
 use crate::items::Items;
-use crate::terms::{PeerNo, PeerTerms, RateTerms, RouteTerms};
+use crate::terms::{PeerTerms, RateTerms};
 use crate::text::Text;
+use route_table::{PeerNo, Routes};
 
-/// A peer under its number.
+/// A peer under its number, as a period finds it.
 #[derive(Drop)]
 pub struct Peer {
+    /// Peers are numbered from 0 in the order in which they are added.
     pub number: PeerNo,
     pub terms: PeerTerms,
+    /// What the peer owes, in its units.
+    pub balance: i64,
+    /// What its bucket holds, in thousandths of a packet.
+    pub bucket: u64,
 }
 
 /// A tenant as a period finds it.
@@ -28,6 +34,6 @@ pub struct Opening {
     pub clock: u64,
     pub next_hold: u64,
     pub peers: Items<Peer>,
-    pub route: RouteTerms,
-    pub rate: RateTerms,
+    pub routes: Routes,
+    pub rates: Items<RateTerms>,
 }

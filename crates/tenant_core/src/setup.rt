@@ -1,13 +1,13 @@
 //! Setups of tenants, within their limits.
 
-ghost use Rattle.std.specs.Prelude.{◌≡◌, is_ok};
-ghost use Rattle.ilp_addr.specs.Address.{address_at};
+ghost use Rattle.std.specs.Prelude.{◌≡◌};
 ghost use Rattle.std.specs.List.{list_any, list_all};
 ghost use Rattle.std.specs.Str.{bytes_eq};
-ghost use Rattle.tenant_core.specs.Setup.{is_peer_within, names_differ, tokens_differ, are_peers_within, are_times_within, are_peers_named, is_tenant_setup};
+ghost use Rattle.tenant_core.specs.Setup.{is_peer_within, names_differ, tokens_differ, are_peers_within, are_times_within, are_routes_within, is_rate_within, pairs_differ, are_rates_within, is_tenant_setup};
+ghost use Rattle.tenant_core.specs.Judge.{is_for_pair};
 
-use crate::terms::{PeerTerms, TenantTerms};
-use ilp_addr::Address;
+use crate::terms::{PeerTerms, RateTerms, TenantTerms};
+use route_table::{PeerNo, Routes};
 
 const MOST_MONEY: u64 = 1 << 62;
 
@@ -91,26 +91,58 @@ fn are_times_within(terms: &TenantTerms) -> bool
         && terms.hold <= 600_000
 }
 
-fn are_peers_named(terms: &TenantTerms) -> bool
-    ensures { result ≡ are_peers_named terms.now }
+fn are_routes_within(peers: usize, routes: &Routes) -> bool
+    ensures { result ≡ are_routes_within peers routes.now }
 {
-    let peers = terms.peers.as_slice().len();
-    (terms.route.peer as usize) < peers
-        && (terms.rate.from as usize) < peers
-        && (terms.rate.to as usize) < peers
-        && terms.rate.from != terms.rate.to
+    routes.names_only_below(peers)
 }
 
-fn is_address(bytes: &[u8]) -> bool
-    ensures { result ≡ is_ok (address_at bytes.now) }
+fn is_rate_within(peers: usize, rate: &RateTerms) -> bool
+    ensures { result ≡ is_rate_within peers rate.now }
 {
-    Address::parse(bytes).is_ok()
+    (rate.from as usize) < peers && (rate.to as usize) < peers && rate.from != rate.to
+}
+
+fn is_for_pair(from: PeerNo, to: PeerNo, rate: &RateTerms) -> bool
+    ensures { result ≡ is_for_pair from to rate.now }
+{
+    rate.from == from && rate.to == to
+}
+
+fn has_pair_again(from: PeerNo, to: PeerNo, others: &[RateTerms]) -> bool
+    ensures { result ≡ list_any (is_for_pair from to) others.now }
+{
+    others.iter().any(|other| is_for_pair(from, to, other))
+}
+
+fn pairs_differ(rates: &[RateTerms]) -> bool
+    ensures { result ≡ pairs_differ rates.now }
+{
+    match rates.split_first() {
+        Some((rate, others)) => {
+            !has_pair_again(rate.from, rate.to, others) && pairs_differ(others)
+        }
+        None => true,
+    }
+}
+
+fn is_each_rate_within(peers: usize, rates: &[RateTerms]) -> bool
+    ensures { result ≡ list_all (is_rate_within peers) rates.now }
+{
+    rates.iter().all(|rate| is_rate_within(peers, rate))
+}
+
+fn are_rates_within(peers: usize, rates: &[RateTerms]) -> bool
+    ensures { result ≡ are_rates_within peers rates.now }
+{
+    rates.len() <= 4096 && is_each_rate_within(peers, rates) && pairs_differ(rates)
 }
 
 /// The terms of a tenant within the limits of a setup: a journal of 2 to 16,384 places, a margin of at most 60,000
 /// and a hold of 1 to 600,000 milliseconds; at most 256 peers with names and tokens of their own, with caps,
 /// ceilings and credits of at most 2^62, balances from -2^62 to 2^62, a burst of 1 to 1,000,000 and at most
-/// 1,000,000 packets a second; a route for an address, to a peer that is there, and a rate between two different ones.
+/// 1,000,000 packets a second; routes to peers that are there, and at most 4,096 rates, each between two different peers
+/// that are there and no two for the same ordered pair.
 #[derive(Drop)]
 pub struct TenantSetup {
     terms: TenantTerms,
@@ -120,8 +152,12 @@ impl std::marker::Model for TenantSetup {
     ghost use Rattle.std.specs.Prelude.{◌≡◌, true};
     ghost use Rattle.tenant_core.specs.declared.terms.TenantTerms.{TenantTerms};
     ghost use Rattle.tenant_core.specs.Setup.{is_tenant_setup};
+    ghost use Rattle.std.specs.Coded.{codes};
+    ghost use Rattle.route_table.specs.contracts.routes.Routes as routes;
 
     ghost Value = { TenantTerms };
+
+    ghost coded = { Prim.hlevel (codes, routes.the_row.coded) };
 
     ghost view = { λ s. s.terms };
 
@@ -136,10 +172,11 @@ impl TenantSetup {
     pub fn new(terms: TenantTerms) -> Option<TenantSetup>
         ensures { result ≡ (if is_tenant_setup terms then Some terms else None) }
     {
+        let peers = terms.peers.as_slice().len();
         if are_times_within(&terms)
             && are_peers_within(terms.peers.as_slice())
-            && are_peers_named(&terms)
-            && is_address(terms.route.prefix.as_bytes())
+            && are_routes_within(peers, &terms.routes)
+            && are_rates_within(peers, terms.rates.as_slice())
         {
             Some(TenantSetup { terms })
         } else {

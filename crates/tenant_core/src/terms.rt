@@ -1,13 +1,12 @@
 //! What a tenant's setup says, before anything is tested.
 
-ghost use Rattle.std.specs.Prelude.{◌≡◌};
+ghost use Rattle.std.specs.Prelude.{◌≡◌, IfOk};
 
 use crate::items::Items;
 use crate::text::Text;
 use money_core::Rate;
-
-/// A peer's number: peers are numbered from 0 in the order in which they are added.
-pub type PeerNo = u16;
+use route_table::{PeerNo, Routes};
+use std::alloc::{AllocError, Global};
 
 /// What a peer is to the tenant.
 #[derive(Clone, Copy, Debug, PartialEq, Eq)]
@@ -67,31 +66,19 @@ impl PeerTerms {
     }
 }
 
-/// Packets for addresses that begin with the prefix go to the peer.
-#[derive(Drop)]
-pub struct RouteTerms {
-    pub prefix: Text<1023>,
-    pub peer: PeerNo,
-}
-
-impl RouteTerms {
-    /// The same route once more.
-    pub fn copy(&self) -> RouteTerms
-        ensures { result ≡ self.now }
-    {
-        RouteTerms {
-            prefix: self.prefix.copy(),
-            peer: self.peer,
-        }
-    }
-}
-
 /// What packets of one peer for another cost.
 #[derive(Clone, Copy)]
 pub struct RateTerms {
     pub from: PeerNo,
     pub to: PeerNo,
     pub rate: Rate,
+}
+
+/// The same rates once more.
+pub fn copied_rates(alloc: Global, rates: &[RateTerms]) -> Result<Items<RateTerms>, AllocError>
+    ensures { IfOk result (λ copy. copy ≡ rates.now) }
+{
+    Ok(Items::from_vec(Vec::from_slice(alloc, rates)?))
 }
 
 /// A tenant as its setup describes it.
@@ -109,6 +96,8 @@ pub struct TenantTerms {
     /// For how many milliseconds a packet may be held at most.
     pub hold: u64,
     pub peers: Items<PeerTerms>,
-    pub route: RouteTerms,
-    pub rate: RateTerms,
+    /// Which peer packets for a prefix go to.
+    pub routes: Routes,
+    /// The rates, one for an ordered pair of peers.
+    pub rates: Items<RateTerms>,
 }

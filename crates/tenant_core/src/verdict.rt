@@ -1,14 +1,20 @@
 //! What a tenant answers to a packet.
 
-use crate::terms::PeerNo;
+use route_table::PeerNo;
 
 /// Why a packet is refused, by the error codes of the protocol (RFC 0027, "Error Codes").
 #[derive(Clone, Copy, Debug, PartialEq, Eq)]
 pub enum RejectCode {
     /// F02: no peer leads to the destination.
     Unreachable,
-    /// F08: the amount is over what the next peer takes in one packet.
+    /// F08: the amount is over what a peer may send or be sent in one packet.
     AmountTooLarge,
+    /// T03: as many packets are held as the tenant can hold.
+    Busy,
+    /// T04: the sender would owe too much, or the next peer be owed too much.
+    InsufficientLiquidity,
+    /// T05: the sender brings packets faster than was agreed.
+    RateLimited,
     /// R02: the packet expires too soon.
     InsufficientTimeout,
 }

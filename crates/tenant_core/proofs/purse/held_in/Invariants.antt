@@ -1,0 +1,10 @@
+use Rattle.std.proofs.Common.{◌≡◌, ◌≤◌, ◌*◌, ◌^◌, take, sum_by}
+use Rattle.tenant_core.specs.Purse.{brought}
+use Rattle.tenant_core.proofs.purse.held_in.Given as goal
+
+abbrev pub invariant-loop-entered : goal.invariant-loop-entered
+invariant-loop-entered l =
+    record {
+      sum : l.held ≡ sum_by (brought l.peer) (take l.entered-index l.records);
+      small : l.held ≤ l.entered-index * 2 ^ 64;
+    }
