@@ -2,7 +2,7 @@
 
 ghost use Rattle.std.specs.Prelude.{◌≡◌, ◌+◌, ◌-◌, ◌^◌, min, is_err, if◌then◌else◌};
 ghost use Rattle.std.specs.Io.{ReadsAtMost, WritesAtMost};
-ghost use Rattle.std.specs.Io.KnownBytes.{ReadConsumes, WriteAppends};
+ghost use Rattle.std.specs.Io.KnownBytes.{Keeps, ReadConsumes, WriteAppends};
 ghost use Rattle.ilpd.specs.Streams.{takes_nothing};
 
 use oer_core::Device;
@@ -75,9 +75,11 @@ impl<D: Write> Write for Counted<D> {
         result
     }
 
-    fn flush(&mut self) -> io::Result<()> {
-        let result = self.inner.flush();
-        self.count(result.is_err());
-        result
+    fn flush(&mut self) -> io::Result<()>
+        ensures bytes { Keeps (D.contents self.old.inner) (D.contents self.new.inner) }
+        // A flush is neither a read nor a write.
+        ensures counted { self.new.failures ≡ self.old.failures }
+    {
+        self.inner.flush()
     }
 }

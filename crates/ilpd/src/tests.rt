@@ -1,10 +1,14 @@
 //! That calls succeed, and that the definitions say what the formats' documents show.
 
+use crate::device::Counted;
 use crate::printed::print_lines;
 use crate::script::{ScriptError, ScriptFault, parse_script};
 use crate::setup::{SetupError, SetupFault, read_setup};
 use crate::step::{Bytes, Malformed, Output, Step};
+use oer_core::Device;
 use std::alloc::{AllocError, Global};
+use std::io;
+use std::io::{ErrorKind, Write};
 use std::test::Fail;
 use tenant_core::Text;
 
@@ -220,5 +224,28 @@ fn setups_give_their_first_fault(rt: HostRuntime) -> Result<(), Fail> {
     }
     let found = read_setup(rt.alloc(), &[255]).err();
     assert_eq!(rt; found, Some(SetupError::Fault(SetupFault::Toml)));
+    Ok(())
+}
+
+/// Takes all that it is given, and fails at each flush.
+#[derive(Drop)]
+struct NeverFlushed;
+
+impl Write for NeverFlushed {
+    fn write(&mut self, buf: &[u8]) -> io::Result<usize> {
+        Ok(buf.len())
+    }
+
+    fn flush(&mut self) -> io::Result<()> {
+        Err(io::Error::from(ErrorKind::BrokenPipe))
+    }
+}
+
+#[test]
+fn a_flush_that_fails_is_passed_on_and_not_counted(rt: HostRuntime) -> Result<(), Fail> {
+    let mut device = Counted::new(NeverFlushed);
+    let kind = device.flush().err().map(|error| error.kind());
+    assert_eq!(rt; kind, Some(ErrorKind::BrokenPipe));
+    assert_eq!(rt; device.failures(), 0);
     Ok(())
 }
