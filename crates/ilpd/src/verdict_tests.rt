@@ -7,7 +7,7 @@ use std::alloc::{AllocError, Global};
 use std::test::Fail;
 
 // The frames that scripts and lines name in braces.
-static FRAMES: [(&str, &str); 19] = [
+static FRAMES: [(&str, &str); 23] = [
     (
         "{base}",
         "0c4700000000000003e8323033303031303130303030313030303066687aadf862bd776c8fc18b8e9f8e20089714856ee233b3902a591d0d5f29250c672e61636d652e626f622e7800",
@@ -84,10 +84,26 @@ static FRAMES: [(&str, &str); 19] = [
         "{F08 max 1000}",
         "0e2c46303806672e61636d6510616d6f756e7420746f6f206c6172676510ffffffffffffffff00000000000003e8",
     ),
+    (
+        "{bobby}",
+        "0c4900000000000003e8323033303031303130303030313030303066687aadf862bd776c8fc18b8e9f8e20089714856ee233b3902a591d0d5f29250e672e61636d652e626f6262792e7800",
+    ),
+    (
+        "{bobby sent}",
+        "0c4900000000000007d0323033303031303130303030303930303066687aadf862bd776c8fc18b8e9f8e20089714856ee233b3902a591d0d5f29250e672e61636d652e626f6262792e7800",
+    ),
+    (
+        "{below own to carol}",
+        "0c4300000000000007d0323033303031303130303030303930303066687aadf862bd776c8fc18b8e9f8e20089714856ee233b3902a591d0d5f292508672e61636d652e7800",
+    ),
+    (
+        "{other to carol}",
+        "0c4200000000000007d0323033303031303130303030303930303066687aadf862bd776c8fc18b8e9f8e20089714856ee233b3902a591d0d5f292507672e6f7468657200",
+    ),
 ];
 
 // What is in a row, the part of the setup that is replaced and its replacement, the script, and what it prints.
-static ROWS: [(&str, &str, &str, &str, &str); 29] = [
+static ROWS: [(&str, &str, &str, &str, &str); 33] = [
     (
         "over the next peer's cap",
         "cap = 1000001\nceiling = 1000000\ncredit = 1000000\nburst = 100\nper_second = 100\n",
@@ -262,6 +278,34 @@ static ROWS: [(&str, &str, &str, &str, &str); 29] = [
         "[[tenant.route]]\nprefix = \"*\"\npeer = \"bob\"\n",
         "load 0 acme tok-alice {own}\ndecide 0 1893456000000\nload 0 acme tok-alice {below own}\ndecide 0 1893456000000\n",
         "acme loaded 0\nacme reply {F02}\nacme loaded 1\nacme send bob 0 {below own sent}\n",
+    ),
+    (
+        "more segments win",
+        "[[tenant.route]]\nprefix = \"g.acme.bob\"\npeer = \"bob\"\n",
+        "[[tenant.peer]]\nname = \"carol\"\nrole = \"peer\"\ntoken = \"tok-carol\"\nurl = \"http://127.0.0.1:7803/ilp\"\nout_token = \"out-carol\"\nasset = \"EUR\"\nscale = 2\ncap = 1000000\nceiling = 1000000\ncredit = 1000000\nburst = 100\nper_second = 100\n[[tenant.route]]\nprefix = \"g.acme\"\npeer = \"carol\"\n[[tenant.route]]\nprefix = \"g.acme.bob\"\npeer = \"bob\"\n[[tenant.rate]]\nfrom = \"alice\"\nto = \"carol\"\nnum = 2\nden = 1\n",
+        "load 0 acme tok-alice {base}\ndecide 0 1893456000000\n",
+        "acme loaded 0\nacme send bob 0 {sent}\n",
+    ),
+    (
+        "a segment is matched whole",
+        "[[tenant.route]]\nprefix = \"g.acme.bob\"\npeer = \"bob\"\n",
+        "[[tenant.peer]]\nname = \"carol\"\nrole = \"peer\"\ntoken = \"tok-carol\"\nurl = \"http://127.0.0.1:7803/ilp\"\nout_token = \"out-carol\"\nasset = \"EUR\"\nscale = 2\ncap = 1000000\nceiling = 1000000\ncredit = 1000000\nburst = 100\nper_second = 100\n[[tenant.route]]\nprefix = \"g.acme\"\npeer = \"carol\"\n[[tenant.route]]\nprefix = \"g.acme.bob\"\npeer = \"bob\"\n[[tenant.rate]]\nfrom = \"alice\"\nto = \"carol\"\nnum = 2\nden = 1\n",
+        "load 0 acme tok-alice {bobby}\ndecide 0 1893456000000\n",
+        "acme loaded 0\nacme send carol 0 {bobby sent}\n",
+    ),
+    (
+        "the shorter prefix where the longer fails",
+        "[[tenant.route]]\nprefix = \"g.acme.bob\"\npeer = \"bob\"\n",
+        "[[tenant.peer]]\nname = \"carol\"\nrole = \"peer\"\ntoken = \"tok-carol\"\nurl = \"http://127.0.0.1:7803/ilp\"\nout_token = \"out-carol\"\nasset = \"EUR\"\nscale = 2\ncap = 1000000\nceiling = 1000000\ncredit = 1000000\nburst = 100\nper_second = 100\n[[tenant.route]]\nprefix = \"g.acme\"\npeer = \"carol\"\n[[tenant.route]]\nprefix = \"g.acme.bob\"\npeer = \"bob\"\n[[tenant.rate]]\nfrom = \"alice\"\nto = \"carol\"\nnum = 2\nden = 1\n",
+        "load 0 acme tok-alice {below own}\ndecide 0 1893456000000\n",
+        "acme loaded 0\nacme send carol 0 {below own to carol}\n",
+    ),
+    (
+        "the default where no other prefix matches",
+        "[[tenant.route]]\nprefix = \"g.acme.bob\"\npeer = \"bob\"\n",
+        "[[tenant.peer]]\nname = \"carol\"\nrole = \"peer\"\ntoken = \"tok-carol\"\nurl = \"http://127.0.0.1:7803/ilp\"\nout_token = \"out-carol\"\nasset = \"EUR\"\nscale = 2\ncap = 1000000\nceiling = 1000000\ncredit = 1000000\nburst = 100\nper_second = 100\n[[tenant.route]]\nprefix = \"*\"\npeer = \"carol\"\n[[tenant.route]]\nprefix = \"g.acme.bob\"\npeer = \"bob\"\n[[tenant.rate]]\nfrom = \"alice\"\nto = \"carol\"\nnum = 2\nden = 1\n",
+        "load 0 acme tok-alice {other}\ndecide 0 1893456000000\n",
+        "acme loaded 0\nacme send carol 0 {other to carol}\n",
     ),
     (
         "no rate for the pair",

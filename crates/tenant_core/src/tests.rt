@@ -258,7 +258,8 @@ fn a_bucket_refills_by_the_clock(rt: HostRuntime) -> Result<(), Fail> {
         (9_000, true),
         (9_000, false),
     ] {
-        let found = decide(&mut book, 1, START + 60_000, START + after)?;
+        let now = START.saturating_add(after);
+        let found = decide(&mut book, 1, START + 60_000, now)?;
         let is_limited = found == refused(RejectCode::RateLimited);
         assert_eq!(rt; !is_limited, is_admitted, "{after} ms after the start");
     }
