@@ -7,7 +7,7 @@ use std::alloc::{AllocError, Global};
 use std::test::Fail;
 
 // The frames that scripts and lines name in braces.
-static FRAMES: [(&str, &str); 23] = [
+static FRAMES: [(&str, &str); 25] = [
     (
         "{base}",
         "0c4700000000000003e8323033303031303130303030313030303066687aadf862bd776c8fc18b8e9f8e20089714856ee233b3902a591d0d5f29250c672e61636d652e626f622e7800",
@@ -81,6 +81,14 @@ static FRAMES: [(&str, &str); 23] = [
         "0e2c46303806672e61636d6510616d6f756e7420746f6f206c6172676510ffffffffffffffff4000000000000000",
     ),
     (
+        "{F08 1000 666}",
+        "0e2c46303806672e61636d6510616d6f756e7420746f6f206c617267651000000000000003e8000000000000029a",
+    ),
+    (
+        "{F08 1000 667}",
+        "0e2c46303806672e61636d6510616d6f756e7420746f6f206c617267651000000000000003e8000000000000029b",
+    ),
+    (
         "{F08 max 1000}",
         "0e2c46303806672e61636d6510616d6f756e7420746f6f206c6172676510ffffffffffffffff00000000000003e8",
     ),
@@ -103,13 +111,27 @@ static FRAMES: [(&str, &str); 23] = [
 ];
 
 // What is in a row, the part of the setup that is replaced and its replacement, the script, and what it prints.
-static ROWS: [(&str, &str, &str, &str, &str); 33] = [
+static ROWS: [(&str, &str, &str, &str, &str); 35] = [
     (
         "over the next peer's cap",
         "cap = 1000001\nceiling = 1000000\ncredit = 1000000\nburst = 100\nper_second = 100\n",
         "cap = 1499\nceiling = 1000000\ncredit = 1000000\nburst = 100\nper_second = 100\n",
         "load 0 acme tok-alice {base}\ndecide 0 1893456000000\n",
         "acme loaded 0\nacme reply {F08 1000 999}\n",
+    ),
+    (
+        "the next peer's cap is a price",
+        "cap = 1000001\nceiling = 1000000\ncredit = 1000000\nburst = 100\nper_second = 100\n",
+        "cap = 999\nceiling = 1000000\ncredit = 1000000\nburst = 100\nper_second = 100\n",
+        "load 0 acme tok-alice {base}\ndecide 0 1893456000000\n",
+        "acme loaded 0\nacme reply {F08 1000 666}\n",
+    ),
+    (
+        "the next peer's cap is the price of one more",
+        "cap = 1000001\nceiling = 1000000\ncredit = 1000000\nburst = 100\nper_second = 100\n",
+        "cap = 1000\nceiling = 1000000\ncredit = 1000000\nburst = 100\nper_second = 100\n",
+        "load 0 acme tok-alice {base}\ndecide 0 1893456000000\n",
+        "acme loaded 0\nacme reply {F08 1000 667}\n",
     ),
     (
         "within the next peer's cap",

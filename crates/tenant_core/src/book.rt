@@ -52,8 +52,9 @@ impl Model for Book {
 }
 
 impl Book {
-    ghost use Rattle.std.specs.Prelude.{◌≡◌, ◌+◌, ◌<◌, ◌≤◌, ℕ, length, IfOk, IfSome, option_copied, option_map};
-    ghost use Rattle.tenant_core.specs.State.{State, opened, opening_of, open_holds, peer_numbered};
+    ghost use Rattle.std.specs.Prelude.{◌≡◌, ◌<◌, ◌≤◌, ℕ, length, IfOk, IfSome, option_copied, option_map};
+    ghost use Rattle.tenant_core.specs.State.{opened, opening_of, peer_numbered};
+    ghost use Rattle.tenant_core.specs.Purse.{IsWithinBounds};
 
     /// The book of a tenant's first period, in which nothing has happened. `tenant` is the tenant's place among
     /// all, below 64, and `start` its first clock. All the room that the period needs is taken now: the calls that
@@ -65,7 +66,8 @@ impl Book {
         start: Moment,
     ) -> Result<Book, AllocError>
         requires { tenant < 64 }
-        ensures { IfOk result (λ book. book ≡ opened (opening_of tenant setup.now start)) }
+        ensures opened { IfOk result (λ book. book ≡ opened (opening_of tenant setup.now start)) }
+        ensures bounds { IfOk result (λ book. (peer : ℕ) → IsWithinBounds book peer) }
     {
         let terms = setup.terms();
         let records = Vec::with_capacity(alloc, terms.journal as usize)?;

@@ -20,3 +20,9 @@ invariant_of-result c =
       first_hold = search rules;
       few_periods = search rules;
     }
+
+pub returns-clause-bounds : goal.returns-clause-bounds
+returns-clause-bounds c =
+    let within = setup_peers c.terms-terms.result.now c.terms-terms.ensures.within in
+    let peers : c.in_ok-peers.peers ≡ numbered 0 c.terms-terms.result.now.peers = search rules in
+    opened_within _ _ c.terms-terms.result.now.peers (search rules) peers within
