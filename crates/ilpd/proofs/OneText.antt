@@ -1,5 +1,5 @@
 -- What the tenant sees and what is nobody's leave no choice: a list of steps has one list of outputs.
-use Rattle.std.proofs.Common.{◌≡◌, ◌+◌, ℕ, suc, List, [], ◌∷◌, length, Bool, true, false, cond, eqb, Option, Some, None, Result, Ok, Err, refl, sym, ap, subst, ◌∙◌, arith}
+use Rattle.std.proofs.Common.{◌≡◌, ℕ, List, [], ◌∷◌, length, Bool, true, false, cond, eqb, Option, Some, None, Result, Ok, Err, refl, sym, ap, subst, ◌∙◌, arith}
 use Rattle.std.specs.List.{AllByRecursion}
 use Rattle.std.proofs.lemmas.Bool.{eq-eqb}
 use Rattle.ilp_view.specs.declared.fault.ViewFault.{ViewFault}
@@ -11,9 +11,8 @@ use Rattle.tenant_core.specs.declared.verdict.Verdict.TheVariants.{Unknown, NoRo
 use Rattle.tenant_core.specs.Judge.{judge}
 use Rattle.ilpd.specs.Replay.{IsReplayed, tenant_at_start, names_in}
 use Rattle.ilpd.specs.Printed.{printed_lines}
-use Rattle.ilpd.specs.Setup.{setup_of}
 use Rattle.ilpd.specs.Script.{FitsIn, steps_of_script}
-use Rattle.ilpd.specs.World.{Stage, Tenant, Event, Hand, Owner, put, number_of, key_in, said, arrive_reply, arrive_after, decide_reply, decide_after, reply_alone, after_alone, run_alone, load_owner, decide_owner, owner, awaiting, told, worker_of, hands_after, owners, own_steps, seen_by, NobodysAreRight, AreOutputs, all_free}
+use Rattle.ilpd.specs.World.{Stage, Tenant, Event, Hand, Owner, number_of, key_in, said, arrive_reply, arrive_after, decide_reply, decide_after, reply_alone, after_alone, run_alone, load_owner, decide_owner, owner, awaiting, told, worker_of, hands_after, owners, own_steps, seen_by, NobodysAreRight, AreOutputs, all_free}
 use Rattle.ilpd.specs.declared.setup.Setup.{Setup}
 use Rattle.ilpd.specs.declared.setup.SetupFault.{SetupFault}
 use Rattle.ilpd.specs.declared.script.ScriptFault.{ScriptFault}
@@ -22,7 +21,7 @@ use Rattle.ilpd.specs.declared.step.Step.TheVariants.{Load, Decide}
 use Rattle.ilpd.specs.declared.step.Output.{Output}
 use Rattle.ilpd.specs.declared.step.Output.TheVariants.{Busy, Idle, Loaded, Bad, Stranger, Reply, Send}
 use Rattle.ilpd.proofs.Fits.{script_fits}
-use Rattle.ilpd.proofs.Runs.{kept_tenant, IsOwned, says, leaves}
+use Rattle.ilpd.proofs.Runs.{kept_tenant, says, leaves}
 
 -- a call in hand is tenant 0's
 abbrev OwnHand : Hand → Type 0

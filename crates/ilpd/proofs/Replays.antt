@@ -1,5 +1,5 @@
 -- What a replay writes, from the parts that it is made of.
-use Rattle.std.proofs.Common.{◌≡◌, ℕ, List, [], ◌∷◌, Option, Some, None, Result, Ok, Err, refl, sym, ap, subst, ◌∙◌}
+use Rattle.std.proofs.Common.{◌≡◌, ℕ, List, Option, Some, None, Ok, ap, subst, ◌∙◌}
 use Rattle.tenant_core.specs.State.{State, opened, opening_of}
 use Rattle.ilpd.specs.Printed.{printed_lines}
 use Rattle.std.specs.Prelude.{IfSome}
@@ -7,7 +7,7 @@ use Rattle.ilpd.specs.Replay.{tenant_at_start, names_in, IsAnswered, IsReplayed}
 use Rattle.ilpd.specs.Script.{steps_of_script}
 use Rattle.ilpd.specs.Setup.{setup_of}
 use Rattle.ilpd.specs.Runner.{Run, tenant_of, hands_of}
-use Rattle.ilpd.specs.World.{Hand, Tenant, AreOutputs, all_free}
+use Rattle.ilpd.specs.World.{Hand, AreOutputs}
 use Rattle.ilpd.specs.declared.carried.Carried.TheVariants.{Nothing}
 use Rattle.ilpd.specs.declared.setup.Setup.{Setup}
 use Rattle.ilpd.specs.declared.step.Output.{Output}

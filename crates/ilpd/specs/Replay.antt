@@ -1,5 +1,5 @@
 -- What a replay of a script for a setup writes, and what refuses it.
-use Rattle.std.specs.Prelude.{ℕ, ◌≡◌, List, [], ◌∷◌, ◌++◌, ◌⊎◌, Option, Some, None, Result, Ok, Err, IfSome}
+use Rattle.std.specs.Prelude.{ℕ, ◌≡◌, List, [], ◌∷◌, ◌⊎◌, Option, Some, None, Result, Ok, Err, IfSome}
 use Rattle.std.specs.Io.KnownBytes.{Keeps, Appends}
 use Rattle.tenant_core.specs.State.{opened, opening_of}
 use Rattle.ilpd.specs.declared.replay.ReplayFault.{ReplayFault}

@@ -1,5 +1,5 @@
 -- The Rejects that a connector writes (RFC 0027, "ILP Reject" and "Error Codes").
-use Rattle.std.specs.Prelude.{ℕ, List, [], ◌∷◌, ◌++◌, Option, Some, None, codes}
+use Rattle.std.specs.Prelude.{ℕ, List, [], ◌++◌, Option, Some, None, codes}
 use Rattle.std.specs.Int.{w64, to_be_bytes}
 use Rattle.ilp_view.specs.Packet.{reject_frame}
 use Rattle.tenant_core.specs.declared.verdict.RejectCode.{RejectCode}

@@ -1,6 +1,5 @@
 -- The one-tenant connector, and whose step each step of a script is.
-use Rattle.std.specs.Prelude.{ℕ, ◌≡◌, ◌+◌, List, [], ◌∷◌, ◌++◌, length, Option, Some, None, Result, Ok, Err, ◌==◌, if◌then◌else◌, codes}
-use Rattle.std.specs.Int.{w64, to_be_bytes}
+use Rattle.std.specs.Prelude.{ℕ, ◌≡◌, ◌+◌, List, [], ◌∷◌, length, Option, Some, None, Result, Ok, Err, ◌==◌, if◌then◌else◌}
 use Rattle.ilp_addr.specs.Timestamp.{moment_of, timestamp_of}
 use Rattle.ilp_view.specs.declared.fault.ViewFault.{ViewFault}
 use Rattle.ilp_view.specs.declared.fault.ViewFault.TheVariants as fault
@@ -11,7 +10,6 @@ use Rattle.tenant_core.specs.State.{State, peer_numbered}
 use Rattle.tenant_core.specs.Judge.{judge, decided}
 use Rattle.tenant_core.specs.declared.opening.Opening.{Opening}
 use Rattle.tenant_core.specs.declared.opening.Peer.{Peer}
-use Rattle.tenant_core.specs.declared.verdict.RejectCode.{RejectCode}
 use Rattle.tenant_core.specs.declared.verdict.Verdict.{Verdict}
 use Rattle.tenant_core.specs.declared.verdict.Verdict.TheVariants.{Unknown, NoRoom, Refuse, Forward}
 use Rattle.ilpd.specs.Replies.{busy_reply, refusal_reply}

@@ -1,4 +1,4 @@
-use Rattle.std.proofs.Common.{◌≡◌, ◌≤◌, ◌+◌, ◌++◌, ◌^◌, drop, length}
+use Rattle.std.proofs.Common.{◌≡◌, ◌≤◌, ◌+◌, ◌++◌, drop}
 use Rattle.ilpd.specs.Runner.{outputs_of, run_after}
 use Rattle.ilpd.proofs.runner.Runner.run.Given as goal
 
