@@ -1,6 +1,7 @@
 //! Short texts in fixed room.
 
-ghost use Rattle.std.specs.Prelude.{◌≡◌, ◌≤◌, length, IsSome, IfSome, ◌↔◌};
+ghost use Rattle.std.specs.Prelude.{◌≡◌, ◌≤◌, length};
+ghost use Rattle.common_types.specs.Text.{text_within};
 
 use arrayvec::ArrayVec;
 use std::marker::Model;
@@ -22,8 +23,7 @@ impl<const N: usize> Model for Text<N> {
 impl<const N: usize> Text<N> {
     /// The text of these bytes, unless there are more than `N`.
     pub fn from_bytes(bytes: &[u8]) -> Option<Text<N>>
-        ensures fits { IsSome result ↔ (length bytes.now ≤ N) }
-        ensures same { IfSome result (λ t. t ≡ bytes.now) }
+        ensures { result ≡ text_within N bytes.now }
     {
         let mut copy = ArrayVec::new();
         match copy.try_extend_from_slice(bytes) {

@@ -1,0 +1,5 @@
+pub mod Text
+pub mod Numbers
+pub mod Outcomes
+pub mod OptionChain
+pub mod ResultChain

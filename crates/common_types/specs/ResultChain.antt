@@ -1,0 +1,8 @@
+-- Readings one after the other: `do` in definitions.
+use Rattle.std.specs.Prelude.{Result, Ok, Err}
+
+infixl 10 ◌>>=◌
+-- the first fault ends a reading
+abbrev pub ◌>>=◌ : {A B E : Type 0} → Result A E → (A → Result B E) → Result B E
+(Ok x) >>= f = f x
+(Err e) >>= f = Err e
