@@ -1,0 +1,123 @@
+//! Addresses, prefixes (RFC 0015) and moments (RFC 0027).
+
+use ilp_addr::{AddrFault, Address, Moment, Prefix, PrefixError, Stamp};
+use std::test::Fail;
+
+#[test]
+fn addresses(rt: HostRuntime) -> Result<(), Fail> {
+    let rows: [(&[u8], Option<AddrFault>); 9] = [
+        (b"g.a", None),
+        (b"g", Some(AddrFault::Scheme)),
+        (b"test4.a", Some(AddrFault::Scheme)),
+        (b".g.a", Some(AddrFault::Scheme)),
+        (b"g..a", Some(AddrFault::Segment)),
+        (b"g.a.", Some(AddrFault::Segment)),
+        (b"g.a b", Some(AddrFault::Segment)),
+        (b"peer.config", None),
+        (b"", Some(AddrFault::Scheme)),
+    ];
+    for (bytes, fault) in rows {
+        assert_eq!(rt; Address::parse(bytes).err(), fault, "{bytes:?}");
+    }
+    let mut longest = [b'a'; 1024];
+    longest[0] = b'g';
+    longest[1] = b'.';
+    assert_eq!(rt; Address::parse(&longest).err(), Some(AddrFault::Length));
+    let address = Address::parse(&longest[..1023]).ok().ok_or("1023 bytes")?;
+    assert_eq!(rt; address.bytes().len(), 1023);
+
+    let address = Address::parse(b"test1.A0_~-.bob").ok().ok_or("an address")?;
+    let mut segments = address.segments();
+    let parts: [Option<&[u8]>; 4] = [Some(b"test1"), Some(b"A0_~-"), Some(b"bob"), None];
+    for part in parts {
+        assert!(rt; segments.next() == part);
+    }
+    Ok(())
+}
+
+#[test]
+fn prefixes(rt: HostRuntime) -> Result<(), Fail> {
+    let refused: [(&[u8], AddrFault); 4] = [
+        (b".", AddrFault::Scheme),
+        (b"..", AddrFault::Scheme),
+        (b"h.a", AddrFault::Scheme),
+        (b"g..", AddrFault::Segment),
+    ];
+    for (bytes, fault) in refused {
+        let found = Prefix::parse(rt.alloc(), bytes).err();
+        assert_eq!(rt; found, Some(PrefixError::Fault(fault)));
+    }
+    let address = Address::parse(b"g.acme.bob.x").ok().ok_or("an address")?;
+    // What is read, what is kept of it, and whether the address begins with it.
+    let read: [(&[u8], &[u8], bool); 8] = [
+        (b"", b"", true),
+        (b"g", b"g", true),
+        (b"g.a.", b"g.a", false),
+        (b"g.acme.", b"g.acme", true),
+        (b"g.acme.bob.x", b"g.acme.bob.x", true),
+        (b"g.acme.bo", b"g.acme.bo", false),
+        (b"g.acme.bob.x.y", b"g.acme.bob.x.y", false),
+        (b"test", b"test", false),
+    ];
+    for (bytes, kept, begins) in read {
+        let prefix = Prefix::parse(rt.alloc(), bytes)?.copy(rt.alloc())?;
+        assert!(rt; prefix.bytes() == kept);
+        assert_eq!(rt; address.begins_with(&prefix), begins);
+    }
+    Ok(())
+}
+
+#[test]
+fn stamps(rt: HostRuntime) -> Result<(), Fail> {
+    // Python's datetime gives these moments.
+    let moments: [(&[u8; 17], u64); 10] = [
+        (b"19700101000000000", 0),
+        (b"19700101000000001", 1),
+        (b"19720229010203004", 68_173_323_004),
+        (b"20000229235959999", 951_868_799_999),
+        (b"20000301000000000", 951_868_800_000),
+        (b"20231231123456789", 1_704_026_096_789),
+        (b"20240229000000000", 1_709_164_800_000),
+        (b"21000301000000000", 4_107_542_400_000),
+        (b"99991229235959999", 253_402_127_999_999),
+        (b"99991230000000000", 253_402_128_000_000),
+    ];
+    for (text, moment) in moments {
+        assert_eq!(rt; Stamp::parse(text), Ok(moment));
+        assert!(rt; moment <= 253_402_128_000_000);
+        let mut written = [0; 17];
+        Stamp::write(moment, &mut written);
+        assert!(rt; written.as_slice() == text.as_slice());
+    }
+    // Years before 1970 and days after 9999-12-30 are read as the first and the last moment.
+    let outside: [(&[u8; 17], u64); 5] = [
+        (b"00000101000000000", 0),
+        (b"00000229000000000", 0),
+        (b"19000228235959999", 0),
+        (b"19691231235959999", 0),
+        (b"99991231235959999", 253_402_128_000_000),
+    ];
+    for (text, moment) in outside {
+        assert_eq!(rt; Stamp::parse(text), Ok(moment));
+    }
+    let refused: [&[u8; 17]; 11] = [
+        b"19000229000000000",
+        b"20230229000000000",
+        b"20230431000000000",
+        b"20230001000000000",
+        b"20231301000000000",
+        b"20230100000000000",
+        b"20300101240000000",
+        b"20300101006000000",
+        b"20300101000060000",
+        b"2030010100000000a",
+        b"20301301000010000",
+    ];
+    for text in refused {
+        assert_eq!(rt; Stamp::parse(text), Err(AddrFault::NotADate));
+    }
+    let moment = Moment::new(253_400_000_000_000).ok_or("the greatest moment")?;
+    assert_eq!(rt; moment.millis(), 253_400_000_000_000);
+    assert!(rt; Moment::new(253_400_000_000_001).is_none());
+    Ok(())
+}
