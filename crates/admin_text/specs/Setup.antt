@@ -16,18 +16,11 @@ use Rattle.tenant_core.specs.declared.terms.PeerTerms.{PeerTerms}
 use Rattle.tenant_core.specs.declared.terms.RateTerms.{RateTerms}
 use Rattle.tenant_core.specs.declared.terms.TenantTerms.{TenantTerms}
 use Rattle.tenant_core.specs.Setup.{is_tenant_setup}
+use Rattle.common_types.specs.OptionChain.{◌>>=◌}
 use Rattle.common_types.specs.Text.{text_within}
-use Rattle.replay_text.specs.Script.{last_moment}
 use Rattle.admin_text.specs.declared.setup.SetupFault.{SetupFault}
 use Rattle.admin_text.specs.declared.setup.SetupFault.TheVariants.{Toml, Version, Start, Tenant}
-use Rattle.admin_text.specs.declared.setup.SetupError.{SetupError}
-use Rattle.admin_text.specs.declared.setup.SetupError.TheVariants as errors
 use Rattle.admin_text.specs.declared.setup.Setup.{Setup}
-
-infixl 10 ◌>>=◌
--- the first that is missing leaves nothing
-abbrev pub ◌>>=◌ : {A B : Type 0} → Option A → (A → Option B) → Option B
-o >>= f = option_and_then f o
 
 -- the number, if it is none below 0 and has at most so many bits
 abbrev pub natural : ℕ → ℤ → Option ℕ
@@ -35,20 +28,20 @@ natural bits (pos n) = if nat_lt n (2 ^ bits) then Some n else None
 natural bits (negsuc n) = None
 
 -- the string at a key
-unfoldable pub string_at : List ℕ → Members → Option (List ℕ)
-string_at key members = get_member key members >>= as_str
+unfoldable pub string_under : List ℕ → Members → Option (List ℕ)
+string_under key members = get_member key members >>= as_str
 
 -- the string at a key, of at most so many bytes
-unfoldable pub text_at : ℕ → List ℕ → Members → Option (List ℕ)
-text_at room key members = string_at key members >>= text_within room
+unfoldable pub text_under : ℕ → List ℕ → Members → Option (List ℕ)
+text_under room key members = string_under key members >>= text_within room
 
 -- the integer at a key
-unfoldable pub integer_at : List ℕ → Members → Option ℤ
-integer_at key members = get_member key members >>= as_integer
+unfoldable pub integer_under : List ℕ → Members → Option ℤ
+integer_under key members = get_member key members >>= as_integer
 
 -- the number from 0 at a key, of at most so many bits
-unfoldable pub number_at : ℕ → List ℕ → Members → Option ℕ
-number_at bits key members = integer_at key members >>= natural bits
+unfoldable pub number_under : ℕ → List ℕ → Members → Option ℕ
+number_under bits key members = integer_under key members >>= natural bits
 
 -- what stands at a key, or the default where nothing does
 abbrev pub or_default : {A : Type 0} → A → Option Data → Option A → Option A
@@ -57,19 +50,19 @@ or_default default (Some there) found = found
 
 -- the integer at a key, or the default where nothing stands there
 unfoldable pub integer_or : ℤ → List ℕ → Members → Option ℤ
-integer_or default key members = or_default default (get_member key members) (integer_at key members)
+integer_or default key members = or_default default (get_member key members) (integer_under key members)
 
 -- the number at a key, or the default where nothing stands there
 unfoldable pub number_or : ℕ → List ℕ → Members → Option ℕ
-number_or default key members = or_default default (get_member key members) (number_at 64 key members)
+number_or default key members = or_default default (get_member key members) (number_under 64 key members)
 
 -- the array at a key
-unfoldable pub array_at : List ℕ → Members → Option Items
-array_at key members = get_member key members >>= as_array
+unfoldable pub array_under : List ℕ → Members → Option Items
+array_under key members = get_member key members >>= as_array
 
 -- the items of the array at a key, none where nothing stands there
-unfoldable pub items_at : List ℕ → Members → Option Items
-items_at key members = or_default no_items (get_member key members) (array_at key members)
+unfoldable pub items_under : List ℕ → Members → Option Items
+items_under key members = or_default no_items (get_member key members) (array_under key members)
 
 -- the role that a word names
 abbrev pub role_of : List ℕ → Option Role
@@ -78,24 +71,24 @@ role_of word =
     else (if bytes_eq word (codes "peer") then Some Peer else None)
 
 -- the role at a key
-unfoldable pub role_at : List ℕ → Members → Option Role
-role_at key members = string_at key members >>= role_of
+unfoldable pub role_under : List ℕ → Members → Option Role
+role_under key members = string_under key members >>= role_of
 
 -- a peer
 unfoldable pub peer_of : Members → Option PeerTerms
 peer_of t = do
-  name ← text_at 32 (codes "name") t
-  role ← role_at (codes "role") t
-  token ← text_at 64 (codes "token") t
-  url ← text_at 255 (codes "url") t
-  out_token ← text_at 64 (codes "out_token") t
-  asset ← text_at 16 (codes "asset") t
-  scale ← number_at 8 (codes "scale") t
-  cap ← number_at 64 (codes "cap") t
-  ceiling ← number_at 64 (codes "ceiling") t
-  credit ← number_at 64 (codes "credit") t
-  burst ← number_at 32 (codes "burst") t
-  per_second ← number_at 32 (codes "per_second") t
+  name ← text_under 32 (codes "name") t
+  role ← role_under (codes "role") t
+  token ← text_under 64 (codes "token") t
+  url ← text_under 255 (codes "url") t
+  out_token ← text_under 64 (codes "out_token") t
+  asset ← text_under 16 (codes "asset") t
+  scale ← number_under 8 (codes "scale") t
+  cap ← number_under 64 (codes "cap") t
+  ceiling ← number_under 64 (codes "ceiling") t
+  credit ← number_under 64 (codes "credit") t
+  burst ← number_under 32 (codes "burst") t
+  per_second ← number_under 32 (codes "per_second") t
   balance ← integer_or (pos 0) (codes "balance") t
   Some (record { name = name; role = role; token = token; url = url; out_token = out_token; asset = asset; scale = scale; cap = cap; ceiling = ceiling; credit = credit; burst = burst; per_second = per_second; balance = balance })
 
@@ -120,15 +113,15 @@ unfoldable pub place_of_peer : List PeerTerms → List ℕ → Option ℕ
 place_of_peer peers name = position (λ p. bytes_eq p.name name) peers
 
 -- the number of the first peer of the name at a key
-unfoldable pub peer_at : List PeerTerms → List ℕ → Members → Option ℕ
-peer_at peers key members = do
-  name ← string_at key members
+unfoldable pub peer_under : List PeerTerms → List ℕ → Members → Option ℕ
+peer_under peers key members = do
+  name ← string_under key members
   place ← place_of_peer peers name
   short_number place
 
 -- the prefix that a text spells: `*` is the empty one, which has no other spelling
-abbrev pub prefix_of : List ℕ → Option (List ℕ)
-prefix_of text =
+abbrev pub written_prefix : List ℕ → Option (List ℕ)
+written_prefix text =
     if bytes_eq text (codes "*") then Some []
     else (if bytes_eq text [] then None else result_ok (prefix_at text))
 
@@ -141,9 +134,9 @@ with_route routes prefix peer =
 -- routes with the one of a table
 unfoldable pub with_route_of : List PeerTerms → RouteMap → Members → Option RouteMap
 with_route_of peers routes t = do
-  text ← string_at (codes "prefix") t
-  prefix ← prefix_of text
-  peer ← peer_at peers (codes "peer") t
+  text ← string_under (codes "prefix") t
+  prefix ← written_prefix text
+  peer ← peer_under peers (codes "peer") t
   with_route routes prefix peer
 
 -- routes with the one of a value, if that is a table
@@ -160,10 +153,10 @@ with_routes_of peers routes (item first others) = do
 -- a rate between two peers
 unfoldable pub rate_of : List PeerTerms → Members → Option RateTerms
 rate_of peers t = do
-  from ← peer_at peers (codes "from") t
-  to ← peer_at peers (codes "to") t
-  num ← number_at 64 (codes "num") t
-  den ← number_at 64 (codes "den") t
+  from ← peer_under peers (codes "from") t
+  to ← peer_under peers (codes "to") t
+  num ← number_under 64 (codes "num") t
+  den ← number_under 64 (codes "den") t
   rate ← result_ok (rate_at num den)
   Some (record { from = from; to = to; rate = rate })
 
@@ -188,23 +181,23 @@ with_rates_of peers rates (item first others) = do
   with_rates_of peers (with_rate rates rate) others
 
 -- the peers of a tenant's table
-unfoldable pub peers_at : Members → Option (List PeerTerms)
-peers_at t = items_at (codes "peer") t >>= peers_of
+unfoldable pub peers_of_tenant : Members → Option (List PeerTerms)
+peers_of_tenant t = items_under (codes "peer") t >>= peers_of
 
 -- its routes, where its peers are these
-unfoldable pub routes_at : List PeerTerms → Members → Option RouteMap
-routes_at peers t = items_at (codes "route") t >>= with_routes_of peers empty
+unfoldable pub routes_of_tenant : List PeerTerms → Members → Option RouteMap
+routes_of_tenant peers t = items_under (codes "route") t >>= with_routes_of peers empty
 
 -- its rates, where its peers are these
-unfoldable pub rates_at : List PeerTerms → Members → Option (List RateTerms)
-rates_at peers t = items_at (codes "rate") t >>= with_rates_of peers []
+unfoldable pub rates_of_tenant : List PeerTerms → Members → Option (List RateTerms)
+rates_of_tenant peers t = items_under (codes "rate") t >>= with_rates_of peers []
 
 -- what a tenant's table says, where its peers, its routes and its rates are these
 unfoldable pub terms_of : Members → List PeerTerms → RouteMap → List RateTerms → Option TenantTerms
 terms_of t peers routes rates = do
-  name ← text_at 32 (codes "name") t
-  address ← text_at 900 (codes "address") t
-  admin ← text_at 64 (codes "admin") t
+  name ← text_under 32 (codes "name") t
+  address ← text_under 900 (codes "address") t
+  admin ← text_under 64 (codes "admin") t
   journal ← number_or 1024 (codes "journal") t
   margin ← number_or 1000 (codes "margin") t
   hold ← number_or 30000 (codes "hold") t
@@ -215,11 +208,11 @@ abbrev pub within_limits : TenantTerms → Option TenantTerms
 within_limits terms = if is_tenant_setup terms then Some terms else None
 
 -- a tenant
-unfoldable pub tenant_of : Members → Option TenantTerms
-tenant_of t = do
-  peers ← peers_at t
-  routes ← routes_at peers t
-  rates ← rates_at peers t
+unfoldable pub tenant_of_table : Members → Option TenantTerms
+tenant_of_table t = do
+  peers ← peers_of_tenant t
+  routes ← routes_of_tenant peers t
+  rates ← rates_of_tenant peers t
   terms ← terms_of t peers routes rates
   within_limits terms
 
@@ -230,14 +223,14 @@ and_no_other (Some tenant) no_items = Ok tenant
 and_no_other (Some tenant) (item second others) = Err (Tenant 1)
 
 -- the tenant of the first item, where there is no other
-abbrev pub tenant_in : Items → Result TenantTerms SetupFault
-tenant_in no_items = Err (Tenant 0)
-tenant_in (item first others) = and_no_other (as_table first >>= tenant_of) others
+abbrev pub tenant_of_items : Items → Result TenantTerms SetupFault
+tenant_of_items no_items = Err (Tenant 0)
+tenant_of_items (item first others) = and_no_other (as_table first >>= tenant_of_table) others
 
 -- the tenant of an array of tables
-unfoldable pub tenant_at : Option Items → Result TenantTerms SetupFault
-tenant_at None = Err (Tenant 0)
-tenant_at (Some tenants) = tenant_in tenants
+unfoldable pub tenant_of_array : Option Items → Result TenantTerms SetupFault
+tenant_of_array None = Err (Tenant 0)
+tenant_of_array (Some tenants) = tenant_of_items tenants
 
 -- the number is 1
 abbrev pub is_one : Option ℕ → Bool
@@ -245,8 +238,8 @@ is_one None = false
 is_one (Some n) = n == 1
 
 -- a moment that a setup may begin at
-abbrev pub moment : ℕ → Option ℕ
-moment n = if nat_le n last_moment then Some n else None
+abbrev pub moment_within : ℕ → Option ℕ
+moment_within n = if nat_le n 253_400_000_000_000 then Some n else None
 
 -- the start is looked at before the tenant
 abbrev pub from_start : Option ℕ → Result TenantTerms SetupFault → Result Setup SetupFault
@@ -255,10 +248,10 @@ from_start (Some start) (Ok tenant) = Ok (record { start = start; tenant = tenan
 from_start (Some start) (Err fault) = Err fault
 
 -- what a document says, or its first fault
-unfoldable pub setup_in : Members → Result Setup SetupFault
-setup_in t =
-    if is_one (number_at 64 (codes "version") t)
-    then from_start (number_at 64 (codes "start") t >>= moment) (tenant_at (array_at (codes "tenant") t))
+unfoldable pub setup_of_table : Members → Result Setup SetupFault
+setup_of_table t =
+    if is_one (number_under 64 (codes "version") t)
+    then from_start (number_under 64 (codes "start") t >>= moment_within) (tenant_of_array (array_under (codes "tenant") t))
     else Err Version
 
 -- a text that is no TOML is a fault
@@ -269,18 +262,8 @@ document_of (Some members) = Ok members
 -- what a document that was read says
 abbrev pub then_setup : Result Members SetupFault → Result Setup SetupFault
 then_setup (Err fault) = Err fault
-then_setup (Ok members) = setup_in members
+then_setup (Ok members) = setup_of_table members
 
 -- what a text says
 unfoldable pub setup_of : List ℕ → Result Setup SetupFault
 setup_of text = if is_utf8 text then then_setup (document_of (parse_document text)) else Err Toml
-
--- a fault is the one that reading gives, unless memory ran out
-abbrev pub Fails : {Y : Type 0} → SetupError → Result Y SetupFault → Type 0
-Fails errors.Memory read = Unit {0}
-Fails (errors.Fault fault) read = read ≡ Err fault
-
--- what was read is what reading gives, unless memory ran out
-abbrev pub Gives : {X Y : Type 0} → (X → Y) → Result X SetupError → Result Y SetupFault → Type 0
-Gives view (Ok x) read = read ≡ Ok (view x)
-Gives view (Err error) read = Fails error read

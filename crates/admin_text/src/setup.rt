@@ -7,15 +7,16 @@ ghost use Rattle.std.specs.FinMap.{empty};
 ghost use Rattle.tenant_core.specs.Judge.{is_for_pair};
 ghost use Rattle.toml.specs.Data.{get_member, as_integer, as_str, as_table};
 ghost use Rattle.toml.specs.View.{view, items_view, array_view, table_view};
-ghost use Rattle.admin_text.specs.Setup.{string_at, text_at, integer_at, number_at, integer_or, number_or, array_at, items_at, role_of, role_at, peer_of, peer_in, peers_of, peers_at, place_of_peer, peer_at, prefix_of, with_route, with_route_of, with_route_in, with_routes_of, routes_at, rate_of, rate_in, with_rate, with_rates_of, rates_at, terms_of, tenant_of, and_no_other, tenant_in, tenant_at, moment, setup_in, document_of, setup_of, Gives};
+ghost use Rattle.admin_text.specs.Setup.{string_under, text_under, integer_under, number_under, integer_or, number_or, array_under, items_under, role_of, role_under, peer_of, peer_in, peers_of, peers_of_tenant, place_of_peer, peer_under, written_prefix, with_route, with_route_of, with_route_in, with_routes_of, routes_of_tenant, rate_of, rate_in, with_rate, with_rates_of, rates_of_tenant, terms_of, tenant_of_table, and_no_other, tenant_of_items, tenant_of_array, moment_within, setup_of_table, document_of, setup_of};
 ghost use Rattle.toml.specs.Parse.{parse_document};
+ghost use Rattle.common_types.specs.Outcomes.{GivesUnlessMemory};
 
-use crate::step::text_within;
+use common_types::{Items, ReadError, Text};
 use ilp_addr::{Moment, Prefix, PrefixError};
 use money_core::Rate;
 use route_table::{RouteFault, Routes};
 use std::alloc::{AllocError, AllocFailed, Global};
-use tenant_core::{Items, PeerNo, PeerTerms, RateTerms, Role, TenantSetup, TenantTerms, Text};
+use tenant_core::{PeerNo, PeerTerms, RateTerms, Role, TenantSetup, TenantTerms};
 use thiserror::Error;
 use toml::{Table, Value};
 
@@ -36,25 +37,6 @@ pub enum SetupFault {
     Tenant(usize),
 }
 
-/// Why a setup could not be read.
-#[derive(Clone, Copy, Debug, PartialEq, Eq, Error)]
-pub enum SetupError {
-    #[error("out of memory")]
-    Memory,
-    #[error("{0}")]
-    Fault(SetupFault),
-}
-
-impl From<AllocError> for SetupError {
-    ghost use Rattle.admin_text.specs.declared.setup.SetupError.TheVariants.{Memory};
-
-    ghost from_gives = { λ _ e. e ≡ Memory };
-
-    fn from(_e: AllocError) -> SetupError {
-        SetupError::Memory
-    }
-}
-
 /// A setup: when its replay or its service starts, and its tenant.
 #[derive(Drop)]
 pub struct Setup {
@@ -62,67 +44,67 @@ pub struct Setup {
     pub tenant: TenantSetup,
 }
 
-fn value_at<'a>(table: &'a Table, key: &str) -> Option<&'a Value>
+fn value_under<'a>(table: &'a Table, key: &str) -> Option<&'a Value>
     ensures { option_map (λ v. view v.now) result ≡ get_member key.now (table_view table.now) }
 {
     table.get(key)
 }
 
-#[tactic(auto, unfolding(crate::specs::Setup::string_at))]
-fn string_at<'a>(table: &'a Table, key: &str) -> Option<&'a str>
-    ensures { option_copied result ≡ string_at key.now (table_view table.now) }
+#[tactic(auto, unfolding(crate::specs::Setup::string_under))]
+fn string_under<'a>(table: &'a Table, key: &str) -> Option<&'a str>
+    ensures { option_copied result ≡ string_under key.now (table_view table.now) }
 {
-    match value_at(table, key) {
+    match value_under(table, key) {
         Some(value) => value.as_str(),
         None => None,
     }
 }
 
-#[tactic(auto, unfolding(crate::specs::Setup::text_at))]
-fn text_at<const N: usize>(table: &Table, key: &str) -> Option<Text<N>>
-    ensures { result ≡ text_at N key.now (table_view table.now) }
+#[tactic(auto, unfolding(crate::specs::Setup::text_under))]
+fn text_under<const N: usize>(table: &Table, key: &str) -> Option<Text<N>>
+    ensures { result ≡ text_under N key.now (table_view table.now) }
 {
-    match string_at(table, key) {
-        Some(text) => text_within(text.as_bytes()),
+    match string_under(table, key) {
+        Some(text) => Text::from_bytes(text.as_bytes()),
         None => None,
     }
 }
 
-#[tactic(auto, unfolding(crate::specs::Setup::integer_at))]
-fn integer_at(table: &Table, key: &str) -> Option<i64>
-    ensures { result ≡ integer_at key.now (table_view table.now) }
+#[tactic(auto, unfolding(crate::specs::Setup::integer_under))]
+fn integer_under(table: &Table, key: &str) -> Option<i64>
+    ensures { result ≡ integer_under key.now (table_view table.now) }
 {
-    match value_at(table, key) {
+    match value_under(table, key) {
         Some(value) => value.as_integer(),
         None => None,
     }
 }
 
-#[tactic(auto, unfolding(crate::specs::Setup::number_at))]
-fn u8_at(table: &Table, key: &str) -> Option<u8>
-    ensures { result ≡ number_at 8 key.now (table_view table.now) }
+#[tactic(auto, unfolding(crate::specs::Setup::number_under))]
+fn u8_under(table: &Table, key: &str) -> Option<u8>
+    ensures { result ≡ number_under 8 key.now (table_view table.now) }
 {
-    match integer_at(table, key) {
+    match integer_under(table, key) {
         Some(integer) => u8::try_from(integer).ok(),
         None => None,
     }
 }
 
-#[tactic(auto, unfolding(crate::specs::Setup::number_at))]
-fn u32_at(table: &Table, key: &str) -> Option<u32>
-    ensures { result ≡ number_at 32 key.now (table_view table.now) }
+#[tactic(auto, unfolding(crate::specs::Setup::number_under))]
+fn u32_under(table: &Table, key: &str) -> Option<u32>
+    ensures { result ≡ number_under 32 key.now (table_view table.now) }
 {
-    match integer_at(table, key) {
+    match integer_under(table, key) {
         Some(integer) => u32::try_from(integer).ok(),
         None => None,
     }
 }
 
-#[tactic(auto, unfolding(crate::specs::Setup::number_at))]
-fn u64_at(table: &Table, key: &str) -> Option<u64>
-    ensures { result ≡ number_at 64 key.now (table_view table.now) }
+#[tactic(auto, unfolding(crate::specs::Setup::number_under))]
+fn u64_under(table: &Table, key: &str) -> Option<u64>
+    ensures { result ≡ number_under 64 key.now (table_view table.now) }
 {
-    match integer_at(table, key) {
+    match integer_under(table, key) {
         Some(integer) => u64::try_from(integer).ok(),
         None => None,
     }
@@ -132,8 +114,8 @@ fn u64_at(table: &Table, key: &str) -> Option<u64>
 fn integer_or(default: i64, table: &Table, key: &str) -> Option<i64>
     ensures { result ≡ integer_or default key.now (table_view table.now) }
 {
-    match value_at(table, key) {
-        Some(_) => integer_at(table, key),
+    match value_under(table, key) {
+        Some(_) => integer_under(table, key),
         None => Some(default),
     }
 }
@@ -142,40 +124,40 @@ fn integer_or(default: i64, table: &Table, key: &str) -> Option<i64>
 fn u64_or(default: u64, table: &Table, key: &str) -> Option<u64>
     ensures { result ≡ number_or default key.now (table_view table.now) }
 {
-    match value_at(table, key) {
-        Some(_) => u64_at(table, key),
+    match value_under(table, key) {
+        Some(_) => u64_under(table, key),
         None => Some(default),
     }
 }
 
-#[tactic(auto, unfolding(crate::specs::Setup::array_at))]
-fn array_at<'a>(table: &'a Table, key: &str) -> Option<&'a Vec<Value>>
-    ensures { option_map (λ a. array_view a.now) result ≡ array_at key.now (table_view table.now) }
+#[tactic(auto, unfolding(crate::specs::Setup::array_under))]
+fn array_under<'a>(table: &'a Table, key: &str) -> Option<&'a Vec<Value>>
+    ensures { option_map (λ a. array_view a.now) result ≡ array_under key.now (table_view table.now) }
 {
-    match value_at(table, key) {
+    match value_under(table, key) {
         Some(value) => value.as_array(),
         None => None,
     }
 }
 
-#[tactic(auto, unfolding(crate::specs::Setup::items_at))]
-fn items_at<'a>(table: &'a Table, key: &str) -> Option<&'a [Value]>
-    ensures { option_map (λ a. items_view a.now) result ≡ items_at key.now (table_view table.now) }
+#[tactic(auto, unfolding(crate::specs::Setup::items_under))]
+fn items_under<'a>(table: &'a Table, key: &str) -> Option<&'a [Value]>
+    ensures { option_map (λ a. items_view a.now) result ≡ items_under key.now (table_view table.now) }
 {
-    if value_at(table, key).is_none() {
+    if value_under(table, key).is_none() {
         return Some(&[]);
     }
-    match array_at(table, key) {
+    match array_under(table, key) {
         Some(values) => Some(values.as_slice()),
         None => None,
     }
 }
 
-#[tactic(auto, unfolding(crate::specs::Setup::role_at))]
-fn role_at(table: &Table, key: &str) -> Option<Role>
-    ensures { result ≡ role_at key.now (table_view table.now) }
+#[tactic(auto, unfolding(crate::specs::Setup::role_under))]
+fn role_under(table: &Table, key: &str) -> Option<Role>
+    ensures { result ≡ role_under key.now (table_view table.now) }
 {
-    match string_at(table, key) {
+    match string_under(table, key) {
         Some("child") => Some(Role::Child),
         Some("peer") => Some(Role::Peer),
         _ => None,
@@ -187,18 +169,18 @@ fn peer_of(table: &Table) -> Option<PeerTerms>
     ensures { result ≡ peer_of (table_view table.now) }
 {
     Some(PeerTerms {
-        name: text_at(table, "name")?,
-        role: role_at(table, "role")?,
-        token: text_at(table, "token")?,
-        url: text_at(table, "url")?,
-        out_token: text_at(table, "out_token")?,
-        asset: text_at(table, "asset")?,
-        scale: u8_at(table, "scale")?,
-        cap: u64_at(table, "cap")?,
-        ceiling: u64_at(table, "ceiling")?,
-        credit: u64_at(table, "credit")?,
-        burst: u32_at(table, "burst")?,
-        per_second: u32_at(table, "per_second")?,
+        name: text_under(table, "name")?,
+        role: role_under(table, "role")?,
+        token: text_under(table, "token")?,
+        url: text_under(table, "url")?,
+        out_token: text_under(table, "out_token")?,
+        asset: text_under(table, "asset")?,
+        scale: u8_under(table, "scale")?,
+        cap: u64_under(table, "cap")?,
+        ceiling: u64_under(table, "ceiling")?,
+        credit: u64_under(table, "credit")?,
+        burst: u32_under(table, "burst")?,
+        per_second: u32_under(table, "per_second")?,
         balance: integer_or(0, table, "balance")?,
     })
 }
@@ -226,11 +208,11 @@ fn peers_of(alloc: Global, values: &[Value]) -> Result<Option<Vec<PeerTerms>>, A
     Ok(Some(peers))
 }
 
-#[tactic(auto, unfolding(crate::specs::Setup::peers_at))]
-fn peers_at(alloc: Global, table: &Table) -> Result<Option<Vec<PeerTerms>>, AllocError>
-    ensures { IfOk result (λ peers. option_map (λ p. p.items) peers ≡ peers_at (table_view table.now)) }
+#[tactic(auto, unfolding(crate::specs::Setup::peers_of_tenant))]
+fn peers_of_tenant(alloc: Global, table: &Table) -> Result<Option<Vec<PeerTerms>>, AllocError>
+    ensures { IfOk result (λ peers. option_map (λ p. p.items) peers ≡ peers_of_tenant (table_view table.now)) }
 {
-    match items_at(table, "peer") {
+    match items_under(table, "peer") {
         Some(values) => peers_of(alloc, values),
         None => Ok(None),
     }
@@ -248,18 +230,18 @@ fn place_of_peer(peers: &[PeerTerms], name: &[u8]) -> Option<usize>
     peers.iter().position(|peer| is_named(peer, name))
 }
 
-#[tactic(auto, unfolding(crate::specs::Setup::peer_at))]
-fn peer_at(peers: &[PeerTerms], table: &Table, key: &str) -> Option<PeerNo>
-    ensures { result ≡ peer_at peers.now key.now (table_view table.now) }
+#[tactic(auto, unfolding(crate::specs::Setup::peer_under))]
+fn peer_under(peers: &[PeerTerms], table: &Table, key: &str) -> Option<PeerNo>
+    ensures { result ≡ peer_under peers.now key.now (table_view table.now) }
 {
-    let name = string_at(table, key)?;
+    let name = string_under(table, key)?;
     let place = place_of_peer(peers, name.as_bytes())?;
     u16::try_from(place).ok()
 }
 
 // The prefix that a text spells, `None` where it spells none.
-fn prefix_of(alloc: Global, text: &[u8]) -> Result<Option<Prefix>, AllocError>
-    ensures { IfOk result (λ prefix. prefix ≡ prefix_of text.now) }
+fn written_prefix(alloc: Global, text: &[u8]) -> Result<Option<Prefix>, AllocError>
+    ensures { IfOk result (λ prefix. prefix ≡ written_prefix text.now) }
 {
     if text.is_empty() {
         return Ok(None);
@@ -296,13 +278,13 @@ fn with_route_of(
 ) -> Result<Option<Routes>, AllocError>
     ensures { IfOk result (λ more. more ≡ with_route_of peers.now routes (table_view table.now)) }
 {
-    let Some(text) = string_at(table, "prefix") else {
+    let Some(text) = string_under(table, "prefix") else {
         return Ok(None);
     };
-    let Some(prefix) = prefix_of(alloc, text.as_bytes())? else {
+    let Some(prefix) = written_prefix(alloc, text.as_bytes())? else {
         return Ok(None);
     };
-    match peer_at(peers, table, "peer") {
+    match peer_under(peers, table, "peer") {
         Some(peer) => with_route(routes, prefix, peer),
         None => Ok(None),
     }
@@ -340,15 +322,15 @@ fn routes_of(
     Ok(Some(routes))
 }
 
-#[tactic(auto, unfolding(crate::specs::Setup::routes_at))]
-fn routes_at(
+#[tactic(auto, unfolding(crate::specs::Setup::routes_of_tenant))]
+fn routes_of_tenant(
     alloc: Global,
     peers: &[PeerTerms],
     table: &Table,
 ) -> Result<Option<Routes>, AllocError>
-    ensures { IfOk result (λ routes. routes ≡ routes_at peers.now (table_view table.now)) }
+    ensures { IfOk result (λ routes. routes ≡ routes_of_tenant peers.now (table_view table.now)) }
 {
-    match items_at(table, "route") {
+    match items_under(table, "route") {
         Some(values) => routes_of(alloc, peers, values),
         None => Ok(None),
     }
@@ -358,10 +340,10 @@ fn routes_at(
 fn rate_of(peers: &[PeerTerms], table: &Table) -> Option<RateTerms>
     ensures { result ≡ rate_of peers.now (table_view table.now) }
 {
-    let from = peer_at(peers, table, "from")?;
-    let to = peer_at(peers, table, "to")?;
-    let num = u64_at(table, "num")?;
-    let den = u64_at(table, "den")?;
+    let from = peer_under(peers, table, "from")?;
+    let to = peer_under(peers, table, "to")?;
+    let num = u64_under(table, "num")?;
+    let den = u64_under(table, "den")?;
     let rate = Rate::new(num, den).ok()?;
     Some(RateTerms { from, to, rate })
 }
@@ -412,15 +394,15 @@ fn rates_of(
     Ok(Some(rates))
 }
 
-#[tactic(auto, unfolding(crate::specs::Setup::rates_at))]
-fn rates_at(
+#[tactic(auto, unfolding(crate::specs::Setup::rates_of_tenant))]
+fn rates_of_tenant(
     alloc: Global,
     peers: &[PeerTerms],
     table: &Table,
 ) -> Result<Option<Vec<RateTerms>>, AllocError>
-    ensures { IfOk result (λ rates. option_map (λ r. r.items) rates ≡ rates_at peers.now (table_view table.now)) }
+    ensures { IfOk result (λ rates. option_map (λ r. r.items) rates ≡ rates_of_tenant peers.now (table_view table.now)) }
 {
-    match items_at(table, "rate") {
+    match items_under(table, "rate") {
         Some(values) => rates_of(alloc, peers, values),
         None => Ok(None),
     }
@@ -436,9 +418,9 @@ fn terms_of(
     ensures { result ≡ terms_of (table_view table.now) peers.items routes rates.items }
 {
     Some(TenantTerms {
-        name: text_at(table, "name")?,
-        address: text_at(table, "address")?,
-        admin: text_at(table, "admin")?,
+        name: text_under(table, "name")?,
+        address: text_under(table, "address")?,
+        admin: text_under(table, "admin")?,
         journal: u64_or(1024, table, "journal")?,
         margin: u64_or(1000, table, "margin")?,
         hold: u64_or(30_000, table, "hold")?,
@@ -448,17 +430,17 @@ fn terms_of(
     })
 }
 
-#[tactic(auto, unfolding(crate::specs::Setup::tenant_of))]
-fn tenant_of(alloc: Global, table: &Table) -> Result<Option<TenantSetup>, AllocError>
-    ensures { IfOk result (λ tenant. tenant ≡ tenant_of (table_view table.now)) }
+#[tactic(auto, unfolding(crate::specs::Setup::tenant_of_table))]
+fn tenant_of_table(alloc: Global, table: &Table) -> Result<Option<TenantSetup>, AllocError>
+    ensures { IfOk result (λ tenant. tenant ≡ tenant_of_table (table_view table.now)) }
 {
-    let Some(peers) = peers_at(alloc, table)? else {
+    let Some(peers) = peers_of_tenant(alloc, table)? else {
         return Ok(None);
     };
-    let Some(routes) = routes_at(alloc, peers.as_slice(), table)? else {
+    let Some(routes) = routes_of_tenant(alloc, peers.as_slice(), table)? else {
         return Ok(None);
     };
-    let Some(rates) = rates_at(alloc, peers.as_slice(), table)? else {
+    let Some(rates) = rates_of_tenant(alloc, peers.as_slice(), table)? else {
         return Ok(None);
     };
     match terms_of(table, peers, routes, rates) {
@@ -478,69 +460,69 @@ fn only_tenant(tenant: Option<TenantSetup>, others: &[Value]) -> Result<TenantSe
     }
 }
 
-fn tenant_of_value(alloc: Global, value: &Value) -> Result<Option<TenantSetup>, AllocError>
-    ensures { IfOk result (λ tenant. tenant ≡ option_and_then tenant_of (as_table (view value.now))) }
+fn tenant_of_item(alloc: Global, value: &Value) -> Result<Option<TenantSetup>, AllocError>
+    ensures { IfOk result (λ tenant. tenant ≡ option_and_then tenant_of_table (as_table (view value.now))) }
 {
     match value.as_table() {
-        Some(table) => tenant_of(alloc, table),
+        Some(table) => tenant_of_table(alloc, table),
         None => Ok(None),
     }
 }
 
 // The tenant of the first table, where there is no other.
-fn tenant_in(alloc: Global, values: &[Value]) -> Result<TenantSetup, SetupError>
-    ensures { Gives (λ t. t) result (tenant_in (items_view values.now)) }
+fn tenant_of_items(alloc: Global, values: &[Value]) -> Result<TenantSetup, ReadError<SetupFault>>
+    ensures { GivesUnlessMemory (λ t. t) result (tenant_of_items (items_view values.now)) }
 {
     let [first, others @ ..] = values else {
-        return Err(SetupError::Fault(SetupFault::Tenant(0)));
+        return Err(ReadError::Fault(SetupFault::Tenant(0)));
     };
-    let tenant = tenant_of_value(alloc, first)?;
+    let tenant = tenant_of_item(alloc, first)?;
     match only_tenant(tenant, others) {
         Ok(tenant) => Ok(tenant),
-        Err(fault) => Err(SetupError::Fault(fault)),
+        Err(fault) => Err(ReadError::Fault(fault)),
     }
 }
 
-#[tactic(auto, unfolding(crate::specs::Setup::tenant_at))]
-fn tenant_at(alloc: Global, table: &Table) -> Result<TenantSetup, SetupError>
-    ensures { Gives (λ t. t) result (tenant_at (array_at (codes "tenant") (table_view table.now))) }
+#[tactic(auto, unfolding(crate::specs::Setup::tenant_of_array))]
+fn tenant_of_array(alloc: Global, table: &Table) -> Result<TenantSetup, ReadError<SetupFault>>
+    ensures { GivesUnlessMemory (λ t. t) result (tenant_of_array (array_under (codes "tenant") (table_view table.now))) }
 {
-    match array_at(table, "tenant") {
-        Some(values) => tenant_in(alloc, values.as_slice()),
-        None => Err(SetupError::Fault(SetupFault::Tenant(0))),
+    match array_under(table, "tenant") {
+        Some(values) => tenant_of_items(alloc, values.as_slice()),
+        None => Err(ReadError::Fault(SetupFault::Tenant(0))),
     }
 }
 
-fn start_at(table: &Table) -> Option<Moment>
-    ensures { result ≡ option_and_then moment (number_at 64 (codes "start") (table_view table.now)) }
+fn start_of(table: &Table) -> Option<Moment>
+    ensures { result ≡ option_and_then moment_within (number_under 64 (codes "start") (table_view table.now)) }
 {
-    match u64_at(table, "start") {
+    match u64_under(table, "start") {
         Some(start) => Moment::new(start),
         None => None,
     }
 }
 
-#[tactic(auto, unfolding(crate::specs::Setup::setup_in))]
-fn setup_in(alloc: Global, table: &Table) -> Result<Setup, SetupError>
-    ensures { Gives (λ s. s) result (setup_in (table_view table.now)) }
+#[tactic(auto, unfolding(crate::specs::Setup::setup_of_table))]
+fn setup_of_table(alloc: Global, table: &Table) -> Result<Setup, ReadError<SetupFault>>
+    ensures { GivesUnlessMemory (λ s. s) result (setup_of_table (table_view table.now)) }
 {
-    if u64_at(table, "version") != Some(1) {
-        return Err(SetupError::Fault(SetupFault::Version));
+    if u64_under(table, "version") != Some(1) {
+        return Err(ReadError::Fault(SetupFault::Version));
     }
-    let Some(start) = start_at(table) else {
-        return Err(SetupError::Fault(SetupFault::Start));
+    let Some(start) = start_of(table) else {
+        return Err(ReadError::Fault(SetupFault::Start));
     };
-    let tenant = tenant_at(alloc, table)?;
+    let tenant = tenant_of_array(alloc, table)?;
     Ok(Setup { start, tenant })
 }
 
-fn document_of(alloc: Global, text: &str) -> Result<Table, SetupError>
-    ensures { Gives table_view result (document_of (parse_document text.now)) }
+fn document_of(alloc: Global, text: &str) -> Result<Table, ReadError<SetupFault>>
+    ensures { GivesUnlessMemory table_view result (document_of (parse_document text.now)) }
 {
     match toml::table_from_str(alloc, text) {
         Ok(table) => Ok(table),
-        Err(e) if e.is_memory() => Err(SetupError::Memory),
-        Err(_) => Err(SetupError::Fault(SetupFault::Toml)),
+        Err(e) if e.is_memory() => Err(ReadError::Memory),
+        Err(_) => Err(ReadError::Fault(SetupFault::Toml)),
     }
 }
 
@@ -559,12 +541,12 @@ fn document_of(alloc: Global, text: &str) -> Result<Table, SetupError>
 /// The faults are looked for in the order of [`SetupFault`]; a key that lacks or is of another kind
 /// than wanted, and a limit of [`TenantSetup::new`] that is broken, is a fault of its tenant.
 #[tactic(auto, unfolding(crate::specs::Setup::setup_of))]
-pub fn read_setup(alloc: Global, text: &[u8]) -> Result<Setup, SetupError>
-    ensures exact { Gives (λ s. s) result (setup_of text.now) }
+pub fn read_setup(alloc: Global, text: &[u8]) -> Result<Setup, ReadError<SetupFault>>
+    ensures exact { GivesUnlessMemory (λ s. s) result (setup_of text.now) }
 {
     let Ok(text) = std::str::from_utf8(text) else {
-        return Err(SetupError::Fault(SetupFault::Toml));
+        return Err(ReadError::Fault(SetupFault::Toml));
     };
     let table = document_of(alloc, text)?;
-    setup_in(alloc, &table)
+    setup_of_table(alloc, &table)
 }
