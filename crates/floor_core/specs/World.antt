@@ -41,6 +41,10 @@ pub data Event : Type 0 where
 abbrev pub put : {A : Type 0} → (ℕ → A) → ℕ → A → ℕ → A
 put f k v = λ n. if n == k then v else f n
 
+-- a tenant with that book, to whom nothing has happened yet
+abbrev pub new_tenant : State → Tenant
+new_tenant book = record { book = book; next_call = 0; calls = λ n. None }
+
 -- the tenant's number
 abbrev pub number_of : Tenant → ℕ
 number_of s = s.book.opening.tenant

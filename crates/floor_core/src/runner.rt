@@ -69,13 +69,14 @@ impl Runner {
     ghost use Rattle.floor_core.specs.Runner.{Run, output_of, moved, outputs_of, run_after, load_output, load_moved, decide_output, decide_moved, shown_tenant, shown_hands};
     ghost use Rattle.std.specs.Prelude.{All};
     ghost use Rattle.floor_core.specs.World.{FitsIn};
-    ghost use Rattle.floor_core.specs.World.{AreOutputs, IsLeft};
-    ghost use Rattle.floor_core.specs.declared.carried.Carried.TheVariants.{Nothing};
+    ghost use Rattle.floor_core.specs.World.{AreOutputs, IsLeft, new_tenant, all_free};
 
     /// The runner of a book of tenant 0, with nothing in hand.
     pub fn new(book: Book) -> Runner
         requires { book.opening.tenant ≡ 0 }
-        ensures { result ≡ record { book = book; next_call = 0; carried = Nothing } }
+        ensures tenant { shown_tenant result ≡ new_tenant book }
+        ensures hands { shown_hands result ≡ all_free }
+        ensures calls { result.next_call ≡ 0 }
     {
         Runner {
             book,

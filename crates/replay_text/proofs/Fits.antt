@@ -3,29 +3,24 @@ use Rattle.std.proofs.Common.{◌≡◌, ◌<◌, ◌+◌, ℕ, List, [], ◌∷
 use Rattle.std.specs.Prelude.{option_and_then, IfOk, IfSome, codes, ◌&&◌, nat_lt}
 use Rattle.std.specs.List.{All, AllByRecursion, position}
 use Rattle.std.specs.Str.{bytes_eq}
-use Rattle.std.proofs.lemmas.Bool.{ltb-true, lt-ltb}
+use Rattle.std.proofs.lemmas.Bool.{ltb-true, lt-ltb, and_parts}
+use Rattle.std.proofs.lemmas.Option.{cond_some, option_and_then_some}
 use Rattle.std.proofs.lemmas.List.Elements.{All-from_recursion}
 use Rattle.std.proofs.lemmas.List.Quantifiers.{position-Some}
-use Rattle.replay_text.specs.Script.{number_below, tenant_of, token_of, frame_of, load_of, decide_of, step_of_words, words_of, meaning_of, is_empty, is_numeral, value_of, is_skipped, then_steps, step_or_bad, steps_from, steps_of_script, lines_of, last_moment, FitsIn, Gives}
+use Rattle.replay_text.specs.Script.{number_below, tenant_named, token_of, frame_of, load_of, decide_of, step_of_words, words_of, meaning_of, is_empty, is_numeral, value_of, is_skipped, then_steps, step_or_bad, steps_from, steps_of_script, lines_of}
 use Rattle.replay_text.specs.declared.script.Meaning.{Meaning}
 use Rattle.replay_text.specs.declared.script.Meaning.TheVariants.{Skipped, Runs, Bad}
 use Rattle.replay_text.specs.declared.script.ScriptFault.{ScriptFault}
 use Rattle.std.specs.Global.{Vec}
-use Rattle.replay_text.specs.declared.script.ScriptError.{ScriptError}
+use Rattle.common_types.specs.Outcomes.{GivesUnlessMemory}
+use Rattle.common_types.specs.Token.{is_token}
+use Rattle.floor_core.specs.World.{FitsIn}
+use Rattle.common_types.specs.declared.read_error.ReadError.{ReadError}
 use Rattle.floor_core.specs.declared.step.Step.{Step}
 use Rattle.floor_core.specs.declared.step.Step.TheVariants.{Load, Decide}
 
--- what a step that was not left out had
-some_then : {A B : Type 0} (o : Option A) (f : A → Option B) (y : B) → option_and_then f o ≡ Some y → (x : A) × (o ≡ Some x) × (f x ≡ Some y)
-some_then None f y e = absurd cc
-some_then (Some x) f y e = (x, refl, e)
-
 some_is : {A : Type 0} (x y : A) → (let o : Option A = Some x in o) ≡ Some y → x ≡ y
 some_is x y e = cc
-
-chosen_some : {A : Type 0} (b : Bool) (x y : A) → cond b (Some x) None ≡ Some y → (b ≡ true) × (x ≡ y)
-chosen_some true x y e = (refl, cc)
-chosen_some false x y e = absurd cc
 
 chosen_or_none : {A : Type 0} (b : Bool) (o : Option A) (y : A) → cond b o None ≡ Some y → (b ≡ true) × (o ≡ Some y)
 chosen_or_none true o y e = (refl, e)
@@ -35,33 +30,29 @@ none_or_chosen : {A : Type 0} (b : Bool) (o : Option A) (y : A) → cond b None 
 none_or_chosen true o y e = absurd cc
 none_or_chosen false o y e = e
 
-both_true : (a b : Bool) → (a && b) ≡ true → b ≡ true
-both_true true b e = e
-both_true false b e = absurd cc
-
 number_fits : (bound : ℕ) (word : List ℕ) (n : ℕ) → number_below bound word ≡ Some n → n < bound
 number_fits bound word n e =
-    let c = chosen_some (is_numeral word && nat_lt (value_of word) bound) (value_of word) n e in
-    let low : value_of word < bound = ltb-true (value_of word) bound (both_true (is_numeral word) (nat_lt (value_of word) bound) c.0) in
+    let c = cond_some (is_numeral word && nat_lt (value_of word) bound) (value_of word) n e in
+    let low : value_of word < bound = ltb-true (value_of word) bound (and_parts (is_numeral word) (nat_lt (value_of word) bound) c.0).1 in
     subst (λ (k : ℕ). k < bound) c.1 low
 
-tenant_fits : (names : List (List ℕ)) (word : List ℕ) (n : ℕ) → tenant_of names word ≡ Some n → n < length names
+tenant_fits : (names : List (List ℕ)) (word : List ℕ) (n : ℕ) → tenant_named names word ≡ Some n → n < length names
 tenant_fits names word n e =
     (position-Some (λ name. bytes_eq name word) names n [] (none_or_chosen (is_empty word) (position (λ name. bytes_eq name word) names) n e)).0
 
 load_fits : (names : List (List ℕ)) (workers : ℕ) (worker tenant token frame : List ℕ) (s : Step) → load_of names workers worker tenant token frame ≡ Some s → FitsIn workers (length names) s
 load_fits names workers worker tenant token frame s e =
-    let a = some_then (number_below workers worker) _ s e in
-    let b = some_then (tenant_of names tenant) _ s a.2 in
-    let c = some_then (token_of token) _ s b.2 in
-    let d = some_then (frame_of frame) _ s c.2 in
-    subst (FitsIn workers (length names)) (some_is (Load a.0 b.0 c.0 d.0) s d.2) (number_fits workers worker a.0 a.1, tenant_fits names tenant b.0 b.1)
+    option_and_then_some _ (number_below workers worker) s e (λ w w_is rest.
+    option_and_then_some _ (tenant_named names tenant) s rest (λ t t_is rest.
+    option_and_then_some _ (token_of token) s rest (λ k k_is rest.
+    option_and_then_some _ (frame_of frame) s rest (λ b b_is rest.
+    subst (FitsIn workers (length names)) (some_is (Load w t k b) s rest) (number_fits workers worker w w_is, tenant_fits names tenant t t_is)))))
 
 decide_fits : (names : List (List ℕ)) (workers : ℕ) (worker now : List ℕ) (s : Step) → decide_of workers worker now ≡ Some s → FitsIn workers (length names) s
 decide_fits names workers worker now s e =
-    let a = some_then (number_below workers worker) _ s e in
-    let b = some_then (number_below (last_moment + 1) now) _ s a.2 in
-    subst (FitsIn workers (length names)) (some_is (Decide a.0 b.0) s b.2) (number_fits workers worker a.0 a.1)
+    option_and_then_some _ (number_below workers worker) s e (λ w w_is rest.
+    option_and_then_some _ (number_below 253_400_000_000_001 now) s rest (λ n n_is rest.
+    subst (FitsIn workers (length names)) (some_is (Decide w n) s rest) (number_fits workers worker w w_is)))
 
 step_fits : (names : List (List ℕ)) (workers : ℕ) (words : List (List ℕ)) (s : Step) → step_of_words names workers words ≡ Some s → FitsIn workers (length names) s
 step_fits names workers [] s e = absurd cc
@@ -115,7 +106,7 @@ script_fits names workers text = by _ (lines_fit names workers 1 (lines_of text)
 pub read_fits : (names : List (List ℕ)) (workers : ℕ) (text : List ℕ) (steps : List Step) → steps_of_script names workers text ≡ Ok steps → All (FitsIn workers (length names)) steps
 read_fits names workers text steps e = All-from_recursion (FitsIn workers (length names)) steps (rw e at (script_fits names workers text))
 
-pub if_read_fit : (names : List (List ℕ)) (workers : ℕ) (text : List ℕ) (r : Result (Vec Step) ScriptError) → Gives (λ steps. steps.items) r (steps_of_script names workers text) → IfOk r (λ steps. All (FitsIn workers (length names)) steps.items)
+pub if_read_fit : (names : List (List ℕ)) (workers : ℕ) (text : List ℕ) (r : Result (Vec Step) (ReadError ScriptFault)) → GivesUnlessMemory (λ steps. steps.items) r (steps_of_script names workers text) → IfOk r (λ steps. All (FitsIn workers (length names)) steps.items)
 if_read_fit names workers text (Ok steps) given = read_fits names workers text steps.items given
 if_read_fit names workers text (Err e) given = tt
 

@@ -6,11 +6,12 @@ use Rattle.std.specs.List.{filter_map, cons_option, AllByRecursion}
 use Rattle.floor_core.specs.declared.step.Step.{Step}
 use Rattle.replay_text.specs.declared.script.ScriptFault.{ScriptFault}
 use Rattle.replay_text.specs.declared.script.ScriptFault.TheVariants.{Size, Line}
-use Rattle.replay_text.specs.declared.script.ScriptError.{ScriptError}
-use Rattle.replay_text.specs.declared.script.ScriptError.TheVariants as errors
+use Rattle.common_types.specs.declared.read_error.ReadError.{ReadError}
+use Rattle.common_types.specs.declared.read_error.ReadError.TheVariants as errors
 use Rattle.replay_text.specs.declared.script.Meaning.{Meaning}
 use Rattle.replay_text.specs.declared.script.Meaning.TheVariants.{Skipped, Runs, Bad}
-use Rattle.replay_text.specs.Script.{then_steps, meaning_of, steps_from, step_in, IsBad, AreSteps, IsFirstBad, Gives}
+use Rattle.replay_text.specs.Script.{then_steps, meaning_of, steps_from, step_in, IsBad, AreSteps, IsFirstBad}
+use Rattle.common_types.specs.Outcomes.{GivesUnlessMemory}
 
 -- ---- one line before the others
 
@@ -92,11 +93,11 @@ never_size names workers number (line ∷ lines) h =
 
 -- ---- what reading gave
 
-pub gives_ok : (result : Result (Vec Step) ScriptError) (read : Result (List Step) ScriptFault) (P : List Step → Type 0) → Gives (λ v. v.items) result read → ((steps : List Step) → read ≡ Ok steps → P steps) → IfOk result (λ v. P v.items)
+pub gives_ok : (result : Result (Vec Step) (ReadError ScriptFault)) (read : Result (List Step) ScriptFault) (P : List Step → Type 0) → GivesUnlessMemory (λ v. v.items) result read → ((steps : List Step) → read ≡ Ok steps → P steps) → IfOk result (λ v. P v.items)
 gives_ok (Ok v) read P given then = then v.items given
 gives_ok (Err e) read P given then = tt
 
-pub gives_err : (result : Result (Vec Step) ScriptError) (read : Result (List Step) ScriptFault) (fault : ScriptFault) → Gives (λ v. v.items) result read → result ≡ Err (errors.Fault fault) → read ≡ Err fault
+pub gives_err : (result : Result (Vec Step) (ReadError ScriptFault)) (read : Result (List Step) ScriptFault) (fault : ScriptFault) → GivesUnlessMemory (λ v. v.items) result read → result ≡ Err (errors.Fault fault) → read ≡ Err fault
 gives_err (Ok v) read fault given is = absurd cc
 gives_err (Err errors.Memory) read fault given is = absurd cc
 gives_err (Err (errors.Fault f)) read fault given is = cc

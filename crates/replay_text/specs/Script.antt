@@ -1,23 +1,18 @@
 -- Replay scripts: ASCII lines of words, each line a step of a worker.
 use Rattle.std.specs.Prelude.{◌≡◌, ◌<◌, ℕ, ◌+◌, ◌-◌, ◌*◌, List, [], ◌∷◌, ◌++◌, length, fold, Bool, true, false, not, ◌&&◌, ◌||◌, ◌==◌, nat_lt, nat_le, if◌then◌else◌, Option, Some, None, option_and_then, Result, Ok, Err, codes}
-use Rattle.std.specs.List.{slice_split, list_all, list_any, position, filter_map, AllByRecursion}
+use Rattle.std.specs.List.{slice_split, list_all, position, filter_map, AllByRecursion}
 use Rattle.std.specs.Str.{bytes_eq}
 use Rattle.std.specs.Result.{result_ok}
 use Rattle.hex.specs.Hex.{decode_of}
-use Rattle.common_types.specs.Text.{text_within}
+use Rattle.common_types.specs.OptionChain.{◌>>=◌}
+use Rattle.common_types.specs.Numbers.{is_between}
+use Rattle.common_types.specs.Token.{is_token}
 use Rattle.floor_core.specs.declared.step.Step.{Step}
 use Rattle.floor_core.specs.declared.step.Step.TheVariants.{Load, Decide}
 use Rattle.replay_text.specs.declared.script.ScriptFault.{ScriptFault}
 use Rattle.replay_text.specs.declared.script.ScriptFault.TheVariants.{Size, Line}
-use Rattle.replay_text.specs.declared.script.ScriptError.{ScriptError}
-use Rattle.replay_text.specs.declared.script.ScriptError.TheVariants as errors
 use Rattle.replay_text.specs.declared.script.Meaning.{Meaning}
 use Rattle.replay_text.specs.declared.script.Meaning.TheVariants.{Skipped, Runs, Bad}
-
-infixl 10 ◌>>=◌
--- the first that is missing leaves nothing
-abbrev pub ◌>>=◌ : {A B : Type 0} → Option A → (A → Option B) → Option B
-o >>= f = option_and_then f o
 
 -- the list has no element
 abbrev pub is_empty : {A : Type 0} → List A → Bool
@@ -44,7 +39,7 @@ value_of digits = fold (λ n d. n * 10 + (d - 48)) 0 digits
 
 -- a decimal digit
 abbrev pub is_digit : ℕ → Bool
-is_digit b = nat_le 48 b && nat_le b 57
+is_digit b = is_between 48 57 b
 
 -- `0`, or digits that do not begin with `0`
 abbrev pub is_numeral : List ℕ → Bool
@@ -56,18 +51,12 @@ abbrev pub number_below : ℕ → List ℕ → Option ℕ
 number_below bound word = if is_numeral word && nat_lt (value_of word) bound then Some (value_of word) else None
 
 -- the number of the first tenant of that name
-abbrev pub tenant_of : List (List ℕ) → List ℕ → Option ℕ
-tenant_of names word = if is_empty word then None else position (λ name. bytes_eq name word) names
+abbrev pub tenant_named : List (List ℕ) → List ℕ → Option ℕ
+tenant_named names word = if is_empty word then None else position (λ name. bytes_eq name word) names
 
--- letters, digits and `-._~+/=`
-abbrev pub is_token_byte : ℕ → Bool
-is_token_byte b =
-    (nat_le 65 b && nat_le b 90) || (nat_le 97 b && nat_le b 122) || is_digit b || list_any (λ c. c == b) (codes "-._~+/=")
-
--- a token is 1 to 64 of these
+-- a word that is a token
 abbrev pub token_of : List ℕ → Option (List ℕ)
-token_of word =
-    if is_empty word || not (list_all is_token_byte word) then None else text_within 64 word
+token_of word = if is_token word then Some word else None
 
 -- the bytes that a word spells: hexadecimal digits in either case, or `-` for no bytes
 abbrev pub frame_of : List ℕ → Option (List ℕ)
@@ -75,15 +64,11 @@ frame_of word =
     if bytes_eq word (codes "-") then Some []
     else (if is_empty word then None else result_ok (decode_of word))
 
--- the last moment that a script may name
-abbrev pub last_moment : ℕ
-last_moment = 253_400_000_000_000
-
 -- `load W TENANT TOKEN HEX`
 abbrev pub load_of : List (List ℕ) → ℕ → List ℕ → List ℕ → List ℕ → List ℕ → Option Step
 load_of names workers worker tenant token frame = do
   w ← number_below workers worker
-  t ← tenant_of names tenant
+  t ← tenant_named names tenant
   k ← token_of token
   bytes ← frame_of frame
   Some (Load w t k bytes)
@@ -92,7 +77,7 @@ load_of names workers worker tenant token frame = do
 abbrev pub decide_of : ℕ → List ℕ → List ℕ → Option Step
 decide_of workers worker now = do
   w ← number_below workers worker
-  n ← number_below (last_moment + 1) now
+  n ← number_below 253_400_000_000_001 now
   Some (Decide w n)
 
 -- the step that the words of a line spell
@@ -163,18 +148,3 @@ pub record IsFirstBad (names : List (List ℕ)) (workers : ℕ) (lines : List (L
   pub place : number ≡ length before + 1
   pub none_before : AllByRecursion (λ l. ¬ (IsBad names workers l)) before
   pub is_bad : IsBad names workers line
-
--- the step names a worker and a tenant that are there
-abbrev pub FitsIn : ℕ → ℕ → Step → Type 0
-FitsIn workers tenants (Load worker tenant token bytes) = (worker < workers) × (tenant < tenants)
-FitsIn workers tenants (Decide worker now) = worker < workers
-
--- a fault is the one that reading gives, unless memory ran out
-abbrev pub Fails : {Y : Type 0} → ScriptError → Result Y ScriptFault → Type 0
-Fails errors.Memory read = Unit {0}
-Fails (errors.Fault fault) read = read ≡ Err fault
-
--- what was read is what reading gives, unless memory ran out
-abbrev pub Gives : {X Y : Type 0} → (X → Y) → Result X ScriptError → Result Y ScriptFault → Type 0
-Gives view (Ok x) read = read ≡ Ok (view x)
-Gives view (Err error) read = Fails error read

@@ -1,5 +1,5 @@
 -- Words and lines taken off the front, seen as lists.
-use Rattle.std.specs.Prelude.{ℕ, List, [], ◌∷◌, length, nat_le, if◌then◌else◌, Option, Some, None}
+use Rattle.std.specs.Prelude.{ℕ, List, [], ◌∷◌, Option, Some, None}
 
 -- a first part and the parts of what follows it, if anything does
 abbrev pub parts : (List ℕ → List (List ℕ)) → List ℕ → Option (List ℕ) → List (List ℕ)
@@ -15,7 +15,3 @@ three_of _ = None
 abbrev pub five_of : List (List ℕ) → Option (List ℕ × List ℕ × List ℕ × List ℕ × List ℕ)
 five_of (a ∷ b ∷ c ∷ d ∷ e ∷ []) = Some (a, b, c, d, e)
 five_of _ = None
-
--- the text, if it is no longer than its room
-abbrev pub text_within : ℕ → List ℕ → Option (List ℕ)
-text_within room text = if nat_le (length text) room then Some text else None

@@ -3,11 +3,11 @@
 ghost use Rattle.std.specs.Prelude.{◌≡◌, ◌++◌, ◌∷◌, [], IfOk, OnOk};
 ghost use Rattle.std.specs.Fmt.{decimal};
 ghost use Rattle.hex.specs.Hex.{encode_lower};
-ghost use Rattle.replay_text.specs.Printed.{name_of, word_of, text_of, line_of, printed_lines};
+ghost use Rattle.replay_text.specs.Printed.{name_of, word_of, line_text, line_of, printed_lines};
 
-use crate::step::{Malformed, Output};
+use common_types::Text;
+use floor_core::{Malformed, Output};
 use std::alloc::{AllocError, Global};
-use tenant_core::Text;
 
 fn name_of(names: &[Text<32>], tenant: usize) -> &[u8]
     ensures { result.now ≡ name_of names.now tenant }
@@ -22,6 +22,7 @@ fn word_of(kind: Malformed) -> &'static [u8]
     ensures { result.now ≡ word_of kind }
 {
     match kind {
+        Malformed::Token => b"token",
         Malformed::Kind => b"kind",
         Malformed::Oer => b"oer",
         Malformed::Field => b"field",
@@ -50,7 +51,7 @@ fn put_text(
     out: &mut Vec<u8>,
     output: &Output,
 ) -> Result<(), AllocError>
-    ensures { OnOk result (out.new.items ≡ out.old.items ++ text_of names.now output.now) }
+    ensures { OnOk result (out.new.items ≡ out.old.items ++ line_text names.now output.now) }
 {
     match output {
         Output::Busy => out.extend_from_slice(b"- busy"),

@@ -3,14 +3,16 @@
 ghost use Rattle.std.specs.Prelude.{◌≡◌, ◌==◌, ◌<◌, ◌≤◌, ◌↔◌, ℕ, List, Ok, Err, ◌∷◌, length, ◌≢◌, [], option_copied, option_map, min, nat_lt, IfOk, All};
 ghost use Rattle.std.specs.List.{position, list_all};
 ghost use Rattle.std.specs.Str.{bytes_eq};
-ghost use Rattle.replay_text.specs.Script.{lines_of, words_of, is_digit, is_numeral, value_of, number_below, tenant_of, is_token_byte, token_of, frame_of, load_of, decide_of, step_of_words, is_skipped, meaning_of, steps_from, steps_of_script, AreSteps, IsFirstBad, FitsIn, Gives};
+ghost use Rattle.replay_text.specs.Script.{lines_of, words_of, is_digit, is_numeral, value_of, number_below, tenant_named, token_of, frame_of, load_of, decide_of, step_of_words, is_skipped, meaning_of, steps_from, steps_of_script, AreSteps, IsFirstBad};
+ghost use Rattle.common_types.specs.Outcomes.{GivesUnlessMemory};
+ghost use Rattle.floor_core.specs.World.{FitsIn};
 ghost use Rattle.replay_text.specs.Words.{parts, three_of, five_of};
 
-use crate::step::{Bytes, Step, text_within};
+use common_types::{Bytes, ReadError, Text, is_token};
+use floor_core::Step;
 use hex::FromHexError;
 use ilp_addr::Moment;
-use std::alloc::{AllocError, AllocFailed, Global};
-use tenant_core::Text;
+use std::alloc::{AllocError, Global};
 use thiserror::Error;
 
 /// The most bytes of a script.
@@ -28,35 +30,6 @@ pub enum ScriptFault {
     /// The line of that number, from 1, is the first that says nothing.
     #[error("script: line {0}")]
     Line(usize),
-}
-
-/// Why a script could not be read.
-#[derive(Clone, Copy, Debug, PartialEq, Eq, Error)]
-pub enum ScriptError {
-    #[error("out of memory")]
-    Memory,
-    #[error("{0}")]
-    Fault(ScriptFault),
-}
-
-impl From<AllocError> for ScriptError {
-    ghost use Rattle.replay_text.specs.declared.script.ScriptError.TheVariants.{Memory};
-
-    ghost from_gives = { λ _ e. e ≡ Memory };
-
-    fn from(_e: AllocError) -> ScriptError {
-        ScriptError::Memory
-    }
-}
-
-impl<T: Drop> From<AllocFailed<T>> for ScriptError {
-    ghost use Rattle.replay_text.specs.declared.script.ScriptError.TheVariants.{Memory};
-
-    ghost from_gives = { λ _ e. e ≡ Memory };
-
-    fn from(_e: AllocFailed<T>) -> ScriptError {
-        ScriptError::Memory
-    }
 }
 
 /// What a line of a script says.
@@ -172,8 +145,8 @@ fn place_of_name(names: &[Text<32>], word: &[u8]) -> Option<usize>
 }
 
 /// The number of the first tenant of that name.
-fn tenant_of(names: &[Text<32>], word: &[u8]) -> Option<usize>
-    ensures { result ≡ tenant_of names.now word.now }
+fn tenant_named(names: &[Text<32>], word: &[u8]) -> Option<usize>
+    ensures { result ≡ tenant_named names.now word.now }
 {
     if word.is_empty() {
         return None;
@@ -181,30 +154,14 @@ fn tenant_of(names: &[Text<32>], word: &[u8]) -> Option<usize>
     place_of_name(names, word)
 }
 
-fn is_token_byte(b: u8) -> bool
-    ensures { result ≡ is_token_byte b }
-{
-    match b {
-        b'A'..=b'Z' | b'a'..=b'z' | b'0'..=b'9' => true,
-        b'-' | b'.' | b'_' | b'~' | b'+' | b'/' | b'=' => true,
-        _ => false,
-    }
-}
-
-fn all_token_bytes(word: &[u8]) -> bool
-    ensures { result ≡ list_all is_token_byte word.now }
-{
-    word.iter().all(|b| is_token_byte(*b))
-}
-
 /// A word as a token.
-fn token_of(word: &[u8]) -> Option<Text<64>>
-    ensures { result ≡ token_of word.now }
+fn token_of(alloc: Global, word: &[u8]) -> Result<Option<Bytes>, AllocError>
+    ensures { IfOk result (λ token. token ≡ token_of word.now) }
 {
-    if word.is_empty() || !all_token_bytes(word) {
-        return None;
+    if !is_token(word) {
+        return Ok(None);
     }
-    text_within(word)
+    Ok(Some(Bytes::from_vec(Vec::from_slice(alloc, word)?)))
 }
 
 /// The bytes that a word spells.
@@ -237,10 +194,10 @@ fn load_of(
     let Some(worker) = number_below(workers as u64, worker) else {
         return Ok(None);
     };
-    let Some(tenant) = tenant_of(names, tenant) else {
+    let Some(tenant) = tenant_named(names, tenant) else {
         return Ok(None);
     };
-    let Some(token) = token_of(token) else {
+    let Some(token) = token_of(alloc, token)? else {
         return Ok(None);
     };
     let Some(bytes) = frame_of(alloc, frame)? else {
@@ -327,14 +284,14 @@ fn meaning_of(
     })
 }
 
-fn steps_of(
+fn numbered_steps(
     alloc: Global,
     names: &[Text<32>],
     workers: usize,
     text: &[u8],
-) -> Result<Vec<Step>, ScriptError>
+) -> Result<Vec<Step>, ReadError<ScriptFault>>
     requires { length text.now ≤ MOST_BYTES }
-    ensures { Gives (λ steps. steps.items) result (steps_from names.now workers 1 (lines_of text.now)) }
+    ensures { GivesUnlessMemory (λ steps. steps.items) result (steps_from names.now workers 1 (lines_of text.now)) }
 {
     let mut steps = Vec::new(alloc);
     let mut rest = text;
@@ -344,7 +301,7 @@ fn steps_of(
         match meaning_of(alloc, names, workers, line)? {
             Meaning::Skipped => {}
             Meaning::Runs(step) => steps.push(step)?,
-            Meaning::Bad => return Err(ScriptError::Fault(ScriptFault::Line(number))),
+            Meaning::Bad => return Err(ReadError::Fault(ScriptFault::Line(number))),
         }
         rest = after;
         number += 1;
@@ -364,23 +321,23 @@ pub fn parse_script(
     names: &[Text<32>],
     workers: usize,
     text: &[u8],
-) -> Result<Vec<Step>, ScriptError>
+) -> Result<Vec<Step>, ReadError<ScriptFault>>
     // What is read is what the lines say.
     ensures found { IfOk result (λ steps. AreSteps names.now workers (lines_of text.now) steps.items) }
     // What the lines say is read, unless memory runs out.
     ensures only { (steps : List Step) → length text.now ≤ MOST_BYTES → AreSteps names.now workers (lines_of text.now) steps
-        → Gives (λ v. v.items) result (Ok steps) }
+        → GivesUnlessMemory (λ v. v.items) result (Ok steps) }
     // A line that is named is the first bad one.
-    ensures first_bad { (number : ℕ) → result ≡ Err (ScriptError.Fault (ScriptFault.Line number))
+    ensures first_bad { (number : ℕ) → result ≡ Err (ReadError.Fault (ScriptFault.Line number))
         → IsFirstBad names.now workers (lines_of text.now) number }
     // A text is too long for a script before anything else is wrong with it.
-    ensures size { (result ≡ Err (ScriptError.Fault ScriptFault.Size)) ↔ (MOST_BYTES < length text.now) }
+    ensures size { (result ≡ Err (ReadError.Fault ScriptFault.Size)) ↔ (MOST_BYTES < length text.now) }
     // Its steps name workers and tenants that are there.
     ensures fit { IfOk result (λ steps. All (FitsIn workers (length names.now)) steps.items) }
-    ensures exact { Gives (λ v. v.items) result (steps_of_script names.now workers text.now) }
+    ensures exact { GivesUnlessMemory (λ v. v.items) result (steps_of_script names.now workers text.now) }
 {
     if text.len() > MOST_BYTES {
-        return Err(ScriptError::Fault(ScriptFault::Size));
+        return Err(ReadError::Fault(ScriptFault::Size));
     }
-    steps_of(alloc, names, workers, text)
+    numbered_steps(alloc, names, workers, text)
 }

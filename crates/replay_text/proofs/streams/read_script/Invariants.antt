@@ -9,6 +9,7 @@ invariant-loop-chunk g l =
       bound : length l.text.items ≤ 16_777_217;
       chunk : length l.chunk ≡ 4096;
       before : l.before ≡ g.R.Device.failure_count l.fn.reader;
+      unfailed : g.R.Device.failure_count l.reader ≤ l.before;
     }
 
 abbrev pub decreases-loop-chunk : goal.decreases-loop-chunk

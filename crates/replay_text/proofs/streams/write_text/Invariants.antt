@@ -8,6 +8,7 @@ invariant-loop-done g l =
       written : Appends (g.W.Write.contents l.fn.writer) (g.W.Write.contents l.writer) (take l.done l.text);
       bound : l.done ≤ length l.text;
       before : l.before ≡ g.W.Device.failure_count l.fn.writer;
+      unfailed : g.W.Device.failure_count l.writer ≤ l.before;
     }
 
 abbrev pub decreases-loop-done : goal.decreases-loop-done

@@ -1,7 +1,7 @@
 use Rattle.std.proofs.Common.{◌≡◌, ◌+◌, ◌≤◌, length}
 use Rattle.replay_text.specs.Script.{lines_of, steps_from}
 use Rattle.replay_text.proofs.Fronts.{with_front}
-use Rattle.replay_text.proofs.script.steps_of.Given as goal
+use Rattle.replay_text.proofs.script.numbered_steps.Given as goal
 
 abbrev pub invariant-loop-rest : goal.invariant-loop-rest
 invariant-loop-rest l = record {

@@ -2,8 +2,8 @@ use Rattle.std.proofs.Common.{sym, arith}
 use Rattle.std.proofs.lemmas.List.{nil_from_length}
 use Rattle.std.proofs.lemmas.Bool.{eqb-true}
 use Rattle.replay_text.proofs.Fronts.{skips, adds, fails, ends}
-use Rattle.replay_text.proofs.script.steps_of.Goals.{in-Skipped, in-Runs+in_ok-push-in-Runs}
-use Rattle.replay_text.proofs.script.steps_of.Goals as goal
+use Rattle.replay_text.proofs.script.numbered_steps.Goals.{in-Skipped, in-Runs+in_ok-push-in-Runs}
+use Rattle.replay_text.proofs.script.numbered_steps.Goals as goal
 
 pub returns-in-Bad : goal.returns-in-Bad
 returns-in-Bad c =

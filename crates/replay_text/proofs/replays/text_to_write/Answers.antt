@@ -1,5 +1,5 @@
-use Rattle.replay_text.proofs.Replays.{replayed_by}
-use Rattle.replay_text.proofs.replay.text_of.Goals as goal
+use Rattle.replay_text.proofs.Composition.{replayed_by}
+use Rattle.replay_text.proofs.replays.text_to_write.Goals as goal
 
 pub returns-in-Ok-answered-clause-text : goal.returns-in-Ok-answered-clause-text
 returns-in-Ok-answered-clause-text g c =
