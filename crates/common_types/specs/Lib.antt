@@ -1,5 +1,6 @@
 pub mod Text
 pub mod Numbers
+pub mod Token
 pub mod Outcomes
 pub mod OptionChain
 pub mod ResultChain

@@ -6,8 +6,10 @@ mod bytes;
 mod items;
 mod read_error;
 mod text;
+mod token;
 
 pub use bytes::Bytes;
 pub use items::Items;
 pub use read_error::ReadError;
 pub use text::Text;
+pub use token::{MAX_TOKEN, is_token};

@@ -1,0 +1,269 @@
+-- Setups: what a TOML document says of a tenant.
+use Rattle.std.specs.Prelude.{◌≡◌, ℕ, Bool, false, ◌^◌, ℤ, pos, negsuc, List, [], ◌∷◌, ◌++◌, set, ◌==◌, nat_lt, nat_le, if◌then◌else◌, Option, Some, None, option_and_then, Result, Ok, Err, codes}
+use Rattle.std.specs.List.{position}
+use Rattle.std.specs.FinMap.{empty, contains_key, insert, len}
+use Rattle.std.specs.Result.{result_ok}
+use Rattle.std.specs.Str.{bytes_eq, is_utf8}
+use Rattle.toml.specs.Data.{Data, Items, no_items, item, Members, get_member, as_str, as_integer, as_array, as_table}
+use Rattle.toml.specs.Parse.{parse_document}
+use Rattle.ilp_addr.specs.Address.{prefix_at}
+use Rattle.money_core.specs.Price.{rate_at}
+use Rattle.route_table.specs.Routes.{RouteMap}
+use Rattle.tenant_core.specs.Judge.{is_for_pair}
+use Rattle.tenant_core.specs.declared.terms.Role.{Role}
+use Rattle.tenant_core.specs.declared.terms.Role.TheVariants.{Child, Peer}
+use Rattle.tenant_core.specs.declared.terms.PeerTerms.{PeerTerms}
+use Rattle.tenant_core.specs.declared.terms.RateTerms.{RateTerms}
+use Rattle.tenant_core.specs.declared.terms.TenantTerms.{TenantTerms}
+use Rattle.tenant_core.specs.Setup.{is_tenant_setup}
+use Rattle.common_types.specs.OptionChain.{◌>>=◌}
+use Rattle.common_types.specs.Text.{text_within}
+use Rattle.admin_text.specs.declared.setup.SetupFault.{SetupFault}
+use Rattle.admin_text.specs.declared.setup.SetupFault.TheVariants.{Toml, Version, Start, Tenant}
+use Rattle.admin_text.specs.declared.setup.Setup.{Setup}
+
+-- the number, if it is none below 0 and has at most so many bits
+abbrev pub natural : ℕ → ℤ → Option ℕ
+natural bits (pos n) = if nat_lt n (2 ^ bits) then Some n else None
+natural bits (negsuc n) = None
+
+-- the string at a key
+unfoldable pub string_under : List ℕ → Members → Option (List ℕ)
+string_under key members = get_member key members >>= as_str
+
+-- the string at a key, of at most so many bytes
+unfoldable pub text_under : ℕ → List ℕ → Members → Option (List ℕ)
+text_under room key members = string_under key members >>= text_within room
+
+-- the integer at a key
+unfoldable pub integer_under : List ℕ → Members → Option ℤ
+integer_under key members = get_member key members >>= as_integer
+
+-- the number from 0 at a key, of at most so many bits
+unfoldable pub number_under : ℕ → List ℕ → Members → Option ℕ
+number_under bits key members = integer_under key members >>= natural bits
+
+-- what stands at a key, or the default where nothing does
+abbrev pub or_default : {A : Type 0} → A → Option Data → Option A → Option A
+or_default default None found = Some default
+or_default default (Some there) found = found
+
+-- the integer at a key, or the default where nothing stands there
+unfoldable pub integer_or : ℤ → List ℕ → Members → Option ℤ
+integer_or default key members = or_default default (get_member key members) (integer_under key members)
+
+-- the number at a key, or the default where nothing stands there
+unfoldable pub number_or : ℕ → List ℕ → Members → Option ℕ
+number_or default key members = or_default default (get_member key members) (number_under 64 key members)
+
+-- the array at a key
+unfoldable pub array_under : List ℕ → Members → Option Items
+array_under key members = get_member key members >>= as_array
+
+-- the items of the array at a key, none where nothing stands there
+unfoldable pub items_under : List ℕ → Members → Option Items
+items_under key members = or_default no_items (get_member key members) (array_under key members)
+
+-- the role that a word names
+abbrev pub role_of : List ℕ → Option Role
+role_of word =
+    if bytes_eq word (codes "child") then Some Child
+    else (if bytes_eq word (codes "peer") then Some Peer else None)
+
+-- the role at a key
+unfoldable pub role_under : List ℕ → Members → Option Role
+role_under key members = string_under key members >>= role_of
+
+-- a peer
+unfoldable pub peer_of : Members → Option PeerTerms
+peer_of t = do
+  name ← text_under 32 (codes "name") t
+  role ← role_under (codes "role") t
+  token ← text_under 64 (codes "token") t
+  url ← text_under 255 (codes "url") t
+  out_token ← text_under 64 (codes "out_token") t
+  asset ← text_under 16 (codes "asset") t
+  scale ← number_under 8 (codes "scale") t
+  cap ← number_under 64 (codes "cap") t
+  ceiling ← number_under 64 (codes "ceiling") t
+  credit ← number_under 64 (codes "credit") t
+  burst ← number_under 32 (codes "burst") t
+  per_second ← number_under 32 (codes "per_second") t
+  balance ← integer_or (pos 0) (codes "balance") t
+  Some (record { name = name; role = role; token = token; url = url; out_token = out_token; asset = asset; scale = scale; cap = cap; ceiling = ceiling; credit = credit; burst = burst; per_second = per_second; balance = balance })
+
+-- a peer, if the value is a table
+abbrev pub peer_in : Data → Option PeerTerms
+peer_in value = as_table value >>= peer_of
+
+-- the peers, in the order in which they stand
+unfoldable pub peers_of : Items → Option (List PeerTerms)
+peers_of no_items = Some []
+peers_of (item first others) = do
+  peer ← peer_in first
+  peers ← peers_of others
+  Some (peer ∷ peers)
+
+-- a number of at most 16 bits
+abbrev pub short_number : ℕ → Option ℕ
+short_number n = if nat_lt n (2 ^ 16) then Some n else None
+
+-- the place of the first peer of that name
+unfoldable pub place_of_peer : List PeerTerms → List ℕ → Option ℕ
+place_of_peer peers name = position (λ p. bytes_eq p.name name) peers
+
+-- the number of the first peer of the name at a key
+unfoldable pub peer_under : List PeerTerms → List ℕ → Members → Option ℕ
+peer_under peers key members = do
+  name ← string_under key members
+  place ← place_of_peer peers name
+  short_number place
+
+-- the prefix that a text spells: `*` is the empty one, which has no other spelling
+abbrev pub written_prefix : List ℕ → Option (List ℕ)
+written_prefix text =
+    if bytes_eq text (codes "*") then Some []
+    else (if bytes_eq text [] then None else result_ok (prefix_at text))
+
+-- routes with one more, unless its prefix has one already or there are 4,096
+abbrev pub with_route : RouteMap → List ℕ → ℕ → Option RouteMap
+with_route routes prefix peer =
+    if contains_key routes prefix then None
+    else (if len routes == 4_096 then None else Some (insert routes prefix peer))
+
+-- routes with the one of a table
+unfoldable pub with_route_of : List PeerTerms → RouteMap → Members → Option RouteMap
+with_route_of peers routes t = do
+  text ← string_under (codes "prefix") t
+  prefix ← written_prefix text
+  peer ← peer_under peers (codes "peer") t
+  with_route routes prefix peer
+
+-- routes with the one of a value, if that is a table
+abbrev pub with_route_in : List PeerTerms → RouteMap → Data → Option RouteMap
+with_route_in peers routes value = as_table value >>= with_route_of peers routes
+
+-- routes with those of the items, in the order in which they stand
+unfoldable pub with_routes_of : List PeerTerms → RouteMap → Items → Option RouteMap
+with_routes_of peers routes no_items = Some routes
+with_routes_of peers routes (item first others) = do
+  more ← with_route_in peers routes first
+  with_routes_of peers more others
+
+-- a rate between two peers
+unfoldable pub rate_of : List PeerTerms → Members → Option RateTerms
+rate_of peers t = do
+  from ← peer_under peers (codes "from") t
+  to ← peer_under peers (codes "to") t
+  num ← number_under 64 (codes "num") t
+  den ← number_under 64 (codes "den") t
+  rate ← result_ok (rate_at num den)
+  Some (record { from = from; to = to; rate = rate })
+
+-- a rate between two peers, if the value is a table
+abbrev pub rate_in : List PeerTerms → Data → Option RateTerms
+rate_in peers value = as_table value >>= rate_of peers
+
+-- rates with one more, in the place of one for the same pair if that stands there
+abbrev pub with_rate_at : List RateTerms → RateTerms → Option ℕ → List RateTerms
+with_rate_at rates rate None = rates ++ rate ∷ []
+with_rate_at rates rate (Some place) = set rates place rate
+
+-- rates with one more: for each pair the later counts
+abbrev pub with_rate : List RateTerms → RateTerms → List RateTerms
+with_rate rates rate = with_rate_at rates rate (position (is_for_pair rate.from rate.to) rates)
+
+-- rates with those of the items, in the order in which they stand
+unfoldable pub with_rates_of : List PeerTerms → List RateTerms → Items → Option (List RateTerms)
+with_rates_of peers rates no_items = Some rates
+with_rates_of peers rates (item first others) = do
+  rate ← rate_in peers first
+  with_rates_of peers (with_rate rates rate) others
+
+-- the peers of a tenant's table
+unfoldable pub peers_of_tenant : Members → Option (List PeerTerms)
+peers_of_tenant t = items_under (codes "peer") t >>= peers_of
+
+-- its routes, where its peers are these
+unfoldable pub routes_of_tenant : List PeerTerms → Members → Option RouteMap
+routes_of_tenant peers t = items_under (codes "route") t >>= with_routes_of peers empty
+
+-- its rates, where its peers are these
+unfoldable pub rates_of_tenant : List PeerTerms → Members → Option (List RateTerms)
+rates_of_tenant peers t = items_under (codes "rate") t >>= with_rates_of peers []
+
+-- what a tenant's table says, where its peers, its routes and its rates are these
+unfoldable pub terms_of : Members → List PeerTerms → RouteMap → List RateTerms → Option TenantTerms
+terms_of t peers routes rates = do
+  name ← text_under 32 (codes "name") t
+  address ← text_under 900 (codes "address") t
+  admin ← text_under 64 (codes "admin") t
+  journal ← number_or 1024 (codes "journal") t
+  margin ← number_or 1000 (codes "margin") t
+  hold ← number_or 30000 (codes "hold") t
+  Some (record { name = name; address = address; admin = admin; journal = journal; margin = margin; hold = hold; peers = peers; routes = routes; rates = rates })
+
+-- the terms, if they keep the limits of a setup
+abbrev pub within_limits : TenantTerms → Option TenantTerms
+within_limits terms = if is_tenant_setup terms then Some terms else None
+
+-- a tenant
+unfoldable pub tenant_of_table : Members → Option TenantTerms
+tenant_of_table t = do
+  peers ← peers_of_tenant t
+  routes ← routes_of_tenant peers t
+  rates ← rates_of_tenant peers t
+  terms ← terms_of t peers routes rates
+  within_limits terms
+
+-- for now there is exactly one tenant, and a second is a fault of its own
+abbrev pub and_no_other : Option TenantTerms → Items → Result TenantTerms SetupFault
+and_no_other None others = Err (Tenant 0)
+and_no_other (Some tenant) no_items = Ok tenant
+and_no_other (Some tenant) (item second others) = Err (Tenant 1)
+
+-- the tenant of the first item, where there is no other
+abbrev pub tenant_of_items : Items → Result TenantTerms SetupFault
+tenant_of_items no_items = Err (Tenant 0)
+tenant_of_items (item first others) = and_no_other (as_table first >>= tenant_of_table) others
+
+-- the tenant of an array of tables
+unfoldable pub tenant_of_array : Option Items → Result TenantTerms SetupFault
+tenant_of_array None = Err (Tenant 0)
+tenant_of_array (Some tenants) = tenant_of_items tenants
+
+-- the number is 1
+abbrev pub is_one : Option ℕ → Bool
+is_one None = false
+is_one (Some n) = n == 1
+
+-- a moment that a setup may begin at
+abbrev pub moment_within : ℕ → Option ℕ
+moment_within n = if nat_le n 253_400_000_000_000 then Some n else None
+
+-- the start is looked at before the tenant
+abbrev pub from_start : Option ℕ → Result TenantTerms SetupFault → Result Setup SetupFault
+from_start None tenant = Err Start
+from_start (Some start) (Ok tenant) = Ok (record { start = start; tenant = tenant })
+from_start (Some start) (Err fault) = Err fault
+
+-- what a document says, or its first fault
+unfoldable pub setup_of_table : Members → Result Setup SetupFault
+setup_of_table t =
+    if is_one (number_under 64 (codes "version") t)
+    then from_start (number_under 64 (codes "start") t >>= moment_within) (tenant_of_array (array_under (codes "tenant") t))
+    else Err Version
+
+-- a text that is no TOML is a fault
+abbrev pub document_of : Option Members → Result Members SetupFault
+document_of None = Err Toml
+document_of (Some members) = Ok members
+
+-- what a document that was read says
+abbrev pub then_setup : Result Members SetupFault → Result Setup SetupFault
+then_setup (Err fault) = Err fault
+then_setup (Ok members) = setup_of_table members
+
+-- what a text says
+unfoldable pub setup_of : List ℕ → Result Setup SetupFault
+setup_of text = if is_utf8 text then then_setup (document_of (parse_document text)) else Err Toml

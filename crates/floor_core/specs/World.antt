@@ -1,0 +1,244 @@
+-- The one-tenant connector, and whose step each step of a list is.
+use Rattle.std.specs.Prelude.{ℕ, ◌≡◌, ◌+◌, ◌<◌, List, [], ◌∷◌, length, Option, Some, None, Result, Ok, Err, ◌==◌, if◌then◌else◌}
+use Rattle.common_types.specs.Token.{is_token}
+use Rattle.ilp_addr.specs.Timestamp.{moment_of, timestamp_of}
+use Rattle.ilp_view.specs.declared.fault.ViewFault.{ViewFault}
+use Rattle.ilp_view.specs.declared.fault.ViewFault.TheVariants as fault
+use Rattle.ilp_view.specs.Packet.{Prepare, with_amount_and_expiry}
+use Rattle.ilp_view.specs.Reading.{prepare_at}
+use Rattle.tenant_core.specs.Key.{Key}
+use Rattle.tenant_core.specs.State.{State, peer_numbered}
+use Rattle.tenant_core.specs.Judge.{judge, decided}
+use Rattle.tenant_core.specs.declared.opening.Opening.{Opening}
+use Rattle.tenant_core.specs.declared.opening.Peer.{Peer}
+use Rattle.tenant_core.specs.declared.verdict.Verdict.{Verdict}
+use Rattle.tenant_core.specs.declared.verdict.Verdict.TheVariants.{Unknown, NoRoom, Refuse, Forward}
+use Rattle.floor_core.specs.Replies.{busy_reply, refusal_reply}
+use Rattle.floor_core.specs.declared.step.Malformed.{Malformed}
+use Rattle.floor_core.specs.declared.step.Malformed.TheVariants as malformed
+use Rattle.floor_core.specs.declared.step.Step.{Step}
+use Rattle.floor_core.specs.declared.step.Step.TheVariants.{Load, Decide}
+use Rattle.floor_core.specs.declared.step.Output.{Output}
+use Rattle.floor_core.specs.declared.step.Output.TheVariants.{Busy, Idle, Loaded, Bad, Stranger, Reply, Send}
+
+-- where a call stands that has not ended: its packet may be decided, or went on and awaits its answer
+pub data Stage : Type 0 where
+  Ready : (token : List ℕ) (packet : Prepare) → Stage
+  Sent : (hold : ℕ) → Stage
+
+-- a tenant: its book, the number of its next call, and its calls that have not ended, by number
+pub record Tenant : Type 0 where
+  pub book : State
+  pub next_call : ℕ
+  pub calls : ℕ → Option Stage
+
+-- what happens to one tenant: bytes arrive with a token, and a call is decided
+pub data Event : Type 0 where
+  Arrives : (token bytes : List ℕ) → Event
+  Decides : (call now : ℕ) → Event
+
+-- the function f with v at k
+abbrev pub put : {A : Type 0} → (ℕ → A) → ℕ → A → ℕ → A
+put f k v = λ n. if n == k then v else f n
+
+-- a tenant with that book, to whom nothing has happened yet
+abbrev pub new_tenant : State → Tenant
+new_tenant book = record { book = book; next_call = 0; calls = λ n. None }
+
+-- the tenant's number
+abbrev pub number_of : Tenant → ℕ
+number_of s = s.book.opening.tenant
+
+-- what is wrong with the bytes of a frame
+abbrev pub malformed_by : ViewFault → Malformed
+malformed_by fault.Kind = malformed.Kind
+malformed_by fault.Oer = malformed.Oer
+malformed_by fault.Field = malformed.Field
+malformed_by fault.AfterEnd = malformed.AfterEnd
+malformed_by fault.Size = malformed.Size
+malformed_by fault.Short = malformed.Size
+
+-- the packet that a frame is, or what is wrong with it
+abbrev pub packet_or_fault : Result Prepare ViewFault → Result Prepare Malformed
+packet_or_fault (Ok p) = Ok p
+packet_or_fault (Err f) = Err (malformed_by f)
+
+-- what arrives with a token: a packet, or the first fault of the token or the frame
+abbrev pub arrival : List ℕ → List ℕ → Result Prepare Malformed
+arrival token bytes = if is_token token then packet_or_fault (prepare_at bytes) else Err malformed.Token
+
+-- what the tenant decides a packet by
+abbrev pub key_in : Prepare → Key
+key_in p = record { amount = p.amount; expiry = moment_of p.expiry; condition = p.condition; destination = p.destination }
+
+-- the name of a peer
+abbrev pub peer_name : Option Peer → List ℕ
+peer_name None = []
+peer_name (Some p) = p.terms.name
+
+-- what a verdict on a packet is answered with; the packet that goes on is the one that came, with another amount
+-- and another expiry
+abbrev pub said : Opening → Prepare → Verdict → Output
+said o p Unknown = Stranger o.tenant
+said o p NoRoom = Reply o.tenant (busy_reply o.address)
+said o p (Refuse code amounts) = Reply o.tenant (refusal_reply o.address code amounts)
+said o p (Forward hold peer amount expiry) =
+    Send o.tenant (peer_name (peer_numbered peer o.peers)) hold (with_amount_and_expiry p amount (timestamp_of expiry))
+
+-- the call after that verdict: it awaits its answer where the packet went on, else it has ended
+abbrev pub stage_after : Verdict → Option Stage
+stage_after Unknown = None
+stage_after NoRoom = None
+stage_after (Refuse code amounts) = None
+stage_after (Forward hold peer amount expiry) = Some (Sent hold)
+
+-- what an arrival is answered with
+abbrev pub arrive_reply : Tenant → Result Prepare Malformed → Output
+arrive_reply s (Ok p) = Loaded (number_of s) s.next_call
+arrive_reply s (Err kind) = Bad (number_of s) kind
+
+-- what an arrival leaves
+abbrev pub arrive_after : Tenant → List ℕ → Result Prepare Malformed → Tenant
+arrive_after s token (Ok p) =
+    record {
+      book = s.book;
+      next_call = s.next_call + 1;
+      calls = put s.calls s.next_call (Some (Ready token p));
+    }
+arrive_after s token (Err kind) = s
+
+-- what the decide of a call is answered with
+abbrev pub decide_reply : Tenant → Option Stage → ℕ → Output
+decide_reply s None now = Idle
+decide_reply s (Some (Ready token p)) now = said s.book.opening p (judge s.book token (key_in p) now)
+decide_reply s (Some (Sent hold)) now = Idle
+
+-- what the decide of a call leaves
+abbrev pub decide_after : Tenant → ℕ → Option Stage → ℕ → Tenant
+decide_after s call None now = s
+decide_after s call (Some (Ready token p)) now =
+    record {
+      book = decided s.book token (key_in p) now;
+      next_call = s.next_call;
+      calls = put s.calls call (stage_after (judge s.book token (key_in p) now));
+    }
+decide_after s call (Some (Sent hold)) now = s
+
+-- the one-tenant connector: what it says to an event
+abbrev pub reply_alone : Tenant → Event → Output
+reply_alone s (Arrives token bytes) = arrive_reply s (arrival token bytes)
+reply_alone s (Decides call now) = decide_reply s (s.calls call) now
+
+-- the one-tenant connector: where an event leaves it
+abbrev pub after_alone : Tenant → Event → Tenant
+after_alone s (Arrives token bytes) = arrive_after s token (arrival token bytes)
+after_alone s (Decides call now) = decide_after s call (s.calls call) now
+
+-- what the one-tenant connector says to events, one after the other
+abbrev pub run_alone : Tenant → List Event → List Output
+run_alone s [] = []
+run_alone s (e ∷ es) = reply_alone s e ∷ run_alone (after_alone s e) es
+
+-- where events leave it
+abbrev pub left_alone : Tenant → List Event → Tenant
+left_alone s [] = s
+left_alone s (e ∷ es) = left_alone (after_alone s e) es
+
+-- what a worker has in hand: nothing, or a call of a tenant that is ready or that awaits its answer
+pub data Hand : Type 0 where
+  Free : Hand
+  Has : (tenant call : ℕ) → Hand
+  Awaits : (tenant call : ℕ) → Hand
+
+-- whose a step is: a tenant's event, or nobody's, with its output
+pub data Owner : Type 0 where
+  Own : (tenant : ℕ) (event : Event) → Owner
+  Nobody : (output : Output) → Owner
+
+-- a load by a worker with nothing in hand is the tenant's
+abbrev pub load_owner : Hand → ℕ → List ℕ → List ℕ → Owner
+load_owner Free tenant token bytes = Own tenant (Arrives token bytes)
+load_owner (Has t call) tenant token bytes = Nobody Busy
+load_owner (Awaits t call) tenant token bytes = Nobody Busy
+
+-- a decide is of the call in hand, where that is ready
+abbrev pub decide_owner : Hand → ℕ → Owner
+decide_owner Free now = Nobody Idle
+decide_owner (Has t call) now = Own t (Decides call now)
+decide_owner (Awaits t call) now = Nobody Idle
+
+-- whose a step is, by what its worker has in hand
+abbrev pub owner : (ℕ → Hand) → Step → Owner
+owner hands (Load worker tenant token bytes) = load_owner (hands worker) tenant token bytes
+owner hands (Decide worker now) = decide_owner (hands worker) now
+
+-- a call that was sent awaits its answer
+abbrev pub awaiting : Hand → Hand
+awaiting Free = Free
+awaiting (Has t call) = Awaits t call
+awaiting (Awaits t call) = Awaits t call
+
+-- what a worker has in hand once it was told this: a good load, until its call has ended
+abbrev pub told : Hand → Output → Hand
+told hand Busy = hand
+told hand Idle = hand
+told hand (Loaded t call) = Has t call
+told hand (Bad t _) = hand
+told hand (Stranger t) = Free
+told hand (Reply t bytes) = Free
+told hand (Send t peer hold frame) = awaiting hand
+
+-- the worker of a step
+abbrev pub worker_of : Step → ℕ
+worker_of (Load worker tenant token bytes) = worker
+worker_of (Decide worker now) = worker
+
+-- what the workers have in hand after a step with that output
+abbrev pub hands_after : (ℕ → Hand) → Step → Output → ℕ → Hand
+hands_after hands step output = put hands (worker_of step) (told (hands (worker_of step)) output)
+
+-- whose each step is, as the workers were told
+abbrev pub owners : (ℕ → Hand) → List Step → List Output → List Owner
+owners hands [] outputs = []
+owners hands (s ∷ ss) [] = []
+owners hands (s ∷ ss) (x ∷ xs) = owner hands s ∷ owners (hands_after hands s x) ss xs
+
+-- a tenant's own steps, as the events that happen to it
+abbrev pub own_steps : ℕ → List Owner → List Event
+own_steps t [] = []
+own_steps t (Own u e ∷ os) = if u == t then e ∷ own_steps t os else own_steps t os
+own_steps t (Nobody o ∷ os) = own_steps t os
+
+-- what a tenant sees: the outputs at its own steps
+abbrev pub seen_by : ℕ → List Owner → List Output → List Output
+seen_by t [] outputs = []
+seen_by t (o ∷ os) [] = []
+seen_by t (Own u e ∷ os) (x ∷ xs) = if u == t then x ∷ seen_by t os xs else seen_by t os xs
+seen_by t (Nobody o ∷ os) (x ∷ xs) = seen_by t os xs
+
+-- nobody's steps have the outputs that are nobody's: a busy worker's load, an idle worker's decide
+abbrev pub NobodysAreRight : List Owner → List Output → Type 0
+NobodysAreRight [] outputs = Unit {0}
+NobodysAreRight (o ∷ os) [] = Unit {0}
+NobodysAreRight (Own u e ∷ os) (x ∷ xs) = NobodysAreRight os xs
+NobodysAreRight (Nobody o ∷ os) (x ∷ xs) = (x ≡ o) × NobodysAreRight os xs
+
+-- the step names a worker and a tenant that are there
+abbrev pub FitsIn : ℕ → ℕ → Step → Type 0
+FitsIn workers tenants (Load worker tenant token bytes) = (worker < workers) × (tenant < tenants)
+FitsIn workers tenants (Decide worker now) = worker < workers
+
+-- workers that have nothing in hand
+abbrev pub all_free : ℕ → Hand
+all_free = λ w. Free
+
+-- The outputs of the steps of workers who began with these hands: there is one for each step, the tenant sees what
+-- the one-tenant connector says to the tenant's own steps alone, and nobody's steps have nobody's outputs.
+pub record AreOutputs (tenant : Tenant) (hands : ℕ → Hand) (steps : List Step) (outputs : List Output) : Type 0 where
+  pub each_step : length outputs ≡ length steps
+  pub alone : seen_by (number_of tenant) (owners hands steps outputs) outputs ≡ run_alone tenant (own_steps (number_of tenant) (owners hands steps outputs))
+  pub nobodys : NobodysAreRight (owners hands steps outputs) outputs
+
+-- where the one-tenant connector ends on the tenant's own steps
+abbrev pub IsLeft : Tenant → (ℕ → Hand) → List Step → List Output → Tenant → Type 0
+IsLeft tenant hands steps outputs after = left_alone tenant (own_steps (number_of tenant) (owners hands steps outputs)) ≡ after

@@ -1,0 +1,78 @@
+//! Steps, and what each of them puts out.
+
+use common_types::{Bytes, Text};
+use ilp_addr::Moment;
+
+/// What a worker is to do.
+#[derive(Drop)]
+pub enum Step {
+    /// A worker with nothing in hand takes a frame that came for a tenant, with the token that the sender showed.
+    Load {
+        /// The worker's number, from 0.
+        worker: usize,
+        /// The tenant's number, from 0 in the order of the setup.
+        tenant: usize,
+        /// The token's bytes as they came.
+        token: Bytes,
+        /// The frame's bytes as they came.
+        bytes: Bytes,
+    },
+    /// The tenant whose packet a worker has in hand decides, at this moment, what becomes of it.
+    Decide {
+        worker: usize,
+        now: Moment,
+    },
+}
+
+/// Why a tenant can't take what was loaded, in the order in which it is looked for.
+#[derive(Clone, Copy, Debug, PartialEq, Eq)]
+pub enum Malformed {
+    /// The token is none: it has no byte or over 64, or one that no token has.
+    Token,
+    /// The frame is over 34,000 bytes, or its data over 32,768.
+    Size,
+    /// The frame is empty, or its first byte is not the type of a Prepare.
+    Kind,
+    /// A length is not spelled by the rules of RFC 0030, or what it announces passes the end of the frame or of the
+    /// contents.
+    Oer,
+    /// Bytes follow the end of the packet.
+    AfterEnd,
+    /// The expiry is no date, or the destination no address.
+    Field,
+}
+
+/// What a step puts out.
+#[derive(Drop)]
+pub enum Output {
+    /// The worker has a packet in hand already.
+    Busy,
+    /// The worker has no packet to decide.
+    Idle,
+    /// The frame was taken, as the call of that number of its tenant.
+    Loaded {
+        tenant: usize,
+        call: u64,
+    },
+    /// The token or the frame can't be read.
+    Bad {
+        tenant: usize,
+        kind: Malformed,
+    },
+    /// The token is no peer's of the tenant.
+    Stranger {
+        tenant: usize,
+    },
+    /// An answer to the sender of the frame.
+    Reply {
+        tenant: usize,
+        bytes: Bytes,
+    },
+    /// A frame for the next peer, by its name, under the number of the hold that awaits its answer.
+    Send {
+        tenant: usize,
+        peer: Text<32>,
+        hold: u64,
+        frame: Bytes,
+    },
+}

@@ -1,9 +1,0 @@
-pub mod Words
-pub mod Script
-pub mod Printed
-pub mod Streams
-pub mod Replies
-pub mod Runner
-pub mod Replay
-pub mod World
-pub mod Setup

@@ -1,9 +1,0 @@
-//! Laws of the definitions, each the contract of a function that does nothing.
-
-ghost use Rattle.std.specs.Prelude.{◌≡◌, ℕ, List};
-ghost use Rattle.ilpd.specs.Replay.{IsReplayed};
-
-/// A setup and a script leave no choice of what is to be written.
-pub fn one_text()
-    ensures { (setup script a b : List ℕ) → IsReplayed setup script a → IsReplayed setup script b → a ≡ b }
-{}

@@ -1,0 +1,117 @@
+-- The steps of a script name workers and tenants that are there.
+use Rattle.std.proofs.Common.{◌≡◌, ◌<◌, ◌+◌, ℕ, List, [], ◌∷◌, length, Bool, true, false, cond, Option, Some, None, Result, Ok, Err, refl, subst}
+use Rattle.std.specs.Prelude.{option_and_then, IfOk, IfSome, codes, ◌&&◌, nat_lt}
+use Rattle.std.specs.List.{All, AllByRecursion, position}
+use Rattle.std.specs.Str.{bytes_eq}
+use Rattle.std.proofs.lemmas.Bool.{ltb-true, lt-ltb, and_parts}
+use Rattle.std.proofs.lemmas.Option.{cond_some, option_and_then_some}
+use Rattle.std.proofs.lemmas.List.Elements.{All-from_recursion}
+use Rattle.std.proofs.lemmas.List.Quantifiers.{position-Some}
+use Rattle.replay_text.specs.Script.{number_below, tenant_named, token_of, frame_of, load_of, decide_of, step_of_words, words_of, meaning_of, is_empty, is_numeral, value_of, is_skipped, then_steps, step_or_bad, steps_from, steps_of_script, lines_of}
+use Rattle.replay_text.specs.declared.script.Meaning.{Meaning}
+use Rattle.replay_text.specs.declared.script.Meaning.TheVariants.{Skipped, Runs, Bad}
+use Rattle.replay_text.specs.declared.script.ScriptFault.{ScriptFault}
+use Rattle.std.specs.Global.{Vec}
+use Rattle.common_types.specs.Outcomes.{GivesUnlessMemory}
+use Rattle.common_types.specs.Token.{is_token}
+use Rattle.floor_core.specs.World.{FitsIn}
+use Rattle.common_types.specs.declared.read_error.ReadError.{ReadError}
+use Rattle.floor_core.specs.declared.step.Step.{Step}
+use Rattle.floor_core.specs.declared.step.Step.TheVariants.{Load, Decide}
+
+some_is : {A : Type 0} (x y : A) → (let o : Option A = Some x in o) ≡ Some y → x ≡ y
+some_is x y e = cc
+
+chosen_or_none : {A : Type 0} (b : Bool) (o : Option A) (y : A) → cond b o None ≡ Some y → (b ≡ true) × (o ≡ Some y)
+chosen_or_none true o y e = (refl, e)
+chosen_or_none false o y e = absurd cc
+
+none_or_chosen : {A : Type 0} (b : Bool) (o : Option A) (y : A) → cond b None o ≡ Some y → o ≡ Some y
+none_or_chosen true o y e = absurd cc
+none_or_chosen false o y e = e
+
+number_fits : (bound : ℕ) (word : List ℕ) (n : ℕ) → number_below bound word ≡ Some n → n < bound
+number_fits bound word n e =
+    let c = cond_some (is_numeral word && nat_lt (value_of word) bound) (value_of word) n e in
+    let low : value_of word < bound = ltb-true (value_of word) bound (and_parts (is_numeral word) (nat_lt (value_of word) bound) c.0).1 in
+    subst (λ (k : ℕ). k < bound) c.1 low
+
+tenant_fits : (names : List (List ℕ)) (word : List ℕ) (n : ℕ) → tenant_named names word ≡ Some n → n < length names
+tenant_fits names word n e =
+    (position-Some (λ name. bytes_eq name word) names n [] (none_or_chosen (is_empty word) (position (λ name. bytes_eq name word) names) n e)).0
+
+load_fits : (names : List (List ℕ)) (workers : ℕ) (worker tenant token frame : List ℕ) (s : Step) → load_of names workers worker tenant token frame ≡ Some s → FitsIn workers (length names) s
+load_fits names workers worker tenant token frame s e =
+    option_and_then_some _ (number_below workers worker) s e (λ w w_is rest.
+    option_and_then_some _ (tenant_named names tenant) s rest (λ t t_is rest.
+    option_and_then_some _ (token_of token) s rest (λ k k_is rest.
+    option_and_then_some _ (frame_of frame) s rest (λ b b_is rest.
+    subst (FitsIn workers (length names)) (some_is (Load w t k b) s rest) (number_fits workers worker w w_is, tenant_fits names tenant t t_is)))))
+
+decide_fits : (names : List (List ℕ)) (workers : ℕ) (worker now : List ℕ) (s : Step) → decide_of workers worker now ≡ Some s → FitsIn workers (length names) s
+decide_fits names workers worker now s e =
+    option_and_then_some _ (number_below workers worker) s e (λ w w_is rest.
+    option_and_then_some _ (number_below 253_400_000_000_001 now) s rest (λ n n_is rest.
+    subst (FitsIn workers (length names)) (some_is (Decide w n) s rest) (number_fits workers worker w w_is)))
+
+step_fits : (names : List (List ℕ)) (workers : ℕ) (words : List (List ℕ)) (s : Step) → step_of_words names workers words ≡ Some s → FitsIn workers (length names) s
+step_fits names workers [] s e = absurd cc
+step_fits names workers (a ∷ []) s e = absurd cc
+step_fits names workers (a ∷ b ∷ []) s e = absurd cc
+step_fits names workers (verb ∷ worker ∷ now ∷ []) s e = decide_fits names workers worker now s (chosen_or_none (bytes_eq verb (codes "decide")) (decide_of workers worker now) s e).1
+step_fits names workers (a ∷ b ∷ c ∷ d ∷ []) s e = absurd cc
+step_fits names workers (verb ∷ worker ∷ tenant ∷ token ∷ frame ∷ []) s e = load_fits names workers worker tenant token frame s (chosen_or_none (bytes_eq verb (codes "load")) (load_of names workers worker tenant token frame) s e).1
+step_fits names workers (a ∷ b ∷ c ∷ d ∷ e ∷ f ∷ g) s h = absurd cc
+
+abbrev MeaningFits : ℕ → ℕ → Meaning → Type 0
+MeaningFits workers tenants Skipped = Unit {0}
+MeaningFits workers tenants (Runs s) = FitsIn workers tenants s
+MeaningFits workers tenants Bad = Unit {0}
+
+meant : (names : List (List ℕ)) (workers : ℕ) (o : Option Step) → ((s : Step) → o ≡ Some s → FitsIn workers (length names) s) → MeaningFits workers (length names) (step_or_bad o)
+meant names workers None h = tt
+meant names workers (Some s) h = h s refl
+
+meaning_fits : (names : List (List ℕ)) (workers : ℕ) (line : List ℕ) → MeaningFits workers (length names) (meaning_of names workers line)
+unfolding meaning_of
+meaning_fits names workers line = by _ (is_skipped line) (meant names workers (step_of_words names workers (words_of line)) (step_fits names workers (words_of line)))
+  where
+    by : (a b : Bool) → MeaningFits workers (length names) (step_or_bad (step_of_words names workers (words_of line))) → MeaningFits workers (length names) (cond a Bad (cond b Skipped (step_or_bad (step_of_words names workers (words_of line)))))
+    by true b h = tt
+    by false true h = tt
+    by false false h = h
+
+then_fit : (number workers tenants : ℕ) (m : Meaning) (rest : Result (List Step) ScriptFault) → MeaningFits workers tenants m → IfOk rest (AllByRecursion (FitsIn workers tenants)) → IfOk (then_steps number m rest) (AllByRecursion (FitsIn workers tenants))
+then_fit number workers tenants Skipped rest h k = k
+then_fit number workers tenants (Runs s) (Ok steps) h k = (h, k)
+then_fit number workers tenants (Runs s) (Err fault) h k = tt
+then_fit number workers tenants Bad rest h k = tt
+
+lines_fit : (names : List (List ℕ)) (workers number : ℕ) (lines : List (List ℕ)) → IfOk (steps_from names workers number lines) (AllByRecursion (FitsIn workers (length names)))
+unfolding steps_from
+lines_fit names workers number [] = tt
+lines_fit names workers number (line ∷ lines) =
+    then_fit number workers (length names) (meaning_of names workers line) (steps_from names workers (number + 1) lines) (meaning_fits names workers line) (lines_fit names workers (number + 1) lines)
+
+-- the steps of a script fit
+pub script_fits : (names : List (List ℕ)) (workers : ℕ) (text : List ℕ) → IfOk (steps_of_script names workers text) (AllByRecursion (FitsIn workers (length names)))
+unfolding steps_of_script
+script_fits names workers text = by _ (lines_fit names workers 1 (lines_of text))
+  where
+    by : (b : Bool) → IfOk (steps_from names workers 1 (lines_of text)) (AllByRecursion (FitsIn workers (length names))) → IfOk (cond b (Err ScriptFault.Size) (steps_from names workers 1 (lines_of text))) (AllByRecursion (FitsIn workers (length names)))
+    by true h = tt
+    by false h = h
+
+-- and so do those that were read
+pub read_fits : (names : List (List ℕ)) (workers : ℕ) (text : List ℕ) (steps : List Step) → steps_of_script names workers text ≡ Ok steps → All (FitsIn workers (length names)) steps
+read_fits names workers text steps e = All-from_recursion (FitsIn workers (length names)) steps (rw e at (script_fits names workers text))
+
+pub if_read_fit : (names : List (List ℕ)) (workers : ℕ) (text : List ℕ) (r : Result (Vec Step) (ReadError ScriptFault)) → GivesUnlessMemory (λ steps. steps.items) r (steps_of_script names workers text) → IfOk r (λ steps. All (FitsIn workers (length names)) steps.items)
+if_read_fit names workers text (Ok steps) given = read_fits names workers text steps.items given
+if_read_fit names workers text (Err e) given = tt
+
+-- a script that is too long is refused for that
+pub too_long : (names : List (List ℕ)) (workers : ℕ) (known : Option (List ℕ)) → IfSome known (λ script. 16_777_216 < length script) → IfSome known (λ script. steps_of_script names workers script ≡ Err ScriptFault.Size)
+unfolding steps_of_script
+too_long names workers None h = tt
+too_long names workers (Some script) h = rw (lt-ltb 16_777_216 (length script) h) refl

@@ -1,0 +1,54 @@
+-- Reading a script line by line, as a loop does.
+use Rattle.std.proofs.Common.{◌≡◌, ℕ, ◌+◌, ◌≤◌, List, [], ◌∷◌, ◌++◌, length, Result, Ok, Err, refl, sym, ap, ◌∙◌, append_assoc}
+use Rattle.std.proofs.lemmas.List.{append-nil}
+use Rattle.std.proofs.lemmas.Bool.{le-ltb}
+use Rattle.floor_core.specs.declared.step.Step.{Step}
+use Rattle.replay_text.specs.declared.script.ScriptFault.{ScriptFault}
+use Rattle.replay_text.specs.declared.script.ScriptFault.TheVariants.{Line}
+use Rattle.replay_text.specs.declared.script.Meaning.{Meaning}
+use Rattle.replay_text.specs.declared.script.Meaning.TheVariants.{Skipped, Runs, Bad}
+use Rattle.replay_text.specs.Script.{then_steps, meaning_of, steps_from, steps_of_script, lines_of}
+
+-- the steps so far before those that are left
+abbrev pub with_front : List Step → Result (List Step) ScriptFault → Result (List Step) ScriptFault
+with_front front (Ok steps) = Ok (front ++ steps)
+with_front front (Err fault) = Err fault
+
+regroup : (front : List Step) (number : ℕ) (step : Step) (read : Result (List Step) ScriptFault) → with_front front (then_steps number (Runs step) read) ≡ with_front (front ++ step ∷ []) read
+regroup front number step (Ok steps) = ap (λ (s : List Step). Ok s) (simp append_assoc)
+regroup front number step (Err fault) = refl
+
+-- what a line adds to the steps of those after it
+one_line : (names : List (List ℕ)) (workers number : ℕ) (text line after : List ℕ) (meaning : Meaning) → lines_of text ≡ line ∷ lines_of after → meaning ≡ meaning_of names workers line
+    → steps_from names workers number (lines_of text) ≡ then_steps number meaning (steps_from names workers (number + 1) (lines_of after))
+unfolding steps_from
+one_line names workers number text line after meaning h m = rw (h, m) refl
+
+pub skips : (front : List Step) (names : List (List ℕ)) (workers number : ℕ) (text line after : List ℕ) (meaning : Meaning) (total : Result (List Step) ScriptFault) → lines_of text ≡ line ∷ lines_of after → meaning ≡ meaning_of names workers line → meaning ≡ Skipped
+    → with_front front (steps_from names workers number (lines_of text)) ≡ total → with_front front (steps_from names workers (number + 1) (lines_of after)) ≡ total
+skips front names workers number text line after meaning total h m is so_far =
+    let one = one_line names workers number text line after Skipped h (sym is ∙ m) in
+    ap (with_front front) (sym one) ∙ so_far
+
+pub adds : (front : List Step) (names : List (List ℕ)) (workers number : ℕ) (text line after : List ℕ) (meaning : Meaning) (step : Step) (total : Result (List Step) ScriptFault) → lines_of text ≡ line ∷ lines_of after → meaning ≡ meaning_of names workers line → meaning ≡ Runs step
+    → with_front front (steps_from names workers number (lines_of text)) ≡ total → with_front (front ++ step ∷ []) (steps_from names workers (number + 1) (lines_of after)) ≡ total
+adds front names workers number text line after meaning step total h m is so_far =
+    let one = one_line names workers number text line after (Runs step) h (sym is ∙ m) in
+    sym (regroup front number step (steps_from names workers (number + 1) (lines_of after))) ∙ ap (with_front front) (sym one) ∙ so_far
+
+pub fails : (front : List Step) (names : List (List ℕ)) (workers number : ℕ) (text line after : List ℕ) (meaning : Meaning) (total : Result (List Step) ScriptFault) → lines_of text ≡ line ∷ lines_of after → meaning ≡ meaning_of names workers line → meaning ≡ Bad
+    → with_front front (steps_from names workers number (lines_of text)) ≡ total → total ≡ Err (Line number)
+fails front names workers number text line after meaning total h m is so_far =
+    let one = one_line names workers number text line after Bad h (sym is ∙ m) in
+    sym so_far ∙ ap (with_front front) one
+
+pub ends : (front : List Step) (names : List (List ℕ)) (workers number : ℕ) (text : List ℕ) (total : Result (List Step) ScriptFault) → text ≡ []
+    → with_front front (steps_from names workers number (lines_of text)) ≡ total → total ≡ Ok front
+unfolding steps_from
+ends front names workers number text total none so_far =
+    let one : with_front front (steps_from names workers number (lines_of text)) ≡ Ok front = rw none (ap (λ (s : List Step). Ok s) (append-nil front)) in
+    sym so_far ∙ one
+
+pub reads_lines : (names : List (List ℕ)) (workers : ℕ) (text : List ℕ) → length text ≤ 16_777_216 → steps_of_script names workers text ≡ steps_from names workers 1 (lines_of text)
+unfolding steps_of_script
+reads_lines names workers text short = rw (le-ltb 16_777_216 (length text) short) refl

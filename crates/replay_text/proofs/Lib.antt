@@ -1,0 +1,7 @@
+pub mod Splits
+pub mod Fronts
+pub mod Scripts
+pub mod Known
+pub mod Fits
+pub mod Composition
+pub mod OneText

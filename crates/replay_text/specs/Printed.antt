@@ -1,0 +1,41 @@
+-- The lines that a replay prints: one for each output, ended by a line feed.
+use Rattle.std.specs.Prelude.{ℕ, List, [], ◌∷◌, ◌++◌, slice_index_or, codes}
+use Rattle.std.specs.List.{flat_map}
+use Rattle.std.specs.Fmt.{decimal}
+use Rattle.hex.specs.Hex.{encode_lower}
+use Rattle.floor_core.specs.declared.step.Malformed.{Malformed}
+use Rattle.floor_core.specs.declared.step.Malformed.TheVariants.{Token, Kind, Oer, Field, AfterEnd, Size}
+use Rattle.floor_core.specs.declared.step.Output.{Output}
+use Rattle.floor_core.specs.declared.step.Output.TheVariants.{Busy, Idle, Loaded, Bad, Stranger, Reply, Send}
+
+-- the name of a tenant, or nothing where no tenant has that number
+abbrev pub name_of : List (List ℕ) → ℕ → List ℕ
+name_of names tenant = slice_index_or names tenant []
+
+-- what is wrong with a token or a frame, in a word
+abbrev pub word_of : Malformed → List ℕ
+word_of Token = codes "token"
+word_of Kind = codes "kind"
+word_of Oer = codes "oer"
+word_of Field = codes "field"
+word_of AfterEnd = codes "after"
+word_of Size = codes "size"
+
+-- the words of an output
+abbrev pub line_text : List (List ℕ) → Output → List ℕ
+line_text names Busy = codes "- busy"
+line_text names Idle = codes "- idle"
+line_text names (Loaded tenant call) = name_of names tenant ++ codes " loaded " ++ decimal call
+line_text names (Bad tenant kind) = name_of names tenant ++ codes " bad " ++ word_of kind
+line_text names (Stranger tenant) = name_of names tenant ++ codes " stranger"
+line_text names (Reply tenant bytes) = name_of names tenant ++ codes " reply " ++ encode_lower bytes
+line_text names (Send tenant peer hold frame) =
+    name_of names tenant ++ codes " send " ++ peer ++ codes " " ++ decimal hold ++ codes " " ++ encode_lower frame
+
+-- the line of an output
+unfoldable pub line_of : List (List ℕ) → Output → List ℕ
+line_of names output = line_text names output ++ 10 ∷ []
+
+-- the lines of some outputs, for tenants of these names
+abbrev pub printed_lines : List (List ℕ) → List Output → List ℕ
+printed_lines names outputs = flat_map (line_of names) outputs

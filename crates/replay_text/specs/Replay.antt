@@ -1,0 +1,79 @@
+-- What a replay of a script for a setup writes, and what refuses it.
+use Rattle.std.specs.Prelude.{ℕ, ◌≡◌, List, [], ◌∷◌, ◌⊎◌, Option, Some, None, option_map, Result, Ok, Err, IfSome}
+use Rattle.std.specs.Result.{result_err}
+use Rattle.std.specs.Io.KnownBytes.{Keeps, Appends}
+use Rattle.tenant_core.specs.State.{opened, opening_of}
+use Rattle.floor_core.specs.World.{Tenant, new_tenant, AreOutputs, all_free}
+use Rattle.floor_core.specs.declared.step.Output.{Output}
+use Rattle.floor_core.specs.declared.step.Step.{Step}
+use Rattle.admin_text.specs.Setup.{setup_of}
+use Rattle.admin_text.specs.declared.setup.Setup.{Setup}
+use Rattle.admin_text.specs.declared.setup.SetupFault.{SetupFault}
+use Rattle.replay_text.specs.Printed.{printed_lines}
+use Rattle.replay_text.specs.Script.{steps_of_script}
+use Rattle.replay_text.specs.Streams.{AppendsFront}
+use Rattle.replay_text.specs.declared.replays.ReplayFault.{ReplayFault}
+use Rattle.replay_text.specs.declared.replays.ReplayFault.TheVariants as fault
+use Rattle.replay_text.specs.declared.script.ScriptFault.{ScriptFault}
+
+-- the tenant of a setup, to whom nothing has happened
+abbrev pub tenant_at_start : Setup → Tenant
+tenant_at_start s = new_tenant (opened (opening_of 0 s.tenant s.start))
+
+-- the names that a script may use
+abbrev pub names_in : Setup → List (List ℕ)
+names_in s = s.tenant.name ∷ []
+
+-- The setup and the script are well formed, and what is written is the lines of the outputs of the script's steps:
+-- those of the one-tenant connector on the tenant's own steps, and nobody's.
+pub record IsReplayed (setup_text script written : List ℕ) : Type 0 where
+  pub setup : Setup
+  pub steps : List Step
+  pub outputs : List Output
+  pub setup_is : setup_of setup_text ≡ Ok setup
+  pub steps_are : steps_of_script (names_in setup) 1 script ≡ Ok steps
+  pub outputs_are : AreOutputs (tenant_at_start setup) all_free steps outputs
+  pub written_is : written ≡ printed_lines (names_in setup) outputs
+
+-- the exit status of a program that a replay with this fault ends
+abbrev pub status_of : ReplayFault → ℕ
+status_of fault.Memory = 1
+status_of (fault.Setup f) = 3
+status_of (fault.Script f) = 4
+status_of fault.Device = 5
+
+-- the first fault of a setup, and after it of the script for that setup, if there is one
+abbrev pub refusal_of : Result Setup SetupFault → List ℕ → Option ReplayFault
+refusal_of (Ok setup) script =
+    option_map (λ f. fault.Script f) (result_err (steps_of_script (names_in setup) 1 script))
+refusal_of (Err f) script = Some (fault.Setup f)
+
+-- A setup or a script is refused by its own first fault. Of memory and devices nothing is said here.
+abbrev pub IsRefusedBy : ReplayFault → Result Setup SetupFault → Option (List ℕ) → Type 0
+IsRefusedBy fault.Memory read known = Unit {0}
+IsRefusedBy fault.Device read known = Unit {0}
+IsRefusedBy (fault.Setup f) read known = read ≡ Err f
+IsRefusedBy (fault.Script f) read known = IfSome known (λ script. refusal_of read script ≡ Some (fault.Script f))
+
+-- what is to be written was written whole
+abbrev pub WritesAll : List ℕ → List ℕ → Option (List ℕ) → Option (List ℕ) → Type 0
+WritesAll setup_text script old new =
+    (written : List ℕ) × IsReplayed setup_text script written × Appends old new written
+
+-- or a front of it
+abbrev pub WritesFront : List ℕ → List ℕ → Option (List ℕ) → Option (List ℕ) → Type 0
+WritesFront setup_text script old new =
+    (written : List ℕ) × IsReplayed setup_text script written × AppendsFront written old new
+
+-- After a fault of the setup or the script nothing was written, and after any other a front at most.
+abbrev pub LeavesWritten : ReplayFault → List ℕ → Option (List ℕ) → Option (List ℕ) → Option (List ℕ) → Type 0
+LeavesWritten (fault.Setup f) setup_text known old new = Keeps old new
+LeavesWritten (fault.Script f) setup_text known old new = Keeps old new
+LeavesWritten _ setup_text known old new =
+    Keeps old new ⊎ IfSome known (λ script. WritesFront setup_text script old new)
+
+-- the lines of the outputs of these steps, for the tenant of a setup
+abbrev pub IsAnswered : Setup → List Step → List ℕ → Type 0
+IsAnswered setup steps written =
+    (outputs : List Output) × AreOutputs (tenant_at_start setup) all_free steps outputs
+    × (written ≡ printed_lines (names_in setup) outputs)

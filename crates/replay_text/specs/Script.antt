@@ -1,0 +1,150 @@
+-- Replay scripts: ASCII lines of words, each line a step of a worker.
+use Rattle.std.specs.Prelude.{◌≡◌, ◌<◌, ℕ, ◌+◌, ◌-◌, ◌*◌, List, [], ◌∷◌, ◌++◌, length, fold, Bool, true, false, not, ◌&&◌, ◌||◌, ◌==◌, nat_lt, nat_le, if◌then◌else◌, Option, Some, None, option_and_then, Result, Ok, Err, codes}
+use Rattle.std.specs.List.{slice_split, list_all, position, filter_map, AllByRecursion}
+use Rattle.std.specs.Str.{bytes_eq}
+use Rattle.std.specs.Result.{result_ok}
+use Rattle.hex.specs.Hex.{decode_of}
+use Rattle.common_types.specs.OptionChain.{◌>>=◌}
+use Rattle.common_types.specs.Numbers.{is_between}
+use Rattle.common_types.specs.Token.{is_token}
+use Rattle.floor_core.specs.declared.step.Step.{Step}
+use Rattle.floor_core.specs.declared.step.Step.TheVariants.{Load, Decide}
+use Rattle.replay_text.specs.declared.script.ScriptFault.{ScriptFault}
+use Rattle.replay_text.specs.declared.script.ScriptFault.TheVariants.{Size, Line}
+use Rattle.replay_text.specs.declared.script.Meaning.{Meaning}
+use Rattle.replay_text.specs.declared.script.Meaning.TheVariants.{Skipped, Runs, Bad}
+
+-- the list has no element
+abbrev pub is_empty : {A : Type 0} → List A → Bool
+is_empty [] = true
+is_empty (x ∷ xs) = false
+
+-- a last part that is empty is no line
+abbrev pub without_empty_end : List (List ℕ) → List (List ℕ)
+without_empty_end [] = []
+without_empty_end (last ∷ []) = if is_empty last then [] else last ∷ []
+without_empty_end (line ∷ next ∷ lines) = line ∷ without_empty_end (next ∷ lines)
+
+-- the lines of a text, without their ends
+abbrev pub lines_of : List ℕ → List (List ℕ)
+lines_of text = without_empty_end (slice_split (λ b. b == 10) text)
+
+-- what stands between single spaces
+abbrev pub words_of : List ℕ → List (List ℕ)
+words_of line = slice_split (λ b. b == 32) line
+
+-- the value of decimal digits
+abbrev pub value_of : List ℕ → ℕ
+value_of digits = fold (λ n d. n * 10 + (d - 48)) 0 digits
+
+-- a decimal digit
+abbrev pub is_digit : ℕ → Bool
+is_digit b = is_between 48 57 b
+
+-- `0`, or digits that do not begin with `0`
+abbrev pub is_numeral : List ℕ → Bool
+is_numeral [] = false
+is_numeral (first ∷ rest) = (is_empty rest || not (first == 48)) && list_all is_digit (first ∷ rest)
+
+-- the number that a word spells, if it does and the number is below the bound
+abbrev pub number_below : ℕ → List ℕ → Option ℕ
+number_below bound word = if is_numeral word && nat_lt (value_of word) bound then Some (value_of word) else None
+
+-- the number of the first tenant of that name
+abbrev pub tenant_named : List (List ℕ) → List ℕ → Option ℕ
+tenant_named names word = if is_empty word then None else position (λ name. bytes_eq name word) names
+
+-- a word that is a token
+abbrev pub token_of : List ℕ → Option (List ℕ)
+token_of word = if is_token word then Some word else None
+
+-- the bytes that a word spells: hexadecimal digits in either case, or `-` for no bytes
+abbrev pub frame_of : List ℕ → Option (List ℕ)
+frame_of word =
+    if bytes_eq word (codes "-") then Some []
+    else (if is_empty word then None else result_ok (decode_of word))
+
+-- `load W TENANT TOKEN HEX`
+abbrev pub load_of : List (List ℕ) → ℕ → List ℕ → List ℕ → List ℕ → List ℕ → Option Step
+load_of names workers worker tenant token frame = do
+  w ← number_below workers worker
+  t ← tenant_named names tenant
+  k ← token_of token
+  bytes ← frame_of frame
+  Some (Load w t k bytes)
+
+-- `decide W NOW`
+abbrev pub decide_of : ℕ → List ℕ → List ℕ → Option Step
+decide_of workers worker now = do
+  w ← number_below workers worker
+  n ← number_below 253_400_000_000_001 now
+  Some (Decide w n)
+
+-- the step that the words of a line spell
+abbrev pub step_of_words : List (List ℕ) → ℕ → List (List ℕ) → Option Step
+step_of_words names workers (verb ∷ worker ∷ tenant ∷ token ∷ frame ∷ []) =
+    if bytes_eq verb (codes "load") then load_of names workers worker tenant token frame else None
+step_of_words names workers (verb ∷ worker ∷ now ∷ []) =
+    if bytes_eq verb (codes "decide") then decide_of workers worker now else None
+step_of_words names workers _ = None
+
+-- empty lines and comments are skipped
+abbrev pub is_skipped : List ℕ → Bool
+is_skipped [] = true
+is_skipped (first ∷ rest) = first == 35
+
+-- a line that spells no step is bad
+abbrev pub step_or_bad : Option Step → Meaning
+step_or_bad None = Bad
+step_or_bad (Some step) = Runs step
+
+-- what a line says: each is ASCII, of at most 70,000 bytes
+unfoldable pub meaning_of : List (List ℕ) → ℕ → List ℕ → Meaning
+meaning_of names workers line =
+    if nat_lt 70_000 (length line) || not (list_all (λ b. nat_lt b 128) line) then Bad
+    else (if is_skipped line then Skipped
+    else step_or_bad (step_of_words names workers (words_of line)))
+
+-- the steps of a line and of the lines after it, or the number of the first bad line
+abbrev pub then_steps : ℕ → Meaning → Result (List Step) ScriptFault → Result (List Step) ScriptFault
+then_steps number Skipped rest = rest
+then_steps number (Runs step) (Ok steps) = Ok (step ∷ steps)
+then_steps number (Runs step) (Err fault) = Err fault
+then_steps number Bad rest = Err (Line number)
+
+-- the steps of lines that are numbered from there on
+unfoldable pub steps_from : List (List ℕ) → ℕ → ℕ → List (List ℕ) → Result (List Step) ScriptFault
+steps_from names workers number [] = Ok []
+steps_from names workers number (line ∷ lines) =
+    then_steps number (meaning_of names workers line) (steps_from names workers (number + 1) lines)
+
+-- the steps of a script for tenants of these names and so many workers
+unfoldable pub steps_of_script : List (List ℕ) → ℕ → List ℕ → Result (List Step) ScriptFault
+steps_of_script names workers text =
+    if nat_lt 16_777_216 (length text) then Err Size
+    else steps_from names workers 1 (lines_of text)
+
+-- a line that says nothing of a script's
+abbrev pub IsBad : List (List ℕ) → ℕ → List ℕ → Type 0
+IsBad names workers line = meaning_of names workers line ≡ Bad
+
+-- the step of a line, if it has one
+abbrev pub step_in : Meaning → Option Step
+step_in Skipped = None
+step_in (Runs step) = Some step
+step_in Bad = None
+
+-- no line is bad, and these are the steps of those that have one, in order
+pub record AreSteps (names : List (List ℕ)) (workers : ℕ) (lines : List (List ℕ)) (steps : List Step) : Type 0 where
+  pub no_bad : AllByRecursion (λ line. ¬ (IsBad names workers line)) lines
+  pub in_order : steps ≡ filter_map (λ line. step_in (meaning_of names workers line)) lines
+
+-- the line of that number, from 1, is bad, and none before it
+pub record IsFirstBad (names : List (List ℕ)) (workers : ℕ) (lines : List (List ℕ)) (number : ℕ) : Type 0 where
+  pub before : List (List ℕ)
+  pub line : List ℕ
+  pub after : List (List ℕ)
+  pub parts : lines ≡ before ++ line ∷ after
+  pub place : number ≡ length before + 1
+  pub none_before : AllByRecursion (λ l. ¬ (IsBad names workers l)) before
+  pub is_bad : IsBad names workers line

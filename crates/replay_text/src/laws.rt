@@ -1,0 +1,13 @@
+//! Laws of the definitions, each the contract of a function that does nothing.
+
+ghost use Rattle.std.specs.Prelude.{◌≡◌, ℕ, List};
+ghost use Rattle.replay_text.specs.Replay.{IsReplayed};
+
+use floor_core::laws::one_list_of_outputs;
+
+/// A setup and a script leave no choice of what is to be written.
+pub fn one_text()
+    ensures { (setup script a b : List ℕ) → IsReplayed setup script a → IsReplayed setup script b → a ≡ b }
+{
+    one_list_of_outputs();
+}

@@ -1,0 +1,13 @@
+//! Replays: scripts as steps, outputs as lines, and the whole way from the bytes of a setup and a script to the bytes
+//! that are written.
+#![tactic(auto)]
+
+pub mod laws;
+mod printed;
+mod replays;
+mod script;
+mod streams;
+
+pub use printed::print_lines;
+pub use replays::{ReplayFault, replay};
+pub use script::{ScriptFault, parse_script};

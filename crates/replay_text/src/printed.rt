@@ -1,0 +1,123 @@
+//! The lines that a replay prints.
+
+ghost use Rattle.std.specs.Prelude.{◌≡◌, ◌++◌, ◌∷◌, [], IfOk, OnOk};
+ghost use Rattle.std.specs.Fmt.{decimal};
+ghost use Rattle.hex.specs.Hex.{encode_lower};
+ghost use Rattle.replay_text.specs.Printed.{name_of, word_of, line_text, line_of, printed_lines};
+
+use common_types::Text;
+use floor_core::{Malformed, Output};
+use std::alloc::{AllocError, Global};
+
+fn name_of(names: &[Text<32>], tenant: usize) -> &[u8]
+    ensures { result.now ≡ name_of names.now tenant }
+{
+    match names.get(tenant) {
+        Some(name) => name.as_bytes(),
+        None => &[],
+    }
+}
+
+fn word_of(kind: Malformed) -> &'static [u8]
+    ensures { result.now ≡ word_of kind }
+{
+    match kind {
+        Malformed::Token => b"token",
+        Malformed::Kind => b"kind",
+        Malformed::Oer => b"oer",
+        Malformed::Field => b"field",
+        Malformed::AfterEnd => b"after",
+        Malformed::Size => b"size",
+    }
+}
+
+fn put_decimal(alloc: Global, out: &mut Vec<u8>, number: u64) -> Result<(), AllocError>
+    ensures { OnOk result (out.new.items ≡ out.old.items ++ decimal number) }
+{
+    let text = number.to_string(alloc)?;
+    out.extend_from_slice(text.as_bytes())
+}
+
+fn put_hex(alloc: Global, out: &mut Vec<u8>, bytes: &[u8]) -> Result<(), AllocError>
+    ensures { OnOk result (out.new.items ≡ out.old.items ++ encode_lower bytes.now) }
+{
+    let text = hex::encode(alloc, bytes)?;
+    out.extend_from_slice(text.as_bytes())
+}
+
+fn put_text(
+    alloc: Global,
+    names: &[Text<32>],
+    out: &mut Vec<u8>,
+    output: &Output,
+) -> Result<(), AllocError>
+    ensures { OnOk result (out.new.items ≡ out.old.items ++ line_text names.now output.now) }
+{
+    match output {
+        Output::Busy => out.extend_from_slice(b"- busy"),
+        Output::Idle => out.extend_from_slice(b"- idle"),
+        Output::Loaded { tenant, call } => {
+            out.extend_from_slice(name_of(names, *tenant))?;
+            out.extend_from_slice(b" loaded ")?;
+            put_decimal(alloc, out, *call)
+        }
+        Output::Bad { tenant, kind } => {
+            out.extend_from_slice(name_of(names, *tenant))?;
+            out.extend_from_slice(b" bad ")?;
+            out.extend_from_slice(word_of(*kind))
+        }
+        Output::Stranger { tenant } => {
+            out.extend_from_slice(name_of(names, *tenant))?;
+            out.extend_from_slice(b" stranger")
+        }
+        Output::Reply { tenant, bytes } => {
+            out.extend_from_slice(name_of(names, *tenant))?;
+            out.extend_from_slice(b" reply ")?;
+            put_hex(alloc, out, bytes.as_slice())
+        }
+        Output::Send {
+            tenant,
+            peer,
+            hold,
+            frame,
+        } => {
+            out.extend_from_slice(name_of(names, *tenant))?;
+            out.extend_from_slice(b" send ")?;
+            out.extend_from_slice(peer.as_bytes())?;
+            out.push(b' ')?;
+            put_decimal(alloc, out, *hold)?;
+            out.push(b' ')?;
+            put_hex(alloc, out, frame.as_slice())
+        }
+    }
+}
+
+#[tactic(auto, unfolding(crate::specs::Printed::line_of))]
+fn put_line(
+    alloc: Global,
+    names: &[Text<32>],
+    out: &mut Vec<u8>,
+    output: &Output,
+) -> Result<(), AllocError>
+    ensures { OnOk result (out.new.items ≡ out.old.items ++ line_of names.now output.now) }
+{
+    put_text(alloc, names, out, output)?;
+    out.push(b'\n')?;
+    Ok(())
+}
+
+/// The lines of some outputs, each ended by a line feed, for the tenants of these names, numbered
+/// from 0. It fails only where memory does.
+pub fn print_lines(
+    alloc: Global,
+    names: &[Text<32>],
+    outputs: &[Output],
+) -> Result<Vec<u8>, AllocError>
+    ensures { IfOk result (λ text. text.items ≡ printed_lines names.now outputs.now) }
+{
+    let mut out = Vec::new(alloc);
+    for output in outputs {
+        put_line(alloc, names, &mut out, output)?;
+    }
+    Ok(out)
+}

@@ -1,0 +1,343 @@
+//! Replay scripts: what each line has a worker do.
+
+ghost use Rattle.std.specs.Prelude.{◌≡◌, ◌==◌, ◌<◌, ◌≤◌, ◌↔◌, ℕ, List, Ok, Err, ◌∷◌, length, ◌≢◌, [], option_copied, option_map, min, nat_lt, IfOk, All};
+ghost use Rattle.std.specs.List.{position, list_all};
+ghost use Rattle.std.specs.Str.{bytes_eq};
+ghost use Rattle.replay_text.specs.Script.{lines_of, words_of, is_digit, is_numeral, value_of, number_below, tenant_named, token_of, frame_of, load_of, decide_of, step_of_words, is_skipped, meaning_of, steps_from, steps_of_script, AreSteps, IsFirstBad};
+ghost use Rattle.common_types.specs.Outcomes.{GivesUnlessMemory};
+ghost use Rattle.floor_core.specs.World.{FitsIn};
+ghost use Rattle.replay_text.specs.Words.{parts, three_of, five_of};
+
+use common_types::{Bytes, ReadError, Text, is_token};
+use floor_core::Step;
+use hex::FromHexError;
+use ilp_addr::Moment;
+use std::alloc::{AllocError, Global};
+use thiserror::Error;
+
+/// The most bytes of a script.
+pub const MOST_BYTES: usize = 16_777_216;
+
+/// The most bytes of a line, without its end.
+pub const MOST_LINE: usize = 70_000;
+
+/// What is wrong with a script.
+#[derive(Clone, Copy, Debug, PartialEq, Eq, Error)]
+pub enum ScriptFault {
+    /// It has too many bytes.
+    #[error("script: size")]
+    Size,
+    /// The line of that number, from 1, is the first that says nothing.
+    #[error("script: line {0}")]
+    Line(usize),
+}
+
+/// What a line of a script says.
+#[derive(Drop)]
+enum Meaning {
+    /// It is empty or a comment.
+    Skipped,
+    Runs(Step),
+    Bad,
+}
+
+/// The place of the first byte that is this one.
+fn place_of(byte: u8, bytes: &[u8]) -> Option<usize>
+    ensures { result ≡ position (λ b. b == byte) bytes.now }
+{
+    bytes.iter().position(|b| *b == byte)
+}
+
+/// The first word of a line, and what follows the space after it.
+fn first_word(line: &[u8]) -> (&[u8], Option<&[u8]>)
+    ensures value { words_of line.now ≡ parts words_of result.0.now (option_copied result.1) }
+{
+    match place_of(b' ', line) {
+        Some(end) => (&line[..end], Some(&line[end + 1..])),
+        None => (line, None),
+    }
+}
+
+/// The first line of a text that is not empty, without its end, and what follows it.
+fn first_line(text: &[u8]) -> (&[u8], &[u8])
+    requires { text.now ≢ [] }
+    ensures value { lines_of text.now ≡ result.0.now ∷ lines_of result.1.now }
+    ensures shorter { length result.1.now < length text.now }
+{
+    match place_of(b'\n', text) {
+        Some(end) => (&text[..end], &text[end + 1..]),
+        None => (text, &[]),
+    }
+}
+
+/// The words of a line, where they are three.
+fn three_words(line: &[u8]) -> Option<(&[u8], &[u8], &[u8])>
+    ensures { option_map (λ w. (w.0.now, w.1.now, w.2.now)) result ≡ three_of (words_of line.now) }
+{
+    let (first, rest) = first_word(line);
+    let (second, rest) = first_word(rest?);
+    let (third, rest) = first_word(rest?);
+    match rest {
+        None => Some((first, second, third)),
+        Some(_) => None,
+    }
+}
+
+/// The first word of a line and the three words after two more, where those are all.
+fn five_words(line: &[u8]) -> Option<(&[u8], &[u8], &[u8], &[u8], &[u8])>
+    ensures { option_map (λ w. (w.0.now, w.1.now, w.2.now, w.3.now, w.4.now)) result ≡ five_of (words_of line.now) }
+{
+    let (first, rest) = first_word(line);
+    let (second, rest) = first_word(rest?);
+    let (third, fourth, fifth) = three_words(rest?)?;
+    Some((first, second, third, fourth, fifth))
+}
+
+fn all_digits(word: &[u8]) -> bool
+    ensures { result ≡ list_all is_digit word.now }
+{
+    word.iter().all(|b| b'0' <= *b && *b <= b'9')
+}
+
+/// Whether a word is `0` or digits that do not begin with `0`.
+fn is_numeral(word: &[u8]) -> bool
+    ensures { result ≡ is_numeral word.now }
+{
+    match word {
+        [] => false,
+        [first, rest @ ..] => (rest.is_empty() || *first != b'0') && all_digits(word),
+    }
+}
+
+/// The value of digits, or the bound where it is no less.
+fn value_up_to(digits: &[u8], bound: u64) -> u64
+    ensures { result ≡ min (value_of digits.now) bound }
+{
+    let mut value: u64 = 0;
+    for digit in digits {
+        let more = value as u128 * 10 + digit.saturating_sub(b'0') as u128;
+        value = more.min(bound as u128) as u64;
+    }
+    value
+}
+
+/// The number that a word spells, if it does and the number is below the bound.
+fn number_below(bound: u64, word: &[u8]) -> Option<u64>
+    ensures { result ≡ number_below bound word.now }
+{
+    if !is_numeral(word) {
+        return None;
+    }
+    let value = value_up_to(word, bound);
+    if value < bound { Some(value) } else { None }
+}
+
+fn is_name(name: &Text<32>, word: &[u8]) -> bool
+    ensures { result ≡ bytes_eq name.now word.now }
+{
+    name.as_bytes() == word
+}
+
+fn place_of_name(names: &[Text<32>], word: &[u8]) -> Option<usize>
+    ensures { result ≡ position (λ name. bytes_eq name word.now) names.now }
+{
+    names.iter().position(|name| is_name(name, word))
+}
+
+/// The number of the first tenant of that name.
+fn tenant_named(names: &[Text<32>], word: &[u8]) -> Option<usize>
+    ensures { result ≡ tenant_named names.now word.now }
+{
+    if word.is_empty() {
+        return None;
+    }
+    place_of_name(names, word)
+}
+
+/// A word as a token.
+fn token_of(alloc: Global, word: &[u8]) -> Result<Option<Bytes>, AllocError>
+    ensures { IfOk result (λ token. token ≡ token_of word.now) }
+{
+    if !is_token(word) {
+        return Ok(None);
+    }
+    Ok(Some(Bytes::from_vec(Vec::from_slice(alloc, word)?)))
+}
+
+/// The bytes that a word spells.
+fn frame_of(alloc: Global, word: &[u8]) -> Result<Option<Bytes>, AllocError>
+    ensures { IfOk result (λ frame. frame ≡ frame_of word.now) }
+{
+    if word == b"-".as_slice() {
+        return Ok(Some(Bytes::from_vec(Vec::new(alloc))));
+    }
+    if word.is_empty() {
+        return Ok(None);
+    }
+    match hex::decode(alloc, word) {
+        Ok(bytes) => Ok(Some(Bytes::from_vec(bytes))),
+        Err(FromHexError::OutOfMemory) => Err(AllocError),
+        Err(_) => Ok(None),
+    }
+}
+
+/// The step that `load W TENANT TOKEN HEX` spells.
+fn load_of(
+    alloc: Global,
+    names: &[Text<32>],
+    workers: usize,
+    words: (&[u8], &[u8], &[u8], &[u8]),
+) -> Result<Option<Step>, AllocError>
+    ensures { IfOk result (λ step. step ≡ load_of names.now workers words.entry.0.now words.entry.1.now words.entry.2.now words.entry.3.now) }
+{
+    let (worker, tenant, token, frame) = words;
+    let Some(worker) = number_below(workers as u64, worker) else {
+        return Ok(None);
+    };
+    let Some(tenant) = tenant_named(names, tenant) else {
+        return Ok(None);
+    };
+    let Some(token) = token_of(alloc, token)? else {
+        return Ok(None);
+    };
+    let Some(bytes) = frame_of(alloc, frame)? else {
+        return Ok(None);
+    };
+    Ok(Some(Step::Load {
+        worker: worker as usize,
+        tenant,
+        token,
+        bytes,
+    }))
+}
+
+/// The step that `decide W NOW` spells.
+fn decide_of(workers: usize, worker: &[u8], now: &[u8]) -> Option<Step>
+    ensures { result ≡ decide_of workers worker.now now.now }
+{
+    let worker = number_below(workers as u64, worker)?;
+    let now = Moment::new(number_below(Moment::MAX_MILLIS + 1, now)?)?;
+    Some(Step::Decide {
+        worker: worker as usize,
+        now,
+    })
+}
+
+/// The step that a line spells.
+fn step_of(
+    alloc: Global,
+    names: &[Text<32>],
+    workers: usize,
+    line: &[u8],
+) -> Result<Option<Step>, AllocError>
+    ensures { IfOk result (λ step. step ≡ step_of_words names.now workers (words_of line.now)) }
+{
+    if let Some((verb, worker, now)) = three_words(line) {
+        return Ok(if verb == b"decide".as_slice() {
+            decide_of(workers, worker, now)
+        } else {
+            None
+        });
+    }
+    match five_words(line) {
+        Some((verb, worker, tenant, token, frame)) if verb == b"load".as_slice() => {
+            load_of(alloc, names, workers, (worker, tenant, token, frame))
+        }
+        _ => Ok(None),
+    }
+}
+
+fn is_ascii(line: &[u8]) -> bool
+    ensures { result ≡ list_all (λ b. nat_lt b 128) line.now }
+{
+    line.iter().all(|b| *b < 128)
+}
+
+fn is_skipped(line: &[u8]) -> bool
+    ensures { result ≡ is_skipped line.now }
+{
+    match line {
+        [] => true,
+        [first, ..] => *first == b'#',
+    }
+}
+
+/// What a line says.
+#[tactic(auto, unfolding(crate::specs::Script::meaning_of))]
+fn meaning_of(
+    alloc: Global,
+    names: &[Text<32>],
+    workers: usize,
+    line: &[u8],
+) -> Result<Meaning, AllocError>
+    ensures { IfOk result (λ meaning. meaning ≡ meaning_of names.now workers line.now) }
+{
+    if line.len() > MOST_LINE || !is_ascii(line) {
+        return Ok(Meaning::Bad);
+    }
+    if is_skipped(line) {
+        return Ok(Meaning::Skipped);
+    }
+    Ok(match step_of(alloc, names, workers, line)? {
+        Some(step) => Meaning::Runs(step),
+        None => Meaning::Bad,
+    })
+}
+
+fn numbered_steps(
+    alloc: Global,
+    names: &[Text<32>],
+    workers: usize,
+    text: &[u8],
+) -> Result<Vec<Step>, ReadError<ScriptFault>>
+    requires { length text.now ≤ MOST_BYTES }
+    ensures { GivesUnlessMemory (λ steps. steps.items) result (steps_from names.now workers 1 (lines_of text.now)) }
+{
+    let mut steps = Vec::new(alloc);
+    let mut rest = text;
+    let mut number: usize = 1;
+    while !rest.is_empty() {
+        let (line, after) = first_line(rest);
+        match meaning_of(alloc, names, workers, line)? {
+            Meaning::Skipped => {}
+            Meaning::Runs(step) => steps.push(step)?,
+            Meaning::Bad => return Err(ReadError::Fault(ScriptFault::Line(number))),
+        }
+        rest = after;
+        number += 1;
+    }
+    Ok(steps)
+}
+
+/// The steps of a script, for the tenants of these names, numbered from 0, and so many workers.
+///
+/// A script has at most [`MOST_BYTES`] bytes, else the fault is `Size`. Its lines end with a line
+/// feed each, which the last may lack, and are ASCII, of at most [`MOST_LINE`] bytes without it.
+/// Empty lines and those that begin with `#` are skipped. Any other is `load W TENANT TOKEN HEX`
+/// or `decide W NOW`, with one space between two words; the fault `Line` has the number, from 1,
+/// of the first that is neither.
+pub fn parse_script(
+    alloc: Global,
+    names: &[Text<32>],
+    workers: usize,
+    text: &[u8],
+) -> Result<Vec<Step>, ReadError<ScriptFault>>
+    // What is read is what the lines say.
+    ensures found { IfOk result (λ steps. AreSteps names.now workers (lines_of text.now) steps.items) }
+    // What the lines say is read, unless memory runs out.
+    ensures only { (steps : List Step) → length text.now ≤ MOST_BYTES → AreSteps names.now workers (lines_of text.now) steps
+        → GivesUnlessMemory (λ v. v.items) result (Ok steps) }
+    // A line that is named is the first bad one.
+    ensures first_bad { (number : ℕ) → result ≡ Err (ReadError.Fault (ScriptFault.Line number))
+        → IsFirstBad names.now workers (lines_of text.now) number }
+    // A text is too long for a script before anything else is wrong with it.
+    ensures size { (result ≡ Err (ReadError.Fault ScriptFault.Size)) ↔ (MOST_BYTES < length text.now) }
+    // Its steps name workers and tenants that are there.
+    ensures fit { IfOk result (λ steps. All (FitsIn workers (length names.now)) steps.items) }
+    ensures exact { GivesUnlessMemory (λ v. v.items) result (steps_of_script names.now workers text.now) }
+{
+    if text.len() > MOST_BYTES {
+        return Err(ReadError::Fault(ScriptFault::Size));
+    }
+    numbered_steps(alloc, names, workers, text)
+}

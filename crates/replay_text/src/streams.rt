@@ -1,0 +1,120 @@
+//! Scripts that are read whole, and texts that are written whole.
+
+ghost use Rattle.std.specs.Prelude.{◌≡◌, ◌≢◌, ◌+◌, ◌<◌, ◌≤◌, ℕ, List, take, length, Ok, Err, Some, OnOk, IfOk, IfSome, ◌↔◌};
+ghost use Rattle.std.specs.Io.KnownBytes.{Keeps, Appends, Consumes, IsAtEnd};
+ghost use Rattle.replay_text.specs.Streams.{AppendsFront, ConsumesAtMost, TakesBehind};
+
+use oer_core::Device;
+use std::alloc::Global;
+use std::io::{Read, Write};
+
+/// The most bytes of a script.
+pub const MAX_SCRIPT: usize = 16_777_216;
+
+/// Why a text was not read or written whole.
+#[derive(Clone, Copy, Debug, PartialEq, Eq)]
+pub enum StreamFault {
+    /// The device failed.
+    Device,
+    /// Memory was refused.
+    Memory,
+    /// The text goes on past the most bytes that it may have.
+    Size,
+}
+
+// Reads once, and puts what came behind the text. At 0 the reader is at its end. Before the text was begun, the reader
+// had failed that often, and it has not failed since.
+fn take_some<R: Read + Device>(
+    reader: &mut R,
+    chunk: &mut [u8],
+    text: &mut Vec<u8>,
+    before: u64,
+) -> Result<usize, StreamFault>
+    requires some { 0 < length chunk.old }
+    requires small { length text.old.items ≤ 16_777_216 }
+    requires unfailed { R.failure_count reader.old ≤ before }
+    ensures taken { TakesBehind (R.remaining reader.old) (R.remaining reader.new) text.old.items text.new.items }
+    ensures bound { length text.new.items ≤ 16_777_217 }
+    ensures count { IfOk result (λ n. length text.new.items ≡ length text.old.items + n) }
+    ensures end { IfOk result (λ n. n ≡ 0 → IsAtEnd (R.remaining reader.new)) }
+    ensures size { result ≢ Err StreamFault.Size }
+    ensures device { (result ≡ Err StreamFault.Device) ↔ (before < R.failure_count reader.new) }
+{
+    let room = (MAX_SCRIPT + 1 - text.len()).min(chunk.len());
+    if text.reserve(room).is_err() {
+        return Err(StreamFault::Memory);
+    }
+    let part = &mut chunk[..room];
+    let read = reader.read(part);
+    if let Ok(n) = &read {
+        let _ = text.extend_from_slice(&part[..*n]);
+    }
+    if reader.failures() > before {
+        return Err(StreamFault::Device);
+    }
+    match read {
+        Ok(n) => Ok(n),
+        Err(_) => Err(StreamFault::Memory),
+    }
+}
+
+/// All that the reader has left, where that is at most 16,777,216 bytes. At most one byte more is taken from it. A read
+/// that failed ends the reading.
+pub fn read_script<R: Read + Device>(alloc: Global, reader: &mut R) -> Result<Vec<u8>, StreamFault>
+    ensures whole { IfOk result (λ text. IfSome (R.remaining reader.old) (λ bytes. text.items ≡ bytes)) }
+    ensures short { IfOk result (λ text. length text.items ≤ 16_777_216) }
+    ensures size { result ≡ Err StreamFault.Size
+        → IfSome (R.remaining reader.old) (λ bytes. 16_777_216 < length bytes) }
+    ensures device { (result ≡ Err StreamFault.Device) ↔ (R.failure_count reader.old < R.failure_count reader.new) }
+    ensures taken { ConsumesAtMost 16_777_217 (R.remaining reader.old) (R.remaining reader.new) }
+{
+    let before = reader.failures();
+    let mut text = Vec::new(alloc);
+    let mut chunk = [0u8; 4096];
+    while text.len() <= MAX_SCRIPT {
+        if take_some(reader, &mut chunk, &mut text, before)? == 0 {
+            return Ok(text);
+        }
+    }
+    Err(StreamFault::Size)
+}
+
+// Writes once, and gives how many bytes of the text were taken. Before the text was begun, the writer had failed that
+// often, and it has not failed since.
+fn write_some<W: Write + Device>(
+    writer: &mut W,
+    text: &[u8],
+    before: u64,
+) -> Result<usize, StreamFault>
+    requires unfailed { W.failure_count writer.old ≤ before }
+    ensures some { IfOk result (λ n. (0 < n) × (n ≤ length text.now)) }
+    ensures taken { IfOk result (λ n. Appends (W.contents writer.old) (W.contents writer.new) (take n text.now)) }
+    ensures front { AppendsFront text.now (W.contents writer.old) (W.contents writer.new) }
+    ensures size { result ≢ Err StreamFault.Size }
+    ensures device { (result ≡ Err StreamFault.Device) ↔ (before < W.failure_count writer.new) }
+{
+    let written = writer.write(text);
+    if writer.failures() > before {
+        return Err(StreamFault::Device);
+    }
+    match written {
+        Ok(n) if n > 0 => Ok(n),
+        _ => Err(StreamFault::Memory),
+    }
+}
+
+/// Writes the text, all of it where no fault comes and a front of it in any case. A write that failed ends the writing.
+pub fn write_text<W: Write + Device>(writer: &mut W, text: &[u8]) -> Result<(), StreamFault>
+    ensures whole { OnOk result (Appends (W.contents writer.old) (W.contents writer.new) text.now) }
+    ensures front { AppendsFront text.now (W.contents writer.old) (W.contents writer.new) }
+    ensures size { result ≢ Err StreamFault.Size }
+    ensures device { (result ≡ Err StreamFault.Device) ↔ (W.failure_count writer.old < W.failure_count writer.new) }
+{
+    let before = writer.failures();
+    let mut done = 0;
+    while done < text.len() {
+        let (_, rest) = text.split_at(done);
+        done += write_some(writer, rest, before)?;
+    }
+    Ok(())
+}
