@@ -1,7 +1,7 @@
 //! Lengths, octet strings and numbers (RFC 0030): spellings that were worked out by hand.
 
 use oer_core::{
-    Device, OerFault, length_size, read_length, read_octets, read_u64, write_length, write_octets,
+    OerFault, length_size, read_length, read_octets, read_u64, write_length, write_octets,
     write_u64,
 };
 
@@ -86,12 +86,4 @@ fn spellings_are_written(rt: HostRuntime) {
         assert!(rt; write_u64(&mut out, at, 1500) == end, "at {at}");
         assert!(rt; out == wanted, "at {at}");
     }
-}
-
-#[test]
-fn memory_is_a_device_that_never_fails(rt: HostRuntime) {
-    let bytes: &[u8] = &[1, 2];
-    assert_eq!(rt; bytes.failures(), 0);
-    let written: Vec<u8> = Vec::new(rt.alloc());
-    assert_eq!(rt; written.failures(), 0);
 }

@@ -5,10 +5,26 @@
 #[cfg(test)]
 mod addresses;
 #[cfg(test)]
+mod books;
+#[cfg(test)]
+mod devices;
+#[cfg(test)]
 mod lengths;
 #[cfg(test)]
 mod packets;
 #[cfg(test)]
 mod prices;
 #[cfg(test)]
+mod replays;
+#[cfg(test)]
 mod routes;
+#[cfg(test)]
+mod rows;
+#[cfg(test)]
+mod scripts;
+#[cfg(test)]
+mod setup_texts;
+#[cfg(test)]
+mod setups;
+#[cfg(test)]
+mod verdicts;

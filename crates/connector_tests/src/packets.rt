@@ -49,26 +49,23 @@ fn prepares(rt: HostRuntime) -> Result<(), Fail> {
         let forwarded = view.forwarded(rt.alloc(), 1500, EXPIRY - 1000)?;
         assert!(rt; forwarded.as_slice() == sent_on);
     }
-    Ok(())
-}
-
-#[test]
-fn frames_that_are_no_prepare(rt: HostRuntime) {
-    let mut longer = [0; 74];
-    longer[..73].copy_from_slice(BASE);
-    let rows: [(&[u8], ViewFault); 8] = [
+    let mut longer = Vec::from_slice(rt.alloc(), BASE)?;
+    longer.push(0)?;
+    let large = vec![in rt.alloc(); 0x0c; 34_001]?;
+    let faulty: [(&[u8], ViewFault); 8] = [
         (&[], ViewFault::Kind),
         (b"\x0d\0", ViewFault::Kind),
         (b"\x0c\x80", ViewFault::Oer),
         (b"\x0c\x89", ViewFault::Oer),
         (&BASE[..72], ViewFault::Oer),
-        (&longer, ViewFault::AfterEnd),
-        (&[0x0c; 34_001], ViewFault::Size),
+        (longer.as_slice(), ViewFault::AfterEnd),
+        (large.as_slice(), ViewFault::Size),
         (NO_DATE, ViewFault::Field),
     ];
-    for (frame, fault) in rows {
+    for (frame, fault) in faulty {
         assert_eq!(rt; PrepareView::read(frame).err(), Some(fault));
     }
+    Ok(())
 }
 
 // The front of a Prepare: the type, the length of its contents in two bytes, an amount of 0, until 2030-01-01, a

@@ -1,0 +1,534 @@
+//! Books of tenants: the limits of their setups, and verdicts at the bounds of what was agreed.
+
+use common_types::{Items, Text};
+use ilp_addr::{Address, Moment, Prefix};
+use money_core::Rate;
+use route_table::Routes;
+use std::alloc::Global;
+use std::test::Fail;
+use tenant_core::{
+    Book, PeerNo, PeerTerms, PrepareKey, RateTerms, RejectCode, Role, TenantSetup, TenantTerms,
+    Verdict,
+};
+
+// 2030-01-01T00:00:00Z, and the greatest moment.
+const START: u64 = 1_893_456_000_000;
+
+const LATEST: u64 = 253_400_000_000_000;
+
+// The greatest expiry.
+const LAST_EXPIRY: u64 = 253_402_128_000_000;
+
+// 2^62, the most of any cap, ceiling or credit.
+const MOST: u64 = 4_611_686_018_427_387_904;
+
+/// What the rows vary of what is agreed with each peer.
+#[derive(Clone, Copy)]
+struct Agreed {
+    cap: u64,
+    ceiling: u64,
+    credit: u64,
+    burst: u32,
+    per_second: u32,
+    rate: (u64, u64),
+}
+
+const USUAL: Agreed = Agreed {
+    cap: 1_500,
+    ceiling: 1_000_000,
+    credit: 1_000_000,
+    burst: 100,
+    per_second: 100,
+    rate: (3, 2),
+};
+
+const GREATEST: Agreed = Agreed {
+    cap: MOST,
+    ceiling: MOST,
+    credit: MOST,
+    burst: 1_000_000,
+    per_second: 1_000_000,
+    rate: (1, 1),
+};
+
+fn text<const N: usize>(bytes: &[u8]) -> Result<Text<N>, Fail> {
+    Ok(Text::from_bytes(bytes).ok_or("a text that fits")?)
+}
+
+// The peer of that number, which owes nothing yet: p0, p1 and so on, with tokens by the same names.
+fn new_peer(alloc: Global, number: u32, agreed: Agreed) -> Result<PeerTerms, Fail> {
+    let name = format!(in alloc; "p{number}")?;
+    Ok(PeerTerms {
+        name: text(name.as_bytes())?,
+        role: Role::Peer,
+        token: text(name.as_bytes())?,
+        url: text(b"http://127.0.0.1:7801/ilp")?,
+        out_token: text(b"out")?,
+        asset: text(b"USD")?,
+        scale: 2,
+        cap: agreed.cap,
+        ceiling: agreed.ceiling,
+        credit: agreed.credit,
+        burst: agreed.burst,
+        per_second: agreed.per_second,
+        balance: 0,
+    })
+}
+
+fn rates(
+    alloc: Global,
+    rate: (u64, u64),
+    pairs: &[(PeerNo, PeerNo)],
+) -> Result<Items<RateTerms>, Fail> {
+    let rate = Rate::new(rate.0, rate.1)?;
+    let mut rates = Vec::new(alloc);
+    for (from, to) in pairs {
+        rates.push(RateTerms {
+            from: *from,
+            to: *to,
+            rate,
+        })?;
+    }
+    Ok(Items::from_vec(rates))
+}
+
+// A tenant of so many peers, with a route for g.acme.bob to one of them and rates for these pairs, from one to another.
+fn tenant(
+    alloc: Global,
+    journal: u64,
+    agreed: Agreed,
+    peers: u32,
+    routed_to: PeerNo,
+    pairs: &[(PeerNo, PeerNo)],
+) -> Result<Option<TenantSetup>, Fail> {
+    let mut list = Vec::new(alloc);
+    for number in 0..peers {
+        list.push(new_peer(alloc, number, agreed)?)?;
+    }
+    let mut routes = Routes::new(alloc);
+    routes.add(Prefix::parse(alloc, b"g.acme.bob")?, routed_to)?;
+    Ok(TenantSetup::new(TenantTerms {
+        name: text(b"acme")?,
+        address: text(b"g.acme")?,
+        admin: text(b"root-a")?,
+        journal,
+        margin: 1_000,
+        hold: 30_000,
+        peers: Items::from_vec(list),
+        routes,
+        rates: rates(alloc, agreed.rate, pairs)?,
+    }))
+}
+
+// How many places the journal has, the peer that the route names, the pairs with a rate, and whether that is a setup.
+static SETUPS: [(u64, PeerNo, &[(PeerNo, PeerNo)], bool); 10] = [
+    (1, 1, &[(0, 1)], false),
+    (2, 1, &[(0, 1)], true),
+    (16_384, 1, &[(0, 1)], true),
+    (16_385, 1, &[(0, 1)], false),
+    (2, 2, &[(0, 1)], false),
+    (2, 1, &[(0, 2)], false),
+    (2, 1, &[(2, 0)], false),
+    (2, 1, &[(1, 1)], false),
+    (2, 1, &[(0, 1), (1, 0)], true),
+    (2, 1, &[(0, 1), (1, 0), (0, 1)], false),
+];
+
+#[test]
+fn limits_of_a_setup(rt: HostRuntime) -> Result<(), Fail> {
+    let alloc = rt.alloc();
+    for (journal, routed_to, pairs, is_within) in SETUPS {
+        let found = tenant(alloc, journal, USUAL, 2, routed_to, pairs)?;
+        assert!(rt;
+            found.is_some() == is_within,
+            "{journal} {routed_to} {pairs:?}"
+        );
+    }
+    // Of 66 peers, 4,096 pairs have a rate, and then one more.
+    let mut pairs = Vec::new(alloc);
+    for pair in 0..4_097u32 {
+        let from = (pair / 65) as PeerNo;
+        let other = (pair % 65) as PeerNo;
+        let to = if other < from { other } else { other + 1 };
+        pairs.push((from, to))?;
+    }
+    for (count, is_within) in [(4_096, true), (4_097, false)] {
+        let some = pairs.as_slice().get(..count).ok_or("so many pairs")?;
+        let found = tenant(alloc, 2, USUAL, 66, 1, some)?;
+        assert!(rt; found.is_some() == is_within, "{count} rates");
+    }
+    Ok(())
+}
+
+/// A verdict, in short.
+#[derive(Clone, Copy)]
+enum Wanted {
+    NoRoom,
+    Refused(RejectCode),
+    /// The amount that came, and the greatest that would go on.
+    TooLarge(u64, u64),
+    /// To p1: the number of the hold, the amount and the expiry.
+    Forwarded(u64, u64, u64),
+}
+
+fn verdict(wanted: Wanted) -> Verdict {
+    match wanted {
+        Wanted::NoRoom => Verdict::NoRoom,
+        Wanted::Refused(code) => Verdict::Refuse {
+            code,
+            amounts: None,
+        },
+        Wanted::TooLarge(amount, greatest) => Verdict::Refuse {
+            code: RejectCode::AmountTooLarge,
+            amounts: Some((amount, greatest)),
+        },
+        Wanted::Forwarded(hold, amount, expiry) => Verdict::Forward {
+            hold,
+            peer: 1,
+            amount,
+            expiry,
+        },
+    }
+}
+
+fn book(alloc: Global, journal: u64, agreed: Agreed, start: u64) -> Result<Book, Fail> {
+    let setup = tenant(alloc, journal, agreed, 2, 1, &[(0, 1)])?.ok_or("a setup")?;
+    let start = Moment::new(start).ok_or("a moment")?;
+    Ok(Book::new(alloc, 0, &setup, start)?)
+}
+
+fn decide(book: &mut Book, amount: u64, expiry: u64, now: u64) -> Result<Verdict, Fail> {
+    let destination = Address::parse(b"g.acme.bob.x")?;
+    let key = PrepareKey {
+        amount,
+        expiry,
+        condition: &[7; 32],
+        destination: &destination,
+    };
+    let now = Moment::new(now).ok_or("a moment")?;
+    Ok(book.decide(b"p0", &key, now))
+}
+
+/// Packets of p0 for p1, one after another: the amount, the expiry and the moment of each, and its verdict.
+struct Packets {
+    title: &'static str,
+    journal: u64,
+    agreed: Agreed,
+    start: u64,
+    steps: &'static [(u64, u64, u64, Wanted)],
+    entries: usize,
+}
+
+static PACKETS: [Packets; 9] = [
+    Packets {
+        title: "a packet is priced and held, and two places of four stay for answers",
+        journal: 4,
+        agreed: USUAL,
+        start: START,
+        steps: &[
+            (
+                1_000,
+                START + 30_000,
+                START,
+                Wanted::Forwarded(0, 1_500, START + 29_000),
+            ),
+            (
+                1_000,
+                START + 30_000,
+                START,
+                Wanted::Forwarded(1, 1_500, START + 29_000),
+            ),
+            (1_000, START + 30_000, START, Wanted::NoRoom),
+        ],
+        entries: 2,
+    },
+    Packets {
+        title: "a bucket of two packets and one a second refills by the clock",
+        journal: 64,
+        agreed: Agreed {
+            burst: 2,
+            per_second: 1,
+            ..USUAL
+        },
+        start: START,
+        steps: &[
+            (
+                1,
+                START + 60_000,
+                START,
+                Wanted::Forwarded(0, 1, START + 30_000),
+            ),
+            (
+                1,
+                START + 60_000,
+                START,
+                Wanted::Forwarded(1, 1, START + 30_000),
+            ),
+            (
+                1,
+                START + 60_000,
+                START,
+                Wanted::Refused(RejectCode::RateLimited),
+            ),
+            (
+                1,
+                START + 60_000,
+                START + 999,
+                Wanted::Refused(RejectCode::RateLimited),
+            ),
+            (
+                1,
+                START + 60_000,
+                START + 1_000,
+                Wanted::Forwarded(2, 1, START + 31_000),
+            ),
+            (
+                1,
+                START + 60_000,
+                START + 500,
+                Wanted::Refused(RejectCode::RateLimited),
+            ),
+            (
+                1,
+                START + 60_000,
+                START + 1_999,
+                Wanted::Refused(RejectCode::RateLimited),
+            ),
+            (
+                1,
+                START + 60_000,
+                START + 2_000,
+                Wanted::Forwarded(3, 1, START + 32_000),
+            ),
+            (
+                1,
+                START + 60_000,
+                START,
+                Wanted::Refused(RejectCode::RateLimited),
+            ),
+            (
+                1,
+                START + 60_000,
+                START + 9_000,
+                Wanted::Forwarded(4, 1, START + 39_000),
+            ),
+            (
+                1,
+                START + 60_000,
+                START + 9_000,
+                Wanted::Forwarded(5, 1, START + 39_000),
+            ),
+            (
+                1,
+                START + 60_000,
+                START + 9_000,
+                Wanted::Refused(RejectCode::RateLimited),
+            ),
+        ],
+        entries: 12,
+    },
+    Packets {
+        title: "a bucket of one packet never refills",
+        journal: 64,
+        agreed: Agreed {
+            burst: 1,
+            per_second: 0,
+            ..USUAL
+        },
+        start: 0,
+        steps: &[
+            (1, 30_000, 0, Wanted::Forwarded(0, 1, 29_000)),
+            (
+                1,
+                LAST_EXPIRY,
+                LATEST,
+                Wanted::Refused(RejectCode::RateLimited),
+            ),
+        ],
+        entries: 2,
+    },
+    Packets {
+        title: "what is held is within ceiling and credit",
+        journal: 64,
+        agreed: Agreed {
+            ceiling: 2_000,
+            credit: 3_000,
+            ..USUAL
+        },
+        start: START,
+        steps: &[
+            (
+                1_000,
+                START + 30_000,
+                START,
+                Wanted::Forwarded(0, 1_500, START + 29_000),
+            ),
+            (
+                1_000,
+                START + 30_000,
+                START,
+                Wanted::Forwarded(1, 1_500, START + 29_000),
+            ),
+        ],
+        entries: 2,
+    },
+    Packets {
+        title: "what is held counts against the sender's ceiling",
+        journal: 64,
+        agreed: Agreed {
+            ceiling: 1_999,
+            credit: 3_000,
+            ..USUAL
+        },
+        start: START,
+        steps: &[
+            (
+                1_000,
+                START + 30_000,
+                START,
+                Wanted::Forwarded(0, 1_500, START + 29_000),
+            ),
+            (
+                1_000,
+                START + 30_000,
+                START,
+                Wanted::Refused(RejectCode::InsufficientLiquidity),
+            ),
+        ],
+        entries: 2,
+    },
+    Packets {
+        title: "what is held counts against the next peer's credit",
+        journal: 64,
+        agreed: Agreed {
+            ceiling: 2_000,
+            credit: 2_999,
+            ..USUAL
+        },
+        start: START,
+        steps: &[
+            (
+                1_000,
+                START + 30_000,
+                START,
+                Wanted::Forwarded(0, 1_500, START + 29_000),
+            ),
+            (
+                1_000,
+                START + 30_000,
+                START,
+                Wanted::Refused(RejectCode::InsufficientLiquidity),
+            ),
+        ],
+        entries: 2,
+    },
+    Packets {
+        title: "the greatest amounts and moments",
+        journal: 8,
+        agreed: GREATEST,
+        start: 0,
+        steps: &[
+            (MOST, 30_000, 0, Wanted::Forwarded(0, MOST, 29_000)),
+            (
+                1,
+                30_000,
+                0,
+                Wanted::Refused(RejectCode::InsufficientLiquidity),
+            ),
+            (
+                0,
+                LAST_EXPIRY,
+                LATEST,
+                Wanted::Forwarded(1, 0, LATEST + 30_000),
+            ),
+            (
+                0,
+                LATEST,
+                LATEST,
+                Wanted::Refused(RejectCode::InsufficientTimeout),
+            ),
+        ],
+        entries: 4,
+    },
+    Packets {
+        title: "the greatest number is over any cap",
+        journal: 4,
+        agreed: GREATEST,
+        start: 0,
+        steps: &[(u64::MAX, 30_000, 0, Wanted::TooLarge(u64::MAX, MOST))],
+        entries: 1,
+    },
+    Packets {
+        title: "the greatest amount at the least rate",
+        journal: 4,
+        agreed: Agreed {
+            rate: (1, 1_000_000_000_000),
+            ..GREATEST
+        },
+        start: 0,
+        steps: &[(MOST, 30_000, 0, Wanted::Forwarded(0, 4_611_686, 29_000))],
+        entries: 1,
+    },
+];
+
+// The rate, the amount and the verdict on it, where what was agreed is otherwise the greatest.
+static RATES: [((u64, u64), u64, Wanted); 5] = [
+    ((1, 1), MOST, Wanted::Forwarded(0, MOST, 29_000)),
+    ((1, 1_000_000_000_000), 1, Wanted::Forwarded(0, 0, 29_000)),
+    (
+        (1_000_000_000_000, 1),
+        MOST,
+        Wanted::TooLarge(MOST, 4_611_686),
+    ),
+    (
+        (1_000_000_000_000, 1),
+        4_611_687,
+        Wanted::TooLarge(4_611_687, 4_611_686),
+    ),
+    (
+        (1_000_000_000_000, 1),
+        4_611_686,
+        Wanted::Forwarded(0, 4_611_686_000_000_000_000, 29_000),
+    ),
+];
+
+#[test]
+fn packets_at_the_bounds_of_what_was_agreed(rt: HostRuntime) -> Result<(), Fail> {
+    for packets in &PACKETS {
+        let title = packets.title;
+        let mut book = book(rt.alloc(), packets.journal, packets.agreed, packets.start)?;
+        for (amount, expiry, now, wanted) in packets.steps {
+            let found = decide(&mut book, *amount, *expiry, *now)?;
+            assert!(rt; found == verdict(*wanted), "{title}: {amount} at {now}");
+        }
+        assert_eq!(rt; book.entries(), packets.entries, "{title}");
+    }
+    for (rate, amount, wanted) in RATES {
+        let mut book = book(rt.alloc(), 4, Agreed { rate, ..GREATEST }, 0)?;
+        let found = decide(&mut book, amount, 30_000, 0)?;
+        assert!(rt; found == verdict(wanted), "{amount} at {rate:?}");
+    }
+    Ok(())
+}
+
+#[test]
+fn as_many_packets_are_held_as_a_tenant_can_hold(rt: HostRuntime) -> Result<(), Fail> {
+    let agreed = Agreed {
+        burst: 2_000,
+        ..USUAL
+    };
+    let mut book = book(rt.alloc(), 4_096, agreed, START)?;
+    assert_eq!(rt; book.tenant(), 0);
+    assert!(rt; book.address() == b"g.acme".as_slice());
+    assert!(rt; book.peer_name(1) == Some(b"p1".as_slice()));
+    assert!(rt; book.peer_name(2).is_none());
+    for hold in 0..1_024u64 {
+        let found = decide(&mut book, 1, START + 30_000, START)?;
+        let wanted = verdict(Wanted::Forwarded(hold, 1, START + 29_000));
+        assert!(rt; found == wanted, "hold {hold}");
+    }
+    let found = decide(&mut book, 1, START + 30_000, START)?;
+    assert!(rt; found == verdict(Wanted::Refused(RejectCode::Busy)));
+    assert_eq!(rt; book.entries(), 1_025);
+    Ok(())
+}

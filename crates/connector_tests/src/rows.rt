@@ -1,0 +1,215 @@
+//! Rows of replays: changes of the usual setup, a script, and the lines that it prints. Frames, replies and moments are
+//! named in braces in scripts and lines.
+
+use crate::setups::{Line, setup_with};
+use replay_text::{ReplayFault, replay};
+use std::alloc::Global;
+use std::process::Abort;
+use std::test::Fail;
+
+/// A replay, with what it is to print.
+pub struct Row {
+    pub title: &'static str,
+    pub changes: &'static [Line],
+    pub script: &'static str,
+    pub lines: &'static str,
+}
+
+// What stands for a name in braces, which may have names of its own in it. The values were worked out by hand from the
+// formats of RFC 0027 and RFC 0030.
+static NAMES: [(&str, &str); 51] = [
+    ("T", "1893456000000"),
+    ("T+999", "1893456000999"),
+    ("T+1000", "1893456001000"),
+    ("T+2000", "1893456002000"),
+    ("T+10000", "1893456010000"),
+    ("until 0 s", "3230333030313031303030303030303030"),
+    ("until 1 s", "3230333030313031303030303031303030"),
+    ("until 9 s", "3230333030313031303030303039303030"),
+    ("until 10 s", "3230333030313031303030303130303030"),
+    ("month 13", "3230333031333031303030303130303030"),
+    (
+        "condition",
+        "66687aadf862bd776c8fc18b8e9f8e20089714856ee233b3902a591d0d5f2925",
+    ),
+    (
+        "CONDITION",
+        "66687AADF862BD776C8FC18B8E9F8E20089714856EE233B3902A591D0D5F2925",
+    ),
+    ("to bob", "0c672e61636d652e626f622e78"),
+    ("to bobby", "0e672e61636d652e626f6262792e78"),
+    ("to below", "08672e61636d652e78"),
+    ("to other", "07672e6f74686572"),
+    ("by acme", "06672e61636d65"),
+    ("too large", "10616d6f756e7420746f6f206c61726765"),
+    (
+        "base",
+        "0c4700000000000003e8{until 10 s}{condition}{to bob}00",
+    ),
+    (
+        "base cut",
+        "0c4700000000000003e8{until 10 s}{condition}{to bob}",
+    ),
+    (
+        "base until 0 s",
+        "0c4700000000000003e8{until 0 s}{condition}{to bob}00",
+    ),
+    (
+        "base until 1 s",
+        "0c4700000000000003e8{until 1 s}{condition}{to bob}00",
+    ),
+    (
+        "base in month 13",
+        "0c4700000000000003e8{month 13}{condition}{to bob}00",
+    ),
+    (
+        "base 999",
+        "0c4700000000000003e7{until 10 s}{condition}{to bob}00",
+    ),
+    (
+        "base max",
+        "0c47ffffffffffffffff{until 10 s}{condition}{to bob}00",
+    ),
+    (
+        "BASE",
+        "0C4700000000000003E8{until 10 s}{CONDITION}0C672E61636D652E626F622E7800",
+    ),
+    (
+        "long",
+        "0c82004800000000000003e8{until 10 s}{condition}{to bob}8100",
+    ),
+    (
+        "long sent",
+        "0c82004800000000000005dc{until 9 s}{condition}{to bob}8100",
+    ),
+    (
+        "sent",
+        "0c4700000000000005dc{until 9 s}{condition}{to bob}00",
+    ),
+    (
+        "sent 1498",
+        "0c4700000000000005da{until 9 s}{condition}{to bob}00",
+    ),
+    (
+        "sent 500",
+        "0c4700000000000001f4{until 9 s}{condition}{to bob}00",
+    ),
+    (
+        "bobby",
+        "0c4900000000000003e8{until 10 s}{condition}{to bobby}00",
+    ),
+    (
+        "bobby sent",
+        "0c4900000000000007d0{until 9 s}{condition}{to bobby}00",
+    ),
+    (
+        "other",
+        "0c4200000000000003e8{until 10 s}{condition}{to other}00",
+    ),
+    (
+        "other sent",
+        "0c4200000000000005dc{until 9 s}{condition}{to other}00",
+    ),
+    (
+        "other to carol",
+        "0c4200000000000007d0{until 9 s}{condition}{to other}00",
+    ),
+    (
+        "own",
+        "0c4100000000000003e8{until 10 s}{condition}{by acme}00",
+    ),
+    (
+        "below own",
+        "0c4300000000000003e8{until 10 s}{condition}{to below}00",
+    ),
+    (
+        "below own sent",
+        "0c4300000000000005dc{until 9 s}{condition}{to below}00",
+    ),
+    (
+        "below own to carol",
+        "0c4300000000000007d0{until 9 s}{condition}{to below}00",
+    ),
+    (
+        "config",
+        "0c4600000000000003e8{until 10 s}{condition}0b706565722e636f6e66696700",
+    ),
+    (
+        "neighbour",
+        "0c4800000000000003e8{until 10 s}{condition}0d706565722e61636d652e626f6200",
+    ),
+    ("F02", "0e17463032{by acme}0b756e726561636861626c6500"),
+    (
+        "R02",
+        "0e20523032{by acme}14696e73756666696369656e742074696d656f757400",
+    ),
+    (
+        "T04",
+        "0e22543034{by acme}16696e73756666696369656e74206c697175696469747900",
+    ),
+    ("T05", "0e18543035{by acme}0c72617465206c696d6974656400"),
+    (
+        "F08 1000 999",
+        "0e2c463038{by acme}{too large}1000000000000003e800000000000003e7",
+    ),
+    (
+        "F08 1000 666",
+        "0e2c463038{by acme}{too large}1000000000000003e8000000000000029a",
+    ),
+    (
+        "F08 1000 667",
+        "0e2c463038{by acme}{too large}1000000000000003e8000000000000029b",
+    ),
+    (
+        "F08 max 1000",
+        "0e2c463038{by acme}{too large}10ffffffffffffffff00000000000003e8",
+    ),
+    (
+        "F08 max 2^62",
+        "0e2c463038{by acme}{too large}10ffffffffffffffff4000000000000000",
+    ),
+];
+
+fn value_of(name: &str) -> Option<&'static str> {
+    let (_, value) = NAMES.iter().find(|named| named.0 == name)?;
+    Some(*value)
+}
+
+// The text with each name in braces replaced by its value.
+fn with_values(alloc: Global, text: &str) -> Result<String, Fail> {
+    let mut pieces = text.split('{');
+    let mut filled = String::from_str(alloc, pieces.next().unwrap_or(""))?;
+    for piece in pieces {
+        let (name, rest) = piece.split_once('}').ok_or("a brace that ends")?;
+        filled.push_str(value_of(name).ok_or("a name of the table")?)?;
+        filled.push_str(rest)?;
+    }
+    Ok(filled)
+}
+
+/// The text with the values of the names in braces.
+pub fn filled(alloc: Global, text: &str) -> Result<String, Fail> {
+    let once = with_values(alloc, text)?;
+    with_values(alloc, once.as_str())
+}
+
+/// What a replay of the script writes, for the setup and one worker.
+pub fn written(alloc: Global, setup: &str, script: &str) -> Result<Vec<u8>, ReplayFault> {
+    let mut reader = script.as_bytes();
+    let mut text = Vec::new(alloc);
+    replay(alloc, setup.as_bytes(), 1, &mut reader, &mut text)?;
+    Ok(text)
+}
+
+/// Each row prints its lines.
+pub fn expect_rows(rt: &impl Abort, alloc: Global, rows: &[Row]) -> Result<(), Fail> {
+    for row in rows {
+        let setup = setup_with(alloc, row.changes)?;
+        let script = filled(alloc, row.script)?;
+        let lines = filled(alloc, row.lines)?;
+        let text = written(alloc, setup.as_str(), script.as_str())?;
+        let title = row.title;
+        assert!(rt; text.as_slice() == lines.as_bytes(), "{title}");
+    }
+    Ok(())
+}

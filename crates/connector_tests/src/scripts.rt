@@ -1,0 +1,135 @@
+//! Scripts and printed lines: the first bad line of each script, the steps of a good one, and a line for each output.
+
+use common_types::{Bytes, ReadError, Text};
+use floor_core::{Malformed, Output, Step};
+use replay_text::{ScriptFault, parse_script, print_lines};
+use std::alloc::Global;
+use std::test::Fail;
+
+fn acme(alloc: Global) -> Result<Vec<Text<32>>, Fail> {
+    let mut names = Vec::new(alloc);
+    names.push(Text::from_bytes(b"acme").ok_or("a name")?)?;
+    Ok(names)
+}
+
+// A script, how many workers it has, and the number of its first bad line, 0 where none is bad.
+static SCRIPTS: [(&str, usize, usize); 26] = [
+    ("", 2, 0),
+    ("decide 1 0", 2, 0),
+    ("decide 2 0\n", 2, 1),
+    (" decide 1 0", 2, 1),
+    ("# what follows\n\ndecide 0 01\n", 2, 3),
+    ("decide 0 253400000000000\ndecide 0 253400000000001\n", 2, 2),
+    ("load 0 acme tok-1._~+/= 0cFf\nload 1 acme t -\n", 2, 0),
+    ("load 0 acme tok 0c0\n", 2, 1),
+    ("load 0 acme tok 0g\n", 2, 1),
+    ("load 0 acme t*k 0c\n", 2, 1),
+    ("load 0 other tok 0c\n", 2, 1),
+    ("load 0  acme tok 0c\n", 2, 1),
+    ("load 0 acme tok 0c\r\n", 2, 1),
+    ("load 0 acme tok 0c \n", 2, 1),
+    ("#\n# \u{e9}\n", 2, 2),
+    ("decide 0 1893456000000\ndecide 1 1893456000000\n", 1, 2),
+    ("decide 0 01\n", 1, 1),
+    ("decide  0 1\n", 1, 1),
+    ("decide 0 253400000000001\n", 1, 1),
+    ("# fine\n\nload 0 beta tok-alice -\n", 1, 3),
+    ("load 0 acme tok-alice 0\n", 1, 1),
+    ("load 0 acme tok-alice \n", 1, 1),
+    ("load 0 acme tok!alice -\n", 1, 1),
+    ("tick acme 0\n", 1, 1),
+    ("decide 0 1\r\n", 1, 1),
+    ("answer 0 1 fault", 1, 1),
+];
+
+#[test]
+fn scripts_name_their_first_bad_line(rt: HostRuntime) -> Result<(), Fail> {
+    let alloc = rt.alloc();
+    let names = acme(alloc)?;
+    for (script, workers, line) in SCRIPTS {
+        let found = parse_script(alloc, names.as_slice(), workers, script.as_bytes()).err();
+        let fault = (line != 0).then_some(ReadError::Fault(ScriptFault::Line(line)));
+        assert!(rt; found == fault, "{script:?}");
+    }
+    let text = b"load 1 acme tok 0cFf\ndecide 1 77\n";
+    match parse_script(alloc, names.as_slice(), 2, text)?.as_slice() {
+        [
+            Step::Load {
+                worker,
+                tenant,
+                token,
+                bytes,
+            },
+            Step::Decide { worker: same, now },
+        ] => {
+            assert_eq!(rt; (*worker, *tenant, *same, now.millis()), (1, 0, 1, 77));
+            assert!(rt; token.as_slice() == b"tok".as_slice());
+            assert!(rt; bytes.as_slice() == [12u8, 255].as_slice());
+        }
+        _ => panic!(rt; "two steps"),
+    }
+    Ok(())
+}
+
+// Why loads are malformed, and the line of each.
+static KINDS: [(Malformed, &str); 6] = [
+    (Malformed::Token, "acme bad token\n"),
+    (Malformed::Kind, "acme bad kind\n"),
+    (Malformed::Oer, "acme bad oer\n"),
+    (Malformed::Field, "acme bad field\n"),
+    (Malformed::AfterEnd, "acme bad after\n"),
+    (Malformed::Size, "acme bad size\n"),
+];
+
+// What steps put out, and the line of each.
+fn outputs_with_lines(alloc: Global) -> Result<[(Output, &'static str); 6], Fail> {
+    let reply = Bytes::from_vec(Vec::from_slice(alloc, &[14, 255])?);
+    let frame = Bytes::from_vec(Vec::from_slice(alloc, &[12])?);
+    let peer = Text::from_bytes(b"bob").ok_or("a name")?;
+    let hold = u64::MAX;
+    let send = Output::Send {
+        tenant: 0,
+        peer,
+        hold,
+        frame,
+    };
+    Ok([
+        (Output::Busy, "- busy\n"),
+        (Output::Idle, "- idle\n"),
+        (
+            Output::Loaded {
+                tenant: 0,
+                call: 12,
+            },
+            "acme loaded 12\n",
+        ),
+        (Output::Stranger { tenant: 0 }, "acme stranger\n"),
+        (
+            Output::Reply {
+                tenant: 0,
+                bytes: reply,
+            },
+            "acme reply 0eff\n",
+        ),
+        (send, "acme send bob 18446744073709551615 0c\n"),
+    ])
+}
+
+#[test]
+fn outputs_print_as_lines(rt: HostRuntime) -> Result<(), Fail> {
+    let alloc = rt.alloc();
+    let names = acme(alloc)?;
+    let mut outputs = Vec::new(alloc);
+    let mut lines = String::new(alloc);
+    for (output, line) in outputs_with_lines(alloc)? {
+        outputs.push(output)?;
+        lines.push_str(line)?;
+    }
+    for (kind, line) in KINDS {
+        outputs.push(Output::Bad { tenant: 0, kind })?;
+        lines.push_str(line)?;
+    }
+    let text = print_lines(alloc, names.as_slice(), outputs.as_slice())?;
+    assert!(rt; text.as_slice() == lines.as_bytes());
+    Ok(())
+}

@@ -1,0 +1,157 @@
+//! Setups as texts: the first fault of each, and what a good one says.
+
+use crate::setups::{ABSENT, Line, RATE, ROUTE, setup_with};
+use admin_text::{SetupFault, read_setup};
+use common_types::ReadError;
+use std::test::Fail;
+
+// Changes of the usual setup, and the fault that they bring.
+static CHANGES: [(&[Line], Option<SetupFault>); 42] = [
+    (&[], None),
+    (&[("", "version", "2")], Some(SetupFault::Version)),
+    (&[("", "version", "'1'")], Some(SetupFault::Version)),
+    (&[("", "version", ABSENT)], Some(SetupFault::Version)),
+    (&[("", "version", "")], Some(SetupFault::Toml)),
+    (
+        &[("", "version", "9223372036854775808")],
+        Some(SetupFault::Toml),
+    ),
+    (
+        &[("", "version", "'1'"), ("", "start", "")],
+        Some(SetupFault::Toml),
+    ),
+    (&[("", "start", "253400000000000")], None),
+    (&[("", "start", "253400000000001")], Some(SetupFault::Start)),
+    (&[("", "start", "-1")], Some(SetupFault::Start)),
+    (&[("", "start", "-1893456000000")], Some(SetupFault::Start)),
+    (&[("", "start", "1.5")], Some(SetupFault::Start)),
+    (&[("acme", "journal", ABSENT)], None),
+    (&[("acme", "journal", "1")], Some(SetupFault::Tenant(0))),
+    (&[("acme", "journal", "16385")], Some(SetupFault::Tenant(0))),
+    (&[("acme", "journal", "'64'")], Some(SetupFault::Tenant(0))),
+    (&[("acme", "margin", "60001")], Some(SetupFault::Tenant(0))),
+    (&[("acme", "hold", "0")], Some(SetupFault::Tenant(0))),
+    (&[("acme", "hold", "600001")], Some(SetupFault::Tenant(0))),
+    (&[("acme", "other", "1")], None),
+    (&[("bob", "name", "'alice'")], Some(SetupFault::Tenant(0))),
+    (&[("bob", "name", "'rob'")], Some(SetupFault::Tenant(0))),
+    (
+        &[("bob", "token", "'tok-alice'")],
+        Some(SetupFault::Tenant(0)),
+    ),
+    (&[("bob", "role", "'parent'")], Some(SetupFault::Tenant(0))),
+    (
+        &[("alice", "role", "'parent'")],
+        Some(SetupFault::Tenant(0)),
+    ),
+    (&[("bob", "scale", "256")], Some(SetupFault::Tenant(0))),
+    (
+        &[("bob", "cap", "4611686018427387905")],
+        Some(SetupFault::Tenant(0)),
+    ),
+    (&[("bob", "cap", ABSENT)], Some(SetupFault::Tenant(0))),
+    (&[("bob", "burst", "0")], Some(SetupFault::Tenant(0))),
+    (
+        &[("alice", "per_second", "1000001")],
+        Some(SetupFault::Tenant(0)),
+    ),
+    (
+        &[("route", "", "[tenant.route]")],
+        Some(SetupFault::Tenant(0)),
+    ),
+    (
+        &[("route", "prefix", "'g.acme..bob'")],
+        Some(SetupFault::Tenant(0)),
+    ),
+    (&[("route", "prefix", "'g.acme.bob.'")], None),
+    (
+        &[("route", "prefix", "'g.acme.bob..'")],
+        Some(SetupFault::Tenant(0)),
+    ),
+    (&[("rate", "to", "'alice'")], Some(SetupFault::Tenant(0))),
+    (&[("rate", "to", "'carol'")], Some(SetupFault::Tenant(0))),
+    (&[("rate", "num", "0")], Some(SetupFault::Tenant(0))),
+    (&[("rate", "den", "0")], Some(SetupFault::Tenant(0))),
+    (
+        &[("rate", "den", "1000000000001")],
+        Some(SetupFault::Tenant(0)),
+    ),
+    (&[("empty rate", "", RATE)], Some(SetupFault::Tenant(0))),
+    (
+        &[("second tenant", "", "[[tenant]]")],
+        Some(SetupFault::Tenant(1)),
+    ),
+    (
+        &[
+            ("second tenant", "", "[[tenant]]"),
+            ("second tenant", "name", "'other'"),
+        ],
+        Some(SetupFault::Tenant(1)),
+    ),
+];
+
+// Texts that are no change of the usual setup, and their faults.
+static TEXTS: [(&[u8], SetupFault); 3] = [
+    (b"", SetupFault::Version),
+    (b"version = 1\nstart = 0", SetupFault::Tenant(0)),
+    (b"\xff", SetupFault::Toml),
+];
+
+// A second route's prefix and peer, and whether the setup has a fault by it.
+static SECOND_ROUTES: [(&str, &str, bool); 11] = [
+    ("'g.acme.bo'", "'bob'", false),
+    ("'g.acme.bob'", "'bob'", true),
+    ("'g.acme.bob.'", "'alice'", true),
+    ("'*'", "'alice'", false),
+    ("'*.'", "'alice'", true),
+    ("''", "'alice'", true),
+    ("'.'", "'alice'", true),
+    ("'g'", "'alice'", false),
+    ("'h'", "'alice'", true),
+    ("'g.a b'", "'alice'", true),
+    ("'test'", "'carol'", true),
+];
+
+#[test]
+fn setups_give_their_first_fault(rt: HostRuntime) -> Result<(), Fail> {
+    let alloc = rt.alloc();
+    for (changes, fault) in CHANGES {
+        let text = setup_with(alloc, changes)?;
+        let found = read_setup(alloc, text.as_bytes()).err();
+        assert!(rt; found == fault.map(ReadError::Fault), "{changes:?}");
+    }
+    for (text, fault) in TEXTS {
+        let found = read_setup(alloc, text).err();
+        assert!(rt; found == Some(ReadError::Fault(fault)), "{text:?}");
+    }
+    for (prefix, peer, is_fault) in SECOND_ROUTES {
+        let changes = [
+            ("route after", "", ROUTE),
+            ("route after", "prefix", prefix),
+            ("route after", "peer", peer),
+        ];
+        let text = setup_with(alloc, &changes)?;
+        let found = read_setup(alloc, text.as_bytes()).err();
+        let fault = is_fault.then_some(ReadError::Fault(SetupFault::Tenant(0)));
+        assert!(rt; found == fault, "{prefix:?} to {peer}");
+    }
+    Ok(())
+}
+
+#[test]
+fn a_setup_says_what_its_text_says(rt: HostRuntime) -> Result<(), Fail> {
+    let text = setup_with(rt.alloc(), &[])?;
+    let setup = read_setup(rt.alloc(), text.as_bytes())?;
+    assert_eq!(rt; setup.start.millis(), 1_893_456_000_000);
+    let terms = setup.tenant.terms();
+    assert_eq!(rt;
+        (terms.journal, terms.margin, terms.hold),
+        (64, 1000, 30_000)
+    );
+    assert_eq!(rt; terms.peers.as_slice().len(), 2);
+    assert_eq!(rt; terms.routes.len(), 1);
+    let rates = terms.rates.as_slice();
+    assert_eq!(rt; rates.len(), 1);
+    assert_eq!(rt; (rates[0].from, rates[0].to), (0, 1));
+    Ok(())
+}

@@ -1,0 +1,134 @@
+//! The usual setup of the replays, and changes of it.
+
+use std::alloc::Global;
+use std::fmt::Write;
+use std::test::Fail;
+
+/// A line of a setup: whose it is, by the names of `USUAL`, the key and the value. With no key the line is the header
+/// of the table. Texts stand in single quotes here, and in double quotes in the setup.
+pub type Line = (&'static str, &'static str, &'static str);
+
+/// The value of a line that the setup lacks. With the header all lines of the table are left out.
+pub const ABSENT: &str = "-";
+
+pub const PEER: &str = "[[tenant.peer]]";
+
+pub const ROUTE: &str = "[[tenant.route]]";
+
+pub const RATE: &str = "[[tenant.rate]]";
+
+// alice, who may send to bob at 3/2, and what rows may add: a third peer, routes and rates before and after.
+static USUAL: [Line; 83] = [
+    ("", "version", "1"),
+    ("", "start", "1893456000000"),
+    ("acme", "", "[[tenant]]"),
+    ("acme", "name", "'acme'"),
+    ("acme", "address", "'g.acme'"),
+    ("acme", "admin", "'root-a'"),
+    ("acme", "journal", "64"),
+    ("acme", "margin", ABSENT),
+    ("acme", "hold", ABSENT),
+    ("acme", "other", ABSENT),
+    ("alice", "", PEER),
+    ("alice", "name", "'alice'"),
+    ("alice", "role", "'peer'"),
+    ("alice", "token", "'tok-alice'"),
+    ("alice", "url", "'http://127.0.0.1:7801/ilp'"),
+    ("alice", "out_token", "'out-alice'"),
+    ("alice", "asset", "'USD'"),
+    ("alice", "scale", "2"),
+    ("alice", "cap", "1000000"),
+    ("alice", "ceiling", "1000000"),
+    ("alice", "credit", "1000000"),
+    ("alice", "burst", "100"),
+    ("alice", "per_second", "100"),
+    ("alice", "balance", ABSENT),
+    ("bob", "", PEER),
+    ("bob", "name", "'bob'"),
+    ("bob", "role", "'child'"),
+    ("bob", "token", "'tok-bob'"),
+    ("bob", "url", "'http://127.0.0.1:7802/ilp'"),
+    ("bob", "out_token", "'out-bob'"),
+    ("bob", "asset", "'XRP'"),
+    ("bob", "scale", "9"),
+    ("bob", "cap", "1000000"),
+    ("bob", "ceiling", "1000000"),
+    ("bob", "credit", "1000000"),
+    ("bob", "burst", "100"),
+    ("bob", "per_second", "100"),
+    ("bob", "balance", ABSENT),
+    ("carol", "", ABSENT),
+    ("carol", "name", "'carol'"),
+    ("carol", "role", "'peer'"),
+    ("carol", "token", "'tok-carol'"),
+    ("carol", "url", "'http://127.0.0.1:7803/ilp'"),
+    ("carol", "out_token", "'out-carol'"),
+    ("carol", "asset", "'EUR'"),
+    ("carol", "scale", "2"),
+    ("carol", "cap", "1000000"),
+    ("carol", "ceiling", "1000000"),
+    ("carol", "credit", "1000000"),
+    ("carol", "burst", "100"),
+    ("carol", "per_second", "100"),
+    ("route before", "", ABSENT),
+    ("route before", "prefix", "'g.acme'"),
+    ("route before", "peer", "'alice'"),
+    ("route", "", ROUTE),
+    ("route", "prefix", "'g.acme.bob'"),
+    ("route", "peer", "'bob'"),
+    ("route after", "", ABSENT),
+    ("route after", "prefix", "'*'"),
+    ("route after", "peer", "'alice'"),
+    ("rate before", "", ABSENT),
+    ("rate before", "from", "'alice'"),
+    ("rate before", "to", "'carol'"),
+    ("rate before", "num", "2"),
+    ("rate before", "den", "1"),
+    ("empty rate", "", ABSENT),
+    ("rate", "", RATE),
+    ("rate", "from", "'alice'"),
+    ("rate", "to", "'bob'"),
+    ("rate", "num", "3"),
+    ("rate", "den", "2"),
+    ("rate back", "", ABSENT),
+    ("rate back", "from", "'bob'"),
+    ("rate back", "to", "'alice'"),
+    ("rate back", "num", "7"),
+    ("rate back", "den", "1"),
+    ("rate after", "", ABSENT),
+    ("rate after", "from", "'alice'"),
+    ("rate after", "to", "'bob'"),
+    ("rate after", "num", "1"),
+    ("rate after", "den", "2"),
+    ("second tenant", "", ABSENT),
+    ("second tenant", "name", ABSENT),
+];
+
+/// The usual setup with the values of these lines in place of its own. Each names a line of `USUAL`.
+pub fn setup_with(alloc: Global, changes: &[Line]) -> Result<String, Fail> {
+    let mut lines = USUAL;
+    for (table, key, value) in changes {
+        let line = lines
+            .iter_mut()
+            .find(|line| line.0 == *table && line.1 == *key)
+            .ok_or("a line of the setup")?;
+        line.2 = *value;
+    }
+    let mut text = String::new(alloc);
+    let mut is_in = true;
+    for (_, key, value) in lines {
+        let is_header = key.is_empty();
+        if is_header {
+            is_in = value != ABSENT;
+        }
+        if !is_in || value == ABSENT {
+            continue;
+        }
+        if is_header {
+            writeln!(text, "{value}")?;
+        } else {
+            writeln!(text, "{key} = {value}")?;
+        }
+    }
+    Ok(text.replace(alloc, "'", "\"")?)
+}
