@@ -20,8 +20,3 @@ pub drop-overwritten : (old : List ℕ) (at : ℕ) (bytes : List ℕ) → at ≤
 drop-overwritten old at bytes within =
     ap (drop at) (append_assoc (take at old) bytes (drop (at + length bytes) old))
     ∙ drop_at (take at old) (bytes ++ drop (at + length bytes) old) at (length-take-le at old within)
-
--- one more write behind what was written from the front on
-pub overwritten_next : (old done bytes x y : List ℕ) (at : ℕ) → x ≡ overwritten old 0 done → at ≡ length done → y ≡ overwritten x at bytes → length done ≤ length old → y ≡ overwritten old 0 (done ++ bytes)
-overwritten_next old done bytes x y at is place then fits =
-    then ∙ ap (λ (z : List ℕ). overwritten z at bytes) is ∙ ap (λ (k : ℕ). overwritten (overwritten old 0 done) k bytes) (omega arith) ∙ overwritten_twice old 0 done bytes (omega arith)
