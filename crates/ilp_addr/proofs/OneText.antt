@@ -1,10 +1,10 @@
 -- Each moment has one text.
-use Rattle.std.proofs.Common.{◌≡◌, ◌<◌, ◌≤◌, ◌/◌, ◌%◌, ℕ, List, sym, ap, ◌∙◌, arith, ℤ, pos}
+use Rattle.std.proofs.Common.{◌≡◌, ◌<◌, ◌≤◌, ◌/◌, ◌%◌, ℕ, List, sym, ap, ◌∙◌, arith, ℤ, pos, negsuc}
 use Rattle.jiff_core.specs.declared.civil.date.Date.{Date}
 use Rattle.jiff_core.specs.Calendar.{IsCivilDate, days_from_civil}
 use Rattle.jiff_core.proofs.SignedLemmas.{signed_arith}
 use Rattle.jiff_core.proofs.DateLemmas.{epoch_day_injective, epoch_day_range}
-use Rattle.ilp_addr.specs.Timestamp.{IsTimestamp, year_of, month_of, day_of, millis_of_day, millis_at, instant_of, moment_of, latest, calendar_text, year_after, month_after, text_of_day, timestamp_of}
+use Rattle.ilp_addr.specs.Timestamp.{IsTimestamp, year_of, month_of, day_of, millis_of_day, millis_at, instant_of, moment_of, latest_expiry, nearest_moment, calendar_text, year_after, month_after, text_of_day, timestamp_of}
 use Rattle.ilp_addr.proofs.Countdown.{date_of_day}
 use Rattle.ilp_addr.proofs.CalendarText.{text_is, text_names, text_of_parts, millis_bound}
 
@@ -44,9 +44,18 @@ text_has_moment m low =
     let t = day_text (m / 86_400_000) (m % 86_400_000) (omega arith) (omega arith) in
     (t.0, t.1 ∙ ap pos (omega arith))
 
-pub moment_is_back : (m : ℕ) → m ≤ latest → moment_of (timestamp_of m) ≡ m
+pub moment_is_back : (m : ℕ) → m ≤ latest_expiry → moment_of (timestamp_of m) ≡ m
 unfolding moment_of
 moment_is_back m low = rw ((text_has_moment m (omega arith)).1) (omega arith)
+
+nearest_bound : (n : ℤ) → nearest_moment n ≤ latest_expiry
+nearest_bound (pos millis) = omega arith
+nearest_bound (negsuc millis) = omega arith
+
+-- no text is read as a later moment than the latest
+pub moment_bound : (text : List ℕ) → moment_of text ≤ latest_expiry
+unfolding moment_of
+moment_bound text = nearest_bound (instant_of text)
 
 instant_bound : (s : List ℕ) (m : ℕ) → IsTimestamp s → instant_of s ≡ pos m → m < 253_402_300_800_000
 unfolding instant_of millis_at

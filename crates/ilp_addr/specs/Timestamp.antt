@@ -90,13 +90,17 @@ millis_at day millis = pos 86_400_000 *ℤ day +ℤ pos millis
 unfoldable pub instant_of : List ℕ → ℤ
 instant_of text = millis_at (day_number_of text) (millis_of_day text)
 
--- 9999-12-30T00:00, the last moment that an expiry is read as
-abbrev pub latest : ℕ
-latest = 253_402_128_000_000
+-- the greatest moment that may be handed in, in the year 9999
+abbrev pub last_moment : ℕ
+last_moment = 253_400_000_000_000
+
+-- 9999-12-30T00:00, the latest moment that an expiry is read as
+abbrev pub latest_expiry : ℕ
+latest_expiry = 253_402_128_000_000
 
 -- the nearest of the moments from 1970-01-01T00:00 to 9999-12-30T00:00
 abbrev pub nearest_moment : ℤ → ℕ
-nearest_moment (pos millis) = min millis latest
+nearest_moment (pos millis) = min millis latest_expiry
 nearest_moment (negsuc millis) = 0
 
 -- the moment that the text is read as
