@@ -1,6 +1,6 @@
 use Rattle.std.proofs.Common.{◌≡◌, drop, None}
 use Rattle.std.specs.Option.{option_copied}
-use Rattle.route_table.specs.Rows.{longest_row}
+use Rattle.route_table.proofs.RowSearch.{longest_row}
 use Rattle.route_table.proofs.rows.longest_match.Given as goal
 
 abbrev pub invariant-loop-row : goal.invariant-loop-row
