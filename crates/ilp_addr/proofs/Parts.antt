@@ -44,10 +44,12 @@ unfolding address_at
 address_again bytes h = rw (le-ltb 1023 (length bytes) h.short) (parts_again bytes (segments bytes) h.parts)
 
 -- where a dot follows the first part, the rest is checked as segments
-pub checked : (bytes scheme rest : List ℕ) → segments bytes ≡ scheme ∷ segments rest → length bytes ≤ 1023 → is_scheme scheme ≡ true → list_all is_segment (segments rest) ≡ true → address_at bytes ≡ Ok bytes
+pub checked : (bytes scheme rest : List ℕ) → segments bytes ≡ scheme ∷ segments rest → length bytes ≤ 1023 → is_scheme scheme ≡ true
+    → list_all is_segment (segments rest) ≡ true → address_at bytes ≡ Ok bytes
 unfolding address_at
 checked bytes scheme rest cut short known fine =
-    elim (segments rest) as (λ (parts : List (List ℕ)). length parts ≡ count_by (λ b. eqb b 46) rest + 1 → segments bytes ≡ scheme ∷ parts → list_all is_segment parts ≡ true → cond (ltb 1023 (length bytes)) (Err Length) (parts_at bytes (segments bytes)) ≡ Ok bytes) [
+    elim (segments rest) as (λ (parts : List (List ℕ)). length parts ≡ count_by (λ b. eqb b 46) rest + 1 → segments bytes ≡ scheme ∷ parts
+    → list_all is_segment parts ≡ true → cond (ltb 1023 (length bytes)) (Err Length) (parts_at bytes (segments bytes)) ≡ Ok bytes) [
       | [] ↦ λ some e f. absurd (omega arith)
       | first ∷ others ↦ λ some e f. rw (le-ltb 1023 (length bytes) short, e, known, f) refl
     ] (length-slice_split (λ b. eqb b 46) rest) cut fine
@@ -105,5 +107,6 @@ pub found_prefix : (bytes : List ℕ) (r : Result (List ℕ) (ReadError AddrFaul
 found_prefix bytes (Ok p) h = prefix_at_found bytes p h
 found_prefix bytes (Err e) h = tt
 
-pub only_prefix : (bytes : List ℕ) (r : Result (List ℕ) (ReadError AddrFault)) → GivesUnlessMemory (λ p. p) r (prefix_at bytes) → bytes ≢ 46 ∷ [] → IsPrefix (without_last_dot bytes) → GivesUnlessMemory (λ p. p) r (Ok (without_last_dot bytes))
+pub only_prefix : (bytes : List ℕ) (r : Result (List ℕ) (ReadError AddrFault)) → GivesUnlessMemory (λ p. p) r (prefix_at bytes) → bytes ≢ 46 ∷ []
+    → IsPrefix (without_last_dot bytes) → GivesUnlessMemory (λ p. p) r (Ok (without_last_dot bytes))
 only_prefix bytes r h other p = subst (GivesUnlessMemory (λ p. p) r) (prefix_at_again bytes other p) h

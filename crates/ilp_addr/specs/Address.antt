@@ -102,11 +102,11 @@ prefix_at bytes =
 
 -- the first segments are the prefix's, and others may follow
 abbrev pub Begins : List (List ℕ) → List (List ℕ) → Type 0
-Begins prefix segments = (rest : List (List ℕ)) × (segments ≡ prefix ++ rest)
+Begins prefix parts = (rest : List (List ℕ)) × (parts ≡ prefix ++ rest)
 
 -- the test of Begins
 unfoldable pub begins_with : List (List ℕ) → List (List ℕ) → Bool
-begins_with [] segments = true
+begins_with [] parts = true
 begins_with (first ∷ prefix) [] = false
-begins_with (first ∷ prefix) (segment ∷ segments) =
-    bytes_eq first segment && begins_with prefix segments
+begins_with (first ∷ prefix) (part ∷ parts) =
+    bytes_eq first part && begins_with prefix parts

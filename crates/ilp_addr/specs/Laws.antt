@@ -20,8 +20,8 @@ pub record PrefixLaws : Type 0 where
   pub prefix_is_read : (bytes : List ℕ) → bytes ≢ 46 ∷ [] → IsPrefix (without_last_dot bytes)
       → prefix_at bytes ≡ Ok (without_last_dot bytes)
   -- The test of segments says whether the segments of a prefix come first.
-  pub begins_with_decides : (prefix segments : List (List ℕ))
-      → IsTrue (begins_with prefix segments) ↔ Begins prefix segments
+  pub begins_with_decides : (prefix parts : List (List ℕ))
+      → IsTrue (begins_with prefix parts) ↔ Begins prefix parts
 
 -- Timestamps: reading agrees with what they are, and each moment has one (RFC 0027, "ILP Prepare").
 pub record TimestampLaws : Type 0 where

@@ -82,13 +82,13 @@ unfoldable pub millis_of_day : List ℕ → ℕ
 millis_of_day text =
     3_600_000 * hour_of text + 60_000 * minute_of text + 1000 * second_of text + millisecond_of text
 
--- the milliseconds of that many days, and more
-unfoldable pub millis_at : ℤ → ℕ → ℤ
-millis_at day millis = pos 86_400_000 *ℤ day +ℤ pos millis
+-- the milliseconds to a time of the day of that number, negative before 1970
+unfoldable pub instant_on : ℤ → ℕ → ℤ
+instant_on day millis = pos 86_400_000 *ℤ day +ℤ pos millis
 
 -- the milliseconds from 1970-01-01T00:00 to the moment that the text names, negative before it
 unfoldable pub instant_of : List ℕ → ℤ
-instant_of text = millis_at (day_number_of text) (millis_of_day text)
+instant_of text = instant_on (day_number_of text) (millis_of_day text)
 
 -- the greatest moment that may be handed in, in the year 9999
 abbrev pub last_moment : ℕ

@@ -11,7 +11,8 @@ overwritten_twice old at a b fits =
     let len : length front ≡ at + length a = omega (arith, length-append (take at old) a, length-take-le at old (omega arith)) in
     let kept : take (at + length a) (front ++ rest) ≡ front = take_at front rest (at + length a) len in
     let both : at + length a + length b ≡ at + length (a ++ b) = omega (arith, length-append a b) in
-    let passed : drop (at + length a + length b) (front ++ rest) ≡ drop (at + length (a ++ b)) old = drop-append-drop (at + length a) old front (at + length a + length b) (omega arith) len ∙ ap (λ (k : ℕ). drop k old) both in
+    let passed : drop (at + length a + length b) (front ++ rest) ≡ drop (at + length (a ++ b)) old =
+    drop-append-drop (at + length a) old front (at + length a + length b) (omega arith) len ∙ ap (λ (k : ℕ). drop k old) both in
     ap (λ (x : List ℕ). x ++ b ++ drop (at + length a + length b) (front ++ rest)) kept
     ∙ ap (λ (x : List ℕ). front ++ b ++ x) passed
     ∙ ap (λ (x : List ℕ). x ++ drop (at + length (a ++ b)) old) (append_assoc (take at old) a b)
