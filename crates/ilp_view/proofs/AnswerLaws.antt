@@ -72,7 +72,17 @@ fulfill_again laws frame p is = rw (envelope_again laws 13 frame p.contents_leng
 -- ---- a Reject
 
 abbrev reject_parts : List ℕ → Pair → Triple → Triple → Triple → Reject
-reject_parts spelling code triggered_by message payload = record { contents_length = spelling; code = code.0; triggered_by_length = triggered_by.0; triggered_by = triggered_by.1; message_length = message.0; message = message.1; data_length = payload.0; payload = payload.1; extra = payload.2 }
+reject_parts spelling code triggered_by message payload = record {
+  contents_length = spelling;
+  code = code.0;
+  triggered_by_length = triggered_by.0;
+  triggered_by = triggered_by.1;
+  message_length = message.0;
+  message = message.1;
+  data_length = payload.0;
+  payload = payload.1;
+  extra = payload.2;
+}
 
 abbrev made_reject : List ℕ → Pair → Triple → Triple → Triple → Result Reject ViewFault
 made_reject spelling code triggered_by message payload = Ok (reject_parts spelling code triggered_by message payload)
@@ -95,7 +105,8 @@ record TakesReject (spelling contents : List ℕ) (p : Reject) : Type 0 where
   pub data_length : IsLength p.data_length (length p.payload)
   pub payload : length p.payload ≤ 32768
 
-four_joined : (all a after_a s t after_t m n after_n f : List ℕ) → all ≡ a ++ after_a → after_a ≡ s ++ (t ++ after_t) → after_t ≡ m ++ (n ++ after_n) → after_n ≡ f → all ≡ a ++ (s ++ (t ++ (m ++ (n ++ f))))
+four_joined : (all a after_a s t after_t m n after_n f : List ℕ) → all ≡ a ++ after_a → after_a ≡ s ++ (t ++ after_t) → after_t ≡ m ++ (n ++ after_n)
+    → after_n ≡ f → all ≡ a ++ (s ++ (t ++ (m ++ (n ++ f))))
 four_joined all a after_a s t after_t m n after_n f p q r u = cc
 
 reject_fields_take : LawsBelow → (spelling contents : List ℕ) (p : Reject) → reject_fields spelling contents ≡ Ok p → TakesReject spelling contents p
@@ -111,7 +122,8 @@ reject_fields_take laws spelling contents p read =
     let tf = data_takes laws m.0.2 f.0 f.1 in
     let whole = four_joined contents a.0.0 a.0.1 t.0.0 t.0.1 t.0.2 m.0.0 m.0.1 m.0.2 (f.0.0 ++ (f.0.1 ++ f.0.2)) ta.0 tt'.0 tm.0 tf.0 in
     let same : reject_parts spelling a.0 t.0 m.0 f.0 ≡ p = same_ok (reject_parts spelling a.0 t.0 m.0 f.0) p f.2 in
-    subst (λ (q : Reject). TakesReject spelling contents q) {x = reject_parts spelling a.0 t.0 m.0 f.0} same (record { same_spelling = refl {a = spelling}; same_contents = whole; code = ta.1; triggered_by_length = tt'.1; message_length = tm.1; data_length = tf.1; payload = tf.2 })
+    subst (λ (q : Reject). TakesReject spelling contents q) {x = reject_parts spelling a.0 t.0 m.0 f.0} same
+    (record { same_spelling = refl {a = spelling}; same_contents = whole; code = ta.1; triggered_by_length = tt'.1; message_length = tm.1; data_length = tf.1; payload = tf.2 })
 
 pub reject_takes : LawsBelow → (frame : List ℕ) (p : Reject) → reject_at frame ≡ Ok p → IsReject frame p
 unfolding reject_at
@@ -144,7 +156,8 @@ strings_size a s t m n f small =
 reject_fields_again : LawsBelow → (frame : List ℕ) (p : Reject) → IsReject frame p → reject_fields p.contents_length (reject_contents p) ≡ Ok p
 unfolding reject_fields
 reject_fields_again laws frame p is =
-    let sizes = strings_size p.code p.triggered_by_length p.triggered_by p.message_length p.message (p.data_length ++ (p.payload ++ p.extra)) (contents_size frame 14 p.contents_length (reject_contents p) is.framed) in
+    let sizes = strings_size p.code p.triggered_by_length p.triggered_by p.message_length p.message (p.data_length ++ (p.payload ++ p.extra))
+    (contents_size frame 14 p.contents_length (reject_contents p) is.framed) in
     rw (
       fixed_again 3 p.code (p.triggered_by_length ++ (p.triggered_by ++ (p.message_length ++ (p.message ++ (p.data_length ++ (p.payload ++ p.extra)))))) is.code,
       string_again laws p.triggered_by_length p.triggered_by (p.message_length ++ (p.message ++ (p.data_length ++ (p.payload ++ p.extra)))) is.triggered_by_length sizes.0,

@@ -69,7 +69,15 @@ unfolding string_at
 string_again laws spelling text rest spelled short =
     let dropped : drop (length spelling) (spelling ++ (text ++ rest)) ≡ text ++ rest = drop_at spelling (text ++ rest) (length spelling) refl in
     let long : ltb (length (text ++ rest)) (length text) ≡ false = le-ltb _ _ (omega (arith, length-append text rest)) in
-    rw (laws.lengths.spelled_is_read max_frame (length text) spelling (text ++ rest) spelled short, dropped, long, take_at spelling (text ++ rest) (length spelling) refl, take_at text rest (length text) refl, drop_at text rest (length text) refl) refl
+    rw (
+      laws.lengths.spelled_is_read max_frame (length text) spelling (text ++ rest) spelled short,
+      dropped,
+      long,
+      take_at spelling (text ++ rest)
+          (length spelling) refl,
+      take_at text rest (length text) refl,
+      drop_at text rest (length text) refl,
+    ) refl
 
 -- ---- an expiry
 

@@ -21,7 +21,17 @@ Triple = List ℕ × List ℕ × List ℕ
 
 -- what is made of the fields that were read
 abbrev parts : List ℕ → ℕ × List ℕ → Pair → Pair → Triple → Triple → Prepare
-parts spelling amount expiry condition destination payload = record { contents_length = spelling; amount = amount.0; expiry = expiry.0; condition = condition.0; destination_length = destination.0; destination = destination.1; data_length = payload.0; payload = payload.1; extra = payload.2 }
+parts spelling amount expiry condition destination payload = record {
+  contents_length = spelling;
+  amount = amount.0;
+  expiry = expiry.0;
+  condition = condition.0;
+  destination_length = destination.0;
+  destination = destination.1;
+  data_length = payload.0;
+  payload = payload.1;
+  extra = payload.2;
+}
 
 abbrev made : List ℕ → ℕ × List ℕ → Pair → Pair → Triple → Triple → Result Prepare ViewFault
 made spelling amount expiry condition destination payload = Ok (parts spelling amount expiry condition destination payload)
@@ -50,7 +60,8 @@ record Takes (spelling contents : List ℕ) (p : Prepare) : Type 0 where
   pub data_length : IsLength p.data_length (length p.payload)
   pub payload : length p.payload ≤ 32768
 
-joined : (all a after_a e after_e c after_c s d after_d f : List ℕ) → all ≡ a ++ after_a → after_a ≡ e ++ after_e → after_e ≡ c ++ after_c → after_c ≡ s ++ (d ++ after_d) → after_d ≡ f → all ≡ a ++ (e ++ (c ++ (s ++ (d ++ f))))
+joined : (all a after_a e after_e c after_c s d after_d f : List ℕ) → all ≡ a ++ after_a → after_a ≡ e ++ after_e → after_e ≡ c ++ after_c
+    → after_c ≡ s ++ (d ++ after_d) → after_d ≡ f → all ≡ a ++ (e ++ (c ++ (s ++ (d ++ f))))
 joined all a after_a e after_e c after_c s d after_d f p q r t u = cc
 
 fields_take : LawsBelow → (spelling contents : List ℕ) (p : Prepare) → AreBytes contents → prepare_fields spelling contents ≡ Ok p → Takes spelling contents p
@@ -68,7 +79,18 @@ fields_take laws spelling contents p fits read =
     let tf = data_takes laws d.0.2 f.0 f.1 in
     let whole = joined contents (to_be_bytes w64 a.0.0) a.0.1 e.0.0 e.0.1 c.0.0 c.0.1 d.0.0 d.0.1 d.0.2 (f.0.0 ++ (f.0.1 ++ f.0.2)) ta.1 te.0 tc.0 td.0 tf.0 in
     let same : parts spelling a.0 e.0 c.0 d.0 f.0 ≡ p = same_ok (parts spelling a.0 e.0 c.0 d.0 f.0) p f.2 in
-    subst (λ (q : Prepare). Takes spelling contents q) {x = parts spelling a.0 e.0 c.0 d.0 f.0} same (record { same_spelling = refl {a = spelling}; same_contents = whole; amount = ta.0; expiry = te.1; condition = tc.1; destination_length = td.1; destination = td.2; data_length = tf.1; payload = tf.2 })
+    subst (λ (q : Prepare). Takes spelling contents q) {x = parts spelling a.0 e.0 c.0 d.0 f.0} same
+    (record {
+      same_spelling = refl {a = spelling};
+      same_contents = whole;
+      amount = ta.0;
+      expiry = te.1;
+      condition = tc.1;
+      destination_length = td.1;
+      destination = td.2;
+      data_length = tf.1;
+      payload = tf.2;
+    })
 
 AreBytes-contents : (frame front contents : List ℕ) → frame ≡ front ++ contents → AreBytes frame → AreBytes contents
 AreBytes-contents frame front contents e fits = λ i. subst (λ (b : ℕ). b < 256) (ap (λ (x : List ℕ). get_or x (length front + i) 0) e ∙ get_or-append-add front contents i 0) (fits (length front + i))
@@ -107,14 +129,16 @@ unfolding prepare_at
 prepare_again laws frame p is = rw (envelope_again laws 12 frame p.contents_length (prepare_contents p) is.framed) (fields_again laws frame p is)
 
 -- another amount and another date leave the frame a Prepare
-pub replaced_is : (p : Prepare) (amount : ℕ) (text : List ℕ) → IsPrepare (prepare_frame p) p → amount < 2 ^ 64 → IsTimestamp text → IsPrepare (prepare_frame (record p { amount = amount; expiry = text })) (record p { amount = amount; expiry = text })
+pub replaced_is : (p : Prepare) (amount : ℕ) (text : List ℕ) → IsPrepare (prepare_frame p) p → amount < 2 ^ 64 → IsTimestamp text → IsPrepare
+    (prepare_frame (record p { amount = amount; expiry = text })) (record p { amount = amount; expiry = text })
 replaced_is p amount text is small date =
     let q : Prepare = record p { amount = amount; expiry = text } in
     let rest : List ℕ = p.condition ++ (p.destination_length ++ (p.destination ++ (p.data_length ++ (p.payload ++ p.extra)))) in
     let before : length (to_be_bytes w64 p.amount ++ (p.expiry ++ rest)) ≡ 8 + length (p.expiry ++ rest) = length-append (to_be_bytes w64 p.amount) (p.expiry ++ rest) in
     let after : length (to_be_bytes w64 amount ++ (text ++ rest)) ≡ 8 + length (text ++ rest) = length-append (to_be_bytes w64 amount) (text ++ rest) in
     let same : length (prepare_contents p) ≡ length (prepare_contents q) = omega (arith, length-append p.expiry rest, length-append text rest, is.expiry.len, date.len) in
-    let size : length (prepare_frame q) ≤ 34000 = omega (arith, length-append (12 ∷ p.contents_length) (prepare_contents p), length-append (12 ∷ p.contents_length) (prepare_contents q), is.framed.size) in
+    let size : length (prepare_frame q) ≤ 34000 =
+    omega (arith, length-append (12 ∷ p.contents_length) (prepare_contents p), length-append (12 ∷ p.contents_length) (prepare_contents q), is.framed.size) in
     record {
       framed = record { bytes = refl; spelled = subst (λ (n : ℕ). IsLength p.contents_length n) same is.framed.spelled; size = size };
       amount = small;

@@ -47,7 +47,8 @@ fulfill_within laws fulfillment payload len small =
     omega arith
 
 -- one more write behind what was written from the front on
-overwritten_next : WritingLaws → (old done bytes x y : List ℕ) (at : ℕ) → x ≡ overwritten old 0 done → at ≡ length done → y ≡ overwritten x at bytes → length done ≤ length old → y ≡ overwritten old 0 (done ++ bytes)
+overwritten_next : WritingLaws → (old done bytes x y : List ℕ) (at : ℕ) → x ≡ overwritten old 0 done → at ≡ length done → y ≡ overwritten x at bytes
+    → length done ≤ length old → y ≡ overwritten old 0 (done ++ bytes)
 overwritten_next laws old done bytes x y at is place then fits =
     then
     ∙ ap (λ (z : List ℕ). overwritten z at bytes) is

@@ -16,7 +16,8 @@ reject_regrouped : (code s t r m q p : List ℕ) → code ++ ((s ++ t) ++ ((r ++
 reject_regrouped code s t r m q p = simp (append_assoc, append-nil)
 
 -- a frame whose contents stand in the same bytes, grouped in another way
-written_frame : LengthLaws → (kind : ℕ) (contents others : List ℕ) → contents ≡ others → length (kind ∷ octet_string contents) ≤ max_frame → IsFrame (kind ∷ octet_string contents) kind (shortest_length (length contents)) others
+written_frame : LengthLaws → (kind : ℕ) (contents others : List ℕ) → contents ≡ others → length (kind ∷ octet_string contents) ≤ max_frame
+    → IsFrame (kind ∷ octet_string contents) kind (shortest_length (length contents)) others
 written_frame laws kind contents others same small =
     let size : length contents < 2 ^ 64 = omega (arith, length-append (shortest_length (length contents)) contents) in
     record {
@@ -25,11 +26,13 @@ written_frame laws kind contents others same small =
       size = small;
     }
 
-pub written_fulfill_read : LawsBelow → (fulfillment payload : List ℕ) → length fulfillment ≡ 32 → length payload ≤ max_data → fulfill_at (fulfill_frame fulfillment payload) ≡ Ok (written_fulfill fulfillment payload)
+pub written_fulfill_read : LawsBelow → (fulfillment payload : List ℕ) → length fulfillment ≡ 32 → length payload ≤ max_data
+    → fulfill_at (fulfill_frame fulfillment payload) ≡ Ok (written_fulfill fulfillment payload)
 written_fulfill_read laws fulfillment payload len small =
     let contents : List ℕ = fulfillment ++ octet_string payload in
     let w = written_fulfill fulfillment payload in
-    let framed = written_frame laws.lengths 13 contents (fulfill_contents w) (fulfill_regrouped fulfillment (shortest_length (length payload)) payload) (fulfill_within laws.lengths fulfillment payload len small) in
+    let framed = written_frame laws.lengths 13 contents (fulfill_contents w) (fulfill_regrouped fulfillment (shortest_length (length payload)) payload)
+    (fulfill_within laws.lengths fulfillment payload len small) in
     fulfill_again laws (fulfill_frame fulfillment payload) w record {
       framed = framed;
       fulfillment = len;
@@ -37,7 +40,8 @@ written_fulfill_read laws fulfillment payload len small =
       payload = small;
     }
 
-pub written_reject_read : LawsBelow → (code t m p : List ℕ) → length code ≡ 3 → length p ≤ max_data → length (reject_frame code t m p) ≤ max_frame → reject_at (reject_frame code t m p) ≡ Ok (written_reject code t m p)
+pub written_reject_read : LawsBelow → (code t m p : List ℕ) → length code ≡ 3 → length p ≤ max_data → length (reject_frame code t m p) ≤ max_frame
+    → reject_at (reject_frame code t m p) ≡ Ok (written_reject code t m p)
 written_reject_read laws code t m p len small fits =
     let contents : List ℕ = code ++ (octet_string t ++ (octet_string m ++ octet_string p)) in
     let w = written_reject code t m p in

@@ -206,7 +206,8 @@ placed rows k distinct (Some i) stands =
       distinct = AreDistinct-remove rows stands.0 k distinct stands.2;
     }
 
-pub position_placed : (rows : List Row) (routes : RouteMap) (k : List ℕ) (o : Option ℕ) → routes_of rows ≡ routes → AreDistinct rows → o ≡ position_from (λ row. bytes_eq row.0 k) 0 rows → Placed rows routes k o
+pub position_placed : (rows : List Row) (routes : RouteMap) (k : List ℕ) (o : Option ℕ) → routes_of rows ≡ routes → AreDistinct rows
+    → o ≡ position_from (λ row. bytes_eq row.0 k) 0 rows → Placed rows routes k o
 position_placed rows routes k o view distinct e =
     let P : RouteMap → Type 0 = λ m. Placed rows m k o in
     subst P view (placed rows k distinct o (subst (Stands rows k 0) (sym e) (position_stands rows k 0)))
@@ -216,7 +217,8 @@ present_placed rows routes k None new = new.absent
 present_placed rows routes k (Some i) here = here.present
 
 -- the search finds the prefix where it has a route
-pub position_present : (rows : List Row) (routes : RouteMap) (k : List ℕ) (o : Option ℕ) → routes_of rows ≡ routes → AreDistinct rows → o ≡ position_from (λ row. bytes_eq row.0 k) 0 rows → map.contains_key routes k ≡ is_some o
+pub position_present : (rows : List Row) (routes : RouteMap) (k : List ℕ) (o : Option ℕ) → routes_of rows ≡ routes → AreDistinct rows
+    → o ≡ position_from (λ row. bytes_eq row.0 k) 0 rows → map.contains_key routes k ≡ is_some o
 position_present rows routes k o view distinct e =
     present_placed rows routes k o (position_placed rows routes k o view distinct e)
 
@@ -224,7 +226,8 @@ new_of : (rows : List Row) (routes : RouteMap) (k : List ℕ) (o : Option ℕ) �
 new_of rows routes k None none new = new
 new_of rows routes k (Some i) none here = absurd cc
 
-pub position_new : (rows : List Row) (routes : RouteMap) (k : List ℕ) (o : Option ℕ) → is_some o ≡ false → routes_of rows ≡ routes → AreDistinct rows → o ≡ position_from (λ row. bytes_eq row.0 k) 0 rows → IsNew rows routes k
+pub position_new : (rows : List Row) (routes : RouteMap) (k : List ℕ) (o : Option ℕ) → is_some o ≡ false → routes_of rows ≡ routes → AreDistinct rows
+    → o ≡ position_from (λ row. bytes_eq row.0 k) 0 rows → IsNew rows routes k
 position_new rows routes k o none view distinct e =
     new_of rows routes k o none (position_placed rows routes k o view distinct e)
 

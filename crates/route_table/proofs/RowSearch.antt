@@ -49,7 +49,9 @@ pass-put : (p : ℕ → Bool) (k : List ℕ) (n : ℕ) (es : List Row) → route
 pass-put p k n [] none = refl
 pass-put p k n (e ∷ es) none = placed (slice_cmp nat_cmp k e.0) none (λ later. pass-put p k n es later)
   where
-    placed : (o : Ordering) → cond (is_eq o) (Some e.1) (route k es) ≡ None → (route k es ≡ None → list_all (λ row. p row.1) (put (slice_cmp nat_cmp) k n es) ≡ (p n && list_all (λ row. p row.1) es)) → list_all (λ row. p row.1) (by_order o ((k, n) ∷ e ∷ es) ((e.0, n) ∷ es) (e ∷ put (slice_cmp nat_cmp) k n es)) ≡ (p n && (p e.1 && list_all (λ row. p row.1) es))
+    placed : (o : Ordering) → cond (is_eq o) (Some e.1) (route k es) ≡ None →
+        (route k es ≡ None → list_all (λ row. p row.1) (put (slice_cmp nat_cmp) k n es) ≡ (p n && list_all (λ row. p row.1) es)) → list_all (λ row. p row.1)
+        (by_order o ((k, n) ∷ e ∷ es) ((e.0, n) ∷ es) (e ∷ put (slice_cmp nat_cmp) k n es)) ≡ (p n && (p e.1 && list_all (λ row. p row.1) es))
     placed Less none rest = refl
     placed Equal none rest = absurd cc
     placed Greater none rest = ap (λ b. p e.1 && b) (rest none) ∙ and_swap (p e.1) (p n) _
@@ -90,12 +92,14 @@ longest_row d best [] = best
 longest_row d best (row ∷ rows) = longest_row d (better_row d best row) rows
 
 -- what the tests of a row leave as the best so far
-pub better_row-taken : (d : List ℕ) (best : Option Row) (row : Row) (begins longer : Bool) → begins ≡ begins_with (prefix_segments row.0) (segments d) → longer ≡ is_longer row.0 best → (begins && longer) ≡ true → better_row d best row ≡ Some row
+pub better_row-taken : (d : List ℕ) (best : Option Row) (row : Row) (begins longer : Bool) → begins ≡ begins_with (prefix_segments row.0) (segments d)
+    → longer ≡ is_longer row.0 best → (begins && longer) ≡ true → better_row d best row ≡ Some row
 better_row-taken d best row begins longer b l e =
     let both = and_parts begins longer e in
     rw (sym b ∙ both.0, sym l ∙ both.1) refl
 
-pub better_row-left : (d : List ℕ) (best : Option Row) (row : Row) (begins longer : Bool) → begins ≡ begins_with (prefix_segments row.0) (segments d) → longer ≡ is_longer row.0 best → (begins && longer) ≡ false → better_row d best row ≡ best
+pub better_row-left : (d : List ℕ) (best : Option Row) (row : Row) (begins longer : Bool) → begins ≡ begins_with (prefix_segments row.0) (segments d)
+    → longer ≡ is_longer row.0 best → (begins && longer) ≡ false → better_row d best row ≡ best
 better_row-left d best row true longer b l e = rw (sym b, sym l ∙ e) refl
 better_row-left d best row false longer b l e = rw (sym b) refl
 
@@ -166,12 +170,14 @@ longest_covers laws d best (x ∷ rows) r (inl e) =
     subst P (sym e) (longest_keeps laws d (better_row d best x) rows x (better_covers laws d best x))
 longest_covers laws d best (x ∷ rows) r (inr i) = longest_covers laws d (better_row d best x) rows r i
 
-longest_sound : PrefixLaws → (d : List ℕ) (all : List Row) (best : Option Row) (rows : List Row) → ((r : Row) → InRows r rows → InRows r all) → IsSound d all best → IsSound d all (longest_row d best rows)
+longest_sound : PrefixLaws → (d : List ℕ) (all : List Row) (best : Option Row) (rows : List Row) → ((r : Row) → InRows r rows → InRows r all)
+    → IsSound d all best → IsSound d all (longest_row d best rows)
 longest_sound laws d all best [] among sound = sound
 longest_sound laws d all best (x ∷ rows) among sound =
     longest_sound laws d all (better_row d best x) rows (λ r i. among r (inr i)) (better_sound laws d all best x (among x (inl refl)) sound)
 
-best_of : PrefixLaws → (rows : List Row) (d : List ℕ) → AreDistinct rows → (o : Option Row) → IsSound d rows o → ((r : Row) → InRows r rows → IsCovered d o r) → best_route (routes_of rows) d ≡ option_map (λ (row : Row). row.1) o
+best_of : PrefixLaws → (rows : List Row) (d : List ℕ) → AreDistinct rows → (o : Option Row) → IsSound d rows o
+    → ((r : Row) → InRows r rows → IsCovered d o r) → best_route (routes_of rows) d ≡ option_map (λ (row : Row). row.1) o
 best_of laws rows d distinct None sound covered =
     (best_route-None laws (routes_of rows) d).1
     (λ p n e. covered (p, n) (row_of rows p n (sym (get-routes_of rows p) ∙ e)))

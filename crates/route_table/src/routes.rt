@@ -6,7 +6,7 @@ ghost use Rattle.std.specs.List.{list_all};
 ghost use Rattle.route_table.specs.Routes.{RouteMap, IsBestRoute, HasNoRoute, NamesPeer, best_route, max_routes};
 
 use crate::fault::RouteFault;
-use crate::rows::{Row, longest_match, names, names_only_below, position_of};
+use crate::rows::{Row, best_row, names, names_only_below, position_of};
 use ilp_addr::laws::prefixes;
 use ilp_addr::{Address, Prefix};
 use std::alloc::{AllocError, Global};
@@ -117,7 +117,7 @@ impl Routes {
         ensures none { IfNone result (HasNoRoute self.now destination.now) }
     {
         prefixes();
-        let (_, peer) = longest_match(&self.rows, destination)?;
+        let (_, peer) = best_row(&self.rows, destination)?;
         Some(*peer)
     }
 

@@ -23,7 +23,7 @@ pub(crate) fn position_of(rows: &[Row], prefix: &Prefix) -> Option<usize>
 }
 
 /// The row with the most segments, of those whose prefixes begin the destination.
-pub(crate) fn longest_match<'r>(rows: &'r [Row], destination: &Address<'_>) -> Option<&'r Row>
+pub(crate) fn best_row<'r>(rows: &'r [Row], destination: &Address<'_>) -> Option<&'r Row>
     requires { AreDistinct rows.now }
     ensures { option_map (λ row. row.1) (option_copied result)
         ≡ best_route (from_entries rows.now) destination.now }

@@ -13,4 +13,5 @@ returns-clause-prepare c =
     let date = c.laws_below.ensures.timestamps.timestamp_of_is_one c.args.expiry (omega arith) in
     let made = replaced_is p amount text rules (omega arith) date in
     if_ok_then c.frame_with.result _ _ c.frame_with.ensures (λ v e.
-    subst (λ (f : List ℕ). IsPrepare f (record p { amount = amount; expiry = text })) (sym (e ∙ ap (λ (q : Prepare). with_amount_and_expiry q amount c.write.new.out) c.self.view_is ∙ ap (λ (t : List ℕ). with_amount_and_expiry p amount t) c.write.ensures)) made)
+    subst (λ (f : List ℕ). IsPrepare f (record p { amount = amount; expiry = text }))
+    (sym (e ∙ ap (λ (q : Prepare). with_amount_and_expiry q amount c.write.new.out) c.self.view_is ∙ ap (λ (t : List ℕ). with_amount_and_expiry p amount t) c.write.ensures)) made)

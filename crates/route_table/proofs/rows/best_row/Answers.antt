@@ -3,7 +3,7 @@ use Rattle.std.specs.Option.{option_copied, option_map}
 use Rattle.std.proofs.lemmas.List.{drop_all}
 use Rattle.route_table.specs.Rows.{Row}
 use Rattle.route_table.proofs.RowSearch.{longest_row, best_route-rows}
-use Rattle.route_table.proofs.rows.longest_match.Goals as goal
+use Rattle.route_table.proofs.rows.best_row.Goals as goal
 
 pub returns : goal.returns
 returns c =
