@@ -7,7 +7,6 @@ ghost use Rattle.route_table.specs.Routes.{RouteMap, IsBestRoute, HasNoRoute, Na
 
 use crate::fault::RouteFault;
 use crate::rows::{Row, best_row, names, names_only_below, position_of};
-use ilp_addr::laws::prefixes;
 use ilp_addr::{Address, Prefix};
 use std::alloc::{AllocError, Global};
 use std::marker::Model;
@@ -116,7 +115,7 @@ impl Routes {
             (prefix : List ℕ) × IsBestRoute self.now destination.now prefix peer) }
         ensures none { IfNone result (HasNoRoute self.now destination.now) }
     {
-        prefixes();
+        ilp_addr::laws::prefixes();
         let (_, peer) = best_row(&self.rows, destination)?;
         Some(*peer)
     }

@@ -9,7 +9,6 @@ ghost use Rattle.route_table.specs.Routes.{segment_count, best_route};
 ghost use Rattle.route_table.specs.Rows.{AreDistinct};
 
 use crate::routes::PeerNo;
-use ilp_addr::laws::prefixes;
 use ilp_addr::{Address, Prefix};
 
 /// A prefix, and the peer that packets for it go to.
@@ -28,7 +27,7 @@ pub(crate) fn best_row<'r>(rows: &'r [Row], destination: &Address<'_>) -> Option
     ensures { option_map (λ row. row.1) (option_copied result)
         ≡ best_route (from_entries rows.now) destination.now }
 {
-    prefixes();
+    ilp_addr::laws::prefixes();
     let mut best = None;
     for row in rows {
         if destination.begins_with(&row.0) && is_longer(&row.0, best) {
