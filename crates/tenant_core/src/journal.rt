@@ -1,7 +1,7 @@
 //! What a tenant's journal is made of.
 
-use crate::text::Text;
 use crate::verdict::Verdict;
+use common_types::Text;
 use ilp_addr::Address;
 use route_table::PeerNo;
 

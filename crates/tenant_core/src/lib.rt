@@ -3,7 +3,6 @@
 
 mod book;
 mod bucket;
-mod items;
 mod journal;
 mod judge;
 pub mod laws;
@@ -12,17 +11,14 @@ mod opening;
 mod purse;
 mod setup;
 mod terms;
-mod text;
 mod verdict;
 
 pub use book::Book;
-pub use items::Items;
 pub use journal::{DecideEntry, Entry, Outcome, PrepareKey, Record};
 pub use opening::{Opening, Peer};
 pub use route_table::PeerNo;
 pub use setup::TenantSetup;
 pub use terms::{PeerTerms, RateTerms, Role, TenantTerms};
-pub use text::Text;
 pub use verdict::{RejectCode, Verdict};
 
 #[cfg(test)]

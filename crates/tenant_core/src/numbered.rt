@@ -3,9 +3,9 @@
 ghost use Rattle.std.specs.Prelude.{◌≡◌, ◌≤◌, length, IfOk};
 ghost use Rattle.tenant_core.specs.State.{numbered};
 
-use crate::items::Items;
 use crate::opening::Peer;
 use crate::terms::PeerTerms;
+use common_types::Items;
 use route_table::PeerNo;
 use std::alloc::{AllocError, Global};
 

@@ -1,8 +1,7 @@
 //! What a period begins with.
 
-use crate::items::Items;
 use crate::terms::{PeerTerms, RateTerms};
-use crate::text::Text;
+use common_types::{Items, Text};
 use route_table::{PeerNo, Routes};
 
 /// A peer under its number, as a period finds it.

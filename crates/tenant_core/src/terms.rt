@@ -2,8 +2,7 @@
 
 ghost use Rattle.std.specs.Prelude.{◌≡◌, IfOk};
 
-use crate::items::Items;
-use crate::text::Text;
+use common_types::{Items, Text};
 use money_core::Rate;
 use route_table::{PeerNo, Routes};
 use std::alloc::{AllocError, Global};
