@@ -20,6 +20,3 @@ pub use route_table::PeerNo;
 pub use setup::TenantSetup;
 pub use terms::{PeerTerms, RateTerms, Role, TenantTerms};
 pub use verdict::{RejectCode, Verdict};
-
-#[cfg(test)]
-mod tests;
