@@ -20,7 +20,8 @@ use Rattle.tenant_core.specs.State.{State, numbered, added, peer_numbered, clock
 use Rattle.tenant_core.specs.Setup.{is_peer_within, is_tenant_setup}
 use Rattle.tenant_core.specs.Purse.{IsWithinBounds, balance_of, opening_balance, held_in_of, held_out_of, brought, sent, sent_by, is_over_ceiling, is_over_credit}
 use Rattle.tenant_core.specs.Judge.{peer_with_token, another, onward, held, priced, routed, admitted, is_full, judged, judge, decide_record, recording_peer, kept, decided, rate_between, stays_here, outgoing_expiry}
-use Rattle.tenant_core.specs.Bucket.{is_admitted, stretch_of}
+use Rattle.rate_bucket.specs.Bucket.{is_admitted}
+use Rattle.tenant_core.specs.Bucket.{stretch_of}
 use Rattle.route_table.specs.Routes.{best_route}
 use Rattle.money_core.specs.Price.{price_of}
 

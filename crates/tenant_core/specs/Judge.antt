@@ -7,7 +7,8 @@ use Rattle.ilp_addr.specs.Address.{segments}
 use Rattle.route_table.specs.Routes.{best_route}
 use Rattle.tenant_core.specs.Key.{Key}
 use Rattle.tenant_core.specs.State.{State, clock_of, open_holds, next_hold, peer_numbered, recorded}
-use Rattle.tenant_core.specs.Bucket.{stretch_of, is_admitted}
+use Rattle.rate_bucket.specs.Bucket.{is_admitted}
+use Rattle.tenant_core.specs.Bucket.{stretch_of}
 use Rattle.tenant_core.specs.Purse.{is_over_ceiling, is_over_credit}
 use Rattle.tenant_core.specs.declared.opening.Opening.{Opening}
 use Rattle.tenant_core.specs.declared.opening.Peer.{Peer}

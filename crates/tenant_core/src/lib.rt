@@ -5,7 +5,6 @@ mod book;
 mod bucket;
 mod journal;
 mod judge;
-pub mod laws;
 mod numbered;
 mod opening;
 mod purse;

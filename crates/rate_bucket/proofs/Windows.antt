@@ -1,40 +1,31 @@
--- Credit by windows, one admitted packet at a time.
-use Rattle.std.proofs.Common.{◌≡◌, ◌≤◌, ℕ, ◌+◌, ◌-◌, ◌*◌, List, [], ◌∷◌, ◌++◌, length, min, arith, refl, ap, subst}
+-- A bucket admits a packet where each window has room for it.
+use Rattle.std.proofs.Common.{◌≡◌, ◌≤◌, ℕ, ◌+◌, ◌*◌, List, [], ◌∷◌, ◌++◌, length, arith, refl, ap, subst}
 use Rattle.std.specs.Prelude.{IsTrue, ◌↔◌}
 use Rattle.std.proofs.lemmas.Bool.{leb-true, le-leb}
-use Rattle.tenant_core.specs.Bucket.{Stretch, IsAdmitted, gained, windows_left, is_admitted}
-
--- what is left of a credit after these packets, by the windows that they begin
-abbrev pub left_after : ℕ → ℕ → ℕ → ℕ → List ℕ → ℕ
-left_after burst per_second now left ats = min (left - 1_000 * length ats) (windows_left burst per_second now ats)
-
--- a packet more: the credit before it or a full bucket and what flowed in since, less the packet
-pub left_after_one : (burst per_second now left at : ℕ) (ats : List ℕ)
-    → left_after burst per_second now (min left (1_000 * burst + gained per_second at now) - 1_000) ats ≡ left_after burst per_second now left (at ∷ ats)
-left_after_one burst per_second now left at ats = omega arith
+use Rattle.rate_bucket.specs.Bucket.{Stretch, IsAdmitted, packet, full_bucket, gained, windows_left, is_admitted}
 
 -- ---- the least that a window leaves, and each window
 
 -- one packet more fits into the window of each of these
 abbrev HaveRoom : ℕ → ℕ → ℕ → List ℕ → Type 0
 HaveRoom burst per_second now ats =
-    (before after : List ℕ) (at : ℕ) → ats ≡ before ++ at ∷ after → 1_000 * (length after + 2) ≤ 1_000 * burst + gained per_second at now
+    (before after : List ℕ) (at : ℕ) → ats ≡ before ++ at ∷ after → packet * (length after + 2) ≤ full_bucket burst + gained per_second at now
 
 none_before : (before after : List ℕ) (at : ℕ) → [] ≡ before ++ at ∷ after → ⊥
 none_before [] after at e = absurd cc
 none_before (x ∷ before) after at e = absurd cc
 
-each_room : (burst per_second now : ℕ) (ats : List ℕ) → 1_000 ≤ windows_left burst per_second now ats → (1 ≤ burst) × HaveRoom burst per_second now ats
+each_room : (burst per_second now : ℕ) (ats : List ℕ) → packet ≤ windows_left burst per_second now ats → (1 ≤ burst) × HaveRoom burst per_second now ats
 each_room burst per_second now [] h = (omega arith, λ before after at e. absurd (none_before before after at e))
 each_room burst per_second now (a ∷ xs) h = by (each_room burst per_second now xs (omega arith))
   where
-    here : (at : ℕ) (after : List ℕ) → a ∷ xs ≡ at ∷ after → 1_000 * (length after + 2) ≤ 1_000 * burst + gained per_second at now
+    here : (at : ℕ) (after : List ℕ) → a ∷ xs ≡ at ∷ after → packet * (length after + 2) ≤ full_bucket burst + gained per_second at now
     here at after e =
         let first : a ≡ at = cc in
         let others : xs ≡ after = cc in
-        let fits : 1_000 * (length xs + 2) ≤ 1_000 * burst + gained per_second a now = omega arith in
-        subst (λ x. 1_000 * (length after + 2) ≤ 1_000 * burst + gained per_second x now) first
-        (subst (λ ys. 1_000 * (length ys + 2) ≤ 1_000 * burst + gained per_second a now) others fits)
+        let fits : packet * (length xs + 2) ≤ full_bucket burst + gained per_second a now = omega arith in
+        subst (λ x. packet * (length after + 2) ≤ full_bucket burst + gained per_second x now) first
+        (subst (λ ys. packet * (length ys + 2) ≤ full_bucket burst + gained per_second a now) others fits)
 
     by : (1 ≤ burst) × HaveRoom burst per_second now xs → (1 ≤ burst) × HaveRoom burst per_second now (a ∷ xs)
     by rest = (rest.0, room)
@@ -43,7 +34,7 @@ each_room burst per_second now (a ∷ xs) h = by (each_room burst per_second now
         room [] after at e = here at after e
         room (x ∷ before) after at e = let others : xs ≡ before ++ at ∷ after = cc in rest.1 before after at others
 
-least_room : (burst per_second now : ℕ) (ats : List ℕ) → 1 ≤ burst → HaveRoom burst per_second now ats → 1_000 ≤ windows_left burst per_second now ats
+least_room : (burst per_second now : ℕ) (ats : List ℕ) → 1 ≤ burst → HaveRoom burst per_second now ats → packet ≤ windows_left burst per_second now ats
 least_room burst per_second now [] some room = omega arith
 least_room burst per_second now (a ∷ xs) some room =
     let here = room [] xs a refl in
