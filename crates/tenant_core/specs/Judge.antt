@@ -6,6 +6,7 @@ use Rattle.money_core.specs.Price.{price_of, greatest_amount}
 use Rattle.ilp_addr.specs.Address.{segments}
 use Rattle.route_table.specs.Routes.{best_route}
 use Rattle.tenant_core.specs.Key.{Key}
+use Rattle.tenant_core.specs.Limits.{max_holds}
 use Rattle.tenant_core.specs.State.{State, clock_of, open_holds, next_hold, peer_numbered, recorded}
 use Rattle.rate_bucket.specs.Bucket.{is_admitted}
 use Rattle.tenant_core.specs.Bucket.{stretch_of}
@@ -68,7 +69,7 @@ abbrev pub held : State → Peer → Peer → ℕ → ℕ → ℕ → Verdict
 held s from to amount price expiry =
     if is_over_ceiling s from amount then refuse InsufficientLiquidity
     else (if is_over_credit s to price then refuse InsufficientLiquidity
-    else (if nat_le 1_024 (open_holds s) then refuse Busy
+    else (if nat_le max_holds (open_holds s) then refuse Busy
     else Forward (next_hold s) to.number price expiry))
 
 -- a packet for that peer, at that rate if there is one

@@ -1,3 +1,4 @@
+pub mod Limits
 pub mod Key
 pub mod State
 pub mod Bucket

@@ -1,5 +1,6 @@
 -- Purses: what peers owe, and what is held on both sides, as sums over the journal.
-use Rattle.std.specs.Prelude.{ℕ, ◌+◌, ◌^◌, ℤ, pos, ◌+ℤ◌, ◌-ℤ◌, ◌≤ℤ◌, neg_ℤ, int_lt, Bool, ◌&&◌, sum_by, ◌==◌, Option, Some, None, if◌then◌else◌}
+use Rattle.std.specs.Prelude.{ℕ, ◌+◌, ℤ, pos, ◌+ℤ◌, ◌-ℤ◌, ◌≤ℤ◌, neg_ℤ, int_lt, Bool, ◌&&◌, sum_by, ◌==◌, Option, Some, None, if◌then◌else◌}
+use Rattle.tenant_core.specs.Limits.{max_money}
 use Rattle.tenant_core.specs.State.{State, is_of, holds, peer_numbered}
 use Rattle.tenant_core.specs.declared.opening.Peer.{Peer}
 use Rattle.tenant_core.specs.declared.journal.Entry.{Entry}
@@ -58,5 +59,5 @@ is_over_credit s to amount =
 
 -- the bounds of a purse, whatever becomes of what is held
 pub record IsWithinBounds (s : State) (n : ℕ) : Type 0 where
-  pub most : (balance_of s n +ℤ pos (held_in_of s n)) ≤ℤ pos (2 ^ 62)
-  pub least : neg_ℤ (pos (2 ^ 62)) ≤ℤ (balance_of s n -ℤ pos (held_out_of s n))
+  pub most : (balance_of s n +ℤ pos (held_in_of s n)) ≤ℤ pos max_money
+  pub least : neg_ℤ (pos max_money) ≤ℤ (balance_of s n -ℤ pos (held_out_of s n))

@@ -1,8 +1,9 @@
 -- A tenant's state: an opening and the records since. Every question about it is one about that list.
-use Rattle.std.specs.Prelude.{ℕ, ◌+◌, ◌*◌, Bool, true, false, List, [], ◌∷◌, ◌++◌, fold, max, count_by, find, Option, ◌==◌}
+use Rattle.std.specs.Prelude.{ℕ, ◌+◌, Bool, true, false, List, [], ◌∷◌, ◌++◌, fold, max, count_by, find, length, Option, ◌==◌}
+use Rattle.rate_bucket.specs.Bucket.{full_bucket}
 use Rattle.tenant_core.specs.declared.opening.Opening.{Opening}
 use Rattle.tenant_core.specs.declared.opening.Peer.{Peer}
-use Rattle.tenant_core.specs.declared.terms.PeerTerms.{PeerTerms}
+use Rattle.tenant_core.specs.declared.terms.NewPeer.{NewPeer}
 use Rattle.tenant_core.specs.declared.terms.TenantTerms.{TenantTerms}
 use Rattle.tenant_core.specs.declared.journal.Entry.{Entry}
 use Rattle.tenant_core.specs.declared.journal.Entry.TheVariants.{Decide}
@@ -18,11 +19,11 @@ pub record State : Type 0 where
   pub records : List Record
 
 -- a peer that was just added under that number: its bucket is full
-abbrev pub added : ℕ → PeerTerms → Peer
-added n p = record { number = n; terms = p; balance = p.balance; bucket = 1_000 * p.burst }
+abbrev pub added : ℕ → NewPeer → Peer
+added n p = record { number = n; terms = p.terms; balance = p.balance; bucket = full_bucket p.terms.burst }
 
 -- the peers of a setup under their numbers, the first under n
-abbrev pub numbered : ℕ → List PeerTerms → List Peer
+abbrev pub numbered : ℕ → List NewPeer → List Peer
 numbered n [] = []
 numbered n (p ∷ ps) = added n p ∷ numbered (n + 1) ps
 
@@ -39,6 +40,7 @@ opening_of tenant t start =
       period = 0;
       clock = start;
       next_hold = 0;
+      next_peer = length t.peers;
       peers = numbered 0 t.peers;
       routes = t.routes;
       rates = t.rates;
@@ -48,13 +50,13 @@ opening_of tenant t start =
 abbrev pub opened : Opening → State
 opened o = record { opening = o; records = [] }
 
--- the moment that was handed in with an entry
-abbrev pub moment_of : Entry → ℕ
-moment_of (Decide d) = d.now
+-- the moment at which an entry came
+abbrev pub entered_at : Entry → ℕ
+entered_at (Decide d) = d.now
 
 -- the later of the clock so far and the record's moment
 abbrev pub later : ℕ → Record → ℕ
-later clock r = max clock (moment_of r.entry)
+later clock r = max clock (entered_at r.entry)
 
 -- a tenant's clock: the greatest moment of its opening and its entries
 abbrev pub clock_of : State → ℕ

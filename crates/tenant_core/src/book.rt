@@ -10,6 +10,7 @@ use crate::judge::{
     onward, outgoing_expiry, peer_numbered, peer_with_token, rate_between, refuse, refuse_over,
     stays_here,
 };
+use crate::limits::MAX_HOLDS;
 use crate::numbered::numbered;
 use crate::opening::{Opening, Peer};
 use crate::purse::{held_in, held_out, is_owed_more, owes_more};
@@ -22,9 +23,6 @@ use money_core::Rate;
 use route_table::PeerNo;
 use std::alloc::{AllocError, Global};
 use std::marker::Model;
-
-/// The most packets that a tenant holds at once.
-const MOST_HOLDS: u64 = 1_024;
 
 /// A tenant's book. Contracts see it as a `State`: what its period began with, and the records since.
 #[derive(Drop)]
@@ -84,6 +82,7 @@ impl Book {
             period: 0,
             clock: start.millis(),
             next_hold: 0,
+            next_peer: terms.peers.as_slice().len() as PeerNo,
             peers,
             routes,
             rates,
@@ -254,7 +253,7 @@ impl Book {
         if self.is_over_ceiling(from, amount) || self.is_over_credit(to, price) {
             return refuse(RejectCode::InsufficientLiquidity);
         }
-        if self.holds >= MOST_HOLDS {
+        if self.holds >= MAX_HOLDS {
             return refuse(RejectCode::Busy);
         }
         Verdict::Forward {

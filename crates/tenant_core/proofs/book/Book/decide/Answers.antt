@@ -6,15 +6,15 @@ use Rattle.tenant_core.specs.State.{State}
 use Rattle.tenant_core.specs.Kept.{state_of}
 use Rattle.tenant_core.specs.Purse.{IsWithinBounds}
 use Rattle.tenant_core.specs.Judge.{decided}
-use Rattle.tenant_core.proofs.Purses.{are_terms_within, decided_within}
+use Rattle.tenant_core.proofs.Purses.{has_terms_within, decided_within}
 use Rattle.tenant_core.proofs.book.Book.decide.Goals as goal
 use Rattle.tenant_core.proofs.book.Book.decide.Goals.{then-is_forward, else-is_forward}
 
 bounds : goal.returns-after-is_forward-clause-bounds
 bounds c =
     let before : (n : ℕ) → IsWithinBounds c.args.self.now n = subst (λ (s : State). (n : ℕ) → IsWithinBounds s n) c.self.view_is c.self.invariant.purses in
-    let limits : list_all are_terms_within c.args.self.now.opening.peers ≡ true =
-    subst (λ (s : State). list_all are_terms_within s.opening.peers ≡ true) c.self.view_is c.self.invariant.limits in
+    let limits : list_all has_terms_within c.args.self.now.opening.peers ≡ true =
+    subst (λ (s : State). list_all has_terms_within s.opening.peers ≡ true) c.self.view_is c.self.invariant.limits in
     let after : state_of (record { opening = c.if-is_forward.self-inside.opening; records = c.push_reserved.new.self; clock = c.if-is_forward.self-inside.clock; holds = c.if-is_forward.self-inside.holds })
     ≡ decided c.args.self.now c.args.token.now (key_of c.args.key.now) c.args.now =
     search rules in
