@@ -1,1 +1,3 @@
 pub mod Purses
+pub mod Verdicts
+pub mod Soundness

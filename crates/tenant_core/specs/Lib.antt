@@ -3,6 +3,10 @@ pub mod Key
 pub mod State
 pub mod Bucket
 pub mod Purse
+pub mod Routing
+pub mod Checks
 pub mod Judge
-pub mod Kept
 pub mod Setup
+pub mod Sound
+pub mod Standing
+pub mod Kept

@@ -9,7 +9,7 @@ use Rattle.tenant_core.specs.declared.journal.Outcome.{Outcome}
 use Rattle.tenant_core.specs.declared.journal.Outcome.TheVariants.{Packet}
 use Rattle.tenant_core.specs.declared.journal.Record.{Record}
 use Rattle.tenant_core.specs.declared.verdict.Verdict.{Verdict}
-use Rattle.tenant_core.specs.declared.verdict.Verdict.TheVariants.{Unknown, NoRoom, Refuse, Forward}
+use Rattle.tenant_core.specs.declared.verdict.Verdict.TheVariants.{Forward}
 
 -- what a packet brought
 abbrev pub amount_of : Entry → ℕ
@@ -21,10 +21,8 @@ brought n r = if is_of n r.entry && holds r.outcome then amount_of r.entry else 
 
 -- what a verdict holds for the peer of that number
 abbrev pub sent : ℕ → Verdict → ℕ
-sent n Unknown = 0
-sent n NoRoom = 0
-sent n (Refuse code amounts) = 0
 sent n (Forward hold peer amount expiry) = if peer == n then amount else 0
+sent n _ = 0
 
 -- what a record holds for the peer of that number
 abbrev pub sent_by : ℕ → Outcome → ℕ

@@ -1,5 +1,6 @@
 -- A tenant's state: an opening and the records since. Every question about it is one about that list.
-use Rattle.std.specs.Prelude.{ℕ, ◌+◌, Bool, true, false, List, [], ◌∷◌, ◌++◌, fold, max, count_by, find, length, Option, ◌==◌}
+use Rattle.std.specs.Prelude.{ℕ, ◌+◌, Bool, true, false, List, [], ◌∷◌, ◌++◌, fold, max, count_by, find, length, Option, Some, None, ◌==◌}
+use Rattle.std.specs.Str.{bytes_eq}
 use Rattle.rate_bucket.specs.Bucket.{full_bucket}
 use Rattle.tenant_core.specs.declared.opening.Opening.{Opening}
 use Rattle.tenant_core.specs.declared.opening.Peer.{Peer}
@@ -11,7 +12,7 @@ use Rattle.tenant_core.specs.declared.journal.Outcome.{Outcome}
 use Rattle.tenant_core.specs.declared.journal.Outcome.TheVariants.{Packet}
 use Rattle.tenant_core.specs.declared.journal.Record.{Record}
 use Rattle.tenant_core.specs.declared.verdict.Verdict.{Verdict}
-use Rattle.tenant_core.specs.declared.verdict.Verdict.TheVariants.{Unknown, NoRoom, Refuse, Forward}
+use Rattle.tenant_core.specs.declared.verdict.Verdict.TheVariants.{Forward}
 
 -- what a period began with, and what happened since
 pub record State : Type 0 where
@@ -64,10 +65,8 @@ clock_of s = fold later s.opening.clock s.records
 
 -- the packet goes on
 abbrev pub is_forward : Verdict → Bool
-is_forward Unknown = false
-is_forward NoRoom = false
-is_forward (Refuse code amounts) = false
 is_forward (Forward hold peer amount expiry) = true
+is_forward _ = false
 
 -- a hold is a Prepare that went on
 abbrev pub holds : Outcome → Bool
@@ -89,10 +88,19 @@ next_hold s = s.opening.next_hold + hold_count s
 abbrev pub peer_numbered : ℕ → List Peer → Option Peer
 peer_numbered n peers = find (λ p. p.number == n) peers
 
+-- the peer that shows this token
+abbrev pub peer_with_token : List ℕ → List Peer → Option Peer
+peer_with_token token peers = find (λ p. bytes_eq p.terms.token token) peers
+
 -- the entry is a packet of the peer of that number
 abbrev pub is_of : ℕ → Entry → Bool
 is_of n (Decide d) = d.peer == n
 
--- the state with one record more
-abbrev pub recorded : State → Record → State
-recorded s r = record s { records = s.records ++ r ∷ [] }
+-- records and the one after them, if there is one
+abbrev pub with_record : List Record → Option Record → List Record
+with_record rs None = rs
+with_record rs (Some r) = rs ++ r ∷ []
+
+-- the state with a record more, if there is one
+abbrev pub recorded : State → Option Record → State
+recorded s r = record s { records = with_record s.records r }

@@ -4,7 +4,7 @@ ghost use Rattle.std.specs.Prelude.{◌≡◌};
 ghost use Rattle.std.specs.List.{list_any, list_all};
 ghost use Rattle.std.specs.Str.{bytes_eq};
 ghost use Rattle.tenant_core.specs.Setup.{are_terms_within, is_peer_within, names_differ, tokens_differ, are_peers_within, are_times_within, are_routes_within, is_rate_within, pairs_differ, are_rates_within, is_tenant_setup};
-ghost use Rattle.tenant_core.specs.Judge.{is_for_pair};
+ghost use Rattle.tenant_core.specs.Routing.{is_for_pair};
 
 use crate::limits::{
     MAX_BURST, MAX_HOLD, MAX_JOURNAL, MAX_MARGIN, MAX_MONEY, MAX_PEERS, MAX_PER_SECOND, MAX_RATES,
