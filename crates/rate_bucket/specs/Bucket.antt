@@ -28,7 +28,8 @@ gained per_second since now = per_second * (now - since)
 abbrev pub windows_left : ℕ → ℕ → ℕ → List ℕ → ℕ
 windows_left burst per_second now [] = full_bucket burst
 windows_left burst per_second now (at ∷ ats) =
-    min (full_bucket burst + gained per_second at now - packet * length (at ∷ ats)) (windows_left burst per_second now ats)
+    min (full_bucket burst + gained per_second at now - packet * length (at ∷ ats))
+    (windows_left burst per_second now ats)
 
 -- the credit: what the stretch began with, what flowed in since, less its packets, or what a window leaves, if that is
 -- less

@@ -23,8 +23,8 @@ pub struct Credit {
 }
 
 impl Credit {
-    /// The credit at the clock `now` of a bucket for `burst` packets, into which `per_second` packets a second flow, and
-    /// which had `credit` thousandths of a packet at the clock `start`. Clocks are in milliseconds.
+    /// The credit at the clock `now` of a bucket for `burst` packets, into which `per_second` packets a second flow,
+    /// and which had `credit` thousandths of a packet at the clock `start`. Clocks are in milliseconds.
     #[tactic(auto, unfolding(crate::specs::Bucket::credit_after))]
     pub fn since(start: u64, credit: u64, burst: u32, per_second: u32, now: u64) -> Credit
         ensures { (admitted : List ℕ) → credit_after result admitted

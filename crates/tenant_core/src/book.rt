@@ -1,10 +1,6 @@
 //! Books: an opening and the records since.
 
-ghost use Rattle.std.specs.Prelude.{◌≡◌};
-ghost use Rattle.tenant_core.specs.Key.{key_of};
-ghost use Rattle.tenant_core.specs.Judge.{decide_record};
-
-use crate::journal::{DecideEntry, Entry, Outcome, PrepareKey, Record};
+use crate::journal::{PrepareKey, Record, decide_record};
 use crate::judge::Standing;
 use crate::numbered::numbered;
 use crate::opening::Opening;
@@ -12,8 +8,7 @@ use crate::routing::{peer_numbered, peer_with_token};
 use crate::setup::TenantSetup;
 use crate::terms::copied_rates;
 use crate::verdict::Verdict;
-use common_types::Text;
-use ilp_addr::{Address, Moment};
+use ilp_addr::Moment;
 use route_table::PeerNo;
 use std::alloc::{AllocError, Global};
 use std::marker::Model;
@@ -138,15 +133,23 @@ impl Book {
 
     /// Decides what becomes of a Prepare that came with this token at this moment, and records it.
     ///
-    /// The checks, of which the first that fails gives the verdict: the token is a peer's (else `Unknown`); the
-    /// journal has room for the packet and its answer (else `NoRoom`); the sender's bucket admits it (T05); the expiry
-    /// is after the clock (R02); the destination is neither a neighbour's, of the scheme `peer`, nor the tenant's own
-    /// address (F02); the amount is within the sender's cap (F08); the best route leads on, to another peer than the
-    /// sender (F02); the pair has a rate (F02); the price is within the next peer's cap (F08); the outgoing expiry is
-    /// after the clock (R02); the sender's balance, what is held from it and the amount are within its ceiling (T04); the
-    /// receiver's balance less what is held for it and the price is within its credit (T04); fewer than 1,024 packets
-    /// are held (T03). After `Unknown` and `NoRoom` nothing has changed, the clock included. The clock is the greatest
-    /// moment so far.
+    /// The first check that fails gives the verdict:
+    ///
+    /// - the token is a peer's, else `Unknown`;
+    /// - the journal has room for the packet and its answer, else `NoRoom`;
+    /// - the sender's bucket admits the packet (T05);
+    /// - the expiry is after the clock (R02);
+    /// - the destination is neither a neighbour's, of the scheme `peer`, nor the tenant's own address (F02);
+    /// - the amount is within the sender's cap (F08);
+    /// - the best route leads on, to another peer than the sender (F02);
+    /// - the pair has a rate (F02);
+    /// - the price is within the next peer's cap (F08);
+    /// - the outgoing expiry is after the clock (R02);
+    /// - the sender's balance, what is held from it and the amount are within its ceiling (T04);
+    /// - the receiver's balance less what is held for it and the price is within its credit (T04);
+    /// - fewer than 1,024 packets are held (T03).
+    ///
+    /// After `Unknown` and `NoRoom` nothing has changed, the clock included. The clock is the greatest moment so far.
     pub fn decide(&mut self, token: &[u8], key: &PrepareKey<'_>, now: Moment) -> Verdict
         ensures verdict { result ≡ judge self.old token.now (key_of key.now) now }
         ensures records { self.new ≡ decided self.old token.now (key_of key.now) now }
@@ -173,26 +176,4 @@ impl Book {
         self.records.push_reserved(record);
         verdict
     }
-}
-
-fn decide_record(peer: PeerNo, key: &PrepareKey<'_>, now: Moment, verdict: Verdict) -> Record
-    ensures { result ≡ decide_record peer (key_of key.now) now verdict }
-{
-    Record {
-        entry: Entry::Decide(DecideEntry {
-            peer,
-            amount: key.amount,
-            expiry: key.expiry,
-            condition: *key.condition,
-            destination: stored(key.destination),
-            now: now.millis(),
-        }),
-        outcome: Outcome::Packet(verdict),
-    }
-}
-
-fn stored(address: &Address<'_>) -> Text<1023>
-    ensures { result ≡ address.now }
-{
-    Text::from_bytes(address.bytes()).unwrap()
 }

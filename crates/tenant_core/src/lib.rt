@@ -1,4 +1,4 @@
-//! Books of tenants.
+//! Tenants: a setup within its limits, and a book, which is an opening and the records since.
 #![tactic(auto)]
 
 mod book;

@@ -17,7 +17,8 @@ invariant_of-self c =
     let found : peer_with_token c.args.token.now s.opening.peers ≡ Some c.in-Some.from.now = search rules in
     let room : is_full s ≡ false = search rules in
     let early : c.args.now ≤ 253_400_000_000_000 = search rules in
-    let after : state_of (record { opening = c.if-is_forward.self-inside.opening; records = c.push_reserved.new.self; clock = c.if-is_forward.self-inside.clock; holds = c.if-is_forward.self-inside.holds })
+    let inside = c.if-is_forward.self-inside in
+    let after : state_of (record { opening = inside.opening; records = c.push_reserved.new.self; clock = inside.clock; holds = inside.holds })
     ≡ recorded s (Some (decide_record c.in-Some.from.now.number (key_of c.args.key.now) c.args.now (verdict_for_sender s c.in-Some.from.now (key_of c.args.key.now) c.max-clock.result))) =
     search rules in
     record {
