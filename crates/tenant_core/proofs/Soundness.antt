@@ -1,5 +1,6 @@
 -- A state stays within its limits.
 use Rattle.std.proofs.Common.{◌≡◌, ℕ, ◌+◌, ◌≤◌, Bool, true, false, cond, List, [], ◌∷◌, ◌++◌, length, arith, sym, subst}
+use Rattle.ilp_addr.specs.Timestamp.{last_moment}
 use Rattle.std.specs.Prelude.{Some, IfSome, count_by}
 use Rattle.std.proofs.lemmas.Bool.{ltb-false}
 use Rattle.std.proofs.lemmas.List.{length_push}
@@ -22,7 +23,7 @@ count_push p rs r = let e = sum_by_push (λ x. cond (p x) 1 0) rs r in let once 
     by false = omega arith
 
 pub decided_sound : (s : State) (token : List ℕ) (key : Key) (now clock : ℕ) (from : Peer) → IsSound s
-    → peer_with_token token s.opening.peers ≡ Some from → is_full s ≡ false → now ≤ 253_400_000_000_000
+    → peer_with_token token s.opening.peers ≡ Some from → is_full s ≡ false → now ≤ last_moment
     → IsSound (recorded s (Some (decide_record from.number key now (verdict_for_sender s from key clock))))
 decided_sound s token key now clock from sound is room early =
     let r : Record = decide_record from.number key now (verdict_for_sender s from key clock) in
@@ -41,5 +42,5 @@ decided_sound s token key now clock from sound is room early =
       hold = sound.hold;
       first_hold = sound.first_hold;
       period = sound.period;
-      clock = subst (λ n. n ≤ 253_400_000_000_000) (sym (fold_push later s.opening.clock s.records r)) (omega arith);
+      clock = subst (λ n. n ≤ last_moment) (sym (fold_push later s.opening.clock s.records r)) (omega arith);
     }

@@ -1,5 +1,6 @@
 -- What a book keeps of its state, whatever it was told.
 use Rattle.std.specs.Prelude.{ℕ, ◌≡◌, ◌<◌, ◌≤◌, ◌+◌, ◌*◌, true, length}
+use Rattle.ilp_addr.specs.Timestamp.{last_moment}
 use Rattle.std.specs.List.{list_all}
 use Rattle.tenant_core.specs.Limits.{max_tenants, max_journal, max_hold, max_period}
 use Rattle.tenant_core.specs.Purse.{IsWithinBounds}
@@ -23,4 +24,4 @@ pub record IsSound (s : State) : Type 0 where
   pub first_hold : s.opening.next_hold ≤ max_journal * s.opening.period
   pub period : s.opening.period ≤ max_period
   -- the clock is a moment
-  pub clock : clock_of s ≤ 253_400_000_000_000
+  pub clock : clock_of s ≤ last_moment

@@ -22,6 +22,7 @@ pub struct Standing<'a> {
 
 impl Standing<'_> {
     ghost use Rattle.std.specs.Prelude.{◌≡◌, ◌≤◌, true};
+    ghost use Rattle.ilp_addr.specs.Timestamp.{last_moment};
     ghost use Rattle.tenant_core.specs.Key.{key_of};
     ghost use Rattle.tenant_core.specs.State.{open_holds};
     ghost use Rattle.tenant_core.specs.Purse.{is_over_ceiling, is_over_credit};
@@ -42,7 +43,7 @@ impl Standing<'_> {
     pub fn verdict_for_sender(&self, from: &Peer, key: &PrepareKey<'_>, clock: u64) -> Verdict
         requires sound { IsSound (state_shown self.now) }
         requires holds { self.now.holds ≡ open_holds (state_shown self.now) }
-        requires clock { clock ≤ 253_400_000_000_000 }
+        requires clock { clock ≤ last_moment }
         ensures verdict { result ≡ verdict_for_sender (state_shown self.now) from.now (key_of key.now) clock }
         ensures recorded { is_recorded result ≡ true }
         ensures sooner { IsSooner result key.now.expiry }
@@ -80,7 +81,7 @@ impl Standing<'_> {
     ) -> Verdict
         requires sound { IsSound (state_shown self.now) }
         requires holds { self.now.holds ≡ open_holds (state_shown self.now) }
-        requires clock { clock ≤ 253_400_000_000_000 }
+        requires clock { clock ≤ last_moment }
         ensures verdict { result ≡ verdict_at_rate (state_shown self.now) from.now to.now rate (key_of key.now) clock }
         ensures recorded { is_recorded result ≡ true }
         ensures sooner { IsSooner result key.now.expiry }

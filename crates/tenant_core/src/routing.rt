@@ -1,6 +1,7 @@
 //! Where a packet goes, and by when.
 
 ghost use Rattle.std.specs.Prelude.{◌≡◌, ◌≤◌};
+ghost use Rattle.ilp_addr.specs.Timestamp.{last_moment};
 ghost use Rattle.std.specs.Option.{option_copied};
 ghost use Rattle.std.specs.Str.{bytes_eq};
 ghost use Rattle.ilp_addr.specs.Address.{segments};
@@ -72,7 +73,7 @@ pub fn rate_between(opening: &Opening, from: PeerNo, to: PeerNo) -> Option<Rate>
 
 /// The expiry that a packet goes on with.
 pub fn outgoing_expiry(opening: &Opening, expiry: u64, clock: u64) -> u64
-    requires clock { clock ≤ 253_400_000_000_000 }
+    requires clock { clock ≤ last_moment }
     requires hold { opening.now.hold ≤ max_hold }
     ensures { result ≡ outgoing_expiry opening.now expiry clock }
 {

@@ -1,4 +1,5 @@
 use Rattle.std.proofs.Common.{rules, ◌≡◌, ◌≤◌, arith, sym, subst, false}
+use Rattle.ilp_addr.specs.Timestamp.{last_moment}
 use Rattle.std.specs.Prelude.{Some}
 use Rattle.std.proofs.lemmas.Grind.{common_steps}
 use Rattle.tenant_core.specs.Key.{key_of}
@@ -16,7 +17,7 @@ invariant_of-self c =
     let before : IsSound s = subst (λ (t : State). IsSound t) c.self.view_is c.self.invariant.sound in
     let found : peer_with_token c.args.token.now s.opening.peers ≡ Some c.in-Some.from.now = search rules in
     let room : is_full s ≡ false = search rules in
-    let early : c.args.now ≤ 253_400_000_000_000 = search rules in
+    let early : c.args.now ≤ last_moment = search rules in
     let inside = c.if-is_forward.self-inside in
     let after : state_of (record { opening = inside.opening; records = c.push_reserved.new.self; clock = inside.clock; holds = inside.holds })
     ≡ recorded s (Some (decide_record c.in-Some.from.now.number (key_of c.args.key.now) c.args.now (verdict_for_sender s c.in-Some.from.now (key_of c.args.key.now) c.max-clock.result))) =
