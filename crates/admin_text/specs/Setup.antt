@@ -7,11 +7,13 @@ use Rattle.std.specs.Str.{bytes_eq, is_utf8}
 use Rattle.toml.specs.Data.{Data, Items, no_items, item, Members, get_member, as_str, as_integer, as_array, as_table}
 use Rattle.toml.specs.Parse.{parse_document}
 use Rattle.ilp_addr.specs.Address.{prefix_at}
+use Rattle.ilp_addr.specs.Timestamp.{last_moment}
 use Rattle.money_core.specs.Price.{rate_at}
 use Rattle.route_table.specs.Routes.{RouteMap}
-use Rattle.tenant_core.specs.Judge.{is_for_pair}
+use Rattle.tenant_core.specs.Routing.{is_for_pair}
 use Rattle.tenant_core.specs.declared.terms.Role.{Role}
 use Rattle.tenant_core.specs.declared.terms.Role.TheVariants.{Child, Peer}
+use Rattle.tenant_core.specs.declared.terms.NewPeer.{NewPeer}
 use Rattle.tenant_core.specs.declared.terms.PeerTerms.{PeerTerms}
 use Rattle.tenant_core.specs.declared.terms.RateTerms.{RateTerms}
 use Rattle.tenant_core.specs.declared.terms.TenantTerms.{TenantTerms}
@@ -74,9 +76,9 @@ role_of word =
 unfoldable pub role_under : List ℕ → Members → Option Role
 role_under key members = string_under key members >>= role_of
 
--- a peer
-unfoldable pub peer_of : Members → Option PeerTerms
-peer_of t = do
+-- what is agreed with a peer
+unfoldable pub peer_terms_of : Members → Option PeerTerms
+peer_terms_of t = do
   name ← text_under 32 (codes "name") t
   role ← role_under (codes "role") t
   token ← text_under 64 (codes "token") t
@@ -89,15 +91,34 @@ peer_of t = do
   credit ← number_under 64 (codes "credit") t
   burst ← number_under 32 (codes "burst") t
   per_second ← number_under 32 (codes "per_second") t
+  Some (record {
+    name = name;
+    role = role;
+    token = token;
+    url = url;
+    out_token = out_token;
+    asset = asset;
+    scale = scale;
+    cap = cap;
+    ceiling = ceiling;
+    credit = credit;
+    burst = burst;
+    per_second = per_second;
+  })
+
+-- a peer, with what it owes at the start
+abbrev pub peer_of : Members → Option NewPeer
+peer_of t = do
+  terms ← peer_terms_of t
   balance ← integer_or (pos 0) (codes "balance") t
-  Some (record { name = name; role = role; token = token; url = url; out_token = out_token; asset = asset; scale = scale; cap = cap; ceiling = ceiling; credit = credit; burst = burst; per_second = per_second; balance = balance })
+  Some (record { terms = terms; balance = balance })
 
 -- a peer, if the value is a table
-abbrev pub peer_in : Data → Option PeerTerms
+abbrev pub peer_in : Data → Option NewPeer
 peer_in value = as_table value >>= peer_of
 
 -- the peers, in the order in which they stand
-unfoldable pub peers_of : Items → Option (List PeerTerms)
+unfoldable pub peers_of : Items → Option (List NewPeer)
 peers_of no_items = Some []
 peers_of (item first others) = do
   peer ← peer_in first
@@ -109,11 +130,11 @@ abbrev pub short_number : ℕ → Option ℕ
 short_number n = if nat_lt n (2 ^ 16) then Some n else None
 
 -- the place of the first peer of that name
-unfoldable pub place_of_peer : List PeerTerms → List ℕ → Option ℕ
-place_of_peer peers name = position (λ p. bytes_eq p.name name) peers
+unfoldable pub place_of_peer : List NewPeer → List ℕ → Option ℕ
+place_of_peer peers name = position (λ p. bytes_eq p.terms.name name) peers
 
 -- the number of the first peer of the name at a key
-unfoldable pub peer_under : List PeerTerms → List ℕ → Members → Option ℕ
+unfoldable pub peer_under : List NewPeer → List ℕ → Members → Option ℕ
 peer_under peers key members = do
   name ← string_under key members
   place ← place_of_peer peers name
@@ -132,7 +153,7 @@ with_route routes prefix peer =
     else (if len routes == 4_096 then None else Some (insert routes prefix peer))
 
 -- routes with the one of a table
-unfoldable pub with_route_of : List PeerTerms → RouteMap → Members → Option RouteMap
+unfoldable pub with_route_of : List NewPeer → RouteMap → Members → Option RouteMap
 with_route_of peers routes t = do
   text ← string_under (codes "prefix") t
   prefix ← written_prefix text
@@ -140,18 +161,18 @@ with_route_of peers routes t = do
   with_route routes prefix peer
 
 -- routes with the one of a value, if that is a table
-abbrev pub with_route_in : List PeerTerms → RouteMap → Data → Option RouteMap
+abbrev pub with_route_in : List NewPeer → RouteMap → Data → Option RouteMap
 with_route_in peers routes value = as_table value >>= with_route_of peers routes
 
 -- routes with those of the items, in the order in which they stand
-unfoldable pub with_routes_of : List PeerTerms → RouteMap → Items → Option RouteMap
+unfoldable pub with_routes_of : List NewPeer → RouteMap → Items → Option RouteMap
 with_routes_of peers routes no_items = Some routes
 with_routes_of peers routes (item first others) = do
   more ← with_route_in peers routes first
   with_routes_of peers more others
 
 -- a rate between two peers
-unfoldable pub rate_of : List PeerTerms → Members → Option RateTerms
+unfoldable pub rate_of : List NewPeer → Members → Option RateTerms
 rate_of peers t = do
   from ← peer_under peers (codes "from") t
   to ← peer_under peers (codes "to") t
@@ -161,7 +182,7 @@ rate_of peers t = do
   Some (record { from = from; to = to; rate = rate })
 
 -- a rate between two peers, if the value is a table
-abbrev pub rate_in : List PeerTerms → Data → Option RateTerms
+abbrev pub rate_in : List NewPeer → Data → Option RateTerms
 rate_in peers value = as_table value >>= rate_of peers
 
 -- rates with one more, in the place of one for the same pair if that stands there
@@ -174,26 +195,26 @@ abbrev pub with_rate : List RateTerms → RateTerms → List RateTerms
 with_rate rates rate = with_rate_at rates rate (position (is_for_pair rate.from rate.to) rates)
 
 -- rates with those of the items, in the order in which they stand
-unfoldable pub with_rates_of : List PeerTerms → List RateTerms → Items → Option (List RateTerms)
+unfoldable pub with_rates_of : List NewPeer → List RateTerms → Items → Option (List RateTerms)
 with_rates_of peers rates no_items = Some rates
 with_rates_of peers rates (item first others) = do
   rate ← rate_in peers first
   with_rates_of peers (with_rate rates rate) others
 
 -- the peers of a tenant's table
-unfoldable pub peers_of_tenant : Members → Option (List PeerTerms)
+unfoldable pub peers_of_tenant : Members → Option (List NewPeer)
 peers_of_tenant t = items_under (codes "peer") t >>= peers_of
 
 -- its routes, where its peers are these
-unfoldable pub routes_of_tenant : List PeerTerms → Members → Option RouteMap
+unfoldable pub routes_of_tenant : List NewPeer → Members → Option RouteMap
 routes_of_tenant peers t = items_under (codes "route") t >>= with_routes_of peers empty
 
 -- its rates, where its peers are these
-unfoldable pub rates_of_tenant : List PeerTerms → Members → Option (List RateTerms)
+unfoldable pub rates_of_tenant : List NewPeer → Members → Option (List RateTerms)
 rates_of_tenant peers t = items_under (codes "rate") t >>= with_rates_of peers []
 
 -- what a tenant's table says, where its peers, its routes and its rates are these
-unfoldable pub terms_of : Members → List PeerTerms → RouteMap → List RateTerms → Option TenantTerms
+unfoldable pub terms_of : Members → List NewPeer → RouteMap → List RateTerms → Option TenantTerms
 terms_of t peers routes rates = do
   name ← text_under 32 (codes "name") t
   address ← text_under 900 (codes "address") t
@@ -239,7 +260,7 @@ is_one (Some n) = n == 1
 
 -- a moment that a setup may begin at
 abbrev pub moment_within : ℕ → Option ℕ
-moment_within n = if nat_le n 253_400_000_000_000 then Some n else None
+moment_within n = if nat_le n last_moment then Some n else None
 
 -- the start is looked at before the tenant
 abbrev pub from_start : Option ℕ → Result TenantTerms SetupFault → Result Setup SetupFault

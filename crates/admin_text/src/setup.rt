@@ -4,19 +4,19 @@ ghost use Rattle.std.specs.Prelude.{◌≡◌, ◌^◌, option_copied, option_ma
 ghost use Rattle.std.specs.List.{position};
 ghost use Rattle.std.specs.Str.{bytes_eq};
 ghost use Rattle.std.specs.FinMap.{empty};
-ghost use Rattle.tenant_core.specs.Judge.{is_for_pair};
+ghost use Rattle.tenant_core.specs.Routing.{is_for_pair};
 ghost use Rattle.toml.specs.Data.{get_member, as_integer, as_str, as_table};
 ghost use Rattle.toml.specs.View.{view, items_view, array_view, table_view};
-ghost use Rattle.admin_text.specs.Setup.{string_under, text_under, integer_under, number_under, integer_or, number_or, array_under, items_under, role_of, role_under, peer_of, peer_in, peers_of, peers_of_tenant, place_of_peer, peer_under, written_prefix, with_route, with_route_of, with_route_in, with_routes_of, routes_of_tenant, rate_of, rate_in, with_rate, with_rates_of, rates_of_tenant, terms_of, tenant_of_table, and_no_other, tenant_of_items, tenant_of_array, moment_within, setup_of_table, document_of, setup_of};
+ghost use Rattle.admin_text.specs.Setup.{string_under, text_under, integer_under, number_under, integer_or, number_or, array_under, items_under, role_of, role_under, peer_terms_of, peer_of, peer_in, peers_of, peers_of_tenant, place_of_peer, peer_under, written_prefix, with_route, with_route_of, with_route_in, with_routes_of, routes_of_tenant, rate_of, rate_in, with_rate, with_rates_of, rates_of_tenant, terms_of, tenant_of_table, and_no_other, tenant_of_items, tenant_of_array, moment_within, setup_of_table, document_of, setup_of};
 ghost use Rattle.toml.specs.Parse.{parse_document};
 ghost use Rattle.common_types.specs.Outcomes.{GivesUnlessMemory};
 
 use common_types::{Items, ReadError, Text};
-use ilp_addr::{Moment, Prefix, PrefixError};
+use ilp_addr::{Moment, Prefix};
 use money_core::Rate;
 use route_table::{RouteFault, Routes};
 use std::alloc::{AllocError, AllocFailed, Global};
-use tenant_core::{PeerNo, PeerTerms, RateTerms, Role, TenantSetup, TenantTerms};
+use tenant_core::{NewPeer, PeerNo, PeerTerms, RateTerms, Role, TenantSetup, TenantTerms};
 use thiserror::Error;
 use toml::{Table, Value};
 
@@ -164,9 +164,9 @@ fn role_under(table: &Table, key: &str) -> Option<Role>
     }
 }
 
-#[tactic(auto, unfolding(crate::specs::Setup::peer_of))]
-fn peer_of(table: &Table) -> Option<PeerTerms>
-    ensures { result ≡ peer_of (table_view table.now) }
+#[tactic(auto, unfolding(crate::specs::Setup::peer_terms_of))]
+fn peer_terms_of(table: &Table) -> Option<PeerTerms>
+    ensures { result ≡ peer_terms_of (table_view table.now) }
 {
     Some(PeerTerms {
         name: text_under(table, "name")?,
@@ -181,11 +181,19 @@ fn peer_of(table: &Table) -> Option<PeerTerms>
         credit: u64_under(table, "credit")?,
         burst: u32_under(table, "burst")?,
         per_second: u32_under(table, "per_second")?,
+    })
+}
+
+fn peer_of(table: &Table) -> Option<NewPeer>
+    ensures { result ≡ peer_of (table_view table.now) }
+{
+    Some(NewPeer {
+        terms: peer_terms_of(table)?,
         balance: integer_or(0, table, "balance")?,
     })
 }
 
-fn peer_in(value: &Value) -> Option<PeerTerms>
+fn peer_in(value: &Value) -> Option<NewPeer>
     ensures { result ≡ peer_in (view value.now) }
 {
     match value.as_table() {
@@ -195,7 +203,7 @@ fn peer_in(value: &Value) -> Option<PeerTerms>
 }
 
 #[tactic(auto, unfolding(crate::specs::Setup::peers_of))]
-fn peers_of(alloc: Global, values: &[Value]) -> Result<Option<Vec<PeerTerms>>, AllocError>
+fn peers_of(alloc: Global, values: &[Value]) -> Result<Option<Vec<NewPeer>>, AllocError>
     ensures { IfOk result (λ peers. option_map (λ p. p.items) peers ≡ peers_of (items_view values.now)) }
 {
     let mut peers = Vec::new(alloc);
@@ -209,7 +217,7 @@ fn peers_of(alloc: Global, values: &[Value]) -> Result<Option<Vec<PeerTerms>>, A
 }
 
 #[tactic(auto, unfolding(crate::specs::Setup::peers_of_tenant))]
-fn peers_of_tenant(alloc: Global, table: &Table) -> Result<Option<Vec<PeerTerms>>, AllocError>
+fn peers_of_tenant(alloc: Global, table: &Table) -> Result<Option<Vec<NewPeer>>, AllocError>
     ensures { IfOk result (λ peers. option_map (λ p. p.items) peers ≡ peers_of_tenant (table_view table.now)) }
 {
     match items_under(table, "peer") {
@@ -218,20 +226,20 @@ fn peers_of_tenant(alloc: Global, table: &Table) -> Result<Option<Vec<PeerTerms>
     }
 }
 
-fn is_named(peer: &PeerTerms, name: &[u8]) -> bool
-    ensures { result ≡ bytes_eq peer.now.name name.now }
+fn is_named(peer: &NewPeer, name: &[u8]) -> bool
+    ensures { result ≡ bytes_eq peer.now.terms.name name.now }
 {
-    peer.name.as_bytes() == name
+    peer.terms.name.as_bytes() == name
 }
 
-fn place_of_peer(peers: &[PeerTerms], name: &[u8]) -> Option<usize>
+fn place_of_peer(peers: &[NewPeer], name: &[u8]) -> Option<usize>
     ensures { result ≡ place_of_peer peers.now name.now }
 {
     peers.iter().position(|peer| is_named(peer, name))
 }
 
 #[tactic(auto, unfolding(crate::specs::Setup::peer_under))]
-fn peer_under(peers: &[PeerTerms], table: &Table, key: &str) -> Option<PeerNo>
+fn peer_under(peers: &[NewPeer], table: &Table, key: &str) -> Option<PeerNo>
     ensures { result ≡ peer_under peers.now key.now (table_view table.now) }
 {
     let name = string_under(table, key)?;
@@ -249,8 +257,8 @@ fn written_prefix(alloc: Global, text: &[u8]) -> Result<Option<Prefix>, AllocErr
     let spelled = if text == b"*".as_slice() { &[] } else { text };
     match Prefix::parse(alloc, spelled) {
         Ok(prefix) => Ok(Some(prefix)),
-        Err(PrefixError::Fault(_)) => Ok(None),
-        Err(PrefixError::Memory) => Err(AllocError),
+        Err(ReadError::Fault(_)) => Ok(None),
+        Err(ReadError::Memory) => Err(AllocError),
     }
 }
 
@@ -272,7 +280,7 @@ fn with_route(
 #[tactic(auto, unfolding(crate::specs::Setup::with_route_of))]
 fn with_route_of(
     alloc: Global,
-    peers: &[PeerTerms],
+    peers: &[NewPeer],
     routes: Routes,
     table: &Table,
 ) -> Result<Option<Routes>, AllocError>
@@ -292,7 +300,7 @@ fn with_route_of(
 
 fn with_route_in(
     alloc: Global,
-    peers: &[PeerTerms],
+    peers: &[NewPeer],
     routes: Routes,
     value: &Value,
 ) -> Result<Option<Routes>, AllocError>
@@ -307,7 +315,7 @@ fn with_route_in(
 #[tactic(auto, unfolding(crate::specs::Setup::with_routes_of))]
 fn routes_of(
     alloc: Global,
-    peers: &[PeerTerms],
+    peers: &[NewPeer],
     values: &[Value],
 ) -> Result<Option<Routes>, AllocError>
     ensures { IfOk result (λ routes. routes ≡ with_routes_of peers.now empty (items_view values.now)) }
@@ -325,7 +333,7 @@ fn routes_of(
 #[tactic(auto, unfolding(crate::specs::Setup::routes_of_tenant))]
 fn routes_of_tenant(
     alloc: Global,
-    peers: &[PeerTerms],
+    peers: &[NewPeer],
     table: &Table,
 ) -> Result<Option<Routes>, AllocError>
     ensures { IfOk result (λ routes. routes ≡ routes_of_tenant peers.now (table_view table.now)) }
@@ -337,7 +345,7 @@ fn routes_of_tenant(
 }
 
 #[tactic(auto, unfolding(crate::specs::Setup::rate_of))]
-fn rate_of(peers: &[PeerTerms], table: &Table) -> Option<RateTerms>
+fn rate_of(peers: &[NewPeer], table: &Table) -> Option<RateTerms>
     ensures { result ≡ rate_of peers.now (table_view table.now) }
 {
     let from = peer_under(peers, table, "from")?;
@@ -348,7 +356,7 @@ fn rate_of(peers: &[PeerTerms], table: &Table) -> Option<RateTerms>
     Some(RateTerms { from, to, rate })
 }
 
-fn rate_in(peers: &[PeerTerms], value: &Value) -> Option<RateTerms>
+fn rate_in(peers: &[NewPeer], value: &Value) -> Option<RateTerms>
     ensures { result ≡ rate_in peers.now (view value.now) }
 {
     match value.as_table() {
@@ -379,7 +387,7 @@ fn set_rate(rates: &mut Vec<RateTerms>, rate: RateTerms) -> Result<(), AllocErro
 #[tactic(auto, unfolding(crate::specs::Setup::with_rates_of))]
 fn rates_of(
     alloc: Global,
-    peers: &[PeerTerms],
+    peers: &[NewPeer],
     values: &[Value],
 ) -> Result<Option<Vec<RateTerms>>, AllocError>
     ensures { IfOk result (λ rates. option_map (λ r. r.items) rates ≡ with_rates_of peers.now [] (items_view values.now)) }
@@ -397,7 +405,7 @@ fn rates_of(
 #[tactic(auto, unfolding(crate::specs::Setup::rates_of_tenant))]
 fn rates_of_tenant(
     alloc: Global,
-    peers: &[PeerTerms],
+    peers: &[NewPeer],
     table: &Table,
 ) -> Result<Option<Vec<RateTerms>>, AllocError>
     ensures { IfOk result (λ rates. option_map (λ r. r.items) rates ≡ rates_of_tenant peers.now (table_view table.now)) }
@@ -411,7 +419,7 @@ fn rates_of_tenant(
 #[tactic(auto, unfolding(crate::specs::Setup::terms_of))]
 fn terms_of(
     table: &Table,
-    peers: Vec<PeerTerms>,
+    peers: Vec<NewPeer>,
     routes: Routes,
     rates: Vec<RateTerms>,
 ) -> Option<TenantTerms>

@@ -1,6 +1,7 @@
 //! Addresses, prefixes (RFC 0015) and moments (RFC 0027).
 
-use ilp_addr::{AddrFault, Address, Moment, Prefix, PrefixError, Stamp};
+use common_types::ReadError;
+use ilp_addr::{AddrFault, Address, Moment, Prefix, Stamp};
 use std::test::Fail;
 
 #[test]
@@ -45,7 +46,7 @@ fn prefixes(rt: HostRuntime) -> Result<(), Fail> {
     ];
     for (bytes, fault) in refused {
         let found = Prefix::parse(rt.alloc(), bytes).err();
-        assert_eq!(rt; found, Some(PrefixError::Fault(fault)));
+        assert_eq!(rt; found, Some(ReadError::Fault(fault)));
     }
     let address = Address::parse(b"g.acme.bob.x").ok().ok_or("an address")?;
     // What is read, what is kept of it, and whether the address begins with it.

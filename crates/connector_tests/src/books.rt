@@ -7,7 +7,7 @@ use route_table::Routes;
 use std::alloc::Global;
 use std::test::Fail;
 use tenant_core::{
-    Book, PeerNo, PeerTerms, PrepareKey, RateTerms, RejectCode, Role, TenantSetup, TenantTerms,
+    Book, NewPeer, PeerNo, PeerTerms, PrepareKey, RateTerms, RejectCode, Role, TenantSetup, TenantTerms,
     Verdict,
 };
 
@@ -56,9 +56,9 @@ fn text<const N: usize>(bytes: &[u8]) -> Result<Text<N>, Fail> {
 }
 
 // The peer of that number, which owes nothing yet: p0, p1 and so on, with tokens by the same names.
-fn new_peer(alloc: Global, number: u32, agreed: Agreed) -> Result<PeerTerms, Fail> {
+fn new_peer(alloc: Global, number: u32, agreed: Agreed) -> Result<NewPeer, Fail> {
     let name = format!(in alloc; "p{number}")?;
-    Ok(PeerTerms {
+    let terms = PeerTerms {
         name: text(name.as_bytes())?,
         role: Role::Peer,
         token: text(name.as_bytes())?,
@@ -71,8 +71,8 @@ fn new_peer(alloc: Global, number: u32, agreed: Agreed) -> Result<PeerTerms, Fai
         credit: agreed.credit,
         burst: agreed.burst,
         per_second: agreed.per_second,
-        balance: 0,
-    })
+    };
+    Ok(NewPeer { terms, balance: 0 })
 }
 
 fn rates(

@@ -16,7 +16,7 @@ use Rattle.floor_core.specs.declared.step.Step.{Step}
 use Rattle.floor_core.specs.declared.step.Step.TheVariants.{Load, Decide}
 use Rattle.floor_core.specs.declared.step.Output.{Output}
 use Rattle.floor_core.specs.declared.step.Output.TheVariants.{Busy, Idle, Loaded, Bad, Stranger, Reply, Send}
-use Rattle.floor_core.proofs.Runs.{kept_tenant, says, leaves}
+use Rattle.floor_core.proofs.Runs.{says, leaves}
 
 -- a call in hand is tenant 0's
 abbrev OwnHand : Hand → Type 0
@@ -80,7 +80,7 @@ arrive_number t token (Err f) = refl
 
 decide_number : (t : Tenant) (call : ℕ) (stage : Option Stage) (now : ℕ) → number_of (decide_after t call stage now) ≡ number_of t
 decide_number t call None now = refl
-decide_number t call (Some (Stage.Ready token p)) now = ap (λ (o : Opening). o.tenant) (kept_tenant t.book token (key_in p) now)
+decide_number t call (Some (Stage.Ready token p)) now = refl
 decide_number t call (Some (Stage.Sent hold)) now = refl
 
 number_stays : (t : Tenant) (e : Event) → number_of (after_alone t e) ≡ number_of t

@@ -12,11 +12,10 @@ use Rattle.common_types.specs.Token.{is_token}
 use Rattle.tenant_core.specs.State.{State}
 use Rattle.floor_core.specs.declared.step.Malformed.{Malformed}
 use Rattle.floor_core.specs.declared.step.Malformed.TheVariants as malformed
-use Rattle.tenant_core.specs.Judge.{judge, decided, peer_with_token, recording_peer}
+use Rattle.tenant_core.specs.Judge.{judge, decided}
 use Rattle.tenant_core.specs.declared.opening.Opening.{Opening}
 use Rattle.tenant_core.specs.declared.verdict.Verdict.{Verdict}
 use Rattle.tenant_core.specs.declared.verdict.Verdict.TheVariants.{Unknown, NoRoom, Refuse, Forward}
-
 use Rattle.floor_core.specs.World.{Tenant, Hand, Owner, put, key_in, said, stage_after, reply_alone, after_alone, run_alone, left_alone, owner, told, hands_after, owners, own_steps, seen_by, NobodysAreRight, AreOutputs, IsLeft, FitsIn, packet_or_fault, malformed_by, arrival}
 use Rattle.floor_core.specs.Runner.{Run, stage_of_frame, calls_of, shown_tenant, shown_hand, shown_hands, carried_after, output_of, moved, outputs_of, run_after, IsReadable}
 use Rattle.floor_core.specs.declared.carried.Carried.{Carried}
@@ -69,13 +68,6 @@ no_choice c d = λ i n. by (eqb n c) i
     by : (t : Bool) → cond t d d ≡ d
     by true = refl
     by false = refl
-
-pub kept_tenant : (s : State) (token : List ℕ) (k : Rattle.tenant_core.specs.Key.Key) (now : ℕ) → (decided s token k now).opening ≡ s.opening
-kept_tenant s token k now = by (recording_peer s (peer_with_token token s.opening.peers))
-  where
-    by : (o : Option ℕ) → (Rattle.tenant_core.specs.Judge.kept s o k now (judge s token k now)).opening ≡ s.opening
-    by None = refl
-    by (Some p) = refl
 
 told_by : (o : Opening) (p : Prepare) (call : ℕ) (v : Verdict) → shown_hand (carried_after call v) ≡ told (Hand.Has 0 call) (said o p v)
 told_by o p call Unknown = refl
@@ -146,7 +138,7 @@ decides_ready b n call now token frame (Ok p) e h =
       hands = rw e (sym (put_over 0 (Hand.Has 0 call) (shown_hand (carried_after call v)) Hand.Free) ∙ ap (put (shown_hands (run b n (Ready call token frame))) 0) (told_by b.opening p call v));
       owned = refl;
       readable = rw e (readable_by call v);
-      numbered = rw e (ap (λ (o : Opening). o.tenant) (kept_tenant b token (key_in p) now));
+      numbered = rw e refl;
     }
 decides_ready b n call now token frame (Err f) e h = absurd cc
 

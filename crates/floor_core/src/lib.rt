@@ -2,8 +2,8 @@
 #![tactic(auto)]
 
 mod carried;
-mod replies;
 pub mod laws;
+mod replies;
 mod runner;
 mod step;
 

@@ -2,7 +2,7 @@
 
 ghost use Rattle.std.specs.Prelude.{◌≡◌, ◌≤◌, IfOk, length, Some, None, if◌then◌else◌};
 ghost use Rattle.common_types.specs.Token.{is_token};
-ghost use Rattle.ilp_addr.specs.Timestamp.{latest};
+ghost use Rattle.ilp_addr.specs.Timestamp.{latest_expiry};
 ghost use Rattle.tenant_core.specs.State.{peer_numbered};
 ghost use Rattle.tenant_core.specs.Judge.{judge, decided, IsSooner};
 ghost use Rattle.floor_core.specs.World.{said, malformed_by, peer_name, key_in};
@@ -140,11 +140,7 @@ impl Runner {
         }
         let frame = Bytes::from_vec(Vec::from_slice(alloc, bytes)?);
         let call = self.next_call;
-        self.carried = Carried::Ready {
-            call,
-            token,
-            frame,
-        };
+        self.carried = Carried::Ready { call, token, frame };
         self.next_call = call + 1;
         Ok(Output::Loaded {
             tenant: self.book.tenant(),
@@ -207,7 +203,7 @@ fn said(
     packet: &PrepareView<'_>,
     verdict: Verdict,
 ) -> Result<Output, AllocError>
-    requires { IsSooner verdict latest }
+    requires { IsSooner verdict latest_expiry }
     ensures { IfOk result (λ output. output ≡ said book.now.opening packet.now verdict) }
 {
     let tenant = book.tenant();

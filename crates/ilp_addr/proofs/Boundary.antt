@@ -1,9 +1,10 @@
 -- A prefix begins an address, by segments, where its bytes come first and then a dot or the end.
-use Rattle.std.proofs.Common.{◌≡◌, ℕ, Bool, true, false, cond, eqb, ◌&&◌, List, [], ◌∷◌, ◌++◌, length, get_or, ◌<◌, arith, refl, sym, ap, ◌∙◌, inl, inr, ◌⊎◌}
+use Rattle.std.proofs.Common.{◌≡◌, ℕ, Bool, true, false, cond, eqb, ◌&&◌, List, [], ◌∷◌, ◌++◌, length, get_or, ◌<◌, arith, refl, sym, ap, ◌∙◌, inl, inr}
 use Rattle.std.specs.Prelude.{IsTrue, ◌↔◌}
 use Rattle.std.specs.List.{onto_first}
 use Rattle.std.specs.Str.{bytes_eq}
-use Rattle.std.proofs.lemmas.Bool.{eqb-true, eqb-false, eq-eqb, ne_eqb}
+use Rattle.std.proofs.Math.Bool.{and_assoc}
+use Rattle.std.proofs.lemmas.Bool.{eqb-true, eqb-false, eq-eqb, ne_eqb, cases_Bool, and_parts}
 use Rattle.std.proofs.lemmas.Slice.Eq.{bytes_eq-Decides}
 use Rattle.ilp_addr.specs.Address.{segments, prefix_segments, begins_with, Begins}
 
@@ -24,14 +25,6 @@ first_part (b ∷ bytes) =
       | false ↦ (b ∷ more.0, more.1, ap (onto_first b) more.2)
     ]
 
-test_cases : (b : Bool) → (b ≡ true) ⊎ (b ≡ false)
-test_cases true = inl refl
-test_cases false = inr refl
-
-and_assoc : (a b c : Bool) → ((a && b) && c) ≡ (a && (b && c))
-and_assoc true b c = refl
-and_assoc false b c = refl
-
 apart : (x y : ℕ) → eqb x 46 ≡ true → eqb y 46 ≡ false → eqb x y ≡ false
 apart x y h k = ne_eqb x y (λ e. eqb-false y 46 k (sym e ∙ eqb-true x 46 h))
 
@@ -43,13 +36,13 @@ unfolding begins_with at_boundary
 begins_at_boundary [] [] = refl
 begins_at_boundary [] (y ∷ d) =
     let s = first_part d in
-    elim (test_cases (eqb y 46)) [
+    elim (cases_Bool (eqb y 46)) [
       | inl dot ↦ rw dot refl
       | inr other ↦ rw (other, s.2) refl
     ]
 begins_at_boundary (x ∷ p) [] =
     let s = first_part p in
-    elim (test_cases (eqb x 46)) [
+    elim (cases_Bool (eqb x 46)) [
       | inl dot ↦ rw (dot, s.2) refl
       | inr other ↦ rw (other, s.2) refl
     ]
@@ -57,12 +50,12 @@ begins_at_boundary (x ∷ p) (y ∷ d) =
     let more = begins_at_boundary p d in
     let s = first_part p in
     let t = first_part d in
-    elim (test_cases (eqb x 46)) [
-      | inl x_dot ↦ elim (test_cases (eqb y 46)) [
+    elim (cases_Bool (eqb x 46)) [
+      | inl x_dot ↦ elim (cases_Bool (eqb y 46)) [
         | inl y_dot ↦ rw (x_dot, y_dot, eq-eqb x y (eqb-true x 46 x_dot ∙ sym (eqb-true y 46 y_dot))) more
         | inr y_other ↦ rw (x_dot, y_other, t.2, apart x y x_dot y_other) refl
       ]
-      | inr x_other ↦ elim (test_cases (eqb y 46)) [
+      | inr x_other ↦ elim (cases_Bool (eqb y 46)) [
         | inl y_dot ↦ rw (x_other, y_dot, s.2, apart_back x y x_other y_dot) refl
         | inr y_other ↦
             let same : (bytes_eq s.0 t.0 && begins_with s.1 t.1) ≡ at_boundary p d = rw (s.2, t.2) at more in
@@ -70,17 +63,13 @@ begins_at_boundary (x ∷ p) (y ∷ d) =
       ]
     ]
 
-split : (a b : Bool) → (a && b) ≡ true → (a ≡ true) × (b ≡ true)
-split true b h = (refl, h)
-split false b h = absurd cc
-
 -- the bytes come first, if the test says so
 at_boundary_front : (p d : List ℕ) → at_boundary p d ≡ true → (rest : List ℕ) × (d ≡ p ++ rest)
 unfolding at_boundary
 at_boundary_front [] d h = (d, refl)
 at_boundary_front (x ∷ p) [] h = absurd cc
 at_boundary_front (x ∷ p) (y ∷ d) h =
-    let s = split (eqb x y) (at_boundary p d) h in
+    let s = and_parts (eqb x y) (at_boundary p d) h in
     let more = at_boundary_front p d s.1 in
     (more.0, ap (λ (z : ℕ). z ∷ d) (sym (eqb-true x y s.0)) ∙ ap (λ (ys : List ℕ). x ∷ ys) more.1)
 
@@ -92,7 +81,7 @@ at_boundary_rest (x ∷ p) rest = rw (eq-eqb x x refl) (at_boundary_rest p rest)
 -- bytes that do not come first begin nothing
 pub not_in_front : (p d : List ℕ) → ((rest : List ℕ) → d ≡ p ++ rest → ⊥) → begins_with (segments p) (segments d) ≡ false
 not_in_front p d none =
-    elim (test_cases (at_boundary p d)) [
+    elim (cases_Bool (at_boundary p d)) [
       | inl yes' ↦ let f = at_boundary_front p d yes' in absurd (none f.0 f.1)
       | inr no' ↦ begins_at_boundary p d ∙ no'
     ]
@@ -118,7 +107,7 @@ unfolding begins_with
 begins_true [] d h = (d, refl)
 begins_true (x ∷ p) [] h = absurd cc
 begins_true (x ∷ p) (y ∷ d) h =
-    let s = split (bytes_eq x y) (begins_with p d) h in
+    let s = and_parts (bytes_eq x y) (begins_with p d) h in
     let more = begins_true p d s.1 in
     (more.0, ap (λ (z : List ℕ). z ∷ d) (sym ((bytes_eq-Decides x y).0 s.0)) ∙ ap (λ (ys : List (List ℕ)). x ∷ ys) more.1)
 

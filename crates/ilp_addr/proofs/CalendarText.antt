@@ -7,7 +7,7 @@ use Rattle.std.proofs.lemmas.List.Elements.{All-from_recursion}
 use Rattle.jiff_core.specs.Calendar.{IsCivilDate, days_from_civil}
 use Rattle.jiff_core.proofs.SignedLemmas.{signed_arith}
 use Rattle.jiff_core.proofs.CalendarLemmas.{days_in_month_bounds}
-use Rattle.ilp_addr.specs.Timestamp.{IsTimestamp, digit_at, two_at, year_of, month_of, day_of, hour_of, minute_of, second_of, millisecond_of, millis_of_day, instant_of, millis_at, two_digits, three_digits, four_digits, calendar_text}
+use Rattle.ilp_addr.specs.Timestamp.{IsTimestamp, digit_at, two_at, year_of, month_of, day_of, hour_of, minute_of, second_of, millisecond_of, millis_of_day, instant_of, instant_on, two_digits, three_digits, four_digits, calendar_text}
 
 low_digit : (n : ℕ) → n < 10 → IsAsciiDigit (48 + n)
 low_digit n h = (omega arith, omega arith)
@@ -103,7 +103,7 @@ text_is year month day millis date fit =
     }
 
 -- and it names them
-pub text_names : (year month day millis : ℕ) → instant_of (calendar_text year month day millis) ≡ millis_at (days_from_civil (pos year) month day) millis
+pub text_names : (year month day millis : ℕ) → instant_of (calendar_text year month day millis) ≡ instant_on (days_from_civil (pos year) month day) millis
 unfolding instant_of
 text_names year month day millis = rw (year_back year month day millis, month_back year month day millis, day_back year month day millis, millis_back year month day millis) refl
 

@@ -33,7 +33,8 @@ record IsMonthOf (year before : ℕ) (r : ℕ × ℕ) : Type 0 where
   day : (1 ≤ r.1) × (r.1 ≤ days_in_month (pos year) r.0)
   place : day_of_year (pos year) r.0 r.1 ≡ before + 1
 
-month_after_is : (n year month days : ℕ) → days ≤ n → 1 ≤ month → month ≤ 12 → days_of_months (pos year) (month - 1) + days < days_in_year (pos year) → IsMonthOf year (days_of_months (pos year) (month - 1) + days) (month_after n year month days)
+month_after_is : (n year month days : ℕ) → days ≤ n → 1 ≤ month → month ≤ 12 → days_of_months (pos year) (month - 1) + days < days_in_year (pos year)
+    → IsMonthOf year (days_of_months (pos year) (month - 1) + days) (month_after n year month days)
 unfolding month_after
 month_after_is zero year month days fuel low high within = record { month = (low, high); day = (omega arith, omega (arith, days_in_month_bounds (pos year) month)); place = omega arith }
 month_after_is (suc n) year month days fuel low high within =
@@ -49,7 +50,8 @@ month_after_is (suc n) year month days fuel low high within =
                 let whole : days_of_months (pos year) month ≡ days_in_year (pos year) = ap (λ (k : ℕ). days_of_months (pos year) k) twelve ∙ days_of_months_all (pos year) in
                 absurd (omega (arith, step, whole, within, ge))
           ] in
-          let more = month_after_is n year (month + 1) (days - days_in_month (pos year) month) (omega (arith, days_in_month_bounds (pos year) month)) (omega arith) next (rw back (omega (arith, step))) in
+          let more = month_after_is n year (month + 1) (days - days_in_month (pos year) month) (omega (arith, days_in_month_bounds (pos year) month))
+          (omega arith) next (rw back (omega (arith, step))) in
           rw (le-ltb _ _ ge) (record { month = more.month; day = more.day; place = more.place ∙ rw back (omega (arith, step)) })
     ]
 
@@ -58,7 +60,9 @@ pub record IsDateOf (day : ℕ) (year month date : ℕ) : Type 0 where
   pub civil : IsCivilDate (pos year) month date
   pub number : days_from_civil (pos year) month date ≡ pos day
 
-pub date_of_day : (day : ℕ) → day ≤ 2_932_896 → IsDateOf day (year_after day 1970 day).0 (month_after (year_after day 1970 day).1 (year_after day 1970 day).0 1 (year_after day 1970 day).1).0 (month_after (year_after day 1970 day).1 (year_after day 1970 day).0 1 (year_after day 1970 day).1).1
+pub date_of_day : (day : ℕ) → day ≤ 2_932_896
+    → IsDateOf day (year_after day 1970 day).0 (month_after (year_after day 1970 day).1 (year_after day 1970 day).0 1 (year_after day 1970 day).1).0
+    (month_after (year_after day 1970 day).1 (year_after day 1970 day).0 1 (year_after day 1970 day).1).1
 date_of_day day low =
     let y = year_after_is day 1970 day (omega arith) in
     let year = (year_after day 1970 day).0 in
@@ -86,5 +90,12 @@ date_of_day day low =
 pub year_from_1970 : (d : Date) (n : ℕ) → epoch_day d ≡ pos n → pos 0 ≤ℤ d.year
 year_from_1970 d n e =
     by_lt_z d.year (pos 1970)
-    (λ lt. absurd (omega (arith, signed_arith, e, day_count-lt_year d.year d.month d.day (pos 1970) 1 1 (date_is_civil d) (omega arith) lt, day_count-epoch, days_from_civil-day_count d.year d.month d.day)))
+    (λ lt. absurd (omega (
+      arith,
+      signed_arith,
+      e,
+      day_count-lt_year d.year d.month d.day (pos 1970) 1 1 (date_is_civil d) (omega arith) lt,
+      day_count-epoch,
+      days_from_civil-day_count d.year d.month d.day,
+    )))
     (λ ge. omega (arith, signed_arith))

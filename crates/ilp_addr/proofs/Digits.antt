@@ -1,8 +1,8 @@
 -- The test of a timestamp, part by part.
-use Rattle.std.proofs.Common.{◌≡◌, ◌<◌, ◌≤◌, ℕ, Bool, true, false, cond, eqb, ltb, leb, ◌&&◌, List, length, All, Result, Ok, Err, refl, sym, ◌∙◌, arith, pos}
+use Rattle.std.proofs.Common.{◌≡◌, ◌<◌, ◌≤◌, ℕ, true, false, cond, eqb, ltb, leb, ◌&&◌, List, length, All, Result, Ok, Err, refl, sym, ◌∙◌, arith, pos}
 use Rattle.jiff_core.proofs.SignedLemmas.{signed_arith}
 use Rattle.jiff_core.specs.Calendar.{IsCivilDate, days_in_month}
-use Rattle.std.proofs.lemmas.Bool.{eq-eqb, eqb-true, ltb-true, lt-ltb, leb-true, le-leb}
+use Rattle.std.proofs.lemmas.Bool.{eq-eqb, eqb-true, ltb-true, lt-ltb, leb-true, le-leb, and_parts}
 use Rattle.std.proofs.lemmas.List.Sums.{AllPass-from_list_all, list_all-from_AllPass}
 use Rattle.std.specs.List.{list_all}
 use Rattle.std.specs.Char.{IsAsciiDigit, is_ascii_digit}
@@ -27,13 +27,15 @@ test_from_digits text h = list_all-from_AllPass is_ascii_digit text (λ k d lt. 
 pub no_digits : (text : List ℕ) → list_all is_ascii_digit text ≡ false → timestamp_at text ≡ Err NotADate
 unfolding timestamp_at is_timestamp
 no_digits text h =
-    elim (eqb (length text) 17) as (λ b. cond (b && list_all is_ascii_digit text && is_civil_date (year_of text) (month_of text) (day_of text) && is_time (hour_of text) (minute_of text) (second_of text)) (Ok (moment_of text)) (Err NotADate) ≡ Err NotADate) [
+    elim (eqb (length text) 17) as (λ b. cond (b && list_all is_ascii_digit text && is_civil_date (year_of text) (month_of text) (day_of text) && is_time
+    (hour_of text) (minute_of text) (second_of text)) (Ok (moment_of text)) (Err NotADate) ≡ Err NotADate) [
       | true ↦ rw h refl
       | false ↦ refl
     ]
 
 -- of 17 digits the date and the time decide
-pub by_parts : (text : List ℕ) → length text ≡ 17 → All IsAsciiDigit text → timestamp_at text ≡ cond (is_civil_date (year_of text) (month_of text) (day_of text) && is_time (hour_of text) (minute_of text) (second_of text)) (Ok (moment_of text)) (Err NotADate)
+pub by_parts : (text : List ℕ) → length text ≡ 17 → All IsAsciiDigit text
+    → timestamp_at text ≡ cond (is_civil_date (year_of text) (month_of text) (day_of text) && is_time (hour_of text) (minute_of text) (second_of text)) (Ok (moment_of text)) (Err NotADate)
 unfolding timestamp_at is_timestamp
 by_parts text len digits = rw (eq-eqb _ 17 len, test_from_digits text digits) refl
 
@@ -42,26 +44,21 @@ no_date text len digits date = rw (by_parts text len digits, date) refl
 
 pub no_time : (text : List ℕ) → length text ≡ 17 → All IsAsciiDigit text → is_time (hour_of text) (minute_of text) (second_of text) ≡ false → timestamp_at text ≡ Err NotADate
 no_time text len digits time =
-    by_parts text len digits ∙ elim (is_civil_date (year_of text) (month_of text) (day_of text)) as (λ b. cond (b && is_time (hour_of text) (minute_of text) (second_of text)) (Ok (moment_of text)) (Err NotADate) ≡ Err NotADate) [
+    by_parts text len digits ∙ elim (is_civil_date (year_of text) (month_of text) (day_of text))
+    as (λ b. cond (b && is_time (hour_of text) (minute_of text) (second_of text)) (Ok (moment_of text)) (Err NotADate) ≡ Err NotADate) [
       | true ↦ rw time refl
       | false ↦ refl
     ]
 
-pub is_read : (text : List ℕ) → length text ≡ 17 → All IsAsciiDigit text → is_civil_date (year_of text) (month_of text) (day_of text) ≡ true → is_time (hour_of text) (minute_of text) (second_of text) ≡ true → timestamp_at text ≡ Ok (moment_of text)
+pub is_read : (text : List ℕ) → length text ≡ 17 → All IsAsciiDigit text → is_civil_date (year_of text) (month_of text) (day_of text) ≡ true
+    → is_time (hour_of text) (minute_of text) (second_of text) ≡ true → timestamp_at text ≡ Ok (moment_of text)
 is_read text len digits date time = rw (by_parts text len digits, date, time) refl
-
-split : (a b : Bool) → (a && b) ≡ true → (a ≡ true) × (b ≡ true)
-split true b h = (refl, h)
-split false b h = absurd cc
-
-joined : (a b : Bool) → a ≡ true → b ≡ true → (a && b) ≡ true
-joined a b h k = rw (h, k) refl
 
 civil_date : (year month day : ℕ) → year ≤ 9999 → is_civil_date year month day ≡ true → IsCivilDate (pos year) month day
 civil_date year month day low h =
-    let a = split (leb 1 month && leb month 12 && leb 1 day) (leb day (days_in_month (pos year) month)) h in
-    let b = split (leb 1 month && leb month 12) (leb 1 day) a.0 in
-    let c = split (leb 1 month) (leb month 12) b.0 in
+    let a = and_parts (leb 1 month && leb month 12 && leb 1 day) (leb day (days_in_month (pos year) month)) h in
+    let b = and_parts (leb 1 month && leb month 12) (leb 1 day) a.0 in
+    let c = and_parts (leb 1 month) (leb month 12) b.0 in
     (omega (arith, signed_arith), (leb-true _ _ c.0, leb-true _ _ c.1), (leb-true _ _ b.1, leb-true _ _ a.1))
 
 civil_test : (year month day : ℕ) → IsCivilDate (pos year) month day → is_civil_date year month day ≡ true
@@ -73,16 +70,24 @@ digit_below text place digits lt = let d = digits place 0 lt in omega arith
 
 pub year_below : (text : List ℕ) → length text ≡ 17 → All IsAsciiDigit text → year_of text ≤ 9999
 unfolding year_of
-year_below text len digits = omega (arith, digit_below text 0 digits (omega arith), digit_below text 1 digits (omega arith), digit_below text 2 digits (omega arith), digit_below text 3 digits (omega arith))
+year_below text len digits = omega (
+  arith,
+  digit_below text 0 digits (omega arith),
+  digit_below text 1 digits (omega arith),
+  digit_below text 2 digits
+      (omega arith),
+  digit_below text 3 digits (omega arith),
+)
 
 pub is_timestamp_true : (text : List ℕ) → is_timestamp text ≡ true → IsTimestamp text
 unfolding is_timestamp
 is_timestamp_true text h =
-    let a = split ((eqb (length text) 17) && list_all is_ascii_digit text && is_civil_date (year_of text) (month_of text) (day_of text)) (is_time (hour_of text) (minute_of text) (second_of text)) h in
-    let b = split ((eqb (length text) 17) && list_all is_ascii_digit text) (is_civil_date (year_of text) (month_of text) (day_of text)) a.0 in
-    let c = split (eqb (length text) 17) (list_all is_ascii_digit text) b.0 in
-    let d = split (ltb (hour_of text) 24 && ltb (minute_of text) 60) (ltb (second_of text) 60) a.1 in
-    let e = split (ltb (hour_of text) 24) (ltb (minute_of text) 60) d.0 in
+    let a = and_parts ((eqb (length text) 17) && list_all is_ascii_digit text && is_civil_date (year_of text) (month_of text) (day_of text))
+    (is_time (hour_of text) (minute_of text) (second_of text)) h in
+    let b = and_parts ((eqb (length text) 17) && list_all is_ascii_digit text) (is_civil_date (year_of text) (month_of text) (day_of text)) a.0 in
+    let c = and_parts (eqb (length text) 17) (list_all is_ascii_digit text) b.0 in
+    let d = and_parts (ltb (hour_of text) 24 && ltb (minute_of text) 60) (ltb (second_of text) 60) a.1 in
+    let e = and_parts (ltb (hour_of text) 24) (ltb (minute_of text) 60) d.0 in
     let len : length text ≡ 17 = eqb-true _ _ c.0 in
     let digits = digits_from_test text c.1 in
     record {

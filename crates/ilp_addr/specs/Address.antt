@@ -1,11 +1,14 @@
 -- Addresses (RFC 0015, "Address Requirements").
-use Rattle.std.specs.Prelude.{◌≡◌, true, false, ◌++◌, ◌-◌, take, slice_index, ◌≤◌, ℕ, Bool, not, ◌&&◌, ◌||◌, ◌==◌, nat_le, nat_lt, List, [], ◌∷◌, length, codes, IsTrue, Result, Ok, Err, if◌then◌else◌}
+use Rattle.std.specs.Prelude.{◌≡◌, true, false, ◌++◌, ◌-◌, take, slice_index, ◌≤◌, ℕ, Bool, not, ◌&&◌, ◌||◌, ◌==◌, nat_lt, List, [], ◌∷◌, length, codes, IsTrue, Result, Ok, Err, if◌then◌else◌}
 use Rattle.std.specs.List.{slice_split, list_all, list_any}
 use Rattle.std.specs.Str.{bytes_eq}
+use Rattle.common_types.specs.Numbers.{is_between}
 use Rattle.ilp_addr.specs.declared.fault.AddrFault.{AddrFault}
-use Rattle.ilp_addr.specs.declared.fault.PrefixError.{PrefixError}
-use Rattle.ilp_addr.specs.declared.fault.PrefixError.TheVariants.{Fault, Memory}
 use Rattle.ilp_addr.specs.declared.fault.AddrFault.TheVariants.{Scheme, Segment, Length}
+
+-- the most bytes of an address, and of a prefix (RFC 0015, "Address Requirements")
+abbrev pub max_address : ℕ
+max_address = 1023
 
 -- the parts between the dots, the scheme first
 abbrev pub segments : List ℕ → List (List ℕ)
@@ -20,10 +23,6 @@ schemes =
 -- the text is an allocation scheme
 unfoldable pub is_scheme : List ℕ → Bool
 is_scheme text = list_any (λ scheme. bytes_eq text scheme) schemes
-
--- the byte lies from low to high, both included
-abbrev pub is_between : ℕ → ℕ → ℕ → Bool
-is_between low high b = nat_le low b && nat_le b high
 
 -- a letter, a digit, `_`, `~` or `-`
 unfoldable pub is_segment_byte : ℕ → Bool
@@ -44,7 +43,7 @@ AreAddressParts (scheme ∷ first ∷ others) =
 
 -- at most 1,023 bytes, which are a scheme and one or more segments
 pub record IsAddress (bytes : List ℕ) : Type 0 where
-  pub short : length bytes ≤ 1023
+  pub short : length bytes ≤ max_address
   pub parts : AreAddressParts (segments bytes)
 
 -- the segments behind a scheme, checked
@@ -61,7 +60,7 @@ parts_at bytes (scheme ∷ first ∷ others) =
 -- the address that the bytes are, or the first fault
 unfoldable pub address_at : List ℕ → Result (List ℕ) AddrFault
 address_at bytes =
-    if nat_lt 1023 (length bytes) then Err Length else parts_at bytes (segments bytes)
+    if nat_lt max_address (length bytes) then Err Length else parts_at bytes (segments bytes)
 
 -- ---- prefixes (RFC 0015, "Address Prefixes")
 
@@ -77,7 +76,7 @@ ArePrefixParts (scheme ∷ others) = IsTrue (is_scheme scheme) × IsTrue (list_a
 
 -- at most 1,023 bytes: nothing, a scheme alone, or an address
 pub record IsPrefix (bytes : List ℕ) : Type 0 where
-  pub short : length bytes ≤ 1023
+  pub short : length bytes ≤ max_address
   pub parts : ArePrefixParts (prefix_segments bytes)
 
 -- the bytes, less one dot at their end
@@ -91,29 +90,23 @@ prefix_parts_at bytes [] = Ok bytes
 prefix_parts_at bytes (scheme ∷ others) =
     if is_scheme scheme then with_segments bytes others else Err Scheme
 
--- the prefix that the bytes are, or the first fault
-unfoldable pub prefix_of : List ℕ → Result (List ℕ) AddrFault
-prefix_of bytes =
-    if nat_lt 1023 (length bytes) then Err Length else prefix_parts_at bytes (prefix_segments bytes)
+-- the prefix that the bytes are, no dot behind it, or the first fault
+unfoldable pub checked_prefix : List ℕ → Result (List ℕ) AddrFault
+checked_prefix bytes =
+    if nat_lt max_address (length bytes) then Err Length else prefix_parts_at bytes (prefix_segments bytes)
 
 -- the prefix that the bytes spell, with or without a dot at the end, or the first fault
 unfoldable pub prefix_at : List ℕ → Result (List ℕ) AddrFault
 prefix_at bytes =
-    if bytes_eq bytes (46 ∷ []) then Err Scheme else prefix_of (without_last_dot bytes)
-
--- what came is what reading gives, unless memory ran out
-abbrev pub GivesPrefix : Result (List ℕ) PrefixError → Result (List ℕ) AddrFault → Type 0
-GivesPrefix (Ok bytes) read = read ≡ Ok bytes
-GivesPrefix (Err (Fault fault)) read = read ≡ Err fault
-GivesPrefix (Err Memory) read = Unit {0}
+    if bytes_eq bytes (46 ∷ []) then Err Scheme else checked_prefix (without_last_dot bytes)
 
 -- the first segments are the prefix's, and others may follow
 abbrev pub Begins : List (List ℕ) → List (List ℕ) → Type 0
-Begins prefix segments = (rest : List (List ℕ)) × (segments ≡ prefix ++ rest)
+Begins prefix parts = (rest : List (List ℕ)) × (parts ≡ prefix ++ rest)
 
 -- the test of Begins
 unfoldable pub begins_with : List (List ℕ) → List (List ℕ) → Bool
-begins_with [] segments = true
+begins_with [] parts = true
 begins_with (first ∷ prefix) [] = false
-begins_with (first ∷ prefix) (segment ∷ segments) =
-    bytes_eq first segment && begins_with prefix segments
+begins_with (first ∷ prefix) (part ∷ parts) =
+    bytes_eq first part && begins_with prefix parts

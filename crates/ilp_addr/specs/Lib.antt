@@ -1,3 +1,4 @@
 pub mod Address
 pub mod Segments
 pub mod Timestamp
+pub mod Laws

@@ -82,21 +82,25 @@ unfoldable pub millis_of_day : List ℕ → ℕ
 millis_of_day text =
     3_600_000 * hour_of text + 60_000 * minute_of text + 1000 * second_of text + millisecond_of text
 
--- the milliseconds of that many days, and more
-unfoldable pub millis_at : ℤ → ℕ → ℤ
-millis_at day millis = pos 86_400_000 *ℤ day +ℤ pos millis
+-- the milliseconds to a time of the day of that number, negative before 1970
+unfoldable pub instant_on : ℤ → ℕ → ℤ
+instant_on day millis = pos 86_400_000 *ℤ day +ℤ pos millis
 
 -- the milliseconds from 1970-01-01T00:00 to the moment that the text names, negative before it
 unfoldable pub instant_of : List ℕ → ℤ
-instant_of text = millis_at (day_number_of text) (millis_of_day text)
+instant_of text = instant_on (day_number_of text) (millis_of_day text)
 
--- 9999-12-30T00:00, the last moment that an expiry is read as
-abbrev pub latest : ℕ
-latest = 253_402_128_000_000
+-- the greatest moment that may be handed in, in the year 9999
+abbrev pub last_moment : ℕ
+last_moment = 253_400_000_000_000
+
+-- 9999-12-30T00:00, the latest moment that an expiry is read as
+abbrev pub latest_expiry : ℕ
+latest_expiry = 253_402_128_000_000
 
 -- the nearest of the moments from 1970-01-01T00:00 to 9999-12-30T00:00
 abbrev pub nearest_moment : ℤ → ℕ
-nearest_moment (pos millis) = min millis latest
+nearest_moment (pos millis) = min millis latest_expiry
 nearest_moment (negsuc millis) = 0
 
 -- the moment that the text is read as

@@ -1,15 +1,15 @@
 //! Addresses (RFC 0015).
 
 ghost use Rattle.std.specs.Prelude.{◌≡◌, ◌≤◌, ◌↔◌, ℕ, List, length, Ok, Err, IfOk, IsTrue, MatchResult};
-ghost use Rattle.ilp_addr.specs.Address.{segments, prefix_segments, Begins, begins_with, IsAddress, address_at};
+ghost use Rattle.ilp_addr.specs.Address.{segments, prefix_segments, Begins, begins_with, IsAddress, address_at, max_address};
 
 use crate::fault::AddrFault;
 use crate::prefix::Prefix;
 use crate::segments::{Segments, are_segments, is_scheme, segments_begin, split_at_dot};
 use std::marker::Model;
 
-/// The most bytes that an address may have (RFC 0015, "Address Requirements").
-pub(crate) const MAX_LEN: usize = 1023;
+/// The most bytes that an address or a prefix may have (RFC 0015, "Address Requirements").
+pub const MAX_ADDRESS: usize = 1023;
 
 /// An address: an allocation scheme and one or more segments, with a dot between any two
 /// (RFC 0015, "Address Requirements"). It borrows its bytes.
@@ -50,7 +50,7 @@ impl<'a> Address<'a> {
     pub fn bytes(&self) -> &'a [u8]
         ensures value { result.now ≡ self.now }
         ensures address { IsAddress self.now }
-        ensures short { length result.now ≤ 1023 }
+        ensures short { length result.now ≤ max_address }
     {
         self.bytes
     }
@@ -77,7 +77,7 @@ fn check_address(bytes: &[u8]) -> Result<(), AddrFault>
     ensures { MatchResult result (λ _. address_at bytes.now ≡ Ok bytes.now)
         (λ e. address_at bytes.now ≡ Err e) }
 {
-    if bytes.len() > MAX_LEN {
+    if bytes.len() > MAX_ADDRESS {
         return Err(AddrFault::Length);
     }
     let Some((scheme, rest)) = split_at_dot(bytes) else {

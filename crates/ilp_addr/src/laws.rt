@@ -1,22 +1,20 @@
-//! Laws of the calendar text, each the contract of a function that does nothing.
+//! Laws of addresses, prefixes and timestamps, each the contract of a function that does nothing.
 
-ghost use Rattle.std.specs.Prelude.{◌≡◌, ◌≤◌, ◌↔◌, List, ℕ, pos, IsTrue};
-ghost use Rattle.ilp_addr.specs.Timestamp.{IsTimestamp, is_timestamp, instant_of, moment_of, latest, timestamp_of};
+ghost use Rattle.ilp_addr.specs.Laws.{AddressLaws, PrefixLaws, TimestampLaws};
 
-/// The test of a timestamp decides what a timestamp is.
-pub fn is_timestamp_decides()
-    ensures { (text : List ℕ) → IsTrue (is_timestamp text) ↔ IsTimestamp text }
+/// What is read as an address is one, and each address is read. (RFC 0015, "Address Requirements")
+pub fn addresses()
+    ensures { AddressLaws }
 {}
 
-/// The text of a moment is a timestamp, and names the moment.
-pub fn timestamp_of_names()
-    ensures timestamp { (m : ℕ) → m ≤ latest → IsTimestamp (timestamp_of m) }
-    ensures instant { (m : ℕ) → m ≤ latest → instant_of (timestamp_of m) ≡ pos m }
-    ensures moment { (m : ℕ) → m ≤ latest → moment_of (timestamp_of m) ≡ m }
+/// What is read as a prefix is one, and each prefix is read; the test of segments says whether a
+/// prefix begins an address. (RFC 0015, "Address Prefixes")
+pub fn prefixes()
+    ensures { PrefixLaws }
 {}
 
-/// No other timestamp names the moment.
-pub fn timestamp_of_is_unique()
-    ensures { (text : List ℕ) (m : ℕ) → IsTimestamp text → instant_of text ≡ pos m
-        → text ≡ timestamp_of m }
+/// What is read as an expiry is a timestamp, and each timestamp is read; each moment has one
+/// timestamp, which is read as that moment. (RFC 0027, "ILP Prepare")
+pub fn timestamps()
+    ensures { TimestampLaws }
 {}

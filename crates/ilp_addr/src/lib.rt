@@ -1,4 +1,11 @@
-//! Addresses of the Interledger, moments, and the calendar text of a packet's expiry.
+//! Addresses of the Interledger (RFC 0015), moments, and the calendar text of a packet's expiry
+//! (RFC 0027).
+//!
+//! - [`Address`] and [`Prefix`] keep the rules of RFC 0015, at most [`MAX_ADDRESS`] bytes;
+//!   [`Address::begins_with`] compares them segment by segment, and [`Segments`] yields the parts.
+//! - [`Moment`] is a number of milliseconds since 1970-01-01T00:00:00 UTC; [`Stamp`] reads and writes
+//!   an expiry.
+//! - [`AddrFault`] says why a text is none of them; [`laws`] what ties reading to what they are.
 #![tactic(auto)]
 
 mod address;
@@ -10,12 +17,9 @@ mod prefix;
 mod segments;
 mod stamp;
 
-pub use address::Address;
-pub use fault::{AddrFault, PrefixError};
+pub use address::{Address, MAX_ADDRESS};
+pub use fault::AddrFault;
 pub use moment::Moment;
 pub use prefix::Prefix;
 pub use segments::Segments;
 pub use stamp::Stamp;
-
-#[cfg(test)]
-mod tests;

@@ -1,6 +1,7 @@
 //! Moments.
 
 ghost use Rattle.std.specs.Prelude.{◌≡◌, ◌≤◌, ◌↔◌, ℕ, IsSome, IfSome};
+ghost use Rattle.ilp_addr.specs.Timestamp.{last_moment};
 
 use std::marker::Model;
 
@@ -16,7 +17,7 @@ impl Model for Moment {
 
     ghost view = { λ m. m.millis };
 
-    ghost invariant = { λ m. m.millis ≤ 253_400_000_000_000 };
+    ghost invariant = { λ m. m.millis ≤ last_moment };
 
     ghost inverse = { λ n. record { millis = n } };
 }
@@ -27,7 +28,7 @@ impl Moment {
 
     /// The moment of that many milliseconds, or `None` past the greatest one.
     pub fn new(millis: u64) -> Option<Moment>
-        ensures found { IsSome result ↔ (millis ≤ 253_400_000_000_000) }
+        ensures found { IsSome result ↔ (millis ≤ last_moment) }
         ensures value { IfSome result (λ m. m ≡ millis) }
     {
         if millis <= Moment::MAX_MILLIS {
@@ -40,7 +41,7 @@ impl Moment {
     /// The milliseconds since 1970-01-01T00:00:00 UTC.
     pub fn millis(self) -> u64
         ensures value { result ≡ self }
-        ensures bound { result ≤ 253_400_000_000_000 }
+        ensures bound { result ≤ last_moment }
     {
         self.millis
     }

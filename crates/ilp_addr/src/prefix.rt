@@ -1,11 +1,13 @@
 //! Prefixes of addresses (RFC 0015, "Address Prefixes").
 
 ghost use Rattle.std.specs.Prelude.{◌≡◌, ◌≢◌, ◌≤◌, ◌∷◌, ℕ, [], List, length, Ok, Err, IfOk, MatchResult};
-ghost use Rattle.ilp_addr.specs.Address.{IsPrefix, prefix_at, prefix_of, without_last_dot, GivesPrefix};
+ghost use Rattle.common_types.specs.Outcomes.{GivesUnlessMemory};
+ghost use Rattle.ilp_addr.specs.Address.{IsPrefix, prefix_at, checked_prefix, without_last_dot, max_address};
 
-use crate::address::MAX_LEN;
-use crate::fault::{AddrFault, PrefixError};
+use crate::address::MAX_ADDRESS;
+use crate::fault::AddrFault;
 use crate::segments::{are_segments, is_scheme, split_at_dot};
+use common_types::ReadError;
 use std::alloc::{AllocError, Global};
 use std::marker::Model;
 
@@ -31,14 +33,14 @@ impl Prefix {
     /// `Fault(Length)` where there are more than 1,023 bytes, `Fault(Scheme)` where no allocation
     /// scheme comes first, `Fault(Segment)` where a segment is empty or has a byte that is not
     /// allowed, and `Memory` where there is no memory for the bytes.
-    pub fn parse(alloc: Global, bytes: &[u8]) -> Result<Prefix, PrefixError>
+    pub fn parse(alloc: Global, bytes: &[u8]) -> Result<Prefix, ReadError<AddrFault>>
         // What is read is a prefix, and all of the bytes but a dot at the end.
         ensures found { IfOk result (λ p. IsPrefix p × (p ≡ without_last_dot bytes.now)) }
         // Each prefix is read, unless memory runs out.
         ensures only { bytes.now ≢ 46 ∷ [] → IsPrefix (without_last_dot bytes.now)
-            → GivesPrefix result (Ok (without_last_dot bytes.now)) }
+            → GivesUnlessMemory (λ p. p) result (Ok (without_last_dot bytes.now)) }
         // Which fault comes.
-        ensures exact { GivesPrefix result (prefix_at bytes.now) }
+        ensures exact { GivesUnlessMemory (λ p. p) result (prefix_at bytes.now) }
     {
         read(alloc, bytes)
     }
@@ -47,7 +49,7 @@ impl Prefix {
     pub fn bytes(&self) -> &[u8]
         ensures value { result.now ≡ self.now }
         ensures prefix { IsPrefix self.now }
-        ensures short { length result.now ≤ 1023 }
+        ensures short { length result.now ≤ max_address }
     {
         &self.bytes
     }
@@ -61,10 +63,13 @@ impl Prefix {
     }
 }
 
-fn read(alloc: Global, bytes: &[u8]) -> Result<Prefix, PrefixError>
-    ensures { GivesPrefix result (prefix_at bytes.now) }
+fn read(alloc: Global, bytes: &[u8]) -> Result<Prefix, ReadError<AddrFault>>
+    ensures { GivesUnlessMemory (λ p. p) result (prefix_at bytes.now) }
 {
-    let bytes = prefix_bytes(bytes)?;
+    let bytes = match prefix_bytes(bytes) {
+        Ok(bytes) => bytes,
+        Err(fault) => return Err(ReadError::Fault(fault)),
+    };
     let bytes = Vec::from_slice(alloc, bytes)?;
     Ok(Prefix { bytes })
 }
@@ -90,15 +95,15 @@ fn strip_last_dot(bytes: &[u8]) -> &[u8]
     }
 }
 
-#[tactic(auto, unfolding(crate::specs::Address::prefix_of))]
+#[tactic(auto, unfolding(crate::specs::Address::checked_prefix))]
 fn check_prefix(bytes: &[u8]) -> Result<&[u8], AddrFault>
-    ensures { MatchResult result (λ r. prefix_of bytes.now ≡ Ok r.now)
-        (λ e. prefix_of bytes.now ≡ Err e) }
+    ensures { MatchResult result (λ r. checked_prefix bytes.now ≡ Ok r.now)
+        (λ e. checked_prefix bytes.now ≡ Err e) }
 {
     if bytes.is_empty() {
         return Ok(bytes);
     }
-    if bytes.len() > MAX_LEN {
+    if bytes.len() > MAX_ADDRESS {
         return Err(AddrFault::Length);
     }
     let Some((scheme, rest)) = split_at_dot(bytes) else {

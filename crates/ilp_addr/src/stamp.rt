@@ -4,7 +4,7 @@ ghost use Rattle.std.specs.Prelude.{◌≡◌, ◌≤◌, ◌<◌, ◌+◌, ◌/
 ghost use Rattle.std.specs.Char.{IsAsciiDigit, is_ascii_digit};
 ghost use Rattle.std.specs.List.{list_all};
 ghost use Rattle.ilp_addr.specs.Timestamp as spec;
-ghost use Rattle.ilp_addr.specs.Timestamp.{IsTimestamp, latest, moment_of, timestamp_at, timestamp_of, has_date, has_time, day_number_of, millis_at, nearest_moment, two_at, digit_at};
+ghost use Rattle.ilp_addr.specs.Timestamp.{IsTimestamp, latest_expiry, moment_of, timestamp_at, timestamp_of, has_date, has_time, instant_on, nearest_moment, two_at, digit_at};
 
 use crate::calendar::{date_of, day_number};
 use crate::fault::AddrFault;
@@ -12,8 +12,8 @@ use crate::fault::AddrFault;
 /// The milliseconds of a day.
 const DAY_MILLIS: u64 = 86_400_000;
 
-/// 9999-12-30T00:00:00 UTC, the last moment that an expiry is read as, in milliseconds.
-const LATEST: u64 = 253_402_128_000_000;
+/// 9999-12-30T00:00:00 UTC, the latest moment that an expiry is read as, in milliseconds.
+const LATEST_EXPIRY: u64 = 253_402_128_000_000;
 
 /// The expiry of a Prepare, as text: `YYYYMMDDHHMMSSfff` in UTC (RFC 0027, "ILP Prepare").
 pub struct Stamp;
@@ -32,7 +32,7 @@ impl Stamp {
         ensures only { IsTimestamp text.now → result ≡ Ok (moment_of text.now) }
         // Which answer comes.
         ensures exact { result ≡ timestamp_at text.now }
-        ensures bound { IfOk result (λ moment. moment ≤ latest) }
+        ensures bound { IfOk result (λ moment. moment ≤ latest_expiry) }
     {
         if !are_digits(text) {
             return Err(AddrFault::NotADate);
@@ -42,7 +42,7 @@ impl Stamp {
 
     /// Writes the text of the moment, in milliseconds since 1970-01-01T00:00:00 UTC.
     pub fn write(moment: u64, out: &mut [u8])
-        requires moment { moment ≤ latest }
+        requires moment { moment ≤ latest_expiry }
         requires len { length out.old ≡ 17 }
         ensures { out.new ≡ timestamp_of moment }
     {
@@ -123,10 +123,10 @@ fn two(text: &[u8], place: usize) -> u8
 }
 
 #[tactic(auto, unfolding(crate::specs::Timestamp::year_of, crate::specs::Timestamp::month_of, crate::specs::Timestamp::day_of))]
-fn day_of(text: &[u8; 17]) -> Option<i32>
+fn day_number_of(text: &[u8; 17]) -> Option<i32>
     requires { All IsAsciiDigit text.now }
     ensures found { is_some result ≡ has_date text.now }
-    ensures value { IfSome result (λ n. n ≡ day_number_of text.now) }
+    ensures value { IfSome result (λ n. n ≡ spec.day_number_of text.now) }
 {
     let year = 100 * two(text, 0) as u16 + two(text, 2) as u16;
     day_number(year, two(text, 4), two(text, 6))
@@ -147,24 +147,24 @@ fn millis_of_day(text: &[u8; 17]) -> Option<u32>
     Some(3_600_000 * hour as u32 + 60_000 * minute as u32 + 1000 * second as u32 + millis)
 }
 
-#[tactic(auto, unfolding(crate::specs::Timestamp::millis_at))]
+#[tactic(auto, unfolding(crate::specs::Timestamp::instant_on))]
 fn nearest(day: i32, millis: u32) -> u64
     requires { millis < 86_400_000 }
-    ensures value { result ≡ nearest_moment (millis_at day millis) }
-    ensures bound { result ≤ latest }
+    ensures value { result ≡ nearest_moment (instant_on day millis) }
+    ensures bound { result ≤ latest_expiry }
 {
     if day < 0 {
         return 0;
     }
-    (DAY_MILLIS * day as u64 + millis as u64).min(LATEST)
+    (DAY_MILLIS * day as u64 + millis as u64).min(LATEST_EXPIRY)
 }
 
 fn parse_digits(text: &[u8; 17]) -> Result<u64, AddrFault>
     requires { All IsAsciiDigit text.now }
     ensures exact { result ≡ timestamp_at text.now }
-    ensures bound { IfOk result (λ moment. moment ≤ latest) }
+    ensures bound { IfOk result (λ moment. moment ≤ latest_expiry) }
 {
-    let (Some(day), Some(millis)) = (day_of(text), millis_of_day(text)) else {
+    let (Some(day), Some(millis)) = (day_number_of(text), millis_of_day(text)) else {
         return Err(AddrFault::NotADate);
     };
     Ok(nearest(day, millis))

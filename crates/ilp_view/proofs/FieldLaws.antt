@@ -3,18 +3,17 @@ use Rattle.std.proofs.Common.{◌≡◌, ◌≤◌, ◌+◌, ℕ, List, [], ◌�
 use Rattle.std.proofs.lemmas.Bool.{ltb-false, le-ltb, eqb-true, eq-eqb}
 use Rattle.std.proofs.lemmas.List.{take_at, drop_at, take-append-drop, length-append, length-take-le, append-nil, nil_from_length}
 use Rattle.oer_core.specs.declared.fault.OerFault.{OerFault}
-use Rattle.oer_core.specs.Length.{IsLength, ◌>>=◌, length_at}
-use Rattle.oer_core.proofs.Results.{bind_ok, guard_ok, chosen}
-use Rattle.oer_core.proofs.Lengths.{length_takes, length_again}
+use Rattle.common_types.specs.ResultChain.{◌>>=◌}
+use Rattle.oer_core.specs.Length.{IsLength, length_at}
 use Rattle.ilp_addr.specs.declared.fault.AddrFault.{AddrFault}
 use Rattle.ilp_addr.specs.Address.{IsAddress, address_at}
 use Rattle.ilp_addr.specs.Timestamp.{IsTimestamp, timestamp_at}
-use Rattle.ilp_addr.proofs.Parts.{address_found, address_again}
-use Rattle.ilp_addr.proofs.Digits.{read_is_timestamp, timestamp_is_read}
 use Rattle.ilp_view.specs.declared.fault.ViewFault.{ViewFault}
 use Rattle.ilp_view.specs.declared.fault.ViewFault.TheVariants.{Oer, AfterEnd, Size, Kind}
-use Rattle.ilp_view.specs.Packet.{IsFrame}
+use Rattle.ilp_view.specs.Below.{LawsBelow}
+use Rattle.ilp_view.specs.Packet.{IsFrame, max_frame}
 use Rattle.ilp_view.specs.Reading.{as_oer, as_field, fixed_at, string_at, expiry_at, destination_at, data_at, whole_string, behind_type, envelope_at}
+use Rattle.ilp_view.proofs.Results.{bind_ok, guard_ok, chosen}
 
 pub as_oer_ok : {A : Type 0} (r : Result A OerFault) (x : A) → as_oer r ≡ Ok x → r ≡ Ok x
 as_oer_ok (Ok y) x e = cc
@@ -52,12 +51,12 @@ fixed_again count x rest len =
 abbrev cut : List ℕ → ℕ × ℕ → List ℕ × List ℕ × List ℕ
 cut bytes n = (take n.1 bytes, take n.0 (drop n.1 bytes), drop n.0 (drop n.1 bytes))
 
-pub string_takes : (bytes : List ℕ) (r : List ℕ × List ℕ × List ℕ) → string_at bytes ≡ Ok r → (bytes ≡ r.0 ++ (r.1 ++ r.2)) × IsLength r.0 (length r.1)
+pub string_takes : LawsBelow → (bytes : List ℕ) (r : List ℕ × List ℕ × List ℕ) → string_at bytes ≡ Ok r → (bytes ≡ r.0 ++ (r.1 ++ r.2)) × IsLength r.0 (length r.1)
 unfolding string_at
-string_takes bytes r e =
-    let b = bind_ok (as_oer (length_at 34000 bytes)) (λ n. cond (ltb (length (drop n.1 bytes)) n.0) (Err Oer) (Ok (cut bytes n))) r e in
+string_takes laws bytes r e =
+    let b = bind_ok (as_oer (length_at max_frame bytes)) (λ n. cond (ltb (length (drop n.1 bytes)) n.0) (Err Oer) (Ok (cut bytes n))) r e in
     let n = b.0 in
-    let t = length_takes 34000 bytes n (as_oer_ok (length_at 34000 bytes) n b.1) in
+    let t = laws.lengths.read_is_spelled max_frame bytes n (as_oer_ok (length_at max_frame bytes) n b.1) in
     let g = guard_ok (ltb (length (drop n.1 bytes)) n.0) Oer (cut bytes n) r b.2 in
     let len : length (take n.0 (drop n.1 bytes)) ≡ n.0 = length-take-le n.0 (drop n.1 bytes) (ltb-false _ _ g.0) in
     let after : drop n.1 bytes ≡ take n.0 (drop n.1 bytes) ++ drop n.0 (drop n.1 bytes) = sym (take-append-drop n.0 (drop n.1 bytes)) in
@@ -65,79 +64,87 @@ string_takes bytes r e =
     let spelled : IsLength (take n.1 bytes) (length (take n.0 (drop n.1 bytes))) = subst (λ (m : ℕ). IsLength (take n.1 bytes) m) (sym len) t.1 in
     subst (λ (q : List ℕ × List ℕ × List ℕ). (bytes ≡ q.0 ++ (q.1 ++ q.2)) × IsLength q.0 (length q.1)) g.1 (whole, spelled)
 
-pub string_again : (spelling text rest : List ℕ) → IsLength spelling (length text) → length text ≤ 34000 → string_at (spelling ++ (text ++ rest)) ≡ Ok (spelling, text, rest)
+pub string_again : LawsBelow → (spelling text rest : List ℕ) → IsLength spelling (length text) → length text ≤ 34000 → string_at (spelling ++ (text ++ rest)) ≡ Ok (spelling, text, rest)
 unfolding string_at
-string_again spelling text rest spelled short =
+string_again laws spelling text rest spelled short =
     let dropped : drop (length spelling) (spelling ++ (text ++ rest)) ≡ text ++ rest = drop_at spelling (text ++ rest) (length spelling) refl in
     let long : ltb (length (text ++ rest)) (length text) ≡ false = le-ltb _ _ (omega (arith, length-append text rest)) in
-    rw (length_again 34000 (length text) spelling (text ++ rest) spelled short, dropped, long, take_at spelling (text ++ rest) (length spelling) refl, take_at text rest (length text) refl, drop_at text rest (length text) refl) refl
+    rw (
+      laws.lengths.spelled_is_read max_frame (length text) spelling (text ++ rest) spelled short,
+      dropped,
+      long,
+      take_at spelling (text ++ rest)
+          (length spelling) refl,
+      take_at text rest (length text) refl,
+      drop_at text rest (length text) refl,
+    ) refl
 
 -- ---- an expiry
 
-pub expiry_takes : (bytes : List ℕ) (r : List ℕ × List ℕ) → expiry_at bytes ≡ Ok r → (bytes ≡ r.0 ++ r.1) × IsTimestamp r.0
+pub expiry_takes : LawsBelow → (bytes : List ℕ) (r : List ℕ × List ℕ) → expiry_at bytes ≡ Ok r → (bytes ≡ r.0 ++ r.1) × IsTimestamp r.0
 unfolding expiry_at
-expiry_takes bytes r e =
+expiry_takes laws bytes r e =
     let b = bind_ok (fixed_at 17 bytes) (λ text. as_field (timestamp_at text.0) >>= λ moment. Ok text) r e in
     let m = bind_ok (as_field (timestamp_at b.0.0)) (λ moment. Ok b.0) r b.2 in
     let t = fixed_takes 17 bytes b.0 b.1 in
-    let d = read_is_timestamp b.0.0 m.0 (as_field_ok (timestamp_at b.0.0) m.0 m.1) in
+    let d = laws.timestamps.read_is_timestamp b.0.0 m.0 (as_field_ok (timestamp_at b.0.0) m.0 m.1) in
     let same : b.0 ≡ r = same_ok b.0 r m.2 in
     subst (λ (q : List ℕ × List ℕ). (bytes ≡ q.0 ++ q.1) × IsTimestamp q.0) same (t.0, d.0)
 
-pub expiry_again : (text rest : List ℕ) → IsTimestamp text → expiry_at (text ++ rest) ≡ Ok (text, rest)
+pub expiry_again : LawsBelow → (text rest : List ℕ) → IsTimestamp text → expiry_at (text ++ rest) ≡ Ok (text, rest)
 unfolding expiry_at
-expiry_again text rest date =
-    rw (fixed_again 17 text rest date.len, timestamp_is_read text date) refl
+expiry_again laws text rest date =
+    rw (fixed_again 17 text rest date.len, laws.timestamps.timestamp_is_read text date) refl
 
 -- ---- a destination
 
-pub destination_takes : (bytes : List ℕ) (r : List ℕ × List ℕ × List ℕ) → destination_at bytes ≡ Ok r → (bytes ≡ r.0 ++ (r.1 ++ r.2)) × IsLength r.0 (length r.1) × IsAddress r.1
+pub destination_takes : LawsBelow → (bytes : List ℕ) (r : List ℕ × List ℕ × List ℕ) → destination_at bytes ≡ Ok r → (bytes ≡ r.0 ++ (r.1 ++ r.2)) × IsLength r.0 (length r.1) × IsAddress r.1
 unfolding destination_at
-destination_takes bytes r e =
+destination_takes laws bytes r e =
     let b = bind_ok (string_at bytes) (λ s. as_field (address_at s.1) >>= λ address. Ok s) r e in
     let m = bind_ok (as_field (address_at b.0.1)) (λ address. Ok b.0) r b.2 in
-    let t = string_takes bytes b.0 b.1 in
-    let d = address_found b.0.1 m.0 (as_field_ok (address_at b.0.1) m.0 m.1) in
+    let t = string_takes laws bytes b.0 b.1 in
+    let d = laws.addresses.read_is_address b.0.1 m.0 (as_field_ok (address_at b.0.1) m.0 m.1) in
     let same : b.0 ≡ r = same_ok b.0 r m.2 in
     subst (λ (q : List ℕ × List ℕ × List ℕ). (bytes ≡ q.0 ++ (q.1 ++ q.2)) × IsLength q.0 (length q.1) × IsAddress q.1) same (t.0, t.1, d.0)
 
-pub destination_again : (spelling text rest : List ℕ) → IsLength spelling (length text) → IsAddress text → destination_at (spelling ++ (text ++ rest)) ≡ Ok (spelling, text, rest)
+pub destination_again : LawsBelow → (spelling text rest : List ℕ) → IsLength spelling (length text) → IsAddress text → destination_at (spelling ++ (text ++ rest)) ≡ Ok (spelling, text, rest)
 unfolding destination_at
-destination_again spelling text rest spelled address =
-    rw (string_again spelling text rest spelled (omega (arith, address.short)), address_again text address) refl
+destination_again laws spelling text rest spelled address =
+    rw (string_again laws spelling text rest spelled (omega (arith, address.short)), laws.addresses.address_is_read text address) refl
 
 -- ---- data
 
-pub data_takes : (bytes : List ℕ) (r : List ℕ × List ℕ × List ℕ) → data_at bytes ≡ Ok r → (bytes ≡ r.0 ++ (r.1 ++ r.2)) × IsLength r.0 (length r.1) × (length r.1 ≤ 32768)
+pub data_takes : LawsBelow → (bytes : List ℕ) (r : List ℕ × List ℕ × List ℕ) → data_at bytes ≡ Ok r → (bytes ≡ r.0 ++ (r.1 ++ r.2)) × IsLength r.0 (length r.1) × (length r.1 ≤ 32768)
 unfolding data_at
-data_takes bytes r e =
+data_takes laws bytes r e =
     let b = bind_ok (string_at bytes) (λ s. cond (ltb 32768 (length s.1)) (Err Size) (Ok s)) r e in
-    let t = string_takes bytes b.0 b.1 in
+    let t = string_takes laws bytes b.0 b.1 in
     let g = guard_ok (ltb 32768 (length b.0.1)) Size b.0 r b.2 in
     subst (λ (q : List ℕ × List ℕ × List ℕ). (bytes ≡ q.0 ++ (q.1 ++ q.2)) × IsLength q.0 (length q.1) × (length q.1 ≤ 32768)) g.1 (t.0, t.1, ltb-false _ _ g.0)
 
-pub data_again : (spelling text rest : List ℕ) → IsLength spelling (length text) → length text ≤ 32768 → data_at (spelling ++ (text ++ rest)) ≡ Ok (spelling, text, rest)
+pub data_again : LawsBelow → (spelling text rest : List ℕ) → IsLength spelling (length text) → length text ≤ 32768 → data_at (spelling ++ (text ++ rest)) ≡ Ok (spelling, text, rest)
 unfolding data_at
-data_again spelling text rest spelled short =
-    rw (string_again spelling text rest spelled (omega arith), le-ltb 32768 (length text) short) refl
+data_again laws spelling text rest spelled short =
+    rw (string_again laws spelling text rest spelled (omega arith), le-ltb 32768 (length text) short) refl
 
 -- ---- the envelope
 
-whole_takes : (bytes : List ℕ) (r : List ℕ × List ℕ) → whole_string bytes ≡ Ok r → (bytes ≡ r.0 ++ r.1) × IsLength r.0 (length r.1)
+whole_takes : LawsBelow → (bytes : List ℕ) (r : List ℕ × List ℕ) → whole_string bytes ≡ Ok r → (bytes ≡ r.0 ++ r.1) × IsLength r.0 (length r.1)
 unfolding whole_string
-whole_takes bytes r e =
+whole_takes laws bytes r e =
     let b = bind_ok (string_at bytes) (λ s. cond (eqb (length s.2) 0) (Ok (s.0, s.1)) (Err AfterEnd)) r e in
-    let t = string_takes bytes b.0 b.1 in
+    let t = string_takes laws bytes b.0 b.1 in
     let g = ok_if (eqb (length b.0.2) 0) AfterEnd (b.0.0, b.0.1) r b.2 in
     let nothing : b.0.2 ≡ [] = nil_from_length b.0.2 (eqb-true _ _ g.0) in
     let whole : bytes ≡ b.0.0 ++ b.0.1 = t.0 ∙ ap (λ (x : List ℕ). b.0.0 ++ (b.0.1 ++ x)) nothing ∙ ap (λ (x : List ℕ). b.0.0 ++ x) (append-nil b.0.1) in
     subst (λ (q : List ℕ × List ℕ). (bytes ≡ q.0 ++ q.1) × IsLength q.0 (length q.1)) g.1 (whole, t.1)
 
-whole_again : (spelling text : List ℕ) → IsLength spelling (length text) → length text ≤ 34000 → whole_string (spelling ++ text) ≡ Ok (spelling, text)
+whole_again : LawsBelow → (spelling text : List ℕ) → IsLength spelling (length text) → length text ≤ 34000 → whole_string (spelling ++ text) ≡ Ok (spelling, text)
 unfolding whole_string
-whole_again spelling text spelled short =
+whole_again laws spelling text spelled short =
     let ended : spelling ++ text ≡ spelling ++ (text ++ []) = ap (λ (x : List ℕ). spelling ++ x) (sym (append-nil text)) in
-    let read : string_at (spelling ++ text) ≡ Ok (spelling, text, []) = ap string_at ended ∙ string_again spelling text [] spelled short in
+    let read : string_at (spelling ++ text) ≡ Ok (spelling, text, []) = ap string_at ended ∙ string_again laws spelling text [] spelled short in
     rw read refl
 
 type_is : (kind b : ℕ) (read : Result (List ℕ × List ℕ) ViewFault) (r : List ℕ × List ℕ) → cond (eqb b kind) read (Err Kind) ≡ Ok r → (b ≡ kind) × (read ≡ Ok r)
@@ -147,28 +154,28 @@ type_is kind b read r e =
       | inr p ↦ absurd cc
     ]
 
-behind_takes : (kind : ℕ) (frame : List ℕ) (r : List ℕ × List ℕ) → behind_type kind frame ≡ Ok r → (frame ≡ kind ∷ r.0 ++ r.1) × IsLength r.0 (length r.1)
+behind_takes : LawsBelow → (kind : ℕ) (frame : List ℕ) (r : List ℕ × List ℕ) → behind_type kind frame ≡ Ok r → (frame ≡ kind ∷ r.0 ++ r.1) × IsLength r.0 (length r.1)
 unfolding behind_type
-behind_takes kind [] r e = absurd cc
-behind_takes kind (b ∷ rest) r e =
+behind_takes laws kind [] r e = absurd cc
+behind_takes laws kind (b ∷ rest) r e =
     let read = type_is kind b (whole_string rest) r e in
-    let w = whole_takes rest r read.1 in
+    let w = whole_takes laws rest r read.1 in
     (ap (λ (k : ℕ). k ∷ rest) read.0 ∙ ap (λ (x : List ℕ). kind ∷ x) w.0, w.1)
 
-pub envelope_takes : (kind : ℕ) (frame : List ℕ) (r : List ℕ × List ℕ) → envelope_at kind frame ≡ Ok r → IsFrame frame kind r.0 r.1
+pub envelope_takes : LawsBelow → (kind : ℕ) (frame : List ℕ) (r : List ℕ × List ℕ) → envelope_at kind frame ≡ Ok r → IsFrame frame kind r.0 r.1
 unfolding envelope_at
-envelope_takes kind frame r e =
+envelope_takes laws kind frame r e =
     elim (chosen (ltb 34000 (length frame)) (Err Size) (behind_type kind frame) (Ok r) e) [
       | inl p ↦ absurd cc
       | inr p ↦
-          let b = behind_takes kind frame r p.1 in
+          let b = behind_takes laws kind frame r p.1 in
           record { bytes = b.0; spelled = b.1; size = ltb-false _ _ p.0 }
     ]
 
-pub envelope_again : (kind : ℕ) (frame spelling contents : List ℕ) → IsFrame frame kind spelling contents → envelope_at kind frame ≡ Ok (spelling, contents)
+pub envelope_again : LawsBelow → (kind : ℕ) (frame spelling contents : List ℕ) → IsFrame frame kind spelling contents → envelope_at kind frame ≡ Ok (spelling, contents)
 unfolding envelope_at behind_type
-envelope_again kind frame spelling contents f =
+envelope_again laws kind frame spelling contents f =
     let len : length (kind ∷ spelling ++ contents) ≡ length (kind ∷ spelling) + length contents = length-append (kind ∷ spelling) contents in
     let size : length (kind ∷ spelling ++ contents) ≤ 34000 = omega (arith, f.size, ap length f.bytes) in
     let short : length contents ≤ 34000 = omega arith in
-    ap (envelope_at kind) f.bytes ∙ rw (le-ltb 34000 (length (kind ∷ spelling ++ contents)) size, eq-eqb kind kind refl) (whole_again spelling contents f.spelled short)
+    ap (envelope_at kind) f.bytes ∙ rw (le-ltb 34000 (length (kind ∷ spelling ++ contents)) size, eq-eqb kind kind refl) (whole_again laws spelling contents f.spelled short)

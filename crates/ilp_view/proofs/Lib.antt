@@ -1,6 +1,6 @@
+pub mod Results
 pub mod FieldLaws
 pub mod PrepareLaws
 pub mod AnswerLaws
-pub mod Moments
 pub mod Writes
 pub mod WrittenAnswers

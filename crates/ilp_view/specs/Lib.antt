@@ -1,3 +1,4 @@
 pub mod Packet
 pub mod Reading
 pub mod Seen
+pub mod Below

@@ -1,16 +1,24 @@
 -- What packets are: their frames and their parts (RFC 0027).
-use Rattle.std.specs.Prelude.{◌≡◌, ◌<◌, ◌≤◌, ◌+◌, ◌^◌, ℕ, List, [], ◌∷◌, ◌++◌, length}
+use Rattle.std.specs.Prelude.{◌≡◌, ◌<◌, ◌≤◌, ◌^◌, ℕ, List, [], ◌∷◌, ◌++◌, length}
 use Rattle.std.specs.Int.{w64, to_be_bytes}
 use Rattle.oer_core.specs.Length.{IsLength, shortest_length, octet_string}
 use Rattle.ilp_addr.specs.Address.{IsAddress}
 use Rattle.ilp_addr.specs.Timestamp.{IsTimestamp}
 
+-- The most bytes of a frame.
+abbrev pub max_frame : ℕ
+max_frame = 34_000
+
+-- The most bytes of the data of a packet (RFC 0027, "ILP Prepare").
+abbrev pub max_data : ℕ
+max_data = 32_768
+
 -- A frame of that kind: a type byte, the length of the contents in any spelling, and the contents, in
--- at most 34,000 bytes (RFC 0027, "Packet Format").
+-- no more bytes than a frame may have (RFC 0027, "Packet Format").
 pub record IsFrame (frame : List ℕ) (kind : ℕ) (spelling contents : List ℕ) : Type 0 where
   pub bytes : frame ≡ kind ∷ spelling ++ contents
   pub spelled : IsLength spelling (length contents)
-  pub size : length frame ≤ 34000
+  pub size : length frame ≤ max_frame
 
 -- The parts of a Prepare, each as it stands in the frame, with the spellings of the lengths and the
 -- bytes after the last field (RFC 0027, "ILP Prepare").
@@ -45,7 +53,7 @@ pub record IsPrepare (frame : List ℕ) (p : Prepare) : Type 0 where
   pub destination_length : IsLength p.destination_length (length p.destination)
   pub destination : IsAddress p.destination
   pub data_length : IsLength p.data_length (length p.payload)
-  pub payload : length p.payload ≤ 32768
+  pub payload : length p.payload ≤ max_data
 
 -- The frame that is sent on: the same parts in the same spellings, but for the amount and the expiry
 -- (RFC 0027, "ILP Prepare").
@@ -69,7 +77,7 @@ pub record IsFulfill (frame : List ℕ) (p : Fulfill) : Type 0 where
   pub framed : IsFrame frame 13 p.contents_length (fulfill_contents p)
   pub fulfillment : length p.fulfillment ≡ 32
   pub data_length : IsLength p.data_length (length p.payload)
-  pub payload : length p.payload ≤ 32768
+  pub payload : length p.payload ≤ max_data
 
 -- The parts of a Reject, each as it stands in the frame (RFC 0027, "ILP Reject").
 pub record Reject : Type 0 where
@@ -98,7 +106,7 @@ pub record IsReject (frame : List ℕ) (p : Reject) : Type 0 where
   pub triggered_by_length : IsLength p.triggered_by_length (length p.triggered_by)
   pub message_length : IsLength p.message_length (length p.message)
   pub data_length : IsLength p.data_length (length p.payload)
-  pub payload : length p.payload ≤ 32768
+  pub payload : length p.payload ≤ max_data
 
 -- The frame of a Fulfill, its lengths in the fewest bytes (RFC 0027, "ILP Fulfill").
 abbrev pub fulfill_frame : List ℕ → List ℕ → List ℕ
@@ -108,11 +116,6 @@ fulfill_frame fulfillment payload = 13 ∷ octet_string (fulfillment ++ octet_st
 abbrev pub reject_frame : List ℕ → List ℕ → List ℕ → List ℕ → List ℕ
 reject_frame code triggered_by message payload =
     14 ∷ octet_string (code ++ (octet_string triggered_by ++ (octet_string message ++ octet_string payload)))
-
--- Parts of a Reject that leave its frame within 34,000 bytes and its data within 32,768.
-abbrev pub FitsReject : List ℕ → List ℕ → List ℕ → Type 0
-FitsReject triggered_by message payload =
-    (length payload ≤ 32768) × (length triggered_by + length message + length payload ≤ 33984)
 
 -- The parts of the Fulfill that is written so (RFC 0027, "ILP Fulfill").
 abbrev pub written_fulfill : List ℕ → List ℕ → Fulfill

@@ -1,13 +1,14 @@
 -- Reading a frame from the first byte on, with the first fault that is met.
 use Rattle.std.specs.Prelude.{ℕ, List, [], ◌∷◌, length, take, drop, Result, Ok, Err, nat_lt, ◌==◌, if◌then◌else◌}
 use Rattle.oer_core.specs.declared.fault.OerFault.{OerFault}
-use Rattle.oer_core.specs.Length.{◌>>=◌, length_at, number_at}
+use Rattle.common_types.specs.ResultChain.{◌>>=◌}
+use Rattle.oer_core.specs.Length.{length_at, number_at}
 use Rattle.ilp_addr.specs.declared.fault.AddrFault.{AddrFault}
 use Rattle.ilp_addr.specs.Address.{address_at}
 use Rattle.ilp_addr.specs.Timestamp.{timestamp_at}
 use Rattle.ilp_view.specs.declared.fault.ViewFault.{ViewFault}
 use Rattle.ilp_view.specs.declared.fault.ViewFault.TheVariants.{Kind, Oer, Field, AfterEnd, Size}
-use Rattle.ilp_view.specs.Packet.{Prepare, Fulfill, Reject}
+use Rattle.ilp_view.specs.Packet.{max_frame, max_data, Prepare, Fulfill, Reject}
 
 -- What is wrong with a length or a number is one fault.
 abbrev pub as_oer : {A : Type 0} → Result A OerFault → Result A ViewFault
@@ -27,8 +28,9 @@ fixed_at count bytes = if nat_lt (length bytes) count then Err Oer else Ok (take
 -- "Variable-Length Octet Strings").
 unfoldable pub string_at : List ℕ → Result (List ℕ × List ℕ × List ℕ) ViewFault
 string_at bytes = do
-  r ← as_oer (length_at 34000 bytes)
-  if nat_lt (length (drop r.1 bytes)) r.0 then Err Oer else Ok (take r.1 bytes, take r.0 (drop r.1 bytes), drop r.0 (drop r.1 bytes))
+  r ← as_oer (length_at max_frame bytes)
+  if nat_lt (length (drop r.1 bytes)) r.0 then Err Oer
+      else Ok (take r.1 bytes, take r.0 (drop r.1 bytes), drop r.0 (drop r.1 bytes))
 
 -- A date and time in 17 digits, and the bytes after it (RFC 0027, "ILP Prepare").
 unfoldable pub expiry_at : List ℕ → Result (List ℕ × List ℕ) ViewFault
@@ -44,11 +46,11 @@ destination_at bytes = do
   address ← as_field (address_at s.1)
   Ok s
 
--- An octet string of at most 32,768 bytes (RFC 0027, "ILP Prepare").
+-- An octet string that holds the data of a packet (RFC 0027, "ILP Prepare").
 unfoldable pub data_at : List ℕ → Result (List ℕ × List ℕ × List ℕ) ViewFault
 data_at bytes = do
   s ← string_at bytes
-  if nat_lt 32768 (length s.1) then Err Size else Ok s
+  if nat_lt max_data (length s.1) then Err Size else Ok s
 
 -- A length and as many bytes as it says, with none after them.
 unfoldable pub whole_string : List ℕ → Result (List ℕ × List ℕ) ViewFault
@@ -63,7 +65,7 @@ behind_type kind (b ∷ rest) = if b == kind then whole_string rest else Err Kin
 
 -- The spelling of the length and the contents of a frame of that kind (RFC 0027, "Packet Format").
 unfoldable pub envelope_at : ℕ → List ℕ → Result (List ℕ × List ℕ) ViewFault
-envelope_at kind frame = if nat_lt 34000 (length frame) then Err Size else behind_type kind frame
+envelope_at kind frame = if nat_lt max_frame (length frame) then Err Size else behind_type kind frame
 
 -- The parts of a Prepare, its contents read field by field.
 unfoldable pub prepare_fields : List ℕ → List ℕ → Result Prepare ViewFault

@@ -3,17 +3,18 @@
 ghost use Rattle.std.specs.Prelude.{◌≡◌, ◌≤◌, ◌+◌, ◌↔◌, length, IfOk, IfErr, IsOk};
 ghost use Rattle.oer_core.specs.Length.{octet_string};
 ghost use Rattle.oer_core.specs.Writing.{Writes};
-ghost use Rattle.ilp_view.specs.Packet.{fulfill_frame, reject_frame, FitsReject};
+ghost use Rattle.ilp_view.specs.Packet.{max_frame, max_data, fulfill_frame, reject_frame};
 
 use crate::fault::ViewFault;
 use crate::fulfill::FULFILL;
+use crate::laws::laws_below;
 use crate::reject::REJECT;
 use oer_core::{length_size, put_bytes, put_length, put_octets};
 
 fn octets_size(text: &[u8]) -> usize
-    requires { length text.now ≤ 34000 }
+    requires { length text.now ≤ max_frame }
     ensures size { result ≡ length (octet_string text.now) }
-    ensures within { result ≤ length text.now + 3 }
+    ensures within { result ≤ length text.now + 9 }
 {
     length_size(text.len()) + text.len()
 }
@@ -28,12 +29,14 @@ pub fn write_fulfill(
     fulfillment: &[u8; 32],
     payload: &[u8],
 ) -> Result<usize, ViewFault>
-    requires { length payload.now ≤ 32768 }
+    requires { length payload.now ≤ max_data }
     ensures fits { IsOk result ↔ (length (fulfill_frame fulfillment.now payload.now) ≤ length out.old) }
-    ensures within { length (fulfill_frame fulfillment.now payload.now) ≤ 34000 }
-    ensures ok { IfOk result (λ end. Writes out.old 0 (fulfill_frame fulfillment.now payload.now) out.new end) }
+    ensures within { length (fulfill_frame fulfillment.now payload.now) ≤ max_frame }
+    ensures ok { IfOk result (λ end.
+        Writes out.old 0 (fulfill_frame fulfillment.now payload.now) out.new end) }
     ensures err { IfErr result (λ e. (e ≡ ViewFault.Short) × (out.new ≡ out.old)) }
 {
+    laws_below();
     let size = 32 + octets_size(payload);
     if out.len() < 1 + length_size(size) + size {
         return Err(ViewFault::Short);
@@ -45,9 +48,11 @@ pub fn write_fulfill(
 }
 
 /// Writes the Reject of these parts at the front of `out`, each length in the fewest bytes, and gives
-/// the length of its frame, at most 34,000 bytes. Every other byte of `out` stays.
+/// the length of its frame. Every other byte of `out` stays.
 ///
-/// The error is `Short` where the frame does not fit; nothing is written then. (RFC 0027, "ILP Reject")
+/// `payload` has at most 32,768 bytes, and the whole frame at most 34,000, as it has where the parts
+/// have at most 33,984 together. The error is `Short` where the frame does not fit into `out`; nothing
+/// is written then. (RFC 0027, "ILP Reject")
 pub fn write_reject(
     out: &mut [u8],
     code: &[u8; 3],
@@ -55,7 +60,8 @@ pub fn write_reject(
     message: &[u8],
     payload: &[u8],
 ) -> Result<usize, ViewFault>
-    requires { FitsReject triggered_by.now message.now payload.now }
+    requires data { length payload.now ≤ max_data }
+    requires frame { length (reject_frame code.now triggered_by.now message.now payload.now) ≤ max_frame }
     ensures fits { IsOk result
         ↔ (length (reject_frame code.now triggered_by.now message.now payload.now) ≤ length out.old) }
     ensures within { length (reject_frame code.now triggered_by.now message.now payload.now)
@@ -64,6 +70,7 @@ pub fn write_reject(
         Writes out.old 0 (reject_frame code.now triggered_by.now message.now payload.now) out.new end) }
     ensures err { IfErr result (λ e. (e ≡ ViewFault.Short) × (out.new ≡ out.old)) }
 {
+    laws_below();
     let size = 3 + octets_size(triggered_by) + octets_size(message) + octets_size(payload);
     if out.len() < 1 + length_size(size) + size {
         return Err(ViewFault::Short);

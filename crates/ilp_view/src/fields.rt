@@ -1,8 +1,8 @@
 //! The fields of packets, read one after the other.
 
 ghost use Rattle.std.specs.Prelude.{◌≡◌, ◌≤◌, IfOk};
-ghost use Rattle.oer_core.specs.Length.{Gives};
-ghost use Rattle.ilp_addr.specs.Timestamp.{latest, moment_of};
+ghost use Rattle.common_types.specs.Outcomes.{Gives};
+ghost use Rattle.ilp_addr.specs.Timestamp.{latest_expiry, moment_of};
 ghost use Rattle.ilp_view.specs.Reading.{fixed_at, string_at, expiry_at, destination_at, data_at, envelope_at, whole_string, behind_type};
 
 use crate::fault::ViewFault;
@@ -10,10 +10,10 @@ use ilp_addr::{Address, Stamp};
 use oer_core::read_length;
 
 /// The most bytes that a frame may have.
-pub(crate) const MAX_FRAME: usize = 34_000;
+pub const MAX_FRAME: usize = 34_000;
 
 /// The most bytes that the data of a packet may have (RFC 0027).
-pub(crate) const MAX_DATA: usize = 32_768;
+pub const MAX_DATA: usize = 32_768;
 
 #[tactic(auto, unfolding(crate::specs::Reading::fixed_at))]
 pub(crate) fn fixed(bytes: &[u8], count: usize) -> Result<(&[u8], &[u8]), ViewFault>
@@ -42,6 +42,7 @@ pub(crate) fn string(bytes: &[u8]) -> Result<(&[u8], &[u8], &[u8]), ViewFault>
 pub(crate) fn expiry(bytes: &[u8]) -> Result<(&[u8], u64, &[u8]), ViewFault>
     ensures exact { Gives (λ r. (r.0.now, r.2.now)) result (expiry_at bytes.now) }
     ensures moment { IfOk result (λ r. r.1 ≡ moment_of r.0.now) }
+    ensures bound { IfOk result (λ r. r.1 ≤ latest_expiry) }
 {
     let Some((text, rest)) = bytes.split_first_chunk::<17>() else {
         return Err(ViewFault::Oer);

@@ -1,13 +1,14 @@
 //! A Fulfill: the answer that proves that the receiver was paid.
 
 ghost use Rattle.std.specs.Prelude.{◌≡◌, ◌≤◌, List, ℕ, length, IfOk, Ok};
-ghost use Rattle.oer_core.specs.Length.{Gives};
-ghost use Rattle.ilp_view.specs.Packet.{Fulfill, IsFulfill};
+ghost use Rattle.common_types.specs.Outcomes.{Gives};
+ghost use Rattle.ilp_view.specs.Packet.{max_data, Fulfill, IsFulfill};
 ghost use Rattle.ilp_view.specs.Reading.{fulfill_at, fulfill_fields};
 ghost use Rattle.ilp_view.specs.Seen.{fulfill_of};
 
 use crate::fault::ViewFault;
 use crate::fields;
+use crate::laws::laws_below;
 use std::marker::Model;
 
 /// The type byte of a Fulfill (RFC 0027).
@@ -79,6 +80,7 @@ impl<'a> FulfillView<'a> {
         // Which fault it is.
         ensures exact { result ≡ fulfill_at frame.now }
     {
+        laws_below();
         let parts = parts_of(frame)?;
         Ok(FulfillView { parts })
     }
@@ -94,7 +96,7 @@ impl<'a> FulfillView<'a> {
     /// The data for the sender, at most 32,768 bytes of the frame.
     pub fn payload(&self) -> &'a [u8]
         ensures value { result.now ≡ self.now.payload }
-        ensures size { length result.now ≤ 32768 }
+        ensures size { length result.now ≤ max_data }
     {
         self.parts.payload
     }

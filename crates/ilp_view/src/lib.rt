@@ -1,5 +1,10 @@
 //! The packets of the Interledger (RFC 0027) as views of the bytes that they came in: each part is
 //! lent from the frame, and no reader allocates.
+//!
+//! - [`PrepareView`], [`FulfillView`] and [`RejectView`] read a frame of at most [`MAX_FRAME`] bytes
+//!   with at most [`MAX_DATA`] bytes of data; [`PrepareView::forwarded`] is the frame that is sent on.
+//! - [`write_fulfill`] and [`write_reject`] write the two answers.
+//! - [`ViewFault`] says why a frame could not be read or written; [`laws`] what frames have in common.
 #![tactic(auto)]
 
 mod answers;
@@ -12,11 +17,7 @@ mod reject;
 
 pub use answers::{write_fulfill, write_reject};
 pub use fault::ViewFault;
+pub use fields::{MAX_DATA, MAX_FRAME};
 pub use fulfill::FulfillView;
 pub use prepare::PrepareView;
 pub use reject::RejectView;
-
-#[cfg(test)]
-mod table_tests;
-#[cfg(test)]
-mod tests;

@@ -1,14 +1,15 @@
 //! A Prepare: what is to be paid to whom, until when, and against which fulfillment.
 
 ghost use Rattle.std.specs.Prelude.{◌≡◌, ◌≤◌, List, ℕ, length, IfOk, Ok};
-ghost use Rattle.ilp_addr.specs.Timestamp.{latest, moment_of, timestamp_of};
-ghost use Rattle.ilp_view.specs.Packet.{Prepare, IsPrepare, prepare_frame, with_amount_and_expiry};
+ghost use Rattle.ilp_addr.specs.Timestamp.{latest_expiry, moment_of, timestamp_of};
+ghost use Rattle.ilp_view.specs.Packet.{max_data, Prepare, IsPrepare, prepare_frame, with_amount_and_expiry};
 ghost use Rattle.ilp_view.specs.Reading.{prepare_at, prepare_fields};
 ghost use Rattle.ilp_view.specs.Seen.{prepare_of};
-ghost use Rattle.oer_core.specs.Length.{Gives};
+ghost use Rattle.common_types.specs.Outcomes.{Gives};
 
 use crate::fault::ViewFault;
 use crate::fields;
+use crate::laws::laws_below;
 use ilp_addr::{Address, Stamp};
 use oer_core::read_u64;
 use std::alloc::{AllocError, Global};
@@ -54,6 +55,7 @@ impl<'a> Model for PrepareView<'a> {
 fn fields_of<'a>(spelling: &'a [u8], contents: &'a [u8]) -> Result<PrepareParts<'a>, ViewFault>
     ensures exact { Gives prepare_of result (prepare_fields spelling.now contents.now) }
     ensures moment { IfOk result (λ v. v.expiry ≡ moment_of v.expiry_text.now) }
+    ensures bound { IfOk result (λ v. v.expiry ≤ latest_expiry) }
 {
     let (amount, rest) = read_u64(contents)?;
     let (expiry_text, expiry, rest) = fields::expiry(rest)?;
@@ -78,6 +80,7 @@ fn fields_of<'a>(spelling: &'a [u8], contents: &'a [u8]) -> Result<PrepareParts<
 fn parts_of(frame: &[u8]) -> Result<PrepareParts<'_>, ViewFault>
     ensures exact { Gives prepare_of result (prepare_at frame.now) }
     ensures moment { IfOk result (λ v. v.expiry ≡ moment_of v.expiry_text.now) }
+    ensures bound { IfOk result (λ v. v.expiry ≤ latest_expiry) }
 {
     let (spelling, contents) = fields::envelope(PREPARE, frame)?;
     fields_of(spelling, contents)
@@ -123,6 +126,7 @@ impl<'a> PrepareView<'a> {
         // Which fault it is.
         ensures exact { result ≡ prepare_at frame.now }
     {
+        laws_below();
         let parts = parts_of(frame)?;
         Ok(PrepareView { frame, parts })
     }
@@ -137,7 +141,7 @@ impl<'a> PrepareView<'a> {
     /// The expiry, in milliseconds since 1970-01-01T00:00:00 UTC, at most 253,402,128,000,000.
     pub fn expiry(&self) -> u64
         ensures moment { result ≡ moment_of self.now.expiry }
-        ensures bound { result ≤ latest }
+        ensures bound { result ≤ latest_expiry }
     {
         self.parts.expiry
     }
@@ -160,7 +164,7 @@ impl<'a> PrepareView<'a> {
     /// The data for the receiver, at most 32,768 bytes of the frame.
     pub fn payload(&self) -> &'a [u8]
         ensures value { result.now ≡ self.now.payload }
-        ensures size { length result.now ≤ 32768 }
+        ensures size { length result.now ≤ max_data }
     {
         self.parts.payload
     }
@@ -171,12 +175,14 @@ impl<'a> PrepareView<'a> {
     /// `expiry` is in milliseconds since 1970-01-01T00:00:00 UTC, at most 253,402,128,000,000. The
     /// error is want of memory. (RFC 0027, "ILP Prepare")
     pub fn forwarded(&self, alloc: Global, amount: u64, expiry: u64) -> Result<Vec<u8>, AllocError>
-        requires { expiry ≤ latest }
+        requires { expiry ≤ latest_expiry }
         // Every byte of the frame.
         ensures frame { IfOk result (λ v. v.items ≡ with_amount_and_expiry self.now amount (timestamp_of expiry)) }
         // It is a Prepare too, with this amount and expiry in place of the others.
-        ensures prepare { IfOk result (λ v. IsPrepare v.items (record self.now { amount = amount; expiry = timestamp_of expiry })) }
+        ensures prepare { IfOk result (λ v.
+            IsPrepare v.items (record self.now { amount = amount; expiry = timestamp_of expiry })) }
     {
+        laws_below();
         let mut text = [0; 17];
         Stamp::write(expiry, &mut text);
         frame_with(alloc, self.frame.len(), &self.parts, amount, &text)

@@ -1,13 +1,14 @@
 //! A Reject: the answer that says why a Prepare was not fulfilled.
 
 ghost use Rattle.std.specs.Prelude.{◌≡◌, ◌≤◌, List, ℕ, length, IfOk, Ok};
-ghost use Rattle.oer_core.specs.Length.{Gives};
-ghost use Rattle.ilp_view.specs.Packet.{Reject, IsReject};
+ghost use Rattle.common_types.specs.Outcomes.{Gives};
+ghost use Rattle.ilp_view.specs.Packet.{max_data, Reject, IsReject};
 ghost use Rattle.ilp_view.specs.Reading.{reject_at, reject_fields};
 ghost use Rattle.ilp_view.specs.Seen.{reject_of};
 
 use crate::fault::ViewFault;
 use crate::fields;
+use crate::laws::laws_below;
 use std::marker::Model;
 
 /// The type byte of a Reject (RFC 0027).
@@ -89,6 +90,7 @@ impl<'a> RejectView<'a> {
         // Which fault it is.
         ensures exact { result ≡ reject_at frame.now }
     {
+        laws_below();
         let parts = parts_of(frame)?;
         Ok(RejectView { parts })
     }
@@ -118,7 +120,7 @@ impl<'a> RejectView<'a> {
     /// The data for the sender, at most 32,768 bytes of the frame.
     pub fn payload(&self) -> &'a [u8]
         ensures value { result.now ≡ self.now.payload }
-        ensures size { length result.now ≤ 32768 }
+        ensures size { length result.now ≤ max_data }
     {
         self.parts.payload
     }

@@ -1,28 +1,16 @@
 //! The connector's program.
 #![tactic(auto)]
 
-mod carried;
 mod command_line;
 mod device;
-mod laws;
-mod printed;
-mod replay;
-#[cfg(test)]
-mod replay_tests;
-mod replies;
-mod runner;
-mod script;
-mod setup;
-mod step;
-mod streams;
+mod replays;
 #[cfg(test)]
 mod tests;
-#[cfg(test)]
-mod verdict_tests;
 
 use command_line::arguments;
 use device::Counted;
-use replay::{ReplayFault, replay};
+use replay_text::ReplayFault;
+use replays::replay;
 use std::io::ErrorKind;
 use std::process::ExitCode;
 use std::rt::{Env, Files};

@@ -1,6 +1,6 @@
 -- Prices of amounts under a rate, in exact numbers.
 use Rattle.std.specs.Prelude.{ℕ, ◌+◌, ◌-◌, ◌*◌, ◌/◌, ◌<◌, ◌≤◌, Result, Ok, Err, nat_lt, ◌==◌, ◌||◌, if◌then◌else◌}
-use Rattle.money_core.specs.Fraction.{Fraction}
+use Rattle.money_core.specs.Fraction.{Fraction, max_term}
 use Rattle.money_core.specs.declared.rate.RateFault.{RateFault}
 use Rattle.money_core.specs.declared.rate.RateFault.TheVariants.{Zero, Limit}
 
@@ -30,5 +30,5 @@ greatest_amount f limit max =
 abbrev pub rate_at : ℕ → ℕ → Result Fraction RateFault
 rate_at numerator denominator =
     if numerator == 0 || denominator == 0 then Err Zero
-    else (if nat_lt 1_000_000_000_000 numerator || nat_lt 1_000_000_000_000 denominator then Err Limit
+    else (if nat_lt max_term numerator || nat_lt max_term denominator then Err Limit
     else Ok (record { numerator = numerator; denominator = denominator }))

@@ -6,8 +6,10 @@ use thiserror::Error;
 /// Why two numbers are no rate.
 #[derive(Clone, Copy, Debug, PartialEq, Eq, Error)]
 pub enum RateFault {
+    /// One of the two numbers is 0.
     #[error("a rate's numerator and denominator are at least 1")]
     Zero,
+    /// One of the two numbers is over 10^12.
     #[error("a rate's numerator and denominator are at most 1000000000000")]
     Limit,
 }
@@ -34,7 +36,7 @@ impl Model for Rate {
 
 impl Rate {
     /// The greatest numerator and denominator.
-    pub const MOST: u64 = 1_000_000_000_000;
+    pub const MAX_TERM: u64 = 1_000_000_000_000;
 }
 
 impl Rate {
@@ -50,7 +52,7 @@ impl Rate {
         if numerator == 0 || denominator == 0 {
             return Err(RateFault::Zero);
         }
-        if numerator > Rate::MOST || denominator > Rate::MOST {
+        if numerator > Rate::MAX_TERM || denominator > Rate::MAX_TERM {
             return Err(RateFault::Limit);
         }
         Ok(Rate {

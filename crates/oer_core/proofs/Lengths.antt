@@ -1,11 +1,11 @@
 -- The function that reads a length and the relation, joined.
 use Rattle.std.proofs.Common.{◌≡◌, ◌≤◌, suc, ◌+◌, ◌-◌, ℕ, List, [], ◌∷◌, ◌++◌, length, take, cond, eqb, ltb, leb, ◌||◌, Ok, Err, refl, sym, ap, ◌∙◌, subst, inl, inr, arith}
-use Rattle.std.proofs.lemmas.Bool.{cases_lt, ltb-false, leb-true, lt-ltb, le-ltb, le-leb, eqb-false, ne_eqb}
+use Rattle.std.proofs.lemmas.Bool.{cases_lt, ltb-false, leb-true, lt-ltb, le-ltb, le-leb, eqb-false, ne_eqb, or_parts}
 use Rattle.std.proofs.lemmas.List.{length-take-le, length-append}
 use Rattle.std.proofs.Math.Seq.{take-append_seam}
 use Rattle.oer_core.specs.declared.fault.OerFault.TheVariants.{Short, BadLength, TooLong}
 use Rattle.oer_core.specs.Length.{IsLength, big_endian, limited, length_at}
-use Rattle.oer_core.proofs.Results.{chosen, or_false}
+use Rattle.oer_core.proofs.Results.{chosen}
 
 limited_ok : (limit n taken : ℕ) (r : ℕ × ℕ) → limited limit n taken ≡ Ok r → (n ≤ limit) × (r.0 ≡ n) × (r.1 ≡ taken)
 limited_ok limit n taken r h =
@@ -34,7 +34,7 @@ length_takes limit (b ∷ bytes) r h =
                   | inl t ↦ let bad = rw (lt-ltb _ _ t) at q.1 in absurd cc
                   | inr t ↦
                       let v = limited_ok limit (big_endian (take (b - 128) bytes)) (b - 128 + 1) r (rw (le-ltb _ _ t) at q.1) in
-                      let w = or_false _ _ q.0 in
+                      let w = or_parts _ _ q.0 in
                       let high = ltb-false 136 b w.1 in
                       let not128 = eqb-false b 128 w.0 in
                       let e : r.1 ≡ suc (b - 128) = omega arith in

@@ -35,7 +35,8 @@ unfolding number_at
 number_of_front front rest len =
     let long : ltb (length (front ++ rest)) 8 ≡ false = le-ltb _ _ (omega (arith, length-append front rest)) in
     let made : List ℕ → List ℕ → Result (ℕ × List ℕ) OerFault = λ x y. Ok (from_be_bytes w64 x, y) in
-    let taken : made (take 8 (front ++ rest)) (drop 8 (front ++ rest)) ≡ made front rest = ap (λ (x : List ℕ). made x (drop 8 (front ++ rest))) (take_at front rest 8 len) ∙ ap (λ (x : List ℕ). made front x) (drop_at front rest 8 len) in
+    let taken : made (take 8 (front ++ rest)) (drop 8 (front ++ rest)) ≡ made front rest =
+    ap (λ (x : List ℕ). made x (drop 8 (front ++ rest))) (take_at front rest 8 len) ∙ ap (λ (x : List ℕ). made front x) (drop_at front rest 8 len) in
     subst (λ (b : Bool). cond b (Err Short) (made (take 8 (front ++ rest)) (drop 8 (front ++ rest))) ≡ made front rest) (sym long) taken
 
 pub number_again : (n : ℕ) (rest : List ℕ) → n < 2 ^ 64 → number_at (to_be_bytes w64 n ++ rest) ≡ Ok (n, rest)

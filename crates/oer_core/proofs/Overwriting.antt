@@ -11,7 +11,8 @@ overwritten_twice old at a b fits =
     let len : length front ≡ at + length a = omega (arith, length-append (take at old) a, length-take-le at old (omega arith)) in
     let kept : take (at + length a) (front ++ rest) ≡ front = take_at front rest (at + length a) len in
     let both : at + length a + length b ≡ at + length (a ++ b) = omega (arith, length-append a b) in
-    let passed : drop (at + length a + length b) (front ++ rest) ≡ drop (at + length (a ++ b)) old = drop-append-drop (at + length a) old front (at + length a + length b) (omega arith) len ∙ ap (λ (k : ℕ). drop k old) both in
+    let passed : drop (at + length a + length b) (front ++ rest) ≡ drop (at + length (a ++ b)) old =
+    drop-append-drop (at + length a) old front (at + length a + length b) (omega arith) len ∙ ap (λ (k : ℕ). drop k old) both in
     ap (λ (x : List ℕ). x ++ b ++ drop (at + length a + length b) (front ++ rest)) kept
     ∙ ap (λ (x : List ℕ). front ++ b ++ x) passed
     ∙ ap (λ (x : List ℕ). x ++ drop (at + length (a ++ b)) old) (append_assoc (take at old) a b)
@@ -20,8 +21,3 @@ pub drop-overwritten : (old : List ℕ) (at : ℕ) (bytes : List ℕ) → at ≤
 drop-overwritten old at bytes within =
     ap (drop at) (append_assoc (take at old) bytes (drop (at + length bytes) old))
     ∙ drop_at (take at old) (bytes ++ drop (at + length bytes) old) at (length-take-le at old within)
-
--- one more write behind what was written from the front on
-pub overwritten_next : (old done bytes x y : List ℕ) (at : ℕ) → x ≡ overwritten old 0 done → at ≡ length done → y ≡ overwritten x at bytes → length done ≤ length old → y ≡ overwritten old 0 (done ++ bytes)
-overwritten_next old done bytes x y at is place then fits =
-    then ∙ ap (λ (z : List ℕ). overwritten z at bytes) is ∙ ap (λ (k : ℕ). overwritten (overwritten old 0 done) k bytes) (omega arith) ∙ overwritten_twice old 0 done bytes (omega arith)

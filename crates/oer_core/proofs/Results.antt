@@ -1,6 +1,7 @@
 -- Facts of results and tests, by cases.
-use Rattle.std.proofs.Common.{◌≡◌, ◌⊎◌, Bool, true, false, cond, ◌||◌, Result, Ok, Err, IfOk, IsOkAnd, refl, inl, inr}
-use Rattle.oer_core.specs.Length.{◌>>=◌, Gives}
+use Rattle.std.proofs.Common.{◌≡◌, ◌⊎◌, Bool, true, false, cond, Result, Ok, Err, IfOk, IsOkAnd, refl, inl, inr}
+use Rattle.common_types.specs.ResultChain.{◌>>=◌}
+use Rattle.common_types.specs.Outcomes.{Gives}
 
 -- which way a test went
 pub chosen : {A : Type 0} (b : Bool) (x y z : A) → cond b x y ≡ z → ((b ≡ true) × (x ≡ z)) ⊎ ((b ≡ false) × (y ≡ z))
@@ -16,10 +17,6 @@ if_ok_by (Err e) P h = tt
 pub if_ok_seen : {X Y E : Type 0} (view : X → Y) (r : Result X E) (read : Result Y E) (P : X → Type 0) → Gives view r read → ((x : X) → read ≡ Ok (view x) → P x) → IfOk r P
 if_ok_seen view (Ok x) read P given h = h x given
 if_ok_seen view (Err e) read P given h = tt
-
-pub or_false : (a b : Bool) → (a || b) ≡ false → (a ≡ false) × (b ≡ false)
-or_false true b h = absurd cc
-or_false false b h = (refl, h)
 
 -- the value of a step that did not fail
 pub bind_ok : {A B E : Type 0} (r : Result A E) (f : A → Result B E) (y : B) → (r >>= f) ≡ Ok y → (x : A) × (r ≡ Ok x) × (f x ≡ Ok y)

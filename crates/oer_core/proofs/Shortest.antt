@@ -45,7 +45,8 @@ grows start (b ∷ bytes) = rw (pow-suc 256 (length bytes)) (grow_step start b (
 
 stays_below : (start : ℕ) (bytes : List ℕ) → AreBytes bytes → from start bytes < (start + 1) * 256 ^ length bytes
 stays_below start [] fits = omega arith
-stays_below start (b ∷ bytes) fits = rw (pow-suc 256 (length bytes)) (below_step start b (256 ^ length bytes) (from (start * 256 + b) bytes) (fits 0) (stays_below (start * 256 + b) bytes (λ i. fits (suc i))))
+stays_below start (b ∷ bytes) fits = rw (pow-suc 256 (length bytes))
+    (below_step start b (256 ^ length bytes) (from (start * 256 + b) bytes) (fits 0) (stays_below (start * 256 + b) bytes (λ i. fits (suc i))))
 
 -- the first digit is not zero
 at_least : (bytes : List ℕ) (d : ℕ) (ds : List ℕ) → without_leading_zeros bytes ≡ d ∷ ds → 0 < d
@@ -54,7 +55,8 @@ at_least [] d ds e = absurd cc
 at_least (zero ∷ bytes) d ds e = at_least bytes d ds e
 at_least (suc b ∷ bytes) d ds e = let same : suc b ≡ d = cc in omega arith
 
-long_spelling : (n : ℕ) (digits : List ℕ) → 128 ≤ n → big_endian digits ≡ n → length digits ≤ 8 → (128 < 128 + length digits) × (128 + length digits ≤ 136) × (length digits ≡ 128 + length digits - 128) × (n ≡ big_endian digits)
+long_spelling : (n : ℕ) (digits : List ℕ) → 128 ≤ n → big_endian digits ≡ n → length digits ≤ 8
+    → (128 < 128 + length digits) × (128 + length digits ≤ 136) × (length digits ≡ 128 + length digits - 128) × (n ≡ big_endian digits)
 long_spelling n [] large value short = absurd (omega arith)
 long_spelling n (d ∷ ds) large value short = (omega arith, omega arith, omega arith, sym value)
 
@@ -77,7 +79,8 @@ no_longer d ds bytes positive fits same =
       | inr ge ↦ absurd (omega (arith, pow-le-pow_right {n = 256} (omega arith) ge))
     ]
 
-digits_no_longer : (n : ℕ) (digits bytes : List ℕ) → 128 ≤ n → ((d : ℕ) (ds : List ℕ) → digits ≡ d ∷ ds → 0 < d) → big_endian digits ≡ n → AreBytes bytes → n ≡ big_endian bytes → length digits ≤ length bytes
+digits_no_longer : (n : ℕ) (digits bytes : List ℕ) → 128 ≤ n → ((d : ℕ) (ds : List ℕ) → digits ≡ d ∷ ds → 0 < d) → big_endian digits ≡ n
+    → AreBytes bytes → n ≡ big_endian bytes → length digits ≤ length bytes
 digits_no_longer n [] bytes large first value fits same = absurd (omega arith)
 digits_no_longer n (d ∷ ds) bytes large first value fits same = no_longer d ds bytes (first d ds refl) fits (value ∙ same)
 
@@ -91,7 +94,8 @@ no_shorter n (b ∷ bs) fits bytes spelled =
           elim spelled [
             | inl short ↦ absurd (omega arith)
             | inr long ↦
-                let digits : length (without_leading_zeros (to_be_bytes w64 n)) ≤ length bs = digits_no_longer n (without_leading_zeros (to_be_bytes w64 n)) bs ge (at_least (to_be_bytes w64 n)) (digits_value n fits) (λ i. bytes (suc i)) long.3 in
+                let digits : length (without_leading_zeros (to_be_bytes w64 n)) ≤ length bs =
+                digits_no_longer n (without_leading_zeros (to_be_bytes w64 n)) bs ge (at_least (to_be_bytes w64 n)) (digits_value n fits) (λ i. bytes (suc i)) long.3 in
                 rw (le-ltb n 128 ge) (omega arith)
           ]
     ]

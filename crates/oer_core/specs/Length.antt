@@ -1,6 +1,7 @@
 -- Lengths, octet strings and 64-bit numbers as bytes, as relations and as functions on lists.
 use Rattle.std.specs.Prelude.{◌≡◌, ◌<◌, ◌≤◌, ◌+◌, ◌-◌, ◌*◌, ◌⊎◌, ℕ, zero, suc, List, [], ◌∷◌, ◌++◌, length, take, drop, fold, slice_index, Result, Ok, Err, nat_lt, nat_le, ◌==◌, ◌||◌, if◌then◌else◌}
 use Rattle.std.specs.Int.{w64, from_be_bytes, to_be_bytes}
+use Rattle.common_types.specs.ResultChain.{◌>>=◌}
 use Rattle.oer_core.specs.declared.fault.OerFault.{OerFault}
 use Rattle.oer_core.specs.declared.fault.OerFault.TheVariants.{Short, BadLength, TooLong}
 
@@ -44,17 +45,6 @@ IsOctetString bytes text = (spelling : List ℕ) × IsLength spelling (length te
 -- An octet string that holds the text stands at the front of the bytes, and the rest follows it.
 abbrev pub BeginsWithString : List ℕ → List ℕ → List ℕ → Type 0
 BeginsWithString bytes text rest = (front : List ℕ) × IsOctetString front text × (bytes ≡ front ++ rest)
-
-infixl 10 ◌>>=◌
--- The first fault ends a reading.
-abbrev pub ◌>>=◌ : {A B E : Type 0} → Result A E → (A → Result B E) → Result B E
-(Ok x) >>= f = f x
-(Err e) >>= f = Err e
-
--- What a function returned, its value seen by view, is what was read from the list.
-abbrev pub Gives : {X Y E : Type 0} → (X → Y) → Result X E → Result Y E → Type 0
-Gives view (Ok x) read = read ≡ Ok (view x)
-Gives view (Err e) read = read ≡ Err e
 
 -- The length and how many bytes spell it, unless it is over the limit.
 abbrev pub limited : ℕ → ℕ → ℕ → Result (ℕ × ℕ) OerFault

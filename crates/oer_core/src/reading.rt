@@ -1,6 +1,7 @@
 ghost use Rattle.std.specs.Prelude.{◌≡◌, ◌+◌, ◌<◌, ◌≤◌, ◌^◌, ◌++◌, ℕ, List, length, take, IfOk, IsOkAnd, Ok};
 ghost use Rattle.std.specs.Int.{w64, to_be_bytes};
-ghost use Rattle.oer_core.specs.Length.{IsLength, IsOctetString, BeginsWithString, Gives, big_endian, length_at, octets_at, number_at};
+ghost use Rattle.common_types.specs.Outcomes.{Gives};
+ghost use Rattle.oer_core.specs.Length.{IsLength, IsOctetString, BeginsWithString, big_endian, length_at, octets_at, number_at};
 
 use crate::fault::OerFault;
 

@@ -7,6 +7,7 @@ use Rattle.std.proofs.lemmas.Bool.{ltb-true, lt-ltb, and_parts}
 use Rattle.std.proofs.lemmas.Option.{cond_some, option_and_then_some}
 use Rattle.std.proofs.lemmas.List.Elements.{All-from_recursion}
 use Rattle.std.proofs.lemmas.List.Quantifiers.{position-Some}
+use Rattle.ilp_addr.specs.Timestamp.{last_moment}
 use Rattle.replay_text.specs.Script.{number_below, tenant_named, token_of, frame_of, load_of, decide_of, step_of_words, words_of, meaning_of, is_empty, is_numeral, value_of, is_skipped, then_steps, step_or_bad, steps_from, steps_of_script, lines_of}
 use Rattle.replay_text.specs.declared.script.Meaning.{Meaning}
 use Rattle.replay_text.specs.declared.script.Meaning.TheVariants.{Skipped, Runs, Bad}
@@ -51,7 +52,7 @@ load_fits names workers worker tenant token frame s e =
 decide_fits : (names : List (List ℕ)) (workers : ℕ) (worker now : List ℕ) (s : Step) → decide_of workers worker now ≡ Some s → FitsIn workers (length names) s
 decide_fits names workers worker now s e =
     option_and_then_some _ (number_below workers worker) s e (λ w w_is rest.
-    option_and_then_some _ (number_below 253_400_000_000_001 now) s rest (λ n n_is rest.
+    option_and_then_some _ (number_below (last_moment + 1) now) s rest (λ n n_is rest.
     subst (FitsIn workers (length names)) (some_is (Decide w n) s rest) (number_fits workers worker w w_is)))
 
 step_fits : (names : List (List ℕ)) (workers : ℕ) (words : List (List ℕ)) (s : Step) → step_of_words names workers words ≡ Some s → FitsIn workers (length names) s

@@ -4,6 +4,7 @@ use Rattle.std.specs.List.{slice_split, list_all, position, filter_map, AllByRec
 use Rattle.std.specs.Str.{bytes_eq}
 use Rattle.std.specs.Result.{result_ok}
 use Rattle.hex.specs.Hex.{decode_of}
+use Rattle.ilp_addr.specs.Timestamp.{last_moment}
 use Rattle.common_types.specs.OptionChain.{◌>>=◌}
 use Rattle.common_types.specs.Numbers.{is_between}
 use Rattle.common_types.specs.Token.{is_token}
@@ -77,7 +78,7 @@ load_of names workers worker tenant token frame = do
 abbrev pub decide_of : ℕ → List ℕ → List ℕ → Option Step
 decide_of workers worker now = do
   w ← number_below workers worker
-  n ← number_below 253_400_000_000_001 now
+  n ← number_below (last_moment + 1) now
   Some (Decide w n)
 
 -- the step that the words of a line spell

@@ -1,5 +1,5 @@
 -- What is taken from a reader and given to a writer.
-use Rattle.std.specs.Prelude.{ℕ, ◌≡◌, ◌≤◌, ◌++◌, List, length, take, Option, Result, Ok, Err, Bool, true, not, ◌==◌, ◌&&◌}
+use Rattle.std.specs.Prelude.{ℕ, ◌≡◌, ◌≤◌, ◌++◌, List, length, take, Option}
 use Rattle.std.specs.Io.KnownBytes.{Appends, Consumes}
 
 -- at most so many bytes were taken
@@ -13,8 +13,3 @@ AppendsFront text old new = (n : ℕ) × Appends old new (take n text)
 -- what was taken from the reader stands behind the old text
 abbrev pub TakesBehind : Option (List ℕ) → Option (List ℕ) → List ℕ → List ℕ → Type 0
 TakesBehind old new text longer = (taken : List ℕ) × Consumes old new taken × (longer ≡ text ++ taken)
-
--- a write failed, or took none of some bytes
-abbrev pub takes_nothing : {E : Type 0} → Result ℕ E → List ℕ → Bool
-takes_nothing (Ok n) bytes = (n == 0) && not (length bytes == 0)
-takes_nothing (Err e) bytes = true

@@ -3,6 +3,7 @@ use Rattle.std.proofs.Common.{◌≡◌, ◌<◌, ℕ, zero, suc, ◌+◌, Bool,
 use Rattle.std.specs.Prelude.{Option, Some, None, is_some, remove}
 use Rattle.std.specs.List.{position_from}
 use Rattle.std.specs.Ordering.{nat_cmp, eq_by_cmp}
+use Rattle.std.proofs.lemmas.Bool.{cases_Bool}
 use Rattle.std.proofs.lemmas.Cmp.{nat_list_cmp_total}
 use Rattle.std.specs.Cmp.Lexicographic.{slice_cmp}
 use Rattle.std.specs.Str.{bytes_eq}
@@ -22,12 +23,8 @@ route = find (slice_cmp nat_cmp)
 abbrev pub routes_of : List Row → RouteMap
 routes_of rows = from_entries rows
 
-cases : (b : Bool) → (b ≡ true) ⊎ (b ≡ false)
-cases true = inl refl
-cases false = inr refl
-
 not_tied : (p q : List ℕ) → ((p ≡ q) → ⊥) → tied p q ≡ false
-not_tied p q apart = elim (cases (tied p q)) [ inl same ↦ absurd (apart (tied_same p q same)) | inr other ↦ other ]
+not_tied p q apart = elim (cases_Bool (tied p q)) [ inl same ↦ absurd (apart (tied_same p q same)) | inr other ↦ other ]
 
 pub get-routes_of : (rows : List Row) (q : List ℕ) → map.get (routes_of rows) q ≡ route q rows
 get-routes_of rows q = get-from_entries nat_list_cmp_total rows q
@@ -47,7 +44,7 @@ route_of (x ∷ rows) distinct r (inl e) =
     rw (same_tied r.0 x.0 (ap (λ (y : Row). y.0) e)) (ap (λ (y : Row). Some y.1) (sym e))
 route_of (x ∷ rows) distinct r (inr i) =
     let later : route r.0 rows ≡ Some r.1 = route_of rows distinct.1 r i in
-    elim (cases (tied r.0 x.0)) [
+    elim (cases_Bool (tied r.0 x.0)) [
       | inl same ↦
           let none : route r.0 rows ≡ None = ap (λ k. route k rows) (tied_same r.0 x.0 same) ∙ distinct.0 in
           absurd cc
@@ -57,7 +54,7 @@ route_of (x ∷ rows) distinct r (inr i) =
 pub row_of : (rows : List Row) (q : List ℕ) (n : ℕ) → route q rows ≡ Some n → InRows (q, n) rows
 row_of [] q n e = absurd cc
 row_of (x ∷ rows) q n e =
-    elim (cases (tied q x.0)) [
+    elim (cases_Bool (tied q x.0)) [
       | inl same ↦
           let peer : Some x.1 ≡ Some n = rw same at e in
           let peers : n ≡ x.1 = cc in
@@ -92,7 +89,7 @@ route-push rows k n q none =
 -- a prefix that is not found is not the first, nor among the others
 missed : (x : Row) (rows : List Row) (k : List ℕ) → route k (x ∷ rows) ≡ None → (tied k x.0 ≡ false) × (route k rows ≡ None)
 missed x rows k none =
-    elim (cases (tied k x.0)) [
+    elim (cases_Bool (tied k x.0)) [
       | inl same ↦ let some : Some x.1 ≡ None = rw same at none in absurd cc
       | inr other ↦ (other, rw other at none)
     ]
@@ -124,7 +121,7 @@ at_found (x ∷ rows) (suc j) k here = elim (tied k x.0) as (λ b. is_some (cond
 route-remove : (rows : List Row) (j : ℕ) (k : List ℕ) → AreDistinct rows → At rows j k → (q : List ℕ) → route q (remove rows j) ≡ cond (tied q k) None (route q rows)
 route-remove [] j k distinct here q = absurd here
 route-remove (x ∷ rows) zero k distinct here q =
-    elim (cases (tied q k)) [
+    elim (cases_Bool (tied q k)) [
       | inl same ↦ rw same (ap (λ p. route p rows) (tied_same q k same ∙ sym here) ∙ distinct.0)
       | inr other ↦
           let apart : tied q x.0 ≡ false = ap (tied q) here ∙ other in
@@ -132,7 +129,7 @@ route-remove (x ∷ rows) zero k distinct here q =
     ]
 route-remove (x ∷ rows) (suc j) k distinct here q =
     let later = route-remove rows j k distinct.1 here q in
-    elim (cases (tied q k)) [
+    elim (cases_Bool (tied q k)) [
       | inl same ↦
           let apart : tied q x.0 ≡ false = not_tied q x.0 (λ e.
           let none : route k rows ≡ None = ap (λ p. route p rows) (sym (tied_same q k same) ∙ e) ∙ distinct.0 in
@@ -209,7 +206,8 @@ placed rows k distinct (Some i) stands =
       distinct = AreDistinct-remove rows stands.0 k distinct stands.2;
     }
 
-pub position_placed : (rows : List Row) (routes : RouteMap) (k : List ℕ) (o : Option ℕ) → routes_of rows ≡ routes → AreDistinct rows → o ≡ position_from (λ row. bytes_eq row.0 k) 0 rows → Placed rows routes k o
+pub position_placed : (rows : List Row) (routes : RouteMap) (k : List ℕ) (o : Option ℕ) → routes_of rows ≡ routes → AreDistinct rows
+    → o ≡ position_from (λ row. bytes_eq row.0 k) 0 rows → Placed rows routes k o
 position_placed rows routes k o view distinct e =
     let P : RouteMap → Type 0 = λ m. Placed rows m k o in
     subst P view (placed rows k distinct o (subst (Stands rows k 0) (sym e) (position_stands rows k 0)))
@@ -219,7 +217,8 @@ present_placed rows routes k None new = new.absent
 present_placed rows routes k (Some i) here = here.present
 
 -- the search finds the prefix where it has a route
-pub position_present : (rows : List Row) (routes : RouteMap) (k : List ℕ) (o : Option ℕ) → routes_of rows ≡ routes → AreDistinct rows → o ≡ position_from (λ row. bytes_eq row.0 k) 0 rows → map.contains_key routes k ≡ is_some o
+pub position_present : (rows : List Row) (routes : RouteMap) (k : List ℕ) (o : Option ℕ) → routes_of rows ≡ routes → AreDistinct rows
+    → o ≡ position_from (λ row. bytes_eq row.0 k) 0 rows → map.contains_key routes k ≡ is_some o
 position_present rows routes k o view distinct e =
     present_placed rows routes k o (position_placed rows routes k o view distinct e)
 
@@ -227,7 +226,8 @@ new_of : (rows : List Row) (routes : RouteMap) (k : List ℕ) (o : Option ℕ) �
 new_of rows routes k None none new = new
 new_of rows routes k (Some i) none here = absurd cc
 
-pub position_new : (rows : List Row) (routes : RouteMap) (k : List ℕ) (o : Option ℕ) → is_some o ≡ false → routes_of rows ≡ routes → AreDistinct rows → o ≡ position_from (λ row. bytes_eq row.0 k) 0 rows → IsNew rows routes k
+pub position_new : (rows : List Row) (routes : RouteMap) (k : List ℕ) (o : Option ℕ) → is_some o ≡ false → routes_of rows ≡ routes → AreDistinct rows
+    → o ≡ position_from (λ row. bytes_eq row.0 k) 0 rows → IsNew rows routes k
 position_new rows routes k o none view distinct e =
     new_of rows routes k o none (position_placed rows routes k o view distinct e)
 

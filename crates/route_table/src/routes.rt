@@ -3,10 +3,10 @@
 ghost use Rattle.std.specs.Prelude.{◌≡◌, ◌≢◌, ◌≤◌, ◌↔◌, ◌==◌, ℕ, IsTrue, IsOk, OnOk, OnErr, IfOk, IfSome, OnSome, IfNone, if◌then◌else◌, nat_lt, Ok, Err, List, false};
 ghost use Rattle.std.specs.FinMap.{empty, contains_key, insert, remove, len, values};
 ghost use Rattle.std.specs.List.{list_all};
-ghost use Rattle.route_table.specs.Routes.{RouteMap, IsBestRoute, HasNoRoute, NamesPeer, best_route};
+ghost use Rattle.route_table.specs.Routes.{RouteMap, IsBestRoute, HasNoRoute, NamesPeer, best_route, max_routes};
 
 use crate::fault::RouteFault;
-use crate::rows::{Row, longest_match, names, names_only_below, position_of};
+use crate::rows::{Row, best_row, names, names_only_below, position_of};
 use ilp_addr::{Address, Prefix};
 use std::alloc::{AllocError, Global};
 use std::marker::Model;
@@ -15,7 +15,7 @@ use std::marker::Model;
 pub type PeerNo = u16;
 
 /// The most routes that an operator may have.
-const MAX_ROUTES: usize = 4096;
+pub const MAX_ROUTES: usize = 4096;
 
 /// The routes of one operator: at most 4,096 prefixes, and for each the peer that packets for it
 /// go to.
@@ -55,7 +55,7 @@ impl Routes {
     /// How many prefixes have a route.
     pub fn len(&self) -> usize
         ensures value { result ≡ len self.now }
-        ensures few { len self.now ≤ 4096 }
+        ensures few { len self.now ≤ max_routes }
     {
         self.rows.len()
     }
@@ -77,7 +77,7 @@ impl Routes {
         ensures unchanged { OnErr result (self.new ≡ self.old) }
         ensures present { (result ≡ Err RouteFault.Present) ↔ IsTrue (contains_key self.old prefix) }
         ensures full { (result ≡ Err RouteFault.Full)
-            ↔ ((contains_key self.old prefix ≡ false) × (len self.old ≡ 4096)) }
+            ↔ ((contains_key self.old prefix ≡ false) × (len self.old ≡ max_routes)) }
         ensures never_absent { result ≢ Err RouteFault.Absent }
     {
         if position_of(&self.rows, &prefix).is_some() {
@@ -115,7 +115,8 @@ impl Routes {
             (prefix : List ℕ) × IsBestRoute self.now destination.now prefix peer) }
         ensures none { IfNone result (HasNoRoute self.now destination.now) }
     {
-        let (_, peer) = longest_match(&self.rows, destination)?;
+        ilp_addr::laws::prefixes();
+        let (_, peer) = best_row(&self.rows, destination)?;
         Some(*peer)
     }
 

@@ -1,11 +1,12 @@
 //! Routes as they are kept: a prefix and its peer, in a row for each.
 
-ghost use Rattle.std.specs.Prelude.{◌≡◌, ◌==◌, None, count_by, nat_lt};
+ghost use Rattle.std.specs.Prelude.{◌≡◌, ◌==◌, true, count_by, nat_lt};
+ghost use Rattle.std.specs.FinMap.{from_entries};
 ghost use Rattle.std.specs.List.{list_all, list_any, position_from};
-ghost use Rattle.std.specs.Option.{option_copied};
+ghost use Rattle.std.specs.Option.{option_copied, option_map, option_map_or};
 ghost use Rattle.std.specs.Str.{bytes_eq};
-ghost use Rattle.route_table.specs.Routes.{segment_count};
-ghost use Rattle.route_table.specs.Rows.{better_row, longest_row};
+ghost use Rattle.route_table.specs.Routes.{segment_count, best_route};
+ghost use Rattle.route_table.specs.Rows.{AreDistinct};
 
 use crate::routes::PeerNo;
 use ilp_addr::{Address, Prefix};
@@ -21,12 +22,17 @@ pub(crate) fn position_of(rows: &[Row], prefix: &Prefix) -> Option<usize>
 }
 
 /// The row with the most segments, of those whose prefixes begin the destination.
-pub(crate) fn longest_match<'r>(rows: &'r [Row], destination: &Address<'_>) -> Option<&'r Row>
-    ensures { option_copied result ≡ longest_row destination.now None rows.now }
+pub(crate) fn best_row<'r>(rows: &'r [Row], destination: &Address<'_>) -> Option<&'r Row>
+    requires { AreDistinct rows.now }
+    ensures { option_map (λ row. row.1) (option_copied result)
+        ≡ best_route (from_entries rows.now) destination.now }
 {
+    ilp_addr::laws::prefixes();
     let mut best = None;
     for row in rows {
-        best = better(best, row, destination);
+        if destination.begins_with(&row.0) && is_longer(&row.0, best) {
+            best = Some(row);
+        }
     }
     best
 }
@@ -45,15 +51,14 @@ pub(crate) fn names_only_below(rows: &[Row], count: usize) -> bool
     rows.iter().all(|row| (row.1 as usize) < count)
 }
 
-fn better<'r>(best: Option<&'r Row>, row: &'r Row, destination: &Address<'_>) -> Option<&'r Row>
-    ensures { option_copied result ≡ better_row destination.now (option_copied best.entry) row.now }
+// Whether the prefix has more segments than the best so far, if there is one.
+fn is_longer(prefix: &Prefix, best: Option<&Row>) -> bool
+    ensures { result ≡ option_map_or (λ row. nat_lt (segment_count row.0) (segment_count prefix.now))
+        (option_copied best.entry) true }
 {
-    if !destination.begins_with(&row.0) {
-        return best;
-    }
     match best {
-        Some(best) if segments_of(&row.0) <= segments_of(&best.0) => Some(best),
-        _ => Some(row),
+        Some(row) => segments_of(&row.0) < segments_of(prefix),
+        None => true,
     }
 }
 

@@ -1,2 +1,3 @@
-pub mod Windows
 pub mod Purses
+pub mod Verdicts
+pub mod Soundness

@@ -1,7 +1,12 @@
+pub mod Limits
 pub mod Key
 pub mod State
 pub mod Bucket
 pub mod Purse
+pub mod Routing
+pub mod Checks
 pub mod Judge
-pub mod Kept
 pub mod Setup
+pub mod Sound
+pub mod Standing
+pub mod Kept

@@ -1,5 +1,6 @@
 -- Purses: what peers owe, and what is held on both sides, as sums over the journal.
-use Rattle.std.specs.Prelude.{ℕ, ◌+◌, ◌^◌, ℤ, pos, ◌+ℤ◌, ◌-ℤ◌, ◌≤ℤ◌, neg_ℤ, int_lt, Bool, ◌&&◌, sum_by, ◌==◌, Option, Some, None, if◌then◌else◌}
+use Rattle.std.specs.Prelude.{ℕ, ◌+◌, ℤ, pos, ◌+ℤ◌, ◌-ℤ◌, ◌≤ℤ◌, neg_ℤ, int_lt, Bool, ◌&&◌, sum_by, ◌==◌, Option, Some, None, if◌then◌else◌}
+use Rattle.tenant_core.specs.Limits.{max_money}
 use Rattle.tenant_core.specs.State.{State, is_of, holds, peer_numbered}
 use Rattle.tenant_core.specs.declared.opening.Peer.{Peer}
 use Rattle.tenant_core.specs.declared.journal.Entry.{Entry}
@@ -8,7 +9,7 @@ use Rattle.tenant_core.specs.declared.journal.Outcome.{Outcome}
 use Rattle.tenant_core.specs.declared.journal.Outcome.TheVariants.{Packet}
 use Rattle.tenant_core.specs.declared.journal.Record.{Record}
 use Rattle.tenant_core.specs.declared.verdict.Verdict.{Verdict}
-use Rattle.tenant_core.specs.declared.verdict.Verdict.TheVariants.{Unknown, NoRoom, Refuse, Forward}
+use Rattle.tenant_core.specs.declared.verdict.Verdict.TheVariants.{Forward}
 
 -- what a packet brought
 abbrev pub amount_of : Entry → ℕ
@@ -20,10 +21,8 @@ brought n r = if is_of n r.entry && holds r.outcome then amount_of r.entry else 
 
 -- what a verdict holds for the peer of that number
 abbrev pub sent : ℕ → Verdict → ℕ
-sent n Unknown = 0
-sent n NoRoom = 0
-sent n (Refuse code amounts) = 0
 sent n (Forward hold peer amount expiry) = if peer == n then amount else 0
+sent n _ = 0
 
 -- what a record holds for the peer of that number
 abbrev pub sent_by : ℕ → Outcome → ℕ
@@ -58,5 +57,5 @@ is_over_credit s to amount =
 
 -- the bounds of a purse, whatever becomes of what is held
 pub record IsWithinBounds (s : State) (n : ℕ) : Type 0 where
-  pub most : (balance_of s n +ℤ pos (held_in_of s n)) ≤ℤ pos (2 ^ 62)
-  pub least : neg_ℤ (pos (2 ^ 62)) ≤ℤ (balance_of s n -ℤ pos (held_out_of s n))
+  pub most : (balance_of s n +ℤ pos (held_in_of s n)) ≤ℤ pos max_money
+  pub least : neg_ℤ (pos max_money) ≤ℤ (balance_of s n -ℤ pos (held_out_of s n))

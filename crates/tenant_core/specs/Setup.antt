@@ -1,42 +1,45 @@
 -- The limits that a tenant's setup keeps.
-use Rattle.std.specs.Prelude.{ℕ, ◌^◌, Bool, true, ◌&&◌, not, List, [], ◌∷◌, length, nat_lt, nat_le, ◌==◌, unsigned_abs}
+use Rattle.std.specs.Prelude.{ℕ, Bool, true, ◌&&◌, not, List, [], ◌∷◌, length, nat_lt, nat_le, ◌==◌, unsigned_abs}
 use Rattle.std.specs.List.{list_all, list_any}
 use Rattle.std.specs.Str.{bytes_eq}
 use Rattle.std.specs.FinMap.{values}
+use Rattle.common_types.specs.Numbers.{is_between}
 use Rattle.route_table.specs.Routes.{RouteMap}
-use Rattle.tenant_core.specs.Judge.{is_for_pair}
+use Rattle.tenant_core.specs.Routing.{is_for_pair}
+use Rattle.tenant_core.specs.Limits.{max_money, max_burst, max_per_second, max_peers, max_journal, max_margin, max_hold, max_rates}
+use Rattle.tenant_core.specs.declared.terms.NewPeer.{NewPeer}
 use Rattle.tenant_core.specs.declared.terms.PeerTerms.{PeerTerms}
 use Rattle.tenant_core.specs.declared.terms.RateTerms.{RateTerms}
 use Rattle.tenant_core.specs.declared.terms.TenantTerms.{TenantTerms}
 
--- the number lies from low to high, both included
-abbrev pub is_between : ℕ → ℕ → ℕ → Bool
-is_between low high n = nat_le low n && nat_le n high
+-- cap, ceiling and credit are at most 2^62, a burst is 1 to 1,000,000 packets, and at most 1,000,000 packets a second
+-- follow it
+abbrev pub are_terms_within : PeerTerms → Bool
+are_terms_within t =
+    nat_le t.cap max_money && nat_le t.ceiling max_money && nat_le t.credit max_money
+    && (is_between 1 max_burst t.burst && nat_le t.per_second max_per_second)
 
--- cap, ceiling and credit are at most 2^62, the balance lies from -2^62 to 2^62, a burst is 1 to 1,000,000
--- packets, and at most 1,000,000 packets a second follow it
-abbrev pub is_peer_within : PeerTerms → Bool
-is_peer_within p =
-    nat_le p.cap (2 ^ 62) && nat_le p.ceiling (2 ^ 62) && nat_le p.credit (2 ^ 62) && nat_le (unsigned_abs p.balance) (2 ^ 62)
-    && (is_between 1 1_000_000 p.burst && nat_le p.per_second 1_000_000)
+-- the terms are within their limits, and the balance lies from -2^62 to 2^62
+abbrev pub is_peer_within : NewPeer → Bool
+is_peer_within p = are_terms_within p.terms && nat_le (unsigned_abs p.balance) max_money
 
 -- no two of the peers have the same name
-abbrev pub names_differ : List PeerTerms → Bool
+abbrev pub names_differ : List NewPeer → Bool
 names_differ [] = true
-names_differ (p ∷ ps) = not (list_any (λ q. bytes_eq q.name p.name) ps) && names_differ ps
+names_differ (p ∷ ps) = not (list_any (λ q. bytes_eq q.terms.name p.terms.name) ps) && names_differ ps
 
 -- no two of the peers have the same token
-abbrev pub tokens_differ : List PeerTerms → Bool
+abbrev pub tokens_differ : List NewPeer → Bool
 tokens_differ [] = true
-tokens_differ (p ∷ ps) = not (list_any (λ q. bytes_eq q.token p.token) ps) && tokens_differ ps
+tokens_differ (p ∷ ps) = not (list_any (λ q. bytes_eq q.terms.token p.terms.token) ps) && tokens_differ ps
 
 -- at most 256 peers, each within its limits, no two of one name or of one token
-abbrev pub are_peers_within : List PeerTerms → Bool
-are_peers_within ps = nat_le (length ps) 256 && list_all is_peer_within ps && names_differ ps && tokens_differ ps
+abbrev pub are_peers_within : List NewPeer → Bool
+are_peers_within ps = nat_le (length ps) max_peers && list_all is_peer_within ps && names_differ ps && tokens_differ ps
 
 -- a journal of 2 to 16,384 places, a margin of at most a minute, a hold of at most ten
 abbrev pub are_times_within : TenantTerms → Bool
-are_times_within t = is_between 2 16_384 t.journal && nat_le t.margin 60_000 && is_between 1 600_000 t.hold
+are_times_within t = is_between 2 max_journal t.journal && nat_le t.margin max_margin && is_between 1 max_hold t.hold
 
 -- each route leads to a peer that is there
 abbrev pub are_routes_within : ℕ → RouteMap → Bool
@@ -53,9 +56,10 @@ pairs_differ (r ∷ rs) = not (list_any (is_for_pair r.from r.to) rs) && pairs_d
 
 -- at most 4,096 rates, each between two peers, no two for one pair
 abbrev pub are_rates_within : ℕ → List RateTerms → Bool
-are_rates_within count rs = nat_le (length rs) 4_096 && list_all (is_rate_within count) rs && pairs_differ rs
+are_rates_within count rs = nat_le (length rs) max_rates && list_all (is_rate_within count) rs && pairs_differ rs
 
 -- the limits of a tenant's setup
 abbrev pub is_tenant_setup : TenantTerms → Bool
 is_tenant_setup t =
-    are_times_within t && are_peers_within t.peers && are_routes_within (length t.peers) t.routes && are_rates_within (length t.peers) t.rates
+    are_times_within t && are_peers_within t.peers
+    && are_routes_within (length t.peers) t.routes && are_rates_within (length t.peers) t.rates

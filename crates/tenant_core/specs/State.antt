@@ -1,8 +1,10 @@
 -- A tenant's state: an opening and the records since. Every question about it is one about that list.
-use Rattle.std.specs.Prelude.{ℕ, ◌+◌, ◌*◌, Bool, true, false, List, [], ◌∷◌, ◌++◌, fold, max, count_by, find, Option, ◌==◌}
+use Rattle.std.specs.Prelude.{ℕ, ◌+◌, Bool, true, false, List, [], ◌∷◌, ◌++◌, fold, max, count_by, find, length, Option, Some, None, ◌==◌}
+use Rattle.std.specs.Str.{bytes_eq}
+use Rattle.rate_bucket.specs.Bucket.{full_bucket}
 use Rattle.tenant_core.specs.declared.opening.Opening.{Opening}
 use Rattle.tenant_core.specs.declared.opening.Peer.{Peer}
-use Rattle.tenant_core.specs.declared.terms.PeerTerms.{PeerTerms}
+use Rattle.tenant_core.specs.declared.terms.NewPeer.{NewPeer}
 use Rattle.tenant_core.specs.declared.terms.TenantTerms.{TenantTerms}
 use Rattle.tenant_core.specs.declared.journal.Entry.{Entry}
 use Rattle.tenant_core.specs.declared.journal.Entry.TheVariants.{Decide}
@@ -10,7 +12,7 @@ use Rattle.tenant_core.specs.declared.journal.Outcome.{Outcome}
 use Rattle.tenant_core.specs.declared.journal.Outcome.TheVariants.{Packet}
 use Rattle.tenant_core.specs.declared.journal.Record.{Record}
 use Rattle.tenant_core.specs.declared.verdict.Verdict.{Verdict}
-use Rattle.tenant_core.specs.declared.verdict.Verdict.TheVariants.{Unknown, NoRoom, Refuse, Forward}
+use Rattle.tenant_core.specs.declared.verdict.Verdict.TheVariants.{Forward}
 
 -- what a period began with, and what happened since
 pub record State : Type 0 where
@@ -18,11 +20,11 @@ pub record State : Type 0 where
   pub records : List Record
 
 -- a peer that was just added under that number: its bucket is full
-abbrev pub added : ℕ → PeerTerms → Peer
-added n p = record { number = n; terms = p; balance = p.balance; bucket = 1_000 * p.burst }
+abbrev pub added : ℕ → NewPeer → Peer
+added n p = record { number = n; terms = p.terms; balance = p.balance; bucket = full_bucket p.terms.burst }
 
 -- the peers of a setup under their numbers, the first under n
-abbrev pub numbered : ℕ → List PeerTerms → List Peer
+abbrev pub numbered : ℕ → List NewPeer → List Peer
 numbered n [] = []
 numbered n (p ∷ ps) = added n p ∷ numbered (n + 1) ps
 
@@ -39,6 +41,7 @@ opening_of tenant t start =
       period = 0;
       clock = start;
       next_hold = 0;
+      next_peer = length t.peers;
       peers = numbered 0 t.peers;
       routes = t.routes;
       rates = t.rates;
@@ -48,13 +51,13 @@ opening_of tenant t start =
 abbrev pub opened : Opening → State
 opened o = record { opening = o; records = [] }
 
--- the moment that was handed in with an entry
-abbrev pub moment_of : Entry → ℕ
-moment_of (Decide d) = d.now
+-- the moment at which an entry came
+abbrev pub entered_at : Entry → ℕ
+entered_at (Decide d) = d.now
 
 -- the later of the clock so far and the record's moment
 abbrev pub later : ℕ → Record → ℕ
-later clock r = max clock (moment_of r.entry)
+later clock r = max clock (entered_at r.entry)
 
 -- a tenant's clock: the greatest moment of its opening and its entries
 abbrev pub clock_of : State → ℕ
@@ -62,10 +65,8 @@ clock_of s = fold later s.opening.clock s.records
 
 -- the packet goes on
 abbrev pub is_forward : Verdict → Bool
-is_forward Unknown = false
-is_forward NoRoom = false
-is_forward (Refuse code amounts) = false
 is_forward (Forward hold peer amount expiry) = true
+is_forward _ = false
 
 -- a hold is a Prepare that went on
 abbrev pub holds : Outcome → Bool
@@ -87,10 +88,19 @@ next_hold s = s.opening.next_hold + hold_count s
 abbrev pub peer_numbered : ℕ → List Peer → Option Peer
 peer_numbered n peers = find (λ p. p.number == n) peers
 
+-- the peer that shows this token
+abbrev pub peer_with_token : List ℕ → List Peer → Option Peer
+peer_with_token token peers = find (λ p. bytes_eq p.terms.token token) peers
+
 -- the entry is a packet of the peer of that number
 abbrev pub is_of : ℕ → Entry → Bool
 is_of n (Decide d) = d.peer == n
 
--- the state with one record more
-abbrev pub recorded : State → Record → State
-recorded s r = record s { records = s.records ++ r ∷ [] }
+-- records and the one after them, if there is one
+abbrev pub with_record : List Record → Option Record → List Record
+with_record rs None = rs
+with_record rs (Some r) = rs ++ r ∷ []
+
+-- the state with a record more, if there is one
+abbrev pub recorded : State → Option Record → State
+recorded s r = record s { records = with_record s.records r }

@@ -1,46 +1,31 @@
-//! Buckets: how many packets a peer may bring.
+//! Buckets: which packets the records say that a peer's bucket admitted.
 
-ghost use Rattle.std.specs.Prelude.{◌≡◌, ◌≤◌, ◌+◌, ◌*◌, ◌^◌, ◌&&◌};
+ghost use Rattle.std.specs.Prelude.{◌≡◌, ◌&&◌};
+ghost use Rattle.rate_bucket.specs.Bucket.{is_admitted};
 ghost use Rattle.tenant_core.specs.State.{later, is_of};
-ghost use Rattle.tenant_core.specs.Bucket.{gained, credit_at, is_admitted, admits, is_limited, bucket_of};
+ghost use Rattle.tenant_core.specs.Bucket.{admits, is_limited, bucket_of};
 
 use crate::journal::{Entry, Outcome, Record};
 use crate::opening::Peer;
 use crate::verdict::{RejectCode, Verdict};
+use rate_bucket::Credit;
 use route_table::PeerNo;
 
-/// What a packet costs, in the thousandths that credit is counted in.
-const PACKET: u128 = 1_000;
-
-/// Whether the bucket of a peer, full or not at the clock `start`, admits a packet at the clock `now` after those that
+/// Whether the bucket of a peer, as it was at the clock `start`, admits a packet at the clock `now` after those that
 /// the records say were admitted.
 pub fn is_admitted(peer: &Peer, start: u64, records: &[Record], now: u64) -> bool
     ensures { result ≡ is_admitted (bucket_of peer.now start records.now) now }
 {
-    credit(peer, start, records, now) >= PACKET
-}
-
-fn credit(peer: &Peer, start: u64, records: &[Record], now: u64) -> u128
-    ensures { result ≡ credit_at (bucket_of peer.now start records.now) now }
-{
-    let full = PACKET * peer.terms.burst as u128;
+    let terms = &peer.terms;
     let mut clock = start;
-    let mut left = peer.bucket as u128 + gained(peer.terms.per_second, start, now);
+    let mut credit = Credit::since(start, peer.bucket, terms.burst, terms.per_second, now);
     for entered in records {
         clock = later(clock, entered);
         if is_admitted_packet(entered, peer.number) {
-            let window = full + gained(peer.terms.per_second, clock, now);
-            left = left.min(window).saturating_sub(PACKET);
+            credit = credit.less_packet(clock);
         }
     }
-    left.min(full)
-}
-
-fn gained(per_second: u32, since: u64, now: u64) -> u128
-    ensures value { result ≡ gained per_second since now }
-    ensures small { result ≤ 2 ^ 96 }
-{
-    per_second as u128 * now.saturating_sub(since) as u128
+    credit.admits()
 }
 
 fn later(clock: u64, entered: &Record) -> u64

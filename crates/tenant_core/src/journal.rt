@@ -1,8 +1,12 @@
 //! What a tenant's journal is made of.
 
+ghost use Rattle.std.specs.Prelude.{◌≡◌};
+ghost use Rattle.tenant_core.specs.Key.{key_of};
+ghost use Rattle.tenant_core.specs.Judge.{decide_record};
+
 use crate::verdict::Verdict;
 use common_types::Text;
-use ilp_addr::Address;
+use ilp_addr::{Address, Moment};
 use route_table::PeerNo;
 
 /// What a Prepare says that a tenant decides by.
@@ -44,4 +48,27 @@ pub enum Outcome {
 pub struct Record {
     pub entry: Entry,
     pub outcome: Outcome,
+}
+
+/// The record of a Prepare of that peer.
+pub fn decide_record(peer: PeerNo, key: &PrepareKey<'_>, now: Moment, verdict: Verdict) -> Record
+    ensures { result ≡ decide_record peer (key_of key.now) now verdict }
+{
+    Record {
+        entry: Entry::Decide(DecideEntry {
+            peer,
+            amount: key.amount,
+            expiry: key.expiry,
+            condition: *key.condition,
+            destination: stored(key.destination),
+            now: now.millis(),
+        }),
+        outcome: Outcome::Packet(verdict),
+    }
+}
+
+fn stored(address: &Address<'_>) -> Text<1023>
+    ensures { result ≡ address.now }
+{
+    Text::from_bytes(address.bytes()).unwrap()
 }

@@ -1,88 +1,132 @@
-//! What the checks of a Prepare ask of a tenant.
+//! The checks of a Prepare, in their order.
 
-ghost use Rattle.std.specs.Prelude.{◌≡◌, ◌≤◌, ◌+◌, Some, None, Bool, codes};
-ghost use Rattle.std.specs.Option.{option_copied};
-ghost use Rattle.std.specs.Str.{bytes_eq};
-ghost use Rattle.ilp_addr.specs.Address.{segments};
-ghost use Rattle.tenant_core.specs.State.{peer_numbered};
-ghost use Rattle.tenant_core.specs.Judge.{peer_with_token, begins_at, stays_here, onward, rate_between, outgoing_expiry, refuse, refuse_over};
+ghost use Rattle.std.specs.Prelude.{◌≡◌};
+ghost use Rattle.tenant_core.specs.Judge.{refuse, refuse_over};
 
+use crate::bucket::is_admitted;
+use crate::journal::{PrepareKey, Record};
+use crate::limits::MAX_HOLDS;
 use crate::opening::{Opening, Peer};
+use crate::purse::{balance, held_in, held_out, is_owed_more, owes_more};
+use crate::routing::{onward, outgoing_expiry, rate_between, stays_here};
 use crate::verdict::{RejectCode, Verdict};
-use ilp_addr::Address;
 use money_core::Rate;
-use route_table::PeerNo;
 
-fn shows(peer: &Peer, token: &[u8]) -> bool
-    ensures { result ≡ bytes_eq peer.now.terms.token token.now }
-{
-    peer.terms.token.as_bytes() == token
+/// What the checks see of a book: what its period began with, the records since, and how many holds are open.
+#[derive(Clone, Copy)]
+pub struct Standing<'a> {
+    pub opening: &'a Opening,
+    pub records: &'a [Record],
+    pub holds: u64,
 }
 
-/// The peer that shows this token.
-pub fn peer_with_token<'a>(peers: &'a [Peer], token: &[u8]) -> Option<&'a Peer>
-    ensures { option_copied result ≡ peer_with_token token.now peers.now }
-{
-    peers.iter().find(|peer| shows(peer, token))
-}
+impl Standing<'_> {
+    ghost use Rattle.std.specs.Prelude.{◌≡◌, ◌≤◌, true};
+    ghost use Rattle.ilp_addr.specs.Timestamp.{last_moment};
+    ghost use Rattle.tenant_core.specs.Key.{key_of};
+    ghost use Rattle.tenant_core.specs.State.{open_holds};
+    ghost use Rattle.tenant_core.specs.Purse.{is_over_ceiling, is_over_credit};
+    ghost use Rattle.tenant_core.specs.Judge.{verdict_for_sender, verdict_at_rate, is_full, is_recorded, IsSooner};
+    ghost use Rattle.tenant_core.specs.Sound.{IsSound};
+    ghost use Rattle.tenant_core.specs.Standing.{state_shown};
 
-/// The peer of this number.
-pub fn peer_numbered(peers: &[Peer], number: PeerNo) -> Option<&Peer>
-    ensures { option_copied result ≡ peer_numbered number peers.now }
-{
-    peers.iter().find(|peer| peer.number == number)
-}
+    /// Whether the journal has no room for another entry, its answer and those of all open holds.
+    pub fn is_full(&self) -> bool
+        requires sound { IsSound (state_shown self.now) }
+        requires holds { self.now.holds ≡ open_holds (state_shown self.now) }
+        ensures { result ≡ is_full (state_shown self.now) }
+    {
+        self.records.len() as u64 + self.holds + 2 > self.opening.journal
+    }
 
-fn begins_at(destination: &Address<'_>, scheme: &[u8]) -> bool
-    ensures { result ≡ begins_at scheme.now (segments destination.now) }
-{
-    match destination.segments().next() {
-        Some(first) => first == scheme,
-        None => false,
+    /// The verdict at that clock on a packet of that peer, for which the journal has room.
+    pub fn verdict_for_sender(&self, from: &Peer, key: &PrepareKey<'_>, clock: u64) -> Verdict
+        requires sound { IsSound (state_shown self.now) }
+        requires holds { self.now.holds ≡ open_holds (state_shown self.now) }
+        requires clock { clock ≤ last_moment }
+        ensures verdict { result ≡ verdict_for_sender (state_shown self.now) from.now (key_of key.now) clock }
+        ensures recorded { is_recorded result ≡ true }
+        ensures sooner { IsSooner result key.now.expiry }
+    {
+        let opening = self.opening;
+        if !is_admitted(from, opening.clock, self.records, clock) {
+            return refuse(RejectCode::RateLimited);
+        }
+        if key.expiry <= clock {
+            return refuse(RejectCode::InsufficientTimeout);
+        }
+        if stays_here(opening, key.destination) {
+            return refuse(RejectCode::Unreachable);
+        }
+        if key.amount > from.terms.cap {
+            return refuse_over(key.amount, from.terms.cap);
+        }
+        let Some(to) = onward(opening, from.number, key.destination) else {
+            return refuse(RejectCode::Unreachable);
+        };
+        let Some(rate) = rate_between(opening, from.number, to.number) else {
+            return refuse(RejectCode::Unreachable);
+        };
+        self.verdict_at_rate(from, to, rate, key, clock)
+    }
+
+    // The verdict on a packet of one peer for another, at the rate between them.
+    fn verdict_at_rate(
+        &self,
+        from: &Peer,
+        to: &Peer,
+        rate: Rate,
+        key: &PrepareKey<'_>,
+        clock: u64,
+    ) -> Verdict
+        requires sound { IsSound (state_shown self.now) }
+        requires holds { self.now.holds ≡ open_holds (state_shown self.now) }
+        requires clock { clock ≤ last_moment }
+        ensures verdict { result ≡ verdict_at_rate (state_shown self.now) from.now to.now rate (key_of key.now) clock }
+        ensures recorded { is_recorded result ≡ true }
+        ensures sooner { IsSooner result key.now.expiry }
+    {
+        let price = rate.price(key.amount);
+        if price > to.terms.cap as u128 {
+            return refuse_over(key.amount, rate.greatest(from.terms.cap, to.terms.cap));
+        }
+        let expiry = outgoing_expiry(self.opening, key.expiry, clock);
+        if expiry <= clock {
+            return refuse(RejectCode::InsufficientTimeout);
+        }
+        let amount = price as u64;
+        if self.is_over_ceiling(from, key.amount) || self.is_over_credit(to, amount) {
+            return refuse(RejectCode::InsufficientLiquidity);
+        }
+        if self.holds >= MAX_HOLDS {
+            return refuse(RejectCode::Busy);
+        }
+        Verdict::Forward {
+            hold: self.opening.next_hold + self.holds,
+            peer: to.number,
+            amount,
+            expiry,
+        }
+    }
+
+    fn is_over_ceiling(&self, from: &Peer, amount: u64) -> bool
+        requires { IsSound (state_shown self.now) }
+        ensures { result ≡ is_over_ceiling (state_shown self.now) from.now amount }
+    {
+        let held = held_in(self.records, from.number) + amount as u128;
+        owes_more(balance(self.opening, from.number), held, from.terms.ceiling)
+    }
+
+    fn is_over_credit(&self, to: &Peer, amount: u64) -> bool
+        requires { IsSound (state_shown self.now) }
+        ensures { result ≡ is_over_credit (state_shown self.now) to.now amount }
+    {
+        let held = held_out(self.records, to.number) + amount as u128;
+        is_owed_more(balance(self.opening, to.number), held, to.terms.credit)
     }
 }
 
-/// Whether packets for the destination are not sent on: it is for direct neighbours, or the tenant's own address.
-pub fn stays_here(opening: &Opening, destination: &Address<'_>) -> bool
-    ensures { result ≡ stays_here opening.now destination.now }
-{
-    begins_at(destination, b"peer") || destination.bytes() == opening.address.as_bytes()
-}
-
-/// The peer that a packet of `from` goes on to: that of the best route, unless it leads back.
-pub fn onward<'a>(opening: &'a Opening, from: PeerNo, destination: &Address<'_>) -> Option<&'a Peer>
-    ensures { option_copied result ≡ onward opening.now from destination.now }
-{
-    match opening.routes.find(destination) {
-        Some(to) if to != from => peer_numbered(opening.peers.as_slice(), to),
-        _ => None,
-    }
-}
-
-/// The rate of an ordered pair of peers.
-pub fn rate_between(opening: &Opening, from: PeerNo, to: PeerNo) -> Option<Rate>
-    ensures { result ≡ rate_between opening.now from to }
-{
-    let rates = opening.rates.as_slice();
-    let terms = rates
-        .iter()
-        .find(|rate| rate.from == from && rate.to == to)?;
-    Some(terms.rate)
-}
-
-/// The expiry that a packet goes on with.
-pub fn outgoing_expiry(opening: &Opening, expiry: u64, clock: u64) -> u64
-    requires clock { clock ≤ 253_400_000_000_000 }
-    requires hold { opening.now.hold ≤ 600_000 }
-    ensures { result ≡ outgoing_expiry opening.now expiry clock }
-{
-    expiry
-        .saturating_sub(opening.margin)
-        .min(clock + opening.hold)
-}
-
-/// A refusal that names no amounts.
-pub fn refuse(code: RejectCode) -> Verdict
+fn refuse(code: RejectCode) -> Verdict
     ensures { result ≡ refuse code }
 {
     Verdict::Refuse {
@@ -91,8 +135,8 @@ pub fn refuse(code: RejectCode) -> Verdict
     }
 }
 
-/// The refusal of an amount, with the greatest that would go on.
-pub fn refuse_over(amount: u64, greatest: u64) -> Verdict
+// The refusal of an amount, with the greatest that would go on.
+fn refuse_over(amount: u64, greatest: u64) -> Verdict
     ensures { result ≡ refuse_over amount greatest }
 {
     Verdict::Refuse {

@@ -1,10 +1,12 @@
-//! Laws of the definitions, each the contract of a function that does nothing.
+//! Laws of books, each the contract of a function that does nothing.
 
-ghost use Rattle.std.specs.Prelude.{◌↔◌, ℕ, IsTrue};
-ghost use Rattle.tenant_core.specs.Bucket.{Stretch, IsAdmitted, is_admitted};
+ghost use Rattle.tenant_core.specs.Sound.{IsSound};
 
-/// A bucket admits a packet exactly where the stretch as a whole, and the window of each packet that was admitted
-/// since, have room for one more.
-pub fn admitted_by_windows()
-    ensures { (b : Stretch) (now : ℕ) → IsTrue (is_admitted b now) ↔ IsAdmitted b now }
-{}
+use crate::book::Book;
+
+/// The state of a book is within its limits.
+pub fn book_is_sound(book: &Book)
+    ensures { IsSound book.now }
+{
+    book.is_sound();
+}

@@ -31,7 +31,10 @@ pub struct Opening {
     pub period: u64,
     /// Milliseconds since 1970-01-01.
     pub clock: u64,
+    /// The number of the next packet that is held.
     pub next_hold: u64,
+    /// The number of the next peer that is added. Numbers are never used again.
+    pub next_peer: PeerNo,
     pub peers: Items<Peer>,
     pub routes: Routes,
     pub rates: Items<RateTerms>,

@@ -1,9 +1,13 @@
 //! Purses: what is held on both sides.
 
 ghost use Rattle.std.specs.Prelude.{◌≡◌, ◌≤◌, ◌*◌, ◌^◌, length, sum_by, pos, neg_ℤ, ◌+ℤ◌, ◌-ℤ◌, int_lt};
-ghost use Rattle.tenant_core.specs.Purse.{brought, sent_by};
+ghost use Rattle.tenant_core.specs.Limits.{max_journal};
+ghost use Rattle.tenant_core.specs.Purse.{brought, sent_by, opening_balance};
+ghost use Rattle.tenant_core.specs.State.{peer_numbered};
 
 use crate::journal::{Entry, Outcome, Record};
+use crate::opening::Opening;
+use crate::routing::peer_numbered;
 use crate::verdict::Verdict;
 use route_table::PeerNo;
 
@@ -32,7 +36,7 @@ fn sent(entered: &Record, to: PeerNo) -> u64
 
 /// What the records hold from a peer, in its units.
 pub fn held_in(records: &[Record], peer: PeerNo) -> u128
-    requires { length records.now ≤ 16_384 }
+    requires { length records.now ≤ max_journal }
     ensures value { result ≡ sum_by (brought peer) records.now }
     ensures small { result ≤ 2 ^ 80 }
 {
@@ -45,7 +49,7 @@ pub fn held_in(records: &[Record], peer: PeerNo) -> u128
 
 /// What the records hold for a peer, in its units.
 pub fn held_out(records: &[Record], peer: PeerNo) -> u128
-    requires { length records.now ≤ 16_384 }
+    requires { length records.now ≤ max_journal }
     ensures value { result ≡ sum_by (λ r. sent_by peer r.outcome) records.now }
     ensures small { result ≤ 2 ^ 80 }
 {
@@ -54,6 +58,16 @@ pub fn held_out(records: &[Record], peer: PeerNo) -> u128
         held += sent(entered, peer) as u128;
     }
     held
+}
+
+/// What a peer owed when the period began, in its units.
+pub fn balance(opening: &Opening, peer: PeerNo) -> i64
+    ensures { result ≡ opening_balance (peer_numbered peer opening.now.peers) }
+{
+    match peer_numbered(opening.peers.as_slice(), peer) {
+        Some(peer) => peer.balance,
+        None => 0,
+    }
 }
 
 /// Whether one of that balance, from whom so much is held, would owe more than the ceiling.

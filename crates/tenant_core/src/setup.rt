@@ -3,92 +3,98 @@
 ghost use Rattle.std.specs.Prelude.{◌≡◌};
 ghost use Rattle.std.specs.List.{list_any, list_all};
 ghost use Rattle.std.specs.Str.{bytes_eq};
-ghost use Rattle.tenant_core.specs.Setup.{is_peer_within, names_differ, tokens_differ, are_peers_within, are_times_within, are_routes_within, is_rate_within, pairs_differ, are_rates_within, is_tenant_setup};
-ghost use Rattle.tenant_core.specs.Judge.{is_for_pair};
+ghost use Rattle.tenant_core.specs.Setup.{are_terms_within, is_peer_within, names_differ, tokens_differ, are_peers_within, are_times_within, are_routes_within, is_rate_within, pairs_differ, are_rates_within, is_tenant_setup};
+ghost use Rattle.tenant_core.specs.Routing.{is_for_pair};
 
-use crate::terms::{PeerTerms, RateTerms, TenantTerms};
+use crate::limits::{
+    MAX_BURST, MAX_HOLD, MAX_JOURNAL, MAX_MARGIN, MAX_MONEY, MAX_PEERS, MAX_PER_SECOND, MAX_RATES,
+};
+use crate::terms::{NewPeer, PeerTerms, RateTerms, TenantTerms};
 use route_table::{PeerNo, Routes};
 
-const MOST_MONEY: u64 = 1 << 62;
-
-fn has_name(peer: &PeerTerms, name: &[u8]) -> bool
-    ensures { result ≡ bytes_eq peer.now.name name.now }
+fn has_name(peer: &NewPeer, name: &[u8]) -> bool
+    ensures { result ≡ bytes_eq peer.now.terms.name name.now }
 {
-    peer.name.as_bytes() == name
+    peer.terms.name.as_bytes() == name
 }
 
-fn has_token(peer: &PeerTerms, token: &[u8]) -> bool
-    ensures { result ≡ bytes_eq peer.now.token token.now }
+fn has_token(peer: &NewPeer, token: &[u8]) -> bool
+    ensures { result ≡ bytes_eq peer.now.terms.token token.now }
 {
-    peer.token.as_bytes() == token
+    peer.terms.token.as_bytes() == token
 }
 
-fn is_named_again(name: &[u8], others: &[PeerTerms]) -> bool
-    ensures { result ≡ list_any (λ q. bytes_eq q.name name.now) others.now }
+fn is_named_again(name: &[u8], others: &[NewPeer]) -> bool
+    ensures { result ≡ list_any (λ q. bytes_eq q.terms.name name.now) others.now }
 {
     others.iter().any(|other| has_name(other, name))
 }
 
-fn has_token_again(token: &[u8], others: &[PeerTerms]) -> bool
-    ensures { result ≡ list_any (λ q. bytes_eq q.token token.now) others.now }
+fn has_token_again(token: &[u8], others: &[NewPeer]) -> bool
+    ensures { result ≡ list_any (λ q. bytes_eq q.terms.token token.now) others.now }
 {
     others.iter().any(|other| has_token(other, token))
 }
 
-fn names_differ(peers: &[PeerTerms]) -> bool
+fn names_differ(peers: &[NewPeer]) -> bool
     ensures { result ≡ names_differ peers.now }
 {
     match peers.split_first() {
         Some((peer, others)) => {
-            !is_named_again(peer.name.as_bytes(), others) && names_differ(others)
+            !is_named_again(peer.terms.name.as_bytes(), others) && names_differ(others)
         }
         None => true,
     }
 }
 
-fn tokens_differ(peers: &[PeerTerms]) -> bool
+fn tokens_differ(peers: &[NewPeer]) -> bool
     ensures { result ≡ tokens_differ peers.now }
 {
     match peers.split_first() {
         Some((peer, others)) => {
-            !has_token_again(peer.token.as_bytes(), others) && tokens_differ(others)
+            !has_token_again(peer.terms.token.as_bytes(), others) && tokens_differ(others)
         }
         None => true,
     }
 }
 
-fn is_peer_within(peer: &PeerTerms) -> bool
-    ensures { result ≡ is_peer_within peer.now }
+fn are_terms_within(terms: &PeerTerms) -> bool
+    ensures { result ≡ are_terms_within terms.now }
 {
-    peer.cap <= MOST_MONEY
-        && peer.ceiling <= MOST_MONEY
-        && peer.credit <= MOST_MONEY
-        && peer.balance.unsigned_abs() <= MOST_MONEY
-        && 1 <= peer.burst
-        && peer.burst <= 1_000_000
-        && peer.per_second <= 1_000_000
+    terms.cap <= MAX_MONEY
+        && terms.ceiling <= MAX_MONEY
+        && terms.credit <= MAX_MONEY
+        && 1 <= terms.burst
+        && terms.burst <= MAX_BURST
+        && terms.per_second <= MAX_PER_SECOND
 }
 
-fn is_each_within(peers: &[PeerTerms]) -> bool
+fn is_peer_within(peer: &NewPeer) -> bool
+    ensures { result ≡ is_peer_within peer.now }
+{
+    are_terms_within(&peer.terms) && peer.balance.unsigned_abs() <= MAX_MONEY
+}
+
+fn is_each_within(peers: &[NewPeer]) -> bool
     ensures { result ≡ list_all is_peer_within peers.now }
 {
     peers.iter().all(|peer| is_peer_within(peer))
 }
 
-fn are_peers_within(peers: &[PeerTerms]) -> bool
+fn are_peers_within(peers: &[NewPeer]) -> bool
     ensures { result ≡ are_peers_within peers.now }
 {
-    peers.len() <= 256 && is_each_within(peers) && names_differ(peers) && tokens_differ(peers)
+    peers.len() <= MAX_PEERS && is_each_within(peers) && names_differ(peers) && tokens_differ(peers)
 }
 
 fn are_times_within(terms: &TenantTerms) -> bool
     ensures { result ≡ are_times_within terms.now }
 {
     2 <= terms.journal
-        && terms.journal <= 16_384
-        && terms.margin <= 60_000
+        && terms.journal <= MAX_JOURNAL
+        && terms.margin <= MAX_MARGIN
         && 1 <= terms.hold
-        && terms.hold <= 600_000
+        && terms.hold <= MAX_HOLD
 }
 
 fn are_routes_within(peers: usize, routes: &Routes) -> bool
@@ -135,14 +141,14 @@ fn is_each_rate_within(peers: usize, rates: &[RateTerms]) -> bool
 fn are_rates_within(peers: usize, rates: &[RateTerms]) -> bool
     ensures { result ≡ are_rates_within peers rates.now }
 {
-    rates.len() <= 4096 && is_each_rate_within(peers, rates) && pairs_differ(rates)
+    rates.len() <= MAX_RATES && is_each_rate_within(peers, rates) && pairs_differ(rates)
 }
 
 /// The terms of a tenant within the limits of a setup: a journal of 2 to 16,384 places, a margin of at most 60,000
 /// and a hold of 1 to 600,000 milliseconds; at most 256 peers with names and tokens of their own, with caps,
 /// ceilings and credits of at most 2^62, balances from -2^62 to 2^62, a burst of 1 to 1,000,000 and at most
-/// 1,000,000 packets a second; routes to peers that are there, and at most 4,096 rates, each between two different peers
-/// that are there and no two for the same ordered pair.
+/// 1,000,000 packets a second; routes to peers that are there, and at most 4,096 rates, each between two different
+/// peers that are there and no two for the same ordered pair.
 #[derive(Drop)]
 pub struct TenantSetup {
     terms: TenantTerms,

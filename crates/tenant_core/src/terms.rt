@@ -38,8 +38,6 @@ pub struct PeerTerms {
     /// How many packets at once, and how many a second after that.
     pub burst: u32,
     pub per_second: u32,
-    /// What the peer owes at the start, in its units.
-    pub balance: i64,
 }
 
 impl PeerTerms {
@@ -60,9 +58,16 @@ impl PeerTerms {
             credit: self.credit,
             burst: self.burst,
             per_second: self.per_second,
-            balance: self.balance,
         }
     }
+}
+
+/// A peer as a setup brings it in.
+#[derive(Drop)]
+pub struct NewPeer {
+    pub terms: PeerTerms,
+    /// What the peer owes at the start, in its units.
+    pub balance: i64,
 }
 
 /// What packets of one peer for another cost.
@@ -94,7 +99,7 @@ pub struct TenantTerms {
     pub margin: u64,
     /// For how many milliseconds a packet may be held at most.
     pub hold: u64,
-    pub peers: Items<PeerTerms>,
+    pub peers: Items<NewPeer>,
     /// Which peer packets for a prefix go to.
     pub routes: Routes,
     /// The rates, one for an ordered pair of peers.

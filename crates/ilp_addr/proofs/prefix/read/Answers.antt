@@ -5,4 +5,4 @@ use Rattle.ilp_addr.proofs.prefix.read.Goals as goal
 
 pub invariant_of-result : goal.invariant_of-result
 invariant_of-result c =
-    subst IsPrefix (sym c.in_ok-bytes-2.ensures.items) (prefix_at_found c.args.bytes.now c.in_ok-bytes.bytes.now c.in_ok-bytes.ensures).0
+    subst IsPrefix (sym c.in_ok-bytes.ensures.items) (prefix_at_found c.args.bytes.now c.in-Ok.bytes.now c.in-Ok.ensures).0

@@ -5,4 +5,6 @@ use Rattle.ilp_addr.specs.Address.{is_segment}
 use Rattle.ilp_addr.proofs.segments.are_segments.Goals as goal
 
 pub returns : goal.returns
-returns c = all_from_yields_List is_segment _ _ _ c.all.ensures.ran (YieldsList-from_slice_split _ (λ b. eqb b 46) c.args.bytes.now c.split.ensures.rest c.split.ensures.done c.split.ensures.closure (λ x b q k. search (rules, tests))) (λ x b q k. search (rules, tests))
+returns c = all_from_yields_List is_segment _ _ _ c.all.ensures.ran
+    (YieldsList-from_slice_split _ (λ b. eqb b 46) c.args.bytes.now c.split.ensures.rest c.split.ensures.done c.split.ensures.closure (λ x b q k. search (rules, tests)))
+    (λ x b q k. search (rules, tests))

@@ -9,5 +9,6 @@ use Rattle.ilp_addr.proofs.segments.is_segment.Goals as goal
 pub returns-then-not-is_empty : goal.returns-then-not-is_empty
 unfolding is_segment
 returns-then-not-is_empty c =
-    let all : c.all.result ≡ list_all is_segment_byte c.args.text.now = all_from_yields_List is_segment_byte _ _ c.all.result c.all.ensures.ran (YieldsList-from_slice c.args.text.now cc) (λ x b q k. search (rules, tests)) in
+    let all : c.all.result ≡ list_all is_segment_byte c.args.text.now =
+    all_from_yields_List is_segment_byte _ _ c.all.result c.all.ensures.ran (YieldsList-from_slice c.args.text.now cc) (λ x b q k. search (rules, tests)) in
     grind (arith, common_steps)

@@ -9,7 +9,7 @@ pub returns-in_default-clause-exact : goal.returns-in_default-clause-exact
 returns-in_default-clause-exact c = sym (no_time c.args.text.now c.told-text c.requires (sym c.in_default.ensures'.found))
 
 pub returns-in_default-2-clause-exact : goal.returns-in_default-2-clause-exact
-returns-in_default-2-clause-exact c = sym (no_date c.args.text.now c.told-text c.requires (sym c.day_of.ensures.found ∙ ap is_some c.in_default.is-0))
+returns-in_default-2-clause-exact c = sym (no_date c.args.text.now c.told-text c.requires (sym c.day_number_of.ensures.found ∙ ap is_some c.in_default.is-0))
 
 pub returns-clause-exact : goal.returns-clause-exact
 unfolding moment_of instant_of

@@ -6,10 +6,10 @@ use Rattle.ilp_view.proofs.Writes.{fulfill_within, fulfill_written}
 use Rattle.ilp_view.proofs.answers.write_fulfill.Goals as goal
 
 pub returns-then-out-length_size-clause-within : goal.returns-then-out-length_size-clause-within
-returns-then-out-length_size-clause-within c = fulfill_within c.args.fulfillment.now c.args.payload.now (omega arith) c.requires
+returns-then-out-length_size-clause-within c = fulfill_within c.laws_below.ensures.lengths c.args.fulfillment.now c.args.payload.now (omega arith) c.requires
 
 pub returns-clause-within : goal.returns-clause-within
-returns-clause-within c = fulfill_within c.args.fulfillment.now c.args.payload.now (omega arith) c.requires
+returns-clause-within c = fulfill_within c.laws_below.ensures.lengths c.args.fulfillment.now c.args.payload.now (omega arith) c.requires
 
 pub returns-clause-fits : goal.returns-clause-fits
 returns-clause-fits c =
@@ -35,5 +35,6 @@ returns-clause-ok c =
     let is : size ≡ length contents = omega arith in
     let spelled : length (shortest_length size) ≡ length (shortest_length (length contents)) = ap (λ (n : ℕ). length (shortest_length n)) is in
     let whole : length (shortest_length (length contents) ++ contents) ≡ length (shortest_length (length contents)) + length contents = length-append (shortest_length (length contents)) contents in
-    let written = fulfill_written old c.put_bytes.new.out c.put_length-at.new.out c.put_bytes-2.new.out c.put_octets.new.out (shortest_length size) fulfillment p c.put_length-at.result 13 c.put_bytes.ensures c.put_length-at.ensures.end c.put_length-at.ensures.written len c.put_bytes-2.ensures c.put_octets.ensures.written (omega arith) in
+    let written = fulfill_written c.laws_below.ensures.writings old c.put_bytes.new.out c.put_length-at.new.out c.put_bytes-2.new.out c.put_octets.new.out
+    (shortest_length size) fulfillment p c.put_length-at.result 13 c.put_bytes.ensures c.put_length-at.ensures.end c.put_length-at.ensures.written len c.put_bytes-2.ensures c.put_octets.ensures.written (omega arith) in
     (omega arith, written ∙ ap (λ (k : ℕ). overwritten old 0 (13 ∷ (shortest_length k ++ contents))) is)

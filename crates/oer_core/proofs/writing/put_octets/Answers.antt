@@ -13,4 +13,5 @@ returns-clause-written c =
     let spelling = shortest_length (length text) in
     let fits : at + length spelling ≤ length out = omega (arith, length-append spelling text, c.requires) in
     let end : c.put_length-text_at.result ≡ at + length spelling = c.put_length-text_at.ensures.end in
-    c.put_bytes.ensures ∙ ap (λ old. overwritten old c.put_length-text_at.result text) c.put_length-text_at.ensures.written ∙ ap (λ k. overwritten (overwritten out at spelling) k text) end ∙ overwritten_twice out at spelling text fits
+    c.put_bytes.ensures ∙ ap (λ old. overwritten old c.put_length-text_at.result text) c.put_length-text_at.ensures.written ∙ ap
+    (λ k. overwritten (overwritten out at spelling) k text) end ∙ overwritten_twice out at spelling text fits

@@ -9,20 +9,18 @@ invariant_of-result c =
     let peers : c.in_ok-peers.peers ≡ numbered 0 c.terms-terms.result.now.peers = search rules in
     record {
       room = search rules;
-      fits = search rules;
       clock = search rules;
       holds = search rules;
-      limits = rw peers (numbered_within 0 c.terms-terms.result.now.peers within);
-      purses = opened_within _ _ c.terms-terms.result.now.peers (search rules) peers within;
-      early = search rules;
-      short_journal = search rules;
-      short_hold = search rules;
-      first_hold = search rules;
-      few_periods = search rules;
+      sound =
+          record {
+            tenant = search rules;
+            room = search rules;
+            journal = search rules;
+            purses = opened_within _ _ c.terms-terms.result.now.peers (search rules) peers within;
+            terms = rw peers (numbered_within 0 c.terms-terms.result.now.peers within);
+            hold = search rules;
+            first_hold = search rules;
+            period = search rules;
+            clock = search rules;
+          };
     }
-
-pub returns-clause-bounds : goal.returns-clause-bounds
-returns-clause-bounds c =
-    let within = setup_peers c.terms-terms.result.now c.terms-terms.ensures.within in
-    let peers : c.in_ok-peers.peers ≡ numbered 0 c.terms-terms.result.now.peers = search rules in
-    opened_within _ _ c.terms-terms.result.now.peers (search rules) peers within

@@ -1,0 +1,82 @@
+-- What a verdict holds keeps the bounds of both purses, check by check.
+use Rattle.std.proofs.Common.{◌≡◌, ℕ, ◌≤◌, ℤ, pos, ◌≤ℤ◌, Bool, true, false, cond, eqb, arith, refl, subst}
+use Rattle.std.specs.Prelude.{Option, Some, None, IfSome, neg_ℤ, nat_le, nat_lt, int_lt, not, option_and_then}
+use Rattle.std.specs.List.{list_all}
+use Rattle.std.specs.Int.Signed.{lt_z, lt_z_no}
+use Rattle.std.proofs.lemmas.Float.{T_from_false}
+use Rattle.std.proofs.lemmas.Int.{ints}
+use Rattle.money_core.specs.Fraction.{Fraction}
+use Rattle.money_core.specs.Price.{price_of}
+use Rattle.rate_bucket.specs.Bucket.{is_admitted}
+use Rattle.route_table.specs.Routes.{best_route}
+use Rattle.tenant_core.specs.declared.opening.Opening.{Opening}
+use Rattle.tenant_core.specs.declared.opening.Peer.{Peer}
+use Rattle.tenant_core.specs.declared.verdict.Verdict.{Verdict}
+use Rattle.tenant_core.specs.declared.verdict.RejectCode.TheVariants.{Unreachable}
+use Rattle.tenant_core.specs.Bucket.{stretch_of}
+use Rattle.tenant_core.specs.Checks.{◌otherwise◌}
+use Rattle.tenant_core.specs.Key.{Key}
+use Rattle.tenant_core.specs.Limits.{max_money, max_holds}
+use Rattle.tenant_core.specs.Purse.{is_over_ceiling, is_over_credit}
+use Rattle.tenant_core.specs.Routing.{another, onward, stays_here, rate_between, outgoing_expiry}
+use Rattle.tenant_core.specs.State.{State, peer_numbered, open_holds}
+use Rattle.tenant_core.specs.Judge.{verdict_for_sender, verdict_at_rate, refuse}
+use Rattle.tenant_core.proofs.Purses.{IsPaid, HasLimits, has_limits, has_terms_within, found_passes}
+
+-- ---- one line
+
+passed : (s : State) (n amount : ℕ) (b : Bool) (v w : Verdict) → IsPaid s n amount v → (b ≡ false → IsPaid s n amount w) → IsPaid s n amount (cond b v w)
+passed s n amount true v w p q = p
+passed s n amount false v w p q = q refl
+
+found : {A : Type 0} (s : State) (n amount : ℕ) (o : Option A) (v : Verdict) (next : A → Verdict) → IsPaid s n amount v
+    → ((x : A) → o ≡ Some x → IsPaid s n amount (next x)) → IsPaid s n amount ((o otherwise v) next)
+found s n amount None v next p q = p
+found s n amount (Some x) v next p q = q x refl
+
+not_over : (a b c : ℤ) → int_lt a b ≡ false → a ≤ℤ c → b ≤ℤ c
+not_over a b c e h = let l = lt_z_no {a = a} {b = b} (T_from_false _ e) in omega (arith, ints)
+
+not_under : (a b c : ℤ) → int_lt a b ≡ false → c ≤ℤ b → c ≤ℤ a
+not_under a b c e h = let l = lt_z_no {a = a} {b = b} (T_from_false _ e) in omega (arith, ints)
+
+within_pos : (n : ℕ) → n ≤ max_money → pos n ≤ℤ pos max_money
+within_pos n h = omega (arith, ints)
+
+within_neg : (n : ℕ) → n ≤ max_money → neg_ℤ (pos max_money) ≤ℤ neg_ℤ (pos n)
+within_neg n h = omega (arith, ints)
+
+-- ---- all of them
+
+rate_paid : (s : State) (from to : Peer) (rate : Fraction) (key : Key) (clock : ℕ) → HasLimits from.terms → HasLimits to.terms
+    → IsPaid s from.number key.amount (verdict_at_rate s from to rate key clock)
+rate_paid s from to rate key clock f t =
+    passed s from.number key.amount (nat_lt to.terms.cap (price_of rate key.amount)) _ _ tt (λ _.
+    passed s from.number key.amount (nat_le (outgoing_expiry s.opening key.expiry clock) clock) _ _ tt (λ _.
+    passed s from.number key.amount (is_over_ceiling s from key.amount) _ _ tt (λ c.
+    passed s from.number key.amount (is_over_credit s to (price_of rate key.amount)) _ _ tt (λ d.
+    passed s from.number key.amount (nat_le max_holds (open_holds s)) _ _ tt (λ _. (
+      not_over _ _ _ c (within_pos from.terms.ceiling f.ceiling),
+      not_under _ _ _ d (within_neg to.terms.credit t.credit),
+    ))))))
+
+onward_passes : (o : Opening) (n : Option ℕ) → list_all has_terms_within o.peers ≡ true
+    → IfSome (option_and_then (λ to. peer_numbered to o.peers) n) (λ to. has_terms_within to ≡ true)
+onward_passes o None e = tt
+onward_passes o (Some n) e = found_passes (λ p. eqb p.number n) o.peers e
+
+pub sender_paid : (s : State) (from : Peer) (key : Key) (clock : ℕ) → list_all has_terms_within s.opening.peers ≡ true
+    → HasLimits from.terms → IsPaid s from.number key.amount (verdict_for_sender s from key clock)
+sender_paid s from key clock within f =
+    passed s from.number key.amount (not (is_admitted (stretch_of s from) clock)) _ _ tt (λ _.
+    passed s from.number key.amount (nat_le key.expiry clock) _ _ tt (λ _.
+    passed s from.number key.amount (stays_here s.opening key.destination) _ _ tt (λ _.
+    passed s from.number key.amount (nat_lt from.terms.cap key.amount) _ _ tt (λ _.
+    found s from.number key.amount (onward s.opening from.number key.destination) (refuse Unreachable) _ tt (λ to is.
+    found s from.number key.amount (rate_between s.opening from.number to.number) (refuse Unreachable) _ tt (λ rate _.
+    rate_paid s from to rate key clock f (has_limits to.terms (passes to is))))))))
+  where
+    passes : (to : Peer) → onward s.opening from.number key.destination ≡ Some to → has_terms_within to ≡ true
+    passes to is =
+        let each = onward_passes s.opening (option_and_then (another from.number) (best_route s.opening.routes key.destination)) within in
+        subst (λ o. IfSome o (λ p. has_terms_within p ≡ true)) is each

@@ -1,0 +1,28 @@
+//! The limits of tenants.
+
+/// The most peers of a tenant.
+pub const MAX_PEERS: usize = 256;
+
+/// The most rates of a tenant.
+pub const MAX_RATES: usize = 4_096;
+
+/// The most places of a journal.
+pub const MAX_JOURNAL: u64 = 16_384;
+
+/// The most packets that a tenant holds at once.
+pub const MAX_HOLDS: u64 = 1_024;
+
+/// The greatest cap, ceiling and credit, and the greatest balance on either side of 0, in a peer's units.
+pub const MAX_MONEY: u64 = 1 << 62;
+
+/// The most milliseconds by which an expiry is brought forward.
+pub const MAX_MARGIN: u64 = 60_000;
+
+/// The most milliseconds for which a packet may be held.
+pub const MAX_HOLD: u64 = 600_000;
+
+/// The most packets that a full bucket admits at once.
+pub const MAX_BURST: u32 = 1_000_000;
+
+/// The most packets that flow into a bucket in a second.
+pub const MAX_PER_SECOND: u32 = 1_000_000;
