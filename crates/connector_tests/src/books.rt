@@ -7,8 +7,8 @@ use route_table::Routes;
 use std::alloc::Global;
 use std::test::Fail;
 use tenant_core::{
-    Book, NewPeer, PeerNo, PeerTerms, PrepareKey, RateTerms, RejectCode, Role, TenantSetup, TenantTerms,
-    Verdict,
+    Book, NewPeer, PeerNo, PeerTerms, PrepareKey, RateTerms, RejectCode, Role, TenantSetup,
+    TenantTerms, Verdict,
 };
 
 // 2030-01-01T00:00:00Z, and the greatest moment.
