@@ -2,6 +2,7 @@
 
 ghost use Rattle.std.specs.Prelude.{◌≡◌, ◌≤◌, length};
 
+use ilp_view::laws::written_frames_are_short;
 use ilp_view::{FulfillView, PrepareView, RejectView, ViewFault, write_fulfill, write_reject};
 use std::process::Abort;
 use std::test::Fail;
@@ -138,6 +139,7 @@ fn expect_rejects(rt: &impl Abort) -> Result<(), ViewFault> {
 #[test]
 fn answers(rt: HostRuntime) -> Result<(), Fail> {
     expect_rejects(&rt)?;
+    written_frames_are_short();
     let amounts = b"\0\0\0\0\0\0\x03\xe8\0\0\0\0\0\0\x03\xe7";
     let mut out = [9; 47];
     let written = write_reject(&mut out, b"F08", b"g.acme", b"amount too large", amounts);
