@@ -1,5 +1,6 @@
 -- Setups: what a TOML document says of a tenant.
-use Rattle.std.specs.Prelude.{◌≡◌, ℕ, Bool, false, ◌^◌, ℤ, pos, negsuc, List, [], ◌∷◌, ◌++◌, set, ◌==◌, nat_lt, nat_le, if◌then◌else◌, Option, Some, None, option_and_then, Result, Ok, Err, codes}
+use Rattle.std.specs.Prelude.{◌≡◌, ℕ, Bool, false, ◌^◌, ℤ, pos, negsuc, List, [], ◌∷◌, ◌++◌, set, ◌==◌, nat_lt, nat_le}
+use Rattle.std.specs.Prelude.{if◌then◌else◌, Option, Some, None, option_and_then, Result, Ok, Err, codes}
 use Rattle.std.specs.List.{position}
 use Rattle.std.specs.FinMap.{empty, contains_key, insert, len}
 use Rattle.std.specs.Result.{result_ok}
@@ -222,7 +223,17 @@ terms_of t peers routes rates = do
   journal ← number_or 1024 (codes "journal") t
   margin ← number_or 1000 (codes "margin") t
   hold ← number_or 30000 (codes "hold") t
-  Some (record { name = name; address = address; admin = admin; journal = journal; margin = margin; hold = hold; peers = peers; routes = routes; rates = rates })
+  Some (record {
+    name = name;
+    address = address;
+    admin = admin;
+    journal = journal;
+    margin = margin;
+    hold = hold;
+    peers = peers;
+    routes = routes;
+    rates = rates;
+  })
 
 -- the terms, if they keep the limits of a setup
 abbrev pub within_limits : TenantTerms → Option TenantTerms
@@ -268,11 +279,15 @@ from_start None tenant = Err Start
 from_start (Some start) (Ok tenant) = Ok (record { start = start; tenant = tenant })
 from_start (Some start) (Err fault) = Err fault
 
+-- the moment at the key `start`
+abbrev pub start_of : Members → Option ℕ
+start_of t = number_under 64 (codes "start") t >>= moment_within
+
 -- what a document says, or its first fault
 unfoldable pub setup_of_table : Members → Result Setup SetupFault
 setup_of_table t =
     if is_one (number_under 64 (codes "version") t)
-    then from_start (number_under 64 (codes "start") t >>= moment_within) (tenant_of_array (array_under (codes "tenant") t))
+    then from_start (start_of t) (tenant_of_array (array_under (codes "tenant") t))
     else Err Version
 
 -- a text that is no TOML is a fault

@@ -7,7 +7,13 @@ ghost use Rattle.std.specs.FinMap.{empty};
 ghost use Rattle.tenant_core.specs.Routing.{is_for_pair};
 ghost use Rattle.toml.specs.Data.{get_member, as_integer, as_str, as_table};
 ghost use Rattle.toml.specs.View.{view, items_view, array_view, table_view};
-ghost use Rattle.admin_text.specs.Setup.{string_under, text_under, integer_under, number_under, integer_or, number_or, array_under, items_under, role_of, role_under, peer_terms_of, peer_of, peer_in, peers_of, peers_of_tenant, place_of_peer, peer_under, written_prefix, with_route, with_route_of, with_route_in, with_routes_of, routes_of_tenant, rate_of, rate_in, with_rate, with_rates_of, rates_of_tenant, terms_of, tenant_of_table, and_no_other, tenant_of_items, tenant_of_array, moment_within, setup_of_table, document_of, setup_of};
+ghost use Rattle.admin_text.specs.Setup.{string_under, text_under, integer_under, number_under, integer_or, number_or};
+ghost use Rattle.admin_text.specs.Setup.{array_under, items_under, role_of, role_under, peer_terms_of, peer_of};
+ghost use Rattle.admin_text.specs.Setup.{peer_in, peers_of, peers_of_tenant, place_of_peer, peer_under, written_prefix};
+ghost use Rattle.admin_text.specs.Setup.{with_route, with_route_of, with_route_in, with_routes_of, routes_of_tenant};
+ghost use Rattle.admin_text.specs.Setup.{rate_of, rate_in, with_rate, with_rates_of, rates_of_tenant, terms_of};
+ghost use Rattle.admin_text.specs.Setup.{tenant_of_table, and_no_other, tenant_of_items, tenant_of_array, start_of};
+ghost use Rattle.admin_text.specs.Setup.{setup_of_table, document_of, setup_of};
 ghost use Rattle.toml.specs.Parse.{parse_document};
 ghost use Rattle.common_types.specs.Outcomes.{GivesUnlessMemory};
 
@@ -390,7 +396,8 @@ fn rates_of(
     peers: &[NewPeer],
     values: &[Value],
 ) -> Result<Option<Vec<RateTerms>>, AllocError>
-    ensures { IfOk result (λ rates. option_map (λ r. r.items) rates ≡ with_rates_of peers.now [] (items_view values.now)) }
+    ensures { IfOk result (λ rates.
+        option_map (λ r. r.items) rates ≡ with_rates_of peers.now [] (items_view values.now)) }
 {
     let mut rates = Vec::new(alloc);
     for value in values {
@@ -408,7 +415,8 @@ fn rates_of_tenant(
     peers: &[NewPeer],
     table: &Table,
 ) -> Result<Option<Vec<RateTerms>>, AllocError>
-    ensures { IfOk result (λ rates. option_map (λ r. r.items) rates ≡ rates_of_tenant peers.now (table_view table.now)) }
+    ensures { IfOk result (λ rates.
+        option_map (λ r. r.items) rates ≡ rates_of_tenant peers.now (table_view table.now)) }
 {
     match items_under(table, "rate") {
         Some(values) => rates_of(alloc, peers, values),
@@ -493,7 +501,8 @@ fn tenant_of_items(alloc: Global, values: &[Value]) -> Result<TenantSetup, ReadE
 
 #[tactic(auto, unfolding(crate::specs::Setup::tenant_of_array))]
 fn tenant_of_array(alloc: Global, table: &Table) -> Result<TenantSetup, ReadError<SetupFault>>
-    ensures { GivesUnlessMemory (λ t. t) result (tenant_of_array (array_under (codes "tenant") (table_view table.now))) }
+    ensures { GivesUnlessMemory (λ t. t) result
+        (tenant_of_array (array_under (codes "tenant") (table_view table.now))) }
 {
     match array_under(table, "tenant") {
         Some(values) => tenant_of_items(alloc, values.as_slice()),
@@ -502,7 +511,7 @@ fn tenant_of_array(alloc: Global, table: &Table) -> Result<TenantSetup, ReadErro
 }
 
 fn start_of(table: &Table) -> Option<Moment>
-    ensures { result ≡ option_and_then moment_within (number_under 64 (codes "start") (table_view table.now)) }
+    ensures { result ≡ start_of (table_view table.now) }
 {
     match u64_under(table, "start") {
         Some(start) => Moment::new(start),

@@ -23,8 +23,8 @@ fn all_token_bytes(bytes: &[u8]) -> bool
     bytes.iter().all(|b| is_token_byte(*b))
 }
 
-/// Whether the bytes are a token: 1 to 64 letters, digits and `-._~+/=` (RFC 6750, "Authorization Request Header Field",
-/// where `=` may stand anywhere).
+/// Whether the bytes are a token: 1 to 64 letters, digits and `-._~+/=` (RFC 6750, "Authorization Request Header
+/// Field", where `=` may stand anywhere).
 pub fn is_token(bytes: &[u8]) -> bool
     ensures { result ≡ is_token bytes.now }
 {

@@ -10,7 +10,8 @@ use Rattle.tenant_core.specs.declared.opening.Opening.{Opening}
 use Rattle.tenant_core.specs.declared.verdict.Verdict.{Verdict}
 use Rattle.tenant_core.specs.declared.verdict.Verdict.TheVariants.{Unknown, NoRoom, Refuse, Forward}
 use Rattle.tenant_core.specs.Judge.{judge}
-use Rattle.floor_core.specs.World.{FitsIn, arrival, Stage, Tenant, Event, Hand, Owner, number_of, key_in, said, arrive_reply, arrive_after, decide_reply, decide_after, reply_alone, after_alone, run_alone, load_owner, decide_owner, owner, awaiting, told, worker_of, hands_after, owners, own_steps, seen_by, NobodysAreRight, AreOutputs, all_free}
+use Rattle.floor_core.specs.World.{FitsIn, arrival, Stage, Tenant, Event, Hand, Owner, number_of, key_in, said, arrive_reply, arrive_after, decide_reply, decide_after, reply_alone, after_alone}
+use Rattle.floor_core.specs.World.{run_alone, load_owner, decide_owner, owner, awaiting, told, worker_of, hands_after, owners, own_steps, seen_by, NobodysAreRight, AreOutputs, all_free}
 use Rattle.floor_core.specs.declared.step.Malformed.{Malformed}
 use Rattle.floor_core.specs.declared.step.Step.{Step}
 use Rattle.floor_core.specs.declared.step.Step.TheVariants.{Load, Decide}

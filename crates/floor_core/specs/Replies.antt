@@ -3,7 +3,9 @@ use Rattle.std.specs.Prelude.{ℕ, List, [], ◌++◌, Option, Some, None, codes
 use Rattle.std.specs.Int.{w64, to_be_bytes}
 use Rattle.ilp_view.specs.Packet.{reject_frame}
 use Rattle.tenant_core.specs.declared.verdict.RejectCode.{RejectCode}
-use Rattle.tenant_core.specs.declared.verdict.RejectCode.TheVariants.{Unreachable, AmountTooLarge, Busy, InsufficientLiquidity, RateLimited, InsufficientTimeout}
+use Rattle.tenant_core.specs.declared.verdict.RejectCode.TheVariants.{Unreachable, AmountTooLarge, Busy}
+use Rattle.tenant_core.specs.declared.verdict.RejectCode.TheVariants.{InsufficientLiquidity, RateLimited}
+use Rattle.tenant_core.specs.declared.verdict.RejectCode.TheVariants.{InsufficientTimeout}
 
 -- the three bytes of a code
 abbrev pub code_of : RejectCode → List ℕ

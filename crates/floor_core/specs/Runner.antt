@@ -1,5 +1,6 @@
 -- What the runner of one tenant and one worker shows, and what its steps do to it.
-use Rattle.std.specs.Prelude.{ℕ, ◌≡◌, ◌+◌, true, List, [], ◌∷◌, Option, Some, None, Result, Ok, Err, ◌==◌, if◌then◌else◌, is_ok}
+use Rattle.std.specs.Prelude.{ℕ, ◌≡◌, ◌+◌, true, List, [], ◌∷◌, Option, Some, None, Result, Ok, Err, ◌==◌}
+use Rattle.std.specs.Prelude.{if◌then◌else◌, is_ok}
 use Rattle.ilp_view.specs.declared.fault.ViewFault.{ViewFault}
 use Rattle.ilp_view.specs.Packet.{Prepare}
 use Rattle.ilp_view.specs.Reading.{prepare_at}

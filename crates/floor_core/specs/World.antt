@@ -1,5 +1,6 @@
 -- The one-tenant connector, and whose step each step of a list is.
-use Rattle.std.specs.Prelude.{ℕ, ◌≡◌, ◌+◌, ◌<◌, List, [], ◌∷◌, length, Option, Some, None, Result, Ok, Err, ◌==◌, if◌then◌else◌}
+use Rattle.std.specs.Prelude.{ℕ, ◌≡◌, ◌+◌, ◌<◌, List, [], ◌∷◌, length, Option, Some, None, Result, Ok, Err, ◌==◌}
+use Rattle.std.specs.Prelude.{if◌then◌else◌}
 use Rattle.common_types.specs.Token.{is_token}
 use Rattle.ilp_addr.specs.Timestamp.{moment_of, timestamp_of}
 use Rattle.ilp_view.specs.declared.fault.ViewFault.{ViewFault}
@@ -69,7 +70,13 @@ arrival token bytes = if is_token token then packet_or_fault (prepare_at bytes) 
 
 -- what the tenant decides a packet by
 abbrev pub key_in : Prepare → Key
-key_in p = record { amount = p.amount; expiry = moment_of p.expiry; condition = p.condition; destination = p.destination }
+key_in p =
+    record {
+      amount = p.amount;
+      expiry = moment_of p.expiry;
+      condition = p.condition;
+      destination = p.destination;
+    }
 
 -- the name of a peer
 abbrev pub peer_name : Option Peer → List ℕ
@@ -236,9 +243,11 @@ all_free = λ w. Free
 -- the one-tenant connector says to the tenant's own steps alone, and nobody's steps have nobody's outputs.
 pub record AreOutputs (tenant : Tenant) (hands : ℕ → Hand) (steps : List Step) (outputs : List Output) : Type 0 where
   pub each_step : length outputs ≡ length steps
-  pub alone : seen_by (number_of tenant) (owners hands steps outputs) outputs ≡ run_alone tenant (own_steps (number_of tenant) (owners hands steps outputs))
+  pub alone : seen_by (number_of tenant) (owners hands steps outputs) outputs
+      ≡ run_alone tenant (own_steps (number_of tenant) (owners hands steps outputs))
   pub nobodys : NobodysAreRight (owners hands steps outputs) outputs
 
 -- where the one-tenant connector ends on the tenant's own steps
 abbrev pub IsLeft : Tenant → (ℕ → Hand) → List Step → List Output → Tenant → Type 0
-IsLeft tenant hands steps outputs after = left_alone tenant (own_steps (number_of tenant) (owners hands steps outputs)) ≡ after
+IsLeft tenant hands steps outputs after =
+    left_alone tenant (own_steps (number_of tenant) (owners hands steps outputs)) ≡ after

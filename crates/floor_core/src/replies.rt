@@ -5,6 +5,7 @@ ghost use Rattle.ilp_view.specs.Packet.{reject_frame};
 ghost use Rattle.floor_core.specs.Replies.{code_of, message_of, amounts_data, refusal_reply, busy_reply};
 
 use common_types::Bytes;
+use ilp_view::laws::written_frames_are_short;
 use ilp_view::write_reject;
 use std::alloc::{AllocError, Global};
 use tenant_core::RejectCode;
@@ -51,6 +52,7 @@ fn reject(
     requires payload { length payload.now ≤ 16 }
     ensures { IfOk result (λ reply. reply ≡ reject_frame code.now address.now message.now payload.now) }
 {
+    written_frames_are_short();
     let mut room = [0u8; MOST_BYTES];
     let end = write_reject(&mut room, code, address, message, payload).unwrap();
     Ok(Bytes::from_vec(Vec::from_slice(alloc, &room[..end])?))

@@ -66,7 +66,8 @@ fn token_text(bytes: &[u8]) -> Option<Text<64>>
 
 impl Runner {
     ghost use Rattle.std.specs.Prelude.{◌≡◌, ◌≤◌, ◌<◌, ◌+◌, ◌^◌, IfOk, length};
-    ghost use Rattle.floor_core.specs.Runner.{Run, output_of, moved, outputs_of, run_after, load_output, load_moved, decide_output, decide_moved, shown_tenant, shown_hands};
+    ghost use Rattle.floor_core.specs.Runner.{Run, output_of, moved, outputs_of, run_after, load_output, load_moved};
+    ghost use Rattle.floor_core.specs.Runner.{decide_output, decide_moved, shown_tenant, shown_hands};
     ghost use Rattle.std.specs.Prelude.{All};
     ghost use Rattle.floor_core.specs.World.{FitsIn};
     ghost use Rattle.floor_core.specs.World.{AreOutputs, IsLeft, new_tenant, all_free};
@@ -106,8 +107,10 @@ impl Runner {
     pub fn run(&mut self, alloc: Global, steps: &[Step]) -> Result<Vec<Output>, AllocError>
         requires fit { All (FitsIn 1 1) steps.now }
         requires room { self.old.next_call + length steps.now ≤ 2 ^ 63 }
-        ensures outputs { IfOk result (λ outputs. AreOutputs (shown_tenant self.old) (shown_hands self.old) steps.now outputs.items) }
-        ensures left { IfOk result (λ outputs. IsLeft (shown_tenant self.old) (shown_hands self.old) steps.now outputs.items (shown_tenant self.new)) }
+        ensures outputs { IfOk result (λ outputs.
+            AreOutputs (shown_tenant self.old) (shown_hands self.old) steps.now outputs.items) }
+        ensures left { IfOk result (λ outputs.
+            IsLeft (shown_tenant self.old) (shown_hands self.old) steps.now outputs.items (shown_tenant self.new)) }
     {
         let _ = &self.carried;
         let mut outputs = Vec::with_capacity(alloc, steps.len())?;
@@ -185,7 +188,8 @@ fn decided(
 ) -> Result<(Output, Verdict), AllocError>
     ensures book { book.new ≡ decided book.old token.now (key_in packet.now) now }
     ensures verdict { IfOk result (λ r. r.1 ≡ judge book.old token.now (key_in packet.now) now) }
-    ensures output { IfOk result (λ r. r.0 ≡ said book.old.opening packet.now (judge book.old token.now (key_in packet.now) now)) }
+    ensures output { IfOk result (λ r.
+        r.0 ≡ said book.old.opening packet.now (judge book.old token.now (key_in packet.now) now)) }
 {
     let key = PrepareKey {
         amount: packet.amount(),

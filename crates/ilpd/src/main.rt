@@ -2,13 +2,12 @@
 #![tactic(auto)]
 
 mod command_line;
-mod device;
 mod replays;
 #[cfg(test)]
 mod tests;
 
 use command_line::arguments;
-use device::Counted;
+use oer_core::Counted;
 use replay_text::ReplayFault;
 use replays::replay;
 use std::io::ErrorKind;

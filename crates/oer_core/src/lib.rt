@@ -7,12 +7,14 @@
 //! - [`OerFault`] says why bytes could not be read or written; [`laws`] what ties reading to spelling.
 #![tactic(auto)]
 
+mod counted;
 mod device;
 mod fault;
 pub mod laws;
 mod reading;
 mod writing;
 
+pub use counted::Counted;
 pub use device::Device;
 pub use fault::OerFault;
 pub use reading::{read_length, read_octets, read_u64};

@@ -1,6 +1,6 @@
 //! The lines that a replay prints.
 
-ghost use Rattle.std.specs.Prelude.{◌≡◌, ◌++◌, ◌∷◌, [], IfOk, OnOk};
+ghost use Rattle.std.specs.Prelude.{◌≡◌, ◌++◌, ◌∷◌, [], IfOk, OnOk, codes};
 ghost use Rattle.std.specs.Fmt.{decimal};
 ghost use Rattle.hex.specs.Hex.{encode_lower};
 ghost use Rattle.replay_text.specs.Printed.{name_of, word_of, line_text, line_of, printed_lines};
@@ -45,6 +45,25 @@ fn put_hex(alloc: Global, out: &mut Vec<u8>, bytes: &[u8]) -> Result<(), AllocEr
     out.extend_from_slice(text.as_bytes())
 }
 
+// What is said of a packet that goes on, behind the tenant's name.
+fn put_send(
+    alloc: Global,
+    out: &mut Vec<u8>,
+    peer: &[u8],
+    hold: u64,
+    frame: &[u8],
+) -> Result<(), AllocError>
+    ensures { OnOk result (out.new.items
+        ≡ out.old.items ++ codes " send " ++ peer.now ++ codes " " ++ decimal hold ++ codes " " ++ encode_lower frame.now) }
+{
+    out.extend_from_slice(b" send ")?;
+    out.extend_from_slice(peer)?;
+    out.push(b' ')?;
+    put_decimal(alloc, out, hold)?;
+    out.push(b' ')?;
+    put_hex(alloc, out, frame)
+}
+
 fn put_text(
     alloc: Global,
     names: &[Text<32>],
@@ -82,12 +101,7 @@ fn put_text(
             frame,
         } => {
             out.extend_from_slice(name_of(names, *tenant))?;
-            out.extend_from_slice(b" send ")?;
-            out.extend_from_slice(peer.as_bytes())?;
-            out.push(b' ')?;
-            put_decimal(alloc, out, *hold)?;
-            out.push(b' ')?;
-            put_hex(alloc, out, frame.as_slice())
+            put_send(alloc, out, peer.as_bytes(), *hold, frame.as_slice())
         }
     }
 }

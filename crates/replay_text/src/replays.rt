@@ -2,7 +2,8 @@
 
 ghost use Rattle.std.specs.Prelude.{◌≡◌, ◌≤◌, ◌<◌, ◌⊎◌, ◌↔◌, OnOk, IfOk, IfErr, IfSome, IsOk, None, Ok, Err};
 ghost use Rattle.replay_text.specs.Printed.{printed_lines};
-ghost use Rattle.replay_text.specs.Replay.{names_in, IsReplayed, refusal_of, IsRefusedBy, WritesAll, LeavesWritten, IsAnswered};
+ghost use Rattle.replay_text.specs.Replay.{names_in, IsReplayed, refusal_of, IsRefusedBy, WritesAll, LeavesWritten};
+ghost use Rattle.replay_text.specs.Replay.{IsAnswered};
 ghost use Rattle.admin_text.specs.Setup.{setup_of};
 ghost use Rattle.floor_core.specs.World.{FitsIn};
 ghost use Rattle.std.specs.Prelude.{All};

@@ -1,9 +1,12 @@
 //! Replay scripts: what each line has a worker do.
 
-ghost use Rattle.std.specs.Prelude.{◌≡◌, ◌==◌, ◌<◌, ◌≤◌, ◌↔◌, ℕ, List, Ok, Err, ◌∷◌, length, ◌≢◌, [], option_copied, option_map, min, nat_lt, IfOk, All};
+ghost use Rattle.std.specs.Prelude.{◌≡◌, ◌==◌, ◌<◌, ◌≤◌, ◌↔◌, ℕ, List, Ok, Err, ◌∷◌, length, ◌≢◌, [], option_copied};
+ghost use Rattle.std.specs.Prelude.{option_map, min, nat_lt, IfOk, All};
 ghost use Rattle.std.specs.List.{position, list_all};
 ghost use Rattle.std.specs.Str.{bytes_eq};
-ghost use Rattle.replay_text.specs.Script.{lines_of, words_of, is_digit, is_numeral, value_of, number_below, tenant_named, token_of, frame_of, load_of, decide_of, step_of_words, is_skipped, meaning_of, steps_from, steps_of_script, AreSteps, IsFirstBad};
+ghost use Rattle.replay_text.specs.Script.{lines_of, words_of, is_digit, is_numeral, value_of, number_below};
+ghost use Rattle.replay_text.specs.Script.{tenant_named, token_of, frame_of, load_of, decide_of, step_of_words};
+ghost use Rattle.replay_text.specs.Script.{is_skipped, meaning_of, steps_from, steps_of_script, AreSteps, IsFirstBad};
 ghost use Rattle.common_types.specs.Outcomes.{GivesUnlessMemory};
 ghost use Rattle.floor_core.specs.World.{FitsIn};
 ghost use Rattle.replay_text.specs.Words.{parts, three_of, five_of};
@@ -188,7 +191,8 @@ fn load_of(
     workers: usize,
     words: (&[u8], &[u8], &[u8], &[u8]),
 ) -> Result<Option<Step>, AllocError>
-    ensures { IfOk result (λ step. step ≡ load_of names.now workers words.entry.0.now words.entry.1.now words.entry.2.now words.entry.3.now) }
+    ensures { IfOk result (λ step. step ≡ load_of names.now workers
+        words.entry.0.now words.entry.1.now words.entry.2.now words.entry.3.now) }
 {
     let (worker, tenant, token, frame) = words;
     let Some(worker) = number_below(workers as u64, worker) else {
@@ -325,7 +329,8 @@ pub fn parse_script(
     // What is read is what the lines say.
     ensures found { IfOk result (λ steps. AreSteps names.now workers (lines_of text.now) steps.items) }
     // What the lines say is read, unless memory runs out.
-    ensures only { (steps : List Step) → length text.now ≤ MOST_BYTES → AreSteps names.now workers (lines_of text.now) steps
+    ensures only { (steps : List Step) → length text.now ≤ MOST_BYTES
+        → AreSteps names.now workers (lines_of text.now) steps
         → GivesUnlessMemory (λ v. v.items) result (Ok steps) }
     // A line that is named is the first bad one.
     ensures first_bad { (number : ℕ) → result ≡ Err (ReadError.Fault (ScriptFault.Line number))

@@ -1,6 +1,7 @@
 //! Scripts that are read whole, and texts that are written whole.
 
-ghost use Rattle.std.specs.Prelude.{◌≡◌, ◌≢◌, ◌+◌, ◌<◌, ◌≤◌, ℕ, List, take, length, Ok, Err, Some, OnOk, IfOk, IfSome, ◌↔◌};
+ghost use Rattle.std.specs.Prelude.{◌≡◌, ◌≢◌, ◌+◌, ◌<◌, ◌≤◌, ℕ, List, take, length, Ok, Err, Some, OnOk, IfOk, IfSome};
+ghost use Rattle.std.specs.Prelude.{◌↔◌};
 ghost use Rattle.std.specs.Io.KnownBytes.{Keeps, Appends, Consumes, IsAtEnd};
 ghost use Rattle.replay_text.specs.Streams.{AppendsFront, ConsumesAtMost, TakesBehind};
 

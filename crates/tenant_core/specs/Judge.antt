@@ -1,6 +1,7 @@
 -- The verdict on a Prepare: that of the first check that fails, line by line. `fails ⇒ verdict` is a check, and
 -- `name ← search otherwise verdict` one that finds what later lines name.
-use Rattle.std.specs.Prelude.{ℕ, ◌≤◌, ◌+◌, Bool, true, false, not, List, length, max, Option, Some, None, nat_lt, nat_le, if◌then◌else◌}
+use Rattle.std.specs.Prelude.{ℕ, ◌≤◌, ◌+◌, Bool, true, false, not, List, length, max, Option, Some, None, nat_lt}
+use Rattle.std.specs.Prelude.{nat_le, if◌then◌else◌}
 use Rattle.money_core.specs.Fraction.{Fraction}
 use Rattle.money_core.specs.Price.{price_of, greatest_amount}
 use Rattle.rate_bucket.specs.Bucket.{is_admitted}
@@ -16,7 +17,9 @@ use Rattle.tenant_core.specs.declared.journal.Entry.TheVariants.{Decide}
 use Rattle.tenant_core.specs.declared.journal.Outcome.TheVariants.{Packet}
 use Rattle.tenant_core.specs.declared.journal.Record.{Record}
 use Rattle.tenant_core.specs.declared.verdict.RejectCode.{RejectCode}
-use Rattle.tenant_core.specs.declared.verdict.RejectCode.TheVariants.{Unreachable, AmountTooLarge, Busy, InsufficientLiquidity, RateLimited, InsufficientTimeout}
+use Rattle.tenant_core.specs.declared.verdict.RejectCode.TheVariants.{Unreachable, AmountTooLarge, Busy}
+use Rattle.tenant_core.specs.declared.verdict.RejectCode.TheVariants.{InsufficientLiquidity, RateLimited}
+use Rattle.tenant_core.specs.declared.verdict.RejectCode.TheVariants.{InsufficientTimeout}
 use Rattle.tenant_core.specs.declared.verdict.Verdict.{Verdict}
 use Rattle.tenant_core.specs.declared.verdict.Verdict.TheVariants.{Unknown, NoRoom, Refuse, Forward}
 

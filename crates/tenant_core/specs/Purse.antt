@@ -1,5 +1,6 @@
 -- Purses: what peers owe, and what is held on both sides, as sums over the journal.
-use Rattle.std.specs.Prelude.{ℕ, ◌+◌, ℤ, pos, ◌+ℤ◌, ◌-ℤ◌, ◌≤ℤ◌, neg_ℤ, int_lt, Bool, ◌&&◌, sum_by, ◌==◌, Option, Some, None, if◌then◌else◌}
+use Rattle.std.specs.Prelude.{ℕ, ◌+◌, ℤ, pos, ◌+ℤ◌, ◌-ℤ◌, ◌≤ℤ◌, neg_ℤ, int_lt, Bool, ◌&&◌, sum_by, ◌==◌, Option, Some}
+use Rattle.std.specs.Prelude.{None, if◌then◌else◌}
 use Rattle.tenant_core.specs.Limits.{max_money}
 use Rattle.tenant_core.specs.State.{State, is_of, holds, peer_numbered}
 use Rattle.tenant_core.specs.declared.opening.Peer.{Peer}

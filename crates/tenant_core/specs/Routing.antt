@@ -1,5 +1,6 @@
 -- Where a packet goes, and by when.
-use Rattle.std.specs.Prelude.{ℕ, ◌+◌, ◌-◌, Bool, false, ◌&&◌, ◌||◌, List, [], ◌∷◌, find, min, codes, Option, Some, None, option_map, option_and_then, ◌==◌, if◌then◌else◌}
+use Rattle.std.specs.Prelude.{ℕ, ◌+◌, ◌-◌, Bool, false, ◌&&◌, ◌||◌, List, [], ◌∷◌, find, min, codes, Option, Some, None}
+use Rattle.std.specs.Prelude.{option_map, option_and_then, ◌==◌, if◌then◌else◌}
 use Rattle.std.specs.Str.{bytes_eq}
 use Rattle.money_core.specs.Fraction.{Fraction}
 use Rattle.ilp_addr.specs.Address.{segments}

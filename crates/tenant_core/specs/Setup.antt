@@ -6,7 +6,8 @@ use Rattle.std.specs.FinMap.{values}
 use Rattle.common_types.specs.Numbers.{is_between}
 use Rattle.route_table.specs.Routes.{RouteMap}
 use Rattle.tenant_core.specs.Routing.{is_for_pair}
-use Rattle.tenant_core.specs.Limits.{max_money, max_burst, max_per_second, max_peers, max_journal, max_margin, max_hold, max_rates}
+use Rattle.tenant_core.specs.Limits.{max_money, max_burst, max_per_second, max_peers, max_journal, max_margin, max_hold}
+use Rattle.tenant_core.specs.Limits.{max_rates}
 use Rattle.tenant_core.specs.declared.terms.NewPeer.{NewPeer}
 use Rattle.tenant_core.specs.declared.terms.PeerTerms.{PeerTerms}
 use Rattle.tenant_core.specs.declared.terms.RateTerms.{RateTerms}

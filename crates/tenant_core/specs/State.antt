@@ -1,5 +1,6 @@
 -- A tenant's state: an opening and the records since. Every question about it is one about that list.
-use Rattle.std.specs.Prelude.{ℕ, ◌+◌, Bool, true, false, List, [], ◌∷◌, ◌++◌, fold, max, count_by, find, length, Option, Some, None, ◌==◌}
+use Rattle.std.specs.Prelude.{ℕ, ◌+◌, Bool, true, false, List, [], ◌∷◌, ◌++◌, fold, max, count_by, find, length, Option}
+use Rattle.std.specs.Prelude.{Some, None, ◌==◌}
 use Rattle.std.specs.Str.{bytes_eq}
 use Rattle.rate_bucket.specs.Bucket.{full_bucket}
 use Rattle.tenant_core.specs.declared.opening.Opening.{Opening}

@@ -3,7 +3,9 @@
 ghost use Rattle.std.specs.Prelude.{◌≡◌};
 ghost use Rattle.std.specs.List.{list_any, list_all};
 ghost use Rattle.std.specs.Str.{bytes_eq};
-ghost use Rattle.tenant_core.specs.Setup.{are_terms_within, is_peer_within, names_differ, tokens_differ, are_peers_within, are_times_within, are_routes_within, is_rate_within, pairs_differ, are_rates_within, is_tenant_setup};
+ghost use Rattle.tenant_core.specs.Setup.{are_terms_within, is_peer_within, names_differ, tokens_differ};
+ghost use Rattle.tenant_core.specs.Setup.{are_peers_within, are_times_within, are_routes_within, is_rate_within};
+ghost use Rattle.tenant_core.specs.Setup.{pairs_differ, are_rates_within, is_tenant_setup};
 ghost use Rattle.tenant_core.specs.Routing.{is_for_pair};
 
 use crate::limits::{

@@ -1,11 +1,11 @@
-//! Devices that count their faults.
+//! Readers and writers that count their faults.
 
-ghost use Rattle.std.specs.Prelude.{◌≡◌, ◌+◌, ◌-◌, ◌^◌, min, is_err, if◌then◌else◌};
+ghost use Rattle.std.specs.Prelude.{◌≡◌, is_err};
 ghost use Rattle.std.specs.Io.{ReadsAtMost, WritesAtMost};
 ghost use Rattle.std.specs.Io.KnownBytes.{Keeps, ReadConsumes, WriteAppends};
-ghost use Rattle.ilpd.specs.Devices.{takes_nothing};
+ghost use Rattle.oer_core.specs.Devices.{count_after, takes_nothing};
 
-use oer_core::Device;
+use crate::device::Device;
 use std::io;
 use std::io::{Read, Write};
 
@@ -27,7 +27,7 @@ impl<D> Counted<D> {
 
     fn count(&mut self, failed: bool)
         ensures inner { self.new.inner ≡ self.old.inner }
-        ensures count { self.new.failures ≡ (if failed then min (self.old.failures + 1) (2 ^ 64 - 1) else self.old.failures) }
+        ensures count { self.new.failures ≡ count_after failed self.old.failures }
     {
         if failed {
             self.failures = self.failures.saturating_add(1);
@@ -50,7 +50,7 @@ impl<D: Read> Read for Counted<D> {
         ensures bound { ReadsAtMost result buf.new }
         ensures bytes { ReadConsumes (D.remaining self.old.inner) (D.remaining self.new.inner) result buf.new }
         // An error is counted, and nothing else.
-        ensures counted { self.new.failures ≡ (if is_err result then min (self.old.failures + 1) (2 ^ 64 - 1) else self.old.failures) }
+        ensures counted { self.new.failures ≡ count_after (is_err result) self.old.failures }
     {
         let result = self.inner.read(buf);
         self.count(result.is_err());
@@ -65,7 +65,7 @@ impl<D: Write> Write for Counted<D> {
         ensures bound { WritesAtMost result buf.now }
         ensures bytes { WriteAppends (D.contents self.old.inner) (D.contents self.new.inner) result buf.now }
         // An error is counted, and a write of some bytes that takes none, and nothing else.
-        ensures counted { self.new.failures ≡ (if takes_nothing result buf.now then min (self.old.failures + 1) (2 ^ 64 - 1) else self.old.failures) }
+        ensures counted { self.new.failures ≡ count_after (takes_nothing result buf.now) self.old.failures }
     {
         let result = self.inner.write(buf);
         self.count(match &result {
