@@ -1,7 +1,6 @@
 //! The usual setup of the replays, and changes of it.
 
-use std::alloc::Global;
-use std::fmt::Write;
+use std::alloc::{AllocError, Global};
 use std::test::Fail;
 
 /// A line of a setup: whose it is, by the names of `USUAL`, the key and the value. With no key the line is the header
@@ -104,19 +103,24 @@ static USUAL: [Line; 83] = [
     ("second tenant", "name", ABSENT),
 ];
 
-/// The usual setup with the values of these lines in place of its own. Each names a line of `USUAL`.
-pub fn setup_with(alloc: Global, changes: &[Line]) -> Result<String, Fail> {
-    let mut lines = USUAL;
-    for (table, key, value) in changes {
-        let line = lines
-            .iter_mut()
-            .find(|line| line.0 == *table && line.1 == *key)
-            .ok_or("a line of the setup")?;
-        line.2 = *value;
-    }
+// The value that the changes give to a line, where one of them does.
+fn changed(changes: &[Line], whose: &str, key: &str) -> Option<&'static str> {
+    let (_, _, value) = changes
+        .iter()
+        .find(|change| change.0 == whose && change.1 == key)?;
+    Some(*value)
+}
+
+fn is_usual(whose: &str, key: &str) -> bool {
+    USUAL.iter().any(|line| line.0 == whose && line.1 == key)
+}
+
+// The lines of the usual setup with the values that the changes give.
+fn changed_text(alloc: Global, changes: &[Line]) -> Result<String, AllocError> {
     let mut text = String::new(alloc);
     let mut is_in = true;
-    for (_, key, value) in lines {
+    for (whose, key, usual) in &USUAL {
+        let value = changed(changes, whose, key).unwrap_or(*usual);
         let is_header = key.is_empty();
         if is_header {
             is_in = value != ABSENT;
@@ -124,11 +128,21 @@ pub fn setup_with(alloc: Global, changes: &[Line]) -> Result<String, Fail> {
         if !is_in || value == ABSENT {
             continue;
         }
-        if is_header {
-            writeln!(text, "{value}")?;
-        } else {
-            writeln!(text, "{key} = {value}")?;
+        if !is_header {
+            text.push_str(key)?;
+            text.push_str(" = ")?;
         }
+        text.push_str(value)?;
+        text.push_str("\n")?;
     }
+    Ok(text)
+}
+
+/// The usual setup with the values of these lines in place of its own. Each names a line of `USUAL`.
+pub fn setup_with(alloc: Global, changes: &[Line]) -> Result<String, Fail> {
+    if !changes.iter().all(|change| is_usual(change.0, change.1)) {
+        return Err(Fail::from("a line of the setup"));
+    }
+    let text = changed_text(alloc, changes)?;
     Ok(text.replace(alloc, "'", "\"")?)
 }
