@@ -144,61 +144,70 @@ fn scripts_print_their_lines(rt: HostRuntime) -> Result<(), Fail> {
     Ok(())
 }
 
-// A change of the usual setup, a script, and what a replay of both fails with: the fault, its status and its text.
-static REFUSALS: [(&[Line], &str, ReplayFault, u8, &str); 6] = [
-    (
-        &[("", "start", "")],
-        "tick\n",
-        ReplayFault::Setup(SetupFault::Toml),
-        3,
-        "setup: toml",
-    ),
-    (
-        &[("", "version", "2")],
-        "tick\n",
-        ReplayFault::Setup(SetupFault::Version),
-        3,
-        "setup: version",
-    ),
-    (
-        &[("", "start", "-1")],
-        "tick\n",
-        ReplayFault::Setup(SetupFault::Start),
-        3,
-        "setup: start",
-    ),
-    (
-        &[("acme", "journal", "1")],
-        "",
-        ReplayFault::Setup(SetupFault::Tenant(0)),
-        3,
-        "setup: tenant 0",
-    ),
-    (
-        &[("second tenant", "", "[[tenant]]")],
-        "",
-        ReplayFault::Setup(SetupFault::Tenant(1)),
-        3,
-        "setup: tenant 1",
-    ),
-    (
-        &[],
-        "decide 0 0\ntick\n",
-        ReplayFault::Script(ScriptFault::Line(2)),
-        4,
-        "script: line 2",
-    ),
+/// A replay that fails, with the fault, the status of a program that it ends, and the text.
+struct Refusal {
+    changes: &'static [Line],
+    script: &'static str,
+    fault: ReplayFault,
+    status: u8,
+    text: &'static str,
+}
+
+static REFUSALS: [Refusal; 6] = [
+    Refusal {
+        changes: &[("", "start", "")],
+        script: "tick\n",
+        fault: ReplayFault::Setup(SetupFault::Toml),
+        status: 3,
+        text: "setup: toml",
+    },
+    Refusal {
+        changes: &[("", "version", "2")],
+        script: "tick\n",
+        fault: ReplayFault::Setup(SetupFault::Version),
+        status: 3,
+        text: "setup: version",
+    },
+    Refusal {
+        changes: &[("", "start", "-1")],
+        script: "tick\n",
+        fault: ReplayFault::Setup(SetupFault::Start),
+        status: 3,
+        text: "setup: start",
+    },
+    Refusal {
+        changes: &[("acme", "journal", "1")],
+        script: "",
+        fault: ReplayFault::Setup(SetupFault::Tenant(0)),
+        status: 3,
+        text: "setup: tenant 0",
+    },
+    Refusal {
+        changes: &[("second tenant", "", "[[tenant]]")],
+        script: "",
+        fault: ReplayFault::Setup(SetupFault::Tenant(1)),
+        status: 3,
+        text: "setup: tenant 1",
+    },
+    Refusal {
+        changes: &[],
+        script: "decide 0 0\ntick\n",
+        fault: ReplayFault::Script(ScriptFault::Line(2)),
+        status: 4,
+        text: "script: line 2",
+    },
 ];
 
 #[test]
 fn refusals_have_a_status_and_a_text(rt: HostRuntime) -> Result<(), Fail> {
     let alloc = rt.alloc();
-    for (changes, script, wanted, status, text) in REFUSALS {
-        let setup = setup_with(alloc, changes)?;
-        let fault = written(alloc, setup.as_str(), script).err();
-        assert!(rt; fault == Some(wanted), "{text}");
-        assert!(rt; wanted.status() == status, "{text}");
-        assert!(rt; wanted.to_string(alloc)?.as_str() == text, "{text}");
+    for refusal in &REFUSALS {
+        let setup = setup_with(alloc, refusal.changes)?;
+        let fault = written(alloc, setup.as_str(), refusal.script).err();
+        let text = refusal.text;
+        assert!(rt; fault == Some(refusal.fault), "{text}");
+        assert!(rt; refusal.fault.status() == refusal.status, "{text}");
+        assert!(rt; refusal.fault.to_string(alloc)?.as_str() == text, "{text}");
     }
     for (fault, status, text) in [
         (ReplayFault::Script(ScriptFault::Size), 4, "script: size"),

@@ -4,7 +4,8 @@ use crate::rows::{Row, expect_rows};
 use crate::setups::{ABSENT, PEER, RATE, ROUTE};
 use std::test::Fail;
 
-static ROWS: [Row; 35] = [
+// Caps, buckets, ceilings and credits.
+static LIMITS: [Row; 20] = [
     Row {
         title: "over the next peer's cap",
         changes: &[("bob", "cap", "1499")],
@@ -132,6 +133,15 @@ static ROWS: [Row; 35] = [
         script: "load 0 acme tok-alice {base max}\ndecide 0 {T}\nload 0 acme tok-alice {base}\ndecide 0 {T}\n",
         lines: "acme loaded 0\nacme reply {F08 max 1000}\nacme loaded 1\nacme send bob 0 {sent}\n",
     },
+];
+
+#[test]
+fn limits_of_peers(rt: HostRuntime) -> Result<(), Fail> {
+    expect_rows(&rt, rt.alloc(), &LIMITS)
+}
+
+// Routes and rates.
+static WAYS: [Row; 15] = [
     Row {
         title: "the longest prefix",
         changes: &[("route before", "", ROUTE), ("route after", "", ROUTE)],
@@ -250,6 +260,6 @@ static ROWS: [Row; 35] = [
 ];
 
 #[test]
-fn checks_of_a_packet(rt: HostRuntime) -> Result<(), Fail> {
-    expect_rows(&rt, rt.alloc(), &ROWS)
+fn ways_to_peers(rt: HostRuntime) -> Result<(), Fail> {
+    expect_rows(&rt, rt.alloc(), &WAYS)
 }
