@@ -2,14 +2,12 @@
 #![tactic(auto)]
 
 mod command_line;
-mod replays;
 #[cfg(test)]
 mod tests;
 
 use command_line::arguments;
 use oer_core::Counted;
-use replay_text::ReplayFault;
-use replays::replay;
+pub use replay_text::{ReplayFault, replay};
 use std::io::ErrorKind;
 use std::process::ExitCode;
 use std::rt::{Env, Files};

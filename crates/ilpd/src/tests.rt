@@ -1,7 +1,7 @@
 //! The command line, and the program's main job.
 
 use crate::command_line::arguments;
-use crate::replays::replay;
+use crate::replay;
 use std::test::Fail;
 
 const SETUP: &str = "version = 1
