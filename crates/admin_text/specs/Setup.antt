@@ -1,6 +1,6 @@
 -- Setups: what a TOML document says of a tenant.
-use Rattle.std.specs.Prelude.{◌≡◌, ℕ, Bool, false, ◌^◌, ℤ, pos, negsuc, List, [], ◌∷◌, ◌++◌, set, ◌==◌, nat_lt, nat_le}
-use Rattle.std.specs.Prelude.{if◌then◌else◌, Option, Some, None, option_and_then, Result, Ok, Err, codes}
+use Rattle.std.specs.Prelude.{ℕ, Bool, false, ◌^◌, ℤ, pos, negsuc, List, [], ◌∷◌, ◌++◌, set, ◌==◌, nat_lt, nat_le}
+use Rattle.std.specs.Prelude.{if◌then◌else◌, Option, Some, None, Result, Ok, Err, codes}
 use Rattle.std.specs.List.{position}
 use Rattle.std.specs.FinMap.{empty, contains_key, insert, len}
 use Rattle.std.specs.Result.{result_ok}

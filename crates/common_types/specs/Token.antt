@@ -1,5 +1,5 @@
 -- Tokens that peers and operators show.
-use Rattle.std.specs.Prelude.{ℕ, List, length, Bool, ◌&&◌, ◌||◌, ◌==◌, nat_le, codes}
+use Rattle.std.specs.Prelude.{ℕ, List, length, Bool, ◌&&◌, ◌||◌, ◌==◌, codes}
 use Rattle.std.specs.List.{list_all, list_any}
 use Rattle.common_types.specs.Numbers.{is_between}
 

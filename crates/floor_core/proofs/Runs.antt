@@ -1,5 +1,5 @@
 -- Each step of the runner is the step of the one-tenant connector that it shows.
-use Rattle.std.proofs.Common.{◌≡◌, ◌≤◌, ◌+◌, ℕ, suc, List, [], ◌∷◌, ◌++◌, length, drop, Bool, true, false, cond, eqb, Option, Some, None, Result, Ok, Err, refl, sym, ap, subst, ◌∙◌, arith}
+use Rattle.std.proofs.Common.{◌≡◌, ◌≤◌, ◌+◌, ℕ, suc, List, [], ◌∷◌, ◌++◌, length, drop, Bool, true, false, cond, eqb, None, Result, Ok, Err, refl, sym, ap, subst, ◌∙◌, arith}
 use Rattle.std.specs.Prelude.{if◌then◌else◌, ◌==◌, is_ok}
 use Rattle.std.specs.List.{All, AllByRecursion}
 use Rattle.std.proofs.lemmas.List.{append-nil, drop_all}
@@ -17,7 +17,7 @@ use Rattle.tenant_core.specs.declared.opening.Opening.{Opening}
 use Rattle.tenant_core.specs.declared.verdict.Verdict.{Verdict}
 use Rattle.tenant_core.specs.declared.verdict.Verdict.TheVariants.{Unknown, NoRoom, Refuse, Forward}
 use Rattle.floor_core.specs.World.{Tenant, Hand, Owner, put, key_in, said, stage_after, reply_alone, after_alone, run_alone, left_alone, owner, told, hands_after, owners, own_steps, seen_by}
-use Rattle.floor_core.specs.World.{NobodysAreRight, AreOutputs, IsLeft, FitsIn, packet_or_fault, malformed_by, arrival}
+use Rattle.floor_core.specs.World.{NobodysAreRight, AreOutputs, IsLeft, FitsIn, packet_or_fault, arrival}
 use Rattle.floor_core.specs.Runner.{Run, stage_of_frame, calls_of, shown_tenant, shown_hand, shown_hands, carried_after, output_of, moved, outputs_of, run_after, IsReadable}
 use Rattle.floor_core.specs.declared.carried.Carried.{Carried}
 use Rattle.floor_core.specs.declared.carried.Carried.TheVariants.{Nothing, Ready, Waiting}

@@ -1,5 +1,5 @@
 -- What a replay writes, from the parts that it is made of.
-use Rattle.std.proofs.Common.{◌≡◌, ◌<◌, ℕ, length, List, Option, Some, None, Result, Ok, Err, refl, ap, subst, ◌∙◌}
+use Rattle.std.proofs.Common.{◌≡◌, ◌<◌, ℕ, length, List, Option, Some, None, Result, Ok, refl, ap, subst, ◌∙◌}
 use Rattle.std.specs.Prelude.{IfSome, IfErr, option_map}
 use Rattle.std.specs.Result.{result_err}
 use Rattle.tenant_core.specs.State.{State, opened, opening_of}
@@ -8,7 +8,6 @@ use Rattle.floor_core.specs.declared.step.Output.{Output}
 use Rattle.floor_core.specs.declared.step.Step.{Step}
 use Rattle.admin_text.specs.Setup.{setup_of}
 use Rattle.admin_text.specs.declared.setup.Setup.{Setup}
-use Rattle.admin_text.specs.declared.setup.SetupFault.{SetupFault}
 use Rattle.replay_text.specs.Printed.{printed_lines}
 use Rattle.replay_text.specs.Replay.{tenant_at_start, names_in, refusal_of, IsRefusedBy, IsAnswered, IsReplayed}
 use Rattle.replay_text.specs.Script.{steps_of_script}

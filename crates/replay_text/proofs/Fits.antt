@@ -1,6 +1,6 @@
 -- The steps of a script name workers and tenants that are there.
 use Rattle.std.proofs.Common.{◌≡◌, ◌<◌, ◌+◌, ℕ, List, [], ◌∷◌, length, Bool, true, false, cond, Option, Some, None, Result, Ok, Err, refl, subst}
-use Rattle.std.specs.Prelude.{option_and_then, IfOk, IfSome, codes, ◌&&◌, nat_lt}
+use Rattle.std.specs.Prelude.{IfOk, IfSome, codes, ◌&&◌, nat_lt}
 use Rattle.std.specs.List.{All, AllByRecursion, position}
 use Rattle.std.specs.Str.{bytes_eq}
 use Rattle.std.proofs.lemmas.Bool.{ltb-true, lt-ltb, and_parts}
@@ -15,7 +15,6 @@ use Rattle.replay_text.specs.declared.script.Meaning.TheVariants.{Skipped, Runs,
 use Rattle.replay_text.specs.declared.script.ScriptFault.{ScriptFault}
 use Rattle.std.specs.Global.{Vec}
 use Rattle.common_types.specs.Outcomes.{GivesUnlessMemory}
-use Rattle.common_types.specs.Token.{is_token}
 use Rattle.floor_core.specs.World.{FitsIn}
 use Rattle.common_types.specs.declared.read_error.ReadError.{ReadError}
 use Rattle.floor_core.specs.declared.step.Step.{Step}

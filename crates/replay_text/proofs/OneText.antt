@@ -1,5 +1,5 @@
 -- A setup and a script leave no choice of what is written.
-use Rattle.std.proofs.Common.{◌≡◌, ℕ, List, Result, Ok, Err, refl, sym, ap, subst, ◌∙◌}
+use Rattle.std.proofs.Common.{◌≡◌, ℕ, List, Result, Ok, refl, sym, ap, subst, ◌∙◌}
 use Rattle.std.specs.List.{All}
 use Rattle.replay_text.specs.Replay.{IsReplayed, tenant_at_start, names_in}
 use Rattle.replay_text.specs.Printed.{printed_lines}

@@ -1,5 +1,5 @@
 -- What a replay of a script for a setup writes, and what refuses it.
-use Rattle.std.specs.Prelude.{ℕ, ◌≡◌, List, [], ◌∷◌, ◌⊎◌, Option, Some, None, option_map, Result, Ok, Err, IfSome}
+use Rattle.std.specs.Prelude.{ℕ, ◌≡◌, List, [], ◌∷◌, ◌⊎◌, Option, Some, option_map, Result, Ok, Err, IfSome}
 use Rattle.std.specs.Result.{result_err}
 use Rattle.std.specs.Io.KnownBytes.{Keeps, Appends}
 use Rattle.tenant_core.specs.State.{opened, opening_of}
@@ -14,7 +14,6 @@ use Rattle.replay_text.specs.Script.{steps_of_script}
 use Rattle.replay_text.specs.Streams.{AppendsFront}
 use Rattle.replay_text.specs.declared.replays.ReplayFault.{ReplayFault}
 use Rattle.replay_text.specs.declared.replays.ReplayFault.TheVariants as fault
-use Rattle.replay_text.specs.declared.script.ScriptFault.{ScriptFault}
 
 -- the tenant of a setup, to whom nothing has happened
 abbrev pub tenant_at_start : Setup → Tenant

@@ -1,4 +1,4 @@
-use Rattle.std.proofs.Common.{arith, rules, ◌+◌}
+use Rattle.std.proofs.Common.{rules, ◌+◌}
 use Rattle.replay_text.proofs.Known.{Appends-more}
 use Rattle.replay_text.proofs.streams.write_text.Goals as goal
 
