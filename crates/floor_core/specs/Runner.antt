@@ -64,7 +64,7 @@ load_output r _ token bytes = Busy
 abbrev pub take_in : Run → List ℕ → List ℕ → Result Prepare Malformed → Run
 take_in r token bytes (Ok p) =
     record { book = r.book; next_call = r.next_call + 1; carried = Ready r.next_call token bytes }
-take_in r token bytes (Err kind) = r
+take_in r token bytes (Err wrong) = r
 
 -- what a load leaves
 abbrev pub load_moved : Run → Carried → List ℕ → List ℕ → Run

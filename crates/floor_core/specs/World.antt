@@ -102,7 +102,7 @@ stage_after (Forward hold peer amount expiry) = Some (Sent hold)
 -- what an arrival is answered with
 abbrev pub arrive_reply : Tenant → Result Prepare Malformed → Output
 arrive_reply s (Ok p) = Loaded (number_of s) s.next_call
-arrive_reply s (Err kind) = Bad (number_of s) kind
+arrive_reply s (Err wrong) = Bad (number_of s) wrong
 
 -- what an arrival leaves
 abbrev pub arrive_after : Tenant → List ℕ → Result Prepare Malformed → Tenant
@@ -112,7 +112,7 @@ arrive_after s token (Ok p) =
       next_call = s.next_call + 1;
       calls = put s.calls s.next_call (Some (Ready token p));
     }
-arrive_after s token (Err kind) = s
+arrive_after s token (Err wrong) = s
 
 -- what the decide of a call is answered with
 abbrev pub decide_reply : Tenant → Option Stage → ℕ → Output
