@@ -5,3 +5,4 @@ pub mod Countdown
 pub mod CalendarText
 pub mod OneText
 pub mod Boundary
+pub mod Hosts

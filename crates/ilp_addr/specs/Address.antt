@@ -1,5 +1,6 @@
 -- Addresses (RFC 0015, "Address Requirements").
-use Rattle.std.specs.Prelude.{◌≡◌, true, false, ◌++◌, ◌-◌, take, slice_index, ◌≤◌, ℕ, Bool, not, ◌&&◌, ◌||◌, ◌==◌, nat_lt, List, [], ◌∷◌, length, codes, IsTrue, Result, Ok, Err, if◌then◌else◌}
+use Rattle.std.specs.Prelude.{◌≡◌, true, false, ◌++◌, ◌-◌, take, slice_index, ◌≤◌, ℕ, Bool, not, ◌&&◌, ◌||◌, ◌==◌}
+use Rattle.std.specs.Prelude.{nat_lt, List, [], ◌∷◌, length, codes, IsTrue, Result, Ok, Err, if◌then◌else◌}
 use Rattle.std.specs.List.{slice_split, list_all, list_any}
 use Rattle.std.specs.Str.{bytes_eq}
 use Rattle.common_types.specs.Numbers.{is_between}

@@ -1,7 +1,8 @@
 -- What holds of addresses, of timestamps and of moments, in the terms of their definitions.
 use Rattle.std.specs.Prelude.{◌≡◌, ◌≢◌, ◌≤◌, ◌∷◌, ◌↔◌, ℕ, List, [], pos, Ok, IsTrue}
 use Rattle.ilp_addr.specs.Address.{IsAddress, address_at, IsPrefix, prefix_at, without_last_dot, Begins, begins_with}
-use Rattle.ilp_addr.specs.Timestamp.{IsTimestamp, is_timestamp, instant_of, moment_of, latest_expiry, timestamp_at, timestamp_of}
+use Rattle.ilp_addr.specs.Timestamp.{IsTimestamp, is_timestamp, instant_of, moment_of, latest_expiry, timestamp_at}
+use Rattle.ilp_addr.specs.Timestamp.{timestamp_of}
 
 -- Addresses: reading agrees with what they are (RFC 0015, "Address Requirements").
 pub record AddressLaws : Type 0 where

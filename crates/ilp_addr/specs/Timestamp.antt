@@ -1,5 +1,7 @@
 -- The calendar text of a Prepare's expiry (RFC 0027, "ILP Prepare"): `YYYYMMDDHHMMSSfff`, in UTC.
-use Rattle.std.specs.Prelude.{◌≡◌, ◌<◌, ◌+◌, ◌-◌, ◌*◌, ◌/◌, ◌%◌, ℕ, zero, suc, ℤ, pos, negsuc, ◌+ℤ◌, ◌*ℤ◌, Bool, ◌&&◌, ◌==◌, nat_le, nat_lt, min, List, [], ◌∷◌, length, slice_index, All, Result, Ok, Err, if◌then◌else◌}
+use Rattle.std.specs.Prelude.{◌≡◌, ◌<◌, ◌+◌, ◌-◌, ◌*◌, ◌/◌, ◌%◌, ℕ, zero, suc, ℤ, pos, negsuc, ◌+ℤ◌, ◌*ℤ◌, Bool, ◌&&◌}
+use Rattle.std.specs.Prelude.{◌==◌, nat_le, nat_lt, min, List, [], ◌∷◌, length, slice_index, All, Result, Ok, Err}
+use Rattle.std.specs.Prelude.{if◌then◌else◌}
 use Rattle.std.specs.List.{list_all}
 use Rattle.std.specs.Char.{IsAsciiDigit, is_ascii_digit}
 use Rattle.jiff_core.specs.Calendar.{IsCivilDate, days_in_month, days_in_year, days_from_civil}
@@ -19,23 +21,23 @@ unfoldable pub year_of : List ℕ → ℕ
 year_of text = 100 * two_at text 0 + two_at text 2
 
 -- the month, from 1
-unfoldable pub month_of : List ℕ → ℕ
+abbrev pub month_of : List ℕ → ℕ
 month_of text = two_at text 4
 
 -- the day of the month, from 1
-unfoldable pub day_of : List ℕ → ℕ
+abbrev pub day_of : List ℕ → ℕ
 day_of text = two_at text 6
 
 -- the hour of the day
-unfoldable pub hour_of : List ℕ → ℕ
+abbrev pub hour_of : List ℕ → ℕ
 hour_of text = two_at text 8
 
 -- the minute of the hour
-unfoldable pub minute_of : List ℕ → ℕ
+abbrev pub minute_of : List ℕ → ℕ
 minute_of text = two_at text 10
 
 -- the second of the minute
-unfoldable pub second_of : List ℕ → ℕ
+abbrev pub second_of : List ℕ → ℕ
 second_of text = two_at text 12
 
 -- the millisecond of the second, of three digits

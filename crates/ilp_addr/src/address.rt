@@ -1,7 +1,8 @@
 //! Addresses (RFC 0015).
 
 ghost use Rattle.std.specs.Prelude.{◌≡◌, ◌≤◌, ◌↔◌, ℕ, List, length, Ok, Err, IfOk, IsTrue, MatchResult};
-ghost use Rattle.ilp_addr.specs.Address.{segments, prefix_segments, Begins, begins_with, IsAddress, address_at, max_address};
+ghost use Rattle.ilp_addr.specs.Address.{segments, prefix_segments, Begins, begins_with, IsAddress, address_at};
+ghost use Rattle.ilp_addr.specs.Address.{max_address};
 
 use crate::fault::AddrFault;
 use crate::prefix::Prefix;

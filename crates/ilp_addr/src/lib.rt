@@ -16,6 +16,7 @@ mod moment;
 mod prefix;
 mod segments;
 mod stamp;
+mod target;
 
 pub use address::{Address, MAX_ADDRESS};
 pub use fault::AddrFault;
@@ -23,3 +24,4 @@ pub use moment::Moment;
 pub use prefix::Prefix;
 pub use segments::Segments;
 pub use stamp::Stamp;
+pub use target::{Host, MAX_URL, Target};

@@ -4,7 +4,8 @@ ghost use Rattle.std.specs.Prelude.{◌≡◌, ◌≤◌, ◌<◌, ◌+◌, ◌/
 ghost use Rattle.std.specs.Char.{IsAsciiDigit, is_ascii_digit};
 ghost use Rattle.std.specs.List.{list_all};
 ghost use Rattle.ilp_addr.specs.Timestamp as spec;
-ghost use Rattle.ilp_addr.specs.Timestamp.{IsTimestamp, latest_expiry, moment_of, timestamp_at, timestamp_of, has_date, has_time, instant_on, nearest_moment, two_at, digit_at};
+ghost use Rattle.ilp_addr.specs.Timestamp.{IsTimestamp, latest_expiry, moment_of, timestamp_at, timestamp_of, has_date};
+ghost use Rattle.ilp_addr.specs.Timestamp.{has_time, instant_on, nearest_moment, two_at, digit_at};
 
 use crate::calendar::{date_of, day_number};
 use crate::fault::AddrFault;
@@ -122,7 +123,7 @@ fn two(text: &[u8], place: usize) -> u8
     10 * digit(text, place) + digit(text, place + 1)
 }
 
-#[tactic(auto, unfolding(crate::specs::Timestamp::year_of, crate::specs::Timestamp::month_of, crate::specs::Timestamp::day_of))]
+#[tactic(auto, unfolding(crate::specs::Timestamp::year_of))]
 fn day_number_of(text: &[u8; 17]) -> Option<i32>
     requires { All IsAsciiDigit text.now }
     ensures found { is_some result ≡ has_date text.now }
@@ -132,7 +133,7 @@ fn day_number_of(text: &[u8; 17]) -> Option<i32>
     day_number(year, two(text, 4), two(text, 6))
 }
 
-#[tactic(auto, unfolding(crate::specs::Timestamp::hour_of, crate::specs::Timestamp::minute_of, crate::specs::Timestamp::second_of, crate::specs::Timestamp::millisecond_of, crate::specs::Timestamp::millis_of_day))]
+#[tactic(auto, unfolding(crate::specs::Timestamp::millisecond_of, crate::specs::Timestamp::millis_of_day))]
 fn millis_of_day(text: &[u8; 17]) -> Option<u32>
     requires { All IsAsciiDigit text.now }
     ensures found { is_some result ≡ has_time text.now }

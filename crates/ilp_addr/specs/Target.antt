@@ -1,0 +1,89 @@
+-- Where a peer listens and the token that it is shown: an `http` URL (RFC 9110, 4.2.1) and a bearer token (RFC 6750,
+-- 2.1).
+use Rattle.std.specs.Prelude.{◌≡◌, ◌≤◌, ℕ, ◌+◌, ◌-◌, ◌*◌, List, [], ◌∷◌, ◌++◌, length, take, drop, fold, slice_index}
+use Rattle.std.specs.Prelude.{codes}
+use Rattle.std.specs.Prelude.{Bool, not, ◌&&◌, ◌==◌, if◌then◌else◌, IsTrue, Option, Some, None}
+use Rattle.std.specs.List.{list_all, position_or_len}
+use Rattle.std.specs.Net.Grammar.{IsIpv4Text, IsIpv6Text}
+use Rattle.common_types.specs.Numbers.{is_between}
+use Rattle.common_types.specs.Token.{is_token}
+use Rattle.ilp_addr.specs.declared.target.Host.{Host}
+use Rattle.ilp_addr.specs.declared.target.Host.TheVariants.{Localhost, V4, V6}
+
+-- a target as contracts see it
+pub record Parts : Type 0 where
+  pub url : List ℕ
+  pub token : List ℕ
+  pub host : Host
+  pub port : ℕ
+
+-- the bytes up to the first that is that byte, or all
+abbrev pub up_to : ℕ → List ℕ → List ℕ
+up_to stop bytes = take (position_or_len (λ b. b == stop) bytes) bytes
+
+-- the bytes from the first that is that byte on, or none
+abbrev pub from_first : ℕ → List ℕ → List ℕ
+from_first stop bytes = drop (position_or_len (λ b. b == stop) bytes) bytes
+
+-- what a URL says between `http://` and the next slash (RFC 3986, 3.2)
+abbrev pub authority_of : List ℕ → List ℕ
+authority_of url = up_to 47 (drop 7 url)
+
+-- what it says from that slash on (RFC 3986, 3.3 and 3.4)
+abbrev pub path_of : List ℕ → List ℕ
+path_of url = from_first 47 (drop 7 url)
+
+-- how many bytes of an authority are its host: an IPv6 literal goes up to and with its bracket, any other host to a
+-- colon
+abbrev pub host_len : List ℕ → ℕ
+host_len authority =
+    if slice_index authority 0 == 91 then position_or_len (λ b. b == 93) authority + 1
+    else position_or_len (λ b. b == 58) authority
+
+-- the host of an authority
+abbrev pub host_text : List ℕ → List ℕ
+host_text authority = take (host_len authority) authority
+
+-- what stands behind its host
+abbrev pub port_text : List ℕ → List ℕ
+port_text authority = drop (host_len authority) authority
+
+-- a host that a text spells: `localhost`, an IPv4 literal, or an IPv6 literal in brackets (RFC 3986, 3.2.2)
+abbrev pub IsHost : List ℕ → Host → Type 0
+IsHost text Localhost = text ≡ codes "localhost"
+IsHost text (V4 address) = IsIpv4Text text address
+IsHost text (V6 address) =
+    (literal : List ℕ) × (text ≡ 91 ∷ literal ++ 93 ∷ []) × IsIpv6Text literal address
+
+-- the value of decimal digits
+abbrev pub value_of : List ℕ → ℕ
+value_of digits = fold (λ n d. n * 10 + (d - 48)) 0 digits
+
+-- 1 to 65,535 in decimal, with no zero in front
+abbrev pub is_port : List ℕ → Bool
+is_port digits =
+    list_all (is_between 48 57) digits && not (slice_index digits 0 == 48) && is_between 1 65_535 (value_of digits)
+
+-- the port that stands behind a host with a colon, 80 where nothing does (RFC 9110, 4.2.1)
+abbrev pub port_behind : List ℕ → Option ℕ
+port_behind [] = Some 80
+port_behind (first ∷ digits) = if (first == 58) && is_port digits then Some (value_of digits) else None
+
+-- a path: a slash, and visible ASCII bytes behind it
+abbrev pub is_path : List ℕ → Bool
+is_path path = (slice_index path 0 == 47) && list_all (is_between 33 126) path
+
+-- the URL names that host and that port
+pub record Names (url : List ℕ) (host : Host) (port : ℕ) : Type 0 where
+  pub scheme : take 7 url ≡ codes "http://"
+  pub is_host : IsHost (host_text (authority_of url)) host
+  pub is_port : port_behind (port_text (authority_of url)) ≡ Some port
+  pub is_path : IsTrue (is_path (path_of url))
+
+-- the target of a URL of at most 255 bytes and a token
+pub record IsTarget (url token : List ℕ) (target : Parts) : Type 0 where
+  pub url_is : target.url ≡ url
+  pub token_is : target.token ≡ token
+  pub short : length url ≤ 255
+  pub names : Names url target.host target.port
+  pub is_token : IsTrue (is_token token)

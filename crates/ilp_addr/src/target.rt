@@ -1,0 +1,289 @@
+//! Where a peer listens for packets, and the token that it is shown (RFC 0035).
+
+ghost use Rattle.std.specs.Prelude.{◌≡◌, ◌≢◌, ◌≤◌, ◌+◌, ◌∷◌, ◌++◌, ◌==◌, ℕ, List, [], length, slice_index, take, drop};
+ghost use Rattle.std.specs.Prelude.{min, if◌then◌else◌, codes, IsTrue, ◌↔◌, MatchOption, Some, None};
+ghost use Rattle.std.specs.List.{list_all, position, position_or_len};
+ghost use Rattle.common_types.specs.Numbers.{is_between};
+ghost use Rattle.ilp_addr.specs.Target.{Parts, IsTarget, Names, IsHost, up_to, from_first, authority_of, path_of};
+ghost use Rattle.ilp_addr.specs.Target.{host_len, value_of, is_port, port_behind, is_path, host_text, port_text};
+
+use common_types::{MAX_TOKEN, Text, is_token};
+use std::marker::Model;
+use std::net::{Ipv4Addr, Ipv6Addr};
+
+/// The most bytes of a URL.
+pub const MAX_URL: usize = 255;
+
+/// The host of a URL (RFC 3986, 3.2.2).
+#[derive(Clone, Copy, Debug, PartialEq, Eq)]
+pub enum Host {
+    /// The name `localhost`.
+    Localhost,
+    /// An IPv4 literal.
+    V4(Ipv4Addr),
+    /// An IPv6 literal in brackets.
+    V6(Ipv6Addr),
+}
+
+/// Where a peer listens for packets, and the token that it is shown: a URL `http://HOST/PATH` or
+/// `http://HOST:PORT/PATH` (RFC 9110, 4.2.1) and a bearer token (RFC 6750, 2.1). It keeps both in fixed room.
+#[derive(Drop)]
+pub struct Target {
+    url: Text<MAX_URL>,
+    token: Text<MAX_TOKEN>,
+    host: Host,
+    port: u16,
+}
+
+impl Model for Target {
+    ghost Value = { Parts };
+
+    ghost view = { λ t. record { url = t.url; token = t.token; host = t.host; port = t.port } };
+}
+
+impl Target {
+    /// The target of a URL and a token, or `None` where one of them is malformed.
+    ///
+    /// The URL has at most 255 bytes, `http` and `localhost` in lower case. Its host is `localhost`, an IPv4 literal,
+    /// or an IPv6 literal in brackets and without a zone; its port is 1 to 65,535 without a zero in front, or left out
+    /// for 80; its path begins with a slash and is visible ASCII. The token is 1 to 64 letters, digits and `-._~+/=`.
+    pub fn new(url: &[u8], token: &[u8]) -> Option<Target>
+        ensures { MatchOption result ((t : Parts) → ¬ (IsTarget url.now token.now t)) (IsTarget url.now token.now) }
+    {
+        if !is_token(token) {
+            return None;
+        }
+        let Some((host, port)) = endpoint(url) else {
+            return None;
+        };
+        let url = Text::from_bytes(url)?;
+        let token = Text::from_bytes(token)?;
+        Some(Target {
+            url,
+            token,
+            host,
+            port,
+        })
+    }
+
+    /// The same target once more.
+    pub fn copy(&self) -> Target
+        ensures { result ≡ self.now }
+    {
+        Target {
+            url: self.url.copy(),
+            token: self.token.copy(),
+            host: self.host,
+            port: self.port,
+        }
+    }
+
+    /// What the URL says between `http://` and the next slash: the host, and the port where the URL has one. At most
+    /// 255 bytes.
+    pub fn host(&self) -> &[u8]
+        ensures value { result.now ≡ authority_of self.now.url }
+        ensures short { length result.now ≤ 255 }
+    {
+        let (authority, _) = split_before(behind_scheme(self.url.as_bytes()), b'/');
+        authority
+    }
+
+    /// What the URL says from that slash on. At most 255 bytes.
+    pub fn path(&self) -> &[u8]
+        ensures value { result.now ≡ path_of self.now.url }
+        ensures short { length result.now ≤ 255 }
+    {
+        let (_, path) = split_before(behind_scheme(self.url.as_bytes()), b'/');
+        path
+    }
+
+    /// The token that the peer is shown. At most 64 bytes.
+    pub fn token(&self) -> &[u8]
+        ensures value { result.now ≡ self.now.token }
+        ensures short { length result.now ≤ 64 }
+    {
+        self.token.as_bytes()
+    }
+
+    /// The host to connect to.
+    pub fn address(&self) -> Host
+        ensures { result ≡ self.now.host }
+    {
+        self.host
+    }
+
+    /// The port to connect to.
+    pub fn port(&self) -> u16
+        ensures { result ≡ self.now.port }
+    {
+        self.port
+    }
+}
+
+// The bytes behind the first seven.
+fn behind_scheme(url: &[u8]) -> &[u8]
+    ensures { result.now ≡ drop 7 url.now }
+{
+    if url.len() < 7 { &[] } else { &url[7..] }
+}
+
+fn place_of(stop: u8, bytes: &[u8]) -> Option<usize>
+    ensures { result ≡ position (λ b. b == stop) bytes.now }
+{
+    bytes.iter().position(|b| *b == stop)
+}
+
+fn place_or_len(stop: u8, bytes: &[u8]) -> usize
+    ensures value { result ≡ position_or_len (λ b. b == stop) bytes.now }
+    ensures bound { result ≤ length bytes.now }
+{
+    place_of(stop, bytes).unwrap_or(bytes.len())
+}
+
+// The bytes up to the first that is `stop`, and those from it on.
+fn split_before(bytes: &[u8], stop: u8) -> (&[u8], &[u8])
+    ensures front { result.0.now ≡ up_to stop bytes.now }
+    ensures back { result.1.now ≡ from_first stop bytes.now }
+    ensures bound { length result.0.now + length result.1.now ≡ length bytes.now }
+{
+    bytes.split_at(place_or_len(stop, bytes))
+}
+
+fn has_scheme(url: &[u8]) -> bool
+    ensures { IsTrue result ↔ (take 7 url.now ≡ codes "http://") }
+{
+    url.starts_with(b"http://")
+}
+
+// The host and the port that a URL names.
+fn endpoint(url: &[u8]) -> Option<(Host, u16)>
+    ensures { MatchOption result ((host : Host) (port : ℕ) → ¬ (Names url.now host port))
+        (λ e. Names url.now e.0 e.1) }
+{
+    let (authority, path) = split_before(behind_scheme(url), b'/');
+    if !has_scheme(url) || !is_path(path) {
+        return None;
+    }
+    let (host, port) = split_host(authority);
+    match (read_host(host), port_behind(port)) {
+        (Some(host), Some(port)) => Some((host, port)),
+        _ => None,
+    }
+}
+
+fn split_host(authority: &[u8]) -> (&[u8], &[u8])
+    ensures host { result.0.now ≡ host_text authority.now }
+    ensures port { result.1.now ≡ port_text authority.now }
+{
+    authority.split_at(host_len(authority))
+}
+
+fn is_path(path: &[u8]) -> bool
+    ensures { result ≡ is_path path.now }
+{
+    match path {
+        [b'/', ..] => are_visible(path),
+        _ => false,
+    }
+}
+
+fn are_visible(bytes: &[u8]) -> bool
+    ensures { result ≡ list_all (is_between 33 126) bytes.now }
+{
+    bytes.iter().all(|b| 33 <= *b && *b <= 126)
+}
+
+fn are_digits(bytes: &[u8]) -> bool
+    ensures { result ≡ list_all (is_between 48 57) bytes.now }
+{
+    bytes.iter().all(|b| 48 <= *b && *b <= 57)
+}
+
+fn host_len(authority: &[u8]) -> usize
+    ensures value { take result authority.now ≡ take (host_len authority.now) authority.now }
+    ensures rest { drop result authority.now ≡ drop (host_len authority.now) authority.now }
+    ensures bound { result ≤ length authority.now }
+{
+    match authority {
+        [b'[', ..] => authority.len().min(place_or_len(b']', authority) + 1),
+        _ => place_or_len(b':', authority),
+    }
+}
+
+fn is_localhost(text: &[u8]) -> bool
+    ensures { IsTrue result ↔ (text.now ≡ codes "localhost") }
+{
+    text == b"localhost".as_slice()
+}
+
+fn read_host(text: &[u8]) -> Option<Host>
+    ensures { MatchOption result ((host : Host) → ¬ (IsHost text.now host)) (IsHost text.now) }
+{
+    if is_localhost(text) {
+        return Some(Host::Localhost);
+    }
+    if let Ok(address) = Ipv4Addr::parse_ascii(text) {
+        return Some(Host::V4(address));
+    }
+    let address = Ipv6Addr::parse_ascii(literal_in(text)?);
+    match address {
+        Ok(address) => Some(Host::V6(address)),
+        Err(_) => None,
+    }
+}
+
+// The text between brackets.
+fn literal_in(text: &[u8]) -> Option<&[u8]>
+    ensures { MatchOption result ((literal : List ℕ) → text.now ≢ 91 ∷ literal ++ 93 ∷ [])
+        (λ literal. text.now ≡ 91 ∷ literal.now ++ 93 ∷ []) }
+{
+    match text {
+        [b'[', literal @ .., b']'] => Some(literal),
+        _ => None,
+    }
+}
+
+fn port_behind(text: &[u8]) -> Option<u16>
+    ensures { result ≡ port_behind text.now }
+{
+    match text {
+        [] => Some(80),
+        [b':', digits @ ..] => port_of(digits),
+        _ => None,
+    }
+}
+
+fn port_of(digits: &[u8]) -> Option<u16>
+    ensures { result ≡ (if is_port digits.now then Some (value_of digits.now) else None) }
+{
+    if !are_digits(digits) || begins_with_zero(digits) {
+        return None;
+    }
+    let value = value_up_to(digits, 65_536);
+    if 1 <= value && value <= 65_535 {
+        Some(value as u16)
+    } else {
+        None
+    }
+}
+
+fn begins_with_zero(digits: &[u8]) -> bool
+    ensures { result ≡ (slice_index digits.now 0 == 48) }
+{
+    match digits {
+        [b'0', ..] => true,
+        _ => false,
+    }
+}
+
+// The value of digits, or the bound where it is no less.
+fn value_up_to(digits: &[u8], bound: u32) -> u32
+    ensures { result ≡ min (value_of digits.now) bound }
+{
+    let mut value: u32 = 0;
+    for digit in digits {
+        let more = value as u64 * 10 + digit.saturating_sub(b'0') as u64;
+        value = more.min(bound as u64) as u32;
+    }
+    value
+}
