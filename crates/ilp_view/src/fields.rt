@@ -3,7 +3,8 @@
 ghost use Rattle.std.specs.Prelude.{◌≡◌, ◌≤◌, IfOk};
 ghost use Rattle.common_types.specs.Outcomes.{Gives};
 ghost use Rattle.ilp_addr.specs.Timestamp.{latest_expiry, moment_of};
-ghost use Rattle.ilp_view.specs.Reading.{fixed_at, string_at, expiry_at, destination_at, data_at, envelope_at, whole_string, behind_type};
+ghost use Rattle.ilp_view.specs.Reading.{fixed_at, string_at, expiry_at, destination_at, data_at, envelope_at};
+ghost use Rattle.ilp_view.specs.Reading.{whole_string, behind_type};
 
 use crate::fault::ViewFault;
 use ilp_addr::{Address, Stamp};

@@ -2,7 +2,8 @@
 
 ghost use Rattle.std.specs.Prelude.{◌≡◌, ◌≤◌, ◌+◌, ◌++◌, ℕ, List, [], length, Ok};
 ghost use Rattle.ilp_view.specs.Below.{LawsBelow};
-ghost use Rattle.ilp_view.specs.Packet.{max_frame, max_data, IsFrame, Prepare, IsPrepare, Fulfill, IsFulfill, Reject, IsReject};
+ghost use Rattle.ilp_view.specs.Packet.{max_frame, max_data, IsFrame, Prepare, IsPrepare, Fulfill, IsFulfill, Reject};
+ghost use Rattle.ilp_view.specs.Packet.{IsReject};
 ghost use Rattle.ilp_view.specs.Packet.{fulfill_frame, reject_frame, written_fulfill, written_reject};
 ghost use Rattle.ilp_view.specs.Reading.{fulfill_at, reject_at};
 

@@ -1,5 +1,6 @@
 -- What counts as a failure of a reader or a writer.
-use Rattle.std.specs.Prelude.{ℕ, ◌+◌, ◌-◌, ◌^◌, min, List, length, Result, Ok, Err, Bool, true, not, ◌==◌, ◌&&◌, if◌then◌else◌}
+use Rattle.std.specs.Prelude.{ℕ, ◌+◌, ◌-◌, ◌^◌, min, List, length, Result, Ok, Err, Bool, true, not, ◌==◌, ◌&&◌}
+use Rattle.std.specs.Prelude.{if◌then◌else◌}
 
 -- the count after a read or a write that failed, or that went well; it stops at the greatest number of 64 bits
 abbrev pub count_after : Bool → ℕ → ℕ

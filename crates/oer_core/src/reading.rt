@@ -1,7 +1,8 @@
 ghost use Rattle.std.specs.Prelude.{◌≡◌, ◌+◌, ◌<◌, ◌≤◌, ◌^◌, ◌++◌, ℕ, List, length, take, IfOk, IsOkAnd, Ok};
 ghost use Rattle.std.specs.Int.{w64, to_be_bytes};
 ghost use Rattle.common_types.specs.Outcomes.{Gives};
-ghost use Rattle.oer_core.specs.Length.{IsLength, IsOctetString, BeginsWithString, big_endian, length_at, octets_at, number_at};
+ghost use Rattle.oer_core.specs.Length.{IsLength, IsOctetString, BeginsWithString, big_endian, length_at, octets_at};
+ghost use Rattle.oer_core.specs.Length.{number_at};
 
 use crate::fault::OerFault;
 

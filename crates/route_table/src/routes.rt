@@ -1,6 +1,7 @@
 //! Routes by prefix.
 
-ghost use Rattle.std.specs.Prelude.{◌≡◌, ◌≢◌, ◌≤◌, ◌↔◌, ◌==◌, ℕ, IsTrue, IsOk, OnOk, OnErr, IfOk, IfSome, OnSome, IfNone, if◌then◌else◌, nat_lt, Ok, Err, List, false};
+ghost use Rattle.std.specs.Prelude.{◌≡◌, ◌≢◌, ◌≤◌, ◌↔◌, ◌==◌, ℕ, IsTrue, IsOk, OnOk, OnErr, IfOk, IfSome, OnSome};
+ghost use Rattle.std.specs.Prelude.{IfNone, if◌then◌else◌, nat_lt, Ok, Err, List, false};
 ghost use Rattle.std.specs.FinMap.{empty, contains_key, insert, remove, len, values};
 ghost use Rattle.std.specs.List.{list_all};
 ghost use Rattle.route_table.specs.Routes.{RouteMap, IsBestRoute, HasNoRoute, NamesPeer, best_route, max_routes};
