@@ -1,46 +1,165 @@
 -- A state stays within its limits.
-use Rattle.std.proofs.Common.{◌≡◌, ℕ, ◌+◌, ◌≤◌, Bool, true, false, cond, List, [], ◌∷◌, ◌++◌, length, arith, sym, subst}
+use Rattle.std.proofs.Common.{◌≡◌, ℕ, ◌+◌, ◌≤◌, Bool, true, false, cond, eqb, List, length, get_or, map, arith, refl, sym, subst, ◌∙◌, le_of_eq}
 use Rattle.ilp_addr.specs.Timestamp.{last_moment}
-use Rattle.std.specs.Prelude.{Some, IfSome, count_by}
-use Rattle.std.proofs.lemmas.Bool.{ltb-false}
+use Rattle.std.specs.Prelude.{Some, IfSome, count_by, max, ◌&&◌, ◌||◌, nat_le}
+use Rattle.std.specs.List.{position_or_len, slice_get}
+use Rattle.std.proofs.Math.ListN.{set}
+use Rattle.std.proofs.lemmas.Bool.{ltb-false, and_parts}
 use Rattle.std.proofs.lemmas.List.{length_push}
+use Rattle.std.proofs.lemmas.List.Folds.{find_at}
 use Rattle.std.proofs.lemmas.List.Sums.{sum_by_push, fold_push}
+use Rattle.std.proofs.lemmas.Option.{slice_get_within, get_or_from_slice_get}
+use Rattle.tenant_core.specs.declared.hold.Fate.{Fate}
+use Rattle.tenant_core.specs.declared.hold.Fate.TheVariants.{Held, Marked, Ended}
+use Rattle.tenant_core.specs.declared.hold.Hold.{Hold}
 use Rattle.tenant_core.specs.declared.opening.Peer.{Peer}
+use Rattle.tenant_core.specs.declared.journal.AnswerKey.{AnswerKey}
 use Rattle.tenant_core.specs.declared.journal.Record.{Record}
+use Rattle.tenant_core.specs.declared.verdict.RejectCode.TheVariants.{TimedOut, WrongCondition, PeerUnreachable}
+use Rattle.tenant_core.specs.declared.verdict.Verdict.{Verdict}
+use Rattle.tenant_core.specs.declared.verdict.Verdict.TheVariants.{Unknown, NoRoom, Refuse, Forward, Relay}
+use Rattle.tenant_core.specs.Answer.{settle_answer, is_marked, is_misfit, is_fault, answer_record, tick_record, tick_count, has_no_place}
+use Rattle.tenant_core.specs.Holds.{holds_of, open_holds, open_hold, is_open, is_open_under, is_fulfill, is_relay, awaits_answer, holds_amounts}
+use Rattle.tenant_core.specs.Holds.{hold_ended, hold_ticked, with_fate, begun_by, AreNumbered}
 use Rattle.tenant_core.specs.Key.{Key}
-use Rattle.tenant_core.specs.State.{State, peer_with_token, recorded, holds, later}
-use Rattle.tenant_core.specs.Judge.{is_full, verdict_for_sender, decide_record}
+use Rattle.tenant_core.specs.State.{State, clock_of, peer_with_token, recorded, extended, later}
+use Rattle.tenant_core.specs.Judge.{is_full, refuse, verdict_for_sender, decide_entry, decide_record}
 use Rattle.tenant_core.specs.Sound.{IsSound}
-use Rattle.tenant_core.proofs.Purses.{has_terms_within, has_limits, found_passes, recorded_within}
+use Rattle.tenant_core.proofs.Courses.{holds_of-decide, holds_of-answer, holds_of-tick, numbered-map, numbered-push, ended_is_set, count-ended, find_passes}
+use Rattle.tenant_core.proofs.Purses.{has_terms_within, has_limits, found_passes, IsPaid, decided_within, moved_within, ended_moves, ticked_moves, ticked_count}
+use Rattle.tenant_core.proofs.Replays.{decided_replay, answered_replay, ticked_replay}
 use Rattle.tenant_core.proofs.Verdicts.{sender_paid}
 
--- a record more counts once at most
-count_push : (p : Record → Bool) (rs : List Record) (r : Record) → count_by p (rs ++ r ∷ []) ≤ count_by p rs + 1
-count_push p rs r = let e = sum_by_push (λ x. cond (p x) 1 0) rs r in let once = by (p r) in omega arith
-  where
-    by : (b : Bool) → cond b 1 0 ≤ 1
-    by true = omega arith
-    by false = omega arith
+clock_after : (s : State) (r : Record) → later (clock_of s) r ≤ last_moment → clock_of (recorded s (Some r)) ≤ last_moment
+clock_after s r early = subst (λ n. n ≤ last_moment) (sym (fold_push later s.opening.clock s.records r)) early
 
-pub decided_sound : (s : State) (token : List ℕ) (key : Key) (now clock : ℕ) (from : Peer) → IsSound s
+-- ---- a packet was decided
+
+pub decided_count : (hs : List Hold) (peer : ℕ) (key : Key) (now : ℕ) (v : Verdict)
+    → count_by is_open (extended hs (begun_by (decide_entry peer key now) v)) ≤ count_by is_open hs + 1
+decided_count hs peer key now Unknown = omega arith
+decided_count hs peer key now NoRoom = omega arith
+decided_count hs peer key now (Refuse code amounts) = omega arith
+decided_count hs peer key now Relay = omega arith
+decided_count hs peer key now (Forward hold to price expiry) =
+    let h : Hold = record { number = hold; from = peer; to = to; amount = key.amount; price = price; expiry = expiry; condition = key.condition; fate = Held } in
+    let pushed = sum_by_push (λ x. cond (is_open x) 1 0) hs h in
+    le_of_eq pushed
+
+decided_numbers : (s : State) (peer : ℕ) (key : Key) (now : ℕ) (v : Verdict) → IsPaid s peer key.amount v → AreNumbered s.opening.next_hold (holds_of s)
+    → AreNumbered s.opening.next_hold (extended (holds_of s) (begun_by (decide_entry peer key now) v))
+decided_numbers s peer key now Unknown paid e = e
+decided_numbers s peer key now NoRoom paid e = e
+decided_numbers s peer key now (Refuse code amounts) paid e = e
+decided_numbers s peer key now Relay paid e = e
+decided_numbers s peer key now (Forward hold to price expiry) paid e =
+    let h : Hold = record { number = hold; from = peer; to = to; amount = key.amount; price = price; expiry = expiry; condition = key.condition; fate = Held } in
+    numbered-push s.opening.next_hold (holds_of s) h e paid.2
+
+pub decided_sound : (s : State) (token : List ℕ) (key : Key) (now : ℕ) (from : Peer) → IsSound s
     → peer_with_token token s.opening.peers ≡ Some from → is_full s ≡ false → now ≤ last_moment
-    → IsSound (recorded s (Some (decide_record from.number key now (verdict_for_sender s from key clock))))
-decided_sound s token key now clock from sound is room early =
-    let r : Record = decide_record from.number key now (verdict_for_sender s from key clock) in
-    let fits : length s.records + count_by (λ x. holds x.outcome) s.records + 2 ≤ s.opening.journal = ltb-false _ _ room in
-    let counted = count_push (λ x. holds x.outcome) s.records r in
+    → IsSound (recorded s (Some (decide_record from.number key now (verdict_for_sender s from key (max (clock_of s) now)))))
+decided_sound s token key now from sound is room early =
+    let v : Verdict = verdict_for_sender s from key (max (clock_of s) now) in
+    let r : Record = decide_record from.number key now v in
+    let fits : length s.records + open_holds s + 2 ≤ s.opening.journal = ltb-false _ _ room in
+    let holds = holds_of-decide s from.number key now v in
+    let counted : open_holds (recorded s (Some r)) ≤ open_holds s + 1 =
+    subst (λ (hs : List Hold). count_by is_open hs ≤ open_holds s + 1) (sym holds) (decided_count (holds_of s) from.number key now v) in
     let longer = length_push s.records r in
     let sender = subst (λ o. IfSome o (λ p. has_terms_within p ≡ true)) is (found_passes _ s.opening.peers sound.terms) in
-    let paid = sender_paid s from key clock sound.terms (has_limits from.terms sender) in
+    let paid = sender_paid s from key (max (clock_of s) now) sound.terms (has_limits from.terms sender) in
     let last = sound.clock in
     record {
+      replay = decided_replay s token key now from sound.replay sound.named.numbers is room;
       tenant = sound.tenant;
+      named = sound.named;
       room = omega arith;
       journal = sound.journal;
-      purses = recorded_within s from.number key now (verdict_for_sender s from key clock) sound.purses paid;
+      numbers = subst (λ (hs : List Hold). AreNumbered s.opening.next_hold hs) (sym holds) (decided_numbers s from.number key now v paid sound.numbers);
+      purses = λ n. decided_within s from.number key now v paid n (sound.purses n);
       terms = sound.terms;
       hold = sound.hold;
       first_hold = sound.first_hold;
       period = sound.period;
-      clock = subst (λ n. n ≤ last_moment) (sym (fold_push later s.opening.clock s.records r)) (omega arith);
+      clock = clock_after s r (omega arith);
+    }
+
+-- ---- a hold was answered
+
+-- what is taken was held: it was not marked
+relayed_held : (h : Hold) (clock : ℕ) (key : AnswerKey) → is_open h ≡ true → (is_fulfill key && is_relay (settle_answer h clock key)) ≡ true → holds_amounts h.fate ≡ true
+relayed_held h clock key «open» taken =
+    let rest : Verdict = cond (is_misfit key h.condition) (refuse WrongCondition) (cond (is_fault key) (refuse PeerUnreachable) Relay) in
+    by h.fate rest «open» (and_parts (is_fulfill key) (is_relay (settle_answer h clock key)) taken).1
+  where
+    by : (f : Fate) (rest : Verdict) → awaits_answer f ≡ true
+        → is_relay (cond (is_marked f || nat_le h.expiry clock) (refuse TimedOut) rest) ≡ true → holds_amounts f ≡ true
+    by Held rest e relayed = refl
+    by Marked rest e relayed = absurd cc
+    by (Ended b) rest e relayed = absurd cc
+
+pub answered_sound : (s : State) (n now : ℕ) (key : AnswerKey) (h : Hold) → IsSound s → open_hold s n ≡ Some h → now ≤ last_moment
+    → IsSound (recorded s (Some (answer_record n now key (settle_answer h (max (clock_of s) now) key))))
+answered_sound s n now key h sound is early =
+    let v : Verdict = settle_answer h (max (clock_of s) now) key in
+    let b : Bool = is_fulfill key && is_relay v in
+    let r : Record = answer_record n now key v in
+    let hs : List Hold = holds_of s in
+    let i : ℕ = position_or_len (is_open_under n) hs in
+    let read : slice_get hs i ≡ Some h = sym (find_at (is_open_under n) hs) ∙ is in
+    let there = slice_get_within hs i h read in
+    let place = get_or_from_slice_get hs i h h read in
+    let under : is_open_under n h ≡ true = find_passes (is_open_under n) hs h is in
+    let here : is_open_under n (get_or hs i h) ≡ true = rw place under in
+    let «open» : is_open h ≡ true = (and_parts (eqb h.number n) (is_open h) under).1 in
+    let held = relayed_held h (max (clock_of s) now) key «open» in
+    let ended : map (hold_ended n b) hs ≡ set hs i (with_fate h (Ended b)) = rw place at (ended_is_set n b s.opening.next_hold hs i h sound.numbers there here) in
+    let holds : holds_of (recorded s (Some r)) ≡ map (hold_ended n b) hs = holds_of-answer s n now key v in
+    let counted : count_by is_open (set hs i (with_fate h (Ended b))) + 1 ≡ count_by is_open hs = rw place at (count-ended hs i h b there (rw place «open»)) in
+    let fewer : open_holds (recorded s (Some r)) + 1 ≡ open_holds s = rw (holds, ended) counted in
+    let longer = length_push s.records r in
+    let fits = sound.room in
+    let last = sound.clock in
+    record {
+      replay = answered_replay s n now key h sound.replay is;
+      tenant = sound.tenant;
+      named = sound.named;
+      room = omega arith;
+      journal = sound.journal;
+      numbers = subst (λ (ks : List Hold). AreNumbered s.opening.next_hold ks) (sym holds) (numbered-map (hold_ended n b) (λ x. refl) s.opening.next_hold hs sound.numbers);
+      purses = λ p. moved_within s r (set hs i (with_fate h (Ended b))) p (holds ∙ ended) (ended_moves p hs i h b there place «open» held) (sound.purses p);
+      terms = sound.terms;
+      hold = sound.hold;
+      first_hold = sound.first_hold;
+      period = sound.period;
+      clock = clock_after s r (omega arith);
+    }
+
+-- ---- a moment was handed in
+
+pub ticked_sound : (s : State) (now : ℕ) → IsSound s → has_no_place s ≡ false → now ≤ last_moment
+    → IsSound (recorded s (Some (tick_record now (tick_count s (max (clock_of s) now)))))
+ticked_sound s now sound room early =
+    let clock : ℕ = max (clock_of s) now in
+    let r : Record = tick_record now (tick_count s clock) in
+    let hs : List Hold = holds_of s in
+    let holds : holds_of (recorded s (Some r)) ≡ map (hold_ticked clock) hs = holds_of-tick s now (tick_count s clock) in
+    let counted : open_holds (recorded s (Some r)) ≡ open_holds s = rw holds (ticked_count clock hs) in
+    let fits : length s.records + open_holds s + 1 ≤ s.opening.journal = ltb-false _ _ room in
+    let longer = length_push s.records r in
+    let last = sound.clock in
+    record {
+      replay = ticked_replay s now sound.replay room;
+      tenant = sound.tenant;
+      named = sound.named;
+      room = omega arith;
+      journal = sound.journal;
+      numbers = subst (λ (ks : List Hold). AreNumbered s.opening.next_hold ks) (sym holds) (numbered-map (hold_ticked clock) (λ x. refl) s.opening.next_hold hs sound.numbers);
+      purses = λ p. moved_within s r (map (hold_ticked clock) hs) p holds (ticked_moves p clock hs) (sound.purses p);
+      terms = sound.terms;
+      hold = sound.hold;
+      first_hold = sound.first_hold;
+      period = sound.period;
+      clock = clock_after s r (omega arith);
     }

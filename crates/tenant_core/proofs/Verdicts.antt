@@ -19,7 +19,8 @@ use Rattle.tenant_core.specs.Key.{Key}
 use Rattle.tenant_core.specs.Limits.{max_money, max_holds}
 use Rattle.tenant_core.specs.Purse.{is_over_ceiling, is_over_credit}
 use Rattle.tenant_core.specs.Routing.{another, onward, stays_here, rate_between, outgoing_expiry}
-use Rattle.tenant_core.specs.State.{State, peer_numbered, open_holds}
+use Rattle.tenant_core.specs.Holds.{open_holds}
+use Rattle.tenant_core.specs.State.{State, peer_numbered}
 use Rattle.tenant_core.specs.Judge.{verdict_for_sender, verdict_at_rate, refuse}
 use Rattle.tenant_core.proofs.Purses.{IsPaid, HasLimits, has_limits, has_terms_within, found_passes}
 
@@ -51,13 +52,14 @@ within_neg n h = omega (arith, ints)
 rate_paid : (s : State) (from to : Peer) (rate : Fraction) (key : Key) (clock : ℕ) → HasLimits from.terms → HasLimits to.terms
     → IsPaid s from.number key.amount (verdict_at_rate s from to rate key clock)
 rate_paid s from to rate key clock f t =
-    passed s from.number key.amount (nat_lt to.terms.cap (price_of rate key.amount)) _ _ tt (λ _.
+    passed s from.number key.amount (nat_lt to.terms.limits.cap (price_of rate key.amount)) _ _ tt (λ _.
     passed s from.number key.amount (nat_le (outgoing_expiry s.opening key.expiry clock) clock) _ _ tt (λ _.
     passed s from.number key.amount (is_over_ceiling s from key.amount) _ _ tt (λ c.
     passed s from.number key.amount (is_over_credit s to (price_of rate key.amount)) _ _ tt (λ d.
     passed s from.number key.amount (nat_le max_holds (open_holds s)) _ _ tt (λ _. (
-      not_over _ _ _ c (within_pos from.terms.ceiling f.ceiling),
-      not_under _ _ _ d (within_neg to.terms.credit t.credit),
+      not_over _ _ _ c (within_pos from.terms.limits.ceiling f.ceiling),
+      not_under _ _ _ d (within_neg to.terms.limits.credit t.credit),
+      refl,
     ))))))
 
 onward_passes : (o : Opening) (n : Option ℕ) → list_all has_terms_within o.peers ≡ true
@@ -71,7 +73,7 @@ sender_paid s from key clock within f =
     passed s from.number key.amount (not (is_admitted (stretch_of s from) clock)) _ _ tt (λ _.
     passed s from.number key.amount (nat_le key.expiry clock) _ _ tt (λ _.
     passed s from.number key.amount (stays_here s.opening key.destination) _ _ tt (λ _.
-    passed s from.number key.amount (nat_lt from.terms.cap key.amount) _ _ tt (λ _.
+    passed s from.number key.amount (nat_lt from.terms.limits.cap key.amount) _ _ tt (λ _.
     found s from.number key.amount (onward s.opening from.number key.destination) (refuse Unreachable) _ tt (λ to is.
     found s from.number key.amount (rate_between s.opening from.number to.number) (refuse Unreachable) _ tt (λ rate _.
     rate_paid s from to rate key clock f (has_limits to.terms (passes to is))))))))

@@ -4,7 +4,7 @@ use Rattle.rate_bucket.specs.Bucket.{Stretch}
 use Rattle.tenant_core.specs.State.{State, later, is_of}
 use Rattle.tenant_core.specs.declared.opening.Peer.{Peer}
 use Rattle.tenant_core.specs.declared.journal.Outcome.{Outcome}
-use Rattle.tenant_core.specs.declared.journal.Outcome.TheVariants.{Packet}
+use Rattle.tenant_core.specs.declared.journal.Outcome.TheVariants.{Packet, Ticked}
 use Rattle.tenant_core.specs.declared.journal.Record.{Record}
 use Rattle.tenant_core.specs.declared.verdict.RejectCode.{RejectCode}
 use Rattle.tenant_core.specs.declared.verdict.RejectCode.TheVariants.{RateLimited}
@@ -24,6 +24,7 @@ is_limited _ = false
 -- the bucket admitted what led to this
 abbrev pub admits : Outcome → Bool
 admits (Packet v) = not (is_limited v)
+admits (Ticked count) = false
 
 -- the clocks at which records that follow that clock say that packets of the peer of that number were admitted
 abbrev pub admitted_clocks : ℕ → ℕ → List Record → List ℕ
@@ -39,8 +40,8 @@ bucket_of p clock records =
     record {
       start = clock;
       credit = p.bucket;
-      burst = p.terms.burst;
-      per_second = p.terms.per_second;
+      burst = p.terms.bucket.burst;
+      per_second = p.terms.bucket.per_second;
       admitted = admitted_clocks p.number clock records;
     }
 

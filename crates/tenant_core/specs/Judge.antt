@@ -11,8 +11,10 @@ use Rattle.tenant_core.specs.Key.{Key}
 use Rattle.tenant_core.specs.Limits.{max_holds}
 use Rattle.tenant_core.specs.Purse.{is_over_ceiling, is_over_credit}
 use Rattle.tenant_core.specs.Routing.{stays_here, onward, rate_between, outgoing_expiry}
-use Rattle.tenant_core.specs.State.{State, clock_of, open_holds, next_hold, peer_with_token, recorded}
+use Rattle.tenant_core.specs.Holds.{open_holds, next_hold}
+use Rattle.tenant_core.specs.State.{State, clock_of, peer_with_token, recorded}
 use Rattle.tenant_core.specs.declared.opening.Peer.{Peer}
+use Rattle.tenant_core.specs.declared.journal.DecideEntry.{DecideEntry}
 use Rattle.tenant_core.specs.declared.journal.Entry.TheVariants.{Decide}
 use Rattle.tenant_core.specs.declared.journal.Outcome.TheVariants.{Packet}
 use Rattle.tenant_core.specs.declared.journal.Record.{Record}
@@ -21,7 +23,7 @@ use Rattle.tenant_core.specs.declared.verdict.RejectCode.TheVariants.{Unreachabl
 use Rattle.tenant_core.specs.declared.verdict.RejectCode.TheVariants.{InsufficientLiquidity, RateLimited}
 use Rattle.tenant_core.specs.declared.verdict.RejectCode.TheVariants.{InsufficientTimeout}
 use Rattle.tenant_core.specs.declared.verdict.Verdict.{Verdict}
-use Rattle.tenant_core.specs.declared.verdict.Verdict.TheVariants.{Unknown, NoRoom, Refuse, Forward}
+use Rattle.tenant_core.specs.declared.verdict.Verdict.TheVariants.{Unknown, NoRoom, Refuse, Forward, Relay}
 
 -- a refusal that names no amounts (RFC 0027, "Error Codes")
 abbrev pub refuse : RejectCode → Verdict
@@ -40,7 +42,8 @@ abbrev pub verdict_at_rate : State → Peer → Peer → Fraction → Key → �
 verdict_at_rate s from to rate key clock = do
   let price = price_of rate key.amount
   let expiry = outgoing_expiry s.opening key.expiry clock
-  nat_lt to.terms.cap price ⇒ refuse_over key.amount (greatest_amount rate from.terms.cap to.terms.cap)
+  let greatest = greatest_amount rate from.terms.limits.cap to.terms.limits.cap
+  nat_lt to.terms.limits.cap price ⇒ refuse_over key.amount greatest
   nat_le expiry clock ⇒ refuse InsufficientTimeout
   is_over_ceiling s from key.amount ⇒ refuse InsufficientLiquidity
   is_over_credit s to price ⇒ refuse InsufficientLiquidity
@@ -53,7 +56,7 @@ verdict_for_sender s from key clock = do
   not (is_admitted (stretch_of s from) clock) ⇒ refuse RateLimited
   nat_le key.expiry clock ⇒ refuse InsufficientTimeout
   stays_here s.opening key.destination ⇒ refuse Unreachable
-  nat_lt from.terms.cap key.amount ⇒ refuse_over key.amount from.terms.cap
+  nat_lt from.terms.limits.cap key.amount ⇒ refuse_over key.amount from.terms.limits.cap
   to ← onward s.opening from.number key.destination otherwise refuse Unreachable
   rate ← rate_between s.opening from.number to.number otherwise refuse Unreachable
   verdict_at_rate s from to rate key clock
@@ -65,21 +68,21 @@ judge s token key now = do
   is_full s ⇒ NoRoom
   verdict_for_sender s from key (max (clock_of s) now)
 
--- the record of a Prepare of the peer of that number
-abbrev pub decide_record : ℕ → Key → ℕ → Verdict → Record
-decide_record peer key now v =
+-- the entry of a Prepare of the peer of that number
+abbrev pub decide_entry : ℕ → Key → ℕ → DecideEntry
+decide_entry peer key now =
     record {
-      entry =
-          Decide (record {
-            peer = peer;
-            amount = key.amount;
-            expiry = key.expiry;
-            condition = key.condition;
-            destination = key.destination;
-            now = now;
-          });
-      outcome = Packet v;
+      peer = peer;
+      amount = key.amount;
+      expiry = key.expiry;
+      condition = key.condition;
+      destination = key.destination;
+      now = now;
     }
+
+-- the record of that Prepare
+abbrev pub decide_record : ℕ → Key → ℕ → Verdict → Record
+decide_record peer key now v = record { entry = Decide (decide_entry peer key now); outcome = Packet v }
 
 -- the verdict is recorded
 abbrev pub is_recorded : Verdict → Bool
@@ -87,6 +90,7 @@ is_recorded Unknown = false
 is_recorded NoRoom = false
 is_recorded (Refuse code amounts) = true
 is_recorded (Forward hold peer amount expiry) = true
+is_recorded Relay = true
 
 -- the record that a Prepare of that peer leaves, if its verdict is recorded
 abbrev pub record_left : Option Peer → Key → ℕ → Verdict → Option Record

@@ -1,12 +1,16 @@
 pub mod Limits
 pub mod Key
 pub mod State
+pub mod Holds
 pub mod Bucket
 pub mod Purse
 pub mod Routing
 pub mod Checks
 pub mod Judge
+pub mod Answer
+pub mod Replay
 pub mod Setup
 pub mod Sound
+pub mod OpenHolds
 pub mod Standing
 pub mod Kept

@@ -1,41 +1,44 @@
--- Purses: what peers owe, and what is held on both sides, as sums over the journal.
+-- Purses: what peers owe, and what is held on both sides, as sums over the holds.
 use Rattle.std.specs.Prelude.{ℕ, ◌+◌, ℤ, pos, ◌+ℤ◌, ◌-ℤ◌, ◌≤ℤ◌, neg_ℤ, int_lt, Bool, ◌&&◌, sum_by, ◌==◌, Option, Some}
 use Rattle.std.specs.Prelude.{None, if◌then◌else◌}
+use Rattle.tenant_core.specs.Holds.{holds_of, holds_amounts, took_amounts}
 use Rattle.tenant_core.specs.Limits.{max_money}
-use Rattle.tenant_core.specs.State.{State, is_of, holds, peer_numbered}
+use Rattle.tenant_core.specs.State.{State, peer_numbered}
+use Rattle.tenant_core.specs.declared.hold.Hold.{Hold}
 use Rattle.tenant_core.specs.declared.opening.Peer.{Peer}
-use Rattle.tenant_core.specs.declared.journal.Entry.{Entry}
-use Rattle.tenant_core.specs.declared.journal.Entry.TheVariants.{Decide}
-use Rattle.tenant_core.specs.declared.journal.Outcome.{Outcome}
-use Rattle.tenant_core.specs.declared.journal.Outcome.TheVariants.{Packet}
-use Rattle.tenant_core.specs.declared.journal.Record.{Record}
-use Rattle.tenant_core.specs.declared.verdict.Verdict.{Verdict}
-use Rattle.tenant_core.specs.declared.verdict.Verdict.TheVariants.{Forward}
+use Rattle.tenant_core.specs.declared.row.Row.{Row}
 
--- what a packet brought
-abbrev pub amount_of : Entry → ℕ
-amount_of (Decide d) = d.amount
+-- what a hold holds from the peer of that number
+abbrev pub held_from : ℕ → Hold → ℕ
+held_from n h = if holds_amounts h.fate && (h.from == n) then h.amount else 0
 
--- what a record holds from the peer of that number
-abbrev pub brought : ℕ → Record → ℕ
-brought n r = if is_of n r.entry && holds r.outcome then amount_of r.entry else 0
+-- what a hold holds for the peer of that number
+abbrev pub held_for : ℕ → Hold → ℕ
+held_for n h = if holds_amounts h.fate && (h.to == n) then h.price else 0
 
--- what a verdict holds for the peer of that number
-abbrev pub sent : ℕ → Verdict → ℕ
-sent n (Forward hold peer amount expiry) = if peer == n then amount else 0
-sent n _ = 0
+-- what a hold took from the peer of that number
+abbrev pub taken_from : ℕ → Hold → ℕ
+taken_from n h = if took_amounts h.fate && (h.from == n) then h.amount else 0
 
--- what a record holds for the peer of that number
-abbrev pub sent_by : ℕ → Outcome → ℕ
-sent_by n (Packet v) = sent n v
+-- what a hold took for the peer of that number
+abbrev pub taken_for : ℕ → Hold → ℕ
+taken_for n h = if took_amounts h.fate && (h.to == n) then h.price else 0
 
 -- what is held from the peer of that number, in its units
 abbrev pub held_in_of : State → ℕ → ℕ
-held_in_of s n = sum_by (brought n) s.records
+held_in_of s n = sum_by (held_from n) (holds_of s)
 
 -- what is held for the peer of that number, in its units
 abbrev pub held_out_of : State → ℕ → ℕ
-held_out_of s n = sum_by (λ r. sent_by n r.outcome) s.records
+held_out_of s n = sum_by (held_for n) (holds_of s)
+
+-- what fulfilled packets of the peer of that number brought, in its units
+abbrev pub taken_in_of : State → ℕ → ℕ
+taken_in_of s n = sum_by (taken_from n) (holds_of s)
+
+-- what fulfilled packets for the peer of that number came to, in its units
+abbrev pub taken_out_of : State → ℕ → ℕ
+taken_out_of s n = sum_by (taken_for n) (holds_of s)
 
 -- what a peer owed at first
 abbrev pub opening_balance : Option Peer → ℤ
@@ -44,17 +47,27 @@ opening_balance (Some p) = p.balance
 
 -- what the peer of that number owes the tenant, in its units, below 0 where it is owed
 abbrev pub balance_of : State → ℕ → ℤ
-balance_of s n = opening_balance (peer_numbered n s.opening.peers)
+balance_of s n = (opening_balance (peer_numbered n s.opening.peers) +ℤ pos (taken_in_of s n)) -ℤ pos (taken_out_of s n)
+
+-- a peer's name, its balance and what is held from it and for it
+abbrev pub row_of : State → Peer → Row
+row_of s p =
+    record {
+      name = p.terms.name;
+      balance = balance_of s p.number;
+      held_in = held_in_of s p.number;
+      held_out = held_out_of s p.number;
+    }
 
 -- with an amount more from it, the sender would owe more than its ceiling
 abbrev pub is_over_ceiling : State → Peer → ℕ → Bool
 is_over_ceiling s from amount =
-    int_lt (pos from.terms.ceiling) (balance_of s from.number +ℤ pos (held_in_of s from.number + amount))
+    int_lt (pos from.terms.limits.ceiling) (balance_of s from.number +ℤ pos (held_in_of s from.number + amount))
 
 -- with an amount more for it, more would be owed to the receiver than its credit
 abbrev pub is_over_credit : State → Peer → ℕ → Bool
 is_over_credit s to amount =
-    int_lt (balance_of s to.number -ℤ pos (held_out_of s to.number + amount)) (neg_ℤ (pos to.terms.credit))
+    int_lt (balance_of s to.number -ℤ pos (held_out_of s to.number + amount)) (neg_ℤ (pos to.terms.limits.credit))
 
 -- the bounds of a purse, whatever becomes of what is held
 pub record IsWithinBounds (s : State) (n : ℕ) : Type 0 where

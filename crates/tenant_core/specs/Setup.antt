@@ -8,17 +8,24 @@ use Rattle.route_table.specs.Routes.{RouteMap}
 use Rattle.tenant_core.specs.Routing.{is_for_pair}
 use Rattle.tenant_core.specs.Limits.{max_money, max_burst, max_per_second, max_peers, max_journal, max_margin, max_hold}
 use Rattle.tenant_core.specs.Limits.{max_rates}
+use Rattle.tenant_core.specs.declared.terms.BucketTerms.{BucketTerms}
 use Rattle.tenant_core.specs.declared.terms.NewPeer.{NewPeer}
+use Rattle.tenant_core.specs.declared.terms.PeerLimits.{PeerLimits}
 use Rattle.tenant_core.specs.declared.terms.PeerTerms.{PeerTerms}
 use Rattle.tenant_core.specs.declared.terms.RateTerms.{RateTerms}
 use Rattle.tenant_core.specs.declared.terms.TenantTerms.{TenantTerms}
 
--- cap, ceiling and credit are at most 2^62, a burst is 1 to 1,000,000 packets, and at most 1,000,000 packets a second
--- follow it
+-- cap, ceiling and credit are at most 2^62
+abbrev pub are_limits_within : PeerLimits → Bool
+are_limits_within l = nat_le l.cap max_money && nat_le l.ceiling max_money && nat_le l.credit max_money
+
+-- a burst is 1 to 1,000,000 packets, and at most 1,000,000 packets a second follow it
+abbrev pub is_bucket_within : BucketTerms → Bool
+is_bucket_within b = is_between 1 max_burst b.burst && nat_le b.per_second max_per_second
+
+-- what is agreed with a peer is within its limits
 abbrev pub are_terms_within : PeerTerms → Bool
-are_terms_within t =
-    nat_le t.cap max_money && nat_le t.ceiling max_money && nat_le t.credit max_money
-    && (is_between 1 max_burst t.burst && nat_le t.per_second max_per_second)
+are_terms_within t = are_limits_within t.limits && is_bucket_within t.bucket
 
 -- the terms are within their limits, and the balance lies from -2^62 to 2^62
 abbrev pub is_peer_within : NewPeer → Bool

@@ -1,6 +1,6 @@
 -- A tenant's state: an opening and the records since. Every question about it is one about that list.
-use Rattle.std.specs.Prelude.{ℕ, ◌+◌, Bool, true, false, List, [], ◌∷◌, ◌++◌, fold, max, count_by, find, length, Option}
-use Rattle.std.specs.Prelude.{Some, None, ◌==◌}
+use Rattle.std.specs.Prelude.{ℕ, ◌+◌, Bool, false, List, [], ◌∷◌, ◌++◌, fold, max, find, length, Option, Some, None}
+use Rattle.std.specs.Prelude.{◌==◌}
 use Rattle.std.specs.Str.{bytes_eq}
 use Rattle.rate_bucket.specs.Bucket.{full_bucket}
 use Rattle.tenant_core.specs.declared.opening.Opening.{Opening}
@@ -8,12 +8,8 @@ use Rattle.tenant_core.specs.declared.opening.Peer.{Peer}
 use Rattle.tenant_core.specs.declared.terms.NewPeer.{NewPeer}
 use Rattle.tenant_core.specs.declared.terms.TenantTerms.{TenantTerms}
 use Rattle.tenant_core.specs.declared.journal.Entry.{Entry}
-use Rattle.tenant_core.specs.declared.journal.Entry.TheVariants.{Decide}
-use Rattle.tenant_core.specs.declared.journal.Outcome.{Outcome}
-use Rattle.tenant_core.specs.declared.journal.Outcome.TheVariants.{Packet}
+use Rattle.tenant_core.specs.declared.journal.Entry.TheVariants.{Decide, Answer, Tick}
 use Rattle.tenant_core.specs.declared.journal.Record.{Record}
-use Rattle.tenant_core.specs.declared.verdict.Verdict.{Verdict}
-use Rattle.tenant_core.specs.declared.verdict.Verdict.TheVariants.{Forward}
 
 -- what a period began with, and what happened since
 pub record State : Type 0 where
@@ -22,7 +18,7 @@ pub record State : Type 0 where
 
 -- a peer that was just added under that number: its bucket is full
 abbrev pub added : ℕ → NewPeer → Peer
-added n p = record { number = n; terms = p.terms; balance = p.balance; bucket = full_bucket p.terms.burst }
+added n p = record { number = n; terms = p.terms; balance = p.balance; bucket = full_bucket p.terms.bucket.burst }
 
 -- the peers of a setup under their numbers, the first under n
 abbrev pub numbered : ℕ → List NewPeer → List Peer
@@ -55,6 +51,8 @@ opened o = record { opening = o; records = [] }
 -- the moment at which an entry came
 abbrev pub entered_at : Entry → ℕ
 entered_at (Decide d) = d.now
+entered_at (Answer a) = a.now
+entered_at (Tick t) = t.now
 
 -- the later of the clock so far and the record's moment
 abbrev pub later : ℕ → Record → ℕ
@@ -64,27 +62,6 @@ later clock r = max clock (entered_at r.entry)
 abbrev pub clock_of : State → ℕ
 clock_of s = fold later s.opening.clock s.records
 
--- the packet goes on
-abbrev pub is_forward : Verdict → Bool
-is_forward (Forward hold peer amount expiry) = true
-is_forward _ = false
-
--- a hold is a Prepare that went on
-abbrev pub holds : Outcome → Bool
-holds (Packet v) = is_forward v
-
--- how many holds a state has
-abbrev pub hold_count : State → ℕ
-hold_count s = count_by (λ r. holds r.outcome) s.records
-
--- how many holds await an answer
-abbrev pub open_holds : State → ℕ
-open_holds s = hold_count s
-
--- the number of the next hold: holds are numbered over all periods
-abbrev pub next_hold : State → ℕ
-next_hold s = s.opening.next_hold + hold_count s
-
 -- the peer of this number
 abbrev pub peer_numbered : ℕ → List Peer → Option Peer
 peer_numbered n peers = find (λ p. p.number == n) peers
@@ -93,15 +70,20 @@ peer_numbered n peers = find (λ p. p.number == n) peers
 abbrev pub peer_with_token : List ℕ → List Peer → Option Peer
 peer_with_token token peers = find (λ p. bytes_eq p.terms.token token) peers
 
+-- the peer of this name
+abbrev pub peer_named : List ℕ → List Peer → Option Peer
+peer_named name peers = find (λ p. bytes_eq p.terms.name name) peers
+
 -- the entry is a packet of the peer of that number
 abbrev pub is_of : ℕ → Entry → Bool
 is_of n (Decide d) = d.peer == n
+is_of n _ = false
 
--- records and the one after them, if there is one
-abbrev pub with_record : List Record → Option Record → List Record
-with_record rs None = rs
-with_record rs (Some r) = rs ++ r ∷ []
+-- a list and the one after it, if there is one
+abbrev pub extended : {A : Type 0} → List A → Option A → List A
+extended xs None = xs
+extended xs (Some x) = xs ++ x ∷ []
 
 -- the state with a record more, if there is one
 abbrev pub recorded : State → Option Record → State
-recorded s r = record s { records = with_record s.records r }
+recorded s r = record s { records = extended s.records r }

@@ -1,10 +1,16 @@
 //! Books: an opening and the records since.
 
-use crate::journal::{PrepareKey, Record, decide_record};
+use crate::faults::{BookFault, HoldFault};
+use crate::hold::{Hold, begin_hold, end_hold, mark_overdue};
+use crate::journal::{
+    AnswerEntry, AnswerKey, Entry, Outcome, PrepareKey, Record, TickEntry, decide_entry,
+};
 use crate::judge::Standing;
 use crate::numbered::numbered;
 use crate::opening::Opening;
+use crate::purse::{balance, held_in, held_out};
 use crate::routing::{peer_numbered, peer_with_token};
+use crate::row::Row;
 use crate::setup::TenantSetup;
 use crate::terms::copied_rates;
 use crate::verdict::Verdict;
@@ -19,7 +25,9 @@ pub struct Book {
     opening: Opening,
     records: Vec<Record>,
     clock: u64,
-    holds: u64,
+    holds: Vec<Hold>,
+    // How many of the holds await their answers.
+    awaited: u64,
 }
 
 impl Model for Book {
@@ -42,7 +50,9 @@ impl Book {
     ghost use Rattle.std.specs.Prelude.{◌≡◌, ◌<◌, ◌≤◌, length, IfOk, IfSome, option_copied, option_map};
     ghost use Rattle.tenant_core.specs.State.{opened, opening_of, peer_numbered};
     ghost use Rattle.tenant_core.specs.Limits.{max_tenants};
+    ghost use Rattle.tenant_core.specs.Purse.{row_of};
     ghost use Rattle.tenant_core.specs.Sound.{IsSound};
+    ghost use Rattle.tenant_core.specs.Standing.{state_shown, IsShown};
 
     /// The book of a tenant's first period, in which nothing has happened. `tenant` is the tenant's place among
     /// all, below 64, and `start` its first clock. All the room that the period needs is taken now: the calls that
@@ -58,6 +68,7 @@ impl Book {
     {
         let terms = setup.terms();
         let records = Vec::with_capacity(alloc, terms.journal as usize)?;
+        let holds = Vec::with_capacity(alloc, terms.journal as usize)?;
         let peers = numbered(alloc, terms.peers.as_slice())?;
         let routes = terms.routes.copy(alloc)?;
         let rates = copied_rates(alloc, terms.rates.as_slice())?;
@@ -80,7 +91,8 @@ impl Book {
             opening,
             records,
             clock: start.millis(),
-            holds: 0,
+            holds,
+            awaited: 0,
         })
     }
 
@@ -110,6 +122,27 @@ impl Book {
         self.records.len()
     }
 
+    /// The number of the running period.
+    pub fn period(&self) -> u64
+        ensures { result ≡ self.now.opening.period }
+    {
+        self.opening.period
+    }
+
+    /// What the peer of that number owes, and what is held from it and for it.
+    pub fn balance(&self, peer: PeerNo) -> Option<Row>
+        ensures { result ≡ option_map (row_of self.now) (peer_numbered peer self.now.opening.peers) }
+    {
+        let peer = peer_numbered(self.opening.peers.as_slice(), peer)?;
+        let holds = self.holds.as_slice();
+        Some(Row {
+            name: peer.terms.name.copy(),
+            balance: balance(&self.opening, holds, peer.number) as i64,
+            held_in: held_in(holds, peer.number) as u64,
+            held_out: held_out(holds, peer.number) as u64,
+        })
+    }
+
     /// The tenant's own address.
     pub fn address(&self) -> &[u8]
         ensures value { result.now ≡ self.now.opening.address }
@@ -118,11 +151,24 @@ impl Book {
         self.opening.address.as_bytes()
     }
 
+    // What the checks of a packet see.
+    fn standing(&self) -> Standing<'_>
+        ensures state { state_shown result ≡ self.now }
+        ensures shown { IsShown result }
+    {
+        Standing {
+            opening: &self.opening,
+            records: self.records.as_slice(),
+            holds: self.holds.as_slice(),
+            awaited: self.awaited,
+        }
+    }
+
     // What the type keeps, for whoever holds a book.
     pub(crate) fn is_sound(&self)
         ensures { IsSound self.now }
     {
-        let _holds = self.holds;
+        let _awaited = self.awaited;
     }
 }
 
@@ -147,7 +193,7 @@ impl Book {
     /// - the outgoing expiry is after the clock (R02);
     /// - the sender's balance, what is held from it and the amount are within its ceiling (T04);
     /// - the receiver's balance less what is held for it and the price is within its credit (T04);
-    /// - fewer than 1,024 packets are held (T03).
+    /// - fewer than 1,024 packets await their answers (T03).
     ///
     /// After `Unknown` and `NoRoom` nothing has changed, the clock included. The clock is the greatest moment so far.
     pub fn decide(&mut self, token: &[u8], key: &PrepareKey<'_>, now: Moment) -> Verdict
@@ -155,11 +201,7 @@ impl Book {
         ensures records { self.new ≡ decided self.old token.now (key_of key.now) now }
         ensures sooner { IsSooner result key.now.expiry }
     {
-        let standing = Standing {
-            opening: &self.opening,
-            records: self.records.as_slice(),
-            holds: self.holds,
-        };
+        let standing = self.standing();
         let Some(from) = peer_with_token(standing.opening.peers.as_slice(), token) else {
             return Verdict::Unknown;
         };
@@ -168,12 +210,72 @@ impl Book {
         }
         let clock = self.clock.max(now.millis());
         let verdict = standing.verdict_for_sender(from, key, clock);
-        let record = decide_record(from.number, key, now, verdict);
+        let entry = decide_entry(from.number, key, now);
         self.clock = clock;
-        if verdict.is_forward() {
-            self.holds += 1;
-        }
-        self.records.push_reserved(record);
+        self.awaited += begin_hold(&mut self.holds, &entry, verdict);
+        self.records.push_reserved(Record {
+            entry: Entry::Decide(entry),
+            outcome: Outcome::Packet(verdict),
+        });
         verdict
+    }
+}
+
+impl Book {
+    ghost use Rattle.std.specs.Prelude.{◌≡◌};
+    ghost use Rattle.tenant_core.specs.Answer.{answer_to, answered, tick_result, ticked};
+
+    /// Settles what came back for the packet that is held under that number, records it, and ends the hold.
+    ///
+    /// The first check that fails gives the verdict:
+    ///
+    /// - the hold is not marked overdue, and the clock is before its outgoing expiry (R00);
+    /// - the SHA-256 of a Fulfill's fulfillment is the condition (F05);
+    /// - the answer is a Fulfill or a Reject (T01);
+    /// - after all of them it is `Relay`.
+    ///
+    /// A Fulfill that is relayed is taken on both sides: the sender owes the incoming amount more, and the receiver
+    /// the outgoing amount less. Else what was held is released on both sides. No such packet awaits an answer:
+    /// `NoSuchHold`, and nothing has changed, the clock included. The clock is the greatest moment so far.
+    pub fn answer(&mut self, hold: u64, now: Moment, key: AnswerKey) -> Result<Verdict, HoldFault>
+        ensures verdict { result ≡ answer_to self.old hold now key }
+        ensures records { self.new ≡ answered self.old hold now key }
+    {
+        let clock = self.clock.max(now.millis());
+        let Some(verdict) = end_hold(&mut self.holds, hold, clock, &key) else {
+            return Err(HoldFault::NoSuchHold);
+        };
+        self.awaited -= 1;
+        self.clock = clock;
+        self.records.push_reserved(Record {
+            entry: Entry::Answer(AnswerEntry {
+                hold,
+                now: now.millis(),
+                key,
+            }),
+            outcome: Outcome::Packet(verdict),
+        });
+        Ok(verdict)
+    }
+
+    /// Records that moment. What is held and expired by the clock after it is marked overdue: its amounts are
+    /// released on both sides, and its answer is still to come. The result is how many were marked.
+    ///
+    /// Where the journal has room for the answers that are still to come and for nothing else, `Full`, and nothing
+    /// has changed. The clock is the greatest moment so far.
+    pub fn tick(&mut self, now: Moment) -> Result<u32, BookFault>
+        ensures count { result ≡ tick_result self.old now }
+        ensures records { self.new ≡ ticked self.old now }
+    {
+        if self.records.len() as u64 + self.awaited + 1 > self.opening.journal {
+            return Err(BookFault::Full);
+        }
+        self.clock = self.clock.max(now.millis());
+        let count = mark_overdue(&mut self.holds, self.clock);
+        self.records.push_reserved(Record {
+            entry: Entry::Tick(TickEntry { now: now.millis() }),
+            outcome: Outcome::Ticked(count),
+        });
+        Ok(count)
     }
 }

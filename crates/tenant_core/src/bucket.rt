@@ -18,7 +18,13 @@ pub fn is_admitted(peer: &Peer, start: u64, records: &[Record], now: u64) -> boo
 {
     let terms = &peer.terms;
     let mut clock = start;
-    let mut credit = Credit::since(start, peer.bucket, terms.burst, terms.per_second, now);
+    let mut credit = Credit::since(
+        start,
+        peer.bucket,
+        terms.bucket.burst,
+        terms.bucket.per_second,
+        now,
+    );
     for entered in records {
         clock = later(clock, entered);
         if is_admitted_packet(entered, peer.number) {
@@ -33,6 +39,8 @@ fn later(clock: u64, entered: &Record) -> u64
 {
     match &entered.entry {
         Entry::Decide(decide) => clock.max(decide.now),
+        Entry::Answer(answer) => clock.max(answer.now),
+        Entry::Tick(tick) => clock.max(tick.now),
     }
 }
 
@@ -43,6 +51,7 @@ fn is_admitted_packet(entered: &Record, peer: PeerNo) -> bool
         (Entry::Decide(decide), Outcome::Packet(verdict)) => {
             decide.peer == peer && !is_limited(verdict)
         }
+        _ => false,
     }
 }
 

@@ -2,7 +2,7 @@
 
 ghost use Rattle.std.specs.Prelude.{◌≡◌};
 ghost use Rattle.tenant_core.specs.Key.{key_of};
-ghost use Rattle.tenant_core.specs.Judge.{decide_record};
+ghost use Rattle.tenant_core.specs.Judge.{decide_entry};
 
 use crate::verdict::Verdict;
 use common_types::Text;
@@ -31,16 +31,58 @@ pub struct DecideEntry {
     pub now: u64,
 }
 
+/// What came back for a packet that went on.
+#[derive(Clone, Copy)]
+pub enum AnswerKey {
+    /// A Fulfill with this fulfillment (RFC 0027, "ILP Fulfill").
+    Fulfilled([u8; 32]),
+    /// A Reject (RFC 0027, "ILP Reject").
+    Rejected,
+    /// Nothing that could be read, or nothing at all.
+    Fault,
+}
+
+impl AnswerKey {
+    ghost use Rattle.std.specs.Prelude.{◌≡◌};
+    ghost use Rattle.tenant_core.specs.Holds.{is_fulfill};
+
+    /// Whether it is a Fulfill.
+    pub fn is_fulfill(&self) -> bool
+        ensures { result ≡ is_fulfill self.now }
+    {
+        matches!(self, AnswerKey::Fulfilled(_))
+    }
+}
+
+/// What came back for the packet that is held under that number, and the moment.
+#[derive(Drop)]
+pub struct AnswerEntry {
+    pub hold: u64,
+    pub now: u64,
+    pub key: AnswerKey,
+}
+
+/// A moment that was handed in.
+#[derive(Drop)]
+pub struct TickEntry {
+    pub now: u64,
+}
+
 /// One event of a tenant.
 #[derive(Drop)]
 pub enum Entry {
     Decide(DecideEntry),
+    Answer(AnswerEntry),
+    Tick(TickEntry),
 }
 
 /// What an event led to.
 #[derive(Clone, Copy, Debug, PartialEq, Eq)]
 pub enum Outcome {
+    /// Of a Prepare or an answer.
     Packet(Verdict),
+    /// Of a tick: how many packets are overdue since it.
+    Ticked(u32),
 }
 
 /// An entry with its outcome.
@@ -50,20 +92,17 @@ pub struct Record {
     pub outcome: Outcome,
 }
 
-/// The record of a Prepare of that peer.
-pub fn decide_record(peer: PeerNo, key: &PrepareKey<'_>, now: Moment, verdict: Verdict) -> Record
-    ensures { result ≡ decide_record peer (key_of key.now) now verdict }
+/// The entry of a Prepare of that peer.
+pub fn decide_entry(peer: PeerNo, key: &PrepareKey<'_>, now: Moment) -> DecideEntry
+    ensures { result ≡ decide_entry peer (key_of key.now) now }
 {
-    Record {
-        entry: Entry::Decide(DecideEntry {
-            peer,
-            amount: key.amount,
-            expiry: key.expiry,
-            condition: *key.condition,
-            destination: stored(key.destination),
-            now: now.millis(),
-        }),
-        outcome: Outcome::Packet(verdict),
+    DecideEntry {
+        peer,
+        amount: key.amount,
+        expiry: key.expiry,
+        condition: *key.condition,
+        destination: stored(key.destination),
+        now: now.millis(),
     }
 }
 

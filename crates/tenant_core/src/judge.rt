@@ -1,48 +1,47 @@
 //! The checks of a Prepare, in their order.
 
 ghost use Rattle.std.specs.Prelude.{◌≡◌};
-ghost use Rattle.tenant_core.specs.Judge.{refuse, refuse_over};
+ghost use Rattle.tenant_core.specs.Judge.{refuse_over};
 
 use crate::bucket::is_admitted;
+use crate::hold::Hold;
 use crate::journal::{PrepareKey, Record};
 use crate::limits::MAX_HOLDS;
 use crate::opening::{Opening, Peer};
 use crate::purse::{balance, held_in, held_out, is_owed_more, owes_more};
 use crate::routing::{onward, outgoing_expiry, rate_between, stays_here};
-use crate::verdict::{RejectCode, Verdict};
+use crate::verdict::{RejectCode, Verdict, refuse};
 use money_core::Rate;
 
-/// What the checks see of a book: what its period began with, the records since, and how many holds are open.
+/// What the checks see of a book: what its period began with, the records since, their holds, and how many of these
+/// await their answers.
 #[derive(Clone, Copy)]
 pub struct Standing<'a> {
     pub opening: &'a Opening,
     pub records: &'a [Record],
-    pub holds: u64,
+    pub holds: &'a [Hold],
+    pub awaited: u64,
 }
 
 impl Standing<'_> {
     ghost use Rattle.std.specs.Prelude.{◌≡◌, ◌≤◌, true};
     ghost use Rattle.ilp_addr.specs.Timestamp.{last_moment};
     ghost use Rattle.tenant_core.specs.Key.{key_of};
-    ghost use Rattle.tenant_core.specs.State.{open_holds};
     ghost use Rattle.tenant_core.specs.Purse.{is_over_ceiling, is_over_credit};
     ghost use Rattle.tenant_core.specs.Judge.{verdict_for_sender, verdict_at_rate, is_full, is_recorded, IsSooner};
-    ghost use Rattle.tenant_core.specs.Sound.{IsSound};
-    ghost use Rattle.tenant_core.specs.Standing.{state_shown};
+    ghost use Rattle.tenant_core.specs.Standing.{state_shown, IsShown};
 
     /// Whether the journal has no room for another entry, its answer and those of all open holds.
     pub fn is_full(&self) -> bool
-        requires sound { IsSound (state_shown self.now) }
-        requires holds { self.now.holds ≡ open_holds (state_shown self.now) }
+        requires { IsShown self.now }
         ensures { result ≡ is_full (state_shown self.now) }
     {
-        self.records.len() as u64 + self.holds + 2 > self.opening.journal
+        self.records.len() as u64 + self.awaited + 2 > self.opening.journal
     }
 
     /// The verdict at that clock on a packet of that peer, for which the journal has room.
     pub fn verdict_for_sender(&self, from: &Peer, key: &PrepareKey<'_>, clock: u64) -> Verdict
-        requires sound { IsSound (state_shown self.now) }
-        requires holds { self.now.holds ≡ open_holds (state_shown self.now) }
+        requires shown { IsShown self.now }
         requires clock { clock ≤ last_moment }
         ensures verdict { result ≡ verdict_for_sender (state_shown self.now) from.now (key_of key.now) clock }
         ensures recorded { is_recorded result ≡ true }
@@ -58,8 +57,8 @@ impl Standing<'_> {
         if stays_here(opening, key.destination) {
             return refuse(RejectCode::Unreachable);
         }
-        if key.amount > from.terms.cap {
-            return refuse_over(key.amount, from.terms.cap);
+        if key.amount > from.terms.limits.cap {
+            return refuse_over(key.amount, from.terms.limits.cap);
         }
         let Some(to) = onward(opening, from.number, key.destination) else {
             return refuse(RejectCode::Unreachable);
@@ -79,16 +78,18 @@ impl Standing<'_> {
         key: &PrepareKey<'_>,
         clock: u64,
     ) -> Verdict
-        requires sound { IsSound (state_shown self.now) }
-        requires holds { self.now.holds ≡ open_holds (state_shown self.now) }
+        requires shown { IsShown self.now }
         requires clock { clock ≤ last_moment }
         ensures verdict { result ≡ verdict_at_rate (state_shown self.now) from.now to.now rate (key_of key.now) clock }
         ensures recorded { is_recorded result ≡ true }
         ensures sooner { IsSooner result key.now.expiry }
     {
         let price = rate.price(key.amount);
-        if price > to.terms.cap as u128 {
-            return refuse_over(key.amount, rate.greatest(from.terms.cap, to.terms.cap));
+        if price > to.terms.limits.cap as u128 {
+            return refuse_over(
+                key.amount,
+                rate.greatest(from.terms.limits.cap, to.terms.limits.cap),
+            );
         }
         let expiry = outgoing_expiry(self.opening, key.expiry, clock);
         if expiry <= clock {
@@ -98,11 +99,11 @@ impl Standing<'_> {
         if self.is_over_ceiling(from, key.amount) || self.is_over_credit(to, amount) {
             return refuse(RejectCode::InsufficientLiquidity);
         }
-        if self.holds >= MAX_HOLDS {
+        if self.awaited >= MAX_HOLDS {
             return refuse(RejectCode::Busy);
         }
         Verdict::Forward {
-            hold: self.opening.next_hold + self.holds,
+            hold: self.opening.next_hold + self.holds.len() as u64,
             peer: to.number,
             amount,
             expiry,
@@ -110,28 +111,27 @@ impl Standing<'_> {
     }
 
     fn is_over_ceiling(&self, from: &Peer, amount: u64) -> bool
-        requires { IsSound (state_shown self.now) }
+        requires { IsShown self.now }
         ensures { result ≡ is_over_ceiling (state_shown self.now) from.now amount }
     {
-        let held = held_in(self.records, from.number) + amount as u128;
-        owes_more(balance(self.opening, from.number), held, from.terms.ceiling)
+        let held = held_in(self.holds, from.number) + amount as u128;
+        owes_more(
+            balance(self.opening, self.holds, from.number),
+            held,
+            from.terms.limits.ceiling,
+        )
     }
 
     fn is_over_credit(&self, to: &Peer, amount: u64) -> bool
-        requires { IsSound (state_shown self.now) }
+        requires { IsShown self.now }
         ensures { result ≡ is_over_credit (state_shown self.now) to.now amount }
     {
-        let held = held_out(self.records, to.number) + amount as u128;
-        is_owed_more(balance(self.opening, to.number), held, to.terms.credit)
-    }
-}
-
-fn refuse(code: RejectCode) -> Verdict
-    ensures { result ≡ refuse code }
-{
-    Verdict::Refuse {
-        code,
-        amounts: None,
+        let held = held_out(self.holds, to.number) + amount as u128;
+        is_owed_more(
+            balance(self.opening, self.holds, to.number),
+            held,
+            to.terms.limits.credit,
+        )
     }
 }
 

@@ -1,5 +1,6 @@
-//! Laws of books, each the contract of a function that does nothing.
+//! Laws of books and their states, each the contract of a function that does nothing.
 
+ghost use Rattle.tenant_core.specs.OpenHolds.{OpenHoldLaws};
 ghost use Rattle.tenant_core.specs.Sound.{IsSound};
 
 use crate::book::Book;
@@ -10,3 +11,9 @@ pub fn book_is_sound(book: &Book)
 {
     book.is_sound();
 }
+
+/// A packet that goes on awaits its answer from then on, under a number that no other had; its answer ends that, and
+/// nothing else does.
+pub fn open_holds()
+    ensures { OpenHoldLaws }
+{}

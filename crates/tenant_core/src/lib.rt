@@ -3,6 +3,8 @@
 
 mod book;
 mod bucket;
+mod faults;
+mod hold;
 mod journal;
 mod judge;
 pub mod laws;
@@ -11,14 +13,20 @@ mod numbered;
 mod opening;
 mod purse;
 mod routing;
+mod row;
+mod settle;
 mod setup;
 mod terms;
 mod verdict;
 
 pub use book::Book;
-pub use journal::{DecideEntry, Entry, Outcome, PrepareKey, Record};
+pub use faults::{BookFault, HoldFault};
+pub use journal::{
+    AnswerEntry, AnswerKey, DecideEntry, Entry, Outcome, PrepareKey, Record, TickEntry,
+};
 pub use opening::{Opening, Peer};
 pub use route_table::PeerNo;
+pub use row::Row;
 pub use setup::TenantSetup;
-pub use terms::{NewPeer, PeerTerms, RateTerms, Role, TenantTerms};
+pub use terms::{BucketTerms, NewPeer, PeerLimits, PeerTerms, RateTerms, Role, TenantTerms};
 pub use verdict::{RejectCode, Verdict};

@@ -1,89 +1,151 @@
-//! Purses: what is held on both sides.
+//! Purses: what peers owe, and what is held on both sides.
 
-ghost use Rattle.std.specs.Prelude.{◌≡◌, ◌≤◌, ◌*◌, ◌^◌, length, sum_by, pos, neg_ℤ, ◌+ℤ◌, ◌-ℤ◌, int_lt};
+ghost use Rattle.std.specs.Prelude.{◌≡◌, ◌≤◌, ◌*◌, ◌^◌, length, sum_by, pos, neg_ℤ, ◌+ℤ◌, ◌-ℤ◌, ◌≤ℤ◌, int_lt};
+ghost use Rattle.tenant_core.specs.Holds.{holds_amounts, took_amounts};
 ghost use Rattle.tenant_core.specs.Limits.{max_journal};
-ghost use Rattle.tenant_core.specs.Purse.{brought, sent_by, opening_balance};
+ghost use Rattle.tenant_core.specs.Purse.{held_from, held_for, taken_from, taken_for, opening_balance};
 ghost use Rattle.tenant_core.specs.State.{peer_numbered};
 
-use crate::journal::{Entry, Outcome, Record};
+use crate::hold::{Fate, Hold};
 use crate::opening::Opening;
 use crate::routing::peer_numbered;
-use crate::verdict::Verdict;
 use route_table::PeerNo;
 
-fn brought(entered: &Record, peer: PeerNo) -> u64
-    ensures { result ≡ brought peer entered.now }
+fn holds_amounts(hold: &Hold) -> bool
+    ensures { result ≡ holds_amounts hold.now.fate }
 {
-    match (&entered.entry, entered.outcome) {
-        (Entry::Decide(decide), Outcome::Packet(verdict)) => {
-            if decide.peer == peer && verdict.is_forward() {
-                decide.amount
-            } else {
-                0
-            }
-        }
+    matches!(hold.fate, Fate::Held)
+}
+
+fn took_amounts(hold: &Hold) -> bool
+    ensures { result ≡ took_amounts hold.now.fate }
+{
+    matches!(hold.fate, Fate::Ended { fulfilled: true })
+}
+
+fn held_from(hold: &Hold, peer: PeerNo) -> u64
+    ensures { result ≡ held_from peer hold.now }
+{
+    if holds_amounts(hold) && hold.from == peer {
+        hold.amount
+    } else {
+        0
     }
 }
 
-fn sent(entered: &Record, to: PeerNo) -> u64
-    ensures { result ≡ sent_by to entered.now.outcome }
+fn held_for(hold: &Hold, peer: PeerNo) -> u64
+    ensures { result ≡ held_for peer hold.now }
 {
-    match entered.outcome {
-        Outcome::Packet(Verdict::Forward { peer, amount, .. }) if peer == to => amount,
-        Outcome::Packet(_) => 0,
+    if holds_amounts(hold) && hold.to == peer {
+        hold.price
+    } else {
+        0
     }
 }
 
-/// What the records hold from a peer, in its units.
-pub fn held_in(records: &[Record], peer: PeerNo) -> u128
-    requires { length records.now ≤ max_journal }
-    ensures value { result ≡ sum_by (brought peer) records.now }
+fn taken_from(hold: &Hold, peer: PeerNo) -> u64
+    ensures { result ≡ taken_from peer hold.now }
+{
+    if took_amounts(hold) && hold.from == peer {
+        hold.amount
+    } else {
+        0
+    }
+}
+
+fn taken_for(hold: &Hold, peer: PeerNo) -> u64
+    ensures { result ≡ taken_for peer hold.now }
+{
+    if took_amounts(hold) && hold.to == peer {
+        hold.price
+    } else {
+        0
+    }
+}
+
+/// What holds hold from a peer, in its units.
+pub fn held_in(holds: &[Hold], peer: PeerNo) -> u128
+    requires { length holds.now ≤ max_journal }
+    ensures value { result ≡ sum_by (held_from peer) holds.now }
     ensures small { result ≤ 2 ^ 80 }
 {
-    let mut held = 0u128;
-    for entered in records {
-        held += brought(entered, peer) as u128;
+    let mut total = 0u128;
+    for hold in holds {
+        total += held_from(hold, peer) as u128;
     }
-    held
+    total
 }
 
-/// What the records hold for a peer, in its units.
-pub fn held_out(records: &[Record], peer: PeerNo) -> u128
-    requires { length records.now ≤ max_journal }
-    ensures value { result ≡ sum_by (λ r. sent_by peer r.outcome) records.now }
+/// What holds hold for a peer, in its units.
+pub fn held_out(holds: &[Hold], peer: PeerNo) -> u128
+    requires { length holds.now ≤ max_journal }
+    ensures value { result ≡ sum_by (held_for peer) holds.now }
     ensures small { result ≤ 2 ^ 80 }
 {
-    let mut held = 0u128;
-    for entered in records {
-        held += sent(entered, peer) as u128;
+    let mut total = 0u128;
+    for hold in holds {
+        total += held_for(hold, peer) as u128;
     }
-    held
+    total
 }
 
-/// What a peer owed when the period began, in its units.
-pub fn balance(opening: &Opening, peer: PeerNo) -> i64
-    ensures { result ≡ opening_balance (peer_numbered peer opening.now.peers) }
+/// What holds took from a peer, in its units.
+pub fn taken_in(holds: &[Hold], peer: PeerNo) -> u128
+    requires { length holds.now ≤ max_journal }
+    ensures value { result ≡ sum_by (taken_from peer) holds.now }
+    ensures small { result ≤ 2 ^ 80 }
 {
-    match peer_numbered(opening.peers.as_slice(), peer) {
+    let mut total = 0u128;
+    for hold in holds {
+        total += taken_from(hold, peer) as u128;
+    }
+    total
+}
+
+/// What holds took for a peer, in its units.
+pub fn taken_out(holds: &[Hold], peer: PeerNo) -> u128
+    requires { length holds.now ≤ max_journal }
+    ensures value { result ≡ sum_by (taken_for peer) holds.now }
+    ensures small { result ≤ 2 ^ 80 }
+{
+    let mut total = 0u128;
+    for hold in holds {
+        total += taken_for(hold, peer) as u128;
+    }
+    total
+}
+
+/// What a peer owes, in its units.
+pub fn balance(opening: &Opening, holds: &[Hold], peer: PeerNo) -> i128
+    requires { length holds.now ≤ max_journal }
+    ensures value { result ≡ (opening_balance (peer_numbered peer opening.now.peers)
+        +ℤ pos (sum_by (taken_from peer) holds.now)) -ℤ pos (sum_by (taken_for peer) holds.now) }
+    ensures most { result ≤ℤ pos (2 ^ 90) }
+    ensures least { neg_ℤ (pos (2 ^ 90)) ≤ℤ result }
+{
+    let first = match peer_numbered(opening.peers.as_slice(), peer) {
         Some(peer) => peer.balance,
         None => 0,
-    }
+    };
+    first as i128 + taken_in(holds, peer) as i128 - taken_out(holds, peer) as i128
 }
 
 /// Whether one of that balance, from whom so much is held, would owe more than the ceiling.
-pub fn owes_more(balance: i64, held: u128, ceiling: u64) -> bool
-    requires { held ≤ 2 ^ 100 }
+pub fn owes_more(balance: i128, held: u128, ceiling: u64) -> bool
+    requires most { balance ≤ℤ pos (2 ^ 90) }
+    requires least { neg_ℤ (pos (2 ^ 90)) ≤ℤ balance }
+    requires held { held ≤ 2 ^ 100 }
     ensures { result ≡ int_lt (pos ceiling) (balance +ℤ pos held) }
 {
-    let owed = balance as i128 + held as i128;
-    owed > ceiling as i128
+    balance + held as i128 > ceiling as i128
 }
 
 /// Whether one of that balance, for whom so much is held, would be owed more than the credit.
-pub fn is_owed_more(balance: i64, held: u128, credit: u64) -> bool
-    requires { held ≤ 2 ^ 100 }
+pub fn is_owed_more(balance: i128, held: u128, credit: u64) -> bool
+    requires most { balance ≤ℤ pos (2 ^ 90) }
+    requires least { neg_ℤ (pos (2 ^ 90)) ≤ℤ balance }
+    requires held { held ≤ 2 ^ 100 }
     ensures { result ≡ int_lt (balance -ℤ pos held) (neg_ℤ (pos credit)) }
 {
-    let left = balance as i128 - held as i128;
-    left < -(credit as i128)
+    balance - (held as i128) < -(credit as i128)
 }

@@ -3,7 +3,8 @@
 ghost use Rattle.std.specs.Prelude.{◌≡◌};
 ghost use Rattle.std.specs.List.{list_any, list_all};
 ghost use Rattle.std.specs.Str.{bytes_eq};
-ghost use Rattle.tenant_core.specs.Setup.{are_terms_within, is_peer_within, names_differ, tokens_differ};
+ghost use Rattle.tenant_core.specs.Setup.{are_limits_within, is_bucket_within, are_terms_within, is_peer_within};
+ghost use Rattle.tenant_core.specs.Setup.{names_differ, tokens_differ};
 ghost use Rattle.tenant_core.specs.Setup.{are_peers_within, are_times_within, are_routes_within, is_rate_within};
 ghost use Rattle.tenant_core.specs.Setup.{pairs_differ, are_rates_within, is_tenant_setup};
 ghost use Rattle.tenant_core.specs.Routing.{is_for_pair};
@@ -11,7 +12,7 @@ ghost use Rattle.tenant_core.specs.Routing.{is_for_pair};
 use crate::limits::{
     MAX_BURST, MAX_HOLD, MAX_JOURNAL, MAX_MARGIN, MAX_MONEY, MAX_PEERS, MAX_PER_SECOND, MAX_RATES,
 };
-use crate::terms::{NewPeer, PeerTerms, RateTerms, TenantTerms};
+use crate::terms::{BucketTerms, NewPeer, PeerLimits, PeerTerms, RateTerms, TenantTerms};
 use route_table::{PeerNo, Routes};
 
 fn has_name(peer: &NewPeer, name: &[u8]) -> bool
@@ -60,15 +61,22 @@ fn tokens_differ(peers: &[NewPeer]) -> bool
     }
 }
 
+fn are_limits_within(limits: &PeerLimits) -> bool
+    ensures { result ≡ are_limits_within limits.now }
+{
+    limits.cap <= MAX_MONEY && limits.ceiling <= MAX_MONEY && limits.credit <= MAX_MONEY
+}
+
+fn is_bucket_within(bucket: &BucketTerms) -> bool
+    ensures { result ≡ is_bucket_within bucket.now }
+{
+    1 <= bucket.burst && bucket.burst <= MAX_BURST && bucket.per_second <= MAX_PER_SECOND
+}
+
 fn are_terms_within(terms: &PeerTerms) -> bool
     ensures { result ≡ are_terms_within terms.now }
 {
-    terms.cap <= MAX_MONEY
-        && terms.ceiling <= MAX_MONEY
-        && terms.credit <= MAX_MONEY
-        && 1 <= terms.burst
-        && terms.burst <= MAX_BURST
-        && terms.per_second <= MAX_PER_SECOND
+    are_limits_within(&terms.limits) && is_bucket_within(&terms.bucket)
 }
 
 fn is_peer_within(peer: &NewPeer) -> bool

@@ -16,6 +16,24 @@ pub enum Role {
     Peer,
 }
 
+/// How far a peer is trusted, in its units.
+#[derive(Clone, Copy)]
+pub struct PeerLimits {
+    /// The greatest amount of one packet.
+    pub cap: u64,
+    /// The most that the peer may owe.
+    pub ceiling: u64,
+    /// The most that may be owed to the peer.
+    pub credit: u64,
+}
+
+/// How many packets of a peer pass: so many at once, and so many a second after that.
+#[derive(Clone, Copy)]
+pub struct BucketTerms {
+    pub burst: u32,
+    pub per_second: u32,
+}
+
 /// What is agreed with a peer.
 #[derive(Drop)]
 pub struct PeerTerms {
@@ -29,15 +47,8 @@ pub struct PeerTerms {
     /// The code of the peer's asset, and how many decimal places a unit of it has.
     pub asset: Text<16>,
     pub scale: u8,
-    /// The greatest amount of one packet, in the peer's units.
-    pub cap: u64,
-    /// The most that the peer may owe, in its units.
-    pub ceiling: u64,
-    /// The most that may be owed to the peer, in its units.
-    pub credit: u64,
-    /// How many packets at once, and how many a second after that.
-    pub burst: u32,
-    pub per_second: u32,
+    pub limits: PeerLimits,
+    pub bucket: BucketTerms,
 }
 
 impl PeerTerms {
@@ -53,11 +64,8 @@ impl PeerTerms {
             out_token: self.out_token.copy(),
             asset: self.asset.copy(),
             scale: self.scale,
-            cap: self.cap,
-            ceiling: self.ceiling,
-            credit: self.credit,
-            burst: self.burst,
-            per_second: self.per_second,
+            limits: self.limits,
+            bucket: self.bucket,
         }
     }
 }

@@ -1,5 +1,8 @@
 //! What a tenant answers to a packet.
 
+ghost use Rattle.std.specs.Prelude.{◌≡◌};
+ghost use Rattle.tenant_core.specs.Judge.{refuse};
+
 use route_table::PeerNo;
 
 /// Why a packet is refused, by the error codes of the protocol (RFC 0027, "Error Codes").
@@ -7,19 +10,25 @@ use route_table::PeerNo;
 pub enum RejectCode {
     /// F02: no peer leads to the destination.
     Unreachable,
+    /// F05: the fulfillment that came back does not fit the condition.
+    WrongCondition,
     /// F08: the amount is over what a peer may send or be sent in one packet.
     AmountTooLarge,
-    /// T03: as many packets are held as the tenant can hold.
+    /// T01: the next peer gave no answer.
+    PeerUnreachable,
+    /// T03: as many packets await their answers as may at once.
     Busy,
     /// T04: the sender would owe too much, or the next peer be owed too much.
     InsufficientLiquidity,
     /// T05: the sender brings packets faster than was agreed.
     RateLimited,
+    /// R00: the packet expired before its answer came.
+    TimedOut,
     /// R02: the packet expires too soon.
     InsufficientTimeout,
 }
 
-/// The answer to a Prepare.
+/// The answer to a Prepare, or what becomes of an answer.
 #[derive(Clone, Copy, Debug, PartialEq, Eq)]
 pub enum Verdict {
     /// The token is no peer's of this tenant. Nothing was recorded.
@@ -39,16 +48,27 @@ pub enum Verdict {
         amount: u64,
         expiry: u64,
     },
+    /// The answer goes back to the sender as it came.
+    Relay,
 }
 
 impl Verdict {
-    ghost use Rattle.std.specs.Prelude.{◌≡◌};
-    ghost use Rattle.tenant_core.specs.State.{is_forward};
+    ghost use Rattle.tenant_core.specs.Holds.{is_relay};
 
-    /// Whether the packet goes on.
-    pub fn is_forward(&self) -> bool
-        ensures { result ≡ is_forward self.now }
+    /// Whether an answer goes back as it came.
+    pub fn is_relay(&self) -> bool
+        ensures { result ≡ is_relay self.now }
     {
-        matches!(self, Verdict::Forward { .. })
+        matches!(self, Verdict::Relay)
+    }
+}
+
+/// A refusal that names no amounts.
+pub fn refuse(code: RejectCode) -> Verdict
+    ensures { result ≡ refuse code }
+{
+    Verdict::Refuse {
+        code,
+        amounts: None,
     }
 }

@@ -1,10 +1,10 @@
 use Rattle.std.proofs.Common.{◌≡◌, ◌≤◌, ◌*◌, ◌^◌, take, sum_by}
-use Rattle.tenant_core.specs.Purse.{sent_by}
+use Rattle.tenant_core.specs.Purse.{held_for}
 use Rattle.tenant_core.proofs.purse.held_out.Given as goal
 
-abbrev pub invariant-loop-entered : goal.invariant-loop-entered
-invariant-loop-entered l =
+abbrev pub invariant-loop-hold : goal.invariant-loop-hold
+invariant-loop-hold l =
     record {
-      sum : l.held ≡ sum_by (λ r. sent_by l.peer r.outcome) (take l.entered-index l.records);
-      small : l.held ≤ l.entered-index * 2 ^ 64;
+      sum : l.total ≡ sum_by (held_for l.peer) (take l.hold-index l.holds);
+      small : l.total ≤ l.hold-index * 2 ^ 64;
     }
