@@ -6,15 +6,19 @@ use Rattle.std.proofs.lemmas.Bool.{eq-eqb}
 use Rattle.ilp_view.specs.Packet.{Prepare}
 use Rattle.tenant_core.specs.declared.opening.Opening.{Opening}
 use Rattle.tenant_core.specs.declared.verdict.Verdict.{Verdict}
-use Rattle.tenant_core.specs.declared.verdict.Verdict.TheVariants.{Unknown, NoRoom, Refuse, Forward}
+use Rattle.tenant_core.specs.declared.verdict.Verdict.TheVariants.{Unknown, NoRoom, Refuse, Forward, Relay}
 use Rattle.tenant_core.specs.Judge.{judge}
+use Rattle.tenant_core.specs.Answer.{answer_to}
+use Rattle.tenant_core.specs.declared.faults.HoldFault.{HoldFault}
+use Rattle.floor_core.specs.declared.step.Given.{Given}
+use Rattle.floor_core.specs.World.{answer_key, bytes_given, said_back, settled_reply, answer_reply, answer_after, answer_owner, hands_told}
 use Rattle.floor_core.specs.World.{FitsIn, arrival, Stage, Tenant, Event, Hand, Owner, number_of, key_in, said, arrive_reply, arrive_after, decide_reply, decide_after, reply_alone, after_alone}
 use Rattle.floor_core.specs.World.{run_alone, load_owner, decide_owner, owner, awaiting, told, worker_of, hands_after, owners, own_steps, seen_by, NobodysAreRight, AreOutputs, all_free}
 use Rattle.floor_core.specs.declared.step.Malformed.{Malformed}
 use Rattle.floor_core.specs.declared.step.Step.{Step}
-use Rattle.floor_core.specs.declared.step.Step.TheVariants.{Load, Decide}
+use Rattle.floor_core.specs.declared.step.Step.TheVariants.{Load, Decide, Answer, Tick}
 use Rattle.floor_core.specs.declared.step.Output.{Output}
-use Rattle.floor_core.specs.declared.step.Output.TheVariants.{Busy, Idle, Loaded, Bad, Stranger, Reply, Send}
+use Rattle.floor_core.specs.declared.step.Output.TheVariants.{Busy, Idle, Loaded, Bad, Stranger, Reply, Send, Ticked}
 use Rattle.floor_core.proofs.Runs.{says, leaves}
 
 -- a call in hand is tenant 0's
@@ -32,6 +36,7 @@ OwnOutput (Bad t _) = Unit {0}
 OwnOutput (Stranger t) = Unit {0}
 OwnOutput (Reply t bytes) = Unit {0}
 OwnOutput (Send t peer hold frame) = Unit {0}
+OwnOutput (Ticked t answer) = Unit {0}
 
 awaiting_own : (h : Hand) → OwnHand h → OwnHand (awaiting h)
 awaiting_own Hand.Free z = tt
@@ -46,15 +51,21 @@ told_own h (Bad t _) z o = z
 told_own h (Stranger t) z o = tt
 told_own h (Reply t bytes) z o = tt
 told_own h (Send t peer hold frame) z o = awaiting_own h z
+told_own h (Ticked t answer) z o = z
 
-hands_own : (hands : ℕ → Hand) (s : Step) (x : Output) → ((w : ℕ) → OwnHand (hands w)) → OwnOutput x → (w : ℕ) → OwnHand (hands_after hands s x w)
-hands_own hands s x z o w = by (eqb w (worker_of s))
+told_hands_own : (hands : ℕ → Hand) (worker : Option ℕ) (x : Output) → ((w : ℕ) → OwnHand (hands w)) → OwnOutput x → (w : ℕ) → OwnHand (hands_told hands worker x w)
+told_hands_own hands None x z o w = z w
+told_hands_own hands (Some worker) x z o w = by (eqb w worker)
   where
-    by : (b : Bool) → OwnHand (cond b (told (hands (worker_of s)) x) (hands w))
-    by true = told_own (hands (worker_of s)) x (z (worker_of s)) o
+    by : (b : Bool) → OwnHand (cond b (told (hands worker) x) (hands w))
+    by true = told_own (hands worker) x (z worker) o
     by false = z w
 
+hands_own : (hands : ℕ → Hand) (s : Step) (x : Output) → ((w : ℕ) → OwnHand (hands w)) → OwnOutput x → (w : ℕ) → OwnHand (hands_after hands s x w)
+hands_own hands s x z o = told_hands_own hands (worker_of s) x z o
+
 said_own : (o : Opening) (p : Prepare) (v : Verdict) → OwnOutput (said o p v)
+said_own o p Relay = tt
 said_own o p Unknown = tt
 said_own o p NoRoom = tt
 said_own o p (Refuse code amounts) = tt
@@ -69,9 +80,27 @@ decide_own t None now = tt
 decide_own t (Some (Stage.Ready token p)) now = said_own t.book.opening p (judge t.book token (key_in p) now)
 decide_own t (Some (Stage.Sent hold)) now = tt
 
+back_own : (o : Opening) (bytes : List ℕ) (v : Verdict) → OwnOutput (said_back o bytes v)
+back_own o bytes Relay = tt
+back_own o bytes (Refuse code amounts) = tt
+back_own o bytes Unknown = tt
+back_own o bytes NoRoom = tt
+back_own o bytes (Forward hold peer amount expiry) = tt
+
+settled_own : (o : Opening) (given : Given) (r : Result Verdict HoldFault) → OwnOutput (settled_reply o given r)
+settled_own o given (Ok v) = back_own o (bytes_given given) v
+settled_own o given (Err f) = tt
+
+answer_own : (t : Tenant) (stage : Option Stage) (now : ℕ) (given : Given) → OwnOutput (answer_reply t stage now given)
+answer_own t None now given = tt
+answer_own t (Some (Stage.Ready token p)) now given = tt
+answer_own t (Some (Stage.Sent hold)) now given = settled_own t.book.opening given (answer_to t.book hold now (answer_key given))
+
 reply_own : (t : Tenant) (e : Event) → number_of t ≡ 0 → OwnOutput (reply_alone t e)
 reply_own t (Event.Arrives token bytes) z = arrive_own t (arrival token bytes) z
 reply_own t (Event.Decides call now) z = decide_own t (t.calls call) now
+reply_own t (Event.Answers call now given) z = answer_own t (t.calls call) now given
+reply_own t (Event.Ticks now) z = tt
 
 arrive_number : (t : Tenant) (token : List ℕ) (r : Result Prepare Malformed) → number_of (arrive_after t token r) ≡ number_of t
 arrive_number t token (Ok p) = refl
@@ -82,9 +111,16 @@ decide_number t call None now = refl
 decide_number t call (Some (Stage.Ready token p)) now = refl
 decide_number t call (Some (Stage.Sent hold)) now = refl
 
+answer_number : (t : Tenant) (call : ℕ) (stage : Option Stage) (now : ℕ) (given : Given) → number_of (answer_after t call stage now given) ≡ number_of t
+answer_number t call None now given = refl
+answer_number t call (Some (Stage.Ready token p)) now given = refl
+answer_number t call (Some (Stage.Sent hold)) now given = refl
+
 number_stays : (t : Tenant) (e : Event) → number_of (after_alone t e) ≡ number_of t
 number_stays t (Event.Arrives token bytes) = arrive_number t token (arrival token bytes)
 number_stays t (Event.Decides call now) = decide_number t call (t.calls call) now
+number_stays t (Event.Answers call now given) = answer_number t call (t.calls call) now given
+number_stays t (Event.Ticks now) = refl
 
 -- whose steps are: tenant 0's, or nobody's with an output that takes no call
 abbrev IsOurs : Owner → Type 0
@@ -101,9 +137,16 @@ decide_ours Hand.Free now z = tt
 decide_ours (Hand.Has t call) now z = z
 decide_ours (Hand.Awaits t call) now z = tt
 
+answer_ours : (h : Hand) (now : ℕ) (given : Given) → OwnHand h → IsOurs (answer_owner h now given)
+answer_ours Hand.Free now given z = tt
+answer_ours (Hand.Has t call) now given z = tt
+answer_ours (Hand.Awaits t call) now given z = z
+
 owner_ours : (hands : ℕ → Hand) (s : Step) → ((w : ℕ) → OwnHand (hands w)) → FitsIn 1 1 s → IsOurs (owner hands s)
 owner_ours hands (Load worker tenant token bytes) z fits = let own : tenant ≡ 0 = omega arith in load_ours (hands worker) tenant token bytes (z worker) own
 owner_ours hands (Decide worker now) z fits = decide_ours (hands worker) now (z worker)
+owner_ours hands (Answer worker now given) z fits = answer_ours (hands worker) now given (z worker)
+owner_ours hands (Tick tenant now) z fits = let own : tenant ≡ 0 = omega arith in own
 
 -- a list of outputs that the tenant's own steps and nobody's determine
 record Determined (t : Tenant) (os : List Owner) (xs : List Output) : Type 0 where

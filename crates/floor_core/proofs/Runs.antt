@@ -1,5 +1,5 @@
 -- Each step of the runner is the step of the one-tenant connector that it shows.
-use Rattle.std.proofs.Common.{◌≡◌, ◌≤◌, ◌+◌, ℕ, suc, List, [], ◌∷◌, ◌++◌, length, drop, Bool, true, false, cond, eqb, None, Result, Ok, Err, refl, sym, ap, subst, ◌∙◌, arith}
+use Rattle.std.proofs.Common.{◌≡◌, ◌≤◌, ◌+◌, ℕ, suc, List, [], ◌∷◌, ◌++◌, length, drop, max, Bool, true, false, cond, eqb, Option, Some, None, Result, Ok, Err, refl, sym, ap, subst, ◌∙◌, arith}
 use Rattle.std.specs.Prelude.{if◌then◌else◌, ◌==◌, is_ok}
 use Rattle.std.specs.List.{All, AllByRecursion}
 use Rattle.std.proofs.lemmas.List.{append-nil, drop_all}
@@ -9,20 +9,29 @@ use Rattle.ilp_view.specs.declared.fault.ViewFault.{ViewFault}
 use Rattle.ilp_view.specs.Packet.{Prepare}
 use Rattle.ilp_view.specs.Reading.{prepare_at}
 use Rattle.common_types.specs.Token.{is_token}
-use Rattle.tenant_core.specs.State.{State}
+use Rattle.tenant_core.specs.State.{State, clock_of}
+use Rattle.tenant_core.specs.Holds.{open_hold}
+use Rattle.tenant_core.specs.Answer.{answer_to, answered, settled, is_late, is_misfit, is_fault, tick_result, ticked}
+use Rattle.tenant_core.specs.declared.faults.HoldFault.{HoldFault}
+use Rattle.tenant_core.specs.declared.hold.Hold.{Hold}
+use Rattle.tenant_core.specs.declared.journal.AnswerKey.{AnswerKey}
+use Rattle.tenant_core.specs.declared.verdict.RejectCode.{RejectCode}
+use Rattle.tenant_core.specs.declared.verdict.RejectCode.TheVariants.{WrongCondition, PeerUnreachable, TimedOut}
+use Rattle.floor_core.specs.declared.step.Given.{Given}
 use Rattle.floor_core.specs.declared.step.Malformed.{Malformed}
 use Rattle.floor_core.specs.declared.step.Malformed.TheVariants as malformed
 use Rattle.tenant_core.specs.Judge.{judge, decided}
 use Rattle.tenant_core.specs.declared.opening.Opening.{Opening}
 use Rattle.tenant_core.specs.declared.verdict.Verdict.{Verdict}
-use Rattle.tenant_core.specs.declared.verdict.Verdict.TheVariants.{Unknown, NoRoom, Refuse, Forward}
-use Rattle.floor_core.specs.World.{Tenant, Hand, Owner, put, key_in, said, stage_after, reply_alone, after_alone, run_alone, left_alone, owner, told, hands_after, owners, own_steps, seen_by}
-use Rattle.floor_core.specs.World.{NobodysAreRight, AreOutputs, IsLeft, FitsIn, packet_or_fault, arrival}
-use Rattle.floor_core.specs.Runner.{Run, stage_of_frame, calls_of, shown_tenant, shown_hand, shown_hands, carried_after, output_of, moved, outputs_of, run_after, IsReadable}
+use Rattle.tenant_core.specs.declared.verdict.Verdict.TheVariants.{Unknown, NoRoom, Refuse, Forward, Relay}
+use Rattle.floor_core.specs.World.{answer_key, settled_reply, calls_settled, Stage, Tenant, Hand, Owner, put, key_in, said, stage_after, reply_alone, after_alone, run_alone, left_alone, owner, told}
+use Rattle.floor_core.specs.World.{hands_after, owners, own_steps, seen_by}
+use Rattle.floor_core.specs.World.{NobodysAreRight, AreOutputs, IsLeft, FitsIn, packet_or_fault, malformed_by, arrival}
+use Rattle.floor_core.specs.Runner.{carried_settled, Run, stage_of_frame, calls_of, shown_tenant, shown_hand, shown_hands, carried_after, output_of, moved, outputs_of, run_after, IsReadable}
 use Rattle.floor_core.specs.declared.carried.Carried.{Carried}
 use Rattle.floor_core.specs.declared.carried.Carried.TheVariants.{Nothing, Ready, Waiting}
 use Rattle.floor_core.specs.declared.step.Step.{Step}
-use Rattle.floor_core.specs.declared.step.Step.TheVariants.{Load, Decide}
+use Rattle.floor_core.specs.declared.step.Step.TheVariants.{Load, Decide, Answer, Tick}
 use Rattle.floor_core.specs.declared.step.Output.{Output}
 
 -- what an owner's step is answered, and what it leaves of the tenant
@@ -70,19 +79,41 @@ no_choice c d = λ i n. by (eqb n c) i
     by true = refl
     by false = refl
 
+-- an answer is settled by the verdicts on answers alone
+abbrev IsSettling : Result Verdict HoldFault → Type 0
+IsSettling (Ok Relay) = Unit {0}
+IsSettling (Ok (Refuse code amounts)) = Unit {0}
+IsSettling (Ok _) = ⊥
+IsSettling (Err f) = Unit {0}
+
+chosen_settles : (b : Bool) (code : RejectCode) (v : Verdict) → IsSettling (Ok v) → IsSettling (Ok (cond b (Refuse code None) v))
+chosen_settles true code v s = tt
+chosen_settles false code v s = s
+
+settled_settles : (o : Option Hold) (clock : ℕ) (k : AnswerKey) → IsSettling (settled o clock k)
+settled_settles None clock k = tt
+settled_settles (Some h) clock k =
+    chosen_settles (is_late h clock) TimedOut _ (chosen_settles (is_misfit k h.condition) WrongCondition _ (chosen_settles (is_fault k) PeerUnreachable Relay tt))
+
+settles : (b : State) (hold now : ℕ) (k : AnswerKey) → IsSettling (answer_to b hold now k)
+settles b hold now k = settled_settles (open_hold b hold) (max (clock_of b) now) k
+
 told_by : (o : Opening) (p : Prepare) (call : ℕ) (v : Verdict) → shown_hand (carried_after call v) ≡ told (Hand.Has 0 call) (said o p v)
+told_by o p call Relay = refl
 told_by o p call Unknown = refl
 told_by o p call NoRoom = refl
 told_by o p call (Refuse code amounts) = refl
 told_by o p call (Forward hold peer amount expiry) = refl
 
 calls_by : (call : ℕ) (v : Verdict) → calls_of (carried_after call v) ≡ at_one call (stage_after v) None
+calls_by call Relay = sym (no_choice call None)
 calls_by call Unknown = sym (no_choice call None)
 calls_by call NoRoom = sym (no_choice call None)
 calls_by call (Refuse code amounts) = sym (no_choice call None)
 calls_by call (Forward hold peer amount expiry) = refl
 
 readable_by : (call : ℕ) (v : Verdict) → IsReadable (carried_after call v)
+readable_by call Relay = tt
 readable_by call Unknown = tt
 readable_by call NoRoom = tt
 readable_by call (Refuse code amounts) = tt
@@ -148,6 +179,41 @@ decides b n Nothing now h = record { output = refl; tenant = refl; hands = same_
 decides b n (Ready call token frame) now h = decides_ready b n call now token frame (prepare_at frame) refl h
 decides b n (Waiting call hold) now h = record { output = refl; tenant = refl; hands = same_hands b n (Waiting call hold); owned = tt; readable = tt; numbered = refl }
 
+-- what is settled is no call any more
+settled_calls : (call hold : ℕ) (r : Result Verdict HoldFault) → calls_of (carried_settled (Waiting call hold) r) ≡ calls_settled (calls_of (Waiting call hold)) call r
+settled_calls call hold (Ok v) = sym (no_choice call None) ∙ sym (put_over call (Some (Stage.Sent hold)) None None)
+settled_calls call hold (Err f) = refl
+
+-- and the worker is free, where it was told so
+settled_hand : (o : Opening) (call hold : ℕ) (given : Given) (r : Result Verdict HoldFault) → IsSettling r
+    → shown_hand (carried_settled (Waiting call hold) r) ≡ told (Hand.Awaits 0 call) (settled_reply o given r)
+settled_hand o call hold given (Ok Relay) s = refl
+settled_hand o call hold given (Ok (Refuse code amounts)) s = refl
+settled_hand o call hold given (Ok Unknown) s = absurd s
+settled_hand o call hold given (Ok NoRoom) s = absurd s
+settled_hand o call hold given (Ok (Forward n peer amount expiry)) s = absurd s
+settled_hand o call hold given (Err f) s = refl
+
+settled_readable : (call hold : ℕ) (r : Result Verdict HoldFault) → IsReadable (carried_settled (Waiting call hold) r)
+settled_readable call hold (Ok v) = tt
+settled_readable call hold (Err f) = tt
+
+answers : (b : State) (n : ℕ) (c : Carried) (now : ℕ) (given : Given) → IsReadable c → Simulates (run b n c) (Answer 0 now given)
+answers b n Nothing now given h = record { output = refl; tenant = refl; hands = same_hands b n Nothing; owned = tt; readable = tt; numbered = refl }
+answers b n (Ready call token frame) now given h = record { output = refl; tenant = refl; hands = same_hands b n (Ready call token frame); owned = tt; readable = h; numbered = refl }
+answers b n (Waiting call hold) now given h =
+    let here : eqb call call ≡ true = eq-eqb call call refl in
+    let r = answer_to b hold now (answer_key given) in
+    let calls = settled_calls call hold r in
+    record {
+      output = rw here refl;
+      tenant = rw here (λ i. record { book = answered b hold now (answer_key given); next_call = n; calls = calls i });
+      hands = sym (put_over 0 (Hand.Awaits 0 call) (shown_hand (carried_settled (Waiting call hold) r)) Hand.Free) ∙ ap (put (shown_hands (run b n (Waiting call hold))) 0) (settled_hand b.opening call hold given r (settles b hold now (answer_key given)));
+      owned = refl;
+      readable = settled_readable call hold r;
+      numbered = refl;
+    }
+
 -- each step of the runner is the step of its tenant
 pub simulates : (r : Run) (step : Step) → r.book.opening.tenant ≡ 0 → IsReadable r.carried → FitsIn 1 1 step → Simulates r step
 simulates r (Load worker tenant token bytes) z h ours =
@@ -157,6 +223,12 @@ simulates r (Load worker tenant token bytes) z h ours =
 simulates r (Decide worker now) z h ours =
     let first : worker ≡ 0 = omega arith in
     rw first (decides r.book r.next_call r.carried now h)
+simulates r (Answer worker now given) z h ours =
+    let first : worker ≡ 0 = omega arith in
+    rw first (answers r.book r.next_call r.carried now given h)
+simulates r (Tick tenant now) z h ours =
+    let own : tenant ≡ 0 = omega arith in
+    record { output = refl; tenant = refl; hands = refl; owned = own; readable = h; numbered = refl }
 
 -- one step more in front
 seen_more : (t : Tenant) (o : Owner) (x : Output) (os : List Owner) (xs : List Output) → IsOwned o → x ≡ says t o → seen_by 0 os xs ≡ run_alone (leaves t o) (own_steps 0 os)

@@ -7,15 +7,18 @@ use Rattle.ilp_view.specs.Reading.{prepare_at}
 use Rattle.floor_core.specs.declared.step.Malformed.{Malformed}
 use Rattle.tenant_core.specs.State.{State}
 use Rattle.tenant_core.specs.Judge.{judge, decided}
+use Rattle.tenant_core.specs.Answer.{answer_to, answered, tick_result, ticked}
+use Rattle.tenant_core.specs.declared.faults.HoldFault.{HoldFault}
 use Rattle.tenant_core.specs.declared.verdict.Verdict.{Verdict}
-use Rattle.tenant_core.specs.declared.verdict.Verdict.TheVariants.{Unknown, NoRoom, Refuse, Forward}
-use Rattle.floor_core.specs.World.{Stage, Tenant, Hand, arrival, key_in, said, arrive_reply}
+use Rattle.tenant_core.specs.declared.verdict.Verdict.TheVariants.{Forward}
+use Rattle.floor_core.specs.World.{Stage, Tenant, Hand, arrival, key_in, said, arrive_reply, answer_key, settled_reply}
 use Rattle.floor_core.specs.declared.carried.Carried.{Carried}
 use Rattle.floor_core.specs.declared.carried.Carried.TheVariants.{Nothing, Ready, Waiting}
+use Rattle.floor_core.specs.declared.step.Given.{Given}
 use Rattle.floor_core.specs.declared.step.Step.{Step}
-use Rattle.floor_core.specs.declared.step.Step.TheVariants.{Load, Decide}
+use Rattle.floor_core.specs.declared.step.Step.TheVariants.{Load, Decide, Answer, Tick}
 use Rattle.floor_core.specs.declared.step.Output.{Output}
-use Rattle.floor_core.specs.declared.step.Output.TheVariants.{Busy, Idle}
+use Rattle.floor_core.specs.declared.step.Output.TheVariants.{Busy, Idle, Ticked}
 
 -- what contracts see of a runner: the tenant's book and the number of its next call, and what the worker carries
 pub record Run : Type 0 where
@@ -50,10 +53,8 @@ shown_hands r = λ w. if w == 0 then shown_hand r.carried else Hand.Free
 
 -- what is carried after that verdict
 abbrev pub carried_after : ℕ → Verdict → Carried
-carried_after call Unknown = Nothing
-carried_after call NoRoom = Nothing
-carried_after call (Refuse code amounts) = Nothing
 carried_after call (Forward hold peer amount expiry) = Waiting call hold
+carried_after call _ = Nothing
 
 -- what a load puts out
 abbrev pub load_output : Run → Carried → List ℕ → List ℕ → Output
@@ -98,15 +99,40 @@ decide_moved r Nothing now = r
 decide_moved r (Ready call token frame) now = packet_moved r call token (prepare_at frame) now
 decide_moved r (Waiting call hold) now = r
 
+-- what an answer puts out
+abbrev pub answer_output : Run → Carried → ℕ → Given → Output
+answer_output r (Waiting call hold) now given =
+    settled_reply r.book.opening given (answer_to r.book hold now (answer_key given))
+answer_output r _ now given = Idle
+
+-- what is carried once a hold was settled
+abbrev pub carried_settled : Carried → Result Verdict HoldFault → Carried
+carried_settled carried (Ok v) = Nothing
+carried_settled carried (Err f) = carried
+
+-- what an answer leaves
+abbrev pub answer_moved : Run → Carried → ℕ → Given → Run
+answer_moved r (Waiting call hold) now given =
+    record {
+      book = answered r.book hold now (answer_key given);
+      next_call = r.next_call;
+      carried = carried_settled (Waiting call hold) (answer_to r.book hold now (answer_key given));
+    }
+answer_moved r _ now given = r
+
 -- what a step puts out
 abbrev pub output_of : Run → Step → Output
 output_of r (Load worker tenant token bytes) = load_output r r.carried token bytes
 output_of r (Decide worker now) = decide_output r r.carried now
+output_of r (Answer worker now given) = answer_output r r.carried now given
+output_of r (Tick tenant now) = Ticked r.book.opening.tenant (tick_result r.book now)
 
 -- what a step leaves
 abbrev pub moved : Run → Step → Run
 moved r (Load worker tenant token bytes) = load_moved r r.carried token bytes
 moved r (Decide worker now) = decide_moved r r.carried now
+moved r (Answer worker now given) = answer_moved r r.carried now given
+moved r (Tick tenant now) = record r { book = ticked r.book now }
 
 -- what steps put out
 abbrev pub outputs_of : Run → List Step → List Output

@@ -5,22 +5,28 @@ use Rattle.common_types.specs.Token.{is_token}
 use Rattle.ilp_addr.specs.Timestamp.{moment_of, timestamp_of}
 use Rattle.ilp_view.specs.declared.fault.ViewFault.{ViewFault}
 use Rattle.ilp_view.specs.declared.fault.ViewFault.TheVariants as fault
-use Rattle.ilp_view.specs.Packet.{Prepare, with_amount_and_expiry}
-use Rattle.ilp_view.specs.Reading.{prepare_at}
+use Rattle.ilp_view.specs.Packet.{Prepare, Fulfill, Reject, with_amount_and_expiry}
+use Rattle.ilp_view.specs.Reading.{prepare_at, fulfill_at, reject_at}
 use Rattle.tenant_core.specs.Key.{Key}
 use Rattle.tenant_core.specs.State.{State, peer_numbered}
 use Rattle.tenant_core.specs.Judge.{judge, decided}
+use Rattle.tenant_core.specs.Answer.{answer_to, answered, tick_result, ticked}
+use Rattle.tenant_core.specs.declared.faults.HoldFault.{HoldFault}
+use Rattle.tenant_core.specs.declared.journal.AnswerKey.{AnswerKey}
+use Rattle.tenant_core.specs.declared.journal.AnswerKey.TheVariants as key
 use Rattle.tenant_core.specs.declared.opening.Opening.{Opening}
 use Rattle.tenant_core.specs.declared.opening.Peer.{Peer}
 use Rattle.tenant_core.specs.declared.verdict.Verdict.{Verdict}
-use Rattle.tenant_core.specs.declared.verdict.Verdict.TheVariants.{Unknown, NoRoom, Refuse, Forward}
+use Rattle.tenant_core.specs.declared.verdict.Verdict.TheVariants.{Unknown, NoRoom, Refuse, Forward, Relay}
 use Rattle.floor_core.specs.Replies.{busy_reply, refusal_reply}
 use Rattle.floor_core.specs.declared.step.Malformed.{Malformed}
 use Rattle.floor_core.specs.declared.step.Malformed.TheVariants as malformed
+use Rattle.floor_core.specs.declared.step.Given.{Given}
+use Rattle.floor_core.specs.declared.step.Given.TheVariants.{Bytes, Fault}
 use Rattle.floor_core.specs.declared.step.Step.{Step}
-use Rattle.floor_core.specs.declared.step.Step.TheVariants.{Load, Decide}
+use Rattle.floor_core.specs.declared.step.Step.TheVariants.{Load, Decide, Answer, Tick}
 use Rattle.floor_core.specs.declared.step.Output.{Output}
-use Rattle.floor_core.specs.declared.step.Output.TheVariants.{Busy, Idle, Loaded, Bad, Stranger, Reply, Send}
+use Rattle.floor_core.specs.declared.step.Output.TheVariants.{Busy, Idle, Loaded, Bad, Stranger, Reply, Send, Ticked}
 
 -- where a call stands that has not ended: its packet may be decided, or went on and awaits its answer
 pub data Stage : Type 0 where
@@ -33,10 +39,13 @@ pub record Tenant : Type 0 where
   pub next_call : ℕ
   pub calls : ℕ → Option Stage
 
--- what happens to one tenant: bytes arrive with a token, and a call is decided
+-- what happens to one tenant: bytes arrive with a token, a call is decided, what came back for a call that was sent on
+-- settles it, and a moment is handed in
 pub data Event : Type 0 where
   Arrives : (token bytes : List ℕ) → Event
   Decides : (call now : ℕ) → Event
+  Answers : (call now : ℕ) (given : Given) → Event
+  Ticks : (now : ℕ) → Event
 
 -- the function f with v at k
 abbrev pub put : {A : Type 0} → (ℕ → A) → ℕ → A → ℕ → A
@@ -91,13 +100,12 @@ said o p NoRoom = Reply o.tenant (busy_reply o.address)
 said o p (Refuse code amounts) = Reply o.tenant (refusal_reply o.address code amounts)
 said o p (Forward hold peer amount expiry) =
     Send o.tenant (peer_name (peer_numbered peer o.peers)) hold (with_amount_and_expiry p amount (timestamp_of expiry))
+said o p Relay = Reply o.tenant []
 
 -- the call after that verdict: it awaits its answer where the packet went on, else it has ended
 abbrev pub stage_after : Verdict → Option Stage
-stage_after Unknown = None
-stage_after NoRoom = None
-stage_after (Refuse code amounts) = None
 stage_after (Forward hold peer amount expiry) = Some (Sent hold)
+stage_after _ = None
 
 -- what an arrival is answered with
 abbrev pub arrive_reply : Tenant → Result Prepare Malformed → Output
@@ -131,15 +139,67 @@ decide_after s call (Some (Ready token p)) now =
     }
 decide_after s call (Some (Sent hold)) now = s
 
+-- what came back, if it was an answer of the protocol: a Fulfill, or else a Reject (RFC 0027)
+abbrev pub key_read : Result Fulfill ViewFault → Result Reject ViewFault → AnswerKey
+key_read (Ok p) other = key.Fulfilled p.fulfillment
+key_read (Err f) (Ok p) = key.Rejected
+key_read (Err f) (Err g) = key.Fault
+
+-- what the tenant settles a packet by: bytes that are neither a Fulfill nor a Reject are a fault
+abbrev pub answer_key : Given → AnswerKey
+answer_key (Bytes bytes) = key_read (fulfill_at bytes) (reject_at bytes)
+answer_key Fault = key.Fault
+
+-- the bytes that came back
+abbrev pub bytes_given : Given → List ℕ
+bytes_given (Bytes bytes) = bytes
+bytes_given Fault = []
+
+-- what the sender of a packet is told once it is settled: the bytes that came back, or why it is refused
+abbrev pub said_back : Opening → List ℕ → Verdict → Output
+said_back o bytes Relay = Reply o.tenant bytes
+said_back o bytes (Refuse code amounts) = Reply o.tenant (refusal_reply o.address code amounts)
+said_back o bytes _ = Idle
+
+-- what is said of an answer to a hold; of one that awaits none, nothing
+abbrev pub settled_reply : Opening → Given → Result Verdict HoldFault → Output
+settled_reply o given (Ok v) = said_back o (bytes_given given) v
+settled_reply o given (Err f) = Idle
+
+-- what the answer to a call is answered with
+abbrev pub answer_reply : Tenant → Option Stage → ℕ → Given → Output
+answer_reply s (Some (Sent hold)) now given =
+    settled_reply s.book.opening given (answer_to s.book hold now (answer_key given))
+answer_reply s _ now given = Idle
+
+-- a call has ended once its hold was settled
+abbrev pub calls_settled : (ℕ → Option Stage) → ℕ → Result Verdict HoldFault → ℕ → Option Stage
+calls_settled calls call (Ok v) = put calls call None
+calls_settled calls call (Err f) = calls
+
+-- what the answer to a call leaves
+abbrev pub answer_after : Tenant → ℕ → Option Stage → ℕ → Given → Tenant
+answer_after s call (Some (Sent hold)) now given =
+    record {
+      book = answered s.book hold now (answer_key given);
+      next_call = s.next_call;
+      calls = calls_settled s.calls call (answer_to s.book hold now (answer_key given));
+    }
+answer_after s call _ now given = s
+
 -- the one-tenant connector: what it says to an event
 abbrev pub reply_alone : Tenant → Event → Output
 reply_alone s (Arrives token bytes) = arrive_reply s (arrival token bytes)
 reply_alone s (Decides call now) = decide_reply s (s.calls call) now
+reply_alone s (Answers call now given) = answer_reply s (s.calls call) now given
+reply_alone s (Ticks now) = Ticked (number_of s) (tick_result s.book now)
 
 -- the one-tenant connector: where an event leaves it
 abbrev pub after_alone : Tenant → Event → Tenant
 after_alone s (Arrives token bytes) = arrive_after s token (arrival token bytes)
 after_alone s (Decides call now) = decide_after s call (s.calls call) now
+after_alone s (Answers call now given) = answer_after s call (s.calls call) now given
+after_alone s (Ticks now) = record s { book = ticked s.book now }
 
 -- what the one-tenant connector says to events, one after the other
 abbrev pub run_alone : Tenant → List Event → List Output
@@ -174,10 +234,17 @@ decide_owner Free now = Nobody Idle
 decide_owner (Has t call) now = Own t (Decides call now)
 decide_owner (Awaits t call) now = Nobody Idle
 
--- whose a step is, by what its worker has in hand
+-- an answer is to the call in hand, where that awaits one
+abbrev pub answer_owner : Hand → ℕ → Given → Owner
+answer_owner (Awaits t call) now given = Own t (Answers call now given)
+answer_owner _ now given = Nobody Idle
+
+-- whose a step is, by what its worker has in hand; a tick is the tenant's that it names
 abbrev pub owner : (ℕ → Hand) → Step → Owner
 owner hands (Load worker tenant token bytes) = load_owner (hands worker) tenant token bytes
 owner hands (Decide worker now) = decide_owner (hands worker) now
+owner hands (Answer worker now given) = answer_owner (hands worker) now given
+owner hands (Tick tenant now) = Own tenant (Ticks now)
 
 -- a call that was sent awaits its answer
 abbrev pub awaiting : Hand → Hand
@@ -194,15 +261,23 @@ told hand (Bad t _) = hand
 told hand (Stranger t) = Free
 told hand (Reply t bytes) = Free
 told hand (Send t peer hold frame) = awaiting hand
+told hand (Ticked t answer) = hand
 
--- the worker of a step
-abbrev pub worker_of : Step → ℕ
-worker_of (Load worker tenant token bytes) = worker
-worker_of (Decide worker now) = worker
+-- the worker of a step, if it is one's
+abbrev pub worker_of : Step → Option ℕ
+worker_of (Load worker tenant token bytes) = Some worker
+worker_of (Decide worker now) = Some worker
+worker_of (Answer worker now given) = Some worker
+worker_of (Tick tenant now) = None
+
+-- what the workers have in hand once one of them was told this
+abbrev pub hands_told : (ℕ → Hand) → Option ℕ → Output → ℕ → Hand
+hands_told hands (Some worker) output = put hands worker (told (hands worker) output)
+hands_told hands None output = hands
 
 -- what the workers have in hand after a step with that output
 abbrev pub hands_after : (ℕ → Hand) → Step → Output → ℕ → Hand
-hands_after hands step output = put hands (worker_of step) (told (hands (worker_of step)) output)
+hands_after hands step output = hands_told hands (worker_of step) output
 
 -- whose each step is, as the workers were told
 abbrev pub owners : (ℕ → Hand) → List Step → List Output → List Owner
@@ -234,6 +309,8 @@ NobodysAreRight (Nobody o ∷ os) (x ∷ xs) = (x ≡ o) × NobodysAreRight os x
 abbrev pub FitsIn : ℕ → ℕ → Step → Type 0
 FitsIn workers tenants (Load worker tenant token bytes) = (worker < workers) × (tenant < tenants)
 FitsIn workers tenants (Decide worker now) = worker < workers
+FitsIn workers tenants (Answer worker now given) = worker < workers
+FitsIn workers tenants (Tick tenant now) = tenant < tenants
 
 -- workers that have nothing in hand
 abbrev pub all_free : ℕ → Hand

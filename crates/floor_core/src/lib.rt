@@ -8,4 +8,4 @@ mod runner;
 mod step;
 
 pub use runner::Runner;
-pub use step::{Malformed, Output, Step};
+pub use step::{Given, Malformed, Output, Step};

@@ -18,10 +18,13 @@ fn code_of(code: RejectCode) -> &'static [u8; 3]
 {
     match code {
         RejectCode::Unreachable => b"F02",
+        RejectCode::WrongCondition => b"F05",
         RejectCode::AmountTooLarge => b"F08",
+        RejectCode::PeerUnreachable => b"T01",
         RejectCode::Busy => b"T03",
         RejectCode::InsufficientLiquidity => b"T04",
         RejectCode::RateLimited => b"T05",
+        RejectCode::TimedOut => b"R00",
         RejectCode::InsufficientTimeout => b"R02",
     }
 }
@@ -32,10 +35,13 @@ fn message_of(code: RejectCode) -> &'static [u8]
 {
     match code {
         RejectCode::Unreachable => b"unreachable",
+        RejectCode::WrongCondition => b"wrong condition",
         RejectCode::AmountTooLarge => b"amount too large",
+        RejectCode::PeerUnreachable => b"peer unreachable",
         RejectCode::Busy => b"connector busy",
         RejectCode::InsufficientLiquidity => b"insufficient liquidity",
         RejectCode::RateLimited => b"rate limited",
+        RejectCode::TimedOut => b"transfer timed out",
         RejectCode::InsufficientTimeout => b"insufficient timeout",
     }
 }

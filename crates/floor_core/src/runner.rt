@@ -5,18 +5,18 @@ ghost use Rattle.common_types.specs.Token.{is_token};
 ghost use Rattle.ilp_addr.specs.Timestamp.{latest_expiry};
 ghost use Rattle.tenant_core.specs.State.{peer_numbered};
 ghost use Rattle.tenant_core.specs.Judge.{judge, decided, IsSooner};
-ghost use Rattle.floor_core.specs.World.{said, malformed_by, peer_name, key_in};
+ghost use Rattle.floor_core.specs.World.{said, said_back, malformed_by, peer_name, key_in, answer_key, bytes_given};
 ghost use Rattle.floor_core.specs.Runner.{carried_after};
 
 use crate::carried::Carried;
 use crate::replies::{busy_reply, refusal_reply};
-use crate::step::{Malformed, Output, Step};
+use crate::step::{Given, Malformed, Output, Step};
 use common_types::{Bytes, Text, is_token};
 use ilp_addr::Moment;
-use ilp_view::{PrepareView, ViewFault};
+use ilp_view::{FulfillView, PrepareView, RejectView, ViewFault};
 use std::alloc::{AllocError, Global};
 use std::marker::Model;
-use tenant_core::{Book, PeerNo, PrepareKey, Verdict};
+use tenant_core::{AnswerKey, Book, PeerNo, PrepareKey, Verdict};
 
 /// One tenant's book and one worker. Contracts see what they show to the one-tenant connector.
 #[derive(Drop)]
@@ -67,9 +67,12 @@ fn token_text(bytes: &[u8]) -> Option<Text<64>>
 impl Runner {
     ghost use Rattle.std.specs.Prelude.{◌≡◌, ◌≤◌, ◌<◌, ◌+◌, ◌^◌, IfOk, length};
     ghost use Rattle.floor_core.specs.Runner.{Run, output_of, moved, outputs_of, run_after, load_output, load_moved};
-    ghost use Rattle.floor_core.specs.Runner.{decide_output, decide_moved, shown_tenant, shown_hands};
+    ghost use Rattle.floor_core.specs.Runner.{decide_output, decide_moved, answer_output, answer_moved, shown_tenant};
+    ghost use Rattle.floor_core.specs.Runner.{shown_hands};
     ghost use Rattle.std.specs.Prelude.{All};
     ghost use Rattle.floor_core.specs.World.{FitsIn};
+    ghost use Rattle.tenant_core.specs.Answer.{tick_result, ticked};
+    ghost use Rattle.floor_core.specs.declared.step.Output.TheVariants.{Ticked};
     ghost use Rattle.floor_core.specs.World.{AreOutputs, IsLeft, new_tenant, all_free};
 
     /// The runner of a book of tenant 0, with nothing in hand.
@@ -99,6 +102,8 @@ impl Runner {
                 self.load(alloc, token.as_slice(), bytes.as_slice())
             }
             Step::Decide { now, .. } => self.decide(alloc, *now),
+            Step::Answer { now, given, .. } => self.answer(alloc, *now, given),
+            Step::Tick { now, .. } => Ok(self.tick(*now)),
         }
     }
 
@@ -167,6 +172,79 @@ impl Runner {
         self.carried = carried_after(call, verdict);
         Ok(output)
     }
+
+    fn tick(&mut self, now: Moment) -> Output
+        ensures output { result ≡ Ticked self.old.book.opening.tenant (tick_result self.old.book now) }
+        ensures moved { self.new ≡ record self.old { book = ticked self.old.book now } }
+        ensures counted { self.new.next_call ≡ self.old.next_call }
+    {
+        let tenant = self.book.tenant();
+        let answer = self.book.tick(now);
+        Output::Ticked { tenant, answer }
+    }
+
+    fn answer(&mut self, alloc: Global, now: Moment, given: &Given) -> Result<Output, AllocError>
+        ensures output { IfOk result (λ output. output ≡ answer_output self.old self.old.carried now given.now) }
+        ensures moved { IfOk result (λ output. self.new ≡ answer_moved self.old self.old.carried now given.now) }
+        ensures counted { self.new.next_call ≡ self.old.next_call }
+    {
+        let Carried::Waiting { hold, .. } = &self.carried else {
+            return Ok(Output::Idle);
+        };
+        let Ok(verdict) = self.book.answer(*hold, now, answer_key(given)) else {
+            return Ok(Output::Idle);
+        };
+        self.carried = Carried::Nothing;
+        said_back(alloc, &self.book, given, verdict)
+    }
+}
+
+// What the tenant settles a packet by.
+fn answer_key(given: &Given) -> AnswerKey
+    ensures { result ≡ answer_key given.now }
+{
+    let Given::Bytes(bytes) = given else {
+        return AnswerKey::Fault;
+    };
+    if let Ok(fulfill) = FulfillView::read(bytes.as_slice()) {
+        return AnswerKey::Fulfilled(fulfill.fulfillment().try_into().unwrap());
+    }
+    match RejectView::read(bytes.as_slice()) {
+        Ok(_) => AnswerKey::Rejected,
+        Err(_) => AnswerKey::Fault,
+    }
+}
+
+// What the sender of a packet is told once it is settled.
+fn said_back(
+    alloc: Global,
+    book: &Book,
+    given: &Given,
+    verdict: Verdict,
+) -> Result<Output, AllocError>
+    ensures { IfOk result (λ output. output ≡ said_back book.now.opening (bytes_given given.now) verdict) }
+{
+    let tenant = book.tenant();
+    Ok(match verdict {
+        Verdict::Relay => Output::Reply {
+            tenant,
+            bytes: Bytes::from_vec(Vec::from_slice(alloc, bytes_given(given))?),
+        },
+        Verdict::Refuse { code, amounts } => Output::Reply {
+            tenant,
+            bytes: refusal_reply(alloc, book.address(), code, amounts)?,
+        },
+        Verdict::Unknown | Verdict::NoRoom | Verdict::Forward { .. } => Output::Idle,
+    })
+}
+
+fn bytes_given(given: &Given) -> &[u8]
+    ensures { result.now ≡ bytes_given given.now }
+{
+    match given {
+        Given::Bytes(bytes) => bytes.as_slice(),
+        Given::Fault => &[],
+    }
 }
 
 fn carried_after(call: u64, verdict: Verdict) -> Carried
@@ -174,7 +252,9 @@ fn carried_after(call: u64, verdict: Verdict) -> Carried
 {
     match verdict {
         Verdict::Forward { hold, .. } => Carried::Waiting { call, hold },
-        Verdict::Unknown | Verdict::NoRoom | Verdict::Refuse { .. } => Carried::Nothing,
+        Verdict::Unknown | Verdict::NoRoom | Verdict::Refuse { .. } | Verdict::Relay => {
+            Carried::Nothing
+        }
     }
 }
 
@@ -231,6 +311,10 @@ fn said(
             peer: peer_name(book, peer),
             hold,
             frame: Bytes::from_vec(packet.forwarded(alloc, amount, expiry)?),
+        },
+        Verdict::Relay => Output::Reply {
+            tenant,
+            bytes: Bytes::from_vec(Vec::new(alloc)),
         },
     })
 }

@@ -2,6 +2,7 @@
 
 use common_types::{Bytes, Text};
 use ilp_addr::Moment;
+use tenant_core::BookFault;
 
 /// What a worker is to do.
 #[derive(Drop)]
@@ -22,6 +23,26 @@ pub enum Step {
         worker: usize,
         now: Moment,
     },
+    /// The tenant whose packet a worker sent on settles it by what the next peer gave, at this moment.
+    Answer {
+        worker: usize,
+        now: Moment,
+        given: Given,
+    },
+    /// A tenant is told the moment, and gives up what is overdue.
+    Tick {
+        tenant: usize,
+        now: Moment,
+    },
+}
+
+/// What came back from the next peer.
+#[derive(Drop)]
+pub enum Given {
+    /// Bytes as they came, of whatever kind.
+    Bytes(Bytes),
+    /// No answer.
+    Fault,
 }
 
 /// Why a tenant can't take what was loaded, in the order in which it is looked for.
@@ -47,7 +68,7 @@ pub enum Malformed {
 pub enum Output {
     /// The worker has a packet in hand already.
     Busy,
-    /// The worker has no packet to decide.
+    /// The worker has no packet to decide, or none that awaits an answer.
     Idle,
     /// The frame was taken, as the call of that number of its tenant.
     Loaded {
@@ -74,5 +95,10 @@ pub enum Output {
         peer: Text<32>,
         hold: u64,
         frame: Bytes,
+    },
+    /// How many packets are overdue since this tick, or that the journal has no place for it.
+    Ticked {
+        tenant: usize,
+        answer: Result<u32, BookFault>,
     },
 }
