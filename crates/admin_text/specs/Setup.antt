@@ -14,7 +14,9 @@ use Rattle.route_table.specs.Routes.{RouteMap}
 use Rattle.tenant_core.specs.Routing.{is_for_pair}
 use Rattle.tenant_core.specs.declared.terms.Role.{Role}
 use Rattle.tenant_core.specs.declared.terms.Role.TheVariants.{Child, Peer}
+use Rattle.tenant_core.specs.declared.terms.BucketTerms.{BucketTerms}
 use Rattle.tenant_core.specs.declared.terms.NewPeer.{NewPeer}
+use Rattle.tenant_core.specs.declared.terms.PeerLimits.{PeerLimits}
 use Rattle.tenant_core.specs.declared.terms.PeerTerms.{PeerTerms}
 use Rattle.tenant_core.specs.declared.terms.RateTerms.{RateTerms}
 use Rattle.tenant_core.specs.declared.terms.TenantTerms.{TenantTerms}
@@ -77,6 +79,21 @@ role_of word =
 unfoldable pub role_under : List ℕ → Members → Option Role
 role_under key members = string_under key members >>= role_of
 
+-- how far a peer is trusted
+abbrev pub peer_limits_of : Members → Option PeerLimits
+peer_limits_of t = do
+  cap ← number_under 64 (codes "cap") t
+  ceiling ← number_under 64 (codes "ceiling") t
+  credit ← number_under 64 (codes "credit") t
+  Some (record { cap = cap; ceiling = ceiling; credit = credit })
+
+-- how many packets of a peer pass
+abbrev pub bucket_terms_of : Members → Option BucketTerms
+bucket_terms_of t = do
+  burst ← number_under 32 (codes "burst") t
+  per_second ← number_under 32 (codes "per_second") t
+  Some (record { burst = burst; per_second = per_second })
+
 -- what is agreed with a peer
 unfoldable pub peer_terms_of : Members → Option PeerTerms
 peer_terms_of t = do
@@ -87,11 +104,8 @@ peer_terms_of t = do
   out_token ← text_under 64 (codes "out_token") t
   asset ← text_under 16 (codes "asset") t
   scale ← number_under 8 (codes "scale") t
-  cap ← number_under 64 (codes "cap") t
-  ceiling ← number_under 64 (codes "ceiling") t
-  credit ← number_under 64 (codes "credit") t
-  burst ← number_under 32 (codes "burst") t
-  per_second ← number_under 32 (codes "per_second") t
+  limits ← peer_limits_of t
+  bucket ← bucket_terms_of t
   Some (record {
     name = name;
     role = role;
@@ -100,11 +114,8 @@ peer_terms_of t = do
     out_token = out_token;
     asset = asset;
     scale = scale;
-    cap = cap;
-    ceiling = ceiling;
-    credit = credit;
-    burst = burst;
-    per_second = per_second;
+    limits = limits;
+    bucket = bucket;
   })
 
 -- a peer, with what it owes at the start

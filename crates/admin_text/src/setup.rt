@@ -8,7 +8,8 @@ ghost use Rattle.tenant_core.specs.Routing.{is_for_pair};
 ghost use Rattle.toml.specs.Data.{get_member, as_integer, as_str, as_table};
 ghost use Rattle.toml.specs.View.{view, items_view, array_view, table_view};
 ghost use Rattle.admin_text.specs.Setup.{string_under, text_under, integer_under, number_under, integer_or, number_or};
-ghost use Rattle.admin_text.specs.Setup.{array_under, items_under, role_of, role_under, peer_terms_of, peer_of};
+ghost use Rattle.admin_text.specs.Setup.{array_under, items_under, role_of, role_under, peer_of};
+ghost use Rattle.admin_text.specs.Setup.{peer_limits_of, bucket_terms_of, peer_terms_of};
 ghost use Rattle.admin_text.specs.Setup.{peer_in, peers_of, peers_of_tenant, place_of_peer, peer_under, written_prefix};
 ghost use Rattle.admin_text.specs.Setup.{with_route, with_route_of, with_route_in, with_routes_of, routes_of_tenant};
 ghost use Rattle.admin_text.specs.Setup.{rate_of, rate_in, with_rate, with_rates_of, rates_of_tenant, terms_of};
@@ -22,7 +23,9 @@ use ilp_addr::{Moment, Prefix};
 use money_core::Rate;
 use route_table::{RouteFault, Routes};
 use std::alloc::{AllocError, AllocFailed, Global};
-use tenant_core::{NewPeer, PeerNo, PeerTerms, RateTerms, Role, TenantSetup, TenantTerms};
+use tenant_core::{
+    BucketTerms, NewPeer, PeerLimits, PeerNo, PeerTerms, RateTerms, Role, TenantSetup, TenantTerms,
+};
 use thiserror::Error;
 use toml::{Table, Value};
 
@@ -170,6 +173,25 @@ fn role_under(table: &Table, key: &str) -> Option<Role>
     }
 }
 
+fn peer_limits_of(table: &Table) -> Option<PeerLimits>
+    ensures { result ≡ peer_limits_of (table_view table.now) }
+{
+    Some(PeerLimits {
+        cap: u64_under(table, "cap")?,
+        ceiling: u64_under(table, "ceiling")?,
+        credit: u64_under(table, "credit")?,
+    })
+}
+
+fn bucket_terms_of(table: &Table) -> Option<BucketTerms>
+    ensures { result ≡ bucket_terms_of (table_view table.now) }
+{
+    Some(BucketTerms {
+        burst: u32_under(table, "burst")?,
+        per_second: u32_under(table, "per_second")?,
+    })
+}
+
 #[tactic(auto, unfolding(crate::specs::Setup::peer_terms_of))]
 fn peer_terms_of(table: &Table) -> Option<PeerTerms>
     ensures { result ≡ peer_terms_of (table_view table.now) }
@@ -182,11 +204,8 @@ fn peer_terms_of(table: &Table) -> Option<PeerTerms>
         out_token: text_under(table, "out_token")?,
         asset: text_under(table, "asset")?,
         scale: u8_under(table, "scale")?,
-        cap: u64_under(table, "cap")?,
-        ceiling: u64_under(table, "ceiling")?,
-        credit: u64_under(table, "credit")?,
-        burst: u32_under(table, "burst")?,
-        per_second: u32_under(table, "per_second")?,
+        limits: peer_limits_of(table)?,
+        bucket: bucket_terms_of(table)?,
     })
 }
 

@@ -7,8 +7,8 @@ use Rattle.std.proofs.lemmas.Bool.{ltb-true, lt-ltb, and_parts}
 use Rattle.std.proofs.lemmas.Option.{cond_some, option_and_then_some}
 use Rattle.std.proofs.lemmas.List.Elements.{All-from_recursion}
 use Rattle.std.proofs.lemmas.List.Quantifiers.{position-Some}
-use Rattle.ilp_addr.specs.Timestamp.{last_moment}
-use Rattle.replay_text.specs.Script.{number_below, tenant_named, token_of, frame_of, load_of, decide_of, step_of_words, words_of, meaning_of, is_empty, is_numeral, value_of, is_skipped, then_steps}
+use Rattle.replay_text.specs.Script.{moment_spelled, given_of, answer_of, tick_of, step_behind, number_below, tenant_named, token_of, frame_of, load_of, decide_of, step_of_words, words_of, meaning_of}
+use Rattle.replay_text.specs.Script.{is_empty, is_numeral, value_of, is_skipped, then_steps}
 use Rattle.replay_text.specs.Script.{step_or_bad, steps_from, steps_of_script, lines_of}
 use Rattle.replay_text.specs.declared.script.Meaning.{Meaning}
 use Rattle.replay_text.specs.declared.script.Meaning.TheVariants.{Skipped, Runs, Bad}
@@ -17,15 +17,12 @@ use Rattle.std.specs.Global.{Vec}
 use Rattle.common_types.specs.Outcomes.{GivesUnlessMemory}
 use Rattle.floor_core.specs.World.{FitsIn}
 use Rattle.common_types.specs.declared.read_error.ReadError.{ReadError}
+use Rattle.replay_text.specs.Words.{two_of, three_of, four_of}
 use Rattle.floor_core.specs.declared.step.Step.{Step}
-use Rattle.floor_core.specs.declared.step.Step.TheVariants.{Load, Decide}
+use Rattle.floor_core.specs.declared.step.Step.TheVariants.{Load, Decide, Answer, Tick}
 
 some_is : {A : Type 0} (x y : A) → (let o : Option A = Some x in o) ≡ Some y → x ≡ y
 some_is x y e = cc
-
-chosen_or_none : {A : Type 0} (b : Bool) (o : Option A) (y : A) → cond b o None ≡ Some y → (b ≡ true) × (o ≡ Some y)
-chosen_or_none true o y e = (refl, e)
-chosen_or_none false o y e = absurd cc
 
 none_or_chosen : {A : Type 0} (b : Bool) (o : Option A) (y : A) → cond b None o ≡ Some y → o ≡ Some y
 none_or_chosen true o y e = absurd cc
@@ -41,28 +38,49 @@ tenant_fits : (names : List (List ℕ)) (word : List ℕ) (n : ℕ) → tenant_n
 tenant_fits names word n e =
     (position-Some (λ name. bytes_eq name word) names n [] (none_or_chosen (is_empty word) (position (λ name. bytes_eq name word) names) n e)).0
 
-load_fits : (names : List (List ℕ)) (workers : ℕ) (worker tenant token frame : List ℕ) (s : Step) → load_of names workers worker tenant token frame ≡ Some s → FitsIn workers (length names) s
-load_fits names workers worker tenant token frame s e =
-    option_and_then_some _ (number_below workers worker) s e (λ w w_is rest.
-    option_and_then_some _ (tenant_named names tenant) s rest (λ t t_is rest.
-    option_and_then_some _ (token_of token) s rest (λ k k_is rest.
-    option_and_then_some _ (frame_of frame) s rest (λ b b_is rest.
-    subst (FitsIn workers (length names)) (some_is (Load w t k b) s rest) (number_fits workers worker w w_is, tenant_fits names tenant t t_is)))))
+load_fits : (names : List (List ℕ)) (workers : ℕ) (words : List ℕ × List ℕ × List ℕ × List ℕ) (s : Step) → load_of names workers words ≡ Some s → FitsIn workers (length names) s
+load_fits names workers words s e =
+    option_and_then_some _ (number_below workers words.0) s e (λ w w_is rest.
+    option_and_then_some _ (tenant_named names words.1) s rest (λ t t_is rest.
+    option_and_then_some _ (token_of words.2) s rest (λ k k_is rest.
+    option_and_then_some _ (frame_of words.3) s rest (λ b b_is rest.
+    subst (FitsIn workers (length names)) (some_is (Load w t k b) s rest) (number_fits workers words.0 w w_is, tenant_fits names words.1 t t_is)))))
 
-decide_fits : (names : List (List ℕ)) (workers : ℕ) (worker now : List ℕ) (s : Step) → decide_of workers worker now ≡ Some s → FitsIn workers (length names) s
-decide_fits names workers worker now s e =
-    option_and_then_some _ (number_below workers worker) s e (λ w w_is rest.
-    option_and_then_some _ (number_below (last_moment + 1) now) s rest (λ n n_is rest.
-    subst (FitsIn workers (length names)) (some_is (Decide w n) s rest) (number_fits workers worker w w_is)))
+decide_fits : (names : List (List ℕ)) (workers : ℕ) (words : List ℕ × List ℕ) (s : Step) → decide_of workers words ≡ Some s → FitsIn workers (length names) s
+decide_fits names workers words s e =
+    option_and_then_some _ (number_below workers words.0) s e (λ w w_is rest.
+    option_and_then_some _ (moment_spelled words.1) s rest (λ n n_is rest.
+    subst (FitsIn workers (length names)) (some_is (Decide w n) s rest) (number_fits workers words.0 w w_is)))
+
+answer_fits : (names : List (List ℕ)) (workers : ℕ) (words : List ℕ × List ℕ × List ℕ) (s : Step) → answer_of workers words ≡ Some s → FitsIn workers (length names) s
+answer_fits names workers words s e =
+    option_and_then_some _ (number_below workers words.0) s e (λ w w_is rest.
+    option_and_then_some _ (moment_spelled words.1) s rest (λ n n_is rest.
+    option_and_then_some _ (given_of words.2) s rest (λ g g_is rest.
+    subst (FitsIn workers (length names)) (some_is (Answer w n g) s rest) (number_fits workers words.0 w w_is))))
+
+tick_fits : (names : List (List ℕ)) (workers : ℕ) (words : List ℕ × List ℕ) (s : Step) → tick_of names words ≡ Some s → FitsIn workers (length names) s
+tick_fits names workers words s e =
+    option_and_then_some _ (tenant_named names words.0) s e (λ t t_is rest.
+    option_and_then_some _ (moment_spelled words.1) s rest (λ n n_is rest.
+    subst (FitsIn workers (length names)) (some_is (Tick t n) s rest) (tenant_fits names words.0 t t_is)))
+
+-- the first of two choices, or the second
+either : {P : Type 0} (b : Bool) (x y : Option Step) (s : Step) → (x ≡ Some s → P) → (y ≡ Some s → P) → cond b x y ≡ Some s → P
+either true x y s f g e = f e
+either false x y s f g e = g e
+
+behind_fits : (names : List (List ℕ)) (workers : ℕ) (verb : List ℕ) (words : List (List ℕ)) (s : Step) → step_behind names workers verb words ≡ Some s → FitsIn workers (length names) s
+behind_fits names workers verb words s e =
+    either (bytes_eq verb (codes "load")) _ _ s (λ e. option_and_then_some _ (four_of words) s e (λ w w_is rest. load_fits names workers w s rest))
+    (either (bytes_eq verb (codes "decide")) _ _ s (λ e. option_and_then_some _ (two_of words) s e (λ w w_is rest. decide_fits names workers w s rest))
+    (either (bytes_eq verb (codes "answer")) _ _ s (λ e. option_and_then_some _ (three_of words) s e (λ w w_is rest. answer_fits names workers w s rest))
+    (either (bytes_eq verb (codes "tick")) _ _ s (λ e. option_and_then_some _ (two_of words) s e (λ w w_is rest. tick_fits names workers w s rest))
+    (λ e. absurd cc)))) e
 
 step_fits : (names : List (List ℕ)) (workers : ℕ) (words : List (List ℕ)) (s : Step) → step_of_words names workers words ≡ Some s → FitsIn workers (length names) s
 step_fits names workers [] s e = absurd cc
-step_fits names workers (a ∷ []) s e = absurd cc
-step_fits names workers (a ∷ b ∷ []) s e = absurd cc
-step_fits names workers (verb ∷ worker ∷ now ∷ []) s e = decide_fits names workers worker now s (chosen_or_none (bytes_eq verb (codes "decide")) (decide_of workers worker now) s e).1
-step_fits names workers (a ∷ b ∷ c ∷ d ∷ []) s e = absurd cc
-step_fits names workers (verb ∷ worker ∷ tenant ∷ token ∷ frame ∷ []) s e = load_fits names workers worker tenant token frame s (chosen_or_none (bytes_eq verb (codes "load")) (load_of names workers worker tenant token frame) s e).1
-step_fits names workers (a ∷ b ∷ c ∷ d ∷ e ∷ f ∷ g) s h = absurd cc
+step_fits names workers (verb ∷ words) s e = behind_fits names workers verb words s e
 
 abbrev MeaningFits : ℕ → ℕ → Meaning → Type 0
 MeaningFits workers tenants Skipped = Unit {0}

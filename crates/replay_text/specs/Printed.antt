@@ -1,12 +1,14 @@
 -- The lines that a replay prints: one for each output, ended by a line feed.
-use Rattle.std.specs.Prelude.{ℕ, List, [], ◌∷◌, ◌++◌, slice_index_or, codes}
+use Rattle.std.specs.Prelude.{ℕ, List, [], ◌∷◌, ◌++◌, slice_index_or, codes, Result, Ok, Err}
 use Rattle.std.specs.List.{flat_map}
 use Rattle.std.specs.Fmt.{decimal}
 use Rattle.hex.specs.Hex.{encode_lower}
+use Rattle.tenant_core.specs.declared.faults.BookFault.{BookFault}
+use Rattle.tenant_core.specs.declared.faults.BookFault.TheVariants.{Full}
 use Rattle.floor_core.specs.declared.step.Malformed.{Malformed}
 use Rattle.floor_core.specs.declared.step.Malformed.TheVariants.{Token, Kind, Oer, Field, AfterEnd, Size}
 use Rattle.floor_core.specs.declared.step.Output.{Output}
-use Rattle.floor_core.specs.declared.step.Output.TheVariants.{Busy, Idle, Loaded, Bad, Stranger, Reply, Send}
+use Rattle.floor_core.specs.declared.step.Output.TheVariants.{Busy, Idle, Loaded, Bad, Stranger, Reply, Send, Ticked}
 
 -- the name of a tenant, or nothing where no tenant has that number
 abbrev pub name_of : List (List ℕ) → ℕ → List ℕ
@@ -21,6 +23,11 @@ word_of Field = codes "field"
 word_of AfterEnd = codes "after"
 word_of Size = codes "size"
 
+-- the words of a tick's answer
+abbrev pub tick_text : Result ℕ BookFault → List ℕ
+tick_text (Ok count) = codes " ticked " ++ decimal count
+tick_text (Err Full) = codes " refused full"
+
 -- the words of an output
 abbrev pub line_text : List (List ℕ) → Output → List ℕ
 line_text names Busy = codes "- busy"
@@ -28,6 +35,7 @@ line_text names Idle = codes "- idle"
 line_text names (Loaded tenant call) = name_of names tenant ++ codes " loaded " ++ decimal call
 line_text names (Bad tenant kind) = name_of names tenant ++ codes " bad " ++ word_of kind
 line_text names (Stranger tenant) = name_of names tenant ++ codes " stranger"
+line_text names (Ticked tenant answer) = name_of names tenant ++ tick_text answer
 line_text names (Reply tenant bytes) = name_of names tenant ++ codes " reply " ++ encode_lower bytes
 line_text names (Send tenant peer hold frame) =
     name_of names tenant ++ codes " send " ++ peer ++ codes " " ++ decimal hold ++ codes " " ++ encode_lower frame

@@ -1,6 +1,7 @@
 -- Replay scripts: ASCII lines of words, each line a step of a worker.
 use Rattle.std.specs.Prelude.{◌≡◌, ℕ, ◌+◌, ◌-◌, ◌*◌, List, [], ◌∷◌, ◌++◌, length, fold, Bool, true, false, not}
 use Rattle.std.specs.Prelude.{◌&&◌, ◌||◌, ◌==◌, nat_lt, if◌then◌else◌, Option, Some, None}
+use Rattle.std.specs.Prelude.{option_map}
 use Rattle.std.specs.Prelude.{Result, Ok, Err, codes}
 use Rattle.std.specs.List.{slice_split, list_all, position, filter_map, AllByRecursion}
 use Rattle.std.specs.Str.{bytes_eq}
@@ -10,8 +11,11 @@ use Rattle.ilp_addr.specs.Timestamp.{last_moment}
 use Rattle.common_types.specs.OptionChain.{◌>>=◌}
 use Rattle.common_types.specs.Numbers.{is_between}
 use Rattle.common_types.specs.Token.{is_token}
+use Rattle.floor_core.specs.declared.step.Given.{Given}
+use Rattle.floor_core.specs.declared.step.Given.TheVariants.{Bytes, Fault}
 use Rattle.floor_core.specs.declared.step.Step.{Step}
-use Rattle.floor_core.specs.declared.step.Step.TheVariants.{Load, Decide}
+use Rattle.replay_text.specs.Words.{two_of, three_of, four_of}
+use Rattle.floor_core.specs.declared.step.Step.TheVariants.{Load, Decide, Answer, Tick}
 use Rattle.replay_text.specs.declared.script.ScriptFault.{ScriptFault}
 use Rattle.replay_text.specs.declared.script.ScriptFault.TheVariants.{Size, Line}
 use Rattle.replay_text.specs.declared.script.Meaning.{Meaning}
@@ -67,29 +71,58 @@ frame_of word =
     if bytes_eq word (codes "-") then Some []
     else (if is_empty word then None else result_ok (decode_of word))
 
--- `load W TENANT TOKEN HEX`
-abbrev pub load_of : List (List ℕ) → ℕ → List ℕ → List ℕ → List ℕ → List ℕ → Option Step
-load_of names workers worker tenant token frame = do
-  w ← number_below workers worker
-  t ← tenant_named names tenant
-  k ← token_of token
-  bytes ← frame_of frame
-  Some (Load w t k bytes)
+-- the moment that a word spells
+abbrev pub moment_spelled : List ℕ → Option ℕ
+moment_spelled word = number_below (last_moment + 1) word
 
--- `decide W NOW`
-abbrev pub decide_of : ℕ → List ℕ → List ℕ → Option Step
-decide_of workers worker now = do
-  w ← number_below workers worker
-  n ← number_below (last_moment + 1) now
-  Some (Decide w n)
+-- what came back, as a word says it: `fault`, or bytes
+abbrev pub given_of : List ℕ → Option Given
+given_of word = if bytes_eq word (codes "fault") then Some Fault else option_map (λ bytes. Bytes bytes) (frame_of word)
 
--- the step that the words of a line spell
+-- the words behind `load`: W TENANT TOKEN HEX
+abbrev pub load_of : List (List ℕ) → ℕ → List ℕ × List ℕ × List ℕ × List ℕ → Option Step
+load_of names workers words = do
+  worker ← number_below workers words.0
+  tenant ← tenant_named names words.1
+  token ← token_of words.2
+  bytes ← frame_of words.3
+  Some (Load worker tenant token bytes)
+
+-- the words behind `decide`: W NOW
+abbrev pub decide_of : ℕ → List ℕ × List ℕ → Option Step
+decide_of workers words = do
+  worker ← number_below workers words.0
+  now ← moment_spelled words.1
+  Some (Decide worker now)
+
+-- the words behind `answer`: W NOW HEX, or W NOW fault
+abbrev pub answer_of : ℕ → List ℕ × List ℕ × List ℕ → Option Step
+answer_of workers words = do
+  worker ← number_below workers words.0
+  now ← moment_spelled words.1
+  given ← given_of words.2
+  Some (Answer worker now given)
+
+-- the words behind `tick`: TENANT NOW
+abbrev pub tick_of : List (List ℕ) → List ℕ × List ℕ → Option Step
+tick_of names words = do
+  tenant ← tenant_named names words.0
+  now ← moment_spelled words.1
+  Some (Tick tenant now)
+
+-- the step that a verb and the words behind it spell
+abbrev pub step_behind : List (List ℕ) → ℕ → List ℕ → List (List ℕ) → Option Step
+step_behind names workers verb words =
+    if bytes_eq verb (codes "load") then four_of words >>= load_of names workers
+    else (if bytes_eq verb (codes "decide") then two_of words >>= decide_of workers
+    else (if bytes_eq verb (codes "answer") then three_of words >>= answer_of workers
+    else (if bytes_eq verb (codes "tick") then two_of words >>= tick_of names
+    else None)))
+
+-- the step that the words of a line spell: it is picked by the first of them
 abbrev pub step_of_words : List (List ℕ) → ℕ → List (List ℕ) → Option Step
-step_of_words names workers (verb ∷ worker ∷ tenant ∷ token ∷ frame ∷ []) =
-    if bytes_eq verb (codes "load") then load_of names workers worker tenant token frame else None
-step_of_words names workers (verb ∷ worker ∷ now ∷ []) =
-    if bytes_eq verb (codes "decide") then decide_of workers worker now else None
-step_of_words names workers _ = None
+step_of_words names workers [] = None
+step_of_words names workers (verb ∷ words) = step_behind names workers verb words
 
 -- empty lines and comments are skipped
 abbrev pub is_skipped : List ℕ → Bool

@@ -3,11 +3,12 @@
 ghost use Rattle.std.specs.Prelude.{◌≡◌, ◌++◌, ◌∷◌, [], IfOk, OnOk, codes};
 ghost use Rattle.std.specs.Fmt.{decimal};
 ghost use Rattle.hex.specs.Hex.{encode_lower};
-ghost use Rattle.replay_text.specs.Printed.{name_of, word_of, line_text, line_of, printed_lines};
+ghost use Rattle.replay_text.specs.Printed.{name_of, word_of, tick_text, line_text, line_of, printed_lines};
 
 use common_types::Text;
 use floor_core::{Malformed, Output};
 use std::alloc::{AllocError, Global};
+use tenant_core::BookFault;
 
 fn name_of(names: &[Text<32>], tenant: usize) -> &[u8]
     ensures { result.now ≡ name_of names.now tenant }
@@ -53,8 +54,8 @@ fn put_send(
     hold: u64,
     frame: &[u8],
 ) -> Result<(), AllocError>
-    ensures { OnOk result (out.new.items
-        ≡ out.old.items ++ codes " send " ++ peer.now ++ codes " " ++ decimal hold ++ codes " " ++ encode_lower frame.now) }
+    ensures { OnOk result (out.new.items ≡ out.old.items
+        ++ codes " send " ++ peer.now ++ codes " " ++ decimal hold ++ codes " " ++ encode_lower frame.now) }
 {
     out.extend_from_slice(b" send ")?;
     out.extend_from_slice(peer)?;
@@ -62,6 +63,36 @@ fn put_send(
     put_decimal(alloc, out, hold)?;
     out.push(b' ')?;
     put_hex(alloc, out, frame)
+}
+
+// What is said of a tick, behind the tenant's name.
+fn put_ticked(
+    alloc: Global,
+    out: &mut Vec<u8>,
+    answer: Result<u32, BookFault>,
+) -> Result<(), AllocError>
+    ensures { OnOk result (out.new.items ≡ out.old.items ++ tick_text answer) }
+{
+    match answer {
+        Ok(count) => {
+            out.extend_from_slice(b" ticked ")?;
+            put_decimal(alloc, out, count as u64)
+        }
+        Err(BookFault::Full) => out.extend_from_slice(b" refused full"),
+    }
+}
+
+// The tenant's name, and words behind it.
+fn put_named(
+    names: &[Text<32>],
+    tenant: usize,
+    out: &mut Vec<u8>,
+    words: &[u8],
+) -> Result<(), AllocError>
+    ensures { OnOk result (out.new.items ≡ out.old.items ++ name_of names.now tenant ++ words.now) }
+{
+    out.extend_from_slice(name_of(names, tenant))?;
+    out.extend_from_slice(words)
 }
 
 fn put_text(
@@ -76,23 +107,21 @@ fn put_text(
         Output::Busy => out.extend_from_slice(b"- busy"),
         Output::Idle => out.extend_from_slice(b"- idle"),
         Output::Loaded { tenant, call } => {
-            out.extend_from_slice(name_of(names, *tenant))?;
-            out.extend_from_slice(b" loaded ")?;
+            put_named(names, *tenant, out, b" loaded ")?;
             put_decimal(alloc, out, *call)
         }
         Output::Bad { tenant, kind } => {
-            out.extend_from_slice(name_of(names, *tenant))?;
-            out.extend_from_slice(b" bad ")?;
+            put_named(names, *tenant, out, b" bad ")?;
             out.extend_from_slice(word_of(*kind))
         }
-        Output::Stranger { tenant } => {
-            out.extend_from_slice(name_of(names, *tenant))?;
-            out.extend_from_slice(b" stranger")
-        }
+        Output::Stranger { tenant } => put_named(names, *tenant, out, b" stranger"),
         Output::Reply { tenant, bytes } => {
-            out.extend_from_slice(name_of(names, *tenant))?;
-            out.extend_from_slice(b" reply ")?;
+            put_named(names, *tenant, out, b" reply ")?;
             put_hex(alloc, out, bytes.as_slice())
+        }
+        Output::Ticked { tenant, answer } => {
+            out.extend_from_slice(name_of(names, *tenant))?;
+            put_ticked(alloc, out, *answer)
         }
         Output::Send {
             tenant,

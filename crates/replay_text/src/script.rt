@@ -1,18 +1,19 @@
 //! Replay scripts: what each line has a worker do.
 
 ghost use Rattle.std.specs.Prelude.{◌≡◌, ◌==◌, ◌<◌, ◌≤◌, ◌↔◌, ℕ, List, Ok, Err, ◌∷◌, length, ◌≢◌, [], option_copied};
-ghost use Rattle.std.specs.Prelude.{option_map, min, nat_lt, IfOk, All};
+ghost use Rattle.std.specs.Prelude.{option_map, option_and_then, min, nat_lt, IfOk, All};
 ghost use Rattle.std.specs.List.{position, list_all};
 ghost use Rattle.std.specs.Str.{bytes_eq};
 ghost use Rattle.replay_text.specs.Script.{lines_of, words_of, is_digit, is_numeral, value_of, number_below};
-ghost use Rattle.replay_text.specs.Script.{tenant_named, token_of, frame_of, load_of, decide_of, step_of_words};
+ghost use Rattle.replay_text.specs.Script.{tenant_named, token_of, frame_of, load_of, decide_of, answer_of, tick_of};
+ghost use Rattle.replay_text.specs.Script.{given_of, moment_spelled, step_behind, step_of_words};
 ghost use Rattle.replay_text.specs.Script.{is_skipped, meaning_of, steps_from, steps_of_script, AreSteps, IsFirstBad};
 ghost use Rattle.common_types.specs.Outcomes.{GivesUnlessMemory};
 ghost use Rattle.floor_core.specs.World.{FitsIn};
-ghost use Rattle.replay_text.specs.Words.{parts, three_of, five_of};
+ghost use Rattle.replay_text.specs.Words.{parts, two_of, three_of, four_of};
 
 use common_types::{Bytes, ReadError, Text, is_token};
-use floor_core::Step;
+use floor_core::{Given, Step};
 use hex::FromHexError;
 use ilp_addr::Moment;
 use std::alloc::{AllocError, Global};
@@ -73,27 +74,34 @@ fn first_line(text: &[u8]) -> (&[u8], &[u8])
     }
 }
 
-/// The words of a line, where they are three.
-fn three_words(line: &[u8]) -> Option<(&[u8], &[u8], &[u8])>
-    ensures { option_map (λ w. (w.0.now, w.1.now, w.2.now)) result ≡ three_of (words_of line.now) }
+/// The words of a text, where they are two.
+fn two_words(text: &[u8]) -> Option<(&[u8], &[u8])>
+    ensures { option_map (λ w. (w.0.now, w.1.now)) result ≡ two_of (words_of text.now) }
 {
-    let (first, rest) = first_word(line);
+    let (first, rest) = first_word(text);
     let (second, rest) = first_word(rest?);
-    let (third, rest) = first_word(rest?);
     match rest {
-        None => Some((first, second, third)),
+        None => Some((first, second)),
         Some(_) => None,
     }
 }
 
-/// The first word of a line and the three words after two more, where those are all.
-fn five_words(line: &[u8]) -> Option<(&[u8], &[u8], &[u8], &[u8], &[u8])>
-    ensures { option_map (λ w. (w.0.now, w.1.now, w.2.now, w.3.now, w.4.now)) result ≡ five_of (words_of line.now) }
+/// The words of a text, where they are three.
+fn three_words(text: &[u8]) -> Option<(&[u8], &[u8], &[u8])>
+    ensures { option_map (λ w. (w.0.now, w.1.now, w.2.now)) result ≡ three_of (words_of text.now) }
 {
-    let (first, rest) = first_word(line);
-    let (second, rest) = first_word(rest?);
-    let (third, fourth, fifth) = three_words(rest?)?;
-    Some((first, second, third, fourth, fifth))
+    let (first, rest) = first_word(text);
+    let (second, third) = two_words(rest?)?;
+    Some((first, second, third))
+}
+
+/// The words of a text, where they are four.
+fn four_words(text: &[u8]) -> Option<(&[u8], &[u8], &[u8], &[u8])>
+    ensures { option_map (λ w. (w.0.now, w.1.now, w.2.now, w.3.now)) result ≡ four_of (words_of text.now) }
+{
+    let (first, rest) = first_word(text);
+    let (second, third, fourth) = three_words(rest?)?;
+    Some((first, second, third, fourth))
 }
 
 fn all_digits(word: &[u8]) -> bool
@@ -184,17 +192,38 @@ fn frame_of(alloc: Global, word: &[u8]) -> Result<Option<Bytes>, AllocError>
     }
 }
 
-/// The step that `load W TENANT TOKEN HEX` spells.
+/// The moment that a word spells.
+fn moment_spelled(word: &[u8]) -> Option<Moment>
+    ensures { result ≡ moment_spelled word.now }
+{
+    Moment::new(number_below(Moment::MAX_MILLIS + 1, word)?)
+}
+
+/// What came back, as a word says it.
+fn given_of(alloc: Global, word: &[u8]) -> Result<Option<Given>, AllocError>
+    ensures { IfOk result (λ given. given ≡ given_of word.now) }
+{
+    if word == b"fault".as_slice() {
+        return Ok(Some(Given::Fault));
+    }
+    match frame_of(alloc, word)? {
+        Some(bytes) => Ok(Some(Given::Bytes(bytes))),
+        None => Ok(None),
+    }
+}
+
+/// The step that the words behind `load` spell: W TENANT TOKEN HEX.
 fn load_of(
     alloc: Global,
     names: &[Text<32>],
     workers: usize,
-    words: (&[u8], &[u8], &[u8], &[u8]),
+    words: &[u8],
 ) -> Result<Option<Step>, AllocError>
-    ensures { IfOk result (λ step. step ≡ load_of names.now workers
-        words.entry.0.now words.entry.1.now words.entry.2.now words.entry.3.now) }
+    ensures { IfOk result (λ step. step ≡ option_and_then (load_of names.now workers) (four_of (words_of words.now))) }
 {
-    let (worker, tenant, token, frame) = words;
+    let Some((worker, tenant, token, frame)) = four_words(words) else {
+        return Ok(None);
+    };
     let Some(worker) = number_below(workers as u64, worker) else {
         return Ok(None);
     };
@@ -215,16 +244,73 @@ fn load_of(
     }))
 }
 
-/// The step that `decide W NOW` spells.
-fn decide_of(workers: usize, worker: &[u8], now: &[u8]) -> Option<Step>
-    ensures { result ≡ decide_of workers worker.now now.now }
+/// The step that the words behind `decide` spell: W NOW.
+fn decide_of(workers: usize, words: &[u8]) -> Option<Step>
+    ensures { result ≡ option_and_then (decide_of workers) (two_of (words_of words.now)) }
 {
+    let (worker, now) = two_words(words)?;
     let worker = number_below(workers as u64, worker)?;
-    let now = Moment::new(number_below(Moment::MAX_MILLIS + 1, now)?)?;
+    let now = moment_spelled(now)?;
     Some(Step::Decide {
         worker: worker as usize,
         now,
     })
+}
+
+/// The step that the words behind `answer` spell: W NOW HEX, or W NOW fault.
+fn answer_of(alloc: Global, workers: usize, words: &[u8]) -> Result<Option<Step>, AllocError>
+    ensures { IfOk result (λ step. step ≡ option_and_then (answer_of workers) (three_of (words_of words.now))) }
+{
+    let Some((worker, now, given)) = three_words(words) else {
+        return Ok(None);
+    };
+    let Some(worker) = number_below(workers as u64, worker) else {
+        return Ok(None);
+    };
+    let Some(now) = moment_spelled(now) else {
+        return Ok(None);
+    };
+    let Some(given) = given_of(alloc, given)? else {
+        return Ok(None);
+    };
+    Ok(Some(Step::Answer {
+        worker: worker as usize,
+        now,
+        given,
+    }))
+}
+
+/// The step that the words behind `tick` spell: TENANT NOW.
+fn tick_of(names: &[Text<32>], words: &[u8]) -> Option<Step>
+    ensures { result ≡ option_and_then (tick_of names.now) (two_of (words_of words.now)) }
+{
+    let (tenant, now) = two_words(words)?;
+    let tenant = tenant_named(names, tenant)?;
+    let now = moment_spelled(now)?;
+    Some(Step::Tick { tenant, now })
+}
+
+/// The step that a verb and the words behind it spell.
+fn step_behind(
+    alloc: Global,
+    names: &[Text<32>],
+    workers: usize,
+    verb: &[u8],
+    words: &[u8],
+) -> Result<Option<Step>, AllocError>
+    ensures { IfOk result (λ step. step ≡ step_behind names.now workers verb.now (words_of words.now)) }
+{
+    if verb == b"load".as_slice() {
+        load_of(alloc, names, workers, words)
+    } else if verb == b"decide".as_slice() {
+        Ok(decide_of(workers, words))
+    } else if verb == b"answer".as_slice() {
+        answer_of(alloc, workers, words)
+    } else if verb == b"tick".as_slice() {
+        Ok(tick_of(names, words))
+    } else {
+        Ok(None)
+    }
 }
 
 /// The step that a line spells.
@@ -236,18 +322,9 @@ fn step_of(
 ) -> Result<Option<Step>, AllocError>
     ensures { IfOk result (λ step. step ≡ step_of_words names.now workers (words_of line.now)) }
 {
-    if let Some((verb, worker, now)) = three_words(line) {
-        return Ok(if verb == b"decide".as_slice() {
-            decide_of(workers, worker, now)
-        } else {
-            None
-        });
-    }
-    match five_words(line) {
-        Some((verb, worker, tenant, token, frame)) if verb == b"load".as_slice() => {
-            load_of(alloc, names, workers, (worker, tenant, token, frame))
-        }
-        _ => Ok(None),
+    match first_word(line) {
+        (verb, Some(words)) => step_behind(alloc, names, workers, verb, words),
+        (_, None) => Ok(None),
     }
 }
 
@@ -317,9 +394,9 @@ fn numbered_steps(
 ///
 /// A script has at most [`MOST_BYTES`] bytes, else the fault is `Size`. Its lines end with a line
 /// feed each, which the last may lack, and are ASCII, of at most [`MOST_LINE`] bytes without it.
-/// Empty lines and those that begin with `#` are skipped. Any other is `load W TENANT TOKEN HEX`
-/// or `decide W NOW`, with one space between two words; the fault `Line` has the number, from 1,
-/// of the first that is neither.
+/// Empty lines and those that begin with `#` are skipped. Any other is `load W TENANT TOKEN HEX`,
+/// `decide W NOW`, `answer W NOW HEX`, `answer W NOW fault` or `tick TENANT NOW`, with one space between two words; the
+/// fault `Line` has the number, from 1, of the first that is none of these.
 pub fn parse_script(
     alloc: Global,
     names: &[Text<32>],

@@ -1,15 +1,11 @@
-use Rattle.std.proofs.Common.{◌≡◌, ◌<◌, ◌∷◌, length, sym, ap, ◌∙◌, eqb, arith}
-use Rattle.std.specs.Prelude.{option_copied}
-use Rattle.std.proofs.lemmas.List.Splits.{length-slice_split}
+use Rattle.std.proofs.Common.{◌≡◌, ◌∷◌, ◌∙◌, ap}
+use Rattle.std.specs.Prelude.{option_copied, option_map}
 use Rattle.replay_text.specs.Words.{parts}
 use Rattle.replay_text.specs.Script.{words_of}
-use Rattle.replay_text.proofs.Splits.{three_of-more}
+use Rattle.replay_text.proofs.Splits.{three_of-two}
 use Rattle.replay_text.proofs.script.three_words.Goals as goal
 
-pub returns-in-Some : goal.returns-in-Some
-returns-in-Some c =
-    let others : 0 < length (words_of c.in-Some.field-0.now) = omega (arith, length-slice_split (λ b. eqb b 32) c.in-Some.field-0.now) in
-    let first : words_of c.args.line.now ≡ c.first_word.result.0.now ∷ words_of c.in_ok-rest.field-0.now = c.first_word.ensures.value ∙ ap (λ o. parts words_of c.first_word.result.0.now (option_copied o)) c.in_ok-rest.was in
-    let second : words_of c.in_ok-rest.field-0.now ≡ c.first_word-2.result.0.now ∷ words_of c.in_ok-rest-2.field-0.now = c.first_word-2.ensures.value ∙ ap (λ o. parts words_of c.first_word-2.result.0.now (option_copied o)) c.in_ok-rest-2.was in
-    let third : words_of c.in_ok-rest-2.field-0.now ≡ c.first_word-3.result.0.now ∷ words_of c.in-Some.field-0.now = c.first_word-3.ensures.value ∙ ap (λ o. parts words_of c.first_word-3.result.0.now (option_copied o)) c.in-Some.is in
-    rw (first, second, third) (sym (three_of-more _ _ _ _ others))
+pub returns : goal.returns
+returns c =
+    let first : words_of c.args.text.now ≡ c.first_word.result.0.now ∷ words_of c.in_ok-rest.field-0.now = c.first_word.ensures.value ∙ ap (λ o. parts words_of c.first_word.result.0.now (option_copied o)) c.in_ok-rest.was in
+    rw (first, three_of-two) (ap (option_map (λ w. (c.first_word.result.0.now, w.0, w.1))) c.in_ok-second.ensures)
