@@ -18,14 +18,14 @@ fn addresses(rt: HostRuntime) -> Result<(), Fail> {
         (b"", Some(AddrFault::Scheme)),
     ];
     for (bytes, fault) in rows {
-        assert_eq!(rt; Address::parse(bytes).err(), fault, "{bytes:?}");
+        assert!(rt; Address::parse(bytes).err() == fault, "{bytes:?}");
     }
     let mut longest = [b'a'; 1024];
     longest[0] = b'g';
     longest[1] = b'.';
-    assert_eq!(rt; Address::parse(&longest).err(), Some(AddrFault::Length));
+    assert!(rt; Address::parse(&longest).err() == Some(AddrFault::Length));
     let address = Address::parse(&longest[..1023]).ok().ok_or("1023 bytes")?;
-    assert_eq!(rt; address.bytes().len(), 1023);
+    assert!(rt; address.bytes().len() == 1023);
 
     let address = Address::parse(b"test1.A0_~-.bob").ok().ok_or("an address")?;
     let mut segments = address.segments();
@@ -46,7 +46,7 @@ fn prefixes(rt: HostRuntime) -> Result<(), Fail> {
     ];
     for (bytes, fault) in refused {
         let found = Prefix::parse(rt.alloc(), bytes).err();
-        assert_eq!(rt; found, Some(ReadError::Fault(fault)));
+        assert!(rt; found == Some(ReadError::Fault(fault)));
     }
     let address = Address::parse(b"g.acme.bob.x").ok().ok_or("an address")?;
     // What is read, what is kept of it, and whether the address begins with it.
@@ -63,7 +63,7 @@ fn prefixes(rt: HostRuntime) -> Result<(), Fail> {
     for (bytes, kept, begins) in read {
         let prefix = Prefix::parse(rt.alloc(), bytes)?.copy(rt.alloc())?;
         assert!(rt; prefix.bytes() == kept);
-        assert_eq!(rt; address.begins_with(&prefix), begins);
+        assert!(rt; address.begins_with(&prefix) == begins);
     }
     Ok(())
 }
@@ -84,12 +84,20 @@ fn stamps(rt: HostRuntime) -> Result<(), Fail> {
         (b"99991230000000000", 253_402_128_000_000),
     ];
     for (text, moment) in moments {
-        assert_eq!(rt; Stamp::parse(text), Ok(moment));
+        assert!(rt; Stamp::parse(text) == Ok(moment));
         assert!(rt; moment <= 253_402_128_000_000);
         let mut written = [0; 17];
         Stamp::write(moment, &mut written);
         assert!(rt; written.as_slice() == text.as_slice());
     }
+    let moment = Moment::new(253_400_000_000_000).ok_or("the greatest moment")?;
+    assert!(rt; moment.millis() == 253_400_000_000_000);
+    assert!(rt; Moment::new(253_400_000_000_001).is_none());
+    Ok(())
+}
+
+#[test]
+fn dates_outside_and_texts_that_are_none(rt: HostRuntime) -> Result<(), Fail> {
     // Years before 1970 and days after 9999-12-30 are read as the first and the last moment.
     let outside: [(&[u8; 17], u64); 5] = [
         (b"00000101000000000", 0),
@@ -99,7 +107,7 @@ fn stamps(rt: HostRuntime) -> Result<(), Fail> {
         (b"99991231235959999", 253_402_128_000_000),
     ];
     for (text, moment) in outside {
-        assert_eq!(rt; Stamp::parse(text), Ok(moment));
+        assert!(rt; Stamp::parse(text) == Ok(moment));
     }
     let refused: [&[u8; 17]; 11] = [
         b"19000229000000000",
@@ -115,10 +123,7 @@ fn stamps(rt: HostRuntime) -> Result<(), Fail> {
         b"20301301000010000",
     ];
     for text in refused {
-        assert_eq!(rt; Stamp::parse(text), Err(AddrFault::NotADate));
+        assert!(rt; Stamp::parse(text) == Err(AddrFault::NotADate));
     }
-    let moment = Moment::new(253_400_000_000_000).ok_or("the greatest moment")?;
-    assert_eq!(rt; moment.millis(), 253_400_000_000_000);
-    assert!(rt; Moment::new(253_400_000_000_001).is_none());
     Ok(())
 }

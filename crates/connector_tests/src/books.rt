@@ -7,8 +7,8 @@ use route_table::Routes;
 use std::alloc::Global;
 use std::test::Fail;
 use tenant_core::{
-    Book, NewPeer, PeerNo, PeerTerms, PrepareKey, RateTerms, RejectCode, Role, TenantSetup,
-    TenantTerms, Verdict,
+    AnswerKey, Book, BucketTerms, HoldFault, NewPeer, PeerLimits, PeerNo, PeerTerms, PrepareKey,
+    RateTerms, RejectCode, Role, TenantSetup, TenantTerms, Verdict,
 };
 
 // 2030-01-01T00:00:00Z, and the greatest moment.
@@ -66,11 +66,15 @@ fn new_peer(alloc: Global, number: u32, agreed: Agreed) -> Result<NewPeer, Fail>
         out_token: text(b"out")?,
         asset: text(b"USD")?,
         scale: 2,
-        cap: agreed.cap,
-        ceiling: agreed.ceiling,
-        credit: agreed.credit,
-        burst: agreed.burst,
-        per_second: agreed.per_second,
+        limits: PeerLimits {
+            cap: agreed.cap,
+            ceiling: agreed.ceiling,
+            credit: agreed.credit,
+        },
+        bucket: BucketTerms {
+            burst: agreed.burst,
+            per_second: agreed.per_second,
+        },
     };
     Ok(NewPeer { terms, balance: 0 })
 }
@@ -501,12 +505,162 @@ fn packets_at_the_bounds_of_what_was_agreed(rt: HostRuntime) -> Result<(), Fail>
             let found = decide(&mut book, *amount, *expiry, *now)?;
             assert!(rt; found == verdict(*wanted), "{title}: {amount} at {now}");
         }
-        assert_eq!(rt; book.entries(), packets.entries, "{title}");
+        assert!(rt; book.entries() == packets.entries, "{title}");
     }
     for (rate, amount, wanted) in RATES {
         let mut book = book(rt.alloc(), 4, Agreed { rate, ..GREATEST }, 0)?;
         let found = decide(&mut book, amount, 30_000, 0)?;
         assert!(rt; found == verdict(wanted), "{amount} at {rate:?}");
+    }
+    Ok(())
+}
+
+// What is owed by p0 and p1, and what is held from p0 and for p1.
+fn owed_and_held(book: &Book) -> Result<(i64, i64, u64, u64), Fail> {
+    let sender = book.balance(0).ok_or("p0")?;
+    let receiver = book.balance(1).ok_or("p1")?;
+    Ok((
+        sender.balance,
+        receiver.balance,
+        sender.held_in,
+        receiver.held_out,
+    ))
+}
+
+// The SHA-256 of 32 zero bytes, which is the condition that 32 zero bytes fulfill.
+const CONDITION: [u8; 32] = [
+    0x66, 0x68, 0x7a, 0xad, 0xf8, 0x62, 0xbd, 0x77, 0x6c, 0x8f, 0xc1, 0x8b, 0x8e, 0x9f, 0x8e, 0x20,
+    0x08, 0x97, 0x14, 0x85, 0x6e, 0xe2, 0x33, 0xb3, 0x90, 0x2a, 0x59, 0x1d, 0x0d, 0x5f, 0x29, 0x25,
+];
+
+fn send(book: &mut Book, now: u64) -> Result<Verdict, Fail> {
+    let destination = Address::parse(b"g.acme.bob.x")?;
+    let key = PrepareKey {
+        amount: 1_000,
+        expiry: START + 30_000,
+        condition: &CONDITION,
+        destination: &destination,
+    };
+    let now = Moment::new(now).ok_or("a moment")?;
+    Ok(book.decide(b"p0", &key, now))
+}
+
+/// What comes back for a packet of 1,000 units that goes on as 1,500, when, and whether a tick comes just before:
+/// the verdict, and what is owed after it.
+struct Return {
+    title: &'static str,
+    key: AnswerKey,
+    at: u64,
+    is_marked: bool,
+    verdict: Result<(), RejectCode>,
+    owed: (i64, i64),
+}
+
+static RETURNS: [Return; 8] = [
+    Return {
+        title: "a Fulfill that fits",
+        key: AnswerKey::Fulfilled([0; 32]),
+        at: START + 28_999,
+        is_marked: false,
+        verdict: Ok(()),
+        owed: (1_000, -1_500),
+    },
+    Return {
+        title: "a Fulfill that does not fit",
+        key: AnswerKey::Fulfilled([1; 32]),
+        at: START,
+        is_marked: false,
+        verdict: Err(RejectCode::WrongCondition),
+        owed: (0, 0),
+    },
+    Return {
+        title: "a Reject",
+        key: AnswerKey::Rejected,
+        at: START,
+        is_marked: false,
+        verdict: Ok(()),
+        owed: (0, 0),
+    },
+    Return {
+        title: "no answer",
+        key: AnswerKey::Fault,
+        at: START,
+        is_marked: false,
+        verdict: Err(RejectCode::PeerUnreachable),
+        owed: (0, 0),
+    },
+    Return {
+        title: "a Fulfill that is late",
+        key: AnswerKey::Fulfilled([0; 32]),
+        at: START + 29_000,
+        is_marked: false,
+        verdict: Err(RejectCode::TimedOut),
+        owed: (0, 0),
+    },
+    Return {
+        title: "a Fulfill after the mark",
+        key: AnswerKey::Fulfilled([0; 32]),
+        at: START,
+        is_marked: true,
+        verdict: Err(RejectCode::TimedOut),
+        owed: (0, 0),
+    },
+    Return {
+        title: "a Reject after the mark",
+        key: AnswerKey::Rejected,
+        at: START,
+        is_marked: true,
+        verdict: Err(RejectCode::TimedOut),
+        owed: (0, 0),
+    },
+    Return {
+        title: "no answer after the mark",
+        key: AnswerKey::Fault,
+        at: START,
+        is_marked: true,
+        verdict: Err(RejectCode::TimedOut),
+        owed: (0, 0),
+    },
+];
+
+#[test]
+fn what_is_held_moves_once_on_both_sides(rt: HostRuntime) -> Result<(), Fail> {
+    for row in &RETURNS {
+        let title = row.title;
+        let mut book = book(rt.alloc(), 8, USUAL, START)?;
+        let sent = send(&mut book, START)?;
+        assert!(rt;
+            sent == verdict(Wanted::Forwarded(0, 1_500, START + 29_000)),
+            "{title}"
+        );
+        assert!(rt; owed_and_held(&book)? == (0, 0, 1_000, 1_500), "{title}");
+        if row.is_marked {
+            let overdue = Moment::new(START + 29_000).ok_or("a moment")?;
+            assert!(rt; book.tick(overdue) == Ok(1), "{title}");
+            assert!(rt; owed_and_held(&book)? == (0, 0, 0, 0), "{title}");
+            assert!(rt; book.tick(overdue) == Ok(0), "{title}");
+        }
+        let now = Moment::new(row.at).ok_or("a moment")?;
+        let wanted = match row.verdict {
+            Ok(()) => Verdict::Relay,
+            Err(code) => verdict(Wanted::Refused(code)),
+        };
+        assert!(rt;
+            book.answer(1, now, row.key) == Err(HoldFault::NoSuchHold),
+            "{title}"
+        );
+        assert!(rt; book.answer(0, now, row.key) == Ok(wanted), "{title}");
+        assert!(rt;
+            owed_and_held(&book)? == (row.owed.0, row.owed.1, 0, 0),
+            "{title}"
+        );
+        assert!(rt;
+            book.answer(0, now, row.key) == Err(HoldFault::NoSuchHold),
+            "{title}"
+        );
+        let entries = if row.is_marked { 4 } else { 2 };
+        assert!(rt; book.entries() == entries, "{title}");
+        assert!(rt; book.period() == 0);
     }
     Ok(())
 }
@@ -518,7 +672,7 @@ fn as_many_packets_are_held_as_a_tenant_can_hold(rt: HostRuntime) -> Result<(), 
         ..USUAL
     };
     let mut book = book(rt.alloc(), 4_096, agreed, START)?;
-    assert_eq!(rt; book.tenant(), 0);
+    assert!(rt; book.tenant() == 0);
     assert!(rt; book.address() == b"g.acme".as_slice());
     assert!(rt; book.peer_name(1) == Some(b"p1".as_slice()));
     assert!(rt; book.peer_name(2).is_none());
@@ -529,6 +683,15 @@ fn as_many_packets_are_held_as_a_tenant_can_hold(rt: HostRuntime) -> Result<(), 
     }
     let found = decide(&mut book, 1, START + 30_000, START)?;
     assert!(rt; found == verdict(Wanted::Refused(RejectCode::Busy)));
-    assert_eq!(rt; book.entries(), 1_025);
+    assert!(rt; book.entries() == 1_025);
+    // Marked ones await their answers, and count as well.
+    let overdue = Moment::new(START + 29_000).ok_or("a moment")?;
+    assert!(rt; book.tick(overdue) == Ok(1_024));
+    let found = decide(&mut book, 1, START + 60_000, START)?;
+    assert!(rt; found == verdict(Wanted::Refused(RejectCode::Busy)));
+    let late = verdict(Wanted::Refused(RejectCode::TimedOut));
+    assert!(rt; book.answer(700, overdue, AnswerKey::Rejected) == Ok(late));
+    let found = decide(&mut book, 1, START + 60_000, START)?;
+    assert!(rt; found == verdict(Wanted::Forwarded(1_024, 1, START + 59_000)));
     Ok(())
 }

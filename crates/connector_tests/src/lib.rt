@@ -5,6 +5,8 @@
 #[cfg(test)]
 mod addresses;
 #[cfg(test)]
+mod answers;
+#[cfg(test)]
 mod books;
 #[cfg(test)]
 mod devices;
@@ -26,5 +28,7 @@ mod scripts;
 mod setup_texts;
 #[cfg(test)]
 mod setups;
+#[cfg(test)]
+mod targets;
 #[cfg(test)]
 mod verdicts;

@@ -11,11 +11,11 @@ fn prices_and_greatest_amounts(rt: HostRuntime) -> Result<(), Fail> {
         (1_000_000_000_001, 1, RateFault::Limit),
         (1, 1_000_000_000_001, RateFault::Limit),
     ] {
-        assert_eq!(rt; Rate::new(numerator, denominator).err(), Some(fault));
+        assert!(rt; Rate::new(numerator, denominator).err() == Some(fault));
     }
     let half_more = Rate::new(3, 2)?;
     for (amount, price) in [(0, 0), (1, 1), (2, 3), (999, 1_498), (1_000, 1_500)] {
-        assert_eq!(rt; half_more.price(amount), price, "{amount}");
+        assert!(rt; half_more.price(amount) == price, "{amount}");
     }
     for (limit, max, greatest) in [
         (1_000_000, 1_499, 999),
@@ -24,13 +24,12 @@ fn prices_and_greatest_amounts(rt: HostRuntime) -> Result<(), Fail> {
         (500, 1_000, 500),
         (1_000_000, 0, 0),
     ] {
-        assert_eq!(rt;
-            half_more.greatest(limit, max),
-            greatest,
+        assert!(rt;
+            half_more.greatest(limit, max) == greatest,
             "{limit} and {max}"
         );
     }
     let dearest = Rate::new(1_000_000_000_000, 1)?;
-    assert_eq!(rt; dearest.greatest(1 << 62, 1 << 62), 4_611_686);
+    assert!(rt; dearest.greatest(1 << 62, 1 << 62) == 4_611_686);
     Ok(())
 }

@@ -13,7 +13,7 @@ fn acme(alloc: Global) -> Result<Vec<Text<32>>, Fail> {
 }
 
 // A script, how many workers it has, and the number of its first bad line, 0 where none is bad.
-static SCRIPTS: [(&str, usize, usize); 26] = [
+static SCRIPTS: [(&str, usize, usize); 30] = [
     ("", 2, 0),
     ("decide 1 0", 2, 0),
     ("decide 2 0\n", 2, 1),
@@ -37,9 +37,13 @@ static SCRIPTS: [(&str, usize, usize); 26] = [
     ("load 0 acme tok-alice 0\n", 1, 1),
     ("load 0 acme tok-alice \n", 1, 1),
     ("load 0 acme tok!alice -\n", 1, 1),
-    ("tick acme 0\n", 1, 1),
     ("decide 0 1\r\n", 1, 1),
-    ("answer 0 1 fault", 1, 1),
+    ("tick acme 0\nanswer 0 1 fault\nanswer 0 1 0d\n", 1, 0),
+    ("tick other 0\n", 1, 1),
+    ("tick acme\n", 1, 1),
+    ("answer 0 1 faults\n", 1, 1),
+    ("answer 0 1\n", 1, 1),
+    ("tock acme 0\n", 1, 1),
 ];
 
 #[test]
@@ -62,7 +66,7 @@ fn scripts_name_their_first_bad_line(rt: HostRuntime) -> Result<(), Fail> {
             },
             Step::Decide { worker: same, now },
         ] => {
-            assert_eq!(rt; (*worker, *tenant, *same, now.millis()), (1, 0, 1, 77));
+            assert!(rt; (*worker, *tenant, *same, now.millis()) == (1, 0, 1, 77));
             assert!(rt; token.as_slice() == b"tok".as_slice());
             assert!(rt; bytes.as_slice() == [12u8, 255].as_slice());
         }
