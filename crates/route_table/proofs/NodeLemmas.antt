@@ -14,7 +14,8 @@ use Rattle.std.specs.FinMap.{entries, get-from_entries}
 use Rattle.route_table.specs.declared.node.Wanted.{Wanted}
 use Rattle.route_table.specs.Paths.{Path, PathMap, is_same, longest_at}
 use Rattle.route_table.specs.Nodes.{Branch, Children, PathRow, own_row, below, apart, rows_of, routes_from, child_of, peer_in, HasNoEmptyChild, IsWanted, HasWanted, Names}
-use Rattle.route_table.proofs.PathLemmas.{cases, same, same_test, turned, tied, at, find_at, get, get_at, get_none, paths_total, same_paths, get_inserted, get_removed, inserted_some, longest_cong, longest_none, or_or}
+use Rattle.route_table.proofs.PathLemmas.{cases, same, same_test, turned, tied, at, find_at, get, get_at, get_none, paths_total, same_paths}
+use Rattle.route_table.proofs.PathLemmas.{get_inserted, get_removed, inserted_some, longest_cong, longest_none, or_or}
 
 -- ---- the rows of the children
 
@@ -74,7 +75,8 @@ at_rows_of s q [] = refl
 at_rows_of s q (child ∷ children) =
     at_append (s ∷ q) (below child.0.items (entries child.1.routes)) (apart child.0.items (rows_of children))
     ∙ (λ i. option_or (at_below s child.0.items q (entries child.1.routes) i) (at_apart s child.0.items q (rows_of children) i))
-    ∙ elim (is_same s child.0.items) as (λ b. option_or (cond b (at q (entries child.1.routes)) None) (cond b None (at (s ∷ q) (rows_of children))) ≡ peer_in q (cond b (Some child.1) (child_of s children))) [
+    ∙ elim (is_same s child.0.items) as
+    (λ b. option_or (cond b (at q (entries child.1.routes)) None) (cond b None (at (s ∷ q) (rows_of children))) ≡ peer_in q (cond b (Some child.1) (child_of s children))) [
       | true ↦ or_none (at q (entries child.1.routes)) ∙ sym (get_at child.1.routes q)
       | false ↦ at_rows_of s q children
     ]
@@ -283,18 +285,20 @@ on_err (Ok x) P Q f h = h
 on_err (Err e) P Q f h = f h
 
 -- a child that took a route, or is as it was, has routes
-pub child_used : {A E : Type 0} (r : Result A E) (old new : Children) (s : List ℕ) (was child : Branch) (p : Path) (n : ℕ) → HasNoEmptyChild old → Some was ≡ child_of s old → Differ old new s (Some child)
-    → OnOk r (child.routes ≡ map.insert was.routes p n) → OnErr r (child.routes ≡ was.routes) → HasNoEmptyChild new
+pub child_used : {A E : Type 0} (r : Result A E) (old new : Children) (s : List ℕ) (was child : Branch) (p : Path) (n : ℕ) → HasNoEmptyChild old
+    → Some was ≡ child_of s old → Differ old new s (Some child) → OnOk r (child.routes ≡ map.insert was.routes p n) → OnErr r (child.routes ≡ was.routes) → HasNoEmptyChild new
 child_used r old new s was child p n used is differ added stays =
     still_used old new s child used differ
     (outcome r _ _ (¬ (child.routes ≡ map.empty)) (λ e f. inserted_some was.routes p n (sym e ∙ f)) (λ e f. used s was (sym is) (sym e ∙ f)) added stays)
 
 -- a new child that took a route has routes
-pub new_used : (old new : Children) (s : List ℕ) (child fresh : Branch) (p : Path) (n : ℕ) → HasNoEmptyChild old → Differ old new s (Some child) → child.routes ≡ map.insert fresh.routes p n → HasNoEmptyChild new
+pub new_used : (old new : Children) (s : List ℕ) (child fresh : Branch) (p : Path) (n : ℕ) → HasNoEmptyChild old → Differ old new s (Some child)
+    → child.routes ≡ map.insert fresh.routes p n → HasNoEmptyChild new
 new_used old new s child fresh p n used differ e = still_used old new s child used differ (λ f. inserted_some fresh.routes p n (sym e ∙ f))
 
 -- a child written back as it was
-pub kept : (peer : Option ℕ) (old new : Children) (s : List ℕ) (child was : Branch) → Some was ≡ child_of s old → Differ old new s (Some child) → child.routes ≡ was.routes → routes_from peer new ≡ routes_from peer old
+pub kept : (peer : Option ℕ) (old new : Children) (s : List ℕ) (child was : Branch) → Some was ≡ child_of s old → Differ old new s (Some child) → child.routes ≡ was.routes
+    → routes_from peer new ≡ routes_from peer old
 kept peer old new s child was is differ e = same_paths _ _ at_each
   where
     at_each : (q : Path) → get (routes_from peer new) q ≡ get (routes_from peer old) q
@@ -302,7 +306,8 @@ kept peer old new s child was is differ e = same_paths _ _ at_each
     at_each (t ∷ q) =
         get_below peer new t q
         ∙ elim (cases (is_same t s)) [
-          | inl tie ↦ ap (λ x. peer_in q (child_of x new)) (same t s tie) ∙ ap (peer_in q) differ.here ∙ ap (λ x. get x q) e ∙ was_in was s old is q ∙ ap (λ x. peer_in q (child_of x old)) (sym (same t s tie))
+          | inl tie ↦ ap (λ x. peer_in q (child_of x new)) (same t s tie) ∙ ap (peer_in q) differ.here ∙ ap (λ x. get x q) e
+              ∙ was_in was s old is q ∙ ap (λ x. peer_in q (child_of x old)) (sym (same t s tie))
           | inr other ↦ ap (peer_in q) (differ.others t other)
         ]
         ∙ sym (get_below peer old t q)

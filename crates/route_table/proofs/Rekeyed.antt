@@ -7,7 +7,8 @@ use Rattle.std.specs.Cmp.Lexicographic.{slice_cmp}
 use Rattle.std.proofs.lemmas.Bool.{or_right}
 use Rattle.std.proofs.lemmas.Cmp.{nat_list_cmp_total}
 use Rattle.std.specs.FinMap as map
-use Rattle.std.specs.FinMap.{find, entries, from_entries, contains_key-keys, len-entries, len-empty, get-empty, get-from_entries, get-insert, get-remove, len-insert, len-remove, empty_of_len, entries-insert, same_map, slice_cmp-IsAntisymmetric, nat_cmp-IsAntisymmetric}
+use Rattle.std.specs.FinMap.{find, entries, from_entries, contains_key-keys, len-entries, len-empty, get-empty, get-from_entries, get-insert, get-remove}
+use Rattle.std.specs.FinMap.{len-insert, len-remove, empty_of_len, entries-insert, same_map, slice_cmp-IsAntisymmetric, nat_cmp-IsAntisymmetric}
 use Rattle.std.specs.FinMap.Entries.{put, by_order}
 use Rattle.ilp_addr.specs.Address.{prefix_segments}
 use Rattle.route_table.specs.Paths.{Path, PathMap, is_same}

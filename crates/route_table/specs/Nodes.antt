@@ -19,7 +19,8 @@ pub record Branch : Type 0 where
 -- stored as the pair of its fields
 abbrev pub branch_code : Coded Branch
 branch_code =
-    code_by (PathMap × ℕ) (coded× (map.code (coded_list (coded_list coded_ℕ)) coded_ℕ) coded_ℕ) (λ b. (b.routes, b.height)) (λ p. record { routes = p.0; height = p.1 }) (λ _. refl)
+    code_by (PathMap × ℕ) (coded× (map.code (coded_list (coded_list coded_ℕ)) coded_ℕ) coded_ℕ)
+    (λ b. (b.routes, b.height)) (λ p. record { routes = p.0; height = p.1 }) (λ _. refl)
 
 -- the branch behind each segment that follows
 abbrev pub Children : Type 0

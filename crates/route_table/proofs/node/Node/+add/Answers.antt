@@ -22,7 +22,8 @@ returns-in-Some-get_mut-clause-added t c =
     let u = (c.get_mut.follows.holds c.add.new.self).3 (ap is_some (sym is)) in
     let d = differs c.self.inside.children.entries (c.get_mut.follows.lender c.add.new.self).entries c.in-Some.segment.now (Some c.add.new.self) u.1 u.3 in
     on_ok _ _ _
-    (added_below c.args.self.now c.self.inside.peer _ _ _ c.in-Some-get_mut.child.now c.add.new.self (segments_left c.args.path) _ c.args.peer (ap (λ (b : Branch). b.routes) c.self.view_is) c.in-Some.ensures.steps is d)
+    (added_below c.args.self.now c.self.inside.peer _ _ _ c.in-Some-get_mut.child.now c.add.new.self (segments_left c.args.path) _ c.args.peer
+    (ap (λ (b : Branch). b.routes) c.self.view_is) c.in-Some.ensures.steps is d)
     c.add.ensures.added
 
 pub returns-in-Some-get_mut-clause-unchanged : goal.returns-in-Some-get_mut-clause-unchanged

@@ -11,14 +11,16 @@ loop-segment-init t c =
 pub loop-segment-preserved-in_ok-insert : goal.loop-segment-preserved-in_ok-insert
 loop-segment-preserved-in_ok-insert t c =
     let u = c.in_ok-insert.ensures.updates in
-    copied_step _ _ (c.in-Some.segment.now, c.in-Some.child.now) _ c.loop-segment.children.entries _ c.in_ok-key.key.items c.in_ok-copy.field-0 c.in-Some.ensures.steps (c.in_ok-key.ensures.items ∙ c.deref.ensures.value) c.in_ok-copy.ensures
+    copied_step _ _ (c.in-Some.segment.now, c.in-Some.child.now) _ c.loop-segment.children.entries _ c.in_ok-key.key.items c.in_ok-copy.field-0
+    c.in-Some.ensures.steps (c.in_ok-key.ensures.items ∙ c.deref.ensures.value) c.in_ok-copy.ensures
     (differs c.loop-segment.children.entries c.insert.new.self.entries c.in_ok-key.key.items (Some c.in_ok-copy.field-0) u.1 u.3)
     c.loop-segment.invariant
 
 pub loop-segment-preserved : goal.loop-segment-preserved
 loop-segment-preserved t c =
     let u = c.in_ok-insert.ensures.updates in
-    copied_step _ _ (c.in-Some.segment.now, c.in-Some.child.now) _ c.loop-segment.children.entries _ c.in_ok-key.key.items c.in_ok-copy.field-0 c.in-Some.ensures.steps (c.in_ok-key.ensures.items ∙ c.deref.ensures.value) c.in_ok-copy.ensures
+    copied_step _ _ (c.in-Some.segment.now, c.in-Some.child.now) _ c.loop-segment.children.entries _ c.in_ok-key.key.items c.in_ok-copy.field-0
+    c.in-Some.ensures.steps (c.in_ok-key.ensures.items ∙ c.deref.ensures.value) c.in_ok-copy.ensures
     (differs c.loop-segment.children.entries c.insert.new.self.entries c.in_ok-key.key.items (Some c.in_ok-copy.field-0) u.1 u.3)
     c.loop-segment.invariant
 

@@ -47,4 +47,5 @@ pub returns-in_default-get_mut : goal.returns-in_default-get_mut
 returns-in_default-get_mut t c =
     let none = rw c.in_default-get_mut.is at c.get_mut.ensures.value in
     ap (λ (m : BTreeMap _ _). routes_from c.self.inside.peer m.entries) c.get_mut.follows.holds-at-none
-    ∙ removed_nothing c.args.self.now c.self.inside.peer c.self.inside.children.entries c.in-Some.segment.now (segments_left c.args.path) _ (ap (λ (b : Branch). b.routes) c.self.view_is) c.in-Some.ensures.steps none
+    ∙ removed_nothing c.args.self.now c.self.inside.peer c.self.inside.children.entries c.in-Some.segment.now (segments_left c.args.path) _
+    (ap (λ (b : Branch). b.routes) c.self.view_is) c.in-Some.ensures.steps none
