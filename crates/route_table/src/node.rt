@@ -1,11 +1,11 @@
 //! The nodes of the trie.
 
-ghost use Rattle.std.specs.Prelude.{◌≡◌, ◌≢◌, ◌↔◌, ◌∷◌, [], List, ℕ, OnOk, OnErr, IfOk, IsTrue};
+ghost use Rattle.std.specs.Prelude.{◌≡◌, ◌↔◌, ◌∷◌, [], OnOk, OnErr, IfOk, IsTrue};
 ghost use Rattle.std.specs.Option.{option_copied};
 ghost use Rattle.std.specs.FinMap.{empty, get, insert, remove};
 ghost use Rattle.ilp_addr.specs.Segments.{segments_left};
 ghost use Rattle.route_table.specs.Paths.{Path, longest_at};
-ghost use Rattle.route_table.specs.Nodes.{Branch, peer_in, Names, HasWanted};
+ghost use Rattle.route_table.specs.Nodes.{peer_in, Names, HasWanted};
 
 use crate::routes::PeerNo;
 use ilp_addr::Segments;
