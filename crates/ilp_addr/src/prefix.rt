@@ -2,11 +2,12 @@
 
 ghost use Rattle.std.specs.Prelude.{◌≡◌, ◌≢◌, ◌≤◌, ◌∷◌, ℕ, [], List, length, Ok, Err, IfOk, MatchResult};
 ghost use Rattle.common_types.specs.Outcomes.{GivesUnlessMemory};
-ghost use Rattle.ilp_addr.specs.Address.{IsPrefix, prefix_at, checked_prefix, without_last_dot, max_address};
+ghost use Rattle.ilp_addr.specs.Address.{IsPrefix, prefix_segments, prefix_at, checked_prefix, without_last_dot};
+ghost use Rattle.ilp_addr.specs.Address.{max_address};
 
 use crate::address::MAX_ADDRESS;
 use crate::fault::AddrFault;
-use crate::segments::{are_segments, is_scheme, split_at_dot};
+use crate::segments::{Segments, are_segments, is_scheme, split_at_dot};
 use common_types::ReadError;
 use std::alloc::{AllocError, Global};
 use std::marker::Model;
@@ -27,6 +28,8 @@ impl Model for Prefix {
 }
 
 impl Prefix {
+    ghost use Rattle.ilp_addr.specs.Segments.{segments_left};
+
     /// The prefix that the bytes spell, with or without a dot at the end.
     ///
     /// The errors are, in the order in which they are looked for: `Fault(Scheme)` for a dot alone,
@@ -52,6 +55,13 @@ impl Prefix {
         ensures short { length result.now ≤ max_address }
     {
         &self.bytes
+    }
+
+    /// The parts of the prefix between its dots, the scheme first. The empty prefix has none.
+    pub fn segments(&self) -> Segments<'_>
+        ensures { segments_left result ≡ prefix_segments self.now }
+    {
+        Segments::of_prefix(&self.bytes)
     }
 
     /// The same prefix in memory of its own.

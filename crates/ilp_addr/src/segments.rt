@@ -6,7 +6,7 @@ ghost use Rattle.std.specs.Iterator.{item_count};
 ghost use Rattle.ilp_addr.specs.Address as spec;
 ghost use Rattle.ilp_addr.specs.Address.{segments, prefix_segments, begins_with};
 
-/// The parts of an address between its dots, the scheme first.
+/// The parts of an address or of a prefix between its dots, the scheme first.
 #[derive(Debug, Drop)]
 pub struct Segments<'a> {
     rest: Option<&'a [u8]>,
@@ -19,6 +19,13 @@ impl<'a> Segments<'a> {
         ensures { segments_left result ≡ segments bytes.now }
     {
         Segments { rest: Some(bytes) }
+    }
+
+    pub(crate) fn of_prefix(bytes: &'a [u8]) -> Segments<'a>
+        ensures { segments_left result ≡ prefix_segments bytes.now }
+    {
+        let rest = if bytes.is_empty() { None } else { Some(bytes) };
+        Segments { rest }
     }
 }
 

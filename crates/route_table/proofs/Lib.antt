@@ -1,4 +1,7 @@
 pub mod Matching
 pub mod BestRoute
-pub mod RowLemmas
-pub mod RowSearch
+pub mod PathLemmas
+pub mod NodeLemmas
+pub mod Rekeyed
+pub mod BestAtPath
+pub mod Named

@@ -1,2 +1,4 @@
 pub mod Routes
-pub mod Rows
+pub mod Paths
+pub mod Nodes
+pub mod Kept

@@ -8,8 +8,8 @@
 
 mod fault;
 pub mod laws;
+mod node;
 mod routes;
-mod rows;
 
 pub use fault::RouteFault;
 pub use routes::{MAX_ROUTES, PeerNo, Routes};

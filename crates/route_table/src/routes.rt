@@ -2,12 +2,12 @@
 
 ghost use Rattle.std.specs.Prelude.{◌≡◌, ◌≢◌, ◌≤◌, ◌↔◌, ◌==◌, ℕ, IsTrue, IsOk, OnOk, OnErr, IfOk, IfSome, OnSome};
 ghost use Rattle.std.specs.Prelude.{IfNone, if◌then◌else◌, nat_lt, Ok, Err, List, false};
-ghost use Rattle.std.specs.FinMap.{empty, contains_key, insert, remove, len, values};
+ghost use Rattle.std.specs.FinMap.{empty, get, contains_key, insert, remove, len, values};
 ghost use Rattle.std.specs.List.{list_all};
 ghost use Rattle.route_table.specs.Routes.{RouteMap, IsBestRoute, HasNoRoute, NamesPeer, best_route, max_routes};
 
 use crate::fault::RouteFault;
-use crate::rows::{Row, best_row, names, names_only_below, position_of};
+use crate::node::{Node, Wanted};
 use ilp_addr::{Address, Prefix};
 use std::alloc::{AllocError, Global};
 use std::marker::Model;
@@ -22,7 +22,9 @@ pub const MAX_ROUTES: usize = 4096;
 /// go to.
 #[derive(Debug, Drop)]
 pub struct Routes {
-    rows: Vec<Row>,
+    alloc: Global,
+    root: Node,
+    count: usize,
 }
 
 impl Model for Routes {
@@ -36,11 +38,11 @@ impl Model for Routes {
 
     ghost coded = { map.code (coded_list coded_ℕ) coded_ℕ };
 
-    ghost use Rattle.route_table.specs.Rows.{AreRows};
+    ghost use Rattle.route_table.specs.Kept.{routes_of, IsKept};
 
-    ghost view = { λ r. map.from_entries r.rows.items };
+    ghost view = { λ r. routes_of r.root.routes };
 
-    ghost invariant = { λ r. AreRows r.rows.items };
+    ghost invariant = { λ r. IsKept r.root.routes r.count };
 }
 
 impl Routes {
@@ -49,7 +51,9 @@ impl Routes {
         ensures { result ≡ empty }
     {
         Routes {
-            rows: Vec::new(alloc),
+            alloc,
+            root: Node::new(alloc),
+            count: 0,
         }
     }
 
@@ -58,14 +62,14 @@ impl Routes {
         ensures value { result ≡ len self.now }
         ensures few { len self.now ≤ max_routes }
     {
-        self.rows.len()
+        self.count
     }
 
     /// Whether no prefix has a route.
     pub fn is_empty(&self) -> bool
         ensures { result ≡ (len self.now == 0) }
     {
-        self.rows.is_empty()
+        self.count == 0
     }
 
     /// Sends packets for the prefix to the peer.
@@ -81,15 +85,16 @@ impl Routes {
             ↔ ((contains_key self.old prefix ≡ false) × (len self.old ≡ max_routes)) }
         ensures never_absent { result ≢ Err RouteFault.Absent }
     {
-        if position_of(&self.rows, &prefix).is_some() {
+        if self.peer_of(&prefix).is_some() {
             return Err(RouteFault::Present);
         }
-        if self.len() == MAX_ROUTES {
+        if self.count == MAX_ROUTES {
             return Err(RouteFault::Full);
         }
-        if self.rows.push((prefix, peer)).is_err() {
+        if self.root.add(self.alloc, prefix.segments(), peer).is_err() {
             return Err(RouteFault::Memory);
         }
+        self.count += 1;
         Ok(())
     }
 
@@ -101,10 +106,11 @@ impl Routes {
         ensures removed { OnOk result (self.new ≡ remove self.old prefix.now) }
         ensures unchanged { OnErr result (self.new ≡ self.old) }
     {
-        let Some(at) = position_of(&self.rows, prefix) else {
+        if self.peer_of(prefix).is_none() {
             return Err(RouteFault::Absent);
-        };
-        let _removed = self.rows.remove(at);
+        }
+        self.root.remove(prefix.segments());
+        self.count -= 1;
         Ok(())
     }
 
@@ -117,32 +123,38 @@ impl Routes {
         ensures none { IfNone result (HasNoRoute self.now destination.now) }
     {
         ilp_addr::laws::prefixes();
-        let (_, peer) = best_row(&self.rows, destination)?;
-        Some(*peer)
+        self.root.find(destination.segments())
     }
 
     /// Whether some prefix has a route to the peer.
     pub fn names_peer(&self, peer: PeerNo) -> bool
         ensures { IsTrue result ↔ NamesPeer self.now peer }
     {
-        names(&self.rows, peer)
+        self.root.names(Wanted::Peer(peer))
     }
 
     /// Whether each route's peer has a number below `count`.
     pub fn names_only_below(&self, count: usize) -> bool
         ensures { result ≡ list_all (λ peer. nat_lt peer count) (values self.now) }
     {
-        names_only_below(&self.rows, count)
+        !self.root.names(Wanted::NotBelow(count))
     }
 
     /// The same routes in memory of their own.
     pub fn copy(&self, alloc: Global) -> Result<Routes, AllocError>
         ensures { IfOk result (λ routes. routes ≡ self.now) }
     {
-        let mut rows = Vec::with_capacity(alloc, self.len())?;
-        for (prefix, peer) in &self.rows {
-            rows.push((prefix.copy(alloc)?, *peer))?;
-        }
-        Ok(Routes { rows })
+        let root = self.root.copy(alloc)?;
+        Ok(Routes {
+            alloc,
+            root,
+            count: self.count,
+        })
+    }
+
+    fn peer_of(&self, prefix: &Prefix) -> Option<PeerNo>
+        ensures { result ≡ get self.now prefix.now }
+    {
+        self.root.peer_at(prefix.segments())
     }
 }

@@ -1,26 +1,19 @@
 use Rattle.std.proofs.Common.{sym, ap, ◌∙◌}
+use Rattle.std.specs.FinMap.{get}
+use Rattle.route_table.specs.Paths.{longest_at}
 use Rattle.route_table.specs.Routes.{best_route}
-use Rattle.route_table.proofs.BestRoute.{best_route-Some, best_route-None}
+use Rattle.route_table.proofs.BestAtPath.{best_is, found_best, none_best}
 use Rattle.route_table.proofs.routes.Routes.find.Goals as goal
-
-pub returns-in_err-peer-clause-exact : goal.returns-in_err-peer-clause-exact
-returns-in_err-peer-clause-exact c =
-    c.from_residual.ensures
-    ∙ (rw c.deref.ensures.value at c.in_err-peer.ensures)
-    ∙ ap (λ routes. best_route routes c.args.destination.now) c.self.view_is
-
-pub returns-in_err-peer-clause-none : goal.returns-in_err-peer-clause-none
-returns-in_err-peer-clause-none c =
-    rw c.from_residual.ensures
-    ((best_route-None c.prefixes.ensures _ c.args.destination.now).0
-    (sym ((rw c.deref.ensures.value at c.in_err-peer.ensures) ∙ ap (λ routes. best_route routes c.args.destination.now) c.self.view_is)))
 
 pub returns-clause-exact : goal.returns-clause-exact
 returns-clause-exact c =
-    (rw c.deref.ensures.value at c.in_ok-peer.ensures)
+    c.find.ensures
+    ∙ ap (longest_at (get c.self.inside.root.routes)) c.segments.ensures
+    ∙ sym (best_is c.prefixes.ensures c.self.inside.root.routes c.args.destination.now c.self.invariant.prefixes)
     ∙ ap (λ routes. best_route routes c.args.destination.now) c.self.view_is
 
 pub returns-clause-found : goal.returns-clause-found
-returns-clause-found c =
-    (best_route-Some c.prefixes.ensures _ c.args.destination.now _).0
-    (sym ((rw c.deref.ensures.value at c.in_ok-peer.ensures) ∙ ap (λ routes. best_route routes c.args.destination.now) c.self.view_is))
+returns-clause-found c = found_best c.prefixes.ensures _ c.args.destination.now _ (returns-clause-exact c)
+
+pub returns-clause-none : goal.returns-clause-none
+returns-clause-none c = none_best c.prefixes.ensures _ c.args.destination.now _ (returns-clause-exact c)

@@ -1,11 +1,5 @@
-use Rattle.std.proofs.Common.{subst}
-use Rattle.std.specs.Prelude.{IsTrue, ◌↔◌}
-use Rattle.route_table.specs.Routes.{RouteMap, NamesPeer}
-use Rattle.route_table.proofs.RowSearch.{names_decided}
+use Rattle.route_table.proofs.Named.{names_peer_is}
 use Rattle.route_table.proofs.routes.Routes.names_peer.Goals as goal
 
 pub returns : goal.returns
-returns c =
-    let P : RouteMap → Type 0 = λ routes. IsTrue c.names.result ↔ NamesPeer routes c.args.peer in
-    subst P c.self.view_is
-    (names_decided _ _ _ c.self.invariant.distinct (rw c.deref.ensures.value at c.names.ensures))
+returns c = names_peer_is c.self.inside.root.routes _ _ _ c.self.view_is c.self.invariant.prefixes c.names.ensures

@@ -1,31 +1,18 @@
-use Rattle.std.proofs.Common.{ap, refl, ◌∙◌, arith, Some, None}
-use Rattle.route_table.proofs.RowLemmas.{position_placed, routes_of}
+use Rattle.std.proofs.Common.{◌≡◌, ap, sym, ◌∙◌, arith, true}
+use Rattle.std.specs.Prelude.{is_some}
+use Rattle.std.specs.FinMap.{contains_key}
+use Rattle.route_table.proofs.Rekeyed.{some_kept, kept_less, routes_less}
 use Rattle.route_table.proofs.routes.Routes.remove.Goals as goal
 
-pub returns-in_default-clause-exact : goal.returns-in_default-clause-exact
-returns-in_default-clause-exact c =
-    let new = position_placed _ _ _ None c.self.view_is c.self.invariant.distinct (rw c.deref.ensures.value at c.in_default.ensures) in
-    rw new.absent refl
-
-pub remove-removed-requires : goal.remove-removed-requires
-remove-removed-requires c =
-    let removes = position_placed _ _ _ (Some c.in-Some.at) c.self.view_is c.self.invariant.distinct (rw c.deref.ensures.value at c.in-Some.ensures) in
-    omega (arith, removes.below)
+pub overflow_sub-self : goal.overflow_sub-self
+overflow_sub-self c =
+    let present : contains_key c.args.self.now c.args.prefix.now ≡ true = sym (ap is_some c.peer_of.ensures) ∙ c.if-is_none.ensures in
+    omega (arith, some_kept _ c.args.self.now c.args.prefix.now _ c.self.view_is c.self.invariant present)
 
 pub invariant_of-self : goal.invariant_of-self
 invariant_of-self c =
-    let removes = position_placed _ _ _ (Some c.in-Some.at) c.self.view_is c.self.invariant.distinct (rw c.deref.ensures.value at c.in-Some.ensures) in
-    record {
-      distinct = rw c.remove-removed.ensures.items removes.distinct;
-      few = omega arith;
-    }
-
-pub returns-clause-exact : goal.returns-clause-exact
-returns-clause-exact c =
-    let removes = position_placed _ _ _ (Some c.in-Some.at) c.self.view_is c.self.invariant.distinct (rw c.deref.ensures.value at c.in-Some.ensures) in
-    rw removes.present refl
+    let present : contains_key c.args.self.now c.args.prefix.now ≡ true = sym (ap is_some c.peer_of.ensures) ∙ c.if-is_none.ensures in
+    kept_less _ _ c.args.self.now c.args.prefix.now _ _ c.self.view_is c.self.invariant c.segments.ensures c.remove.ensures present
 
 pub returns-clause-removed : goal.returns-clause-removed
-returns-clause-removed c =
-    let removes = position_placed _ _ _ (Some c.in-Some.at) c.self.view_is c.self.invariant.distinct (rw c.deref.ensures.value at c.in-Some.ensures) in
-    ap routes_of c.remove-removed.ensures.items ∙ removes.rest
+returns-clause-removed c = routes_less _ _ c.args.self.now c.args.prefix.now _ c.self.view_is c.self.invariant.prefixes c.segments.ensures c.remove.ensures

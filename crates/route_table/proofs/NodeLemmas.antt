@@ -1,0 +1,483 @@
+-- The routes of a node, by those of its children.
+use Rattle.std.proofs.Common.{◌≡◌, ℕ, Bool, true, false, cond, ◌&&◌, List, [], ◌∷◌, ◌++◌, length, arith, refl, sym, ap, subst, ◌∙◌, inl, inr, ◌⊎◌, Ordering}
+use Rattle.std.specs.Prelude.{Option, Some, None, Vec, Result, Ok, Err, OnOk, OnErr, ◌↔◌, is_some}
+use Rattle.std.specs.declared.alloc.Global.{Global}
+use Rattle.std.specs.Map.{keys_of, KeepsOthers}
+use Rattle.std.specs.List.{IsDistinct, AllByRecursion}
+use Rattle.std.specs.List.Sorted.{IsStrictlySortedBy}
+use Rattle.std.specs.Option.{option_or}
+use Rattle.std.specs.Ordering.{nat_cmp, eq_by_cmp}
+use Rattle.std.specs.Cmp.Lexicographic.{slice_cmp}
+use Rattle.std.proofs.lemmas.Map.Keys.{IsDistinct-from_sorted}
+use Rattle.std.specs.FinMap as map
+use Rattle.std.specs.FinMap.{entries, get-from_entries}
+use Rattle.route_table.specs.declared.node.Wanted.{Wanted}
+use Rattle.route_table.specs.Paths.{Path, PathMap, is_same, longest_at}
+use Rattle.route_table.specs.Nodes.{Branch, Children, PathRow, own_row, below, apart, rows_of, routes_from, child_of, peer_in, HasNoEmptyChild, IsWanted, HasWanted, Names}
+use Rattle.route_table.proofs.PathLemmas.{cases, same, same_test, turned, tied, at, find_at, get, get_at, get_none, paths_total, same_paths}
+use Rattle.route_table.proofs.PathLemmas.{get_inserted, get_removed, inserted_some, longest_cong, longest_none, or_or}
+
+-- ---- the rows of the children
+
+at_append : (q : Path) (xs ys : List PathRow) → at q (xs ++ ys) ≡ option_or (at q xs) (at q ys)
+at_append q [] ys = refl
+at_append q (x ∷ xs) ys =
+    elim (tied q x.0) as (λ b. cond b (Some x.1) (at q (xs ++ ys)) ≡ option_or (cond b (Some x.1) (at q xs)) (at q ys)) [
+      | true ↦ refl
+      | false ↦ at_append q xs ys
+    ]
+
+either : (b : Bool) (o : Option ℕ) → o ≡ cond b o o
+either true o = refl
+either false o = refl
+
+at_below : (s t : List ℕ) (q : Path) (rows : List PathRow) → at (s ∷ q) (below t rows) ≡ cond (is_same s t) (at q rows) None
+at_below s t q [] = either (is_same s t) None
+at_below s t q (row ∷ rows) =
+    ap (cond (is_same s t && tied q row.0) (Some row.1)) (at_below s t q rows)
+    ∙ elim (is_same s t) as (λ b. cond (b && tied q row.0) (Some row.1) (cond b (at q rows) None) ≡ cond b (cond (tied q row.0) (Some row.1) (at q rows)) None) [ true ↦ refl | false ↦ refl ]
+
+none_below : (t : List ℕ) (rows : List PathRow) → at [] (below t rows) ≡ None
+none_below t [] = refl
+none_below t (row ∷ rows) = none_below t rows
+
+at_apart : (s t : List ℕ) (q : Path) (rows : List PathRow) → at (s ∷ q) (apart t rows) ≡ cond (is_same s t) None (at (s ∷ q) rows)
+at_apart s t q [] = either (is_same s t) None
+at_apart s t q (([], peer) ∷ rows) = at_apart s t q rows
+at_apart s t q ((u ∷ path, peer) ∷ rows) =
+    let more = at_apart s t q rows in
+    elim (cases (is_same u t)) [
+      | inl gone ↦ elim (cases (is_same s t)) [
+        | inl here ↦ rw (gone, here) (rw here at more)
+        | inr other ↦
+            let differs : is_same s u ≡ false = turned u s (ap (λ x. is_same x s) (same u t gone) ∙ turned s t other) in
+            rw (gone, other, differs) (rw other at more)
+      ]
+      | inr kept ↦ elim (cases (is_same s t)) [
+        | inl here ↦
+            let differs : is_same s u ≡ false = turned u s (ap (is_same u) (same s t here) ∙ kept) in
+            rw (kept, here, differs) (rw here at more)
+        | inr other ↦ rw (kept, other) (ap (cond (is_same s u && tied q path) (Some peer)) (rw other at more))
+      ]
+    ]
+
+none_apart : (t : List ℕ) (rows : List PathRow) → at [] rows ≡ None → at [] (apart t rows) ≡ None
+none_apart t [] none = refl
+none_apart t (([], peer) ∷ rows) none = none
+none_apart t ((u ∷ path, peer) ∷ rows) none =
+    elim (is_same u t) as (λ b. at [] (cond b (apart t rows) ((u ∷ path, peer) ∷ apart t rows)) ≡ None) [
+      | true ↦ none_apart t rows none
+      | false ↦ none_apart t rows none
+    ]
+
+at_rows_of : (s : List ℕ) (q : Path) (children : Children) → at (s ∷ q) (rows_of children) ≡ peer_in q (child_of s children)
+at_rows_of s q [] = refl
+at_rows_of s q (child ∷ children) =
+    at_append (s ∷ q) (below child.0.items (entries child.1.routes)) (apart child.0.items (rows_of children))
+    ∙ (λ i. option_or (at_below s child.0.items q (entries child.1.routes) i) (at_apart s child.0.items q (rows_of children) i))
+    ∙ elim (is_same s child.0.items) as
+    (λ b. option_or (cond b (at q (entries child.1.routes)) None) (cond b None (at (s ∷ q) (rows_of children))) ≡ peer_in q (cond b (Some child.1) (child_of s children))) [
+      | true ↦ or_none (at q (entries child.1.routes)) ∙ sym (get_at child.1.routes q)
+      | false ↦ at_rows_of s q children
+    ]
+  where
+    or_none : (o : Option ℕ) → option_or o None ≡ o
+    or_none None = refl
+    or_none (Some n) = refl
+
+none_rows_of : (children : Children) → at [] (rows_of children) ≡ None
+none_rows_of [] = refl
+none_rows_of (child ∷ children) =
+    at_append [] (below child.0.items (entries child.1.routes)) (apart child.0.items (rows_of children))
+    ∙ (λ i. option_or (none_below child.0.items (entries child.1.routes) i) (none_apart child.0.items (rows_of children) (none_rows_of children) i))
+
+-- ---- what a node has
+
+get_routes_from : (peer : Option ℕ) (children : Children) (q : Path) → get (routes_from peer children) q ≡ at q (own_row peer ++ rows_of children)
+get_routes_from peer children q = get-from_entries paths_total (own_row peer ++ rows_of children) q ∙ find_at q (own_row peer ++ rows_of children)
+
+pub get_here : (peer : Option ℕ) (children : Children) → get (routes_from peer children) [] ≡ peer
+get_here None children = get_routes_from None children [] ∙ none_rows_of children
+get_here (Some n) children = get_routes_from (Some n) children []
+
+pub get_below : (peer : Option ℕ) (children : Children) (s : List ℕ) (q : Path) → get (routes_from peer children) (s ∷ q) ≡ peer_in q (child_of s children)
+get_below None children s q = get_routes_from None children (s ∷ q) ∙ at_rows_of s q children
+get_below (Some n) children s q = get_routes_from (Some n) children (s ∷ q) ∙ at_rows_of s q children
+
+pub peer_is : (b : Branch) (peer : Option ℕ) (children : Children) → routes_from peer children ≡ b.routes → peer ≡ get b.routes []
+peer_is b peer children is = sym (get_here peer children) ∙ ap (λ m. get m []) is
+
+pub child_is : (b : Branch) (peer : Option ℕ) (children : Children) (s : List ℕ) (child : Option Branch) → routes_from peer children ≡ b.routes → child ≡ child_of s children
+    → (path : Path) → peer_in path child ≡ get b.routes (s ∷ path)
+child_is b peer children s child is found path = ap (peer_in path) found ∙ sym (get_below peer children s path) ∙ ap (λ m. get m (s ∷ path)) is
+
+-- the child behind the first segment has what the node has behind it
+pub walked : (m : PathMap) (left : Path) (s : List ℕ) (rest : Path) (child : Option Branch) → ((path : Path) → peer_in path child ≡ get m (s ∷ path)) → left ≡ s ∷ rest
+    → peer_in rest child ≡ get m left
+walked m left s rest child is steps = is rest ∙ ap (get m) (sym steps)
+
+abbrev longest_in : Option Branch → Path → Option ℕ
+longest_in None path = None
+longest_in (Some child) path = longest_at (get child.routes) path
+
+pub longest_walked : (m : PathMap) (left : Path) (s : List ℕ) (rest : Path) (child : Option Branch) (best : Option ℕ) → ((path : Path) → peer_in path child ≡ get m (s ∷ path)) → left ≡ s ∷ rest
+    → option_or (longest_in child rest) (option_or (get m []) best) ≡ option_or (longest_at (get m) left) best
+longest_walked m left s rest child best is steps =
+    sym (or_or (longest_in child rest) (get m []) best)
+    ∙ ap (λ o. option_or (option_or o (get m [])) best) (sym (longest_peer_in child rest) ∙ longest_cong (λ q. peer_in q child) (λ q. get m (s ∷ q)) is rest)
+    ∙ ap (λ p. option_or (longest_at (get m) p) best) (sym steps)
+  where
+    longest_peer_in : (child : Option Branch) (path : Path) → longest_at (λ q. peer_in q child) path ≡ longest_in child path
+    longest_peer_in None path = longest_none path
+    longest_peer_in (Some child) path = refl
+
+-- ---- a node with no routes
+
+pub empty_from : (peer : Option ℕ) (children : Children) → peer ≡ None → children ≡ [] → routes_from peer children ≡ map.empty
+empty_from peer children none nothing = λ i. routes_from (none i) (nothing i)
+
+pub from_empty : (peer : Option ℕ) (children : Children) → HasNoEmptyChild children → routes_from peer children ≡ map.empty → (peer ≡ None) × (children ≡ [])
+from_empty peer children used is = (sym (get_here peer children) ∙ get_none _ is [], nothing children used (λ s q. sym (get_below peer children s q) ∙ get_none _ is (s ∷ q)))
+  where
+    nothing : (children : Children) → HasNoEmptyChild children → ((s : List ℕ) (q : Path) → peer_in q (child_of s children) ≡ None) → children ≡ []
+    nothing [] used none = refl
+    nothing (child ∷ children) used none =
+        let first : child_of child.0.items (child ∷ children) ≡ Some child.1 = ap (λ b. cond b (Some child.1) (child_of child.0.items children)) (same_test child.0.items child.0.items refl) in
+        absurd (used child.0.items child.1 first (same_paths _ _ (λ q. sym (ap (peer_in q) first) ∙ none child.0.items q ∙ sym (get_none _ refl q))))
+
+some_peer : (b : Branch) (n : ℕ) (children : Children) → routes_from (Some n) children ≡ b.routes → ¬ (b.routes ≡ map.empty)
+some_peer b n children is e = let none : Some n ≡ None = peer_is b (Some n) children is ∙ get_none b.routes e [] in absurd cc
+
+nil : {A : Type 0} (xs : List A) → length xs ≡ 0 → xs ≡ []
+nil [] e = refl
+nil (x ∷ xs) e = absurd (omega arith)
+
+-- no peer of its own: it has no routes exactly where it has no children
+pub empty_without_peer : (b : Branch) (peer : Option ℕ) (children : Children) → HasNoEmptyChild children → routes_from peer children ≡ b.routes → is_some peer ≡ false
+    → (length children ≡ 0) ↔ (b.routes ≡ map.empty)
+empty_without_peer b None children used is none = (
+  λ e. sym is ∙ empty_from None children refl (nil children e),
+  λ e. ap length (from_empty None children used (is ∙ e)).1,
+)
+empty_without_peer b (Some n) children used is none = absurd cc
+
+pub not_empty_with_peer : (b : Branch) (peer : Option ℕ) (children : Children) → routes_from peer children ≡ b.routes → is_some peer ≡ true → ¬ (b.routes ≡ map.empty)
+not_empty_with_peer b None children is some = absurd cc
+not_empty_with_peer b (Some n) children is some = some_peer b n children is
+
+-- ---- a node that changes at one path
+
+pub peer_set : (peer : Option ℕ) (children : Children) (n : ℕ) → routes_from (Some n) children ≡ map.insert (routes_from peer children) [] n
+peer_set peer children n = same_paths _ _ (λ q. at_each q ∙ sym (get_inserted (routes_from peer children) [] n q))
+  where
+    at_each : (q : Path) → get (routes_from (Some n) children) q ≡ cond (tied q []) (Some n) (get (routes_from peer children) q)
+    at_each [] = get_here (Some n) children
+    at_each (s ∷ q) = get_below (Some n) children s q ∙ sym (get_below peer children s q)
+
+pub peer_taken : (peer : Option ℕ) (children : Children) → routes_from None children ≡ map.remove (routes_from peer children) []
+peer_taken peer children = same_paths _ _ (λ q. at_each q ∙ sym (get_removed (routes_from peer children) [] q))
+  where
+    at_each : (q : Path) → get (routes_from None children) q ≡ cond (tied q []) None (get (routes_from peer children) q)
+    at_each [] = get_here None children
+    at_each (s ∷ q) = get_below None children s q ∙ sym (get_below peer children s q)
+
+pub set_here : (b : Branch) (peer : Option ℕ) (children : Children) (path : Path) (n : ℕ) → routes_from peer children ≡ b.routes → path ≡ []
+    → routes_from (Some n) children ≡ map.insert b.routes path n
+set_here b peer children path n is none = peer_set peer children n ∙ (λ i. map.insert (is i) (sym none i) n)
+
+pub taken_here : (b : Branch) (peer : Option ℕ) (children : Children) (path : Path) → routes_from peer children ≡ b.routes → path ≡ []
+    → routes_from None children ≡ map.remove b.routes path
+taken_here b peer children path is none = peer_taken peer children ∙ (λ i. map.remove (is i) (sym none i))
+
+-- the children differ at one segment
+pub record Differ (old new : Children) (s : List ℕ) (child : Option Branch) : Type 0 where
+  pub here : child_of s new ≡ child
+  pub others : (t : List ℕ) → is_same t s ≡ false → child_of t new ≡ child_of t old
+
+changed : (peer : Option ℕ) (old new : Children) (s : List ℕ) (child : Option Branch) (p : Path) (v : Option ℕ) → Differ old new s child
+    → ((q : Path) → peer_in q child ≡ cond (tied q p) v (peer_in q (child_of s old)))
+    → (q : Path) → get (routes_from peer new) q ≡ cond (tied q (s ∷ p)) v (get (routes_from peer old) q)
+changed peer old new s child p v differ below [] = get_here peer new ∙ sym (get_here peer old)
+changed peer old new s child p v differ below (t ∷ q) =
+    get_below peer new t q
+    ∙ elim (cases (is_same t s)) [
+      | inl is ↦
+          rw is (ap (λ x. peer_in q (child_of x new)) (same t s is) ∙ ap (peer_in q) differ.here ∙ below q
+          ∙ ap (cond (tied q p) v) (ap (λ x. peer_in q (child_of x old)) (sym (same t s is)) ∙ sym (get_below peer old t q)))
+      | inr other ↦ rw other (ap (peer_in q) (differ.others t other) ∙ sym (get_below peer old t q))
+    ]
+
+pub inserted : (peer : Option ℕ) (old new : Children) (s : List ℕ) (child : Branch) (m : PathMap) (p : Path) (n : ℕ) → Differ old new s (Some child)
+    → child.routes ≡ map.insert m p n → ((q : Path) → get m q ≡ peer_in q (child_of s old))
+    → routes_from peer new ≡ map.insert (routes_from peer old) (s ∷ p) n
+inserted peer old new s child m p n differ e was =
+    same_paths _ _ (λ q. changed peer old new s (Some child) p (Some n) differ
+    (λ r. ap (λ x. get x r) e ∙ get_inserted m p n r ∙ ap (cond (tied r p) (Some n)) (was r)) q
+    ∙ sym (get_inserted (routes_from peer old) (s ∷ p) n q))
+
+pub removed : (peer : Option ℕ) (old new : Children) (s : List ℕ) (child : Option Branch) (m : PathMap) (p : Path) → Differ old new s child
+    → ((q : Path) → peer_in q child ≡ get (map.remove m p) q) → ((q : Path) → get m q ≡ peer_in q (child_of s old))
+    → routes_from peer new ≡ map.remove (routes_from peer old) (s ∷ p)
+removed peer old new s child m p differ e was =
+    same_paths _ _ (λ q. changed peer old new s child p None differ
+    (λ r. e r ∙ get_removed m p r ∙ ap (cond (tied r p) None) (was r)) q
+    ∙ sym (get_removed (routes_from peer old) (s ∷ p) q))
+
+-- ---- children after a call
+
+abbrev pub vec_cmp : Vec ℕ Global → Vec ℕ Global → Ordering
+vec_cmp x y = slice_cmp nat_cmp x.items y.items
+
+abbrev pub vec_same : Vec ℕ Global → Vec ℕ Global → Bool
+vec_same = eq_by_cmp vec_cmp
+
+pub differs : (old new : Children) (s : List ℕ) (child : Option Branch) → child_of s new ≡ child → KeepsOthers vec_same (λ k. is_same s k.items) old new → Differ old new s child
+unfolding KeepsOthers
+differs old new s child here keeps = record {
+  here = here;
+  others = λ t other. keeps (λ k. is_same t k.items) (λ x y h. ap (λ z. is_same z y.items) (same t x.items h)) (λ k h. ap (is_same t) (sym (same s k.items h)) ∙ other);
+}
+
+pub then : (old mid new : Children) (s : List ℕ) (child other : Option Branch) → Differ old mid s child → Differ mid new s other → Differ old new s other
+then old mid new s child other a b = record { here = b.here; others = λ t e. b.others t e ∙ a.others t e }
+
+same_routes : (o : Option Branch) (a b : Branch) → o ≡ Some a → o ≡ Some b → a.routes ≡ b.routes
+same_routes o a b e f = ap (peer_routes a) (sym e ∙ f)
+  where
+    peer_routes : Branch → Option Branch → PathMap
+    peer_routes d None = d.routes
+    peer_routes d (Some x) = x.routes
+
+pub renamed : (old lent new : Children) (s key : List ℕ) (child : Option Branch) → key ≡ s → lent ≡ old → Differ lent new key child → Differ old new s child
+renamed old lent new s key child named is differ = subst (λ x. Differ old new x child) named (subst (λ x. Differ x new key child) is differ)
+
+-- a child that has routes comes in for another, or for none
+pub still_used : (old new : Children) (s : List ℕ) (child : Branch) → HasNoEmptyChild old → Differ old new s (Some child) → ¬ (child.routes ≡ map.empty) → HasNoEmptyChild new
+still_used old new s child used differ some t other found =
+    elim (cases (is_same t s)) [
+      | inl is ↦ λ e. some (same_routes (child_of s new) child other differ.here (ap (λ x. child_of x new) (sym (same t s is)) ∙ found) ∙ e)
+      | inr away ↦ used t other (sym (differ.others t away) ∙ found)
+    ]
+
+-- a child goes
+pub less_used : (old new : Children) (s : List ℕ) → HasNoEmptyChild old → Differ old new s None → HasNoEmptyChild new
+less_used old new s used differ t other found =
+    elim (cases (is_same t s)) [
+      | inl is ↦ let none : Some other ≡ None = sym found ∙ ap (λ x. child_of x new) (same t s is) ∙ differ.here in absurd cc
+      | inr away ↦ used t other (sym (differ.others t away) ∙ found)
+    ]
+
+pub was_in : (child : Branch) (s : List ℕ) (old : Children) → Some child ≡ child_of s old → (q : Path) → get child.routes q ≡ peer_in q (child_of s old)
+was_in child s old is q = ap (peer_in q) is
+
+-- ---- one route more
+
+outcome : {A E : Type 0} (r : Result A E) (P Q R : Type 0) → (P → R) → (Q → R) → OnOk r P → OnErr r Q → R
+outcome (Ok x) P Q R f g p q = f p
+outcome (Err e) P Q R f g p q = g q
+
+pub on_ok : {A E : Type 0} (r : Result A E) (P Q : Type 0) → (P → Q) → OnOk r P → OnOk r Q
+on_ok (Ok x) P Q f h = f h
+on_ok (Err e) P Q f h = h
+
+pub on_err : {A E : Type 0} (r : Result A E) (P Q : Type 0) → (P → Q) → OnErr r P → OnErr r Q
+on_err (Ok x) P Q f h = h
+on_err (Err e) P Q f h = f h
+
+-- a child that took a route, or is as it was, has routes
+pub child_used : {A E : Type 0} (r : Result A E) (old new : Children) (s : List ℕ) (was child : Branch) (p : Path) (n : ℕ) → HasNoEmptyChild old
+    → Some was ≡ child_of s old → Differ old new s (Some child) → OnOk r (child.routes ≡ map.insert was.routes p n) → OnErr r (child.routes ≡ was.routes) → HasNoEmptyChild new
+child_used r old new s was child p n used is differ added stays =
+    still_used old new s child used differ
+    (outcome r _ _ (¬ (child.routes ≡ map.empty)) (λ e f. inserted_some was.routes p n (sym e ∙ f)) (λ e f. used s was (sym is) (sym e ∙ f)) added stays)
+
+-- a new child that took a route has routes
+pub new_used : (old new : Children) (s : List ℕ) (child fresh : Branch) (p : Path) (n : ℕ) → HasNoEmptyChild old → Differ old new s (Some child)
+    → child.routes ≡ map.insert fresh.routes p n → HasNoEmptyChild new
+new_used old new s child fresh p n used differ e = still_used old new s child used differ (λ f. inserted_some fresh.routes p n (sym e ∙ f))
+
+-- a child written back as it was
+pub kept : (peer : Option ℕ) (old new : Children) (s : List ℕ) (child was : Branch) → Some was ≡ child_of s old → Differ old new s (Some child) → child.routes ≡ was.routes
+    → routes_from peer new ≡ routes_from peer old
+kept peer old new s child was is differ e = same_paths _ _ at_each
+  where
+    at_each : (q : Path) → get (routes_from peer new) q ≡ get (routes_from peer old) q
+    at_each [] = get_here peer new ∙ sym (get_here peer old)
+    at_each (t ∷ q) =
+        get_below peer new t q
+        ∙ elim (cases (is_same t s)) [
+          | inl tie ↦ ap (λ x. peer_in q (child_of x new)) (same t s tie) ∙ ap (peer_in q) differ.here ∙ ap (λ x. get x q) e
+              ∙ was_in was s old is q ∙ ap (λ x. peer_in q (child_of x old)) (sym (same t s tie))
+          | inr other ↦ ap (peer_in q) (differ.others t other)
+        ]
+        ∙ sym (get_below peer old t q)
+
+-- the route went to a child that was there
+pub added_below : (b : Branch) (peer : Option ℕ) (old new : Children) (s : List ℕ) (was child : Branch) (left rest : Path) (n : ℕ) → routes_from peer old ≡ b.routes → left ≡ s ∷ rest
+    → Some was ≡ child_of s old → Differ old new s (Some child) → child.routes ≡ map.insert was.routes rest n → routes_from peer new ≡ map.insert b.routes left n
+added_below b peer old new s was child left rest n view steps is differ e =
+    inserted peer old new s child was.routes rest n differ e (was_in was s old is) ∙ (λ i. map.insert (view i) (sym steps i) n)
+
+-- the route went to a child that is new
+pub added_new : (b : Branch) (peer : Option ℕ) (old new : Children) (s : List ℕ) (child fresh : Branch) (left rest : Path) (n : ℕ) → routes_from peer old ≡ b.routes → left ≡ s ∷ rest
+    → None ≡ child_of s old → Differ old new s (Some child) → fresh.routes ≡ map.empty → child.routes ≡ map.insert fresh.routes rest n → routes_from peer new ≡ map.insert b.routes left n
+added_new b peer old new s child fresh left rest n view steps none differ nothing e =
+    inserted peer old new s child fresh.routes rest n differ e (λ q. get_none fresh.routes nothing q ∙ ap (peer_in q) none)
+    ∙ (λ i. map.insert (view i) (sym steps i) n)
+
+-- ---- one route less
+
+-- the child that lost the route has routes left
+pub removed_below : (b : Branch) (peer : Option ℕ) (old new : Children) (s : List ℕ) (was child : Branch) (left rest : Path) → routes_from peer old ≡ b.routes → left ≡ s ∷ rest
+    → Some was ≡ child_of s old → Differ old new s (Some child) → child.routes ≡ map.remove was.routes rest → routes_from peer new ≡ map.remove b.routes left
+removed_below b peer old new s was child left rest view steps is differ e =
+    removed peer old new s (Some child) was.routes rest differ (λ q. ap (λ m. get m q) e) (was_in was s old is) ∙ (λ i. map.remove (view i) (sym steps i))
+
+-- it has none left, and is taken away
+pub removed_whole : (b : Branch) (peer : Option ℕ) (old mid new : Children) (s : List ℕ) (was child : Branch) (left rest : Path) → routes_from peer old ≡ b.routes → left ≡ s ∷ rest
+    → Some was ≡ child_of s old → Differ old mid s (Some child) → Differ mid new s None → child.routes ≡ map.remove was.routes rest → child.routes ≡ map.empty
+    → routes_from peer new ≡ map.remove b.routes left
+removed_whole b peer old mid new s was child left rest view steps is first second e nothing =
+    removed peer old new s None was.routes rest (then old mid new s (Some child) None first second)
+    (λ q. sym (ap (λ m. get m q) (sym e) ∙ get_none child.routes nothing q))
+    (was_in was s old is)
+    ∙ (λ i. map.remove (view i) (sym steps i))
+
+-- no child is behind the segment
+pub removed_nothing : (b : Branch) (peer : Option ℕ) (children : Children) (s : List ℕ) (left rest : Path) → routes_from peer children ≡ b.routes → left ≡ s ∷ rest → None ≡ child_of s children
+    → routes_from peer children ≡ map.remove b.routes left
+removed_nothing b peer children s left rest view steps none =
+    removed peer children children s None map.empty rest (record { here = sym none; others = λ t e. refl })
+    (λ q. sym (get_removed map.empty rest q ∙ ap (cond (tied q rest) None) (get_none map.empty refl q) ∙ sym (either (tied q rest) None)))
+    (λ q. get_none map.empty refl q ∙ ap (peer_in q) none)
+    ∙ (λ i. map.remove (view i) (sym steps i))
+
+-- ---- peers that are looked for
+
+-- some path from a child on has a peer that is looked for
+abbrev pub SomeChildNames : Wanted → Children → Type 0
+SomeChildNames wanted [] = ⊥
+SomeChildNames wanted (child ∷ children) = Names wanted child.1.routes ⊎ SomeChildNames wanted children
+
+distinct_keys : (children : Children) → IsStrictlySortedBy vec_cmp (keys_of children) → IsDistinct vec_same (keys_of children)
+distinct_keys children sorted = IsDistinct-from_sorted vec_cmp (keys_of children) sorted
+
+none_later : (k : Vec ℕ Global) (children : Children) → AllByRecursion (λ y. vec_same k y ≡ false) (keys_of children) → child_of k.items children ≡ None
+none_later k [] h = refl
+none_later k (child ∷ children) h = rw h.0 (none_later k children h.1)
+
+-- a peer from a child on, found in the order of the children
+named_child : (wanted : Wanted) (s : List ℕ) (q : Path) (n : ℕ) (children : Children) → peer_in q (child_of s children) ≡ Some n → IsWanted wanted n → SomeChildNames wanted children
+named_child wanted s q n [] e is = absurd cc
+named_child wanted s q n (child ∷ children) e is =
+    elim (cases (is_same s child.0.items)) [
+      | inl here ↦ inl (q, n, rw here at e, is)
+      | inr other ↦ inr (named_child wanted s q n children (rw other at e) is)
+    ]
+
+-- and the other way: each child is found by its own segment
+child_names : (wanted : Wanted) (children : Children) → IsDistinct vec_same (keys_of children) → SomeChildNames wanted children
+    → (s : List ℕ) × (q : Path) × (n : ℕ) × (peer_in q (child_of s children) ≡ Some n) × IsWanted wanted n
+unfolding IsDistinct
+child_names wanted [] distinct some = absurd some
+child_names wanted (child ∷ children) distinct (inl here) = (child.0.items, here.0, here.1, rw (same_test child.0.items child.0.items refl) here.2, here.3)
+child_names wanted (child ∷ children) distinct (inr later) =
+    let more = child_names wanted children distinct.1 later in
+    elim (cases (is_same more.0 child.0.items)) [
+      | inl here ↦
+          let none : child_of more.0 children ≡ None = ap (λ x. child_of x children) (same more.0 child.0.items here) ∙ none_later child.0 children distinct.0 in
+          let gone : peer_in more.1 (child_of more.0 children) ≡ None = ap (peer_in more.1) none in
+          absurd cc
+      | inr other ↦ (more.0, more.1, more.2, rw other more.3, more.4)
+    ]
+
+pub own_names : (wanted : Wanted) (b : Branch) (peer : Option ℕ) (children : Children) → routes_from peer children ≡ b.routes → HasWanted wanted peer → Names wanted b.routes
+own_names wanted b None children view own = absurd own
+own_names wanted b (Some n) children view own = ([], n, sym (peer_is b (Some n) children view), own)
+
+-- the node's own peer is not looked for, and the children are left
+pub names_start : (wanted : Wanted) (b : Branch) (peer : Option ℕ) (children left : Children) → routes_from peer children ≡ b.routes → left ≡ children → IsStrictlySortedBy vec_cmp (keys_of children)
+    → ¬ (HasWanted wanted peer) → Names wanted b.routes ↔ SomeChildNames wanted left
+names_start wanted b peer children left view all sorted other =
+    (λ names. subst (SomeChildNames wanted) (sym all) (forth names.0 names.1 names.2 names.3), λ some. back (subst (SomeChildNames wanted) all some))
+  where
+    own : (o : Option ℕ) (n : ℕ) → o ≡ Some n → IsWanted wanted n → HasWanted wanted o
+    own None n e is = absurd cc
+    own (Some k) n e is = let same_peer : k ≡ n = cc in subst (IsWanted wanted) (sym same_peer) is
+
+    forth : (q : Path) (n : ℕ) → get b.routes q ≡ Some n → IsWanted wanted n → SomeChildNames wanted children
+    forth [] n e is = absurd (other (own peer n (peer_is b peer children view ∙ e) is))
+    forth (s ∷ q) n e is = named_child wanted s q n children (child_is b peer children s (child_of s children) view refl q ∙ e) is
+
+    back : SomeChildNames wanted children → Names wanted b.routes
+    back some =
+        let child = child_names wanted children (distinct_keys children sorted) some in
+        (child.0 ∷ child.1, child.2, sym (child_is b peer children child.0 (child_of child.0 children) view refl child.1) ∙ child.3, child.4)
+
+-- ---- a copy
+
+-- what is left of the children, or else the new ones, have what the node has
+pub record IsCopied (m : PathMap) (left new : Children) : Type 0 where
+  pub distinct : IsDistinct vec_same (keys_of left)
+  pub used : HasNoEmptyChild left
+  pub copies : HasNoEmptyChild new
+  pub reads : (s : List ℕ) (q : Path) → get m (s ∷ q) ≡ peer_in q (option_or (child_of s left) (child_of s new))
+
+copied_all : (peer : Option ℕ) (children : Children) (m : PathMap) → routes_from peer children ≡ m → IsDistinct vec_same (keys_of children) → HasNoEmptyChild children → IsCopied m children []
+copied_all peer children m view distinct used = record {
+  distinct = distinct;
+  used = used;
+  copies = λ s child e. absurd cc;
+  reads = λ s q. ap (λ x. get x (s ∷ q)) (sym view) ∙ get_below peer children s q ∙ ap (peer_in q) (or_none (child_of s children));
+}
+  where
+    or_none : (o : Option Branch) → o ≡ option_or o None
+    or_none None = refl
+    or_none (Some b) = refl
+
+pub copied_start : (b : Branch) (peer : Option ℕ) (children left new : Children) → routes_from peer children ≡ b.routes → left ≡ children → new ≡ [] → IsStrictlySortedBy vec_cmp (keys_of children)
+    → HasNoEmptyChild children → IsCopied b.routes left new
+copied_start b peer children left new view all none sorted used =
+    subst (λ x. IsCopied b.routes x new) (sym all) (subst (IsCopied b.routes children) (sym none) (copied_all peer children b.routes view (distinct_keys children sorted) used))
+
+-- a child of those behind the first is found there among all of them
+found_later : (key : Vec ℕ Global) (child : Branch) (rest : Children) → IsDistinct vec_same (keys_of ((key, child) ∷ rest)) → (s : List ℕ) (other : Branch) → child_of s rest ≡ Some other
+    → child_of s ((key, child) ∷ rest) ≡ Some other
+unfolding IsDistinct
+found_later key child rest distinct s other e =
+    elim (cases (is_same s key.items)) [
+      | inl here ↦
+          let none : child_of s rest ≡ None = ap (λ x. child_of x rest) (same s key.items here) ∙ none_later key rest distinct.0 in
+          absurd cc
+      | inr away ↦ rw away e
+    ]
+
+copied_next : (m : PathMap) (key : Vec ℕ Global) (child : Branch) (rest old new : Children) (named : List ℕ) (copy : Branch) → named ≡ key.items → copy.routes ≡ child.routes
+    → Differ old new named (Some copy) → IsCopied m ((key, child) ∷ rest) old → IsCopied m rest new
+unfolding IsDistinct
+copied_next m key child rest old new named copy is equal differ copied = record {
+  distinct = copied.distinct.1;
+  used = λ s other e. copied.used s other (found_later key child rest copied.distinct s other e);
+  copies = still_used old new named copy copied.copies differ (λ e. copied.used key.items child (rw (same_test key.items key.items refl) refl) (sym equal ∙ e));
+  reads = λ s q. elim (cases (is_same s key.items)) [
+    | inl here ↦
+        let none : child_of s rest ≡ None = ap (λ x. child_of x rest) (same s key.items here) ∙ none_later key rest copied.distinct.0 in
+        let has : child_of s new ≡ Some copy = ap (λ x. child_of x new) (same s key.items here ∙ sym is) ∙ differ.here in
+        rw here at (copied.reads s q) ∙ ap (λ x. get x q) (sym equal) ∙ sym (λ i. peer_in q (option_or (none i) (has i)))
+    | inr away ↦
+        let stays : child_of s new ≡ child_of s old = differ.others s (ap (is_same s) is ∙ away) in
+        rw away at (copied.reads s q) ∙ ap (λ o. peer_in q (option_or (child_of s rest) o)) (sym stays)
+  ];
+}
+
+pub copied_step : (m : PathMap) (left : Children) (first : Vec ℕ Global × Branch) (rest old new : Children) (named : List ℕ) (copy : Branch) → left ≡ first ∷ rest → named ≡ first.0.items
+    → copy.routes ≡ first.1.routes → Differ old new named (Some copy) → IsCopied m left old → IsCopied m rest new
+copied_step m left first rest old new named copy steps is equal differ copied =
+    copied_next m first.0 first.1 rest old new named copy is equal differ (subst (λ x. IsCopied m x old) steps copied)
+
+pub copied_end : (b : Branch) (peer : Option ℕ) (children left new : Children) → routes_from peer children ≡ b.routes → left ≡ [] → IsCopied b.routes left new → routes_from peer new ≡ b.routes
+copied_end b peer children left new view none copied = same_paths _ _ at_each
+  where
+    at_each : (q : Path) → get (routes_from peer new) q ≡ get b.routes q
+    at_each [] = get_here peer new ∙ sym (get_here peer children) ∙ ap (λ x. get x []) view
+    at_each (s ∷ q) = get_below peer new s q ∙ sym (copied.reads s q ∙ ap (λ x. peer_in q (option_or (child_of s x) (child_of s new))) none)

@@ -1,0 +1,7 @@
+use Rattle.std.specs.Prelude.{◌↔◌}
+use Rattle.route_table.specs.Nodes.{Names}
+use Rattle.route_table.proofs.NodeLemmas.{SomeChildNames}
+use Rattle.route_table.proofs.node.Node.+names.Given as goal
+
+abbrev pub invariant-loop-child : goal.invariant-loop-child
+invariant-loop-child l = Names l.wanted l.self.routes ↔ SomeChildNames l.wanted l.child-iterator

@@ -1,0 +1,29 @@
+-- The routes that a trie keeps, by the bytes of their prefixes.
+use Rattle.std.specs.Prelude.{◌≡◌, ◌≤◌, ℕ, List, [], ◌∷◌}
+use Rattle.std.specs.List.{join_with_byte}
+use Rattle.std.specs.FinMap.{from_entries, entries, len}
+use Rattle.ilp_addr.specs.Address.{prefix_segments}
+use Rattle.route_table.specs.Paths.{PathMap}
+use Rattle.route_table.specs.Nodes.{PathRow}
+use Rattle.route_table.specs.Routes.{RouteMap, max_routes}
+
+-- each row with its segments joined by dots
+abbrev pub joined : List PathRow → List (List ℕ × ℕ)
+joined [] = []
+joined (row ∷ rows) = (join_with_byte 46 row.0, row.1) ∷ joined rows
+
+-- the routes by prefix
+abbrev pub routes_of : PathMap → RouteMap
+routes_of paths = from_entries (joined (entries paths))
+
+-- each row has the segments of a prefix
+abbrev pub ArePrefixes : List PathRow → Type 0
+ArePrefixes [] = Unit {0}
+ArePrefixes (row ∷ rows) =
+    (prefix_segments (join_with_byte 46 row.0) ≡ row.0) × ArePrefixes rows
+
+-- the paths are those of prefixes, they are counted, and there are no more than an operator may have
+pub record IsKept (paths : PathMap) (count : ℕ) : Type 0 where
+  pub prefixes : ArePrefixes (entries paths)
+  pub counted : count ≡ len (routes_of paths)
+  pub few : count ≤ max_routes

@@ -1,0 +1,90 @@
+-- The routes of a node of the trie, read off the node and its children.
+use Rattle.std.specs.Prelude.{◌≡◌, ◌≢◌, ◌≤◌, refl, ℕ, List, [], ◌∷◌, ◌++◌, ◌+◌, if◌then◌else◌, Option, Some, None, Vec}
+use Rattle.std.specs.declared.alloc.Global.{Global}
+use Rattle.std.specs.FinMap as map
+use Rattle.std.specs.FinMap.{from_entries, entries}
+use Rattle.std.specs.Coded.{Coded, code_by, coded×, coded_ℕ, coded_list}
+use Rattle.std.specs.Map.{lookup, values_of}
+use Rattle.std.specs.Option.{option_and_then}
+use denote.Param.Weighed.{most}
+use Rattle.route_table.specs.declared.node.Wanted.{Wanted}
+use Rattle.route_table.specs.declared.node.Wanted.TheVariants.{Peer, NotBelow}
+use Rattle.route_table.specs.Paths.{Path, PathMap, is_same}
+
+-- what contracts see of a node: the routes from it on, by the segments that follow, and how deep it goes
+pub record Branch : Type 0 where
+  pub routes : PathMap
+  pub height : ℕ
+
+-- stored as the pair of its fields
+abbrev pub branch_code : Coded Branch
+branch_code =
+    code_by (PathMap × ℕ) (coded× (map.code (coded_list (coded_list coded_ℕ)) coded_ℕ) coded_ℕ)
+    (λ b. (b.routes, b.height)) (λ p. record { routes = p.0; height = p.1 }) (λ _. refl)
+
+-- the branch behind each segment that follows
+abbrev pub Children : Type 0
+Children = List (Vec ℕ Global × Branch)
+
+-- a path and the number of its peer
+abbrev pub PathRow : Type 0
+PathRow = Path × ℕ
+
+-- the row of the node itself
+abbrev pub own_row : Option ℕ → List PathRow
+own_row None = []
+own_row (Some peer) = ([], peer) ∷ []
+
+-- each row with a segment in front
+abbrev pub below : List ℕ → List PathRow → List PathRow
+below s [] = []
+below s (row ∷ rows) = (s ∷ row.0, row.1) ∷ below s rows
+
+-- the rows that do not begin with a segment
+abbrev pub apart : List ℕ → List PathRow → List PathRow
+apart s [] = []
+apart s (([], peer) ∷ rows) = ([], peer) ∷ apart s rows
+apart s ((t ∷ path, peer) ∷ rows) =
+    if is_same t s then apart s rows else (t ∷ path, peer) ∷ apart s rows
+
+-- the rows of the children; of two behind one segment the first counts
+abbrev pub rows_of : Children → List PathRow
+rows_of [] = []
+rows_of (child ∷ children) =
+    below child.0.items (entries child.1.routes) ++ apart child.0.items (rows_of children)
+
+-- the routes of a node with a peer of its own, if it has one, and children
+abbrev pub routes_from : Option ℕ → Children → PathMap
+routes_from peer children = from_entries (own_row peer ++ rows_of children)
+
+-- one more than the deepest child
+abbrev pub height_of : Children → ℕ
+height_of children = most (λ (b : Branch). b.height + 1) (values_of children)
+
+-- the child behind a segment
+abbrev pub child_of : List ℕ → Children → Option Branch
+child_of s children = lookup (λ (k : Vec ℕ Global). is_same s k.items) children
+
+-- the peer of a path from a branch on, if there is the branch
+abbrev pub peer_in : Path → Option Branch → Option ℕ
+peer_in path branch = option_and_then (λ (b : Branch). map.get b.routes path) branch
+
+-- no child is without a route
+abbrev pub HasNoEmptyChild : Children → Type 0
+HasNoEmptyChild children =
+    (s : List ℕ) (child : Branch) → child_of s children ≡ Some child → child.routes ≢ map.empty
+
+-- the peer is looked for
+abbrev pub IsWanted : Wanted → ℕ → Type 0
+IsWanted (Peer other) peer = peer ≡ other
+IsWanted (NotBelow count) peer = count ≤ peer
+
+-- there is a peer, and it is looked for
+abbrev pub HasWanted : Wanted → Option ℕ → Type 0
+HasWanted wanted None = ⊥
+HasWanted wanted (Some peer) = IsWanted wanted peer
+
+-- some path has a peer that is looked for
+abbrev pub Names : Wanted → PathMap → Type 0
+Names wanted paths =
+    (path : Path) × (peer : ℕ) × (map.get paths path ≡ Some peer) × IsWanted wanted peer
