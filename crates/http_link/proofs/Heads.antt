@@ -1,0 +1,105 @@
+-- Heads of requests, of which a front is known.
+use Rattle.std.proofs.Common.{◌≡◌, ◌⊎◌, inl, inr, Bool, true, false, ltb, ltb-true, ltb-false, ℕ, ◌<◌, ◌≤◌, List, [], ◌∷◌, ◌++◌, length, drop, refl, sym, ap, subst, ◌∙◌, arith, append-nil, length-append, length-take, Option, Some, None}
+use Rattle.std.proofs.lemmas.List.{length-map}
+use Rattle.std.specs.Io.KnownBytes.{Consumes, IsAtEnd}
+use Rattle.httparse.specs.declared.spans.HeaderSpan.{HeaderSpan}
+use Rattle.httparse.specs.declared.spans.RequestSpans.{RequestSpans}
+use Rattle.httparse.specs.Grammar.{RequestHead, IsRequestHead, print_request, HasNoRequest}
+use Rattle.httparse.specs.Spans.{IsRequestOf, IsRequestWithin, RequestOverflows}
+use Rattle.http_link.specs.Reading.{IsRequest, GoesOn, BeginsNone, HasNoHead}
+
+-- of two fronts of one list the longer one goes on
+pub goes_on : (a m p r : List ℕ) → a ++ m ≡ p ++ r → length a ≤ length p → (q : List ℕ) × (p ≡ a ++ q) × (m ≡ q ++ r)
+goes_on [] m p r e le = (p, refl, e)
+goes_on (x ∷ a) m [] r e le = absurd (omega arith)
+goes_on (x ∷ a) m (y ∷ p) r e le =
+    let tail : a ++ m ≡ p ++ r = cc in
+    let head : y ≡ x = cc in
+    let more = goes_on a m p r tail (omega arith) in
+    (more.0, cc (more.1, head), more.2)
+
+-- one number is below another, or not
+pub lt_or_ge : (a b : ℕ) → (a < b) ⊎ (b ≤ a)
+lt_or_ge a b = by_test (ltb a b) refl
+  where
+    by_test : (t : Bool) → ltb a b ≡ t → (a < b) ⊎ (b ≤ a)
+    by_test true e = inl (ltb-true a b e)
+    by_test false e = inr (ltb-false a b e)
+
+-- a text that has no head goes on in each
+pub partial_goes_on : (text : List ℕ) (room : ℕ) → HasNoRequest text → GoesOn text room
+partial_goes_on text room none head more rest reads few = by_length (lt_or_ge (length text) (length (print_request head)))
+  where
+    by_length : (length text < length (print_request head)) ⊎ (length (print_request head) ≤ length text) → length text < length (print_request head)
+    by_length (inl lt) = lt
+    by_length (inr le) =
+        let whole = goes_on (print_request head) rest text more (sym reads.1) le in
+        absurd (none head whole.0 (reads.0, whole.1))
+
+-- what has too many lines begins with none of so many
+pub overflow_begins_none : (text : List ℕ) (room : ℕ) → RequestOverflows room text → BeginsNone text room
+overflow_begins_none text room over head more rest reads few =
+    let many = over more head rest reads in
+    omega arith
+
+-- a head that the parser gives has no more lines than there is room
+pub is_request : (text : List ℕ) (lines : List HeaderSpan) (spans : RequestSpans) → IsRequestOf text lines spans → IsRequestWithin text lines spans → IsRequest text lines spans
+is_request text lines spans of within =
+    record {
+      head = of.0;
+      at = of.1;
+      few = let fit = within.section.count_fits in
+          let e = ap length of.1.fields in
+          let long = simp (length-map, length-take) at e in
+          omega arith;
+      within = within;
+    }
+
+pub not_empty : (h : RequestHead) → IsRequestHead h → 0 < length (print_request h)
+unfolding print_request
+not_empty h is = let m = is.method.0 in simp length-append (omega arith)
+
+-- nothing is no whole head
+pub nothing_goes_on : (room : ℕ) → GoesOn [] room
+nothing_goes_on room head more rest reads few = not_empty head reads.0
+
+-- the known bytes begin with what was taken
+pub begins_with_taken : (old new : Option (List ℕ)) (text stream : List ℕ) → Consumes old new text → old ≡ Some stream
+    → (rest : List ℕ) × (new ≡ Some rest) × (stream ≡ text ++ rest)
+begins_with_taken None new text stream c e = cc
+begins_with_taken (Some zs) None text stream c e = absurd c
+begins_with_taken (Some zs) (Some ys) text stream c e = (ys, refl, cc)
+
+-- where the text fills the room and goes on, no head has that room
+pub no_head_in_room : (old new : Option (List ℕ)) (text : List ℕ) (size room : ℕ) → Consumes old new text → GoesOn text room → size ≤ length text → HasNoHead old size room
+no_head_in_room old new text size room c on full stream head rest e reads short few =
+    let begins = begins_with_taken old new text stream c e in
+    let long = on head begins.0 rest (reads.0, sym begins.2 ∙ reads.1) few in
+    omega arith
+
+-- where the bytes have ended and the text goes on, there is no head
+pub no_head_at_end : (old new : Option (List ℕ)) (text : List ℕ) (size room : ℕ) → Consumes old new text → IsAtEnd new → GoesOn text room → HasNoHead old size room
+no_head_at_end old new text size room c end on stream head rest e reads short few =
+    let begins = begins_with_taken old new text stream c e in
+    let long = on head begins.0 rest (reads.0, sym begins.2 ∙ reads.1) few in
+    let none : begins.0 ≡ [] = subst IsAtEnd begins.1 end in
+    let whole : stream ≡ text = begins.2 ∙ ap (λ (w : List ℕ). text ++ w) none ∙ append-nil text in
+    let l = ap length (sym whole ∙ reads.1) in
+    omega (arith, length-append (print_request head) rest)
+
+-- where the bytes begin with no head of so many lines, there is no head
+pub no_head_begins : (old new : Option (List ℕ)) (text : List ℕ) (size room : ℕ) → Consumes old new text → BeginsNone text room → HasNoHead old size room
+no_head_begins old new text size room c none stream head rest e reads short few =
+    let begins = begins_with_taken old new text stream c e in
+    none head begins.0 rest (reads.0, sym begins.2 ∙ reads.1) few
+
+-- a head that ends with the text, and not before
+pub whole_at : (front text : List ℕ) (b : ℕ) (lines : List HeaderSpan) (spans : RequestSpans) → text ≡ front ++ b ∷ [] → GoesOn front (length lines)
+    → IsRequest text lines spans → spans.len ≡ length text
+whole_at front text b lines spans grows on is =
+    let at = is.at in
+    let lt = on is.head (b ∷ []) (drop spans.len text) (at.reads.0, sym grows ∙ at.reads.1) is.few in
+    let le = is.within.section.len_fits in
+    let len = at.len in
+    let long = ap length grows in
+    omega (arith, length-append front (b ∷ []))

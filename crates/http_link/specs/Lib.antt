@@ -1,0 +1,10 @@
+pub mod Fields
+pub mod Heads
+pub mod Requests
+pub mod Lines
+pub mod Answers
+pub mod Streams
+pub mod Reading
+pub mod ReadingReplies
+pub mod Serving
+pub mod Client
