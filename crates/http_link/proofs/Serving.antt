@@ -59,7 +59,7 @@ runs_served (Ok wanted) head rest traces served (inr whole) =
       λ lt. let ge = parts.2 in absurd (omega arith),
       λ ge. record {
         status = whole.status;
-        asked = whole.asked ∙ ap (λ body. traces.before ++ asking wanted body whole.status ∷ []) (sym parts.0);
+        asked = subst (λ (body : List ℕ). traces.Asks (asking wanted body whole.status)) (sym parts.0) whole.asked;
         written = whole.written;
         left = front.1 ∙ ap Some (sym parts.1);
         open_or_not = whole.open_or_not;
@@ -67,21 +67,21 @@ runs_served (Ok wanted) head rest traces served (inr whole) =
     )
 
 -- only what is wanted is asked
-pub asks_only : (want : Result Wanted ℕ) (rest : List ℕ) (left : Option (List ℕ)) (before after : List Asked)
-    → AsksWanted want (Some rest) left before after → IsAskedOnly want rest before after
-asks_only (Err status) rest left before after asks = asks
-asks_only (Ok wanted) rest left before after (inl none) = inl none
-asks_only (Ok wanted) rest left before after (inr once) =
+pub asks_only : (want : Result Wanted ℕ) (rest : List ℕ) (left : Option (List ℕ)) (Unasked : Type 0) (Asks : Asked → Type 0)
+    → AsksWanted want (Some rest) left Unasked Asks → IsAskedOnly want rest Unasked Asks
+asks_only (Err status) rest left Unasked Asks asks = asks
+asks_only (Ok wanted) rest left Unasked Asks (inl none) = inl none
+asks_only (Ok wanted) rest left Unasked Asks (inr once) =
     let front = taken_left rest once.0 left once.3 in
     let parts = front_of wanted.size rest once.0 front.0 front.2 once.2 in
-    inr (parts.2, (once.1, once.4 ∙ ap (λ body. before ++ asking wanted body once.1 ∷ []) (sym parts.0)))
+    inr (parts.2, (once.1, subst (λ (body : List ℕ). Asks (asking wanted body once.1)) (sym parts.0) once.4))
 
 -- at most one question is asked
-pub asks_once : (want : Result Wanted ℕ) (old new : Option (List ℕ)) (before after : List Asked)
-    → AsksWanted want old new before after → AsksAtMostOnce before after
-asks_once (Err status) old new before after asks = inl asks
-asks_once (Ok wanted) old new before after (inl none) = inl none
-asks_once (Ok wanted) old new before after (inr once) = inr (asking wanted once.0 once.1, once.4)
+pub asks_once : (want : Result Wanted ℕ) (old new : Option (List ℕ)) (Unasked : Type 0) (Asks : Asked → Type 0)
+    → AsksWanted want old new Unasked Asks → AsksAtMostOnce Unasked Asks
+asks_once (Err status) old new Unasked Asks asks = inl asks
+asks_once (Ok wanted) old new Unasked Asks (inl none) = inl none
+asks_once (Ok wanted) old new Unasked Asks (inr once) = inr (asking wanted once.0 once.1, once.4)
 
 -- a head that was taken begins the stream
 pub taken_begins : (old new : Option (List ℕ)) (text stream : List ℕ) (lines : List HeaderSpan) (spans : RequestSpans) → length text ≡ 8192 → length lines ≡ 64
@@ -134,9 +134,9 @@ head_served (Ok served) tenant_of said new traces head rest is runs =
 head_served (Err fault) tenant_of said new traces head rest is runs = tt
 
 -- what is asked for the head that was taken is what the stream's head wants
-pub head_asked : (tenant_of : List ℕ → Option ℕ) (said : Head) (new left : Option (List ℕ)) (before after : List Asked) (head : RequestHead) (rest : List ℕ)
-    → (said ≡ head_of head) × (new ≡ Some rest) → AsksWanted (wanted_of tenant_of said) new left before after → IsAskedOnly (wanted_of tenant_of (head_of head)) rest before after
-head_asked tenant_of said new left before after head rest is asks =
-    asks_only (wanted_of tenant_of (head_of head)) rest left before after
-    (subst (λ (known : Option (List ℕ)). AsksWanted (wanted_of tenant_of (head_of head)) known left before after) is.1
-    (subst (λ (h : Head). AsksWanted (wanted_of tenant_of h) new left before after) is.0 asks))
+pub head_asked : (tenant_of : List ℕ → Option ℕ) (said : Head) (new left : Option (List ℕ)) (Unasked : Type 0) (Asks : Asked → Type 0) (head : RequestHead) (rest : List ℕ)
+    → (said ≡ head_of head) × (new ≡ Some rest) → AsksWanted (wanted_of tenant_of said) new left Unasked Asks → IsAskedOnly (wanted_of tenant_of (head_of head)) rest Unasked Asks
+head_asked tenant_of said new left Unasked Asks head rest is asks =
+    asks_only (wanted_of tenant_of (head_of head)) rest left Unasked Asks
+    (subst (λ (known : Option (List ℕ)). AsksWanted (wanted_of tenant_of (head_of head)) known left Unasked Asks) is.1
+    (subst (λ (h : Head). AsksWanted (wanted_of tenant_of h) new left Unasked Asks) is.0 asks))

@@ -1,5 +1,5 @@
 -- What serving one request does: what is read, what a service is asked, what is written.
-use Rattle.std.specs.Prelude.{◌≡◌, ◌<◌, ◌≤◌, ◌⊎◌, ℕ, List, [], ◌∷◌, ◌++◌, length, take, drop, Bool, Option, Some, Result, Ok, Err, if◌then◌else◌}
+use Rattle.std.specs.Prelude.{◌≡◌, ◌<◌, ◌≤◌, ◌⊎◌, ℕ, List, [], ◌++◌, length, take, drop, Bool, Option, Some, Result, Ok, Err, if◌then◌else◌}
 use Rattle.std.specs.Io.KnownBytes.{Consumes, Keeps}
 use Rattle.http_link.specs.declared.request.Kind.{Kind}
 use Rattle.http_link.specs.declared.serve.Served.{Served}
@@ -22,10 +22,11 @@ abbrev pub asking : Wanted → List ℕ → ℕ → Asked
 asking wanted body status =
     record { kind = wanted.kind; tenant = wanted.tenant; token = wanted.token; body = body; status = status }
 
--- a service before and after, the bytes of its last answer, what is left of a stream, and what it means to have written a text
+-- that a service is as it was, that one question made of it what it is, the bytes of its last answer, what is left of a
+-- stream, and what it means to have written a text
 pub record Traces : Type 1 where
-  pub before : List Asked
-  pub after : List Asked
+  pub Unasked : Type 0
+  pub Asks : Asked → Type 0
   pub answer : List ℕ
   pub left : Option (List ℕ)
   pub Writes : List ℕ → Type 0
@@ -37,14 +38,14 @@ kept_unless closed = if closed then Closed else Kept
 -- the body is cut: nothing is asked
 pub record IsCut (head : Head) (traces : Traces) (served : Served) : Type 0 where
   pub ended : served ≡ Ended
-  pub unasked : traces.after ≡ traces.before
+  pub unasked : traces.Unasked
   pub written : traces.Writes (continue_text (waits head))
   pub left : traces.left ≡ Some []
 
 -- the body is whole: exactly that is asked, once, and the answer is written
 pub record IsAsked (wanted : Wanted) (head : Head) (rest : List ℕ) (traces : Traces) (served : Served) : Type 0 where
   pub status : ℕ
-  pub asked : traces.after ≡ traces.before ++ asking wanted (take wanted.size rest) status ∷ []
+  pub asked : traces.Asks (asking wanted (take wanted.size rest) status)
   pub written : traces.Writes (continue_text (waits head) ++ answer_text wanted.kind status traces.answer (closes head))
   pub left : traces.left ≡ Some (drop wanted.size rest)
   pub open_or_not : served ≡ kept_unless (closes head)
@@ -52,7 +53,7 @@ pub record IsAsked (wanted : Wanted) (head : Head) (rest : List ℕ) (traces : T
 -- a head is refused: nothing is asked, the status is written, and the connection is closed
 pub record IsRefused (status : ℕ) (rest : List ℕ) (traces : Traces) (served : Served) : Type 0 where
   pub closed : served ≡ Closed
-  pub unasked : traces.after ≡ traces.before
+  pub unasked : traces.Unasked
   pub written : traces.Writes (refusal_text status)
   pub left : traces.left ≡ Some rest
 
@@ -69,22 +70,21 @@ WritesNothingOr400 Writes served =
     ((served ≡ Ended) × Writes []) ⊎ ((served ≡ Closed) × Writes (refusal_text 400))
 
 -- at most one question was asked
-abbrev pub AsksAtMostOnce : List Asked → List Asked → Type 0
-AsksAtMostOnce before after = (after ≡ before) ⊎ ((question : Asked) × (after ≡ before ++ question ∷ []))
+abbrev pub AsksAtMostOnce : Type 0 → (Asked → Type 0) → Type 0
+AsksAtMostOnce Unasked Asks = Unasked ⊎ ((question : Asked) × Asks question)
 
 -- nothing is asked, or only what the head wants, with a whole body
-abbrev pub IsAskedOnly : Result Wanted ℕ → List ℕ → List Asked → List Asked → Type 0
-IsAskedOnly (Err status) rest before after = after ≡ before
-IsAskedOnly (Ok wanted) rest before after =
-    (after ≡ before)
-    ⊎ ((wanted.size ≤ length rest) × ((status : ℕ) × (after ≡ before ++ asking wanted (take wanted.size rest) status ∷ [])))
+abbrev pub IsAskedOnly : Result Wanted ℕ → List ℕ → Type 0 → (Asked → Type 0) → Type 0
+IsAskedOnly (Err status) rest Unasked Asks = Unasked
+IsAskedOnly (Ok wanted) rest Unasked Asks =
+    Unasked ⊎ ((wanted.size ≤ length rest) × ((status : ℕ) × Asks (asking wanted (take wanted.size rest) status)))
 
 -- ---- a head that is served while its body comes, in terms of what is taken and written
 
 -- the stream ends before the body
 pub record RunsCut (wanted : Wanted) (head : Head) (old : Option (List ℕ)) (traces : Traces) (served : Served) : Type 0 where
   pub ended : served ≡ Ended
-  pub unasked : traces.after ≡ traces.before
+  pub unasked : traces.Unasked
   pub taken : EndsBefore wanted.size old traces.left
   pub written : traces.Writes (continue_text (waits head))
 
@@ -94,14 +94,14 @@ pub record RunsWhole (wanted : Wanted) (head : Head) (old : Option (List ℕ)) (
   pub status : ℕ
   pub size : length body ≡ wanted.size
   pub taken : Consumes old traces.left body
-  pub asked : traces.after ≡ traces.before ++ asking wanted body status ∷ []
+  pub asked : traces.Asks (asking wanted body status)
   pub written : traces.Writes (continue_text (waits head) ++ answer_text wanted.kind status traces.answer (closes head))
   pub open_or_not : served ≡ kept_unless (closes head)
 
 -- the head is refused
 pub record RunsRefused (status : ℕ) (old : Option (List ℕ)) (traces : Traces) (served : Served) : Type 0 where
   pub closed : served ≡ Closed
-  pub unasked : traces.after ≡ traces.before
+  pub unasked : traces.Unasked
   pub taken : Keeps old traces.left
   pub written : traces.Writes (refusal_text status)
 
@@ -111,9 +111,8 @@ Runs (Err status) head old traces served = RunsRefused status old traces served
 Runs (Ok wanted) head old traces served = RunsCut wanted head old traces served ⊎ RunsWhole wanted head old traces served
 
 -- nothing is asked, or only what is wanted, with a whole body that was taken
-abbrev pub AsksWanted : Result Wanted ℕ → Option (List ℕ) → Option (List ℕ) → List Asked → List Asked → Type 0
-AsksWanted (Err status) old new before after = after ≡ before
-AsksWanted (Ok wanted) old new before after =
-    (after ≡ before)
-    ⊎ ((body : List ℕ) × (status : ℕ) × (length body ≡ wanted.size) × Consumes old new body
-    × (after ≡ before ++ asking wanted body status ∷ []))
+abbrev pub AsksWanted : Result Wanted ℕ → Option (List ℕ) → Option (List ℕ) → Type 0 → (Asked → Type 0) → Type 0
+AsksWanted (Err status) old new Unasked Asks = Unasked
+AsksWanted (Ok wanted) old new Unasked Asks =
+    Unasked
+    ⊎ ((body : List ℕ) × (status : ℕ) × (length body ≡ wanted.size) × Consumes old new body × Asks (asking wanted body status))

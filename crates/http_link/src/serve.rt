@@ -58,8 +58,8 @@ pub fn serve_one<R: Read + Device, W: Write + Device, S: Service>(
         → R.remaining r.old ≡ Some stream → BeginsWith stream head rest
         → IfOk result (IsServed (wanted_of (S.tenant_of service.old) (head_of head)) (head_of head) rest
         (record {
-          before = S.asked service.old;
-          after = S.asked service.new;
+          Unasked = service.new ≡ service.old;
+          Asks = λ question. S.asks service.old question service.new;
           answer = S.answer service.new;
           left = R.remaining r.new;
           Writes = λ text. Appends (W.contents w.old) (W.contents w.new) text;
@@ -67,13 +67,14 @@ pub fn serve_one<R: Read + Device, W: Write + Device, S: Service>(
     // Whatever comes of it, only what the head wants is asked.
     ensures asked_only { (stream : List ℕ) (head : grammar.RequestHead) (rest : List ℕ)
         → R.remaining r.old ≡ Some stream → BeginsWith stream head rest
-        → IsAskedOnly (wanted_of (S.tenant_of service.old) (head_of head)) rest (S.asked service.old) (S.asked service.new) }
+        → IsAskedOnly (wanted_of (S.tenant_of service.old) (head_of head)) rest (service.new ≡ service.old)
+        (λ question. S.asks service.old question service.new) }
     // A stream that begins with no such head is turned away.
     ensures turned_away { (stream : List ℕ) → R.remaining r.old ≡ Some stream
         → ((head : grammar.RequestHead) (rest : List ℕ) → ¬ (BeginsWith stream head rest))
-        → (S.asked service.new ≡ S.asked service.old)
+        → (service.new ≡ service.old)
         × IfOk result (WritesNothingOr400 (λ text. Appends (W.contents w.old) (W.contents w.new) text)) }
-    ensures asked_once { AsksAtMostOnce (S.asked service.old) (S.asked service.new) }
+    ensures asked_once { AsksAtMostOnce (service.new ≡ service.old) (λ question. S.asks service.old question service.new) }
 
     // A device's fault is told exactly where the device failed.
     ensures read { (result ≡ Err LinkFault.Read) ↔ (R.failure_count r.old < R.failure_count r.new) }
@@ -140,14 +141,14 @@ fn serve_head<R: Read + Device, W: Write + Device, S: Service>(
     requires writes { W.failure_count w.old ≤ before.writes }
     ensures runs { IfOk result (Runs (wanted_of (S.tenant_of service.old) (head_at head.now)) (head_at head.now)
         (R.remaining r.old) (record {
-          before = S.asked service.old;
-          after = S.asked service.new;
+          Unasked = service.new ≡ service.old;
+          Asks = λ question. S.asks service.old question service.new;
           answer = S.answer service.new;
           left = R.remaining r.new;
           Writes = λ text. Appends (W.contents w.old) (W.contents w.new) text;
         })) }
     ensures asks { AsksWanted (wanted_of (S.tenant_of service.old) (head_at head.now)) (R.remaining r.old)
-        (R.remaining r.new) (S.asked service.old) (S.asked service.new) }
+        (R.remaining r.new) (service.new ≡ service.old) (λ question. S.asks service.old question service.new) }
     ensures read { (result ≡ Err LinkFault.Read) ↔ (before.reads < R.failure_count r.new) }
     ensures write { (result ≡ Err LinkFault.Write) ↔ (before.writes < W.failure_count w.new) }
 {
@@ -173,14 +174,14 @@ fn serve_wanted<R: Read + Device, W: Write + Device, S: Service>(
     requires writes { W.failure_count w.old ≤ before.writes }
     ensures runs { IfOk result (Runs (Ok (wanted_at wanted.now)) (head_at head.now)
         (R.remaining r.old) (record {
-          before = S.asked service.old;
-          after = S.asked service.new;
+          Unasked = service.new ≡ service.old;
+          Asks = λ question. S.asks service.old question service.new;
           answer = S.answer service.new;
           left = R.remaining r.new;
           Writes = λ text. Appends (W.contents w.old) (W.contents w.new) text;
         })) }
     ensures asks { AsksWanted (Ok (wanted_at wanted.now)) (R.remaining r.old)
-        (R.remaining r.new) (S.asked service.old) (S.asked service.new) }
+        (R.remaining r.new) (service.new ≡ service.old) (λ question. S.asks service.old question service.new) }
     ensures read { (result ≡ Err LinkFault.Read) ↔ (before.reads < R.failure_count r.new) }
     ensures write { (result ≡ Err LinkFault.Write) ↔ (before.writes < W.failure_count w.new) }
 {
@@ -220,7 +221,7 @@ fn kept_unless(closed: bool) -> Served
 
 // Asks the service what a head wants.
 fn ask<S: Service>(service: &mut S, wanted: &Wanted, body: &[u8]) -> u16
-    ensures { S.asked service.new ≡ S.asked service.old ++ asking (wanted_at wanted.now) body.now result ∷ [] }
+    ensures { S.asks service.old (asking (wanted_at wanted.now) body.now result) service.new }
 {
     match wanted.kind {
         Kind::Ilp => service.ilp(wanted.tenant, wanted.token, body),

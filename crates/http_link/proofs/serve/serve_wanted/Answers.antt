@@ -42,3 +42,19 @@ returns-clause-runs g c =
       written = Appends-trans _ _ _ first answer interim last;
       open_or_not = c.kept_unless.ensures ∙ ap kept_unless c.closes-closed.ensures;
     })
+
+pub returns-in_err-write_answer-clause-asks : goal.returns-in_err-write_answer-clause-asks
+returns-in_err-write_answer-clause-asks g c =
+    let filled = c.in_ok-n.ensures.filled in
+    let bound = filled.bound in
+    let body : List ℕ = take c.in_ok-n.n c.read_up_to.new.out in
+    let long : length body ≡ c.args.wanted.now.size = omega (arith, length-take c.in_ok-n.n c.read_up_to.new.out) in
+    inr (body, c.ask-status.result, long, filled.taken, c.ask-status.ensures)
+
+pub returns-clause-asks : goal.returns-clause-asks
+returns-clause-asks g c =
+    let filled = c.in_ok-n.ensures.filled in
+    let bound = filled.bound in
+    let body : List ℕ = take c.in_ok-n.n c.read_up_to.new.out in
+    let long : length body ≡ c.args.wanted.now.size = omega (arith, length-take c.in_ok-n.n c.read_up_to.new.out) in
+    inr (body, c.ask-status.result, long, filled.taken, c.ask-status.ensures)
