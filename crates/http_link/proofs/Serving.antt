@@ -113,12 +113,14 @@ none_begins known text stream lines head rest size room none e begins =
     none stream head rest e begins.reads (omega arith) (omega arith)
 
 -- what a head says is read off its spans
-pub head_said : (said : Head) (text : List ℕ) (lines : List HeaderSpan) (spans : RequestSpans) (head : RequestHead) → said ≡ head_in text lines spans → IsRequestAt text lines spans head → said ≡ head_of head
+pub head_said : (said : Head) (text : List ℕ) (lines : List HeaderSpan) (spans : RequestSpans) (head : RequestHead)
+    → said ≡ head_in text lines spans → IsRequestAt text lines spans head → said ≡ head_of head
 head_said said text lines spans head says at = says ∙ rw (at.method, at.path, at.version, at.fields) refl
 
 -- the head that was taken is the one that begins the stream, and what is left is what follows it
-pub taken_is : (said : Head) (old new : Option (List ℕ)) (text stream : List ℕ) (lines : List HeaderSpan) (spans : RequestSpans) (head : RequestHead) (rest : List ℕ) → length text ≡ 8192 → length lines ≡ 64
-    → IsTaken old new text lines spans → said ≡ head_in (take spans.len text) lines spans → old ≡ Some stream → BeginsWith stream head rest → (said ≡ head_of head) × (new ≡ Some rest)
+pub taken_is : (said : Head) (old new : Option (List ℕ)) (text stream : List ℕ) (lines : List HeaderSpan) (spans : RequestSpans) (head : RequestHead) (rest : List ℕ)
+    → length text ≡ 8192 → length lines ≡ 64 → IsTaken old new text lines spans
+    → said ≡ head_in (take spans.len text) lines spans → old ≡ Some stream → BeginsWith stream head rest → (said ≡ head_of head) × (new ≡ Some rest)
 taken_is said old new text stream lines spans head rest size room taken says e begins =
     let front = taken_begins old new text stream lines spans size room taken e in
     let same = one_head stream taken.is.head head front.0 rest front.2 begins in

@@ -39,7 +39,8 @@ HasNoHead known size room =
     → length (print_request head) ≤ size → length head.fields ≤ room → ⊥
 
 -- a head was taken, and stands at the front of the text
-pub record IsTaken (old new : Option (List ℕ)) (text : List ℕ) (lines : List HeaderSpan) (spans : RequestSpans) : Type 0 where
+pub record IsTaken (old new : Option (List ℕ)) (text : List ℕ) (lines : List HeaderSpan)
+    (spans : RequestSpans) : Type 0 where
   pub bound : spans.len ≤ length text
   pub is : IsRequest (take spans.len text) lines spans
   pub taken : Consumes old new (take spans.len text)

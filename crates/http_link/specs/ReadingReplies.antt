@@ -39,7 +39,8 @@ HasNoReply known size room =
     → length (print_response head) ≤ size → length head.fields ≤ room → ⊥
 
 -- a head was taken, and stands at the front of the text
-pub record ReplyIsTaken (old new : Option (List ℕ)) (text : List ℕ) (lines : List HeaderSpan) (spans : ResponseSpans) : Type 0 where
+pub record ReplyIsTaken (old new : Option (List ℕ)) (text : List ℕ) (lines : List HeaderSpan)
+    (spans : ResponseSpans) : Type 0 where
   pub bound : spans.len ≤ length text
   pub is : IsReply (take spans.len text) lines spans
   pub taken : Consumes old new (take spans.len text)

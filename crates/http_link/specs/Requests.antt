@@ -7,7 +7,7 @@ use Rattle.common_types.specs.ResultChain.{◌>>=◌}
 use Rattle.common_types.specs.Token.{is_token}
 use Rattle.http_link.specs.declared.request.Kind.{Kind}
 use Rattle.http_link.specs.declared.request.Kind.TheVariants.{Ilp, Admin}
-use Rattle.http_link.specs.Fields.{values_of, Standing, missing, once, repeated, standing, has_element, value_of, is_length, skip_spaces}
+use Rattle.http_link.specs.Fields.{Line, values_of, Standing, missing, once, repeated, standing, has_element, value_of, is_length, skip_spaces}
 use Rattle.http_link.specs.Heads.{Head}
 
 -- the most bytes of a request's body
@@ -41,7 +41,8 @@ place_of tenant_of target =
     if bytes_eq (take 5 target) (codes "/ilp/") then tenant_named tenant_of Ilp (drop 5 target)
     else (if bytes_eq (take 7 target) (codes "/admin/") then tenant_named tenant_of Admin (drop 7 target) else None)
 
--- the length of a body: 400 for a bad or a repeated one or one beside a coding, 411 for a coding alone or neither (RFC 9112, 6.3)
+-- the length of a body: 400 for a bad or a repeated one or one beside a coding, 411 for a coding alone or neither
+-- (RFC 9112, 6.3)
 abbrev pub length_of : Standing → Standing → Result ℕ ℕ
 length_of coding missing = Err 411
 length_of missing (once text) = if is_length text then Ok (value_of text) else Err 400
@@ -70,18 +71,24 @@ token_in missing = None
 token_in (once value) = bearer_token value
 token_in repeated = None
 
+-- how the coding of a body stands (RFC 9112, 6.1)
+abbrev pub coding_of : List Line → Standing
+coding_of lines = standing (codes "Transfer-Encoding") lines
+
 -- what a head asks for, or the status of the first check that refuses it
 abbrev pub wanted_of : (List ℕ → Option ℕ) → Head → Result Wanted ℕ
 wanted_of tenant_of head = do
   posted ← if bytes_eq head.method (codes "POST") then Ok head.method else Err 405
   place ← or_status 404 (place_of tenant_of head.target)
-  size ← size_of place.0 (standing (codes "Transfer-Encoding") head.lines) (standing (codes "Content-Length") head.lines)
+  size ← size_of place.0 (coding_of head.lines) (standing (codes "Content-Length") head.lines)
   token ← or_status 401 (token_in (standing (codes "Authorization") head.lines))
   Ok (record { kind = place.0; tenant = place.1; token = token; size = size })
 
 -- the client waits for `100 Continue` before it sends the body (RFC 9110, 10.1.1)
 abbrev pub waits : Head → Bool
-waits head = (head.minor == 1) && list_any (λ value. str_eq_ignore_ascii_case value (codes "100-continue")) (values_of (codes "Expect") head.lines)
+waits head =
+    (head.minor == 1)
+    && list_any (λ value. str_eq_ignore_ascii_case value (codes "100-continue")) (values_of (codes "Expect") head.lines)
 
 -- the connection is closed behind the answer (RFC 9112, 9.3 and 9.6)
 abbrev pub closes : Head → Bool

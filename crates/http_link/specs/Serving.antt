@@ -82,14 +82,16 @@ IsAskedOnly (Ok wanted) rest Unasked Asks =
 -- ---- a head that is served while its body comes, in terms of what is taken and written
 
 -- the stream ends before the body
-pub record RunsCut (wanted : Wanted) (head : Head) (old : Option (List ℕ)) (traces : Traces) (served : Served) : Type 0 where
+pub record RunsCut (wanted : Wanted) (head : Head) (old : Option (List ℕ)) (traces : Traces)
+    (served : Served) : Type 0 where
   pub ended : served ≡ Ended
   pub unasked : traces.Unasked
   pub taken : EndsBefore wanted.size old traces.left
   pub written : traces.Writes (continue_text (waits head))
 
 -- the body is taken, asked and answered
-pub record RunsWhole (wanted : Wanted) (head : Head) (old : Option (List ℕ)) (traces : Traces) (served : Served) : Type 0 where
+pub record RunsWhole (wanted : Wanted) (head : Head) (old : Option (List ℕ)) (traces : Traces)
+    (served : Served) : Type 0 where
   pub body : List ℕ
   pub status : ℕ
   pub size : length body ≡ wanted.size
@@ -108,11 +110,13 @@ pub record RunsRefused (status : ℕ) (old : Option (List ℕ)) (traces : Traces
 -- what is done with a head that asks for that
 abbrev pub Runs : Result Wanted ℕ → Head → Option (List ℕ) → Traces → Served → Type 0
 Runs (Err status) head old traces served = RunsRefused status old traces served
-Runs (Ok wanted) head old traces served = RunsCut wanted head old traces served ⊎ RunsWhole wanted head old traces served
+Runs (Ok wanted) head old traces served =
+    RunsCut wanted head old traces served ⊎ RunsWhole wanted head old traces served
 
 -- nothing is asked, or only what is wanted, with a whole body that was taken
 abbrev pub AsksWanted : Result Wanted ℕ → Option (List ℕ) → Option (List ℕ) → Type 0 → (Asked → Type 0) → Type 0
 AsksWanted (Err status) old new Unasked Asks = Unasked
 AsksWanted (Ok wanted) old new Unasked Asks =
     Unasked
-    ⊎ ((body : List ℕ) × (status : ℕ) × (length body ≡ wanted.size) × Consumes old new body × Asks (asking wanted body status))
+    ⊎ ((body : List ℕ) × (status : ℕ) × (length body ≡ wanted.size) × Consumes old new body
+    × Asks (asking wanted body status))

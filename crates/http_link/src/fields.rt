@@ -6,7 +6,8 @@ ghost use Rattle.std.specs.Str.{str_eq_ignore_ascii_case};
 ghost use Rattle.httparse.specs.Grammar.{is_ows, skip_ows};
 ghost use Rattle.httparse.specs.Spans.{span_bytes};
 ghost use Rattle.common_types.specs.Numbers.{is_between};
-ghost use Rattle.http_link.specs.Fields.{values_of, standing, is_element, has_element, value_of, is_length, skip_spaces};
+ghost use Rattle.http_link.specs.Fields.{values_of, standing, is_element, has_element};
+ghost use Rattle.http_link.specs.Fields.{value_of, is_length, skip_spaces};
 ghost use Rattle.http_link.specs.Lines.{lines_at, standing_at};
 
 use httparse::spans::{HeaderSpan, Span};
@@ -79,7 +80,8 @@ impl<'b> Lines<'b> {
 
     /// Whether a line of a name has that value, in any case.
     pub(crate) fn says(&self, name: &[u8], value: &[u8]) -> bool
-        ensures { result ≡ list_any (λ v. str_eq_ignore_ascii_case v value.now) (values_of name.now (lines_at self.now)) }
+        ensures { result
+            ≡ list_any (λ v. str_eq_ignore_ascii_case v value.now) (values_of name.now (lines_at self.now)) }
     {
         let mut said = false;
         for line in self.spans {

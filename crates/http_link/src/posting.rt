@@ -5,7 +5,8 @@ ghost use Rattle.httparse.specs.Spans.{IsResponseWithin, header_bytes};
 ghost use Rattle.common_types.specs.Numbers.{is_between};
 ghost use Rattle.std.specs.Io.KnownBytes.{Appends};
 ghost use Rattle.http_link.specs.Lines.{lines_at};
-ghost use Rattle.http_link.specs.Client.{post_head, post_text, Means, given, GivesOf, meaning_of, sized_body, body_to_end};
+ghost use Rattle.http_link.specs.Client.{post_head, post_text, Means, given, GivesOf};
+ghost use Rattle.http_link.specs.Client.{meaning_of, sized_body, body_to_end};
 
 use crate::fields::{Found, Lines, is_length, value_up_to};
 use crate::head::{MAX_HEAD, MAX_LINES, Offered, read_reply_head};
@@ -70,10 +71,10 @@ impl From<LinkFault> for PostFault {
 /// Sends a frame to a peer, and reads its answer into `out`, which has 34,000 bytes or more. Gives how many bytes the
 /// answer's body has; they stand at the front of `out`. (RFC 0035; RFC 9112, 3 and 6)
 ///
-/// Errors: `Read` and `Write` where the device failed in this call; `Turns` where 50,000 reads or writes did not suffice;
-/// of what the peer answers, `Head` for a malformed head, one of more than 8,192 bytes or 64 lines, or the fifth of status
-/// 1xx, `Status` for a status other than 200, `Unframed` for a coded body or a bad or repeated length, `Size` for a body
-/// of more than 34,000 bytes, and `Cut` where the stream ends inside a head or before a stated length.
+/// Errors: `Read` and `Write` where the device failed in this call; `Turns` where 50,000 reads or writes did not
+/// suffice; of what the peer answers, `Head` for a malformed head, one of more than 8,192 bytes or 64 lines, or the
+/// fifth of status 1xx, `Status` for a status other than 200, `Unframed` for a coded body or a bad or repeated length, `Size`
+/// for a body of more than 34,000 bytes, and `Cut` where the stream ends inside a head or before a stated length.
 pub fn post<R: Read + Device, W: Write + Device>(
     r: &mut R,
     w: &mut W,
@@ -186,7 +187,8 @@ fn read_body<R: Read + Device>(
 ) -> Result<usize, PostFault>
     requires room { 34_000 ≤ length out.old }
     requires unfailed { R.failure_count r.old ≤ before }
-    ensures gives { GivesOf (meaning_of (record { status = status; lines = lines_at fields.entry })) (R.remaining r.old) result out.new }
+    ensures gives { GivesOf (meaning_of (record { status = status; lines = lines_at fields.entry }))
+        (R.remaining r.old) result out.new }
     ensures bound { IfOk result (λ n. n ≤ 34_000) }
     ensures len { length out.new ≡ length out.old }
     ensures read { (result ≡ Err PostFault.Read) ↔ (before < R.failure_count r.new) }

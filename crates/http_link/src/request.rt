@@ -1,13 +1,14 @@
 //! What the head of a request asks for.
 
-ghost use Rattle.std.specs.Prelude.{◌≡◌, ◌≤◌, ◌==◌, ℕ, List, length, take, drop, slice_index, Some, None, if◌then◌else◌};
-ghost use Rattle.std.specs.Prelude.{codes, option_map, IfOk};
+ghost use Rattle.std.specs.Prelude.{◌≡◌, ◌≤◌, ◌==◌, ℕ, List, length, take, drop, slice_index};
+ghost use Rattle.std.specs.Prelude.{Some, None, if◌then◌else◌, codes, option_map, IfOk};
 ghost use Rattle.std.specs.Str.{bytes_eq, str_eq_ignore_ascii_case};
 ghost use Rattle.std.specs.List.{list_any};
 ghost use Rattle.common_types.specs.Outcomes.{Gives};
 ghost use Rattle.http_link.specs.Fields.{value_of};
 ghost use Rattle.http_link.specs.Lines.{lines_at, standing_at, head_at, wanted_at};
-ghost use Rattle.http_link.specs.Requests.{place_of, tenant_named, size_of, within_limit, max_body, bearer_token, token_in, wanted_of, waits, closes};
+ghost use Rattle.http_link.specs.Requests.{place_of, tenant_named, size_of, within_limit, max_body};
+ghost use Rattle.http_link.specs.Requests.{bearer_token, token_in, wanted_of, waits, closes};
 
 use crate::fields::{Found, Lines, is_length, is_same, value_up_to, without_spaces};
 use crate::service::Service;
@@ -57,7 +58,9 @@ fn max_body(kind: Kind) -> usize
 }
 
 fn behind<'b>(prefix: &[u8], bytes: &'b [u8]) -> Option<&'b [u8]>
-    ensures { option_map (λ rest. rest.now) result ≡ (if bytes_eq (take (length prefix.now) bytes.now) prefix.now then Some (drop (length prefix.now) bytes.now) else None) }
+    ensures { option_map (λ rest. rest.now) result
+        ≡ (if bytes_eq (take (length prefix.now) bytes.now) prefix.now
+        then Some (drop (length prefix.now) bytes.now) else None) }
 {
     let (front, rest) = bytes.split_at(prefix.len().min(bytes.len()));
     if front == prefix { Some(rest) } else { None }

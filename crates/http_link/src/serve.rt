@@ -1,6 +1,6 @@
 //! One request of a connection.
 
-ghost use Rattle.std.specs.Prelude.{◌≡◌, ◌≢◌, ◌↔◌, ◌<◌, ◌≤◌, ◌++◌, ◌∷◌, [], List, ℕ, length, Some, Ok, Err, IfOk, OnOk};
+ghost use Rattle.std.specs.Prelude.{◌≡◌, ◌≢◌, ◌↔◌, ◌<◌, ◌≤◌, List, ℕ, length, Some, Ok, Err, IfOk, OnOk};
 ghost use Rattle.std.specs.Io.KnownBytes.{Appends};
 ghost use Rattle.httparse.specs.Grammar as grammar;
 ghost use Rattle.httparse.specs.Spans.{IsRequestWithin};
@@ -8,7 +8,8 @@ ghost use Rattle.http_link.specs.Heads.{BeginsWith, head_of};
 ghost use Rattle.http_link.specs.Lines.{head_at, head_in, wanted_at};
 ghost use Rattle.http_link.specs.Requests.{wanted_of};
 ghost use Rattle.http_link.specs.Answers.{refusal_text, continue_text, answer_text, told_body};
-ghost use Rattle.http_link.specs.Serving.{IsServed, IsAskedOnly, AsksAtMostOnce, WritesNothingOr400, Runs, AsksWanted, asking, kept_unless};
+ghost use Rattle.http_link.specs.Serving.{IsServed, IsAskedOnly, AsksAtMostOnce, WritesNothingOr400};
+ghost use Rattle.http_link.specs.Serving.{Runs, AsksWanted, asking, kept_unless};
 
 use crate::answer::{answer_head, told};
 use crate::fields::Lines;
@@ -40,8 +41,8 @@ struct Failures {
 
 /// Reads one request, asks the service where nothing refuses it, and writes the answer. (RFC 9112, 2 and 9.3)
 ///
-/// The room is for bodies, and has 34,000 bytes or more. A request has at most 8,192 bytes and 64 field lines in its head.
-/// Nothing behind its body is taken from the reader.
+/// The room is for bodies, and has 34,000 bytes or more. A request has at most 8,192 bytes and 64 field lines in its
+/// head. Nothing behind its body is taken from the reader.
 ///
 /// Errors: `Read` and `Write` where the device failed in this call, and `Turns` where 50,000 reads or writes did not
 /// suffice. Each ends the connection; the service may have been asked before a `Write` or a `Turns`.
@@ -74,7 +75,8 @@ pub fn serve_one<R: Read + Device, W: Write + Device, S: Service>(
         → ((head : grammar.RequestHead) (rest : List ℕ) → ¬ (BeginsWith stream head rest))
         → (service.new ≡ service.old)
         × IfOk result (WritesNothingOr400 (λ text. Appends (W.contents w.old) (W.contents w.new) text)) }
-    ensures asked_once { AsksAtMostOnce (service.new ≡ service.old) (λ question. S.asks service.old question service.new) }
+    ensures asked_once { AsksAtMostOnce (service.new ≡ service.old)
+        (λ question. S.asks service.old question service.new) }
 
     // A device's fault is told exactly where the device failed.
     ensures read { (result ≡ Err LinkFault.Read) ↔ (R.failure_count r.old < R.failure_count r.new) }
@@ -239,7 +241,8 @@ fn write_answer<W: Write + Device>(
     before: u64,
 ) -> Result<(), LinkFault>
     requires unfailed { W.failure_count w.old ≤ before }
-    ensures whole { OnOk result (Appends (W.contents w.old) (W.contents w.new) (answer_text kind status body.now closes)) }
+    ensures whole { OnOk result (Appends (W.contents w.old) (W.contents w.new)
+        (answer_text kind status body.now closes)) }
     ensures write { (result ≡ Err LinkFault.Write) ↔ (before < W.failure_count w.new) }
     ensures read { result ≢ Err LinkFault.Read }
 {

@@ -68,7 +68,7 @@ fn read_some<R: Read + Device>(
     requires room { at < limit }
     requires within { limit ≤ length out.old }
     requires unfailed { R.failure_count r.old ≤ before }
-    ensures some { IfOk result (λ read. ReadsBehind (R.remaining r.old) (R.remaining r.new) at limit out.old out.new read) }
+    ensures some { IfOk result (ReadsBehind (R.remaining r.old) (R.remaining r.new) at limit out.old out.new) }
     ensures len { length out.new ≡ length out.old }
     ensures read { (result ≡ Err LinkFault.Read) ↔ (before < R.failure_count r.new) }
     ensures write { result ≢ Err LinkFault.Write }
@@ -139,7 +139,8 @@ pub(crate) fn has_ended<R: Read + Device>(
 // Writes once, and gives how many bytes were taken.
 fn write_some<W: Write + Device>(w: &mut W, bytes: &[u8], before: u64) -> Result<usize, LinkFault>
     requires unfailed { W.failure_count w.old ≤ before }
-    ensures taken { IfOk result (λ n. (n ≤ length bytes.now) × Appends (W.contents w.old) (W.contents w.new) (take n bytes.now)) }
+    ensures taken { IfOk result (λ n. (n ≤ length bytes.now)
+        × Appends (W.contents w.old) (W.contents w.new) (take n bytes.now)) }
     ensures front { AppendsFront bytes.now (W.contents w.old) (W.contents w.new) }
     ensures write { (result ≡ Err LinkFault.Write) ↔ (before < W.failure_count w.new) }
     ensures read { result ≢ Err LinkFault.Read }
