@@ -1,5 +1,5 @@
 -- What a known stream means as an answer, head by head.
-use Rattle.std.proofs.Common.{◌≡◌, ◌⊎◌, inl, inr, ℕ, zero, suc, ◌-◌, ◌<◌, Bool, true, false, List, [], ◌∷◌, ◌++◌, length, take, drop, refl, sym, map, ap, subst, ◌∙◌, arith, length-append, length-take, Option, Some, Result, Err}
+use Rattle.std.proofs.Common.{◌≡◌, ◌⊎◌, inl, inr, ℕ, zero, suc, ◌-◌, ◌<◌, Bool, true, false, List, [], ◌++◌, length, take, drop, refl, sym, map, ap, subst, ◌∙◌, arith, length-append, length-take, Option, Some, Result, Err}
 use Rattle.common_types.specs.Numbers.{is_between}
 use Rattle.httparse.specs.declared.spans.HeaderSpan.{HeaderSpan}
 use Rattle.httparse.specs.declared.spans.ResponseSpans.{ResponseSpans}
@@ -12,11 +12,7 @@ use Rattle.http_link.specs.ReadingReplies.{ReplyIsTaken, HasNoReply}
 use Rattle.http_link.specs.declared.posting.PostFault.{PostFault}
 use Rattle.http_link.specs.declared.posting.PostFault.TheVariants.{Head, Cut}
 use Rattle.http_link.specs.Client.{Means, meaning_of, is_interim}
-use Rattle.http_link.proofs.Heads.{begins_with_taken}
-
-nothing_left : (xs : List ℕ) → length xs ≡ 0 → xs ≡ []
-nothing_left [] e = refl
-nothing_left (x ∷ xs) e = absurd (omega arith)
+use Rattle.http_link.proofs.Heads.{nothing_left, begins_with_taken}
 
 true_or_false : (b : Bool) → b ≡ true → b ≡ false → ⊥
 true_or_false true t f = cc

@@ -1,10 +1,12 @@
 -- Heads of requests, of which a front is known.
-use Rattle.std.proofs.Common.{◌≡◌, ◌⊎◌, inl, inr, Bool, true, false, ltb, ltb-true, ltb-false, ℕ, ◌<◌, ◌≤◌, List, [], ◌∷◌, ◌++◌, length, drop, refl, sym, ap, subst, ◌∙◌, arith, append-nil, length-append, length-take, Option, Some, None}
+use Rattle.std.proofs.Common.{◌≡◌, ◌≢◌, ◌⊎◌, inl, inr, Bool, true, false, ltb, ltb-true, ltb-false, ℕ, ◌<◌, ◌≤◌, List, [], ◌∷◌, ◌++◌, length, drop}
+use Rattle.std.proofs.Common.{refl, sym, ap, subst, ◌∙◌, arith, append_assoc, append-nil, length-append, length-take, Option, Some, None}
+use Rattle.std.specs.List.{flat_map}
 use Rattle.std.proofs.lemmas.List.{length-map}
 use Rattle.std.specs.Io.KnownBytes.{Consumes, IsAtEnd}
 use Rattle.httparse.specs.declared.spans.HeaderSpan.{HeaderSpan}
 use Rattle.httparse.specs.declared.spans.RequestSpans.{RequestSpans}
-use Rattle.httparse.specs.Grammar.{RequestHead, IsRequestHead, print_request, HasNoRequest}
+use Rattle.httparse.specs.Grammar.{LineEnd, crlf, lf, print_end, print_blank, print_version, print_field, RequestHead, IsRequestHead, print_request, HasNoRequest}
 use Rattle.httparse.specs.Spans.{IsRequestOf, IsRequestWithin, RequestOverflows}
 use Rattle.http_link.specs.Reading.{IsRequest, GoesOn, BeginsNone, HasNoHead}
 
@@ -25,6 +27,55 @@ lt_or_ge a b = by_test (ltb a b) refl
     by_test : (t : Bool) → ltb a b ≡ t → (a < b) ⊎ (b ≤ a)
     by_test true e = inl (ltb-true a b e)
     by_test false e = inr (ltb-false a b e)
+
+pub nothing_left : (xs : List ℕ) → length xs ≡ 0 → xs ≡ []
+nothing_left [] e = refl
+nothing_left (x ∷ xs) e = absurd (omega arith)
+
+-- the last of what stands behind a list is the last of both
+pub last_same : (xs ys : List ℕ) (a b : ℕ) → xs ++ a ∷ [] ≡ ys ++ b ∷ [] → a ≡ b
+last_same [] [] a b e = cc
+last_same [] (y ∷ ys) a b e = let l = ap length e in absurd (omega (arith, length-append ys (b ∷ [])))
+last_same (x ∷ xs) [] a b e = let l = ap length e in absurd (omega (arith, length-append xs (a ∷ [])))
+last_same (x ∷ xs) (y ∷ ys) a b e = last_same xs ys a b cc
+
+-- a line feed stands at the end
+abbrev pub EndsLine : List ℕ → Type 0
+EndsLine text = (front : List ℕ) × (text ≡ front ++ 10 ∷ [])
+
+pub ends_behind : (front text : List ℕ) → EndsLine text → EndsLine (front ++ text)
+ends_behind front text ends = (front ++ ends.0, ap (λ (w : List ℕ). front ++ w) ends.1 ∙ sym (append_assoc front ends.0 (10 ∷ [])))
+
+pub print_end_ends : (e : LineEnd) → EndsLine (print_end e)
+print_end_ends crlf = (13 ∷ [], refl)
+print_end_ends lf = ([], refl)
+
+-- each head ends with a line feed
+pub request_ends : (h : RequestHead) → EndsLine (print_request h)
+unfolding print_request
+request_ends h =
+    ends_behind (print_blank h.blank ++ h.method ++ 32 ∷ h.target ++ 32 ∷ print_version h.minor ++ print_end h.line_end) (flat_map print_field h.fields ++ print_end h.last)
+    (ends_behind (flat_map print_field h.fields) (print_end h.last) (print_end_ends h.last))
+
+-- a text that ends with a byte but a line feed is none that ends with one
+pub no_line_ends : (text whole : List ℕ) (b : ℕ) → b ≢ 10 → EndsLine whole → text ++ b ∷ [] ≡ whole → ⊥
+no_line_ends text whole b other ends e = other (last_same text ends.0 b 10 (e ∙ ends.1))
+
+-- what goes on goes on behind a byte that is no line feed
+pub goes_on_by : (text both : List ℕ) (b room : ℕ) → both ≡ text ++ b ∷ [] → b ≢ 10 → GoesOn text room → GoesOn both room
+goes_on_by text both b room grows other on head more rest reads few = by_length (lt_or_ge (length both) (length (print_request head)))
+  where
+    by_length : (length both < length (print_request head)) ⊎ (length (print_request head) ≤ length both) → length both < length (print_request head)
+    by_length (inl lt) = lt
+    by_length (inr le) =
+        let whole = goes_on (print_request head) rest both more (sym reads.1) le in
+        let joined : text ++ (b ∷ more) ≡ print_request head ++ rest = sym (append_assoc text (b ∷ []) more) ∙ ap (λ (w : List ℕ). w ++ more) (sym grows) ∙ reads.1 in
+        let lt = on head (b ∷ more) rest (reads.0, joined) few in
+        let long = ap length grows in
+        let parts = ap length whole.1 in
+        let none : whole.0 ≡ [] = nothing_left whole.0 (omega (arith, length-append text (b ∷ []), length-append (print_request head) whole.0)) in
+        absurd (no_line_ends text (print_request head) b other (request_ends head)
+        (sym grows ∙ whole.1 ∙ ap (λ (w : List ℕ). print_request head ++ w) none ∙ append-nil (print_request head)))
 
 -- a text that has no head goes on in each
 pub partial_goes_on : (text : List ℕ) (room : ℕ) → HasNoRequest text → GoesOn text room

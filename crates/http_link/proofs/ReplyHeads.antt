@@ -1,13 +1,37 @@
 -- Heads of answers, of which a front is known.
-use Rattle.std.proofs.Common.{◌≡◌, ◌⊎◌, inl, inr, ℕ, ◌<◌, ◌≤◌, List, [], ◌∷◌, ◌++◌, length, drop, sym, ap, subst, ◌∙◌, arith, append-nil, length-append, length-take, Option}
+use Rattle.std.proofs.Common.{◌≡◌, ◌≢◌, ◌⊎◌, inl, inr, ℕ, ◌<◌, ◌≤◌, List, [], ◌∷◌, ◌++◌, length, drop, sym, append_assoc, ap, subst, ◌∙◌, arith, append-nil, length-append, length-take, Option}
+use Rattle.std.specs.List.{flat_map}
 use Rattle.std.proofs.lemmas.List.{length-map}
 use Rattle.std.specs.Io.KnownBytes.{Consumes, IsAtEnd}
 use Rattle.httparse.specs.declared.spans.HeaderSpan.{HeaderSpan}
 use Rattle.httparse.specs.declared.spans.ResponseSpans.{ResponseSpans}
-use Rattle.httparse.specs.Grammar.{ResponseHead, IsResponseHead, print_response, HasNoResponse}
+use Rattle.httparse.specs.Grammar.{print_end, print_blank, print_version, print_reason, print_field, ResponseHead, IsResponseHead, print_response, HasNoResponse}
 use Rattle.httparse.specs.Spans.{IsResponseOf, IsResponseWithin, ResponseOverflows}
-use Rattle.http_link.proofs.Heads.{goes_on, lt_or_ge, begins_with_taken}
+use Rattle.http_link.proofs.Heads.{goes_on, lt_or_ge, nothing_left, EndsLine, ends_behind, print_end_ends, no_line_ends, begins_with_taken}
 use Rattle.http_link.specs.ReadingReplies.{IsReply, ReplyGoesOn, BeginsNoReply, HasNoReply}
+
+-- each head ends with a line feed
+response_ends : (h : ResponseHead) → EndsLine (print_response h)
+unfolding print_response
+response_ends h =
+    ends_behind (print_blank h.blank ++ print_version h.minor ++ 32 ∷ h.digits ++ print_reason h.reason ++ print_end h.line_end) (flat_map print_field h.fields ++ print_end h.last)
+    (ends_behind (flat_map print_field h.fields) (print_end h.last) (print_end_ends h.last))
+
+-- what goes on goes on behind a byte that is no line feed
+pub goes_on_by : (text both : List ℕ) (b room : ℕ) → both ≡ text ++ b ∷ [] → b ≢ 10 → ReplyGoesOn text room → ReplyGoesOn both room
+goes_on_by text both b room grows other on head more rest reads few = by_length (lt_or_ge (length both) (length (print_response head)))
+  where
+    by_length : (length both < length (print_response head)) ⊎ (length (print_response head) ≤ length both) → length both < length (print_response head)
+    by_length (inl lt) = lt
+    by_length (inr le) =
+        let whole = goes_on (print_response head) rest both more (sym reads.1) le in
+        let joined : text ++ (b ∷ more) ≡ print_response head ++ rest = sym (append_assoc text (b ∷ []) more) ∙ ap (λ (w : List ℕ). w ++ more) (sym grows) ∙ reads.1 in
+        let lt = on head (b ∷ more) rest (reads.0, joined) few in
+        let long = ap length grows in
+        let parts = ap length whole.1 in
+        let none : whole.0 ≡ [] = nothing_left whole.0 (omega (arith, length-append text (b ∷ []), length-append (print_response head) whole.0)) in
+        absurd (no_line_ends text (print_response head) b other (response_ends head)
+        (sym grows ∙ whole.1 ∙ ap (λ (w : List ℕ). print_response head ++ w) none ∙ append-nil (print_response head)))
 
 -- a text that has no head goes on in each
 pub partial_goes_on : (text : List ℕ) (room : ℕ) → HasNoResponse text → ReplyGoesOn text room

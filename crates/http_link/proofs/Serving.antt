@@ -1,5 +1,5 @@
 -- From what is taken and written to what serving a known stream does.
-use Rattle.std.proofs.Common.{◌≡◌, inl, inr, ℕ, ◌<◌, ◌≤◌, List, [], ◌∷◌, ◌++◌, length, take, drop, refl, sym, ap, subst, ◌∙◌, arith, length-append, length-take, Option, Some, None, Result, Ok, Err, IfOk}
+use Rattle.std.proofs.Common.{◌≡◌, inl, inr, ℕ, ◌<◌, ◌≤◌, List, [], ◌++◌, length, take, drop, refl, sym, ap, subst, ◌∙◌, arith, length-append, length-take, Option, Some, None, Result, Ok, Err, IfOk}
 use Rattle.std.proofs.Math.Seq.{take-append_seam, drop-append_seam}
 use Rattle.std.specs.Io.KnownBytes.{Consumes, Keeps, IsAtEnd}
 use Rattle.httparse.specs.declared.spans.HeaderSpan.{HeaderSpan}
@@ -14,7 +14,7 @@ use Rattle.http_link.specs.Requests.{Wanted, wanted_of}
 use Rattle.http_link.specs.declared.serve.Served.{Served}
 use Rattle.http_link.specs.declared.streams.LinkFault.{LinkFault}
 use Rattle.http_link.specs.Serving.{Asked, Traces, IsServed, IsAskedOnly, AsksAtMostOnce, Runs, AsksWanted, asking}
-use Rattle.http_link.proofs.Heads.{begins_with_taken}
+use Rattle.http_link.proofs.Heads.{nothing_left, begins_with_taken}
 
 -- what stays is what there was
 kept_left : (rest : List ℕ) (left : Option (List ℕ)) → Keeps (Some rest) left → left ≡ Some rest
@@ -25,10 +25,6 @@ kept_left rest (Some ys) k = ap Some k
 taken_left : (rest body : List ℕ) (left : Option (List ℕ)) → Consumes (Some rest) left body → (ys : List ℕ) × (left ≡ Some ys) × (rest ≡ body ++ ys)
 taken_left rest body None c = absurd c
 taken_left rest body (Some ys) c = (ys, refl, c)
-
-nothing_left : (xs : List ℕ) → length xs ≡ 0 → xs ≡ []
-nothing_left [] e = refl
-nothing_left (x ∷ xs) e = absurd (omega arith)
 
 -- the front of a sum is its first part, and what follows its second
 front_of : (size : ℕ) (rest body ys : List ℕ) → rest ≡ body ++ ys → length body ≡ size → (take size rest ≡ body) × (drop size rest ≡ ys) × (size ≤ length rest)

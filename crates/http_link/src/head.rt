@@ -1,8 +1,8 @@
 //! Heads of requests and of answers, read one byte at a time, so that no byte behind them is taken.
 
 ghost use Rattle.std.specs.Prelude.{◌≡◌, ◌≢◌, ◌↔◌, ◌+◌, ◌<◌, ◌≤◌, ◌++◌, ◌∷◌, [], length, take, Ok, Err, IfOk};
-ghost use Rattle.http_link.specs.Reading.{Decides, HeadIsRead};
-ghost use Rattle.http_link.specs.ReadingReplies.{DecidesReply, ReplyIsRead};
+ghost use Rattle.http_link.specs.Reading.{Decides, GoesOn, HeadIsRead};
+ghost use Rattle.http_link.specs.ReadingReplies.{DecidesReply, ReplyGoesOn, ReplyIsRead};
 
 use crate::streams::{LinkFault, Pulled, pull};
 use httparse::Status;
@@ -27,20 +27,24 @@ pub(crate) enum Offered<S> {
     Malformed,
 }
 
-// Puts a byte behind the first n, and looks at them.
+// Puts a byte behind the first n, and looks at them where a line ends, since each head ends with a line.
 fn offer_request(
     text: &mut [u8],
     n: usize,
     b: u8,
     lines: &mut [HeaderSpan],
 ) -> Offered<RequestSpans>
-    requires { n < length text.old }
+    requires room { n < length text.old }
+    requires inside { GoesOn (take n text.old) (length lines.old) }
     ensures grows { take (n + 1) text.new ≡ take n text.old ++ b ∷ [] }
     ensures len { length text.new ≡ length text.old }
     ensures lines { length lines.new ≡ length lines.old }
     ensures decides { Decides (take (n + 1) text.new) (length lines.old) lines.new result }
 {
     text[n] = b;
+    if b != b'\n' {
+        return Offered::Partial;
+    }
     match parse_request(&text[..n + 1], lines) {
         Ok(Status::Complete(spans)) => Offered::Whole(spans),
         Ok(Status::Partial) => Offered::Partial,
@@ -87,15 +91,19 @@ pub(crate) fn read_request_head<R: Read + Device>(
     Err(LinkFault::Turns)
 }
 
-// Puts a byte behind the first n, and looks at them.
+// Puts a byte behind the first n, and looks at them where a line ends, since each head ends with a line.
 fn offer_reply(text: &mut [u8], n: usize, b: u8, lines: &mut [HeaderSpan]) -> Offered<ResponseSpans>
-    requires { n < length text.old }
+    requires room { n < length text.old }
+    requires inside { ReplyGoesOn (take n text.old) (length lines.old) }
     ensures grows { take (n + 1) text.new ≡ take n text.old ++ b ∷ [] }
     ensures len { length text.new ≡ length text.old }
     ensures lines { length lines.new ≡ length lines.old }
     ensures decides { DecidesReply (take (n + 1) text.new) (length lines.old) lines.new result }
 {
     text[n] = b;
+    if b != b'\n' {
+        return Offered::Partial;
+    }
     match parse_response(&text[..n + 1], lines) {
         Ok(Status::Complete(spans)) => Offered::Whole(spans),
         Ok(Status::Partial) => Offered::Partial,
