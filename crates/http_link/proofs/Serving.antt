@@ -13,7 +13,8 @@ use Rattle.http_link.specs.Lines.{head_in}
 use Rattle.http_link.specs.Requests.{Wanted, wanted_of}
 use Rattle.http_link.specs.declared.serve.Served.{Served}
 use Rattle.http_link.specs.declared.streams.LinkFault.{LinkFault}
-use Rattle.http_link.specs.Serving.{Asked, Traces, IsServed, IsAskedOnly, AsksAtMostOnce, Runs, AsksWanted, asking}
+use Rattle.http_link.specs.Serving.{Asked, Traces, IsServed, IsAskedOnly, AsksAtMostOnce, asking}
+use Rattle.http_link.specs.Running.{Runs, AsksWanted}
 use Rattle.http_link.proofs.Heads.{nothing_left, begins_with_taken}
 
 -- what stays is what there was

@@ -31,6 +31,7 @@ pub record Head : Type 0 where
   pub minor : ℕ
   pub lines : List Line
 
+-- what the head says, by the grammar
 abbrev pub head_of : RequestHead → Head
 head_of h = record { method = h.method; target = h.target; minor = h.minor; lines = map name_and_value h.fields }
 
@@ -39,5 +40,6 @@ pub record Reply : Type 0 where
   pub status : ℕ
   pub lines : List Line
 
+-- what the head says, by the grammar
 abbrev pub reply_of : ResponseHead → Reply
 reply_of h = record { status = status_code h; lines = map name_and_value h.fields }

@@ -7,4 +7,5 @@ pub mod Streams
 pub mod Reading
 pub mod ReadingReplies
 pub mod Serving
+pub mod Running
 pub mod Client

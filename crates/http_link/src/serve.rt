@@ -9,7 +9,8 @@ ghost use Rattle.http_link.specs.Lines.{head_at, head_in, wanted_at};
 ghost use Rattle.http_link.specs.Requests.{wanted_of};
 ghost use Rattle.http_link.specs.Answers.{refusal_text, continue_text, answer_text, told_body};
 ghost use Rattle.http_link.specs.Serving.{IsServed, IsAskedOnly, AsksAtMostOnce, WritesNothingOr400};
-ghost use Rattle.http_link.specs.Serving.{Runs, AsksWanted, asking, kept_unless};
+ghost use Rattle.http_link.specs.Serving.{asking, kept_unless};
+ghost use Rattle.http_link.specs.Running.{Runs, AsksWanted};
 
 use crate::answer::{answer_head, told};
 use crate::fields::Lines;
