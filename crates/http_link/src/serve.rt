@@ -46,7 +46,7 @@ struct Failures {
 /// head. Nothing behind its body is taken from the reader.
 ///
 /// Errors: `Read` and `Write` where the device failed in this call, and `Turns` where 50,000 reads or writes did not
-/// suffice. Each ends the connection; the service may have been asked before a `Write` or a `Turns`.
+/// suffice. Each ends the connection. Before a `Write` or a `Turns` the service may have been asked, before a `Read` not.
 pub fn serve_one<R: Read + Device, W: Write + Device, S: Service>(
     r: &mut R,
     w: &mut W,
@@ -78,6 +78,7 @@ pub fn serve_one<R: Read + Device, W: Write + Device, S: Service>(
         × IfOk result (WritesNothingOr400 (λ text. Appends (W.contents w.old) (W.contents w.new) text)) }
     ensures asked_once { AsksAtMostOnce (service.new ≡ service.old)
         (λ question. S.asks service.old question service.new) }
+    ensures unread { result ≡ Err LinkFault.Read → service.new ≡ service.old }
 
     // A device's fault is told exactly where the device failed.
     ensures read { (result ≡ Err LinkFault.Read) ↔ (R.failure_count r.old < R.failure_count r.new) }
@@ -152,6 +153,7 @@ fn serve_head<R: Read + Device, W: Write + Device, S: Service>(
         })) }
     ensures asks { AsksWanted (wanted_of (S.tenant_of service.old) (head_at head.now)) (R.remaining r.old)
         (R.remaining r.new) (service.new ≡ service.old) (λ question. S.asks service.old question service.new) }
+    ensures unread { result ≡ Err LinkFault.Read → service.new ≡ service.old }
     ensures read { (result ≡ Err LinkFault.Read) ↔ (before.reads < R.failure_count r.new) }
     ensures write { (result ≡ Err LinkFault.Write) ↔ (before.writes < W.failure_count w.new) }
 {
@@ -185,6 +187,7 @@ fn serve_wanted<R: Read + Device, W: Write + Device, S: Service>(
         })) }
     ensures asks { AsksWanted (Ok (wanted_at wanted.now)) (R.remaining r.old)
         (R.remaining r.new) (service.new ≡ service.old) (λ question. S.asks service.old question service.new) }
+    ensures unread { result ≡ Err LinkFault.Read → service.new ≡ service.old }
     ensures read { (result ≡ Err LinkFault.Read) ↔ (before.reads < R.failure_count r.new) }
     ensures write { (result ≡ Err LinkFault.Write) ↔ (before.writes < W.failure_count w.new) }
 {
