@@ -67,6 +67,7 @@ pub(crate) fn read_request_head<R: Read + Device>(
     ensures head { IfOk result (HeadIsRead (R.remaining r.old) (R.remaining r.new) text.new lines.new) }
     ensures read { (result ≡ Err LinkFault.Read) ↔ (before < R.failure_count r.new) }
     ensures write { result ≢ Err LinkFault.Write }
+    ensures spent { result ≡ Err LinkFault.Turns → turns.new ≡ 0 }
 {
     let mut n = 0;
     while *turns > 0 {
@@ -126,6 +127,7 @@ pub(crate) fn read_reply_head<R: Read + Device>(
     ensures head { IfOk result (ReplyIsRead (R.remaining r.old) (R.remaining r.new) text.new lines.new) }
     ensures read { (result ≡ Err LinkFault.Read) ↔ (before < R.failure_count r.new) }
     ensures write { result ≢ Err LinkFault.Write }
+    ensures spent { result ≡ Err LinkFault.Turns → turns.new ≡ 0 }
 {
     let mut n = 0;
     while *turns > 0 {

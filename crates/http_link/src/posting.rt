@@ -139,6 +139,7 @@ fn read_answer<R: Read + Device>(
     ensures len { length out.new ≡ length out.old }
     ensures read { (result ≡ Err PostFault.Read) ↔ (before < R.failure_count r.new) }
     ensures write { result ≢ Err PostFault.Write }
+    ensures spent { result ≡ Err PostFault.Turns → turns.new ≡ 0 }
 {
     let mut text = [0u8; MAX_HEAD];
     let mut lines = [EMPTY_HEADER_SPAN; MAX_LINES];
@@ -193,6 +194,7 @@ fn read_body<R: Read + Device>(
     ensures len { length out.new ≡ length out.old }
     ensures read { (result ≡ Err PostFault.Read) ↔ (before < R.failure_count r.new) }
     ensures write { result ≢ Err PostFault.Write }
+    ensures spent { result ≡ Err PostFault.Turns → turns.new ≡ 0 }
 {
     if status != 200 {
         return Err(PostFault::Status);
@@ -224,6 +226,7 @@ fn read_sized<R: Read + Device>(
     ensures len { length out.new ≡ length out.old }
     ensures read { (result ≡ Err PostFault.Read) ↔ (before < R.failure_count r.new) }
     ensures write { result ≢ Err PostFault.Write }
+    ensures spent { result ≡ Err PostFault.Turns → turns.new ≡ 0 }
 {
     if size > MAX_ANSWER {
         return Err(PostFault::Size);
@@ -246,6 +249,7 @@ fn read_to_end<R: Read + Device>(
     ensures len { length out.new ≡ length out.old }
     ensures read { (result ≡ Err PostFault.Read) ↔ (before < R.failure_count r.new) }
     ensures write { result ≢ Err PostFault.Write }
+    ensures spent { result ≡ Err PostFault.Turns → turns.new ≡ 0 }
 {
     let n = read_up_to(r, out, MAX_ANSWER, before, turns)?;
     if n < MAX_ANSWER || has_ended(r, before, turns)? {

@@ -98,6 +98,7 @@ pub(crate) fn read_up_to<R: Read + Device>(
     ensures len { length out.new ≡ length out.old }
     ensures read { (result ≡ Err LinkFault.Read) ↔ (before < R.failure_count r.new) }
     ensures write { result ≢ Err LinkFault.Write }
+    ensures spent { result ≡ Err LinkFault.Turns → turns.new ≡ 0 }
 {
     let mut done = 0;
     while done < limit {
@@ -124,6 +125,7 @@ pub(crate) fn has_ended<R: Read + Device>(
     ensures ended { IfOk result (EndsOrNot (R.remaining r.old)) }
     ensures read { (result ≡ Err LinkFault.Read) ↔ (before < R.failure_count r.new) }
     ensures write { result ≢ Err LinkFault.Write }
+    ensures spent { result ≡ Err LinkFault.Turns → turns.new ≡ 0 }
 {
     while *turns > 0 {
         *turns -= 1;
