@@ -1,14 +1,10 @@
 -- Heads of requests, of which a front is known.
-use Rattle.std.proofs.Common.{◌≡◌, ◌≢◌, ◌⊎◌, inl, inr, Bool, true, false, ltb, ltb-true, ltb-false, ℕ, ◌<◌, ◌≤◌, List, [], ◌∷◌, ◌++◌, length, drop}
-use Rattle.std.proofs.Common.{refl, sym, ap, subst, ◌∙◌, arith, append_assoc, append-nil, length-append, length-take, Option, Some, None}
+use Rattle.std.proofs.Common.{◌≡◌, ◌≢◌, ◌⊎◌, inl, inr, Bool, true, false, ltb, ltb-true, ltb-false, ℕ, ◌<◌, ◌≤◌, List, [], ◌∷◌, ◌++◌, length}
+use Rattle.std.proofs.Common.{refl, sym, ap, ◌∙◌, arith, append_assoc, append-nil, length-append, Option, Some, None}
 use Rattle.std.specs.List.{flat_map}
-use Rattle.std.proofs.lemmas.List.{length-map}
-use Rattle.std.specs.Io.KnownBytes.{Consumes, IsAtEnd}
-use Rattle.httparse.specs.declared.spans.HeaderSpan.{HeaderSpan}
-use Rattle.httparse.specs.declared.spans.RequestSpans.{RequestSpans}
+use Rattle.std.specs.Io.KnownBytes.{Consumes}
 use Rattle.httparse.specs.Grammar.{LineEnd, crlf, lf, print_end, print_blank, print_version, print_field, RequestHead, IsRequestHead, print_request, HasNoRequest}
-use Rattle.httparse.specs.Spans.{IsRequestOf, IsRequestWithin, RequestOverflows}
-use Rattle.http_link.specs.Reading.{IsRequest, GoesOn, BeginsNone, HasNoHead}
+use Rattle.http_link.specs.Reading.{GoesOn, BeginsNone, HasNoHead}
 
 -- of two fronts of one list the longer one goes on
 pub goes_on : (a m p r : List ℕ) → a ++ m ≡ p ++ r → length a ≤ length p → (q : List ℕ) × (p ≡ a ++ q) × (m ≡ q ++ r)
@@ -87,25 +83,6 @@ partial_goes_on text room none head more rest reads few = by_length (lt_or_ge (l
         let whole = goes_on (print_request head) rest text more (sym reads.1) le in
         absurd (none head whole.0 (reads.0, whole.1))
 
--- what has too many lines begins with none of so many
-pub overflow_begins_none : (text : List ℕ) (room : ℕ) → RequestOverflows room text → BeginsNone text room
-overflow_begins_none text room over head more rest reads few =
-    let many = over more head rest reads in
-    omega arith
-
--- a head that the parser gives has no more lines than there is room
-pub is_request : (text : List ℕ) (lines : List HeaderSpan) (spans : RequestSpans) → IsRequestOf text lines spans → IsRequestWithin text lines spans → IsRequest text lines spans
-is_request text lines spans of within =
-    record {
-      head = of.0;
-      at = of.1;
-      few = let fit = within.section.count_fits in
-          let e = ap length of.1.fields in
-          let long = simp (length-map, length-take) at e in
-          omega arith;
-      within = within;
-    }
-
 pub not_empty : (h : RequestHead) → IsRequestHead h → 0 < length (print_request h)
 unfolding print_request
 not_empty h is = let m = is.method.0 in simp length-append (omega arith)
@@ -121,36 +98,8 @@ begins_with_taken None new text stream c e = cc
 begins_with_taken (Some zs) None text stream c e = absurd c
 begins_with_taken (Some zs) (Some ys) text stream c e = (ys, refl, cc)
 
--- where the text fills the room and goes on, no head has that room
-pub no_head_in_room : (old new : Option (List ℕ)) (text : List ℕ) (size room : ℕ) → Consumes old new text → GoesOn text room → size ≤ length text → HasNoHead old size room
-no_head_in_room old new text size room c on full stream head rest e reads short few =
-    let begins = begins_with_taken old new text stream c e in
-    let long = on head begins.0 rest (reads.0, sym begins.2 ∙ reads.1) few in
-    omega arith
-
--- where the bytes have ended and the text goes on, there is no head
-pub no_head_at_end : (old new : Option (List ℕ)) (text : List ℕ) (size room : ℕ) → Consumes old new text → IsAtEnd new → GoesOn text room → HasNoHead old size room
-no_head_at_end old new text size room c end on stream head rest e reads short few =
-    let begins = begins_with_taken old new text stream c e in
-    let long = on head begins.0 rest (reads.0, sym begins.2 ∙ reads.1) few in
-    let none : begins.0 ≡ [] = subst IsAtEnd begins.1 end in
-    let whole : stream ≡ text = begins.2 ∙ ap (λ (w : List ℕ). text ++ w) none ∙ append-nil text in
-    let l = ap length (sym whole ∙ reads.1) in
-    omega (arith, length-append (print_request head) rest)
-
 -- where the bytes begin with no head of so many lines, there is no head
 pub no_head_begins : (old new : Option (List ℕ)) (text : List ℕ) (size room : ℕ) → Consumes old new text → BeginsNone text room → HasNoHead old size room
 no_head_begins old new text size room c none stream head rest e reads short few =
     let begins = begins_with_taken old new text stream c e in
     none head begins.0 rest (reads.0, sym begins.2 ∙ reads.1) few
-
--- a head that ends with the text, and not before
-pub whole_at : (front text : List ℕ) (b : ℕ) (lines : List HeaderSpan) (spans : RequestSpans) → text ≡ front ++ b ∷ [] → GoesOn front (length lines)
-    → IsRequest text lines spans → spans.len ≡ length text
-whole_at front text b lines spans grows on is =
-    let at = is.at in
-    let lt = on is.head (b ∷ []) (drop spans.len text) (at.reads.0, sym grows ∙ at.reads.1) is.few in
-    let le = is.within.section.len_fits in
-    let len = at.len in
-    let long = ap length grows in
-    omega (arith, length-append front (b ∷ []))
