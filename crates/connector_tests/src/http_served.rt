@@ -1,6 +1,6 @@
 //! Requests that are served, row by row of the table of checks, in both versions and however they are cut.
 
-ghost use Rattle.std.specs.Prelude.{◌≡◌, ◌≤◌, length};
+ghost use Rattle.std.specs.Prelude.{◌≡◌, ◌≤◌, ◌+◌, ◌-◌, ◌^◌, min, length};
 
 use crate::http_devices::{Pieces, Taken};
 use http_link::{Kind, LinkFault, Served, Service, serve_one};
@@ -32,7 +32,11 @@ impl Desk {
         }
     }
 
-    fn note(&mut self, kind: Kind, tenant: usize, token: &[u8], body: &[u8]) -> u16 {
+    fn note(&mut self, kind: Kind, tenant: usize, token: &[u8], body: &[u8]) -> u16
+        ensures status { result ≡ self.old.status }
+        ensures same { self.new.status ≡ self.old.status }
+        ensures counted { self.new.questions ≡ min (self.old.questions + 1) (2 ^ 32 - 1) }
+    {
         self.questions = self.questions.saturating_add(1);
         let is_whole = token == b"tok-Bob".as_slice() && body == self.body;
         self.is_right = is_whole && kind == self.kind && tenant == self.tenant;
@@ -45,10 +49,11 @@ impl Desk {
 }
 
 impl Service for Desk {
-    ghost use Rattle.std.specs.Prelude.{⊤, codes, Some, None, if◌then◌else◌};
+    ghost use Rattle.std.specs.Prelude.{◌≡◌, ◌+◌, ◌-◌, ◌^◌, min, codes, Some, None, if◌then◌else◌};
     ghost use Rattle.std.specs.Str.{bytes_eq};
 
-    ghost asks = { λ _ _ _. ⊤ };
+    ghost asks = { λ old question new. (question.status ≡ old.status) × (new.status ≡ old.status)
+        × (new.questions ≡ min (old.questions + 1) (2 ^ 32 - 1)) };
 
     ghost tenant_of = { λ _ name. if bytes_eq name (codes "acme") then Some 0
         else (if bytes_eq name (codes "beta") then Some 1 else None) };
