@@ -11,6 +11,12 @@ mod books;
 #[cfg(test)]
 mod devices;
 #[cfg(test)]
+mod http_devices;
+#[cfg(test)]
+mod http_posted;
+#[cfg(test)]
+mod http_served;
+#[cfg(test)]
 mod lengths;
 #[cfg(test)]
 mod packets;

@@ -1,0 +1,105 @@
+-- Heads of requests, of which a front is known.
+use Rattle.std.proofs.Common.{◌≡◌, ◌≢◌, ◌⊎◌, inl, inr, Bool, true, false, ltb, ltb-true, ltb-false, ℕ, ◌<◌, ◌≤◌, List, [], ◌∷◌, ◌++◌, length}
+use Rattle.std.proofs.Common.{refl, sym, ap, ◌∙◌, arith, append_assoc, append-nil, length-append, Option, Some, None}
+use Rattle.std.specs.List.{flat_map}
+use Rattle.std.specs.Io.KnownBytes.{Consumes}
+use Rattle.httparse.specs.Grammar.{LineEnd, crlf, lf, print_end, print_blank, print_version, print_field, RequestHead, IsRequestHead, print_request, HasNoRequest}
+use Rattle.http_link.specs.Reading.{GoesOn, BeginsNone, HasNoHead}
+
+-- of two fronts of one list the longer one goes on
+pub goes_on : (a m p r : List ℕ) → a ++ m ≡ p ++ r → length a ≤ length p → (q : List ℕ) × (p ≡ a ++ q) × (m ≡ q ++ r)
+goes_on [] m p r e le = (p, refl, e)
+goes_on (x ∷ a) m [] r e le = absurd (omega arith)
+goes_on (x ∷ a) m (y ∷ p) r e le =
+    let tail : a ++ m ≡ p ++ r = cc in
+    let head : y ≡ x = cc in
+    let more = goes_on a m p r tail (omega arith) in
+    (more.0, cc (more.1, head), more.2)
+
+-- one number is below another, or not
+pub lt_or_ge : (a b : ℕ) → (a < b) ⊎ (b ≤ a)
+lt_or_ge a b = by_test (ltb a b) refl
+  where
+    by_test : (t : Bool) → ltb a b ≡ t → (a < b) ⊎ (b ≤ a)
+    by_test true e = inl (ltb-true a b e)
+    by_test false e = inr (ltb-false a b e)
+
+pub nothing_left : (xs : List ℕ) → length xs ≡ 0 → xs ≡ []
+nothing_left [] e = refl
+nothing_left (x ∷ xs) e = absurd (omega arith)
+
+-- the last of what stands behind a list is the last of both
+pub last_same : (xs ys : List ℕ) (a b : ℕ) → xs ++ a ∷ [] ≡ ys ++ b ∷ [] → a ≡ b
+last_same [] [] a b e = cc
+last_same [] (y ∷ ys) a b e = let l = ap length e in absurd (omega (arith, length-append ys (b ∷ [])))
+last_same (x ∷ xs) [] a b e = let l = ap length e in absurd (omega (arith, length-append xs (a ∷ [])))
+last_same (x ∷ xs) (y ∷ ys) a b e = last_same xs ys a b cc
+
+-- a line feed stands at the end
+abbrev pub EndsLine : List ℕ → Type 0
+EndsLine text = (front : List ℕ) × (text ≡ front ++ 10 ∷ [])
+
+pub ends_behind : (front text : List ℕ) → EndsLine text → EndsLine (front ++ text)
+ends_behind front text ends = (front ++ ends.0, ap (λ (w : List ℕ). front ++ w) ends.1 ∙ sym (append_assoc front ends.0 (10 ∷ [])))
+
+pub print_end_ends : (e : LineEnd) → EndsLine (print_end e)
+print_end_ends crlf = (13 ∷ [], refl)
+print_end_ends lf = ([], refl)
+
+-- each head ends with a line feed
+pub request_ends : (h : RequestHead) → EndsLine (print_request h)
+unfolding print_request
+request_ends h =
+    ends_behind (print_blank h.blank ++ h.method ++ 32 ∷ h.target ++ 32 ∷ print_version h.minor ++ print_end h.line_end) (flat_map print_field h.fields ++ print_end h.last)
+    (ends_behind (flat_map print_field h.fields) (print_end h.last) (print_end_ends h.last))
+
+-- a text that ends with a byte but a line feed is none that ends with one
+pub no_line_ends : (text whole : List ℕ) (b : ℕ) → b ≢ 10 → EndsLine whole → text ++ b ∷ [] ≡ whole → ⊥
+no_line_ends text whole b other ends e = other (last_same text ends.0 b 10 (e ∙ ends.1))
+
+-- what goes on goes on behind a byte that is no line feed
+pub goes_on_by : (text both : List ℕ) (b room : ℕ) → both ≡ text ++ b ∷ [] → b ≢ 10 → GoesOn text room → GoesOn both room
+goes_on_by text both b room grows other on head more rest reads few = by_length (lt_or_ge (length both) (length (print_request head)))
+  where
+    by_length : (length both < length (print_request head)) ⊎ (length (print_request head) ≤ length both) → length both < length (print_request head)
+    by_length (inl lt) = lt
+    by_length (inr le) =
+        let whole = goes_on (print_request head) rest both more (sym reads.1) le in
+        let joined : text ++ (b ∷ more) ≡ print_request head ++ rest = sym (append_assoc text (b ∷ []) more) ∙ ap (λ (w : List ℕ). w ++ more) (sym grows) ∙ reads.1 in
+        let lt = on head (b ∷ more) rest (reads.0, joined) few in
+        let long = ap length grows in
+        let parts = ap length whole.1 in
+        let none : whole.0 ≡ [] = nothing_left whole.0 (omega (arith, length-append text (b ∷ []), length-append (print_request head) whole.0)) in
+        absurd (no_line_ends text (print_request head) b other (request_ends head)
+        (sym grows ∙ whole.1 ∙ ap (λ (w : List ℕ). print_request head ++ w) none ∙ append-nil (print_request head)))
+
+-- a text that has no head goes on in each
+pub partial_goes_on : (text : List ℕ) (room : ℕ) → HasNoRequest text → GoesOn text room
+partial_goes_on text room none head more rest reads few = by_length (lt_or_ge (length text) (length (print_request head)))
+  where
+    by_length : (length text < length (print_request head)) ⊎ (length (print_request head) ≤ length text) → length text < length (print_request head)
+    by_length (inl lt) = lt
+    by_length (inr le) =
+        let whole = goes_on (print_request head) rest text more (sym reads.1) le in
+        absurd (none head whole.0 (reads.0, whole.1))
+
+pub not_empty : (h : RequestHead) → IsRequestHead h → 0 < length (print_request h)
+unfolding print_request
+not_empty h is = let m = is.method.0 in simp length-append (omega arith)
+
+-- nothing is no whole head
+pub nothing_goes_on : (room : ℕ) → GoesOn [] room
+nothing_goes_on room head more rest reads few = not_empty head reads.0
+
+-- the known bytes begin with what was taken
+pub begins_with_taken : (old new : Option (List ℕ)) (text stream : List ℕ) → Consumes old new text → old ≡ Some stream
+    → (rest : List ℕ) × (new ≡ Some rest) × (stream ≡ text ++ rest)
+begins_with_taken None new text stream c e = cc
+begins_with_taken (Some zs) None text stream c e = absurd c
+begins_with_taken (Some zs) (Some ys) text stream c e = (ys, refl, cc)
+
+-- where the bytes begin with no head of so many lines, there is no head
+pub no_head_begins : (old new : Option (List ℕ)) (text : List ℕ) (size room : ℕ) → Consumes old new text → BeginsNone text room → HasNoHead old size room
+no_head_begins old new text size room c none stream head rest e reads short few =
+    let begins = begins_with_taken old new text stream c e in
+    none head begins.0 rest (reads.0, sym begins.2 ∙ reads.1) few

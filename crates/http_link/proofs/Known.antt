@@ -1,0 +1,38 @@
+-- Known bytes that are written and taken in turn.
+use Rattle.std.proofs.Common.{◌≡◌, ◌≤◌, ℕ, ◌+◌, List, ◌++◌, length, take, drop, Option, Some, None, Result, Ok, Err, OnOk, sym, ap, ◌∙◌, append_assoc, arith, length-take}
+use Rattle.std.proofs.KnownBytes.{Appends-trans}
+use Rattle.std.proofs.Math.Seq.{take-add, take-append-add}
+use Rattle.std.proofs.lemmas.List.{take-append-le}
+use borrow.Rule.Slice.PartMut.{put_mid, post_of}
+use Rattle.std.specs.Io.KnownBytes.{Appends, Consumes}
+
+-- first i bytes of the text were written, and then n more
+pub Appends-more : (old between new : Option (List ℕ)) (text : List ℕ) (i n : ℕ) → Appends old between (take i text) → Appends between new (take n (drop i text)) → Appends old new (take (i + n) text)
+Appends-more None between new text i n a b = tt
+Appends-more (Some xs) None new text i n a b = absurd a
+Appends-more (Some xs) (Some ys) None text i n a b = absurd b
+Appends-more (Some xs) (Some ys) (Some zs) text i n a b =
+    b ∙ ap (λ (front : List ℕ). front ++ take n (drop i text)) a ∙ append_assoc xs (take i text) (take n (drop i text)) ∙ ap (λ (more : List ℕ). xs ++ more) (sym (take-add i n text))
+
+-- a text was written, and then another one where that went well
+pub Appends-then : {A E : Type 0} (r : Result A E) (old between new : Option (List ℕ)) (front back : List ℕ) → Appends old between front → OnOk r (Appends between new back)
+    → OnOk r (Appends old new (front ++ back))
+Appends-then (Ok value) old between new front back a b = Appends-trans old between new front back a b
+Appends-then (Err fault) old between new front back a b = tt
+
+-- first some bytes were taken, and then more
+pub Consumes-more : (old between new : Option (List ℕ)) (front taken both : List ℕ) → both ≡ front ++ taken → Consumes old between front → Consumes between new taken → Consumes old new both
+Consumes-more None between new front taken both e a b = tt
+Consumes-more (Some xs) None new front taken both e a b = absurd a
+Consumes-more (Some xs) (Some ys) None front taken both e a b = absurd b
+Consumes-more (Some xs) (Some ys) (Some zs) front taken both e a b =
+    a ∙ ap (λ (w : List ℕ). front ++ w) b ∙ sym (append_assoc front taken zs) ∙ ap (λ (w : List ℕ). w ++ zs) (sym e)
+
+-- a front of what was put into the middle
+pub take-into : (at k n : ℕ) (before part : List ℕ) → at ≤ length before → n ≤ length part → take (at + n) (put_mid at k before part) ≡ take at before ++ take n part
+take-into at k n before part le short =
+    let front = take at before in
+    let long : length front ≡ at = length-take at before ∙ omega arith in
+    ap (λ m. take (m + n) (front ++ (part ++ post_of at k before))) (sym long)
+    ∙ take-append-add front (part ++ post_of at k before) n
+    ∙ ap (λ (w : List ℕ). front ++ w) (take-append-le n part (post_of at k before) short)

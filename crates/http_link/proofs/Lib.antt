@@ -1,0 +1,5 @@
+pub mod Known
+pub mod Heads
+pub mod ReplyHeads
+pub mod Serving
+pub mod Client

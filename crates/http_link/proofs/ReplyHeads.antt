@@ -1,0 +1,54 @@
+-- Heads of answers, of which a front is known.
+use Rattle.std.proofs.Common.{◌≡◌, ◌≢◌, ◌⊎◌, inl, inr, ℕ, ◌<◌, ◌≤◌, List, [], ◌∷◌, ◌++◌, length, sym, append_assoc, ap, ◌∙◌, arith, append-nil, length-append, Option}
+use Rattle.std.specs.List.{flat_map}
+use Rattle.std.specs.Io.KnownBytes.{Consumes}
+use Rattle.httparse.specs.Grammar.{print_end, print_blank, print_version, print_reason, print_field, ResponseHead, IsResponseHead, print_response, HasNoResponse}
+use Rattle.http_link.proofs.Heads.{goes_on, lt_or_ge, nothing_left, EndsLine, ends_behind, print_end_ends, no_line_ends, begins_with_taken}
+use Rattle.http_link.specs.ReadingReplies.{ReplyGoesOn, BeginsNoReply, HasNoReply}
+
+-- each head ends with a line feed
+response_ends : (h : ResponseHead) → EndsLine (print_response h)
+unfolding print_response
+response_ends h =
+    ends_behind (print_blank h.blank ++ print_version h.minor ++ 32 ∷ h.digits ++ print_reason h.reason ++ print_end h.line_end) (flat_map print_field h.fields ++ print_end h.last)
+    (ends_behind (flat_map print_field h.fields) (print_end h.last) (print_end_ends h.last))
+
+-- what goes on goes on behind a byte that is no line feed
+pub goes_on_by : (text both : List ℕ) (b room : ℕ) → both ≡ text ++ b ∷ [] → b ≢ 10 → ReplyGoesOn text room → ReplyGoesOn both room
+goes_on_by text both b room grows other on head more rest reads few = by_length (lt_or_ge (length both) (length (print_response head)))
+  where
+    by_length : (length both < length (print_response head)) ⊎ (length (print_response head) ≤ length both) → length both < length (print_response head)
+    by_length (inl lt) = lt
+    by_length (inr le) =
+        let whole = goes_on (print_response head) rest both more (sym reads.1) le in
+        let joined : text ++ (b ∷ more) ≡ print_response head ++ rest = sym (append_assoc text (b ∷ []) more) ∙ ap (λ (w : List ℕ). w ++ more) (sym grows) ∙ reads.1 in
+        let lt = on head (b ∷ more) rest (reads.0, joined) few in
+        let long = ap length grows in
+        let parts = ap length whole.1 in
+        let none : whole.0 ≡ [] = nothing_left whole.0 (omega (arith, length-append text (b ∷ []), length-append (print_response head) whole.0)) in
+        absurd (no_line_ends text (print_response head) b other (response_ends head)
+        (sym grows ∙ whole.1 ∙ ap (λ (w : List ℕ). print_response head ++ w) none ∙ append-nil (print_response head)))
+
+-- a text that has no head goes on in each
+pub partial_goes_on : (text : List ℕ) (room : ℕ) → HasNoResponse text → ReplyGoesOn text room
+partial_goes_on text room none head more rest reads few = by_length (lt_or_ge (length text) (length (print_response head)))
+  where
+    by_length : (length text < length (print_response head)) ⊎ (length (print_response head) ≤ length text) → length text < length (print_response head)
+    by_length (inl lt) = lt
+    by_length (inr le) =
+        let whole = goes_on (print_response head) rest text more (sym reads.1) le in
+        absurd (none head whole.0 (reads.0, whole.1))
+
+pub not_empty : (h : ResponseHead) → IsResponseHead h → 0 < length (print_response h)
+unfolding print_response
+not_empty h is = let m = is.digits.0 in simp length-append (omega arith)
+
+-- nothing is no whole head
+pub nothing_goes_on : (room : ℕ) → ReplyGoesOn [] room
+nothing_goes_on room head more rest reads few = not_empty head reads.0
+
+-- where the bytes begin with no head of so many lines, there is no head
+pub no_head_begins : (old new : Option (List ℕ)) (text : List ℕ) (size room : ℕ) → Consumes old new text → BeginsNoReply text room → HasNoReply old size room
+no_head_begins old new text size room c none stream head rest e reads short few =
+    let begins = begins_with_taken old new text stream c e in
+    none head begins.0 rest (reads.0, sym begins.2 ∙ reads.1) few

@@ -1,0 +1,27 @@
+use Rattle.std.proofs.Common.{◌+◌, ◌∷◌, [], List, ℕ, length, take, refl, arith}
+use Rattle.std.specs.Io.KnownBytes.{Consumes}
+use Rattle.std.proofs.KnownBytes.{Consumes-nil}
+use Rattle.http_link.specs.Reading.{BeginsNone}
+use Rattle.http_link.proofs.Known.{Consumes-more}
+use Rattle.http_link.proofs.Heads.{nothing_goes_on, no_head_begins}
+use Rattle.http_link.proofs.head.read_request_head.Goals as goal
+
+pub loop-turns-init : goal.loop-turns-init
+loop-turns-init g c = record {
+  fits = omega arith;
+  len = refl;
+  lines_len = refl;
+  taken = Consumes-nil (g.R.Read.remaining c.args.r.now);
+  goes_on = nothing_goes_on (length c.args.lines.now);
+  unfailed = c.requires.unfailed;
+}
+
+pub returns-in-Malformed-clause-head : goal.returns-in-Malformed-clause-head
+returns-in-Malformed-clause-head g c =
+    let text : List ℕ = take (c.loop-turns.n + 1) c.offer_request-offered.new.text in
+    let byte : Consumes (g.R.Read.remaining c.loop-turns.r) (g.R.Read.remaining c.pull.new.r) (c.in-Byte.b ∷ []) = rw c.in-Byte.is at c.in_ok-pull.ensures.pulled in
+    let none : BeginsNone text (length c.loop-turns.lines) = c.in-Malformed.ensures.decides in
+    λ stream head rest e reads short few.
+    no_head_begins (g.R.Read.remaining c.args.r.now) (g.R.Read.remaining c.pull.new.r) text (length c.offer_request-offered.new.text) (length c.loop-turns.lines)
+    (Consumes-more _ _ _ (take c.loop-turns.n c.loop-turns.text) (c.in-Byte.b ∷ []) text c.offer_request-offered.ensures.grows c.loop-turns.invariant.taken byte)
+    none stream head rest e reads short (omega arith)

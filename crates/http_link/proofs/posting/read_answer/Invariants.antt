@@ -1,0 +1,17 @@
+use Rattle.std.proofs.Common.{◌≡◌, ◌≤◌, ℕ, List, length, Some, Result}
+use Rattle.http_link.specs.declared.posting.PostFault.{PostFault}
+use Rattle.http_link.specs.Client.{Means}
+use Rattle.http_link.proofs.posting.read_answer.Given as goal
+
+abbrev pub invariant-loop-heads : goal.invariant-loop-heads
+invariant-loop-heads g l = record {
+  means : (stream : List ℕ) → g.R.Read.remaining l.fn.r ≡ Some stream → (rest : List ℕ) × (g.R.Read.remaining l.r ≡ Some rest)
+      × ((meaning : Result (List ℕ) PostFault) → Means l.heads rest meaning → Means 5 stream meaning);
+  unfailed : g.R.Device.failure_count l.r ≤ l.before;
+  out : l.out ≡ l.fn.out;
+  text : length l.text ≡ 8192;
+  lines : length l.lines ≡ 64;
+}
+
+abbrev pub decreases-loop-heads : goal.decreases-loop-heads
+decreases-loop-heads g l = l.heads

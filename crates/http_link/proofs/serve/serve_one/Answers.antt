@@ -1,0 +1,48 @@
+use Rattle.std.proofs.Common.{length, arith}
+use Rattle.http_link.specs.Lines.{head_at}
+use Rattle.http_link.specs.Reading.{HasNoHead, IsTaken}
+use Rattle.http_link.proofs.Serving.{none_begins, taken_begins, taken_is, head_served, head_asked, asks_once}
+use Rattle.http_link.proofs.serve.serve_one.Goals as goal
+
+pub returns-in-Partial-clause-exact : goal.returns-in-Partial-clause-exact
+returns-in-Partial-clause-exact g c stream head rest e begins =
+    let text = c.read_request_head.new.text in
+    let lines = c.read_request_head.new.lines in
+    let none : HasNoHead (g.R.Read.remaining c.args.r.now) (length text) (length lines) = rw c.in-Partial.is at c.in_ok-read_request_head.ensures.head in
+    absurd (none_begins (g.R.Read.remaining c.args.r.now) text stream lines head rest (omega arith) (omega arith) none e begins)
+
+pub returns-in-Malformed-clause-exact : goal.returns-in-Malformed-clause-exact
+returns-in-Malformed-clause-exact g c stream head rest e begins =
+    let text = c.read_request_head.new.text in
+    let lines = c.read_request_head.new.lines in
+    let none : HasNoHead (g.R.Read.remaining c.args.r.now) (length text) (length lines) = rw c.in-Malformed.is at c.in_ok-read_request_head.ensures.head in
+    absurd (none_begins (g.R.Read.remaining c.args.r.now) text stream lines head rest (omega arith) (omega arith) none e begins)
+
+pub returns-in-Whole-clause-exact : goal.returns-in-Whole-clause-exact
+returns-in-Whole-clause-exact g c stream head rest e begins =
+    let text = c.read_request_head.new.text in
+    let lines = c.read_request_head.new.lines in
+    let taken : IsTaken (g.R.Read.remaining c.args.r.now) (g.R.Read.remaining c.read_request_head.new.r) text lines c.in-Whole.spans = rw c.in-Whole.is at c.in_ok-read_request_head.ensures.head in
+    head_served c.serve_head.result (g.S.Service.tenant_of c.args.service.now) (head_at c.head_in-head.result) (g.R.Read.remaining c.read_request_head.new.r) _ head rest
+    (taken_is (head_at c.head_in-head.result) (g.R.Read.remaining c.args.r.now) (g.R.Read.remaining c.read_request_head.new.r) text stream lines c.in-Whole.spans head rest
+    (omega arith) (omega arith) taken c.head_in-head.ensures e begins) c.serve_head.ensures.runs
+
+pub returns-in-Whole-clause-asked_only : goal.returns-in-Whole-clause-asked_only
+returns-in-Whole-clause-asked_only g c stream head rest e begins =
+    let text = c.read_request_head.new.text in
+    let lines = c.read_request_head.new.lines in
+    let taken : IsTaken (g.R.Read.remaining c.args.r.now) (g.R.Read.remaining c.read_request_head.new.r) text lines c.in-Whole.spans = rw c.in-Whole.is at c.in_ok-read_request_head.ensures.head in
+    head_asked (g.S.Service.tenant_of c.args.service.now) (head_at c.head_in-head.result) (g.R.Read.remaining c.read_request_head.new.r) (g.R.Read.remaining c.serve_head.new.r) _ _ head rest
+    (taken_is (head_at c.head_in-head.result) (g.R.Read.remaining c.args.r.now) (g.R.Read.remaining c.read_request_head.new.r) text stream lines c.in-Whole.spans head rest
+    (omega arith) (omega arith) taken c.head_in-head.ensures e begins) c.serve_head.ensures.asks
+
+pub returns-in-Whole-clause-turned_away : goal.returns-in-Whole-clause-turned_away
+returns-in-Whole-clause-turned_away g c stream e none =
+    let text = c.read_request_head.new.text in
+    let lines = c.read_request_head.new.lines in
+    let taken : IsTaken (g.R.Read.remaining c.args.r.now) (g.R.Read.remaining c.read_request_head.new.r) text lines c.in-Whole.spans = rw c.in-Whole.is at c.in_ok-read_request_head.ensures.head in
+    let front = taken_begins (g.R.Read.remaining c.args.r.now) (g.R.Read.remaining c.read_request_head.new.r) text stream lines c.in-Whole.spans (omega arith) (omega arith) taken e in
+    absurd (none taken.is.head front.0 front.2)
+
+pub returns-in-Whole-clause-asked_once : goal.returns-in-Whole-clause-asked_once
+returns-in-Whole-clause-asked_once g c = asks_once _ _ _ _ _ c.serve_head.ensures.asks

@@ -1,0 +1,96 @@
+-- What a link sends to a peer, and what the peer's answer means (RFC 0035).
+use Rattle.std.specs.Prelude.{◌≡◌, ◌≢◌, ◌⊎◌, ℕ, suc, zero, List, ◌++◌, length, take, Bool, ◌==◌, nat_lt, if◌then◌else◌, codes, decimal, Option, Some, Result, Ok, Err, IsTrue, IsFalse}
+use Rattle.common_types.specs.Numbers.{is_between}
+use Rattle.ilp_addr.specs.Target.{Parts, authority_of, path_of}
+use Rattle.httparse.specs.Grammar.{ResponseHead}
+use Rattle.http_link.specs.declared.posting.PostFault.{PostFault}
+use Rattle.http_link.specs.declared.posting.PostFault.TheVariants.{Read, Write, Turns, Cut, Head, Status, Unframed, Size}
+use Rattle.http_link.specs.declared.streams.LinkFault.{LinkFault}
+use Rattle.http_link.specs.declared.streams.LinkFault.TheVariants as links
+use Rattle.http_link.specs.Fields.{Standing, missing, once, repeated, standing, value_of, is_length}
+use Rattle.http_link.specs.Heads.{BeginsAnswer, Reply, reply_of}
+use Rattle.http_link.specs.Answers.{line}
+
+-- the head of a request that posts so many bytes (RFC 9112, 3 and 3.2; RFC 9110, 7.2 and 8.6; RFC 6750, 2.1)
+abbrev pub post_head : Parts → ℕ → List ℕ
+post_head target size =
+    line (codes "POST " ++ path_of target.url ++ codes " HTTP/1.1")
+    ++ line (codes "Host: " ++ authority_of target.url)
+    ++ line (codes "Authorization: Bearer " ++ target.token)
+    ++ line (codes "Accept: application/octet-stream")
+    ++ line (codes "Content-Type: application/octet-stream")
+    ++ line (codes "Content-Length: " ++ decimal size)
+    ++ line (codes "Connection: close")
+    ++ codes "\r\n"
+
+-- the request that posts a frame
+abbrev pub post_text : Parts → List ℕ → List ℕ
+post_text target frame = post_head target (length frame) ++ frame
+
+-- the most bytes of an answer's body
+abbrev pub max_answer : ℕ
+max_answer = 34_000
+
+-- a body of a stated length (RFC 9112, 6.2)
+abbrev pub sized_body : ℕ → List ℕ → Result (List ℕ) PostFault
+sized_body size rest =
+    if nat_lt max_answer size then Err Size
+    else (if nat_lt (length rest) size then Err Cut else Ok (take size rest))
+
+-- a body that goes to the end of the stream (RFC 9112, 6.3)
+abbrev pub body_to_end : List ℕ → Result (List ℕ) PostFault
+body_to_end rest = if nat_lt max_answer (length rest) then Err Size else Ok rest
+
+-- a body by the lines on its coding and its length (RFC 9112, 6.3)
+abbrev pub body_of : Standing → Standing → List ℕ → Result (List ℕ) PostFault
+body_of missing missing rest = body_to_end rest
+body_of missing (once text) rest = if is_length text then sized_body (value_of text) rest else Err Unframed
+body_of missing repeated rest = Err Unframed
+body_of (once coding) length rest = Err Unframed
+body_of repeated length rest = Err Unframed
+
+-- what the last head of an answer and the bytes behind it mean (RFC 9110, 15.3.1)
+abbrev pub meaning_of : Reply → List ℕ → Result (List ℕ) PostFault
+meaning_of reply rest =
+    if reply.status == 200
+    then body_of (standing (codes "Transfer-Encoding") reply.lines) (standing (codes "Content-Length") reply.lines) rest
+    else Err Status
+
+-- an interim answer (RFC 9110, 15.2)
+abbrev pub is_interim : Reply → Bool
+is_interim reply = is_between 100 199 reply.status
+
+-- what the first head of a stream means; next is what the bytes behind an interim one mean
+pub record FirstMeans (next : List ℕ → Result (List ℕ) PostFault → Type 0) (stream : List ℕ)
+    (meaning : Result (List ℕ) PostFault) : Type 0 where
+  pub head : ResponseHead
+  pub rest : List ℕ
+  pub begins : BeginsAnswer stream head rest
+  pub interim : IsTrue (is_interim (reply_of head)) → next rest meaning
+  pub final : IsFalse (is_interim (reply_of head)) → meaning ≡ meaning_of (reply_of head) rest
+
+-- no head within the limits begins the stream: it is cut inside one, or has none
+pub record HasNone (stream : List ℕ) (meaning : Result (List ℕ) PostFault) : Type 0 where
+  pub none : (head : ResponseHead) (rest : List ℕ) → BeginsAnswer stream head rest → ⊥
+  pub fault : (meaning ≡ Err Head) ⊎ (meaning ≡ Err Cut)
+
+-- what a stream means as an answer, where at most so many heads may come, all but the last interim ones
+abbrev pub Means : ℕ → List ℕ → Result (List ℕ) PostFault → Type 0
+Means zero stream meaning = meaning ≡ Err Head
+Means (suc heads) stream meaning = FirstMeans (Means heads) stream meaning ⊎ HasNone stream meaning
+
+-- what is given of an answer: so many bytes at the front of a buffer, or a fault
+abbrev pub given : Result ℕ PostFault → List ℕ → Result (List ℕ) PostFault
+given (Ok n) out = Ok (take n out)
+given (Err fault) out = Err fault
+
+-- the fault of a link as a fault of a post
+abbrev pub fault_of : LinkFault → PostFault
+fault_of links.Read = Read
+fault_of links.Write = Write
+fault_of links.Turns = Turns
+
+-- what is given is what the known bytes mean, unless the device failed or too many reads were made
+abbrev pub GivesOf : (List ℕ → Result (List ℕ) PostFault) → Option (List ℕ) → Result ℕ PostFault → List ℕ → Type 0
+GivesOf meaning known result out =
+    (rest : List ℕ) → known ≡ Some rest → result ≢ Err Read → result ≢ Err Turns → given result out ≡ meaning rest

@@ -1,0 +1,52 @@
+-- The field lines of a head (RFC 9110, 5).
+use Rattle.std.specs.Prelude.{ℕ, ◌+◌, ◌-◌, ◌*◌, List, [], ◌∷◌, length, take, drop, map, filter, fold, Bool, ◌&&◌, ◌==◌, if◌then◌else◌}
+use Rattle.std.specs.List.{list_all, list_any, slice_split}
+use Rattle.std.specs.Str.{str_eq_ignore_ascii_case}
+use Rattle.httparse.specs.Grammar.{is_ows, skip_ows}
+use Rattle.common_types.specs.Numbers.{is_between}
+
+-- a field line: its name, and its value without the white space around it (RFC 9110, 5.5)
+abbrev pub Line : Type 0
+Line = List ℕ × List ℕ
+
+-- the values of the lines of a name, whose letters may have any case (RFC 9110, 5.1)
+abbrev pub values_of : List ℕ → List Line → List (List ℕ)
+values_of name lines = map (λ line. line.1) (filter (λ line. str_eq_ignore_ascii_case line.0 name) lines)
+
+-- a name stands in no line, in one, or in more
+pub data Standing : Type 0 where
+  missing repeated : Standing
+  once : List ℕ → Standing
+
+-- how the name of these values stands
+abbrev pub standing_of : List (List ℕ) → Standing
+standing_of [] = missing
+standing_of (value ∷ []) = once value
+standing_of (first ∷ second ∷ more) = repeated
+
+-- how a name stands in some lines
+abbrev pub standing : List ℕ → List Line → Standing
+standing name lines = standing_of (values_of name lines)
+
+-- an element of a list is a word, in any case, with optional white space around it (RFC 9110, 5.6.1)
+abbrev pub is_element : List ℕ → List ℕ → Bool
+is_element word part =
+    str_eq_ignore_ascii_case (take (length word) (skip_ows part)) word
+    && list_all is_ows (drop (length word) (skip_ows part))
+
+-- a value is a list that has the word (RFC 9110, 5.6.1)
+abbrev pub has_element : List ℕ → List ℕ → Bool
+has_element word value = list_any (is_element word) (slice_split (λ b. b == 44) value)
+
+-- the value of decimal digits
+abbrev pub value_of : List ℕ → ℕ
+value_of digits = fold (λ n d. n * 10 + (d - 48)) 0 digits
+
+-- a length that we read: 1 to 10 digits (RFC 9110, 8.6)
+abbrev pub is_length : List ℕ → Bool
+is_length text = is_between 1 10 (length text) && list_all (is_between 48 57) text
+
+-- the bytes behind the spaces in front
+abbrev pub skip_spaces : List ℕ → List ℕ
+skip_spaces [] = []
+skip_spaces (b ∷ bytes) = if b == 32 then skip_spaces bytes else b ∷ bytes

@@ -1,0 +1,11 @@
+pub mod Fields
+pub mod Heads
+pub mod Requests
+pub mod Lines
+pub mod Answers
+pub mod Streams
+pub mod Reading
+pub mod ReadingReplies
+pub mod Serving
+pub mod Running
+pub mod Client

@@ -1,0 +1,42 @@
+-- Heads and their field lines as spans of a text.
+use Rattle.std.specs.Prelude.{List, ℕ, map, take}
+use Rattle.httparse.specs.Spans.{span_bytes, header_bytes}
+use Rattle.httparse.specs.declared.spans.HeaderSpan.{HeaderSpan}
+use Rattle.httparse.specs.declared.spans.RequestSpans.{RequestSpans}
+use Rattle.http_link.specs.declared.fields.Lines.{Lines}
+use Rattle.http_link.specs.declared.fields.Found.{Found}
+use Rattle.http_link.specs.declared.fields.Found.TheVariants.{Missing, Once, Repeated}
+use Rattle.http_link.specs.declared.request.RequestHead.{RequestHead}
+use Rattle.http_link.specs.declared.request.Wanted.{Wanted as WantedAt}
+use Rattle.http_link.specs.Fields.{Line, Standing, missing, once, repeated}
+use Rattle.http_link.specs.Heads.{Head}
+use Rattle.http_link.specs.Requests.{Wanted}
+
+-- the lines that the spans cover
+abbrev pub lines_at : Lines → List Line
+lines_at lines = map (header_bytes lines.text.now) lines.spans.now
+
+-- what was found, without where it lies
+abbrev pub standing_at : Found → Standing
+standing_at Missing = missing
+standing_at (Once value) = once value.now
+standing_at Repeated = repeated
+
+-- what a head says, without where it lies
+abbrev pub head_at : RequestHead → Head
+head_at head =
+    record { method = head.method.now; target = head.target.now; minor = head.minor; lines = lines_at head.lines }
+
+-- what the head of a text says, whose parts the spans cover
+abbrev pub head_in : List ℕ → List HeaderSpan → RequestSpans → Head
+head_in text lines spans = record {
+  method = span_bytes text spans.method;
+  target = span_bytes text spans.path;
+  minor = spans.version;
+  lines = map (header_bytes text) (take spans.headers lines);
+}
+
+-- what a head asks for, without where its token lies
+abbrev pub wanted_at : WantedAt → Wanted
+wanted_at wanted =
+    record { kind = wanted.kind; tenant = wanted.tenant; token = wanted.token.now; size = wanted.size }

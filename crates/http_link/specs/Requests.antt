@@ -1,0 +1,95 @@
+-- What the head of a request asks for, or the status that refuses it: checks in the order in which they are made.
+use Rattle.std.specs.Prelude.{ℕ, List, length, take, drop, slice_index, Bool, ◌&&◌, ◌||◌, ◌==◌, nat_lt, if◌then◌else◌, codes}
+use Rattle.std.specs.Prelude.{Option, Some, None, Result, Ok, Err}
+use Rattle.std.specs.List.{list_any}
+use Rattle.std.specs.Str.{bytes_eq, str_eq_ignore_ascii_case}
+use Rattle.common_types.specs.ResultChain.{◌>>=◌}
+use Rattle.common_types.specs.Token.{is_token}
+use Rattle.http_link.specs.declared.request.Kind.{Kind}
+use Rattle.http_link.specs.declared.request.Kind.TheVariants.{Ilp, Admin}
+use Rattle.http_link.specs.Fields.{Line, values_of, Standing, missing, once, repeated, standing, has_element, value_of, is_length, skip_spaces}
+use Rattle.http_link.specs.Heads.{Head}
+
+-- the most bytes of a request's body
+abbrev pub max_body : Kind → ℕ
+max_body Ilp = 34_000
+max_body Admin = 2048
+
+-- what a head asks for that nothing refuses: whose tenant it is, with which token, and how long its body is
+pub record Wanted : Type 0 where
+  pub kind : Kind
+  pub tenant : ℕ
+  pub token : List ℕ
+  pub size : ℕ
+
+-- a value, or a status where there is none
+abbrev pub or_status : {A : Type 0} → ℕ → Option A → Result A ℕ
+or_status status (Some value) = Ok value
+or_status status None = Err status
+
+-- the tenant of a name
+abbrev pub tenant_named : (List ℕ → Option ℕ) → Kind → List ℕ → Option (Kind × ℕ)
+tenant_named tenant_of kind name = with_kind (tenant_of name)
+  where
+    with_kind : Option ℕ → Option (Kind × ℕ)
+    with_kind (Some tenant) = Some (kind, tenant)
+    with_kind None = None
+
+-- `/ilp/NAME` or `/admin/NAME`, exactly (RFC 9112, 3.2.1)
+abbrev pub place_of : (List ℕ → Option ℕ) → List ℕ → Option (Kind × ℕ)
+place_of tenant_of target =
+    if bytes_eq (take 5 target) (codes "/ilp/") then tenant_named tenant_of Ilp (drop 5 target)
+    else (if bytes_eq (take 7 target) (codes "/admin/") then tenant_named tenant_of Admin (drop 7 target) else None)
+
+-- the length of a body: 400 for a bad or a repeated one or one beside a coding, 411 for a coding alone or neither
+-- (RFC 9112, 6.3)
+abbrev pub length_of : Standing → Standing → Result ℕ ℕ
+length_of coding missing = Err 411
+length_of missing (once text) = if is_length text then Ok (value_of text) else Err 400
+length_of (once text') (once text) = Err 400
+length_of repeated (once text) = Err 400
+length_of coding repeated = Err 400
+
+-- a length within the limit of its kind (RFC 9110, 15.5.14)
+abbrev pub within_limit : Kind → ℕ → Result ℕ ℕ
+within_limit kind size = if nat_lt (max_body kind) size then Err 413 else Ok size
+
+-- the size of a body
+abbrev pub size_of : Kind → Standing → Standing → Result ℕ ℕ
+size_of kind coded length = length_of coded length >>= within_limit kind
+
+-- the token of `Bearer TOKEN`, with one space or more between them (RFC 6750, 2.1; RFC 9110, 11.1)
+abbrev pub bearer_token : List ℕ → Option (List ℕ)
+bearer_token value =
+    if str_eq_ignore_ascii_case (take 6 value) (codes "Bearer") && (slice_index value 6 == 32)
+    && is_token (skip_spaces (drop 6 value))
+    then Some (skip_spaces (drop 6 value)) else None
+
+-- the token of the one line that shows credentials (RFC 9110, 11.6.2)
+abbrev pub token_in : Standing → Option (List ℕ)
+token_in missing = None
+token_in (once value) = bearer_token value
+token_in repeated = None
+
+-- how the coding of a body stands (RFC 9112, 6.1)
+abbrev pub coding_of : List Line → Standing
+coding_of lines = standing (codes "Transfer-Encoding") lines
+
+-- what a head asks for, or the status of the first check that refuses it
+abbrev pub wanted_of : (List ℕ → Option ℕ) → Head → Result Wanted ℕ
+wanted_of tenant_of head = do
+  posted ← if bytes_eq head.method (codes "POST") then Ok head.method else Err 405
+  place ← or_status 404 (place_of tenant_of head.target)
+  size ← size_of place.0 (coding_of head.lines) (standing (codes "Content-Length") head.lines)
+  token ← or_status 401 (token_in (standing (codes "Authorization") head.lines))
+  Ok (record { kind = place.0; tenant = place.1; token = token; size = size })
+
+-- the client waits for `100 Continue` before it sends the body (RFC 9110, 10.1.1)
+abbrev pub waits : Head → Bool
+waits head =
+    (head.minor == 1)
+    && list_any (λ value. str_eq_ignore_ascii_case value (codes "100-continue")) (values_of (codes "Expect") head.lines)
+
+-- the connection is closed behind the answer (RFC 9112, 9.3 and 9.6)
+abbrev pub closes : Head → Bool
+closes head = (head.minor == 0) || list_any (has_element (codes "close")) (values_of (codes "Connection") head.lines)

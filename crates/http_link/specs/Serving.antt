@@ -1,0 +1,78 @@
+-- What serving one request does: what is read, what a service is asked, what is written.
+use Rattle.std.specs.Prelude.{◌≡◌, ◌<◌, ◌≤◌, ◌⊎◌, ℕ, List, [], ◌++◌, length, take, drop, Bool, Option, Some, Result, Ok, Err, if◌then◌else◌}
+use Rattle.http_link.specs.declared.request.Kind.{Kind}
+use Rattle.http_link.specs.declared.serve.Served.{Served}
+use Rattle.http_link.specs.declared.serve.Served.TheVariants.{Kept, Closed, Ended}
+use Rattle.http_link.specs.Heads.{Head}
+use Rattle.http_link.specs.Requests.{Wanted, waits, closes}
+use Rattle.http_link.specs.Answers.{answer_text, refusal_text, continue_text}
+
+-- what a service was asked, and the status that it gave
+pub record Asked : Type 0 where
+  pub kind : Kind
+  pub tenant : ℕ
+  pub token : List ℕ
+  pub body : List ℕ
+  pub status : ℕ
+
+-- what a head wants, asked with a body and given a status
+abbrev pub asking : Wanted → List ℕ → ℕ → Asked
+asking wanted body status =
+    record { kind = wanted.kind; tenant = wanted.tenant; token = wanted.token; body = body; status = status }
+
+-- that a service is as it was, that one question made of it what it is, the bytes of its last answer, what is left of a
+-- stream, and what it means to have written a text
+pub record Traces : Type 1 where
+  pub Unasked : Type 0
+  pub Asks : Asked → Type 0
+  pub answer : List ℕ
+  pub left : Option (List ℕ)
+  pub Writes : List ℕ → Type 0
+
+-- whether the connection stays open
+abbrev pub kept_unless : Bool → Served
+kept_unless closed = if closed then Closed else Kept
+
+-- the body is cut: nothing is asked
+pub record IsCut (head : Head) (traces : Traces) (served : Served) : Type 0 where
+  pub ended : served ≡ Ended
+  pub unasked : traces.Unasked
+  pub written : traces.Writes (continue_text (waits head))
+  pub left : traces.left ≡ Some []
+
+-- the body is whole: exactly that is asked, once, and the answer is written
+pub record IsAsked (wanted : Wanted) (head : Head) (rest : List ℕ) (traces : Traces) (served : Served) : Type 0 where
+  pub status : ℕ
+  pub asked : traces.Asks (asking wanted (take wanted.size rest) status)
+  pub written : traces.Writes (continue_text (waits head) ++ answer_text wanted.kind status traces.answer (closes head))
+  pub left : traces.left ≡ Some (drop wanted.size rest)
+  pub open_or_not : served ≡ kept_unless (closes head)
+
+-- a head is refused: nothing is asked, the status is written, and the connection is closed
+pub record IsRefused (status : ℕ) (rest : List ℕ) (traces : Traces) (served : Served) : Type 0 where
+  pub closed : served ≡ Closed
+  pub unasked : traces.Unasked
+  pub written : traces.Writes (refusal_text status)
+  pub left : traces.left ≡ Some rest
+
+-- what serving a stream does that begins with a head and goes on with rest, by what the head wants
+abbrev pub IsServed : Result Wanted ℕ → Head → List ℕ → Traces → Served → Type 0
+IsServed (Err status) head rest traces served = IsRefused status rest traces served
+IsServed (Ok wanted) head rest traces served =
+    (length rest < wanted.size → IsCut head traces served)
+    × (wanted.size ≤ length rest → IsAsked wanted head rest traces served)
+
+-- what is written to a stream that begins with no head within the limits: nothing, or 400
+abbrev pub WritesNothingOr400 : (List ℕ → Type 0) → Served → Type 0
+WritesNothingOr400 Writes served =
+    ((served ≡ Ended) × Writes []) ⊎ ((served ≡ Closed) × Writes (refusal_text 400))
+
+-- at most one question was asked
+abbrev pub AsksAtMostOnce : Type 0 → (Asked → Type 0) → Type 0
+AsksAtMostOnce Unasked Asks = Unasked ⊎ ((question : Asked) × Asks question)
+
+-- nothing is asked, or only what the head wants, with a whole body
+abbrev pub IsAskedOnly : Result Wanted ℕ → List ℕ → Type 0 → (Asked → Type 0) → Type 0
+IsAskedOnly (Err status) rest Unasked Asks = Unasked
+IsAskedOnly (Ok wanted) rest Unasked Asks =
+    Unasked ⊎ ((wanted.size ≤ length rest) × ((status : ℕ) × Asks (asking wanted (take wanted.size rest) status)))

@@ -1,0 +1,38 @@
+-- What is taken from a reader, and given to a writer.
+use Rattle.std.specs.Prelude.{◌≡◌, ◌<◌, ◌≤◌, ◌+◌, ℕ, List, [], ◌∷◌, ◌++◌, length, take, Option, Some, None, Bool, true, false}
+use Rattle.std.specs.Io.KnownBytes.{Appends, Consumes, Keeps, IsAtEnd}
+use Rattle.http_link.specs.declared.streams.Pulled.{Pulled}
+use Rattle.http_link.specs.declared.streams.Pulled.TheVariants.{Byte, End, Nothing}
+
+-- a front of the text was written, if not all of it
+abbrev pub AppendsFront : List ℕ → Option (List ℕ) → Option (List ℕ) → Type 0
+AppendsFront text old new = (n : ℕ) × Appends old new (take n text)
+
+-- what a read of one byte takes
+abbrev pub PullsByte : Option (List ℕ) → Option (List ℕ) → Pulled → Type 0
+PullsByte old new (Byte b) = Consumes old new (b ∷ [])
+PullsByte old new End = Keeps old new × IsAtEnd new
+PullsByte old new Nothing = Keeps old new
+
+-- what a read into a buffer from a place on takes, and puts there
+abbrev pub ReadsBehind : Option (List ℕ) → Option (List ℕ) → ℕ → ℕ → List ℕ → List ℕ → Option ℕ → Type 0
+ReadsBehind old new at limit before after None = Keeps old new × (take at after ≡ take at before)
+ReadsBehind old new at limit before after (Some n) =
+    (at + n ≤ limit) × (n ≡ 0 → IsAtEnd new)
+    × ((taken : List ℕ) × (take (at + n) after ≡ take at before ++ taken) × Consumes old new taken)
+
+-- so many bytes were taken and stand at the front of the buffer; where they are fewer than wanted, no more are left
+pub record Fills (old new : Option (List ℕ)) (wanted : ℕ) (buffer : List ℕ) (n : ℕ) : Type 0 where
+  pub bound : n ≤ wanted
+  pub taken : Consumes old new (take n buffer)
+  pub ended : n < wanted → IsAtEnd new
+
+-- nothing is left, or something is
+abbrev pub EndsOrNot : Option (List ℕ) → Bool → Type 0
+EndsOrNot known true = IsAtEnd known
+EndsOrNot None false = Unit {0}
+EndsOrNot (Some bytes) false = 0 < length bytes
+
+-- fewer bytes than wanted were taken, and no more are left
+abbrev pub EndsBefore : ℕ → Option (List ℕ) → Option (List ℕ) → Type 0
+EndsBefore wanted old new = (taken : List ℕ) × (length taken < wanted) × Consumes old new taken × IsAtEnd new

@@ -1,0 +1,153 @@
+//! Heads of requests and of answers, read one byte at a time, so that no byte behind them is taken.
+
+ghost use Rattle.std.specs.Prelude.{◌≡◌, ◌≢◌, ◌↔◌, ◌+◌, ◌<◌, ◌≤◌, ◌++◌, ◌∷◌, [], length, take, Ok, Err, IfOk};
+ghost use Rattle.http_link.specs.Reading.{Decides, GoesOn, HeadIsRead};
+ghost use Rattle.http_link.specs.ReadingReplies.{DecidesReply, ReplyGoesOn, ReplyIsRead};
+
+use crate::streams::{LinkFault, Pulled, pull};
+use httparse::Status;
+use httparse::spans::{HeaderSpan, RequestSpans, ResponseSpans, parse_request, parse_response};
+use oer_core::Device;
+use std::io::Read;
+
+/// The most bytes of a head.
+pub(crate) const MAX_HEAD: usize = 8192;
+
+/// The most field lines of a head.
+pub(crate) const MAX_LINES: usize = 64;
+
+/// What a byte more made of a head.
+#[derive(Drop)]
+pub(crate) enum Offered<S> {
+    /// It is whole.
+    Whole(S),
+    /// It may go on.
+    Partial,
+    /// It is no head, or goes over the limits.
+    Malformed,
+}
+
+// Puts a byte behind the first n, and looks at them where a line ends, since each head ends with a line.
+fn offer_request(
+    text: &mut [u8],
+    n: usize,
+    b: u8,
+    lines: &mut [HeaderSpan],
+) -> Offered<RequestSpans>
+    requires room { n < length text.old }
+    requires inside { GoesOn (take n text.old) (length lines.old) }
+    ensures grows { take (n + 1) text.new ≡ take n text.old ++ b ∷ [] }
+    ensures len { length text.new ≡ length text.old }
+    ensures lines { length lines.new ≡ length lines.old }
+    ensures decides { Decides (take (n + 1) text.new) (length lines.old) lines.new result }
+{
+    text[n] = b;
+    if b != b'\n' {
+        return Offered::Partial;
+    }
+    match parse_request(&text[..n + 1], lines) {
+        Ok(Status::Complete(spans)) => Offered::Whole(spans),
+        Ok(Status::Partial) => Offered::Partial,
+        Err(_) => Offered::Malformed,
+    }
+}
+
+/// Reads the head of a request. It has as many bytes as the text at most, and as many field lines as there are lines.
+/// Where the stream has ended, the answer is `Partial`.
+pub(crate) fn read_request_head<R: Read + Device>(
+    r: &mut R,
+    text: &mut [u8],
+    lines: &mut [HeaderSpan],
+    before: u64,
+    turns: &mut u32,
+) -> Result<Offered<RequestSpans>, LinkFault>
+    requires unfailed { R.failure_count r.old ≤ before }
+    ensures len { length text.new ≡ length text.old }
+    ensures lines { length lines.new ≡ length lines.old }
+    ensures head { IfOk result (HeadIsRead (R.remaining r.old) (R.remaining r.new) text.new lines.new) }
+    ensures read { (result ≡ Err LinkFault.Read) ↔ (before < R.failure_count r.new) }
+    ensures write { result ≢ Err LinkFault.Write }
+    ensures spent { result ≡ Err LinkFault.Turns → turns.new ≡ 0 }
+{
+    let mut n = 0;
+    while *turns > 0 {
+        *turns -= 1;
+        if n >= text.len() {
+            return Ok(Offered::Malformed);
+        }
+        match pull(r, before)? {
+            Pulled::Nothing => {}
+            Pulled::End => return Ok(Offered::Partial),
+            Pulled::Byte(b) => {
+                let offered = offer_request(text, n, b, lines);
+                n += 1;
+                match offered {
+                    Offered::Partial => {}
+                    Offered::Whole(spans) => return Ok(Offered::Whole(spans)),
+                    Offered::Malformed => return Ok(Offered::Malformed),
+                }
+            }
+        }
+    }
+    Err(LinkFault::Turns)
+}
+
+// Puts a byte behind the first n, and looks at them where a line ends, since each head ends with a line.
+fn offer_reply(text: &mut [u8], n: usize, b: u8, lines: &mut [HeaderSpan]) -> Offered<ResponseSpans>
+    requires room { n < length text.old }
+    requires inside { ReplyGoesOn (take n text.old) (length lines.old) }
+    ensures grows { take (n + 1) text.new ≡ take n text.old ++ b ∷ [] }
+    ensures len { length text.new ≡ length text.old }
+    ensures lines { length lines.new ≡ length lines.old }
+    ensures decides { DecidesReply (take (n + 1) text.new) (length lines.old) lines.new result }
+{
+    text[n] = b;
+    if b != b'\n' {
+        return Offered::Partial;
+    }
+    match parse_response(&text[..n + 1], lines) {
+        Ok(Status::Complete(spans)) => Offered::Whole(spans),
+        Ok(Status::Partial) => Offered::Partial,
+        Err(_) => Offered::Malformed,
+    }
+}
+
+/// Reads the head of an answer. It has as many bytes as the text at most, and as many field lines as there are lines.
+/// Where the stream has ended, the answer is `Partial`.
+pub(crate) fn read_reply_head<R: Read + Device>(
+    r: &mut R,
+    text: &mut [u8],
+    lines: &mut [HeaderSpan],
+    before: u64,
+    turns: &mut u32,
+) -> Result<Offered<ResponseSpans>, LinkFault>
+    requires unfailed { R.failure_count r.old ≤ before }
+    ensures len { length text.new ≡ length text.old }
+    ensures lines { length lines.new ≡ length lines.old }
+    ensures head { IfOk result (ReplyIsRead (R.remaining r.old) (R.remaining r.new) text.new lines.new) }
+    ensures read { (result ≡ Err LinkFault.Read) ↔ (before < R.failure_count r.new) }
+    ensures write { result ≢ Err LinkFault.Write }
+    ensures spent { result ≡ Err LinkFault.Turns → turns.new ≡ 0 }
+{
+    let mut n = 0;
+    while *turns > 0 {
+        *turns -= 1;
+        if n >= text.len() {
+            return Ok(Offered::Malformed);
+        }
+        match pull(r, before)? {
+            Pulled::Nothing => {}
+            Pulled::End => return Ok(Offered::Partial),
+            Pulled::Byte(b) => {
+                let offered = offer_reply(text, n, b, lines);
+                n += 1;
+                match offered {
+                    Offered::Partial => {}
+                    Offered::Whole(spans) => return Ok(Offered::Whole(spans)),
+                    Offered::Malformed => return Ok(Offered::Malformed),
+                }
+            }
+        }
+    }
+    Err(LinkFault::Turns)
+}

@@ -1,0 +1,259 @@
+//! A frame that is sent to a peer, and the peer's answer.
+
+ghost use Rattle.std.specs.Prelude.{◌≡◌, ◌≢◌, ◌↔◌, ◌<◌, ◌≤◌, List, ℕ, length, map, take, Some, Err, IfOk};
+ghost use Rattle.httparse.specs.Spans.{IsResponseWithin, header_bytes};
+ghost use Rattle.common_types.specs.Numbers.{is_between};
+ghost use Rattle.std.specs.Io.KnownBytes.{Appends};
+ghost use Rattle.http_link.specs.Lines.{lines_at};
+ghost use Rattle.http_link.specs.Client.{post_head, post_text, Means, given, GivesOf};
+ghost use Rattle.http_link.specs.Client.{meaning_of, sized_body, body_to_end};
+
+use crate::fields::{Found, Lines, is_length, value_up_to};
+use crate::head::{MAX_HEAD, MAX_LINES, Offered, read_reply_head};
+use crate::line_buffer::LineBuffer;
+use crate::streams::{LinkFault, MAX_READS, has_ended, read_up_to, write_all};
+use httparse::spans::{EMPTY_HEADER_SPAN, HeaderSpan, ResponseSpans};
+use ilp_addr::Target;
+use oer_core::Device;
+use std::io::{Read, Write};
+use thiserror::Error;
+
+/// The most bytes of an answer's body.
+pub const MAX_ANSWER: usize = 34_000;
+
+/// The most heads of an answer: up to four of status 1xx, and the last.
+const MAX_HEADS: u32 = 5;
+
+/// Why a peer gave no answer.
+#[derive(Clone, Copy, Debug, PartialEq, Eq, Error)]
+pub enum PostFault {
+    /// A read failed.
+    #[error("a read failed")]
+    Read,
+    /// A write failed.
+    #[error("a write failed")]
+    Write,
+    /// 50,000 reads or writes did not suffice.
+    #[error("too many reads or writes")]
+    Turns,
+    /// The answer ended inside a head or before its stated length.
+    #[error("the answer is cut")]
+    Cut,
+    /// A head is malformed or over the limits, or the fifth of status 1xx.
+    #[error("the answer's head is malformed")]
+    Head,
+    /// The status is not 200.
+    #[error("the answer's status is not 200")]
+    Status,
+    /// The answer's length is bad, repeated, or coded.
+    #[error("the answer's length is not stated")]
+    Unframed,
+    /// The answer's body has more than 34,000 bytes.
+    #[error("the answer is too large")]
+    Size,
+}
+
+impl From<LinkFault> for PostFault {
+    ghost use Rattle.std.specs.Prelude.{◌≡◌};
+    ghost use Rattle.http_link.specs.Client.{fault_of};
+
+    ghost from_gives = { λ fault told. told ≡ fault_of fault };
+
+    fn from(fault: LinkFault) -> PostFault {
+        match fault {
+            LinkFault::Read => PostFault::Read,
+            LinkFault::Write => PostFault::Write,
+            LinkFault::Turns => PostFault::Turns,
+        }
+    }
+}
+
+/// Sends a frame to a peer, and reads its answer into `out`, which has 34,000 bytes or more. Gives how many bytes the
+/// answer's body has; they stand at the front of `out`. (RFC 0035; RFC 9112, 3 and 6)
+///
+/// Errors: `Read` and `Write` where the device failed in this call; `Turns` where 50,000 reads or writes did not
+/// suffice; of what the peer answers, `Head` for a malformed head, one of more than 8,192 bytes or 64 lines, or the
+/// fifth of status 1xx, `Status` for a status other than 200, `Unframed` for a coded body or a bad or repeated length,
+/// `Size` for a body of more than 34,000 bytes, and `Cut` where the stream ends inside a head or before a stated length.
+pub fn post<R: Read + Device, W: Write + Device>(
+    r: &mut R,
+    w: &mut W,
+    target: &Target,
+    frame: &[u8],
+    out: &mut [u8],
+) -> Result<usize, PostFault>
+    requires { 34_000 ≤ length out.old }
+
+    // The request is written whole, unless a write fails.
+    ensures sent { result ≢ Err PostFault.Write → result ≢ Err PostFault.Turns
+        → Appends (W.contents w.old) (W.contents w.new) (post_text target.now frame.now) }
+    // What is given is what the stream means, however it is cut.
+    ensures exact { (stream : List ℕ) → R.remaining r.old ≡ Some stream
+        → result ≢ Err PostFault.Read → result ≢ Err PostFault.Write → result ≢ Err PostFault.Turns
+        → Means 5 stream (given result out.new) }
+    ensures bound { IfOk result (λ n. n ≤ 34_000) }
+    ensures len { length out.new ≡ length out.old }
+
+    // A device's fault is told exactly where the device failed.
+    ensures read { (result ≡ Err PostFault.Read) ↔ (R.failure_count r.old < R.failure_count r.new) }
+    ensures write { (result ≡ Err PostFault.Write) ↔ (W.failure_count w.old < W.failure_count w.new) }
+{
+    let (reads, writes) = (r.failures(), w.failures());
+    write_all(w, post_head(target, frame.len()).as_slice(), writes)?;
+    write_all(w, frame, writes)?;
+    let mut turns = MAX_READS;
+    read_answer(r, out, reads, &mut turns)
+}
+
+// The head of the request that posts so many bytes.
+fn post_head(target: &Target, size: usize) -> LineBuffer
+    ensures { result ≡ post_head target.now size }
+{
+    let mut head = LineBuffer::new();
+    head.push(b"POST ");
+    head.push(target.path());
+    head.push(b" HTTP/1.1");
+    head.push(b"\r\n");
+    head.push_line(b"Host: ", target.host());
+    head.push_line(b"Authorization: Bearer ", target.token());
+    head.push(b"Accept: application/octet-stream\r\n");
+    head.push(b"Content-Type: application/octet-stream\r\n");
+    head.push_stated(b"Content-Length: ", size);
+    head.push(b"Connection: close\r\n");
+    head.push(b"\r\n");
+    head
+}
+
+// Reads an answer: its heads and its body.
+fn read_answer<R: Read + Device>(
+    r: &mut R,
+    out: &mut [u8],
+    before: u64,
+    turns: &mut u32,
+) -> Result<usize, PostFault>
+    requires room { 34_000 ≤ length out.old }
+    requires unfailed { R.failure_count r.old ≤ before }
+    ensures means { (stream : List ℕ) → R.remaining r.old ≡ Some stream
+        → result ≢ Err PostFault.Read → result ≢ Err PostFault.Turns → Means 5 stream (given result out.new) }
+    ensures bound { IfOk result (λ n. n ≤ 34_000) }
+    ensures len { length out.new ≡ length out.old }
+    ensures read { (result ≡ Err PostFault.Read) ↔ (before < R.failure_count r.new) }
+    ensures write { result ≢ Err PostFault.Write }
+    ensures spent { result ≡ Err PostFault.Turns → turns.new ≡ 0 }
+{
+    let mut text = [0u8; MAX_HEAD];
+    let mut lines = [EMPTY_HEADER_SPAN; MAX_LINES];
+    let mut heads = MAX_HEADS;
+    while heads > 0 {
+        heads -= 1;
+        match read_reply_head(r, &mut text, &mut lines, before, turns)? {
+            Offered::Partial => return Err(PostFault::Cut),
+            Offered::Malformed => return Err(PostFault::Head),
+            Offered::Whole(spans) => {
+                if !is_interim(spans.code) {
+                    let fields = lines_in(&text[..spans.len], &lines, spans);
+                    return read_body(r, out, spans.code, fields, before, turns);
+                }
+            }
+        }
+    }
+    Err(PostFault::Head)
+}
+
+fn is_interim(status: u16) -> bool
+    ensures { result ≡ is_between 100 199 status }
+{
+    100 <= status && status <= 199
+}
+
+// The field lines of a head, by their spans in its text.
+fn lines_in<'b>(text: &'b [u8], lines: &'b [HeaderSpan], spans: ResponseSpans) -> Lines<'b>
+    requires within { IsResponseWithin text.now lines.now spans }
+    ensures { lines_at result ≡ map (header_bytes text.now) (take spans.headers lines.now) }
+{
+    Lines {
+        text,
+        spans: &lines[..spans.headers],
+    }
+}
+
+// Reads the body behind the last head of an answer.
+fn read_body<R: Read + Device>(
+    r: &mut R,
+    out: &mut [u8],
+    status: u16,
+    fields: Lines<'_>,
+    before: u64,
+    turns: &mut u32,
+) -> Result<usize, PostFault>
+    requires room { 34_000 ≤ length out.old }
+    requires unfailed { R.failure_count r.old ≤ before }
+    ensures gives { GivesOf (meaning_of (record { status = status; lines = lines_at fields.entry }))
+        (R.remaining r.old) result out.new }
+    ensures bound { IfOk result (λ n. n ≤ 34_000) }
+    ensures len { length out.new ≡ length out.old }
+    ensures read { (result ≡ Err PostFault.Read) ↔ (before < R.failure_count r.new) }
+    ensures write { result ≢ Err PostFault.Write }
+    ensures spent { result ≡ Err PostFault.Turns → turns.new ≡ 0 }
+{
+    if status != 200 {
+        return Err(PostFault::Status);
+    }
+    match (
+        fields.find(b"Transfer-Encoding"),
+        fields.find(b"Content-Length"),
+    ) {
+        (Found::Missing, Found::Missing) => read_to_end(r, out, before, turns),
+        (Found::Missing, Found::Once(text)) if is_length(text) => {
+            read_sized(r, out, value_up_to(text, 34_001) as usize, before, turns)
+        }
+        _ => Err(PostFault::Unframed),
+    }
+}
+
+// Reads a body of a stated length.
+fn read_sized<R: Read + Device>(
+    r: &mut R,
+    out: &mut [u8],
+    size: usize,
+    before: u64,
+    turns: &mut u32,
+) -> Result<usize, PostFault>
+    requires room { 34_000 ≤ length out.old }
+    requires unfailed { R.failure_count r.old ≤ before }
+    ensures gives { GivesOf (sized_body size) (R.remaining r.old) result out.new }
+    ensures bound { IfOk result (λ n. n ≤ 34_000) }
+    ensures len { length out.new ≡ length out.old }
+    ensures read { (result ≡ Err PostFault.Read) ↔ (before < R.failure_count r.new) }
+    ensures write { result ≢ Err PostFault.Write }
+    ensures spent { result ≡ Err PostFault.Turns → turns.new ≡ 0 }
+{
+    if size > MAX_ANSWER {
+        return Err(PostFault::Size);
+    }
+    let n = read_up_to(r, out, size, before, turns)?;
+    if n < size { Err(PostFault::Cut) } else { Ok(n) }
+}
+
+// Reads a body that goes to the end of the stream.
+fn read_to_end<R: Read + Device>(
+    r: &mut R,
+    out: &mut [u8],
+    before: u64,
+    turns: &mut u32,
+) -> Result<usize, PostFault>
+    requires room { 34_000 ≤ length out.old }
+    requires unfailed { R.failure_count r.old ≤ before }
+    ensures gives { GivesOf body_to_end (R.remaining r.old) result out.new }
+    ensures bound { IfOk result (λ n. n ≤ 34_000) }
+    ensures len { length out.new ≡ length out.old }
+    ensures read { (result ≡ Err PostFault.Read) ↔ (before < R.failure_count r.new) }
+    ensures write { result ≢ Err PostFault.Write }
+    ensures spent { result ≡ Err PostFault.Turns → turns.new ≡ 0 }
+{
+    let n = read_up_to(r, out, MAX_ANSWER, before, turns)?;
+    if n < MAX_ANSWER || has_ended(r, before, turns)? {
+        return Ok(n);
+    }
+    Err(PostFault::Size)
+}

@@ -1,0 +1,182 @@
+//! What the head of a request asks for.
+
+ghost use Rattle.std.specs.Prelude.{◌≡◌, ◌≤◌, ◌==◌, ℕ, List, length, take, drop, slice_index};
+ghost use Rattle.std.specs.Prelude.{Some, None, if◌then◌else◌, codes, option_map, IfOk};
+ghost use Rattle.std.specs.Str.{bytes_eq, str_eq_ignore_ascii_case};
+ghost use Rattle.std.specs.List.{list_any};
+ghost use Rattle.common_types.specs.Outcomes.{Gives};
+ghost use Rattle.http_link.specs.Fields.{value_of};
+ghost use Rattle.http_link.specs.Lines.{lines_at, standing_at, head_at, wanted_at};
+ghost use Rattle.http_link.specs.Requests.{place_of, tenant_named, size_of, within_limit, max_body};
+ghost use Rattle.http_link.specs.Requests.{bearer_token, token_in, wanted_of, waits, closes};
+
+use crate::fields::{Found, Lines, is_length, is_same, value_up_to, without_spaces};
+use crate::service::Service;
+use common_types::is_token;
+
+/// What a request asks of a service.
+#[derive(Clone, Copy, Debug, PartialEq, Eq)]
+pub enum Kind {
+    /// A packet, `/ilp/NAME`.
+    Ilp,
+    /// A command, `/admin/NAME`.
+    Admin,
+}
+
+/// The most bytes of a request's body.
+pub const MAX_BODY: usize = 34_000;
+
+/// The most bytes of a command's body.
+const MAX_COMMAND: usize = 2048;
+
+/// The parts of a request's head.
+#[derive(Clone, Copy)]
+pub(crate) struct RequestHead<'b> {
+    pub(crate) method: &'b [u8],
+    pub(crate) target: &'b [u8],
+    pub(crate) minor: u8,
+    pub(crate) lines: Lines<'b>,
+}
+
+/// What a head asks for that nothing refuses.
+#[derive(Clone, Copy)]
+pub(crate) struct Wanted<'b> {
+    pub(crate) kind: Kind,
+    pub(crate) tenant: usize,
+    pub(crate) token: &'b [u8],
+    pub(crate) size: usize,
+}
+
+fn max_body(kind: Kind) -> usize
+    ensures value { result ≡ max_body kind }
+    ensures bound { result ≤ 34_000 }
+{
+    match kind {
+        Kind::Ilp => MAX_BODY,
+        Kind::Admin => MAX_COMMAND,
+    }
+}
+
+fn behind<'b>(prefix: &[u8], bytes: &'b [u8]) -> Option<&'b [u8]>
+    ensures { option_map (λ rest. rest.now) result
+        ≡ (if bytes_eq (take (length prefix.now) bytes.now) prefix.now
+        then Some (drop (length prefix.now) bytes.now) else None) }
+{
+    let (front, rest) = bytes.split_at(prefix.len().min(bytes.len()));
+    if front == prefix { Some(rest) } else { None }
+}
+
+fn tenant_named<S: Service>(service: &S, kind: Kind, name: &[u8]) -> Option<(Kind, usize)>
+    ensures { result ≡ tenant_named (S.tenant_of service.now) kind name.now }
+{
+    match service.tenant(name) {
+        Some(tenant) => Some((kind, tenant)),
+        None => None,
+    }
+}
+
+fn place_of<S: Service>(service: &S, target: &[u8]) -> Option<(Kind, usize)>
+    ensures { result ≡ place_of (S.tenant_of service.now) target.now }
+{
+    if let Some(name) = behind(b"/ilp/", target) {
+        return tenant_named(service, Kind::Ilp, name);
+    }
+    match behind(b"/admin/", target) {
+        Some(name) => tenant_named(service, Kind::Admin, name),
+        None => None,
+    }
+}
+
+fn size_of(kind: Kind, coded: Found, length: Found) -> Result<usize, u16>
+    ensures value { result ≡ size_of kind (standing_at coded.entry) (standing_at length.entry) }
+    ensures bound { IfOk result (λ size. size ≤ 34_000) }
+{
+    match (coded, length) {
+        (_, Found::Missing) => Err(411),
+        (Found::Missing, Found::Once(text)) if is_length(text) => stated_size(kind, text),
+        _ => Err(400),
+    }
+}
+
+fn stated_size(kind: Kind, text: &[u8]) -> Result<usize, u16>
+    ensures value { result ≡ within_limit kind (value_of text.now) }
+    ensures bound { IfOk result (λ size. size ≤ 34_000) }
+{
+    let size = value_up_to(text, 34_001) as usize;
+    if size > max_body(kind) {
+        Err(413)
+    } else {
+        Ok(size)
+    }
+}
+
+fn bearer_token(value: &[u8]) -> Option<&[u8]>
+    ensures { option_map (λ token. token.now) result ≡ bearer_token value.now }
+{
+    let (scheme, rest) = value.split_at(value.len().min(6));
+    let token = without_spaces(rest);
+    if is_same(scheme, b"Bearer") && begins_with_space(rest) && is_token(token) {
+        Some(token)
+    } else {
+        None
+    }
+}
+
+fn begins_with_space(bytes: &[u8]) -> bool
+    ensures { result ≡ (slice_index bytes.now 0 == 32) }
+{
+    match bytes {
+        [b' ', ..] => true,
+        _ => false,
+    }
+}
+
+fn token_in(found: Found<'_>) -> Option<&[u8]>
+    ensures { option_map (λ token. token.now) result ≡ token_in (standing_at found.entry) }
+{
+    match found {
+        Found::Once(value) => bearer_token(value),
+        _ => None,
+    }
+}
+
+/// What a head asks for, or the status of the first check that refuses it. (RFC 9110, 15.5)
+pub(crate) fn wanted_of<'b, S: Service>(
+    service: &S,
+    head: &RequestHead<'b>,
+) -> Result<Wanted<'b>, u16>
+    ensures value { Gives wanted_at result (wanted_of (S.tenant_of service.now) (head_at head.now)) }
+    ensures bound { IfOk result (λ wanted. wanted.size ≤ 34_000) }
+{
+    if head.method != b"POST".as_slice() {
+        return Err(405);
+    }
+    let Some((kind, tenant)) = place_of(service, head.target) else {
+        return Err(404);
+    };
+    let coded = head.lines.find(b"Transfer-Encoding");
+    let size = size_of(kind, coded, head.lines.find(b"Content-Length"))?;
+    let Some(token) = token_in(head.lines.find(b"Authorization")) else {
+        return Err(401);
+    };
+    Ok(Wanted {
+        kind,
+        tenant,
+        token,
+        size,
+    })
+}
+
+/// Whether the client waits for `100 Continue`. (RFC 9110, 10.1.1)
+pub(crate) fn waits(head: &RequestHead) -> bool
+    ensures { result ≡ waits (head_at head.now) }
+{
+    head.minor == 1 && head.lines.says(b"Expect", b"100-continue")
+}
+
+/// Whether the connection is closed behind the answer. (RFC 9112, 9.3 and 9.6)
+pub(crate) fn closes(head: &RequestHead) -> bool
+    ensures { result ≡ closes (head_at head.now) }
+{
+    head.minor == 0 || head.lines.lists(b"Connection", b"close")
+}

@@ -1,0 +1,264 @@
+//! One request of a connection.
+
+ghost use Rattle.std.specs.Prelude.{◌≡◌, ◌≢◌, ◌↔◌, ◌<◌, ◌≤◌, List, ℕ, length, Some, Ok, Err, IfOk, OnOk};
+ghost use Rattle.std.specs.Io.KnownBytes.{Appends};
+ghost use Rattle.httparse.specs.Grammar as grammar;
+ghost use Rattle.httparse.specs.Spans.{IsRequestWithin};
+ghost use Rattle.http_link.specs.Heads.{BeginsWith, head_of};
+ghost use Rattle.http_link.specs.Lines.{head_at, head_in, wanted_at};
+ghost use Rattle.http_link.specs.Requests.{wanted_of};
+ghost use Rattle.http_link.specs.Answers.{refusal_text, continue_text, answer_text, told_body};
+ghost use Rattle.http_link.specs.Serving.{IsServed, IsAskedOnly, AsksAtMostOnce, WritesNothingOr400};
+ghost use Rattle.http_link.specs.Serving.{asking, kept_unless};
+ghost use Rattle.http_link.specs.Running.{Runs, AsksWanted};
+
+use crate::answer::{answer_head, told};
+use crate::fields::Lines;
+use crate::head::{MAX_HEAD, MAX_LINES, Offered, read_request_head};
+use crate::request::{Kind, RequestHead, Wanted, closes, waits, wanted_of};
+use crate::service::Service;
+use crate::streams::{LinkFault, MAX_READS, read_up_to, write_all};
+use httparse::spans::{EMPTY_HEADER_SPAN, HeaderSpan, RequestSpans};
+use oer_core::Device;
+use std::io::{Read, Write};
+
+/// What became of a connection.
+#[derive(Clone, Copy, Debug, PartialEq, Eq)]
+pub enum Served {
+    /// It stays open: an answer was written, and another request may follow.
+    Kept,
+    /// It is to be closed: an answer was written.
+    Closed,
+    /// The stream ended before a whole request, and no answer was written.
+    Ended,
+}
+
+/// How often both devices had failed before a request.
+#[derive(Clone, Copy)]
+struct Failures {
+    reads: u64,
+    writes: u64,
+}
+
+/// Reads one request, asks the service where nothing refuses it, and writes the answer. (RFC 9112, 2 and 9.3)
+///
+/// The room is for bodies, and has 34,000 bytes or more. A request has at most 8,192 bytes and 64 field lines in its
+/// head. Nothing behind its body is taken from the reader.
+///
+/// Errors: `Read` and `Write` where the device failed in this call, and `Turns` where 50,000 reads or writes did not
+/// suffice. Each ends the connection. Before a `Write` or a `Turns` the service may have been asked, before a `Read` not.
+pub fn serve_one<R: Read + Device, W: Write + Device, S: Service>(
+    r: &mut R,
+    w: &mut W,
+    service: &mut S,
+    room: &mut [u8],
+) -> Result<Served, LinkFault>
+    requires { 34_000 ≤ length room.old }
+
+    // A stream that begins with a head within the limits is served by what the head wants, however it is cut.
+    ensures exact { (stream : List ℕ) (head : grammar.RequestHead) (rest : List ℕ)
+        → R.remaining r.old ≡ Some stream → BeginsWith stream head rest
+        → IfOk result (IsServed (wanted_of (S.tenant_of service.old) (head_of head)) (head_of head) rest
+        (record {
+          Unasked = service.new ≡ service.old;
+          Asks = λ question. S.asks service.old question service.new;
+          answer = S.answer service.new;
+          left = R.remaining r.new;
+          Writes = λ text. Appends (W.contents w.old) (W.contents w.new) text;
+        })) }
+    // Whatever comes of it, only what the head wants is asked.
+    ensures asked_only { (stream : List ℕ) (head : grammar.RequestHead) (rest : List ℕ)
+        → R.remaining r.old ≡ Some stream → BeginsWith stream head rest
+        → IsAskedOnly (wanted_of (S.tenant_of service.old) (head_of head)) rest (service.new ≡ service.old)
+        (λ question. S.asks service.old question service.new) }
+    // A stream that begins with no such head is turned away.
+    ensures turned_away { (stream : List ℕ) → R.remaining r.old ≡ Some stream
+        → ((head : grammar.RequestHead) (rest : List ℕ) → ¬ (BeginsWith stream head rest))
+        → (service.new ≡ service.old)
+        × IfOk result (WritesNothingOr400 (λ text. Appends (W.contents w.old) (W.contents w.new) text)) }
+    ensures asked_once { AsksAtMostOnce (service.new ≡ service.old)
+        (λ question. S.asks service.old question service.new) }
+    ensures unread { result ≡ Err LinkFault.Read → service.new ≡ service.old }
+
+    // A device's fault is told exactly where the device failed.
+    ensures read { (result ≡ Err LinkFault.Read) ↔ (R.failure_count r.old < R.failure_count r.new) }
+    ensures write { (result ≡ Err LinkFault.Write) ↔ (W.failure_count w.old < W.failure_count w.new) }
+{
+    let before = Failures {
+        reads: r.failures(),
+        writes: w.failures(),
+    };
+    let mut turns = MAX_READS;
+    let mut text = [0u8; MAX_HEAD];
+    let mut lines = [EMPTY_HEADER_SPAN; MAX_LINES];
+    match read_request_head(r, &mut text, &mut lines, before.reads, &mut turns)? {
+        Offered::Partial => Ok(Served::Ended),
+        Offered::Malformed => refuse(w, 400, before.writes),
+        Offered::Whole(spans) => {
+            let head = head_in(&text[..spans.len], &lines, spans);
+            serve_head(r, w, service, room, &head, before, &mut turns)
+        }
+    }
+}
+
+// The parts of a head, by their spans in its text.
+fn head_in<'b>(text: &'b [u8], lines: &'b [HeaderSpan], spans: RequestSpans) -> RequestHead<'b>
+    requires within { IsRequestWithin text.now lines.now spans }
+    ensures { head_at result ≡ head_in text.now lines.now spans }
+{
+    RequestHead {
+        method: spans.method.of(text),
+        target: spans.path.of(text),
+        minor: spans.version,
+        lines: Lines {
+            text,
+            spans: &lines[..spans.headers],
+        },
+    }
+}
+
+// Writes the answer that refuses a request.
+fn refuse<W: Write + Device>(w: &mut W, status: u16, before: u64) -> Result<Served, LinkFault>
+    requires unfailed { W.failure_count w.old ≤ before }
+    ensures refused { IfOk result (λ served. (served ≡ Served.Closed)
+        × Appends (W.contents w.old) (W.contents w.new) (refusal_text status)) }
+    ensures write { (result ≡ Err LinkFault.Write) ↔ (before < W.failure_count w.new) }
+    ensures read { result ≢ Err LinkFault.Read }
+{
+    let answer = answer_head(Kind::Ilp, status, 0, true);
+    write_all(w, answer.as_slice(), before)?;
+    Ok(Served::Closed)
+}
+
+// Serves a request behind its head.
+fn serve_head<R: Read + Device, W: Write + Device, S: Service>(
+    r: &mut R,
+    w: &mut W,
+    service: &mut S,
+    room: &mut [u8],
+    head: &RequestHead,
+    before: Failures,
+    turns: &mut u32,
+) -> Result<Served, LinkFault>
+    requires room { 34_000 ≤ length room.old }
+    requires reads { R.failure_count r.old ≤ before.reads }
+    requires writes { W.failure_count w.old ≤ before.writes }
+    ensures runs { IfOk result (Runs (wanted_of (S.tenant_of service.old) (head_at head.now)) (head_at head.now)
+        (R.remaining r.old) (record {
+          Unasked = service.new ≡ service.old;
+          Asks = λ question. S.asks service.old question service.new;
+          answer = S.answer service.new;
+          left = R.remaining r.new;
+          Writes = λ text. Appends (W.contents w.old) (W.contents w.new) text;
+        })) }
+    ensures asks { AsksWanted (wanted_of (S.tenant_of service.old) (head_at head.now)) (R.remaining r.old)
+        (R.remaining r.new) (service.new ≡ service.old) (λ question. S.asks service.old question service.new) }
+    ensures unread { result ≡ Err LinkFault.Read → service.new ≡ service.old }
+    ensures read { (result ≡ Err LinkFault.Read) ↔ (before.reads < R.failure_count r.new) }
+    ensures write { (result ≡ Err LinkFault.Write) ↔ (before.writes < W.failure_count w.new) }
+{
+    match wanted_of(service, head) {
+        Ok(wanted) => serve_wanted(r, w, service, room, head, &wanted, before, turns),
+        Err(status) => refuse(w, status, before.writes),
+    }
+}
+
+// Serves a request that nothing refuses.
+fn serve_wanted<R: Read + Device, W: Write + Device, S: Service>(
+    r: &mut R,
+    w: &mut W,
+    service: &mut S,
+    room: &mut [u8],
+    head: &RequestHead,
+    wanted: &Wanted,
+    before: Failures,
+    turns: &mut u32,
+) -> Result<Served, LinkFault>
+    requires size { wanted.now.size ≤ length room.old }
+    requires reads { R.failure_count r.old ≤ before.reads }
+    requires writes { W.failure_count w.old ≤ before.writes }
+    ensures runs { IfOk result (Runs (Ok (wanted_at wanted.now)) (head_at head.now)
+        (R.remaining r.old) (record {
+          Unasked = service.new ≡ service.old;
+          Asks = λ question. S.asks service.old question service.new;
+          answer = S.answer service.new;
+          left = R.remaining r.new;
+          Writes = λ text. Appends (W.contents w.old) (W.contents w.new) text;
+        })) }
+    ensures asks { AsksWanted (Ok (wanted_at wanted.now)) (R.remaining r.old)
+        (R.remaining r.new) (service.new ≡ service.old) (λ question. S.asks service.old question service.new) }
+    ensures unread { result ≡ Err LinkFault.Read → service.new ≡ service.old }
+    ensures read { (result ≡ Err LinkFault.Read) ↔ (before.reads < R.failure_count r.new) }
+    ensures write { (result ≡ Err LinkFault.Write) ↔ (before.writes < W.failure_count w.new) }
+{
+    write_all(w, continue_text(waits(head)), before.writes)?;
+    let n = read_up_to(r, room, wanted.size, before.reads, turns)?;
+    if n < wanted.size {
+        return Ok(Served::Ended);
+    }
+    let status = ask(service, wanted, &room[..n]);
+    let closed = closes(head);
+    write_answer(
+        w,
+        wanted.kind,
+        status,
+        service.body(),
+        closed,
+        before.writes,
+    )?;
+    Ok(kept_unless(closed))
+}
+
+fn continue_text(waits: bool) -> &'static [u8]
+    ensures { result.now ≡ continue_text waits }
+{
+    if waits {
+        b"HTTP/1.1 100 Continue\r\n\r\n"
+    } else {
+        b""
+    }
+}
+
+fn kept_unless(closed: bool) -> Served
+    ensures { result ≡ kept_unless closed }
+{
+    if closed { Served::Closed } else { Served::Kept }
+}
+
+// Asks the service what a head wants.
+fn ask<S: Service>(service: &mut S, wanted: &Wanted, body: &[u8]) -> u16
+    ensures { S.asks service.old (asking (wanted_at wanted.now) body.now result) service.new }
+{
+    match wanted.kind {
+        Kind::Ilp => service.ilp(wanted.tenant, wanted.token, body),
+        Kind::Admin => service.admin(wanted.tenant, wanted.token, body),
+    }
+}
+
+// Writes the answer with a service's status.
+fn write_answer<W: Write + Device>(
+    w: &mut W,
+    kind: Kind,
+    status: u16,
+    body: &[u8],
+    closes: bool,
+    before: u64,
+) -> Result<(), LinkFault>
+    requires unfailed { W.failure_count w.old ≤ before }
+    ensures whole { OnOk result (Appends (W.contents w.old) (W.contents w.new)
+        (answer_text kind status body.now closes)) }
+    ensures write { (result ≡ Err LinkFault.Write) ↔ (before < W.failure_count w.new) }
+    ensures read { result ≢ Err LinkFault.Read }
+{
+    let shown = told_body(status, body);
+    let head = answer_head(kind, told(status), shown.len(), closes);
+    write_all(w, head.as_slice(), before)?;
+    write_all(w, shown, before)
+}
+
+// The body of an answer; only 200 has one.
+fn told_body(status: u16, body: &[u8]) -> &[u8]
+    ensures { result.now ≡ told_body status body.now }
+{
+    if status == 200 { body } else { &[] }
+}

@@ -1,0 +1,40 @@
+//! What answers requests.
+
+ghost use Rattle.std.specs.Prelude.{◌≡◌, List, ℕ, Option};
+ghost use Rattle.http_link.specs.Serving.{Asked};
+
+use crate::request::Kind;
+
+/// What answers the requests of a connection: tenants by name, packets and commands.
+pub trait Service {
+    /// What one question makes of a service: the service before, the question with the status that it was given, and
+    /// the service after.
+    ghost asks: { Self → Asked → Self → Type 0 };
+
+    /// The tenant of a name.
+    ghost tenant_of: { Self → List ℕ → Option ℕ };
+
+    /// The bytes of the last answer of status 200.
+    ghost answer: { Self → List ℕ };
+
+    /// The number of the tenant of that name.
+    fn tenant(&self, name: &[u8]) -> Option<usize>
+        ensures { result ≡ tenant_of self.now name.now };
+
+    /// Takes a packet that came with a token for a tenant, and gives the status of its answer: 200, 400, 401 or 503.
+    /// Any other is written as 503.
+    fn ilp(&mut self, tenant: usize, token: &[u8], body: &[u8]) -> u16
+        ensures { asks self.old
+            (record { kind = Kind.Ilp; tenant = tenant; token = token.now; body = body.now; status = result })
+            self.new };
+
+    /// Takes a command that came with a token for a tenant, and gives the status of its answer, as `ilp` does.
+    fn admin(&mut self, tenant: usize, token: &[u8], body: &[u8]) -> u16
+        ensures { asks self.old
+            (record { kind = Kind.Admin; tenant = tenant; token = token.now; body = body.now; status = result })
+            self.new };
+
+    /// The bytes of the last answer of status 200.
+    fn body(&self) -> &[u8]
+        ensures { result.now ≡ answer self.now };
+}

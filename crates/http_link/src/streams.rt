@@ -1,0 +1,184 @@
+//! Single bytes and bodies that are read, and texts that are written.
+
+ghost use Rattle.std.specs.Prelude.{◌≡◌, ◌≢◌, ◌↔◌, ◌<◌, ◌≤◌, length, take, Ok, Err, IfOk, OnOk};
+ghost use Rattle.std.specs.Io.KnownBytes.{Appends};
+ghost use Rattle.http_link.specs.Streams.{AppendsFront, PullsByte, ReadsBehind, Fills, EndsOrNot};
+
+use oer_core::Device;
+use std::io::{Read, Write};
+use thiserror::Error;
+
+/// The most reads for one request or one answer, and the most writes for one text.
+pub const MAX_READS: u32 = 50_000;
+
+/// Why a connection ended without an answer.
+#[derive(Clone, Copy, Debug, PartialEq, Eq, Error)]
+pub enum LinkFault {
+    /// A read failed.
+    #[error("a read failed")]
+    Read,
+    /// A write failed.
+    #[error("a write failed")]
+    Write,
+    /// 50,000 reads or writes did not suffice.
+    #[error("too many reads or writes")]
+    Turns,
+}
+
+/// What one read of one byte gave.
+#[derive(Clone, Copy, Debug, PartialEq, Eq)]
+pub(crate) enum Pulled {
+    /// The next byte.
+    Byte(u8),
+    /// The stream has ended.
+    End,
+    /// The read gave an error that the device did not count.
+    Nothing,
+}
+
+/// Reads one byte. Before the stream was begun, the reader had failed that often, and it has not failed since.
+pub(crate) fn pull<R: Read + Device>(r: &mut R, before: u64) -> Result<Pulled, LinkFault>
+    requires unfailed { R.failure_count r.old ≤ before }
+    ensures pulled { IfOk result (PullsByte (R.remaining r.old) (R.remaining r.new)) }
+    ensures read { (result ≡ Err LinkFault.Read) ↔ (before < R.failure_count r.new) }
+    ensures only { result ≢ Err LinkFault.Write }
+    ensures turns { result ≢ Err LinkFault.Turns }
+{
+    let mut one = [0u8; 1];
+    let read = r.read(&mut one);
+    if r.failures() > before {
+        return Err(LinkFault::Read);
+    }
+    match read {
+        Ok(0) => Ok(Pulled::End),
+        Ok(_) => Ok(Pulled::Byte(one[0])),
+        Err(_) => Ok(Pulled::Nothing),
+    }
+}
+
+// Reads once into a place of the buffer, and gives how many bytes came, or nothing after an error that the device did
+// not count. At 0 the stream has ended.
+fn read_some<R: Read + Device>(
+    r: &mut R,
+    out: &mut [u8],
+    at: usize,
+    limit: usize,
+    before: u64,
+) -> Result<Option<usize>, LinkFault>
+    requires room { at < limit }
+    requires within { limit ≤ length out.old }
+    requires unfailed { R.failure_count r.old ≤ before }
+    ensures some { IfOk result (ReadsBehind (R.remaining r.old) (R.remaining r.new) at limit out.old out.new) }
+    ensures len { length out.new ≡ length out.old }
+    ensures read { (result ≡ Err LinkFault.Read) ↔ (before < R.failure_count r.new) }
+    ensures write { result ≢ Err LinkFault.Write }
+    ensures turns { result ≢ Err LinkFault.Turns }
+{
+    let read = r.read(&mut out[at..limit]);
+    if r.failures() > before {
+        return Err(LinkFault::Read);
+    }
+    match read {
+        Ok(n) => Ok(Some(n)),
+        Err(_) => Ok(None),
+    }
+}
+
+/// Reads until so many bytes have come or the stream has ended, and gives how many came.
+pub(crate) fn read_up_to<R: Read + Device>(
+    r: &mut R,
+    out: &mut [u8],
+    limit: usize,
+    before: u64,
+    turns: &mut u32,
+) -> Result<usize, LinkFault>
+    requires within { limit ≤ length out.old }
+    requires unfailed { R.failure_count r.old ≤ before }
+    ensures filled { IfOk result (Fills (R.remaining r.old) (R.remaining r.new) limit out.new) }
+    ensures len { length out.new ≡ length out.old }
+    ensures read { (result ≡ Err LinkFault.Read) ↔ (before < R.failure_count r.new) }
+    ensures write { result ≢ Err LinkFault.Write }
+    ensures spent { result ≡ Err LinkFault.Turns → turns.new ≡ 0 }
+{
+    let mut done = 0;
+    while done < limit {
+        if *turns == 0 {
+            return Err(LinkFault::Turns);
+        }
+        *turns -= 1;
+        match read_some(r, out, done, limit, before)? {
+            Some(0) => return Ok(done),
+            Some(n) => done += n,
+            None => {}
+        }
+    }
+    Ok(done)
+}
+
+/// Whether the stream has ended. One byte more is taken from it at most.
+pub(crate) fn has_ended<R: Read + Device>(
+    r: &mut R,
+    before: u64,
+    turns: &mut u32,
+) -> Result<bool, LinkFault>
+    requires unfailed { R.failure_count r.old ≤ before }
+    ensures ended { IfOk result (EndsOrNot (R.remaining r.old)) }
+    ensures read { (result ≡ Err LinkFault.Read) ↔ (before < R.failure_count r.new) }
+    ensures write { result ≢ Err LinkFault.Write }
+    ensures spent { result ≡ Err LinkFault.Turns → turns.new ≡ 0 }
+{
+    while *turns > 0 {
+        *turns -= 1;
+        match pull(r, before)? {
+            Pulled::Byte(_) => return Ok(false),
+            Pulled::End => return Ok(true),
+            Pulled::Nothing => {}
+        }
+    }
+    Err(LinkFault::Turns)
+}
+
+// Writes once, and gives how many bytes were taken.
+fn write_some<W: Write + Device>(w: &mut W, bytes: &[u8], before: u64) -> Result<usize, LinkFault>
+    requires unfailed { W.failure_count w.old ≤ before }
+    ensures taken { IfOk result (λ n. (n ≤ length bytes.now)
+        × Appends (W.contents w.old) (W.contents w.new) (take n bytes.now)) }
+    ensures front { AppendsFront bytes.now (W.contents w.old) (W.contents w.new) }
+    ensures write { (result ≡ Err LinkFault.Write) ↔ (before < W.failure_count w.new) }
+    ensures read { result ≢ Err LinkFault.Read }
+    ensures turns { result ≢ Err LinkFault.Turns }
+{
+    let written = w.write(bytes);
+    if w.failures() > before {
+        return Err(LinkFault::Write);
+    }
+    match written {
+        Ok(n) => Ok(n),
+        Err(_) => Ok(0),
+    }
+}
+
+/// Writes all bytes, in at most 50,000 writes.
+pub(crate) fn write_all<W: Write + Device>(
+    w: &mut W,
+    bytes: &[u8],
+    before: u64,
+) -> Result<(), LinkFault>
+    requires unfailed { W.failure_count w.old ≤ before }
+    ensures whole { OnOk result (Appends (W.contents w.old) (W.contents w.new) bytes.now) }
+    ensures front { AppendsFront bytes.now (W.contents w.old) (W.contents w.new) }
+    ensures write { (result ≡ Err LinkFault.Write) ↔ (before < W.failure_count w.new) }
+    ensures read { result ≢ Err LinkFault.Read }
+{
+    let mut done = 0;
+    let mut turns = MAX_READS;
+    while done < bytes.len() {
+        if turns == 0 {
+            return Err(LinkFault::Turns);
+        }
+        turns -= 1;
+        let (_, rest) = bytes.split_at(done);
+        done += write_some(w, rest, before)?;
+    }
+    Ok(())
+}
