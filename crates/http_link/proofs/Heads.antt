@@ -1,10 +1,13 @@
 -- Heads of requests, of which a front is known.
-use Rattle.std.proofs.Common.{◌≡◌, ◌≢◌, ◌⊎◌, inl, inr, Bool, true, false, ltb, ltb-true, ltb-false, ℕ, ◌<◌, ◌≤◌, List, [], ◌∷◌, ◌++◌, length}
-use Rattle.std.proofs.Common.{refl, sym, ap, ◌∙◌, arith, append_assoc, append-nil, length-append, Option, Some, None}
+use Rattle.std.proofs.Common.{◌≡◌, ◌≢◌, ◌⊎◌, inl, inr, Bool, true, false, ltb, ltb-true, ltb-false, ℕ, ◌<◌, ◌≤◌, List, [], ◌∷◌, ◌++◌, length, take, drop, ◌+◌}
+use Rattle.std.proofs.Common.{refl, sym, ap, subst, ◌∙◌, arith, append_assoc, append-nil, length-append, length-take, Option, Some, None}
 use Rattle.std.specs.List.{flat_map}
 use Rattle.std.specs.Io.KnownBytes.{Consumes}
 use Rattle.httparse.specs.Grammar.{LineEnd, crlf, lf, print_end, print_blank, print_version, print_field, RequestHead, IsRequestHead, print_request, HasNoRequest}
-use Rattle.http_link.specs.Reading.{GoesOn, BeginsNone, HasNoHead}
+use Rattle.httparse.specs.declared.spans.HeaderSpan.{HeaderSpan}
+use Rattle.httparse.specs.declared.spans.RequestSpans.{RequestSpans}
+use Rattle.http_link.proofs.Known.{Consumes-more}
+use Rattle.http_link.specs.Reading.{IsRequest, IsTaken, GoesOn, BeginsNone, HasNoHead}
 
 -- of two fronts of one list the longer one goes on
 pub goes_on : (a m p r : List ℕ) → a ++ m ≡ p ++ r → length a ≤ length p → (q : List ℕ) × (p ≡ a ++ q) × (m ≡ q ++ r)
@@ -103,3 +106,29 @@ pub no_head_begins : (old new : Option (List ℕ)) (text : List ℕ) (size room 
 no_head_begins old new text size room c none stream head rest e reads short few =
     let begins = begins_with_taken old new text stream c e in
     none head begins.0 rest (reads.0, sym begins.2 ∙ reads.1) few
+
+-- a head that ends with the text, and not before
+whole_at : (front text : List ℕ) (b room : ℕ) (lines : List HeaderSpan) (spans : RequestSpans) → text ≡ front ++ b ∷ [] → room ≡ length lines → GoesOn front room
+    → IsRequest text lines spans → spans.len ≡ length text
+whole_at front text b room lines spans grows wide on is =
+    let at = is.at in
+    let few = is.few in
+    let lt = on is.head (b ∷ []) (drop spans.len text) (at.reads.0, sym grows ∙ at.reads.1) (omega arith) in
+    let le = is.within.section.len_fits in
+    let len = at.len in
+    let long = ap length grows in
+    omega (arith, length-append front (b ∷ []))
+
+-- where a byte more makes a head whole, it is taken
+pub whole_taken : (old between new : Option (List ℕ)) (buffer front : List ℕ) (b n room : ℕ) (lines : List HeaderSpan) (spans : RequestSpans)
+    → take (n + 1) buffer ≡ front ++ b ∷ [] → n < length buffer → room ≡ length lines → Consumes old between front → Consumes between new (b ∷ []) → GoesOn front room
+    → IsRequest (take (n + 1) buffer) lines spans → IsTaken old new buffer lines spans
+whole_taken old between new buffer front b n room lines spans grows short wide begun byte on is =
+    let text : List ℕ = take (n + 1) buffer in
+    let len = whole_at front text b room lines spans grows wide on is in
+    let same : n + 1 ≡ spans.len = omega (arith, length-take (n + 1) buffer) in
+    record {
+      bound = omega arith;
+      is = subst (λ (k : ℕ). IsRequest (take k buffer) lines spans) same is;
+      taken = subst (λ (k : ℕ). Consumes old new (take k buffer)) same (Consumes-more old between new front (b ∷ []) text grows begun byte);
+    }

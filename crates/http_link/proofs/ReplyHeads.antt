@@ -1,10 +1,14 @@
 -- Heads of answers, of which a front is known.
-use Rattle.std.proofs.Common.{◌≡◌, ◌≢◌, ◌⊎◌, inl, inr, ℕ, ◌<◌, ◌≤◌, List, [], ◌∷◌, ◌++◌, length, sym, append_assoc, ap, ◌∙◌, arith, append-nil, length-append, Option}
+use Rattle.std.proofs.Common.{◌≡◌, ◌≢◌, ◌⊎◌, inl, inr, ℕ, ◌<◌, ◌≤◌, List, [], ◌∷◌, ◌++◌, length, take, drop, ◌+◌}
+use Rattle.std.proofs.Common.{sym, ap, subst, ◌∙◌, arith, append_assoc, append-nil, length-append, length-take, Option}
 use Rattle.std.specs.List.{flat_map}
 use Rattle.std.specs.Io.KnownBytes.{Consumes}
 use Rattle.httparse.specs.Grammar.{print_end, print_blank, print_version, print_reason, print_field, ResponseHead, IsResponseHead, print_response, HasNoResponse}
 use Rattle.http_link.proofs.Heads.{goes_on, lt_or_ge, nothing_left, EndsLine, ends_behind, print_end_ends, no_line_ends, begins_with_taken}
-use Rattle.http_link.specs.ReadingReplies.{ReplyGoesOn, BeginsNoReply, HasNoReply}
+use Rattle.httparse.specs.declared.spans.HeaderSpan.{HeaderSpan}
+use Rattle.httparse.specs.declared.spans.ResponseSpans.{ResponseSpans}
+use Rattle.http_link.proofs.Known.{Consumes-more}
+use Rattle.http_link.specs.ReadingReplies.{IsReply, ReplyIsTaken, ReplyGoesOn, BeginsNoReply, HasNoReply}
 
 -- each head ends with a line feed
 response_ends : (h : ResponseHead) → EndsLine (print_response h)
@@ -52,3 +56,29 @@ pub no_head_begins : (old new : Option (List ℕ)) (text : List ℕ) (size room 
 no_head_begins old new text size room c none stream head rest e reads short few =
     let begins = begins_with_taken old new text stream c e in
     none head begins.0 rest (reads.0, sym begins.2 ∙ reads.1) few
+
+-- a head that ends with the text, and not before
+whole_at : (front text : List ℕ) (b room : ℕ) (lines : List HeaderSpan) (spans : ResponseSpans) → text ≡ front ++ b ∷ [] → room ≡ length lines → ReplyGoesOn front room
+    → IsReply text lines spans → spans.len ≡ length text
+whole_at front text b room lines spans grows wide on is =
+    let at = is.at in
+    let few = is.few in
+    let lt = on is.head (b ∷ []) (drop spans.len text) (at.reads.0, sym grows ∙ at.reads.1) (omega arith) in
+    let le = is.within.section.len_fits in
+    let len = at.len in
+    let long = ap length grows in
+    omega (arith, length-append front (b ∷ []))
+
+-- where a byte more makes a head whole, it is taken
+pub whole_taken : (old between new : Option (List ℕ)) (buffer front : List ℕ) (b n room : ℕ) (lines : List HeaderSpan) (spans : ResponseSpans)
+    → take (n + 1) buffer ≡ front ++ b ∷ [] → n < length buffer → room ≡ length lines → Consumes old between front → Consumes between new (b ∷ []) → ReplyGoesOn front room
+    → IsReply (take (n + 1) buffer) lines spans → ReplyIsTaken old new buffer lines spans
+whole_taken old between new buffer front b n room lines spans grows short wide begun byte on is =
+    let text : List ℕ = take (n + 1) buffer in
+    let len = whole_at front text b room lines spans grows wide on is in
+    let same : n + 1 ≡ spans.len = omega (arith, length-take (n + 1) buffer) in
+    record {
+      bound = omega arith;
+      is = subst (λ (k : ℕ). IsReply (take k buffer) lines spans) same is;
+      taken = subst (λ (k : ℕ). Consumes old new (take k buffer)) same (Consumes-more old between new front (b ∷ []) text grows begun byte);
+    }

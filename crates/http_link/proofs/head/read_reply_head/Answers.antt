@@ -3,7 +3,7 @@ use Rattle.std.specs.Io.KnownBytes.{Consumes}
 use Rattle.std.proofs.KnownBytes.{Consumes-nil}
 use Rattle.http_link.specs.ReadingReplies.{BeginsNoReply}
 use Rattle.http_link.proofs.Known.{Consumes-more}
-use Rattle.http_link.proofs.ReplyHeads.{nothing_goes_on, no_head_begins}
+use Rattle.http_link.proofs.ReplyHeads.{nothing_goes_on, no_head_begins, whole_taken}
 use Rattle.http_link.proofs.head.read_reply_head.Goals as goal
 
 pub loop-turns-init : goal.loop-turns-init
@@ -25,3 +25,12 @@ returns-in-Malformed-clause-head g c =
     no_head_begins (g.R.Read.remaining c.args.r.now) (g.R.Read.remaining c.pull.new.r) text (length c.offer_reply-offered.new.text) (length c.loop-turns.lines)
     (Consumes-more _ _ _ (take c.loop-turns.n c.loop-turns.text) (c.in-Byte.b ∷ []) text c.offer_reply-offered.ensures.grows c.loop-turns.invariant.taken byte)
     none stream head rest e reads short (omega arith)
+
+pub returns-in-Whole-clause-head : goal.returns-in-Whole-clause-head
+returns-in-Whole-clause-head g c =
+    let buffer : List ℕ = c.offer_reply-offered.new.text in
+    let front : List ℕ = take c.loop-turns.n c.loop-turns.text in
+    let byte : Consumes (g.R.Read.remaining c.loop-turns.r) (g.R.Read.remaining c.pull.new.r) (c.in-Byte.b ∷ []) = rw c.in-Byte.is at c.in_ok-pull.ensures.pulled in
+    whole_taken (g.R.Read.remaining c.args.r.now) (g.R.Read.remaining c.loop-turns.r) (g.R.Read.remaining c.pull.new.r) buffer front c.in-Byte.b c.loop-turns.n
+    (length c.loop-turns.lines) c.offer_reply-offered.new.lines c.in-Whole.spans c.offer_reply-offered.ensures.grows (omega arith) (omega arith)
+    c.loop-turns.invariant.taken byte c.loop-turns.invariant.goes_on c.in-Whole.ensures.decides
