@@ -56,23 +56,23 @@ unfolding calendar_text year_of
 year_back year month day millis = rw (two_back (year / 100), two_back (year % 100)) (omega arith)
 
 month_back : (year month day millis : ℕ) → month_of (calendar_text year month day millis) ≡ month
-unfolding calendar_text month_of
+unfolding calendar_text
 month_back year month day millis = two_back month
 
 day_back : (year month day millis : ℕ) → day_of (calendar_text year month day millis) ≡ day
-unfolding calendar_text day_of
+unfolding calendar_text
 day_back year month day millis = two_back day
 
 hour_back : (year month day millis : ℕ) → hour_of (calendar_text year month day millis) ≡ millis / 3_600_000
-unfolding calendar_text hour_of
+unfolding calendar_text
 hour_back year month day millis = two_back (millis / 3_600_000)
 
 minute_back : (year month day millis : ℕ) → minute_of (calendar_text year month day millis) ≡ millis / 60_000 % 60
-unfolding calendar_text minute_of
+unfolding calendar_text
 minute_back year month day millis = two_back (millis / 60_000 % 60)
 
 second_back : (year month day millis : ℕ) → second_of (calendar_text year month day millis) ≡ millis / 1000 % 60
-unfolding calendar_text second_of
+unfolding calendar_text
 second_back year month day millis = two_back (millis / 1000 % 60)
 
 millisecond_back : (year month day millis : ℕ) → millisecond_of (calendar_text year month day millis) ≡ millis % 1000
@@ -154,7 +154,7 @@ millis_bound text h = omega (arith, h.hour, h.minute, h.second, part_bound text 
 
 -- the digits of each part stand at their places
 pub text_of_parts : (text : List ℕ) → IsTimestamp text → text ≡ calendar_text (year_of text) (month_of text) (day_of text) (millis_of_day text)
-unfolding calendar_text month_of day_of hour_of minute_of second_of millisecond_of
+unfolding calendar_text millisecond_of
 text_of_parts text h =
     let len = h.len in
     let century = two_is text 0 h.digits (omega arith) in
