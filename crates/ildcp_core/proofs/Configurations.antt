@@ -24,11 +24,11 @@ pub only_fields : LengthLaws → (bytes address other : List ℕ) (scale step : 
     → IsConfiguration bytes other step sign → (address ≡ other) × (scale ≡ step) × (code ≡ sign)
 only_fields laws bytes address other scale step code sign x y =
     let whole : (x.2.0 ++ address) ++ scale ∷ x.1 ≡ (y.2.0 ++ other) ++ step ∷ y.1 =
-    ap (λ (z : List ℕ). z ++ scale ∷ x.1) (sym x.2.2) ∙ sym x.4 ∙ y.4 ∙ ap (λ (z : List ℕ). z ++ step ∷ y.1) y.2.2 in
+    ap (λ (z : List ℕ). z ++ scale ∷ x.1) (sym x.2.2) ∙ sym x.5 ∙ y.5 ∙ ap (λ (z : List ℕ). z ++ step ∷ y.1) y.2.2 in
     let first = same_parts laws x.2.0 address (scale ∷ x.1) y.2.0 other (step ∷ y.1) x.2.1 y.2.1 whole in
     let rest : x.1 ≡ y.1 = ap (drop 1) first.1 in
-    let last : (x.3.0 ++ code) ++ [] ≡ (y.3.0 ++ sign) ++ [] = ap (λ (z : List ℕ). z ++ []) (sym x.3.2 ∙ rest ∙ y.3.2) in
-    let second = same_parts laws x.3.0 code [] y.3.0 sign [] x.3.1 y.3.1 last in
+    let last : (x.4.0 ++ code) ++ [] ≡ (y.4.0 ++ sign) ++ [] = ap (λ (z : List ℕ). z ++ []) (sym x.4.2 ∙ rest ∙ y.4.2) in
+    let second = same_parts laws x.4.0 code [] y.4.0 sign [] x.4.1 y.4.1 last in
     (first.0, cc first.1, second.0)
 
 one_byte : (n : ℕ) → n < 128 → length (shortest_length n) ≡ 1
@@ -46,7 +46,7 @@ has_fields laws c h =
     let m : length c.code < 2 ^ 64 = omega (arith, l.code) in (
       octet_string address,
       octet_string c.code,
-      (shortest_length (length address), laws.shortest_spells (length address) n, refl),
+      (shortest_length (length address), laws.shortest_spells (length address) n, refl), h.scale,
       (shortest_length (length c.code), laws.shortest_spells (length c.code) m, refl),
       refl,
     )

@@ -1,5 +1,5 @@
 -- What a child is told (RFC 0031).
-use Rattle.std.specs.Prelude.{◌≡◌, ℕ, List, ◌∷◌, ◌++◌, replicate}
+use Rattle.std.specs.Prelude.{◌≡◌, ◌<◌, ℕ, List, ◌∷◌, ◌++◌, replicate}
 use Rattle.oer_core.specs.Length.{octet_string, IsOctetString}
 use Rattle.ilp_view.specs.Packet.{fulfill_frame}
 use Rattle.ildcp_core.specs.Client.{Client, client_address}
@@ -8,7 +8,7 @@ use Rattle.ildcp_core.specs.Client.{Client, client_address}
 -- the asset in one byte, and its code as an octet string, lengths in any spelling (RFC 0031).
 abbrev pub IsConfiguration : List ℕ → List ℕ → ℕ → List ℕ → Type 0
 IsConfiguration bytes address scale code =
-    (first : List ℕ) × (last : List ℕ) × IsOctetString first address × IsOctetString last code
+    (first : List ℕ) × (last : List ℕ) × IsOctetString first address × (scale < 256) × IsOctetString last code
     × (bytes ≡ first ++ scale ∷ last)
 
 -- The configuration of a child, its lengths in the fewest bytes (RFC 0031).

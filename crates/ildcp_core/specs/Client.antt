@@ -1,5 +1,5 @@
 -- A child of a tenant, and the address that it is given (RFC 0031).
-use Rattle.std.specs.Prelude.{◌≤◌, ℕ, Bool, ◌&&◌, ◌||◌, ◌==◌, nat_le, List, ◌∷◌, ◌++◌, length, IsTrue}
+use Rattle.std.specs.Prelude.{◌<◌, ℕ, Bool, ◌&&◌, ◌||◌, ◌==◌, nat_le, List, ◌∷◌, ◌++◌, length, IsTrue}
 use Rattle.std.specs.List.{list_all}
 use Rattle.common_types.specs.Numbers.{is_between}
 use Rattle.ilp_addr.specs.Address.{IsAddress}
@@ -46,9 +46,10 @@ pub record Client : Type 0 where
 abbrev pub is_within : Client → Bool
 is_within c = nat_le (length c.tenant) max_tenant_address && is_name c.name && is_code c.code
 
--- The tenant's address is an address, and the limits are kept.
+-- The tenant's address is an address, the scale is a byte, and the limits are kept.
 pub record IsClient (c : Client) : Type 0 where
   pub tenant : IsAddress c.tenant
+  pub scale : c.scale < 256
   pub limits : IsTrue (is_within c)
 
 -- The address of a child: the tenant's address, a dot, and the peer's name (RFC 0031).

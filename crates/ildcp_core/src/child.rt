@@ -59,15 +59,13 @@ impl<'a> Model for Child<'a> {
 }
 
 impl<'a> Child<'a> {
-    ghost use Rattle.std.specs.Prelude.{◌≡◌, ◌↔◌, IsSome, IfSome, IsTrue};
+    ghost use Rattle.std.specs.Prelude.{◌≡◌, Some, None, if◌then◌else◌};
     ghost use Rattle.ildcp_core.specs.Client.{IsClient, is_within};
     ghost use Rattle.ildcp_core.specs.Seen.{client_of};
 
     /// The child of these parts, unless they break a limit.
     pub fn new(parts: ChildParts<'a>) -> Option<Child<'a>>
-        ensures found { IsSome result ↔ IsTrue (is_within (client_of parts.entry)) }
-        ensures value { IfSome result (λ child. child ≡ client_of parts.entry) }
-        ensures limits { IfSome result IsClient }
+        ensures { result ≡ (if is_within (client_of parts.entry) then Some (client_of parts.entry) else None) }
     {
         if parts.tenant.bytes().len() <= MAX_TENANT_ADDRESS
             && is_name(parts.name)
@@ -79,7 +77,8 @@ impl<'a> Child<'a> {
         }
     }
 
-    pub(crate) fn parts(&self) -> &ChildParts<'a>
+    /// What the child is made of.
+    pub fn parts(&self) -> &ChildParts<'a>
         ensures same { client_of result.now ≡ self.now }
         ensures limits { IsClient self.now }
     {

@@ -3,6 +3,7 @@
 ghost use Rattle.std.specs.Prelude.{◌≡◌, ◌≤◌, ◌∷◌, ◌++◌, length};
 ghost use Rattle.oer_core.specs.Length.{octet_string};
 ghost use Rattle.oer_core.specs.Writing.{overwritten, Writes};
+ghost use Rattle.ildcp_core.specs.Client.{IsClient};
 ghost use Rattle.ildcp_core.specs.Answer.{configuration, max_configuration, config_answer, max_answer};
 
 use crate::child::Child;
@@ -32,7 +33,8 @@ fn put_address(room: &mut [u8], tenant: &[u8], name: &[u8]) -> usize
 
 fn put_configuration(room: &mut [u8], child: &Child<'_>) -> usize
     requires { max_configuration ≤ length room.old }
-    ensures { Writes room.old 0 (configuration child.now) room.new result }
+    ensures written { Writes room.old 0 (configuration child.now) room.new result }
+    ensures limits { IsClient child.now }
 {
     laws_below();
     configurations();
@@ -53,7 +55,6 @@ pub fn answer(child: &Child<'_>, out: &mut [u8]) -> usize
     ensures within { result ≤ max_answer }
 {
     configurations();
-    let _parts = child.parts();
     let mut room = [0; MAX_CONFIGURATION];
     let end = put_configuration(&mut room, child);
     write_fulfill(out, &[0; 32], &room[..end]).unwrap()
