@@ -11,6 +11,8 @@ mod books;
 #[cfg(test)]
 mod devices;
 #[cfg(test)]
+mod ildcp;
+#[cfg(test)]
 mod lengths;
 #[cfg(test)]
 mod packets;
