@@ -27,6 +27,20 @@ fn peer<'a>(
     }))
 }
 
+// A name, the code of an asset, and whether they are a child's.
+static LIMITS: [(&[u8], &[u8], bool); 10] = [
+    (b"", b"XRP", false),
+    (&[b'b'; 32], b"XRP", true),
+    (&[b'b'; 33], b"XRP", false),
+    (b"Bob", b"XRP", false),
+    (b"b.b", b"XRP", false),
+    (b"b_b", b"XRP", false),
+    (b"bob", b"", false),
+    (b"bob", &[b'X'; 16], true),
+    (b"bob", &[b'X'; 17], false),
+    (b"bob", b"xrp", false),
+];
+
 #[test]
 fn answers(rt: HostRuntime) -> Result<(), Fail> {
     let bob = peer(Role::Child, b"g.acme", b"bob", b"XRP")?.ok_or("bob")?;
@@ -91,25 +105,14 @@ fn requests(rt: HostRuntime) -> Result<(), Fail> {
 
 #[test]
 fn limits(rt: HostRuntime) -> Result<(), Fail> {
-    let mut long = [b'a'; 901];
-    long[..2].copy_from_slice(b"g.");
-    // The tenant's address, the name, the code, and whether they are a child's.
-    let rows: [(&[u8], &[u8], &[u8], bool); 12] = [
-        (&long[..900], b"0-z", b"0Z", true),
-        (&long, b"bob", b"XRP", false),
-        (b"g.a", b"", b"XRP", false),
-        (b"g.a", &[b'b'; 32], b"XRP", true),
-        (b"g.a", &[b'b'; 33], b"XRP", false),
-        (b"g.a", b"Bob", b"XRP", false),
-        (b"g.a", b"b.b", b"XRP", false),
-        (b"g.a", b"b_b", b"XRP", false),
-        (b"g.a", b"bob", b"", false),
-        (b"g.a", b"bob", &[b'X'; 16], true),
-        (b"g.a", b"bob", &[b'X'; 17], false),
-        (b"g.a", b"bob", b"xrp", false),
-    ];
-    for (tenant, name, code, wanted) in rows {
-        let found = peer(Role::Child, tenant, name, code)?;
+    let mut tenant = [b'a'; 901];
+    tenant[..2].copy_from_slice(b"g.");
+    let longest = peer(Role::Child, &tenant[..900], b"0-z", b"0Z")?;
+    assert!(rt; longest.is_some());
+    let too_long = peer(Role::Child, &tenant, b"bob", b"XRP")?;
+    assert!(rt; too_long.is_none());
+    for (name, code, wanted) in LIMITS {
+        let found = peer(Role::Child, b"g.a", name, code)?;
         assert!(rt; found.is_some() == wanted, "{name:?} {code:?}");
     }
     Ok(())
