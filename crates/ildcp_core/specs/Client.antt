@@ -1,5 +1,5 @@
 -- A child of a tenant, and the address that it is given (RFC 0031).
-use Rattle.std.specs.Prelude.{◌<◌, ℕ, Bool, ◌&&◌, ◌||◌, ◌==◌, nat_le, List, ◌∷◌, ◌++◌, length, IsTrue}
+use Rattle.std.specs.Prelude.{◌<◌, ℕ, Bool, ◌&&◌, ◌||◌, ◌==◌, nat_le, List, ◌++◌, length, codes, IsTrue}
 use Rattle.std.specs.List.{list_all}
 use Rattle.common_types.specs.Numbers.{is_between}
 use Rattle.ilp_addr.specs.Address.{IsAddress}
@@ -52,6 +52,10 @@ pub record IsClient (c : Client) : Type 0 where
   pub scale : c.scale < 256
   pub limits : IsTrue (is_within c)
 
--- The address of a child: the tenant's address, a dot, and the peer's name (RFC 0031).
+-- The address below a tenant's that a name gives: the tenant's address, a dot, and the name.
+abbrev pub address_below : List ℕ → List ℕ → List ℕ
+address_below tenant name = tenant ++ (codes "." ++ name)
+
+-- The address that a child is given, its client address (RFC 0031).
 abbrev pub client_address : Client → List ℕ
-client_address c = c.tenant ++ 46 ∷ c.name
+client_address c = address_below c.tenant c.name

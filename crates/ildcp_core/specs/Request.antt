@@ -21,8 +21,8 @@ is_child role.Child = true
 is_child role.Peer = false
 
 -- A request of a peer of that role with that amount and condition is good, or its first fault.
-abbrev pub request : Role → ℕ → List ℕ → Result (Unit {0}) IldcpFault
-request role amount condition =
+abbrev pub checked_request : Role → ℕ → List ℕ → Result (Unit {0}) IldcpFault
+checked_request role amount condition =
     if not (is_child role) then Err NotChild
     else (if not (amount == 0) then Err Amount
     else (if not (is_config_condition condition) then Err Condition else Ok tt))

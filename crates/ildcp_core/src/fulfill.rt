@@ -1,9 +1,9 @@
 //! The answer to a request for the configuration.
 
-ghost use Rattle.std.specs.Prelude.{◌≡◌, ◌≤◌, ◌∷◌, ◌++◌, length};
+ghost use Rattle.std.specs.Prelude.{◌≡◌, ◌≤◌, length};
 ghost use Rattle.oer_core.specs.Length.{octet_string};
 ghost use Rattle.oer_core.specs.Writing.{overwritten, Writes};
-ghost use Rattle.ildcp_core.specs.Client.{IsClient};
+ghost use Rattle.ildcp_core.specs.Client.{IsClient, address_below};
 ghost use Rattle.ildcp_core.specs.Answer.{configuration, max_configuration, config_answer, max_answer};
 
 use crate::child::Child;
@@ -18,9 +18,9 @@ pub const MAX_ANSWER: usize = 993;
 const MAX_CONFIGURATION: usize = 954;
 
 fn put_address(room: &mut [u8], tenant: &[u8], name: &[u8]) -> usize
-    requires { length (octet_string (tenant.now ++ 46 ∷ name.now)) ≤ length room.old }
-    ensures end { result ≡ length (octet_string (tenant.now ++ 46 ∷ name.now)) }
-    ensures written { room.new ≡ overwritten room.old 0 (octet_string (tenant.now ++ 46 ∷ name.now)) }
+    requires { length (octet_string (address_below tenant.now name.now)) ≤ length room.old }
+    ensures end { result ≡ length (octet_string (address_below tenant.now name.now)) }
+    ensures written { room.new ≡ overwritten room.old 0 (octet_string (address_below tenant.now name.now)) }
 {
     laws_below();
     let at = put_length(room, 0, tenant.len() + 1 + name.len());

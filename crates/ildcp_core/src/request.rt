@@ -2,7 +2,7 @@
 
 ghost use Rattle.std.specs.Prelude.{◌≡◌, ◌≢◌, ◌↔◌, codes, IsTrue, IsOk, Err};
 ghost use Rattle.ildcp_core.specs.Request as spec;
-ghost use Rattle.ildcp_core.specs.Request.{config_condition, request};
+ghost use Rattle.ildcp_core.specs.Request.{config_condition, checked_request};
 
 use crate::child::{Child, Role};
 use crate::fault::IldcpFault;
@@ -31,7 +31,7 @@ fn is_config_condition(condition: &[u8; 32]) -> bool
 /// `Amount` where the amount is not 0, and `Condition` where the condition is not the SHA-256 of 32
 /// zero bytes. (RFC 0031)
 pub fn check(child: &Child<'_>, amount: u64, condition: &[u8; 32]) -> Result<(), IldcpFault>
-    ensures exact { result ≡ request child.now.role amount condition.now }
+    ensures exact { result ≡ checked_request child.now.role amount condition.now }
     ensures good { IsOk result
         ↔ ((child.now.role ≡ Role.Child) × (amount ≡ 0) × (condition.now ≡ config_condition)) }
     ensures not_child { (result ≡ Err IldcpFault.NotChild) ↔ (child.now.role ≡ Role.Peer) }
