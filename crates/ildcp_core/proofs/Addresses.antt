@@ -1,11 +1,11 @@
 -- The address of a child is an address.
-use Rattle.std.proofs.Common.{◌≡◌, ◌≤◌, ◌+◌, ℕ, Bool, true, false, cond, eqb, leb, ◌&&◌, ◌||◌, List, [], ◌∷◌, ◌++◌, length, refl, sym, subst, ap, arith, inl, inr}
+use Rattle.std.proofs.Common.{◌≡◌, ◌≤◌, ℕ, Bool, true, false, cond, eqb, leb, ◌&&◌, ◌||◌, List, [], ◌∷◌, ◌++◌, length, refl, sym, subst, ap, arith, inl, inr}
 use Rattle.std.specs.List.{list_all, onto_first}
 use Rattle.std.proofs.lemmas.Bool.{and_parts, and_from, leb-true, ne_eqb, cases_Bool}
 use Rattle.std.proofs.lemmas.List.{length-append}
 use Rattle.std.proofs.lemmas.List.Folds.{list_all-append}
 use Rattle.common_types.specs.Numbers.{is_between}
-use Rattle.ilp_addr.specs.Address.{segments, is_segment_byte, is_segment, is_scheme, AreAddressParts, IsAddress}
+use Rattle.ilp_addr.specs.Address.{segments, is_segment_byte, is_segment, AreAddressParts, IsAddress}
 use Rattle.ildcp_core.specs.Client.{is_name_byte, is_name, is_code_byte, is_code, Client, IsClient, client_address}
 
 spread : (a c d u t m : Bool) → (a || d || m) ≡ true → (a || c || d || u || t || m) ≡ true

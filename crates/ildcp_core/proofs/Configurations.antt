@@ -46,7 +46,8 @@ has_fields laws c h =
     let m : length c.code < 2 ^ 64 = omega (arith, l.code) in (
       octet_string address,
       octet_string c.code,
-      (shortest_length (length address), laws.shortest_spells (length address) n, refl), h.scale,
+      (shortest_length (length address), laws.shortest_spells (length address) n, refl),
+      h.scale,
       (shortest_length (length c.code), laws.shortest_spells (length c.code) m, refl),
       refl,
     )

@@ -13,7 +13,7 @@ config_condition = sha256 (replicate 32 0)
 
 -- A condition is that one.
 abbrev pub is_config_condition : List ℕ → Bool
-is_config_condition condition = bytes_eq config_condition condition
+is_config_condition condition = bytes_eq condition config_condition
 
 -- A peer is a child.
 abbrev pub is_child : Role → Bool

@@ -7,7 +7,12 @@ ghost use Rattle.ildcp_core.specs.Request.{config_condition, checked_request};
 use crate::child::{Child, Role};
 use crate::fault::IldcpFault;
 use ilp_addr::Address;
-use sha2::{Digest, Sha256};
+
+// The SHA-256 of 32 zero bytes.
+const CONFIG_CONDITION: [u8; 32] = [
+    0x66, 0x68, 0x7a, 0xad, 0xf8, 0x62, 0xbd, 0x77, 0x6c, 0x8f, 0xc1, 0x8b, 0x8e, 0x9f, 0x8e, 0x20,
+    0x08, 0x97, 0x14, 0x85, 0x6e, 0xe2, 0x33, 0xb3, 0x90, 0x2a, 0x59, 0x1d, 0x0d, 0x5f, 0x29, 0x25,
+];
 
 /// Whether a packet to this address asks for the configuration: it is `peer.config` exactly.
 /// (RFC 0031)
@@ -17,11 +22,11 @@ pub fn is_config(destination: &Address<'_>) -> bool
     destination.bytes() == b"peer.config".as_slice()
 }
 
-#[tactic(auto, unfolding(crate::specs::Request::config_condition))]
+#[tactic(auto, using(crate::proofs::Digest::digest_of_zeros))]
 fn is_config_condition(condition: &[u8; 32]) -> bool
     ensures { result ≡ spec.is_config_condition condition.now }
 {
-    Sha256::digest([0; 32].as_slice()) == *condition
+    *condition == CONFIG_CONDITION
 }
 
 /// Whether a Prepare of that amount, in the peer's units, and that condition may ask for the
