@@ -17,6 +17,8 @@ mod http_posted;
 #[cfg(test)]
 mod http_served;
 #[cfg(test)]
+mod ildcp;
+#[cfg(test)]
 mod lengths;
 #[cfg(test)]
 mod packets;

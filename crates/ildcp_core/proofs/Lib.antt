@@ -1,0 +1,4 @@
+pub mod Addresses
+pub mod Configurations
+pub mod Digest
+pub mod Writes
