@@ -1,5 +1,7 @@
 pub mod Text
 pub mod Numbers
+pub mod Numerals
+pub mod Words
 pub mod Token
 pub mod Names
 pub mod Outcomes
