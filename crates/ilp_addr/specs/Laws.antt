@@ -22,13 +22,16 @@ pub record PrefixLaws : Type 0 where
   -- Each prefix is read, with or without a dot behind it; a dot alone is none.
   pub prefix_is_read : (bytes : List ℕ) → bytes ≢ 46 ∷ [] → IsPrefix (without_last_dot bytes)
       → prefix_at bytes ≡ Ok (without_last_dot bytes)
+  -- The test of segments says whether the segments of a prefix come first.
+  pub begins_with_decides : (prefix parts : List (List ℕ))
+      → IsTrue (begins_with prefix parts) ↔ Begins prefix parts
+
+-- Prefixes as words: each is one, and its own spelling.
+pub record PrefixWordLaws : Type 0 where
   -- A prefix is read as itself.
   pub prefix_is_itself : (prefix : List ℕ) → IsPrefix prefix → prefix_at prefix ≡ Ok prefix
   -- It has no space.
   pub prefix_has_no_space : (prefix : List ℕ) → IsPrefix prefix → list_all (λ b. not (b == 32)) prefix ≡ true
-  -- The test of segments says whether the segments of a prefix come first.
-  pub begins_with_decides : (prefix parts : List (List ℕ))
-      → IsTrue (begins_with prefix parts) ↔ Begins prefix parts
 
 -- Targets: a URL and a token have one target at most.
 abbrev pub TargetLaw : Type 0

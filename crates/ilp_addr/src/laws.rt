@@ -1,16 +1,21 @@
 //! Laws of addresses, prefixes, targets and timestamps, each the contract of a function that does nothing.
 
-ghost use Rattle.ilp_addr.specs.Laws.{AddressLaws, PrefixLaws, TargetLaw, TimestampLaws};
+ghost use Rattle.ilp_addr.specs.Laws.{AddressLaws, PrefixLaws, PrefixWordLaws, TargetLaw, TimestampLaws};
 
 /// What is read as an address is one, and each address is read. (RFC 0015, "Address Requirements")
 pub fn addresses()
     ensures { AddressLaws }
 {}
 
-/// What is read as a prefix is one, and each prefix is read, itself among the texts that spell it;
-/// the test of segments says whether a prefix begins an address. (RFC 0015, "Address Prefixes")
+/// What is read as a prefix is one, and each prefix is read; the test of segments says whether a
+/// prefix begins an address. (RFC 0015, "Address Prefixes")
 pub fn prefixes()
     ensures { PrefixLaws }
+{}
+
+/// A prefix is read as itself, and has no space. (RFC 0015, "Address Prefixes")
+pub fn prefix_words()
+    ensures { PrefixWordLaws }
 {}
 
 /// A URL and a token have one target at most. (RFC 0035)

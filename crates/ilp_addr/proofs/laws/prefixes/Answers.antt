@@ -1,5 +1,4 @@
 use Rattle.ilp_addr.proofs.Boundary.{begins_true, begins_test}
-use Rattle.ilp_addr.proofs.Ends.{prefix_is_itself, prefix_has_no_space}
 use Rattle.ilp_addr.proofs.Parts.{prefix_at_found, prefix_at_again}
 use Rattle.ilp_addr.proofs.laws.prefixes.Goals as goal
 
@@ -7,7 +6,5 @@ pub returns : goal.returns
 returns c = record {
   read_is_prefix = prefix_at_found;
   prefix_is_read = prefix_at_again;
-  prefix_is_itself = prefix_is_itself;
-  prefix_has_no_space = prefix_has_no_space;
   begins_with_decides = λ p d. (begins_true p d, begins_test p d);
 }
