@@ -1,6 +1,10 @@
-//! The texts by which an operator governs tenants: setups.
+//! The texts by which an operator governs tenants: setups and commands.
 #![tactic(auto)]
 
-mod setup;
+mod commands;
+pub mod laws;
+mod prefixes;
+mod written;
 
-pub use setup::{Setup, SetupFault, read_setup};
+pub use commands::{TextFault, parse_command};
+pub use written::write_command;
