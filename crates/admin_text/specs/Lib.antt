@@ -1,1 +1,3 @@
-pub mod Setup
+pub mod Prefixes
+pub mod Commands
+pub mod Spaces
