@@ -8,3 +8,4 @@ pub mod Boundary
 pub mod Hosts
 pub mod Ends
 pub mod OneTarget
+pub mod Addresses

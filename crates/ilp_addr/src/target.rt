@@ -1,12 +1,14 @@
 //! Where a peer listens for packets, and the token that it is shown (RFC 0035).
 
 ghost use Rattle.std.specs.Prelude.{◌≡◌, ◌≢◌, ◌≤◌, ◌+◌, ◌∷◌, ◌++◌, ◌==◌, ℕ, List, [], length, slice_index, take, drop};
-ghost use Rattle.std.specs.Prelude.{codes, IsTrue, ◌↔◌, MatchOption};
+ghost use Rattle.std.specs.Prelude.{codes, IsTrue, ◌↔◌, MatchOption, option_copied};
 ghost use Rattle.std.specs.List.{position, position_or_len};
 ghost use Rattle.std.specs.Result.{result_ok};
 ghost use Rattle.common_types.specs.Numerals.{number_in};
 ghost use Rattle.ilp_addr.specs.Target.{Parts, IsTarget, Names, IsHost, up_to, from_first, authority_of, path_of};
 ghost use Rattle.ilp_addr.specs.Target.{host_len, port_behind, are_visible, host_text, port_text};
+ghost use Rattle.ilp_addr.specs.Target.{v4_in, v6_in, literal_in, host_in, endpoint_in, target_in};
+ghost use Rattle.std.specs.Net.Grammar.{IsIpv4Text, IsIpv6Text};
 
 use common_types::{MAX_TOKEN, Text, is_token, number_in};
 use std::marker::Model;
@@ -50,8 +52,11 @@ impl Target {
     /// The URL has at most 255 bytes, `http` and `localhost` in lower case. Its host is `localhost`, an IPv4 literal,
     /// or an IPv6 literal in brackets and without a zone; its port is 1 to 65,535 without a zero in front, or left out
     /// for 80; its path begins with a slash; all of it is visible ASCII. The token is 1 to 64 letters, digits and `-._~+/=`.
+    #[tactic(auto, unfolding(crate::specs::Target::target_in))]
     pub fn new(url: &[u8], token: &[u8]) -> Option<Target>
-        ensures { MatchOption result ((t : Parts) → ¬ (IsTarget url.now token.now t)) (IsTarget url.now token.now) }
+        ensures target { MatchOption result ((t : Parts) → ¬ (IsTarget url.now token.now t))
+            (IsTarget url.now token.now) }
+        ensures exact { result ≡ target_in url.now token.now }
     {
         if !is_token(token) {
             return None;
@@ -167,9 +172,11 @@ fn has_scheme(url: &[u8]) -> bool
 }
 
 // The host and the port that a URL names.
+#[tactic(auto, unfolding(crate::specs::Target::endpoint_in))]
 fn endpoint(url: &[u8]) -> Option<(Host, u16)>
-    ensures { MatchOption result ((host : Host) (port : ℕ) → ¬ (Names url.now host port))
+    ensures names { MatchOption result ((host : Host) (port : ℕ) → ¬ (Names url.now host port))
         (λ e. Names url.now e.0 e.1) }
+    ensures exact { result ≡ endpoint_in url.now }
 {
     let (authority, path) = split_before(behind_scheme(url), b'/');
     if !has_scheme(url) || !are_visible(url) || !is_path(path) {
@@ -221,26 +228,48 @@ fn is_localhost(text: &[u8]) -> bool
     text == b"localhost".as_slice()
 }
 
+#[tactic(auto, unfolding(crate::specs::Target::host_in))]
 fn read_host(text: &[u8]) -> Option<Host>
-    ensures { MatchOption result ((host : Host) → ¬ (IsHost text.now host)) (IsHost text.now) }
+    ensures host { MatchOption result ((host : Host) → ¬ (IsHost text.now host)) (IsHost text.now) }
+    ensures exact { result ≡ host_in text.now }
 {
     if is_localhost(text) {
         return Some(Host::Localhost);
     }
-    if let Ok(address) = Ipv4Addr::parse_ascii(text) {
+    if let Some(address) = v4_in(text) {
         return Some(Host::V4(address));
     }
-    let address = Ipv6Addr::parse_ascii(literal_in(text)?);
-    match address {
-        Ok(address) => Some(Host::V6(address)),
+    match v6_in(literal_in(text)?) {
+        Some(address) => Some(Host::V6(address)),
+        None => None,
+    }
+}
+
+fn v4_in(text: &[u8]) -> Option<Ipv4Addr>
+    ensures address { MatchOption result ((a : Ipv4Addr) → ¬ (IsIpv4Text text.now a)) (IsIpv4Text text.now) }
+    ensures exact { result ≡ v4_in text.now }
+{
+    match Ipv4Addr::parse_ascii(text) {
+        Ok(address) => Some(address),
+        Err(_) => None,
+    }
+}
+
+fn v6_in(text: &[u8]) -> Option<Ipv6Addr>
+    ensures address { MatchOption result ((a : Ipv6Addr) → ¬ (IsIpv6Text text.now a)) (IsIpv6Text text.now) }
+    ensures exact { result ≡ v6_in text.now }
+{
+    match Ipv6Addr::parse_ascii(text) {
+        Ok(address) => Some(address),
         Err(_) => None,
     }
 }
 
 // The text between brackets.
 fn literal_in(text: &[u8]) -> Option<&[u8]>
-    ensures { MatchOption result ((literal : List ℕ) → text.now ≢ 91 ∷ literal ++ 93 ∷ [])
+    ensures literal { MatchOption result ((literal : List ℕ) → text.now ≢ 91 ∷ literal ++ 93 ∷ [])
         (λ literal. text.now ≡ 91 ∷ literal.now ++ 93 ∷ []) }
+    ensures exact { option_copied result ≡ literal_in text.now }
 {
     match text {
         [b'[', literal @ .., b']'] => Some(literal),
