@@ -1,3 +1,5 @@
+pub mod Peers
+pub mod Texts
 pub mod Readings
 pub mod Found
 pub mod Orders

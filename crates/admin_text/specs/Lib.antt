@@ -1,3 +1,4 @@
+pub mod Setup
 pub mod Prefixes
-pub mod Commands
 pub mod Spaces
+pub mod Commands

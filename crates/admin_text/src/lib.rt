@@ -4,7 +4,9 @@
 mod commands;
 pub mod laws;
 mod prefixes;
+mod setup;
 mod written;
 
 pub use commands::{TextFault, parse_command};
+pub use setup::{Setup, SetupFault, read_setup};
 pub use written::write_command;
