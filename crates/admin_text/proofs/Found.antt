@@ -1,9 +1,8 @@
 -- What is read of words is spelled by them.
-use Rattle.std.proofs.Common.{◌≡◌, ◌<◌, ◌^◌, ◌∷◌, [], ℕ, Bool, true, false, cond, List, Option, Some, None, Result, Ok, Err, inl, inr, refl, sym, ap, ◌∙◌, subst, arith}
+use Rattle.std.proofs.Common.{◌≡◌, ◌<◌, ◌^◌, ◌∷◌, [], ℕ, Bool, true, false, cond, List, Option, Some, None, Result, Ok, Err, refl, sym, ap, ◌∙◌, subst, arith}
 use Rattle.std.specs.Prelude.{codes, MatchOption}
 use Rattle.std.specs.Fmt.{decimal}
 use Rattle.std.specs.Str.{bytes_eq}
-use Rattle.std.proofs.lemmas.Bool.{cases_Bool}
 use Rattle.std.proofs.lemmas.Slice.Eq.{bytes_eq-Decides}
 use Rattle.common_types.specs.Names.{is_name, is_asset_code}
 use Rattle.common_types.specs.Numbers.{is_between}
@@ -18,9 +17,10 @@ use Rattle.tenant_core.specs.declared.terms.BucketTerms.{BucketTerms}
 use Rattle.tenant_core.specs.declared.terms.Role.{Role}
 use Rattle.tenant_core.specs.declared.terms.Role.TheVariants.{Child, Peer}
 use Rattle.admin_text.specs.declared.commands.TextFault.{TextFault}
-use Rattle.admin_text.specs.declared.commands.TextFault.TheVariants.{Verb, Argument, Range}
+use Rattle.admin_text.specs.declared.commands.TextFault.TheVariants.{Argument}
 use Rattle.admin_text.specs.Prefixes.{written_prefix}
-use Rattle.admin_text.specs.Commands.{argument, name_in, token_in, asset_in, role_in, role_word, prefix_in, number_or_fault, number_within, with_rest, taken, ended, peer_taken, target_taken, limits_taken, bucket_taken, AreForTarget, AreLimits, IsBucket}
+use Rattle.admin_text.specs.Commands.{argument, name_in, token_in, asset_in, role_in, role_word, prefix_in}
+use Rattle.admin_text.specs.Commands.{number_or_fault, number_within, with_rest, taken, ended, peer_taken, target_taken, limits_taken, bucket_taken, AreForTarget, AreLimits, IsBucket}
 
 -- a reading after another that gave a value
 pub bound : {A B : Type 0} (r : Result A TextFault) (f : A → Result B TextFault) (b : B) → (r >>= f) ≡ Ok b → (a : A) × (r ≡ Ok a) × (f a ≡ Ok b)
@@ -33,7 +33,8 @@ rested words (Ok v) r h =
     (ap (λ (q : _ × List (List ℕ)). Ok q.0) p, ap (λ (q : _ × List (List ℕ)). q.1) p)
 rested words (Err e) r h = absurd cc
 
-pub took : {A : Type 0} (read : List ℕ → Result A TextFault) (words : List (List ℕ)) (r : A × List (List ℕ)) → taken read words ≡ Ok r → (word : List ℕ) × (words ≡ word ∷ r.1) × (read word ≡ Ok r.0)
+pub took : {A : Type 0} (read : List ℕ → Result A TextFault) (words : List (List ℕ)) (r : A × List (List ℕ)) → taken read words ≡ Ok r
+    → (word : List ℕ) × (words ≡ word ∷ r.1) × (read word ≡ Ok r.0)
 unfolding taken
 took read [] r h = absurd cc
 took read (word ∷ words) r h = let k = rested words (read word) r h in (word, ap (λ (ws : List (List ℕ)). word ∷ ws) k.1, k.0)
@@ -140,7 +141,8 @@ peer_took words r h =
     let w : words ≡ a.0.0 ∷ role_word b.0.0 ∷ c.0.0 ∷ c.0.1 = x.0 ∙ ap (λ (ws : List (List ℕ)). a.0.0 ∷ ws) (y ∙ ap (λ (ws : List (List ℕ)). role_word b.0.0 ∷ ws) z.0) in
     subst (λ (q : (List ℕ × Role × List ℕ) × List (List ℕ)). (words ≡ q.0.0 ∷ role_word q.0.1 ∷ q.0.2 ∷ q.1) × (is_name q.0.0 ≡ true) × (is_token q.0.2 ≡ true)) e (w, x.1, z.1)
 
-found_is : (found : Option Parts) (t : Parts) (url token : List ℕ) → argument found ≡ Ok t → MatchOption found ((t : Parts) → ¬ (IsTarget url token t)) (IsTarget url token) → IsTarget url token t
+found_is : (found : Option Parts) (t : Parts) (url token : List ℕ) → argument found ≡ Ok t
+    → MatchOption found ((t : Parts) → ¬ (IsTarget url token t)) (IsTarget url token) → IsTarget url token t
 found_is (Some s) t url token h is = let e : s ≡ t = cc in subst (IsTarget url token) e is
 found_is None t url token h is = absurd cc
 

@@ -1,6 +1,6 @@
 -- Each spelling of a command is read as it.
-use Rattle.std.proofs.Common.{◌≡◌, ◌<◌, ◌≤◌, ◌^◌, ◌∷◌, [], ℕ, true, false, leb, ◌&&◌, List, Option, Some, None, Result, Ok, Err, IfOk, refl, sym, ap, ◌∙◌, subst, arith}
-use Rattle.std.specs.Prelude.{codes, MatchOption}
+use Rattle.std.proofs.Common.{◌≡◌, ◌<◌, ◌≤◌, ◌^◌, ◌∷◌, [], ℕ, true, false, List, Option, Some, None, Result, Ok, Err, IfOk, refl, ap, subst, arith}
+use Rattle.std.specs.Prelude.{codes}
 use Rattle.std.specs.Fmt.{decimal}
 use Rattle.std.specs.Str.{bytes_eq}
 use Rattle.std.proofs.lemmas.Bool.{le-leb}
@@ -10,10 +10,9 @@ use Rattle.common_types.specs.Numerals.{NumeralLaws}
 use Rattle.common_types.specs.Outcomes.{GivesUnlessMemory}
 use Rattle.common_types.specs.Token.{is_token}
 use Rattle.common_types.specs.declared.read_error.ReadError.{ReadError}
-use Rattle.common_types.specs.declared.read_error.ReadError.TheVariants.{Memory, Fault}
 use Rattle.ilp_addr.specs.Laws.{TargetLaw}
 use Rattle.ilp_addr.specs.Target.{Parts, IsTarget}
-use Rattle.money_core.specs.Fraction.{Fraction, IsFraction}
+use Rattle.money_core.specs.Fraction.{Fraction}
 use Rattle.tenant_core.specs.Commands.{Ends}
 use Rattle.tenant_core.specs.declared.command.Command.{Command}
 use Rattle.tenant_core.specs.declared.command.Command.TheVariants as command
@@ -28,7 +27,13 @@ use Rattle.tenant_core.specs.declared.terms.Role.{Role}
 use Rattle.tenant_core.specs.declared.terms.Role.TheVariants.{Child, Peer}
 use Rattle.admin_text.specs.declared.commands.TextFault.{TextFault}
 use Rattle.admin_text.specs.Prefixes.{written_prefix}
-use Rattle.admin_text.specs.Commands.{name_in, token_in, asset_in, role_in, role_word, side_word, prefix_in, number_within, other_name_in, taken, ended, peer_taken, target_taken, limits_taken, bucket_taken, limits_words, bucket_words, terms_words, order_words, peer_left, peer_behind, peer_at_target, added_peer, removed_peer, limited_peer, bucketed_peer, changed_peer, added_route, removed_route, set_rate, settled, peer_order, route_order, rate_order, settle_order, ordered, alone, other_command, command_of, AreForTarget, HasTarget, AreLimits, IsBucket, AreTerms, AreOrderWords, IsOrder, AreCommandWords}
+use Rattle.admin_text.specs.Commands.{name_in, token_in, asset_in, role_in, role_word, prefix_in}
+use Rattle.admin_text.specs.Commands.{number_within, other_name_in, taken, ended, peer_taken, target_taken}
+use Rattle.admin_text.specs.Commands.{limits_taken, bucket_taken, limits_words, bucket_words, terms_words}
+use Rattle.admin_text.specs.Commands.{peer_left, peer_behind, peer_at_target, added_peer, removed_peer}
+use Rattle.admin_text.specs.Commands.{limited_peer, bucketed_peer, changed_peer, added_route, removed_route, set_rate}
+use Rattle.admin_text.specs.Commands.{settled, peer_order, route_order, rate_order, settle_order}
+use Rattle.admin_text.specs.Commands.{other_command, command_of, AreForTarget, HasTarget, AreLimits, IsBucket, AreTerms, AreOrderWords, IsOrder, AreCommandWords}
 
 take_name : (n : List ℕ) (ws : List (List ℕ)) → is_name n ≡ true → taken name_in (n ∷ ws) ≡ Ok (n, ws)
 unfolding taken
@@ -70,11 +75,13 @@ unfolding bucket_taken
 take_bucket laws b ws h =
     rw (take_number laws 1 1_000_000 b.burst (decimal b.per_second ∷ ws) (omega arith) h.0, take_number laws 0 1_000_000 b.per_second ws (omega arith) h.1) refl
 
-take_peer : (name : List ℕ) (role : Role) (token : List ℕ) (ws : List (List ℕ)) → is_name name ≡ true → is_token token ≡ true → peer_taken (name ∷ role_word role ∷ token ∷ ws) ≡ Ok ((name, role, token), ws)
+take_peer : (name : List ℕ) (role : Role) (token : List ℕ) (ws : List (List ℕ)) → is_name name ≡ true → is_token token ≡ true
+    → peer_taken (name ∷ role_word role ∷ token ∷ ws) ≡ Ok ((name, role, token), ws)
 unfolding peer_taken
 take_peer name role token ws h k = rw (take_name name (role_word role ∷ token ∷ ws) h, take_role role (token ∷ ws), take_token token ws k) refl
 
-take_target : TargetLaw → (found : Option Parts) (t : Parts) (ws : List (List ℕ)) → IsTarget t.url t.token t → AreForTarget found (t.url ∷ t.token ∷ ws) → target_taken found (t.url ∷ t.token ∷ ws) ≡ Ok (t, ws)
+take_target : TargetLaw → (found : Option Parts) (t : Parts) (ws : List (List ℕ)) → IsTarget t.url t.token t
+    → AreForTarget found (t.url ∷ t.token ∷ ws) → target_taken found (t.url ∷ t.token ∷ ws) ≡ Ok (t, ws)
 unfolding target_taken
 take_target law (Some s) t ws is has = ap (λ (x : Parts). Ok (x, ws)) (law t.url t.token s t has is)
 take_target law None t ws is has = absurd (has t is)
@@ -83,7 +90,8 @@ left_read : (name : List ℕ) → is_name name ≡ true → peer_left (name ∷ 
 unfolding peer_left ended
 left_read name h = rw (take_name name [] h) refl
 
-added_read : NumeralLaws → TargetLaw → (found : Option Parts) (t : PeerTerms) → AreTerms t → HasTarget found (codes "peer" ∷ codes "add" ∷ terms_words t) → added_peer found (terms_words t) ≡ Ok (AddPeer t)
+added_read : NumeralLaws → TargetLaw → (found : Option Parts) (t : PeerTerms) → AreTerms t
+    → HasTarget found (codes "peer" ∷ codes "add" ∷ terms_words t) → added_peer found (terms_words t) ≡ Ok (AddPeer t)
 unfolding added_peer peer_at_target peer_behind ended
 added_read laws law found t h has =
     let behind : List (List ℕ) = decimal t.scale ∷ decimal t.limits.cap ∷ decimal t.limits.ceiling ∷ decimal t.limits.credit ∷ decimal t.bucket.burst ∷ decimal t.bucket.per_second ∷ [] in
@@ -118,7 +126,8 @@ route_removed_read word prefix p = rw (take_prefix word prefix [] p) refl
 fraction_term : (n : ℕ) → 1 ≤ n → n ≤ 1_000_000_000_000 → is_between 1 1_000_000_000_000 n ≡ true
 fraction_term n low high = rw (le-leb 1 n low, le-leb n 1_000_000_000_000 high) refl
 
-rate_read : NumeralLaws → (pair : Ends) (rate : Fraction) → IsOrder (SetRate pair rate) → set_rate (pair.from ∷ pair.to ∷ decimal rate.numerator ∷ decimal rate.denominator ∷ []) ≡ Ok (SetRate pair rate)
+rate_read : NumeralLaws → (pair : Ends) (rate : Fraction) → IsOrder (SetRate pair rate)
+    → set_rate (pair.from ∷ pair.to ∷ decimal rate.numerator ∷ decimal rate.denominator ∷ []) ≡ Ok (SetRate pair rate)
 unfolding set_rate ended
 rate_read laws pair rate h =
     let f = h.3 in
@@ -126,11 +135,13 @@ rate_read laws pair rate h =
     let den = take_number laws 1 1_000_000_000_000 rate.denominator [] (omega arith) (fraction_term rate.denominator f.some_denominator f.small_denominator) in
     rw (take_name pair.from (pair.to ∷ decimal rate.numerator ∷ decimal rate.denominator ∷ []) h.0, take_pair pair (decimal rate.numerator ∷ decimal rate.denominator ∷ []) h.1 h.2, num, den) refl
 
-settled_read : NumeralLaws → (side : Side) (name : List ℕ) (amount : ℕ) → is_name name ≡ true → is_between 1 4_611_686_018_427_387_904 amount ≡ true → settled side (name ∷ decimal amount ∷ []) ≡ Ok (Settle name side amount)
+settled_read : NumeralLaws → (side : Side) (name : List ℕ) (amount : ℕ) → is_name name ≡ true → is_between 1 4_611_686_018_427_387_904 amount ≡ true
+    → settled side (name ∷ decimal amount ∷ []) ≡ Ok (Settle name side amount)
 unfolding settled ended
 settled_read laws side name amount h k = rw (take_name name (decimal amount ∷ []) h, take_number laws 1 4_611_686_018_427_387_904 amount [] (omega arith) k) refl
 
-order_read : NumeralLaws → TargetLaw → (found : Option Parts) (words : List (List ℕ)) (o : Order) → AreOrderWords words o → IsOrder o → HasTarget found words → command_of found words ≡ Ok (command.Order o)
+order_read : NumeralLaws → TargetLaw → (found : Option Parts) (words : List (List ℕ)) (o : Order) → AreOrderWords words o → IsOrder o
+    → HasTarget found words → command_of found words ≡ Ok (command.Order o)
 unfolding command_of other_command peer_order changed_peer route_order rate_order settle_order
 order_read laws law found words (AddPeer t) w h has = rw w (rw (added_read laws law found t h (subst (HasTarget found) w has)) refl)
 order_read laws law found words (RemovePeer name) w h has = rw w (rw (removed_read name h) refl)
@@ -150,7 +161,8 @@ spelled_is_read laws law found words command.Balances h has = rw h refl
 spelled_is_read laws law found words command.Roll h has = rw h refl
 
 -- a reading that gave a command
-pub gave : (r : Result Command (ReadError TextFault)) (read : Result Command TextFault) (P : Command → Type 0) → GivesUnlessMemory (λ c. c) r read → ((c : Command) → read ≡ Ok c → P c) → IfOk r P
+pub gave : (r : Result Command (ReadError TextFault)) (read : Result Command TextFault) (P : Command → Type 0) → GivesUnlessMemory (λ c. c) r read
+    → ((c : Command) → read ≡ Ok c → P c) → IfOk r P
 gave (Ok c) read P h p = p c h
 gave (Err e) read P h p = tt
 

@@ -1,19 +1,19 @@
 -- The orders and commands that are read of words are spelled by them.
-use Rattle.std.proofs.Common.{◌≡◌, ◌<◌, ◌≤◌, ◌^◌, ◌∷◌, [], ℕ, Bool, true, false, cond, leb, List, Option, Some, None, Result, Ok, Err, refl, sym, ap, ◌∙◌, subst, arith}
+use Rattle.std.proofs.Common.{◌≡◌, ◌∷◌, [], ℕ, Bool, true, false, cond, leb, List, Option, Some, None, Result, Ok, Err, refl, sym, ap, ◌∙◌, subst, arith}
 use Rattle.std.specs.Prelude.{codes}
 use Rattle.std.specs.Fmt.{decimal}
 use Rattle.std.specs.Result.{result_ok}
 use Rattle.std.specs.Str.{bytes_eq}
 use Rattle.std.proofs.lemmas.Bool.{and_parts, leb-true}
 use Rattle.std.proofs.lemmas.Slice.Eq.{bytes_eq-Decides}
-use Rattle.common_types.specs.Names.{is_name, is_asset_code}
+use Rattle.common_types.specs.Names.{is_name}
 use Rattle.common_types.specs.Numbers.{is_between}
 use Rattle.common_types.specs.Numerals.{NumeralLaws}
 use Rattle.ilp_addr.specs.Address.{IsPrefix, prefix_at}
 use Rattle.ilp_addr.specs.Laws.{PrefixLaws}
 use Rattle.ilp_addr.specs.declared.fault.AddrFault.{AddrFault}
-use Rattle.ilp_addr.specs.Target.{Parts, IsTarget}
-use Rattle.money_core.specs.Fraction.{Fraction, IsFraction}
+use Rattle.ilp_addr.specs.Target.{Parts}
+use Rattle.money_core.specs.Fraction.{IsFraction}
 use Rattle.tenant_core.specs.Commands.{Ends}
 use Rattle.tenant_core.specs.declared.command.Command.{Command}
 use Rattle.tenant_core.specs.declared.command.Command.TheVariants as command
@@ -21,11 +21,15 @@ use Rattle.tenant_core.specs.declared.command.Order.{Order}
 use Rattle.tenant_core.specs.declared.command.Order.TheVariants.{AddPeer, RemovePeer, SetLimits, SetBucket, AddRoute, RemoveRoute, SetRate, Settle}
 use Rattle.tenant_core.specs.declared.command.Side.{Side}
 use Rattle.tenant_core.specs.declared.command.Side.TheVariants.{In, Out}
-use Rattle.tenant_core.specs.declared.terms.Role.{Role}
 use Rattle.admin_text.specs.declared.commands.TextFault.{TextFault}
-use Rattle.admin_text.specs.declared.commands.TextFault.TheVariants.{Verb, Argument, Range}
+use Rattle.admin_text.specs.declared.commands.TextFault.TheVariants.{Verb, Argument}
 use Rattle.admin_text.specs.Prefixes.{written_prefix}
-use Rattle.admin_text.specs.Commands.{name_in, asset_in, role_word, side_word, prefix_in, number_within, taken, ended, peer_taken, target_taken, limits_taken, bucket_taken, peer_left, peer_behind, peer_at_target, added_peer, removed_peer, limited_peer, bucketed_peer, changed_peer, added_route, removed_route, other_name_in, set_rate, settled, peer_order, route_order, rate_order, settle_order, ordered, alone, other_command, command_of, AreForTarget, AreForPeer, AreForVerb, HasTarget, AreLimits, IsBucket, AreOrderWords, IsOrder, AreCommandWords}
+use Rattle.admin_text.specs.Commands.{name_in, asset_in, role_word, side_word, prefix_in, number_within, taken, ended}
+use Rattle.admin_text.specs.Commands.{peer_taken, target_taken, limits_taken, bucket_taken, peer_left, peer_behind}
+use Rattle.admin_text.specs.Commands.{peer_at_target, added_peer, removed_peer, limited_peer, bucketed_peer}
+use Rattle.admin_text.specs.Commands.{changed_peer, added_route, removed_route, other_name_in, set_rate, settled}
+use Rattle.admin_text.specs.Commands.{peer_order, route_order, rate_order, settle_order, ordered, alone}
+use Rattle.admin_text.specs.Commands.{other_command, command_of, AreForPeer, AreForVerb, HasTarget, AreOrderWords, IsOrder, AreCommandWords}
 use Rattle.admin_text.proofs.Found.{bound, took, none_left, name_took, asset_took, number_took, prefix_took, limits_took, bucket_took, peer_took, target_took}
 
 -- the words spell the order, which keeps its limits
@@ -79,7 +83,8 @@ bucketed_is laws words o h =
     let w : words ≡ a.0.0 ∷ decimal b.0.0.burst ∷ decimal b.0.0.per_second ∷ [] = x.0 ∙ ap (λ (ws : List (List ℕ)). a.0.0 ∷ ws) (y.0 ∙ ap (λ (ws : List (List ℕ)). decimal b.0.0.burst ∷ decimal b.0.0.per_second ∷ ws) z) in
     subst (IsSpelled (codes "peer" ∷ codes "bucket" ∷ words)) e (ap (λ (ws : List (List ℕ)). codes "peer" ∷ codes "bucket" ∷ ws) w, (x.1, y.1))
 
-added_is : NumeralLaws → (found : Option Parts) (words : List (List ℕ)) (o : Order) → AreForPeer found words → added_peer found words ≡ Ok o → IsSpelled (codes "peer" ∷ codes "add" ∷ words) o
+added_is : NumeralLaws → (found : Option Parts) (words : List (List ℕ)) (o : Order) → AreForPeer found words → added_peer found words ≡ Ok o
+    → IsSpelled (codes "peer" ∷ codes "add" ∷ words) o
 unfolding added_peer peer_at_target peer_behind
 added_is laws found words o has h =
     let a = bound (peer_taken words) _ o h in
@@ -99,9 +104,9 @@ added_is laws found words o has h =
     let e : AddPeer (record { name = a.0.0.0; role = a.0.0.1; token = a.0.0.2; target = b.0.0; asset = c.0.0; scale = d.0.0; limits = l.0.0; bucket = m.0.0 }) ≡ o = order_is _ o _ refl n.2 in
     let w3 : m.0.1 ≡ [] = z in
     let w2 : c.0.1 ≡ decimal d.0.0 ∷ decimal l.0.0.cap ∷ decimal l.0.0.ceiling ∷ decimal l.0.0.credit ∷ decimal m.0.0.burst ∷ decimal m.0.0.per_second ∷ [] =
-        s.0 ∙ ap (λ (ws : List (List ℕ)). decimal d.0.0 ∷ ws) (p.0 ∙ ap (λ (ws : List (List ℕ)). decimal l.0.0.cap ∷ decimal l.0.0.ceiling ∷ decimal l.0.0.credit ∷ ws) (q.0 ∙ ap (λ (ws : List (List ℕ)). decimal m.0.0.burst ∷ decimal m.0.0.per_second ∷ ws) w3)) in
+    s.0 ∙ ap (λ (ws : List (List ℕ)). decimal d.0.0 ∷ ws) (p.0 ∙ ap (λ (ws : List (List ℕ)). decimal l.0.0.cap ∷ decimal l.0.0.ceiling ∷ decimal l.0.0.credit ∷ ws) (q.0 ∙ ap (λ (ws : List (List ℕ)). decimal m.0.0.burst ∷ decimal m.0.0.per_second ∷ ws) w3)) in
     let w1 : a.0.1 ≡ b.0.0.url ∷ b.0.0.token ∷ c.0.0 ∷ decimal d.0.0 ∷ decimal l.0.0.cap ∷ decimal l.0.0.ceiling ∷ decimal l.0.0.credit ∷ decimal m.0.0.burst ∷ decimal m.0.0.per_second ∷ [] =
-        t.0 ∙ ap (λ (ws : List (List ℕ)). b.0.0.url ∷ b.0.0.token ∷ ws) (y.0 ∙ ap (λ (ws : List (List ℕ)). c.0.0 ∷ ws) w2) in
+    t.0 ∙ ap (λ (ws : List (List ℕ)). b.0.0.url ∷ b.0.0.token ∷ ws) (y.0 ∙ ap (λ (ws : List (List ℕ)). c.0.0 ∷ ws) w2) in
     let w = x.0 ∙ ap (λ (ws : List (List ℕ)). a.0.0.0 ∷ role_word a.0.0.1 ∷ a.0.0.2 ∷ ws) w1 in
     subst (IsSpelled (codes "peer" ∷ codes "add" ∷ words)) e
     (ap (λ (ws : List (List ℕ)). codes "peer" ∷ codes "add" ∷ ws) w, record { name = x.1; token = x.2; target = t.1; asset = y.1; scale = s.1; limits = p.1; bucket = q.1 })
@@ -173,7 +178,7 @@ rate_is laws words o h =
     let z = none_left d.0.1 n.0 n.1 in
     let e : SetRate b.0.0 (record { numerator = c.0.0; denominator = d.0.0 }) ≡ o = order_is _ o _ refl n.2 in
     let w : words ≡ b.0.0.from ∷ b.0.0.to ∷ decimal c.0.0 ∷ decimal d.0.0 ∷ [] =
-        x.0 ∙ (λ i. sym y.0 i ∷ (t.1 ∙ (λ j. sym y.1 j ∷ (p.0 ∙ ap (λ (ws : List (List ℕ)). decimal c.0.0 ∷ ws) (q.0 ∙ ap (λ (ws : List (List ℕ)). decimal d.0.0 ∷ ws) z)) j)) i) in
+    x.0 ∙ (λ i. sym y.0 i ∷ (t.1 ∙ (λ j. sym y.1 j ∷ (p.0 ∙ ap (λ (ws : List (List ℕ)). decimal c.0.0 ∷ ws) (q.0 ∙ ap (λ (ws : List (List ℕ)). decimal d.0.0 ∷ ws) z)) j)) i) in
     let from : is_name b.0.0.from ≡ true = subst (λ (v : List ℕ). is_name v ≡ true) (sym y.0) x.1 in
     let to : is_name b.0.0.to ≡ true = subst (λ (v : List ℕ). is_name v ≡ true) (sym y.1) y.2 in
     let other : bytes_eq b.0.0.from b.0.0.to ≡ false = rw (y.0, y.1) y.3 in
@@ -193,7 +198,8 @@ settled_is laws side words o h =
     let w : words ≡ a.0.0 ∷ decimal b.0.0 ∷ [] = x.0 ∙ ap (λ (ws : List (List ℕ)). a.0.0 ∷ ws) (p.0 ∙ ap (λ (ws : List (List ℕ)). decimal b.0.0 ∷ ws) z) in
     subst (IsSpelled (codes "settle" ∷ side_word side ∷ words)) e (ap (λ (ws : List (List ℕ)). codes "settle" ∷ side_word side ∷ ws) w, (x.1, p.1))
 
-changed_is : NumeralLaws → (verb : List ℕ) (words : List (List ℕ)) (o : Order) (a b c : Bool) → bytes_eq verb (codes "remove") ≡ a → bytes_eq verb (codes "limits") ≡ b → bytes_eq verb (codes "bucket") ≡ c
+changed_is : NumeralLaws → (verb : List ℕ) (words : List (List ℕ)) (o : Order) (a b c : Bool) → bytes_eq verb (codes "remove") ≡ a
+    → bytes_eq verb (codes "limits") ≡ b → bytes_eq verb (codes "bucket") ≡ c
     → cond a (removed_peer words) (cond b (limited_peer words) (cond c (bucketed_peer words) (Err Verb))) ≡ Ok o → IsSpelled (codes "peer" ∷ verb ∷ words) o
 changed_is laws verb words o true b c e f g h = rw ((bytes_eq-Decides verb (codes "remove")).0 e) (removed_is words o h)
 changed_is laws verb words o false true c e f g h = rw ((bytes_eq-Decides verb (codes "limits")).0 f) (limited_is laws words o h)
@@ -223,7 +229,8 @@ unfolding route_order
 route_order_is laws [] o h = absurd cc
 route_order_is laws (verb ∷ words) o h = route_verb_is laws verb words o (bytes_eq verb (codes "add")) (bytes_eq verb (codes "remove")) refl refl h
 
-rate_verb_is : NumeralLaws → (verb : List ℕ) (words : List (List ℕ)) (o : Order) (a : Bool) → bytes_eq verb (codes "set") ≡ a → cond a (set_rate words) (Err Verb) ≡ Ok o → IsSpelled (codes "rate" ∷ verb ∷ words) o
+rate_verb_is : NumeralLaws → (verb : List ℕ) (words : List (List ℕ)) (o : Order) (a : Bool) → bytes_eq verb (codes "set") ≡ a
+    → cond a (set_rate words) (Err Verb) ≡ Ok o → IsSpelled (codes "rate" ∷ verb ∷ words) o
 rate_verb_is laws verb words o true e h = rw ((bytes_eq-Decides verb (codes "set")).0 e) (rate_is laws words o h)
 rate_verb_is laws verb words o false e h = absurd cc
 
@@ -258,7 +265,8 @@ alone_is first x words c is h =
     let z = none_left words a.0 a.1 in
     subst (λ (y : Command). AreCommandWords (first ∷ words) y) (command_is x c _ refl a.2) (rw z is)
 
-other_is : NumeralLaws → PrefixLaws → (verb : List ℕ) (words : List (List ℕ)) (c : Command) (r s t u v : Bool) → bytes_eq verb (codes "route") ≡ r → bytes_eq verb (codes "rate") ≡ s → bytes_eq verb (codes "settle") ≡ t
+other_is : NumeralLaws → PrefixLaws → (verb : List ℕ) (words : List (List ℕ)) (c : Command) (r s t u v : Bool) → bytes_eq verb (codes "route") ≡ r
+    → bytes_eq verb (codes "rate") ≡ s → bytes_eq verb (codes "settle") ≡ t
     → bytes_eq verb (codes "balances") ≡ u → bytes_eq verb (codes "roll") ≡ v
     → cond r (ordered (route_order words)) (cond s (ordered (rate_order words)) (cond t (ordered (settle_order words)) (cond u (alone command.Balances words) (cond v (alone command.Roll words) (Err Verb))))) ≡ Ok c
     → AreCommandWords (verb ∷ words) c
@@ -269,7 +277,8 @@ other_is numbers prefixes verb words c false false false true v e1 e2 e3 e4 e5 h
 other_is numbers prefixes verb words c false false false false true e1 e2 e3 e4 e5 h = rw ((bytes_eq-Decides verb (codes "roll")).0 e5) (alone_is (codes "roll") command.Roll words c refl h)
 other_is numbers prefixes verb words c false false false false false e1 e2 e3 e4 e5 h = absurd cc
 
-first_is : NumeralLaws → PrefixLaws → (found : Option Parts) (verb : List ℕ) (words : List (List ℕ)) (c : Command) (a : Bool) → bytes_eq verb (codes "peer") ≡ a → HasTarget found (verb ∷ words)
+first_is : NumeralLaws → PrefixLaws → (found : Option Parts) (verb : List ℕ) (words : List (List ℕ)) (c : Command) (a : Bool)
+    → bytes_eq verb (codes "peer") ≡ a → HasTarget found (verb ∷ words)
     → cond a (ordered (peer_order found words)) (other_command verb words) ≡ Ok c → AreCommandWords (verb ∷ words) c
 unfolding other_command
 first_is numbers prefixes found verb words c true e has h =
@@ -278,7 +287,8 @@ first_is numbers prefixes found verb words c false e has h =
     other_is numbers prefixes verb words c (bytes_eq verb (codes "route")) (bytes_eq verb (codes "rate")) (bytes_eq verb (codes "settle")) (bytes_eq verb (codes "balances")) (bytes_eq verb (codes "roll")) refl refl refl refl refl h
 
 -- what is read of words is spelled by them
-pub read_is_spelled : NumeralLaws → PrefixLaws → (found : Option Parts) (words : List (List ℕ)) (c : Command) → HasTarget found words → command_of found words ≡ Ok c → AreCommandWords words c
+pub read_is_spelled : NumeralLaws → PrefixLaws → (found : Option Parts) (words : List (List ℕ)) (c : Command) → HasTarget found words
+    → command_of found words ≡ Ok c → AreCommandWords words c
 unfolding command_of
 read_is_spelled numbers prefixes found [] c has h = absurd cc
 read_is_spelled numbers prefixes found (verb ∷ words) c has h = first_is numbers prefixes found verb words c (bytes_eq verb (codes "peer")) refl has h

@@ -15,7 +15,8 @@ with_front front None = None
 with_front front (Some peers) = Some (front ++ peers)
 
 -- a peer more, read of the value at that place
-pub with_one_more : (front after : List NewPeer) (values : List Value) (i : ℕ) (value : Value) (peer : NewPeer) (total : Option (List NewPeer)) → i < length values → value ≡ get_or values i value → Some peer ≡ peer_in (view value) → after ≡ front ++ peer ∷ []
+pub with_one_more : (front after : List NewPeer) (values : List Value) (i : ℕ) (value : Value) (peer : NewPeer) (total : Option (List NewPeer))
+    → i < length values → value ≡ get_or values i value → Some peer ≡ peer_in (view value) → after ≡ front ++ peer ∷ []
     → with_front front (peers_of (items_view (drop i values))) ≡ total → with_front after (peers_of (items_view (drop (i + 1) values))) ≡ total
 unfolding peers_of
 with_one_more front after values i value peer total lt is read pushed so_far =

@@ -1,20 +1,21 @@
 -- Readings of the words of a command, one after the other.
-use Rattle.std.proofs.Common.{◌≡◌, ◌∷◌, [], ℕ, true, false, List, Option, Some, None, Result, Ok, Err, IfOk, refl, sym, ◌∙◌, subst}
+use Rattle.std.proofs.Common.{◌≡◌, ◌∷◌, [], ℕ, true, false, List, Option, None, Ok, Err, refl, sym, ◌∙◌}
 use Rattle.std.specs.Prelude.{codes}
 use Rattle.std.specs.Str.{bytes_eq}
 use Rattle.ilp_addr.specs.Target.{Parts}
-use Rattle.tenant_core.specs.declared.command.Command.{Command}
-use Rattle.tenant_core.specs.declared.command.Order.{Order}
 use Rattle.tenant_core.specs.declared.terms.Role.{Role}
 use Rattle.admin_text.specs.declared.commands.TextFault.{TextFault}
-use Rattle.admin_text.specs.declared.commands.TextFault.TheVariants.{Verb, Argument, Range}
-use Rattle.admin_text.specs.Commands.{peer_taken, target_taken, peer_behind, peer_at_target, added_peer, changed_peer, peer_order, other_command, command_of, ordered, AreForTarget, AreForPeer, AreForVerb, HasTarget}
+use Rattle.admin_text.specs.declared.commands.TextFault.TheVariants.{Verb}
+use Rattle.admin_text.specs.Commands.{peer_taken, target_taken, peer_behind, peer_at_target, added_peer, changed_peer}
+use Rattle.admin_text.specs.Commands.{peer_order, other_command, command_of, ordered, AreForTarget, AreForPeer, AreForVerb, HasTarget}
 
-pub at_target_err : (found : Option Parts) (peer : List ℕ × Role × List ℕ) (words : List (List ℕ)) (e : TextFault) → target_taken found words ≡ Err e → peer_at_target found peer words ≡ Err e
+pub at_target_err : (found : Option Parts) (peer : List ℕ × Role × List ℕ) (words : List (List ℕ)) (e : TextFault) → target_taken found words ≡ Err e
+    → peer_at_target found peer words ≡ Err e
 unfolding peer_at_target
 at_target_err found peer words e h = rw h refl
 
-pub at_target_ok : (found : Option Parts) (peer : List ℕ × Role × List ℕ) (words : List (List ℕ)) (r : Parts × List (List ℕ)) → target_taken found words ≡ Ok r → peer_at_target found peer words ≡ peer_behind peer r.0 r.1
+pub at_target_ok : (found : Option Parts) (peer : List ℕ × Role × List ℕ) (words : List (List ℕ)) (r : Parts × List (List ℕ))
+    → target_taken found words ≡ Ok r → peer_at_target found peer words ≡ peer_behind peer r.0 r.1
 unfolding peer_at_target
 at_target_ok found peer words r h = rw h refl
 
@@ -22,7 +23,8 @@ pub added_err : (words : List (List ℕ)) (e : TextFault) → peer_taken words �
 unfolding added_peer
 added_err words e h = (rw h tt, rw h refl)
 
-pub added_ok : (found : Option Parts) (words : List (List ℕ)) (r : (List ℕ × Role × List ℕ) × List (List ℕ)) → peer_taken words ≡ Ok r → AreForTarget found r.1 → AreForPeer found words × (added_peer found words ≡ peer_at_target found r.0 r.1)
+pub added_ok : (found : Option Parts) (words : List (List ℕ)) (r : (List ℕ × Role × List ℕ) × List (List ℕ)) → peer_taken words ≡ Ok r
+    → AreForTarget found r.1 → AreForPeer found words × (added_peer found words ≡ peer_at_target found r.0 r.1)
 unfolding added_peer
 added_ok found words r h is = (rw h is, rw h refl)
 

@@ -1,8 +1,7 @@
 -- Words without a space, one more behind others.
-use Rattle.std.proofs.Common.{◌≡◌, ◌<◌, ◌≤◌, ◌^◌, ◌∷◌, ◌++◌, [], ℕ, Bool, true, false, not, eqb, leb, ◌&&◌, ◌||◌, List, length, All, inl, inr, refl, sym, ap, ◌∙◌, subst, append_assoc, arith}
-use Rattle.std.specs.List.{list_all, slice_split, onto_first}
+use Rattle.std.proofs.Common.{◌≡◌, ◌<◌, ◌^◌, ◌∷◌, ◌++◌, [], ℕ, Bool, true, false, not, eqb, List, length, inl, inr, refl, sym, ap, ◌∙◌, subst, append_assoc, arith}
+use Rattle.std.specs.List.{list_all, onto_first}
 use Rattle.std.specs.Fmt.{decimal}
-use Rattle.std.specs.Str.{bytes_eq}
 use Rattle.std.proofs.lemmas.Bool.{and_parts, cases_Bool, eqb-true}
 use Rattle.std.proofs.lemmas.List.Splits.{slice_split-cons_yes, slice_split-cons_no, length-slice_split}
 use Rattle.common_types.specs.Names.{is_name, is_name_byte, is_asset_code, is_asset_byte}
@@ -10,7 +9,7 @@ use Rattle.common_types.specs.Numbers.{is_between}
 use Rattle.common_types.specs.Numerals.{NumeralLaws, is_digit}
 use Rattle.common_types.specs.Token.{is_token, is_token_byte}
 use Rattle.common_types.specs.Words.{words_of}
-use Rattle.ilp_addr.specs.Target.{Parts, IsTarget, are_visible}
+use Rattle.ilp_addr.specs.Target.{Parts, IsTarget}
 use Rattle.admin_text.specs.Spaces.{is_spaceless}
 
 onto_first-append : (x : ℕ) (parts more : List (List ℕ)) → 0 < length parts → onto_first x (parts ++ more) ≡ onto_first x parts ++ more
@@ -34,8 +33,8 @@ word_behind (b ∷ text) word h =
     elim (cases_Bool (eqb b 32)) [
       | inl is ↦ rw (slice_split-cons_yes (λ c. eqb c 32) b (text ++ 32 ∷ word) is, slice_split-cons_yes (λ c. eqb c 32) b text is, word_behind text word h) refl
       | inr other ↦
-        let some : 0 < length (words_of text) = omega (arith, length-slice_split (λ c. eqb c 32) text) in
-        rw (slice_split-cons_no (λ c. eqb c 32) b (text ++ 32 ∷ word) other, slice_split-cons_no (λ c. eqb c 32) b text other, word_behind text word h) (onto_first-append b (words_of text) (word ∷ []) some)
+          let some : 0 < length (words_of text) = omega (arith, length-slice_split (λ c. eqb c 32) text) in
+          rw (slice_split-cons_no (λ c. eqb c 32) b (text ++ 32 ∷ word) other, slice_split-cons_no (λ c. eqb c 32) b text other, word_behind text word h) (onto_first-append b (words_of text) (word ∷ []) some)
     ]
 
 pub one_more : (old pushed new word : List ℕ) → is_spaceless word ≡ true → pushed ≡ old ++ 32 ∷ [] → new ≡ pushed ++ word → words_of new ≡ words_of old ++ word ∷ []

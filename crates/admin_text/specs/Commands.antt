@@ -1,5 +1,5 @@
 -- The text of a command: words with single spaces between them.
-use Rattle.std.specs.Prelude.{◌≡◌, ◌≤◌, ℕ, List, [], ◌∷◌, codes, true, false, if◌then◌else◌, IsTrue, IfOk, MatchOption}
+use Rattle.std.specs.Prelude.{◌≡◌, ℕ, List, [], ◌∷◌, codes, true, false, if◌then◌else◌, IfOk, MatchOption}
 use Rattle.std.specs.Prelude.{Option, Some, None, Result, Ok, Err}
 use Rattle.std.specs.Fmt.{decimal}
 use Rattle.std.specs.Str.{bytes_eq}
@@ -13,7 +13,7 @@ use Rattle.common_types.specs.declared.numerals.NumberFault.{NumberFault}
 use Rattle.common_types.specs.declared.numerals.NumberFault.TheVariants.{Malformed, Outside}
 use Rattle.ilp_addr.specs.Address.{IsPrefix}
 use Rattle.ilp_addr.specs.Target.{Parts, IsTarget}
-use Rattle.money_core.specs.Fraction.{Fraction, IsFraction}
+use Rattle.money_core.specs.Fraction.{IsFraction}
 use Rattle.tenant_core.specs.Commands.{Ends}
 use Rattle.tenant_core.specs.declared.command.Command.{Command}
 use Rattle.tenant_core.specs.declared.command.Command.TheVariants as command

@@ -14,8 +14,8 @@ ghost use Rattle.admin_text.specs.Commands.{ordered, alone, other_command, comma
 ghost use Rattle.admin_text.specs.Commands.{AreForTarget, AreForPeer, AreForVerb, HasTarget};
 
 use crate::prefixes::written_prefix;
-use common_types::{AssetCode, Between, Name, NumberFault, ReadError, Token, Words, number_in};
 use common_types::laws::numerals;
+use common_types::{AssetCode, Between, Name, NumberFault, ReadError, Token, Words, number_in};
 use ilp_addr::laws::{prefixes, targets};
 use ilp_addr::{Prefix, Target};
 use money_core::Rate;
@@ -38,7 +38,6 @@ pub enum TextFault {
     #[error("command: range")]
     Range,
 }
-
 
 #[tactic(auto, unfolding(crate::specs::Commands::taken))]
 fn next_name(words: Words<'_>) -> Result<(Name, Words<'_>), TextFault>
@@ -118,10 +117,7 @@ fn next_number<const LOW: u64, const HIGH: u64>(
 }
 
 #[tactic(auto, unfolding(crate::specs::Commands::taken))]
-fn next_prefix(
-    alloc: Global,
-    words: Words<'_>,
-) -> Result<(Prefix, Words<'_>), ReadError<TextFault>>
+fn next_prefix(alloc: Global, words: Words<'_>) -> Result<(Prefix, Words<'_>), ReadError<TextFault>>
     ensures { GivesUnlessMemory (λ p. p) result (taken prefix_in words.entry) }
 {
     let Some((word, words)) = words.split_first() else {
@@ -229,7 +225,9 @@ fn set_rate(words: Words<'_>) -> Result<Order, TextFault>
     let (num, words) = next_number::<1, 1_000_000_000_000>(words)?;
     let (den, words) = next_number::<1, 1_000_000_000_000>(words)?;
     end(words)?;
-    let rate = Rate::new(num.get(), den.get()).ok().ok_or(TextFault::Range)?;
+    let rate = Rate::new(num.get(), den.get())
+        .ok()
+        .ok_or(TextFault::Range)?;
     Ok(Order::SetRate { pair, rate })
 }
 

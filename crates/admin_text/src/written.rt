@@ -20,9 +20,7 @@ use ilp_addr::laws::prefix_words;
 use ilp_addr::{Prefix, Target};
 use money_core::Rate;
 use std::alloc::{AllocError, Global};
-use tenant_core::{
-    Amount, BucketTerms, Command, Order, Pair, PeerLimits, PeerTerms, Role, Side,
-};
+use tenant_core::{Amount, BucketTerms, Command, Order, Pair, PeerLimits, PeerTerms, Role, Side};
 
 // A word more, behind a space.
 fn put_word(out: &mut Vec<u8>, word: &[u8]) -> Result<(), AllocError>

@@ -15,7 +15,10 @@ static GOOD: [(&str, &str); 16] = [
         "peer add b peer t http://[::1]/ o EUR 255 0 4611686018427387904 4611686018427387904 1000000 0",
     ),
     ("peer remove alice", "peer remove alice"),
-    ("peer limits alice 0 1 4611686018427387904", "peer limits alice 0 1 4611686018427387904"),
+    (
+        "peer limits alice 0 1 4611686018427387904",
+        "peer limits alice 0 1 4611686018427387904",
+    ),
     ("peer bucket alice 1 1000000", "peer bucket alice 1 1000000"),
     ("route add g.a bob", "route add g.a bob"),
     ("route add g.a. bob", "route add g.a bob"),
@@ -23,8 +26,14 @@ static GOOD: [(&str, &str); 16] = [
     ("route add g bob", "route add g bob"),
     ("route remove g.a.", "route remove g.a"),
     ("route remove *", "route remove *"),
-    ("rate set alice bob 1 1000000000000", "rate set alice bob 1 1000000000000"),
-    ("settle in alice 4611686018427387904", "settle in alice 4611686018427387904"),
+    (
+        "rate set alice bob 1 1000000000000",
+        "rate set alice bob 1 1000000000000",
+    ),
+    (
+        "settle in alice 4611686018427387904",
+        "settle in alice 4611686018427387904",
+    ),
     ("settle out alice 1", "settle out alice 1"),
     ("balances", "balances"),
     ("roll", "roll"),

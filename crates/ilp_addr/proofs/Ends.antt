@@ -1,5 +1,6 @@
 -- A prefix has no dot at its end, and no space.
-use Rattle.std.proofs.Common.{◌≡◌, ◌≢◌, ℕ, ◌+◌, ◌-◌, ◌<◌, ◌≤◌, zero, suc, Bool, true, false, not, eqb, leb, ◌&&◌, ◌||◌, List, [], ◌∷◌, ◌++◌, length, get_or, take, drop, Result, Ok, refl, sym, ap, ◌∙◌, subst, arith, inl, inr}
+use Rattle.std.proofs.Common.{◌≡◌, ◌≢◌, ℕ, ◌+◌, ◌-◌, ◌<◌, ◌≤◌, zero, suc, Bool, true, false, not, eqb, leb, ◌&&◌}
+use Rattle.std.proofs.Common.{◌||◌, List, [], ◌∷◌, ◌++◌, length, get_or, take, drop, Result, Ok, refl, sym, ap, ◌∙◌, subst, arith, inl, inr}
 use Rattle.std.specs.List.{list_all, list_any, slice_split, onto_first}
 use Rattle.std.specs.Prelude.{codes, IsTrue}
 use Rattle.std.specs.Str.{bytes_eq}
@@ -125,8 +126,8 @@ whole (x ∷ xs) h =
     elim (cases_Bool (eqb x 46)) [
       | inl is ↦ rw (eqb-true x 46 is) (whole xs (rw (slice_split-cons_yes (λ b. eqb b 46) x xs is) at h))
       | inr other ↦
-        let k = onto_first_spaceless x (segments xs) (rw (slice_split-cons_no (λ b. eqb b 46) x xs other) at h) in
-        rw k.0 (whole xs k.1)
+          let k = onto_first_spaceless x (segments xs) (rw (slice_split-cons_no (λ b. eqb b 46) x xs other) at h) in
+          rw k.0 (whole xs k.1)
     ]
 
 all_spaceless : (parts : List (List ℕ)) → list_all is_segment parts ≡ true → list_all spaceless parts ≡ true

@@ -119,7 +119,7 @@ unfoldable pub endpoint_in : List ℕ → Option (Host × ℕ)
 endpoint_in url =
     if bytes_eq (take 7 url) (codes "http://") && are_visible url && (slice_index (path_of url) 0 == 47)
     then (host_in (host_text (authority_of url)) >>= λ host.
-        option_map (λ port. (host, port)) (port_behind (port_text (authority_of url))))
+    option_map (λ port. (host, port)) (port_behind (port_text (authority_of url))))
     else None
 
 -- the target of a URL of at most 255 bytes and a token

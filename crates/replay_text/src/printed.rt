@@ -151,11 +151,7 @@ fn put_line(
 
 /// The lines of some outputs, each ended by a line feed, for the tenants of these names, numbered
 /// from 0. It fails only where memory does.
-pub fn print_lines(
-    alloc: Global,
-    names: &[Name],
-    outputs: &[Output],
-) -> Result<Vec<u8>, AllocError>
+pub fn print_lines(alloc: Global, names: &[Name], outputs: &[Output]) -> Result<Vec<u8>, AllocError>
     ensures { IfOk result (λ text. text.items ≡ printed_lines names.now outputs.now) }
 {
     let mut out = Vec::new(alloc);

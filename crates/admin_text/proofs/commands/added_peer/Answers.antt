@@ -1,4 +1,4 @@
-use Rattle.std.proofs.Common.{◌≡◌, Err, Ok, None, sym, ◌∙◌, rules}
+use Rattle.std.proofs.Common.{◌≡◌, Err, None, sym, ◌∙◌, rules}
 use Rattle.admin_text.specs.Commands.{added_peer}
 use Rattle.admin_text.proofs.Readings.{added_err, added_ok}
 use Rattle.admin_text.proofs.commands.added_peer.Goals as goal

@@ -1,5 +1,4 @@
-use Rattle.std.proofs.Common.{◌≡◌, Err, Ok, None, sym, ap, ◌∙◌, rules}
-use Rattle.admin_text.specs.Commands.{ordered}
+use Rattle.std.proofs.Common.{None, rules}
 use Rattle.admin_text.proofs.Readings.{command_peer, command_other, command_none}
 use Rattle.admin_text.proofs.commands.command_of.Goals as goal
 

@@ -1,4 +1,4 @@
-use Rattle.std.proofs.Common.{ℕ, List, Result, Option, subst}
+use Rattle.std.proofs.Common.{Result, Option, subst}
 use Rattle.common_types.specs.Outcomes.{GivesUnlessMemory}
 use Rattle.common_types.specs.Words.{words_of}
 use Rattle.ilp_addr.specs.Target.{Parts}

@@ -1,4 +1,4 @@
-use Rattle.std.proofs.Common.{◌≡◌, Err, Ok, sym, ◌∙◌, rules}
+use Rattle.std.proofs.Common.{◌≡◌, Err, sym, ◌∙◌, rules}
 use Rattle.admin_text.specs.Commands.{peer_at_target}
 use Rattle.admin_text.proofs.Readings.{at_target_err, at_target_ok}
 use Rattle.admin_text.proofs.commands.peer_at_target.Goals as goal

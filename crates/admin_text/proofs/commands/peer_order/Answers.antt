@@ -1,4 +1,4 @@
-use Rattle.std.proofs.Common.{◌≡◌, Err, Ok, None, sym, ◌∙◌, rules}
+use Rattle.std.proofs.Common.{None, sym, ◌∙◌, rules}
 use Rattle.admin_text.proofs.Readings.{order_add, order_other, order_none}
 use Rattle.admin_text.proofs.commands.peer_order.Goals as goal
 

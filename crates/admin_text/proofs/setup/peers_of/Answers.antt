@@ -1,4 +1,4 @@
-use Rattle.std.proofs.Common.{sym, ◌∙◌, rules}
+use Rattle.std.proofs.Common.{sym, ◌∙◌}
 use Rattle.admin_text.proofs.Peers.{with_one_more}
 use Rattle.admin_text.proofs.setup.peers_of.Goals as goal
 

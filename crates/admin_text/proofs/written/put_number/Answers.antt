@@ -1,4 +1,4 @@
-use Rattle.std.proofs.Common.{rules, sym, arith, ◌≡◌}
+use Rattle.std.proofs.Common.{rules, ◌≡◌}
 use Rattle.std.specs.Fmt.{decimal}
 use Rattle.admin_text.proofs.Spaces.{number_spaceless}
 use Rattle.admin_text.proofs.written.put_number.Goals as goal

@@ -1,4 +1,3 @@
-use Rattle.std.proofs.Common.{sym}
 use Rattle.admin_text.proofs.Spaces.{url_spaceless, target_token_spaceless}
 use Rattle.admin_text.proofs.written.put_target.Goals as goal
 
