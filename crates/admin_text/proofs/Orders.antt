@@ -67,7 +67,8 @@ limited_is laws words o h =
     let y = limits_took laws a.0.1 b.0 b.1 in
     let z = none_left b.0.1 d.0 d.1 in
     let e : SetLimits a.0.0 b.0.0 ≡ o = cc in
-    let w : words ≡ a.0.0 ∷ decimal b.0.0.cap ∷ decimal b.0.0.ceiling ∷ decimal b.0.0.credit ∷ [] = x.0 ∙ ap (λ (ws : List (List ℕ)). a.0.0 ∷ ws) (y.0 ∙ ap (λ (ws : List (List ℕ)). decimal b.0.0.cap ∷ decimal b.0.0.ceiling ∷ decimal b.0.0.credit ∷ ws) z) in
+    let w : words ≡ a.0.0 ∷ decimal b.0.0.cap ∷ decimal b.0.0.ceiling ∷ decimal b.0.0.credit ∷ [] =
+        x.0 ∙ ap (λ (ws : List (List ℕ)). a.0.0 ∷ ws) (y.0 ∙ ap (λ (ws : List (List ℕ)). decimal b.0.0.cap ∷ decimal b.0.0.ceiling ∷ decimal b.0.0.credit ∷ ws) z) in
     subst (IsSpelled (codes "peer" ∷ codes "limits" ∷ words)) e (ap (λ (ws : List (List ℕ)). codes "peer" ∷ codes "limits" ∷ ws) w, (x.1, y.1))
 
 bucketed_is : NumeralLaws → (words : List (List ℕ)) (o : Order) → bucketed_peer words ≡ Ok o → IsSpelled (codes "peer" ∷ codes "bucket" ∷ words) o
@@ -80,7 +81,8 @@ bucketed_is laws words o h =
     let y = bucket_took laws a.0.1 b.0 b.1 in
     let z = none_left b.0.1 d.0 d.1 in
     let e : SetBucket a.0.0 b.0.0 ≡ o = cc in
-    let w : words ≡ a.0.0 ∷ decimal b.0.0.burst ∷ decimal b.0.0.per_second ∷ [] = x.0 ∙ ap (λ (ws : List (List ℕ)). a.0.0 ∷ ws) (y.0 ∙ ap (λ (ws : List (List ℕ)). decimal b.0.0.burst ∷ decimal b.0.0.per_second ∷ ws) z) in
+    let w : words ≡ a.0.0 ∷ decimal b.0.0.burst ∷ decimal b.0.0.per_second ∷ [] =
+        x.0 ∙ ap (λ (ws : List (List ℕ)). a.0.0 ∷ ws) (y.0 ∙ ap (λ (ws : List (List ℕ)). decimal b.0.0.burst ∷ decimal b.0.0.per_second ∷ ws) z) in
     subst (IsSpelled (codes "peer" ∷ codes "bucket" ∷ words)) e (ap (λ (ws : List (List ℕ)). codes "peer" ∷ codes "bucket" ∷ ws) w, (x.1, y.1))
 
 added_is : NumeralLaws → (found : Option Parts) (words : List (List ℕ)) (o : Order) → AreForPeer found words → added_peer found words ≡ Ok o
@@ -101,10 +103,13 @@ added_is laws found words o has h =
     let p = limits_took laws d.0.1 l.0 l.1 in
     let q = bucket_took laws l.0.1 m.0 m.1 in
     let z = none_left m.0.1 n.0 n.1 in
-    let e : AddPeer (record { name = a.0.0.0; role = a.0.0.1; token = a.0.0.2; target = b.0.0; asset = c.0.0; scale = d.0.0; limits = l.0.0; bucket = m.0.0 }) ≡ o = order_is _ o _ refl n.2 in
+    let e : AddPeer (record { name = a.0.0.0; role = a.0.0.1; token = a.0.0.2; target = b.0.0; asset = c.0.0; scale = d.0.0; limits = l.0.0; bucket = m.0.0 }) ≡ o =
+        order_is _ o _ refl n.2 in
     let w3 : m.0.1 ≡ [] = z in
     let w2 : c.0.1 ≡ decimal d.0.0 ∷ decimal l.0.0.cap ∷ decimal l.0.0.ceiling ∷ decimal l.0.0.credit ∷ decimal m.0.0.burst ∷ decimal m.0.0.per_second ∷ [] =
-    s.0 ∙ ap (λ (ws : List (List ℕ)). decimal d.0.0 ∷ ws) (p.0 ∙ ap (λ (ws : List (List ℕ)). decimal l.0.0.cap ∷ decimal l.0.0.ceiling ∷ decimal l.0.0.credit ∷ ws) (q.0 ∙ ap (λ (ws : List (List ℕ)). decimal m.0.0.burst ∷ decimal m.0.0.per_second ∷ ws) w3)) in
+    s.0 ∙ ap (λ (ws : List (List ℕ)). decimal d.0.0 ∷ ws) (p.0
+    ∙ ap (λ (ws : List (List ℕ)). decimal l.0.0.cap ∷ decimal l.0.0.ceiling ∷ decimal l.0.0.credit ∷ ws) (q.0
+    ∙ ap (λ (ws : List (List ℕ)). decimal m.0.0.burst ∷ decimal m.0.0.per_second ∷ ws) w3)) in
     let w1 : a.0.1 ≡ b.0.0.url ∷ b.0.0.token ∷ c.0.0 ∷ decimal d.0.0 ∷ decimal l.0.0.cap ∷ decimal l.0.0.ceiling ∷ decimal l.0.0.credit ∷ decimal m.0.0.burst ∷ decimal m.0.0.per_second ∷ [] =
     t.0 ∙ ap (λ (ws : List (List ℕ)). b.0.0.url ∷ b.0.0.token ∷ ws) (y.0 ∙ ap (λ (ws : List (List ℕ)). c.0.0 ∷ ws) w2) in
     let w = x.0 ∙ ap (λ (ws : List (List ℕ)). a.0.0.0 ∷ role_word a.0.0.1 ∷ a.0.0.2 ∷ ws) w1 in
@@ -160,7 +165,8 @@ is_fraction : (num den : ℕ) → is_between 1 1_000_000_000_000 num ≡ true �
 is_fraction num den h k =
     let a = and_parts (leb 1 num) (leb num 1_000_000_000_000) h in
     let b = and_parts (leb 1 den) (leb den 1_000_000_000_000) k in
-    record { some_numerator = leb-true 1 num a.0; small_numerator = leb-true num 1_000_000_000_000 a.1; some_denominator = leb-true 1 den b.0; small_denominator = leb-true den 1_000_000_000_000 b.1 }
+    record { some_numerator = leb-true 1 num a.0; small_numerator = leb-true num 1_000_000_000_000 a.1; some_denominator = leb-true 1 den b.0;
+    small_denominator = leb-true den 1_000_000_000_000 b.1 }
 
 rate_is : NumeralLaws → (words : List (List ℕ)) (o : Order) → set_rate words ≡ Ok o → IsSpelled (codes "rate" ∷ codes "set" ∷ words) o
 unfolding set_rate
@@ -270,10 +276,14 @@ other_is : NumeralLaws → PrefixLaws → (verb : List ℕ) (words : List (List 
     → bytes_eq verb (codes "balances") ≡ u → bytes_eq verb (codes "roll") ≡ v
     → cond r (ordered (route_order words)) (cond s (ordered (rate_order words)) (cond t (ordered (settle_order words)) (cond u (alone command.Balances words) (cond v (alone command.Roll words) (Err Verb))))) ≡ Ok c
     → AreCommandWords (verb ∷ words) c
-other_is numbers prefixes verb words c true s t u v e1 e2 e3 e4 e5 h = rw ((bytes_eq-Decides verb (codes "route")).0 e1) (ordered_is (codes "route" ∷ words) (route_order words) c (route_order_is prefixes words) h)
-other_is numbers prefixes verb words c false true t u v e1 e2 e3 e4 e5 h = rw ((bytes_eq-Decides verb (codes "rate")).0 e2) (ordered_is (codes "rate" ∷ words) (rate_order words) c (rate_order_is numbers words) h)
-other_is numbers prefixes verb words c false false true u v e1 e2 e3 e4 e5 h = rw ((bytes_eq-Decides verb (codes "settle")).0 e3) (ordered_is (codes "settle" ∷ words) (settle_order words) c (settle_order_is numbers words) h)
-other_is numbers prefixes verb words c false false false true v e1 e2 e3 e4 e5 h = rw ((bytes_eq-Decides verb (codes "balances")).0 e4) (alone_is (codes "balances") command.Balances words c refl h)
+other_is numbers prefixes verb words c true s t u v e1 e2 e3 e4 e5 h =
+    rw ((bytes_eq-Decides verb (codes "route")).0 e1) (ordered_is (codes "route" ∷ words) (route_order words) c (route_order_is prefixes words) h)
+other_is numbers prefixes verb words c false true t u v e1 e2 e3 e4 e5 h =
+    rw ((bytes_eq-Decides verb (codes "rate")).0 e2) (ordered_is (codes "rate" ∷ words) (rate_order words) c (rate_order_is numbers words) h)
+other_is numbers prefixes verb words c false false true u v e1 e2 e3 e4 e5 h =
+    rw ((bytes_eq-Decides verb (codes "settle")).0 e3) (ordered_is (codes "settle" ∷ words) (settle_order words) c (settle_order_is numbers words) h)
+other_is numbers prefixes verb words c false false false true v e1 e2 e3 e4 e5 h =
+    rw ((bytes_eq-Decides verb (codes "balances")).0 e4) (alone_is (codes "balances") command.Balances words c refl h)
 other_is numbers prefixes verb words c false false false false true e1 e2 e3 e4 e5 h = rw ((bytes_eq-Decides verb (codes "roll")).0 e5) (alone_is (codes "roll") command.Roll words c refl h)
 other_is numbers prefixes verb words c false false false false false e1 e2 e3 e4 e5 h = absurd cc
 
@@ -284,7 +294,8 @@ unfolding other_command
 first_is numbers prefixes found verb words c true e has h =
     rw ((bytes_eq-Decides verb (codes "peer")).0 e) (ordered_is (codes "peer" ∷ words) (peer_order found words) c (λ o k. peer_order_is numbers found words o (has e) k) h)
 first_is numbers prefixes found verb words c false e has h =
-    other_is numbers prefixes verb words c (bytes_eq verb (codes "route")) (bytes_eq verb (codes "rate")) (bytes_eq verb (codes "settle")) (bytes_eq verb (codes "balances")) (bytes_eq verb (codes "roll")) refl refl refl refl refl h
+    other_is numbers prefixes verb words c (bytes_eq verb (codes "route")) (bytes_eq verb (codes "rate")) (bytes_eq verb (codes "settle")) (bytes_eq verb (codes "balances"))
+    (bytes_eq verb (codes "roll")) refl refl refl refl refl h
 
 -- what is read of words is spelled by them
 pub read_is_spelled : NumeralLaws → PrefixLaws → (found : Option Parts) (words : List (List ℕ)) (c : Command) → HasTarget found words
