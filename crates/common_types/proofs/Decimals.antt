@@ -1,6 +1,6 @@
 -- Numerals of this crate and the digits that std writes.
-use Rattle.std.proofs.Common.{◌≡◌, ◌≢◌, ℕ, ◌+◌, ◌-◌, ◌*◌, ◌^◌, ◌<◌, ◌≤◌, zero, suc, Bool, true, false, not, cond, eqb}
-use Rattle.std.proofs.Common.{leb, ◌&&◌, ◌||◌, List, [], ◌∷◌, length, fold, get_or, Result, Ok, Err, inl, inr, refl, sym, ap, ◌∙◌, subst, arith}
+use Rattle.std.proofs.Common.{◌≡◌, ℕ, ◌+◌, ◌-◌, ◌*◌, ◌^◌, ◌<◌, zero, suc, Bool, true, false, not, cond, eqb}
+use Rattle.std.proofs.Common.{leb, List, [], ◌∷◌, length, fold, get_or, Ok, Err, inl, inr, refl, sym, ap, ◌∙◌, subst, arith}
 use Rattle.std.specs.Fmt.{decimal}
 use Rattle.std.specs.List.{list_all}
 use Rattle.std.proofs.lemmas.Bool.{eq-eqb, eqb-true, and_parts, leb-true, le-leb, cases_Bool}
@@ -8,7 +8,6 @@ use Rattle.std.proofs.lemmas.Fmt.{digits_decimal, digits_value-decimal, decimal-
 use Rattle.std.proofs.lemmas.Str.Parse.{IsNumeralModel, IsDigitsTest, FoldsDigits, numerals_by_fold}
 use Rattle.common_types.specs.Numbers.{is_between}
 use Rattle.common_types.specs.Numerals.{is_digit, is_numeral, value_of, number_in}
-use Rattle.common_types.specs.declared.numerals.NumberFault.{NumberFault}
 use Rattle.common_types.specs.declared.numerals.NumberFault.TheVariants.{Malformed, Outside}
 
 tells_digits : IsDigitsTest (λ ds. list_all is_digit ds ≡ true)

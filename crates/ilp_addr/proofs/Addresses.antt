@@ -1,5 +1,5 @@
 -- Texts of IP addresses, read by std's functions.
-use Rattle.std.proofs.Common.{◌≡◌, ◌∷◌, ◌++◌, [], ℕ, List, length, Option, Some, None, refl, sym, ap, ◌∙◌, subst, append-nil, lit≤, ne_eqb, arith}
+use Rattle.std.proofs.Common.{◌≡◌, ◌∷◌, [], ℕ, List, length, Option, Some, None, refl, sym, ◌∙◌, subst, append-nil, lit≤, ne_eqb, arith}
 use Rattle.std.specs.Prelude.{option_map}
 use Rattle.std.specs.Net.Grammar.{IsIpv4Text, IsIpv6Text}
 use Rattle.std.specs.Net.Reader.{read_ipv4, read_ipv6, whole_value}
