@@ -113,7 +113,7 @@ limits_took laws words r h =
     let z = number_took laws 0 4_611_686_018_427_387_904 (omega arith) b.0.1 c.0 c.1 in
     let e : (record { cap = a.0.0; ceiling = b.0.0; credit = c.0.0 }, c.0.1) ≡ r = cc in
     let w : words ≡ decimal a.0.0 ∷ decimal b.0.0 ∷ decimal c.0.0 ∷ c.0.1 =
-        x.0 ∙ ap (λ (ws : List (List ℕ)). decimal a.0.0 ∷ ws) (y.0 ∙ ap (λ (ws : List (List ℕ)). decimal b.0.0 ∷ ws) z.0) in
+    x.0 ∙ ap (λ (ws : List (List ℕ)). decimal a.0.0 ∷ ws) (y.0 ∙ ap (λ (ws : List (List ℕ)). decimal b.0.0 ∷ ws) z.0) in
     subst (λ (q : PeerLimits × List (List ℕ)). (words ≡ decimal q.0.cap ∷ decimal q.0.ceiling ∷ decimal q.0.credit ∷ q.1) × AreLimits q.0) e (w, (x.1, y.1, z.1))
 
 pub bucket_took : NumeralLaws → (words : List (List ℕ)) (r : BucketTerms × List (List ℕ)) → bucket_taken words ≡ Ok r

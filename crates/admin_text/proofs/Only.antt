@@ -68,8 +68,11 @@ take_limits : NumeralLaws → (l : PeerLimits) (ws : List (List ℕ)) → AreLim
 unfolding limits_taken
 take_limits laws l ws h =
     let m : ℕ = 4_611_686_018_427_387_904 in
-    rw (take_number laws 0 4_611_686_018_427_387_904 l.cap (decimal l.ceiling ∷ decimal l.credit ∷ ws) (omega arith) h.0,
-    take_number laws 0 4_611_686_018_427_387_904 l.ceiling (decimal l.credit ∷ ws) (omega arith) h.1, take_number laws 0 4_611_686_018_427_387_904 l.credit ws (omega arith) h.2) refl
+    rw (
+      take_number laws 0 4_611_686_018_427_387_904 l.cap (decimal l.ceiling ∷ decimal l.credit ∷ ws) (omega arith) h.0,
+      take_number laws 0 4_611_686_018_427_387_904 l.ceiling (decimal l.credit ∷ ws) (omega arith) h.1,
+      take_number laws 0 4_611_686_018_427_387_904 l.credit ws (omega arith) h.2,
+    ) refl
 
 take_bucket : NumeralLaws → (b : BucketTerms) (ws : List (List ℕ)) → IsBucket b → bucket_taken (decimal b.burst ∷ decimal b.per_second ∷ ws) ≡ Ok (b, ws)
 unfolding bucket_taken
@@ -172,7 +175,7 @@ gave (Err e) read P h p = tt
 has_target : (words : List (List ℕ)) (c : Command) → AreCommandWords words c → (found : Option Parts) × HasTarget found words
 has_target words (command.Order (AddPeer t)) h =
     let behind : List (List ℕ) =
-        t.asset ∷ decimal t.scale ∷ decimal t.limits.cap ∷ decimal t.limits.ceiling ∷ decimal t.limits.credit ∷ decimal t.bucket.burst ∷ decimal t.bucket.per_second ∷ [] in
+    t.asset ∷ decimal t.scale ∷ decimal t.limits.cap ∷ decimal t.limits.ceiling ∷ decimal t.limits.credit ∷ decimal t.bucket.burst ∷ decimal t.bucket.per_second ∷ [] in
     (Some t.target, rw h.0 (λ _ _. rw (take_peer t.name t.role t.token (t.target.url ∷ t.target.token ∷ behind) h.1.name h.1.token) h.1.target))
 has_target words (command.Order (RemovePeer name)) h = (None, rw h.0 (λ _ e. absurd cc))
 has_target words (command.Order (SetLimits name l)) h = (None, rw h.0 (λ _ e. absurd cc))

@@ -68,7 +68,7 @@ limited_is laws words o h =
     let z = none_left b.0.1 d.0 d.1 in
     let e : SetLimits a.0.0 b.0.0 ≡ o = cc in
     let w : words ≡ a.0.0 ∷ decimal b.0.0.cap ∷ decimal b.0.0.ceiling ∷ decimal b.0.0.credit ∷ [] =
-        x.0 ∙ ap (λ (ws : List (List ℕ)). a.0.0 ∷ ws) (y.0 ∙ ap (λ (ws : List (List ℕ)). decimal b.0.0.cap ∷ decimal b.0.0.ceiling ∷ decimal b.0.0.credit ∷ ws) z) in
+    x.0 ∙ ap (λ (ws : List (List ℕ)). a.0.0 ∷ ws) (y.0 ∙ ap (λ (ws : List (List ℕ)). decimal b.0.0.cap ∷ decimal b.0.0.ceiling ∷ decimal b.0.0.credit ∷ ws) z) in
     subst (IsSpelled (codes "peer" ∷ codes "limits" ∷ words)) e (ap (λ (ws : List (List ℕ)). codes "peer" ∷ codes "limits" ∷ ws) w, (x.1, y.1))
 
 bucketed_is : NumeralLaws → (words : List (List ℕ)) (o : Order) → bucketed_peer words ≡ Ok o → IsSpelled (codes "peer" ∷ codes "bucket" ∷ words) o
@@ -82,7 +82,7 @@ bucketed_is laws words o h =
     let z = none_left b.0.1 d.0 d.1 in
     let e : SetBucket a.0.0 b.0.0 ≡ o = cc in
     let w : words ≡ a.0.0 ∷ decimal b.0.0.burst ∷ decimal b.0.0.per_second ∷ [] =
-        x.0 ∙ ap (λ (ws : List (List ℕ)). a.0.0 ∷ ws) (y.0 ∙ ap (λ (ws : List (List ℕ)). decimal b.0.0.burst ∷ decimal b.0.0.per_second ∷ ws) z) in
+    x.0 ∙ ap (λ (ws : List (List ℕ)). a.0.0 ∷ ws) (y.0 ∙ ap (λ (ws : List (List ℕ)). decimal b.0.0.burst ∷ decimal b.0.0.per_second ∷ ws) z) in
     subst (IsSpelled (codes "peer" ∷ codes "bucket" ∷ words)) e (ap (λ (ws : List (List ℕ)). codes "peer" ∷ codes "bucket" ∷ ws) w, (x.1, y.1))
 
 added_is : NumeralLaws → (found : Option Parts) (words : List (List ℕ)) (o : Order) → AreForPeer found words → added_peer found words ≡ Ok o
@@ -104,7 +104,7 @@ added_is laws found words o has h =
     let q = bucket_took laws l.0.1 m.0 m.1 in
     let z = none_left m.0.1 n.0 n.1 in
     let e : AddPeer (record { name = a.0.0.0; role = a.0.0.1; token = a.0.0.2; target = b.0.0; asset = c.0.0; scale = d.0.0; limits = l.0.0; bucket = m.0.0 }) ≡ o =
-        order_is _ o _ refl n.2 in
+    order_is _ o _ refl n.2 in
     let w3 : m.0.1 ≡ [] = z in
     let w2 : c.0.1 ≡ decimal d.0.0 ∷ decimal l.0.0.cap ∷ decimal l.0.0.ceiling ∷ decimal l.0.0.credit ∷ decimal m.0.0.burst ∷ decimal m.0.0.per_second ∷ [] =
     s.0 ∙ ap (λ (ws : List (List ℕ)). decimal d.0.0 ∷ ws) (p.0
@@ -165,8 +165,12 @@ is_fraction : (num den : ℕ) → is_between 1 1_000_000_000_000 num ≡ true �
 is_fraction num den h k =
     let a = and_parts (leb 1 num) (leb num 1_000_000_000_000) h in
     let b = and_parts (leb 1 den) (leb den 1_000_000_000_000) k in
-    record { some_numerator = leb-true 1 num a.0; small_numerator = leb-true num 1_000_000_000_000 a.1; some_denominator = leb-true 1 den b.0;
-    small_denominator = leb-true den 1_000_000_000_000 b.1 }
+    record {
+      some_numerator = leb-true 1 num a.0;
+      small_numerator = leb-true num 1_000_000_000_000 a.1;
+      some_denominator = leb-true 1 den b.0;
+      small_denominator = leb-true den 1_000_000_000_000 b.1;
+    }
 
 rate_is : NumeralLaws → (words : List (List ℕ)) (o : Order) → set_rate words ≡ Ok o → IsSpelled (codes "rate" ∷ codes "set" ∷ words) o
 unfolding set_rate

@@ -22,7 +22,7 @@ unfolding peers_of
 with_one_more front after values i value peer total lt is read pushed so_far =
     let first : drop i values ≡ value ∷ drop (i + 1) values = drop_more values i value lt ∙ ap (λ (v : Value). v ∷ drop (i + 1) values) (sym is) in
     let one : with_front front (peers_of (items_view (drop i values))) ≡ with_front after (peers_of (items_view (drop (i + 1) values))) =
-        rw (first, ← read, pushed) (regroup front peer (peers_of (items_view (drop (i + 1) values)))) in
+    rw (first, ← read, pushed) (regroup front peer (peers_of (items_view (drop (i + 1) values)))) in
     sym one ∙ so_far
   where
     regroup : (front : List NewPeer) (peer : NewPeer) (read : Option (List NewPeer)) → with_front front (read >>= λ peers. Some (peer ∷ peers)) ≡ with_front (front ++ peer ∷ []) read

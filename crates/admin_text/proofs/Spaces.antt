@@ -34,8 +34,11 @@ word_behind (b ∷ text) word h =
       | inl is ↦ rw (slice_split-cons_yes (λ c. eqb c 32) b (text ++ 32 ∷ word) is, slice_split-cons_yes (λ c. eqb c 32) b text is, word_behind text word h) refl
       | inr other ↦
           let some : 0 < length (words_of text) = omega (arith, length-slice_split (λ c. eqb c 32) text) in
-          rw (slice_split-cons_no (λ c. eqb c 32) b (text ++ 32 ∷ word) other, slice_split-cons_no (λ c. eqb c 32) b text other,
-          word_behind text word h) (onto_first-append b (words_of text) (word ∷ []) some)
+          rw (
+            slice_split-cons_no (λ c. eqb c 32) b (text ++ 32 ∷ word) other,
+            slice_split-cons_no (λ c. eqb c 32) b text other,
+            word_behind text word h,
+          ) (onto_first-append b (words_of text) (word ∷ []) some)
     ]
 
 pub one_more : (old pushed new word : List ℕ) → is_spaceless word ≡ true → pushed ≡ old ++ 32 ∷ [] → new ≡ pushed ++ word → words_of new ≡ words_of old ++ word ∷ []

@@ -12,11 +12,11 @@ use Rattle.admin_text.proofs.commands.parse_command.Goals as goal
 pub returns-clause-found : goal.returns-clause-found
 returns-clause-found c =
     let t : (found : Option Parts) × HasTarget found (words_of c.args.text.now) × GivesUnlessMemory (λ c. c) c.command_of.result (command_of found (words_of c.args.text.now)) =
-        rw (← c.of.ensures) c.command_of.ensures in
+    rw (← c.of.ensures) c.command_of.ensures in
     gave c.command_of.result _ _ t.2 (λ x h. read_is_spelled c.numerals.ensures c.prefixes.ensures t.0 (words_of c.args.text.now) x t.1 h)
 
 pub returns-clause-only : goal.returns-clause-only
 returns-clause-only c = λ x h.
     let t : (found : Option Parts) × HasTarget found (words_of c.args.text.now) × GivesUnlessMemory (λ c. c) c.command_of.result (command_of found (words_of c.args.text.now)) =
-        rw (← c.of.ensures) c.command_of.ensures in
+    rw (← c.of.ensures) c.command_of.ensures in
     subst (λ (r : Result Command TextFault). GivesUnlessMemory (λ c. c) c.command_of.result r) (spelled_is_read c.numerals.ensures c.targets.ensures t.0 (words_of c.args.text.now) x h t.1) t.2
