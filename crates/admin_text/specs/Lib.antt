@@ -1,1 +1,4 @@
 pub mod Setup
+pub mod Prefixes
+pub mod Spaces
+pub mod Commands

@@ -7,7 +7,7 @@ use Rattle.std.specs.Result.{result_ok}
 use Rattle.std.specs.Str.{bytes_eq, is_utf8}
 use Rattle.toml.specs.Data.{Data, Items, no_items, item, Members, get_member, as_str, as_integer, as_array, as_table}
 use Rattle.toml.specs.Parse.{parse_document}
-use Rattle.ilp_addr.specs.Address.{prefix_at}
+use Rattle.ilp_addr.specs.Target.{Parts, target_in}
 use Rattle.ilp_addr.specs.Timestamp.{last_moment}
 use Rattle.money_core.specs.Price.{rate_at}
 use Rattle.route_table.specs.Routes.{RouteMap}
@@ -22,7 +22,11 @@ use Rattle.tenant_core.specs.declared.terms.RateTerms.{RateTerms}
 use Rattle.tenant_core.specs.declared.terms.TenantTerms.{TenantTerms}
 use Rattle.tenant_core.specs.Setup.{is_tenant_setup}
 use Rattle.common_types.specs.OptionChain.{◌>>=◌}
+use Rattle.common_types.specs.Names.{is_name, is_asset_code}
+use Rattle.common_types.specs.Numbers.{is_between}
 use Rattle.common_types.specs.Text.{text_within}
+use Rattle.common_types.specs.Token.{is_token}
+use Rattle.admin_text.specs.Prefixes.{written_prefix}
 use Rattle.admin_text.specs.declared.setup.SetupFault.{SetupFault}
 use Rattle.admin_text.specs.declared.setup.SetupFault.TheVariants.{Toml, Version, Start, Tenant}
 use Rattle.admin_text.specs.declared.setup.Setup.{Setup}
@@ -40,6 +44,29 @@ string_under key members = get_member key members >>= as_str
 unfoldable pub text_under : ℕ → List ℕ → Members → Option (List ℕ)
 text_under room key members = string_under key members >>= text_within room
 
+-- a text that passes a test
+abbrev pub passing : (List ℕ → Bool) → List ℕ → Option (List ℕ)
+passing test text = if test text then Some text else None
+
+-- the name at a key
+unfoldable pub name_under : List ℕ → Members → Option (List ℕ)
+name_under key members = string_under key members >>= passing is_name
+
+-- the token at a key
+unfoldable pub token_under : List ℕ → Members → Option (List ℕ)
+token_under key members = string_under key members >>= passing is_token
+
+-- the code of an asset at a key
+unfoldable pub asset_under : List ℕ → Members → Option (List ℕ)
+asset_under key members = string_under key members >>= passing is_asset_code
+
+-- where a peer takes packets, and what is shown there
+unfoldable pub target_of : Members → Option Parts
+target_of t = do
+  url ← string_under (codes "url") t
+  token ← string_under (codes "out_token") t
+  target_in url token
+
 -- the integer at a key
 unfoldable pub integer_under : List ℕ → Members → Option ℤ
 integer_under key members = get_member key members >>= as_integer
@@ -47,6 +74,14 @@ integer_under key members = get_member key members >>= as_integer
 -- the number from 0 at a key, of at most so many bits
 unfoldable pub number_under : ℕ → List ℕ → Members → Option ℕ
 number_under bits key members = integer_under key members >>= natural bits
+
+-- a number from low to high
+abbrev pub within : ℕ → ℕ → ℕ → Option ℕ
+within low high n = if is_between low high n then Some n else None
+
+-- the number from low to high at a key
+unfoldable pub between_under : ℕ → ℕ → List ℕ → Members → Option ℕ
+between_under low high key members = number_under 64 key members >>= within low high
 
 -- what stands at a key, or the default where nothing does
 abbrev pub or_default : {A : Type 0} → A → Option Data → Option A → Option A
@@ -82,27 +117,26 @@ role_under key members = string_under key members >>= role_of
 -- how far a peer is trusted
 abbrev pub peer_limits_of : Members → Option PeerLimits
 peer_limits_of t = do
-  cap ← number_under 64 (codes "cap") t
-  ceiling ← number_under 64 (codes "ceiling") t
-  credit ← number_under 64 (codes "credit") t
+  cap ← between_under 0 4_611_686_018_427_387_904 (codes "cap") t
+  ceiling ← between_under 0 4_611_686_018_427_387_904 (codes "ceiling") t
+  credit ← between_under 0 4_611_686_018_427_387_904 (codes "credit") t
   Some (record { cap = cap; ceiling = ceiling; credit = credit })
 
 -- how many packets of a peer pass
 abbrev pub bucket_terms_of : Members → Option BucketTerms
 bucket_terms_of t = do
-  burst ← number_under 32 (codes "burst") t
-  per_second ← number_under 32 (codes "per_second") t
+  burst ← between_under 1 1_000_000 (codes "burst") t
+  per_second ← between_under 0 1_000_000 (codes "per_second") t
   Some (record { burst = burst; per_second = per_second })
 
 -- what is agreed with a peer
 unfoldable pub peer_terms_of : Members → Option PeerTerms
 peer_terms_of t = do
-  name ← text_under 32 (codes "name") t
+  name ← name_under (codes "name") t
   role ← role_under (codes "role") t
-  token ← text_under 64 (codes "token") t
-  url ← text_under 255 (codes "url") t
-  out_token ← text_under 64 (codes "out_token") t
-  asset ← text_under 16 (codes "asset") t
+  token ← token_under (codes "token") t
+  target ← target_of t
+  asset ← asset_under (codes "asset") t
   scale ← number_under 8 (codes "scale") t
   limits ← peer_limits_of t
   bucket ← bucket_terms_of t
@@ -110,8 +144,7 @@ peer_terms_of t = do
     name = name;
     role = role;
     token = token;
-    url = url;
-    out_token = out_token;
+    target = target;
     asset = asset;
     scale = scale;
     limits = limits;
@@ -151,12 +184,6 @@ peer_under peers key members = do
   name ← string_under key members
   place ← place_of_peer peers name
   short_number place
-
--- the prefix that a text spells: `*` is the empty one, which has no other spelling
-abbrev pub written_prefix : List ℕ → Option (List ℕ)
-written_prefix text =
-    if bytes_eq text (codes "*") then Some []
-    else (if bytes_eq text [] then None else result_ok (prefix_at text))
 
 -- routes with one more, unless its prefix has one already or there are 4,096
 abbrev pub with_route : RouteMap → List ℕ → ℕ → Option RouteMap
@@ -228,9 +255,9 @@ rates_of_tenant peers t = items_under (codes "rate") t >>= with_rates_of peers [
 -- what a tenant's table says, where its peers, its routes and its rates are these
 unfoldable pub terms_of : Members → List NewPeer → RouteMap → List RateTerms → Option TenantTerms
 terms_of t peers routes rates = do
-  name ← text_under 32 (codes "name") t
+  name ← name_under (codes "name") t
   address ← text_under 900 (codes "address") t
-  admin ← text_under 64 (codes "admin") t
+  admin ← token_under (codes "admin") t
   journal ← number_or 1024 (codes "journal") t
   margin ← number_or 1000 (codes "margin") t
   hold ← number_or 30000 (codes "hold") t

@@ -8,9 +8,10 @@ ghost use Rattle.tenant_core.specs.Routing.{is_for_pair};
 ghost use Rattle.toml.specs.Data.{get_member, as_integer, as_str, as_table};
 ghost use Rattle.toml.specs.View.{view, items_view, array_view, table_view};
 ghost use Rattle.admin_text.specs.Setup.{string_under, text_under, integer_under, number_under, integer_or, number_or};
+ghost use Rattle.admin_text.specs.Setup.{name_under, token_under, asset_under, target_of, between_under};
 ghost use Rattle.admin_text.specs.Setup.{array_under, items_under, role_of, role_under, peer_of};
 ghost use Rattle.admin_text.specs.Setup.{peer_limits_of, bucket_terms_of, peer_terms_of};
-ghost use Rattle.admin_text.specs.Setup.{peer_in, peers_of, peers_of_tenant, place_of_peer, peer_under, written_prefix};
+ghost use Rattle.admin_text.specs.Setup.{peer_in, peers_of, peers_of_tenant, place_of_peer, peer_under};
 ghost use Rattle.admin_text.specs.Setup.{with_route, with_route_of, with_route_in, with_routes_of, routes_of_tenant};
 ghost use Rattle.admin_text.specs.Setup.{rate_of, rate_in, with_rate, with_rates_of, rates_of_tenant, terms_of};
 ghost use Rattle.admin_text.specs.Setup.{tenant_of_table, and_no_other, tenant_of_items, tenant_of_array, start_of};
@@ -18,8 +19,9 @@ ghost use Rattle.admin_text.specs.Setup.{setup_of_table, document_of, setup_of};
 ghost use Rattle.toml.specs.Parse.{parse_document};
 ghost use Rattle.common_types.specs.Outcomes.{GivesUnlessMemory};
 
-use common_types::{Items, ReadError, Text};
-use ilp_addr::{Moment, Prefix};
+use crate::prefixes::written_prefix;
+use common_types::{AssetCode, Between, Items, Name, ReadError, Text, Token};
+use ilp_addr::{Moment, Prefix, Target};
 use money_core::Rate;
 use route_table::{RouteFault, Routes};
 use std::alloc::{AllocError, AllocFailed, Global};
@@ -79,6 +81,45 @@ fn text_under<const N: usize>(table: &Table, key: &str) -> Option<Text<N>>
     }
 }
 
+#[tactic(auto, unfolding(crate::specs::Setup::name_under))]
+fn name_under(table: &Table, key: &str) -> Option<Name>
+    ensures { result ≡ name_under key.now (table_view table.now) }
+{
+    match string_under(table, key) {
+        Some(text) => Name::new(text.as_bytes()),
+        None => None,
+    }
+}
+
+#[tactic(auto, unfolding(crate::specs::Setup::token_under))]
+fn token_under(table: &Table, key: &str) -> Option<Token>
+    ensures { result ≡ token_under key.now (table_view table.now) }
+{
+    match string_under(table, key) {
+        Some(text) => Token::new(text.as_bytes()),
+        None => None,
+    }
+}
+
+#[tactic(auto, unfolding(crate::specs::Setup::asset_under))]
+fn asset_under(table: &Table, key: &str) -> Option<AssetCode>
+    ensures { result ≡ asset_under key.now (table_view table.now) }
+{
+    match string_under(table, key) {
+        Some(text) => AssetCode::new(text.as_bytes()),
+        None => None,
+    }
+}
+
+#[tactic(auto, unfolding(crate::specs::Setup::target_of))]
+fn target_of(table: &Table) -> Option<Target>
+    ensures { result ≡ target_of (table_view table.now) }
+{
+    let url = string_under(table, "url")?;
+    let token = string_under(table, "out_token")?;
+    Target::new(url.as_bytes(), token.as_bytes())
+}
+
 #[tactic(auto, unfolding(crate::specs::Setup::integer_under))]
 fn integer_under(table: &Table, key: &str) -> Option<i64>
     ensures { result ≡ integer_under key.now (table_view table.now) }
@@ -100,21 +141,24 @@ fn u8_under(table: &Table, key: &str) -> Option<u8>
 }
 
 #[tactic(auto, unfolding(crate::specs::Setup::number_under))]
-fn u32_under(table: &Table, key: &str) -> Option<u32>
-    ensures { result ≡ number_under 32 key.now (table_view table.now) }
-{
-    match integer_under(table, key) {
-        Some(integer) => u32::try_from(integer).ok(),
-        None => None,
-    }
-}
-
-#[tactic(auto, unfolding(crate::specs::Setup::number_under))]
 fn u64_under(table: &Table, key: &str) -> Option<u64>
     ensures { result ≡ number_under 64 key.now (table_view table.now) }
 {
     match integer_under(table, key) {
         Some(integer) => u64::try_from(integer).ok(),
+        None => None,
+    }
+}
+
+#[tactic(auto, unfolding(crate::specs::Setup::between_under))]
+fn between_under<const LOW: u64, const HIGH: u64>(
+    table: &Table,
+    key: &str,
+) -> Option<Between<LOW, HIGH>>
+    ensures { result ≡ between_under LOW HIGH key.now (table_view table.now) }
+{
+    match u64_under(table, key) {
+        Some(number) => Between::new(number),
         None => None,
     }
 }
@@ -177,9 +221,9 @@ fn peer_limits_of(table: &Table) -> Option<PeerLimits>
     ensures { result ≡ peer_limits_of (table_view table.now) }
 {
     Some(PeerLimits {
-        cap: u64_under(table, "cap")?,
-        ceiling: u64_under(table, "ceiling")?,
-        credit: u64_under(table, "credit")?,
+        cap: between_under(table, "cap")?,
+        ceiling: between_under(table, "ceiling")?,
+        credit: between_under(table, "credit")?,
     })
 }
 
@@ -187,8 +231,8 @@ fn bucket_terms_of(table: &Table) -> Option<BucketTerms>
     ensures { result ≡ bucket_terms_of (table_view table.now) }
 {
     Some(BucketTerms {
-        burst: u32_under(table, "burst")?,
-        per_second: u32_under(table, "per_second")?,
+        burst: between_under(table, "burst")?,
+        per_second: between_under(table, "per_second")?,
     })
 }
 
@@ -197,12 +241,11 @@ fn peer_terms_of(table: &Table) -> Option<PeerTerms>
     ensures { result ≡ peer_terms_of (table_view table.now) }
 {
     Some(PeerTerms {
-        name: text_under(table, "name")?,
+        name: name_under(table, "name")?,
         role: role_under(table, "role")?,
-        token: text_under(table, "token")?,
-        url: text_under(table, "url")?,
-        out_token: text_under(table, "out_token")?,
-        asset: text_under(table, "asset")?,
+        token: token_under(table, "token")?,
+        target: target_of(table)?,
+        asset: asset_under(table, "asset")?,
         scale: u8_under(table, "scale")?,
         limits: peer_limits_of(table)?,
         bucket: bucket_terms_of(table)?,
@@ -270,21 +313,6 @@ fn peer_under(peers: &[NewPeer], table: &Table, key: &str) -> Option<PeerNo>
     let name = string_under(table, key)?;
     let place = place_of_peer(peers, name.as_bytes())?;
     u16::try_from(place).ok()
-}
-
-// The prefix that a text spells, `None` where it spells none.
-fn written_prefix(alloc: Global, text: &[u8]) -> Result<Option<Prefix>, AllocError>
-    ensures { IfOk result (λ prefix. prefix ≡ written_prefix text.now) }
-{
-    if text.is_empty() {
-        return Ok(None);
-    }
-    let spelled = if text == b"*".as_slice() { &[] } else { text };
-    match Prefix::parse(alloc, spelled) {
-        Ok(prefix) => Ok(Some(prefix)),
-        Err(ReadError::Fault(_)) => Ok(None),
-        Err(ReadError::Memory) => Err(AllocError),
-    }
 }
 
 // The routes with one more, `None` where there can be none.
@@ -453,9 +481,9 @@ fn terms_of(
     ensures { result ≡ terms_of (table_view table.now) peers.items routes rates.items }
 {
     Some(TenantTerms {
-        name: text_under(table, "name")?,
+        name: name_under(table, "name")?,
         address: text_under(table, "address")?,
-        admin: text_under(table, "admin")?,
+        admin: token_under(table, "admin")?,
         journal: u64_or(1024, table, "journal")?,
         margin: u64_or(1000, table, "margin")?,
         hold: u64_or(30_000, table, "hold")?,

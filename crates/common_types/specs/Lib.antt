@@ -1,6 +1,9 @@
 pub mod Text
 pub mod Numbers
+pub mod Numerals
+pub mod Words
 pub mod Token
+pub mod Names
 pub mod Outcomes
 pub mod OptionChain
 pub mod ResultChain

@@ -1,15 +1,25 @@
-//! Small types that the connector's crates share: texts in fixed room, lists and bytes that contracts see as lists, and
-//! the errors of readers that take memory.
+//! Small types that the connector's crates share: texts in fixed room, names, tokens and asset codes, numbers within
+//! limits, words and numerals of a text, lists and bytes that contracts see as lists, and the errors of readers that
+//! take memory.
 #![tactic(auto)]
 
+mod between;
 mod bytes;
 mod items;
+pub mod laws;
+mod names;
+mod numerals;
 mod read_error;
 mod text;
 mod token;
+mod words;
 
+pub use between::Between;
 pub use bytes::Bytes;
 pub use items::Items;
+pub use names::{AssetCode, MAX_ASSET_CODE, MAX_NAME, Name, Token, is_asset_code, is_name};
+pub use numerals::{NumberFault, are_digits, is_numeral, number_in, value_of};
 pub use read_error::ReadError;
 pub use text::Text;
 pub use token::{MAX_TOKEN, is_token};
+pub use words::{Words, first_word};

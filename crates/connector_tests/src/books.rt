@@ -1,7 +1,7 @@
 //! Books of tenants: the limits of their setups, and verdicts at the bounds of what was agreed.
 
-use common_types::{Items, Text};
-use ilp_addr::{Address, Moment, Prefix};
+use common_types::{AssetCode, Between, Items, Name, Text, Token};
+use ilp_addr::{Address, Moment, Prefix, Target};
 use money_core::Rate;
 use route_table::Routes;
 use std::alloc::Global;
@@ -28,8 +28,8 @@ struct Agreed {
     cap: u64,
     ceiling: u64,
     credit: u64,
-    burst: u32,
-    per_second: u32,
+    burst: u64,
+    per_second: u64,
     rate: (u64, u64),
 }
 
@@ -51,29 +51,36 @@ const GREATEST: Agreed = Agreed {
     rate: (1, 1),
 };
 
-fn text<const N: usize>(bytes: &[u8]) -> Result<Text<N>, Fail> {
-    Ok(Text::from_bytes(bytes).ok_or("a text that fits")?)
+fn name(bytes: &[u8]) -> Result<Name, Fail> {
+    Ok(Name::new(bytes).ok_or("a name")?)
+}
+
+fn token(bytes: &[u8]) -> Result<Token, Fail> {
+    Ok(Token::new(bytes).ok_or("a token")?)
+}
+
+fn number<const LOW: u64, const HIGH: u64>(n: u64) -> Result<Between<LOW, HIGH>, Fail> {
+    Ok(Between::new(n).ok_or("a number within limits")?)
 }
 
 // The peer of that number, which owes nothing yet: p0, p1 and so on, with tokens by the same names.
-fn new_peer(alloc: Global, number: u32, agreed: Agreed) -> Result<NewPeer, Fail> {
-    let name = format!(in alloc; "p{number}")?;
+fn new_peer(alloc: Global, place: u32, agreed: Agreed) -> Result<NewPeer, Fail> {
+    let called = format!(in alloc; "p{place}")?;
     let terms = PeerTerms {
-        name: text(name.as_bytes())?,
+        name: name(called.as_bytes())?,
         role: Role::Peer,
-        token: text(name.as_bytes())?,
-        url: text(b"http://127.0.0.1:7801/ilp")?,
-        out_token: text(b"out")?,
-        asset: text(b"USD")?,
+        token: token(called.as_bytes())?,
+        target: Target::new(b"http://127.0.0.1:7801/ilp", b"out").ok_or("a target")?,
+        asset: AssetCode::new(b"USD").ok_or("an asset")?,
         scale: 2,
         limits: PeerLimits {
-            cap: agreed.cap,
-            ceiling: agreed.ceiling,
-            credit: agreed.credit,
+            cap: number(agreed.cap)?,
+            ceiling: number(agreed.ceiling)?,
+            credit: number(agreed.credit)?,
         },
         bucket: BucketTerms {
-            burst: agreed.burst,
-            per_second: agreed.per_second,
+            burst: number(agreed.burst)?,
+            per_second: number(agreed.per_second)?,
         },
     };
     Ok(NewPeer { terms, balance: 0 })
@@ -112,9 +119,9 @@ fn tenant(
     let mut routes = Routes::new(alloc);
     routes.add(Prefix::parse(alloc, b"g.acme.bob")?, routed_to)?;
     Ok(TenantSetup::new(TenantTerms {
-        name: text(b"acme")?,
-        address: text(b"g.acme")?,
-        admin: text(b"root-a")?,
+        name: name(b"acme")?,
+        address: Text::from_bytes(b"g.acme").ok_or("an address")?,
+        admin: token(b"root-a")?,
         journal,
         margin: 1_000,
         hold: 30_000,

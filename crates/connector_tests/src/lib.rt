@@ -9,6 +9,8 @@ mod answers;
 #[cfg(test)]
 mod books;
 #[cfg(test)]
+mod commands;
+#[cfg(test)]
 mod devices;
 #[cfg(test)]
 mod http_devices;

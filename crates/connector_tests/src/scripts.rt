@@ -1,14 +1,14 @@
 //! Scripts and printed lines: the first bad line of each script, the steps of a good one, and a line for each output.
 
-use common_types::{Bytes, ReadError, Text};
+use common_types::{Bytes, Name, ReadError, Text};
 use floor_core::{Malformed, Output, Step};
 use replay_text::{ScriptFault, parse_script, print_lines};
 use std::alloc::Global;
 use std::test::Fail;
 
-fn acme(alloc: Global) -> Result<Vec<Text<32>>, Fail> {
+fn acme(alloc: Global) -> Result<Vec<Name>, Fail> {
     let mut names = Vec::new(alloc);
-    names.push(Text::from_bytes(b"acme").ok_or("a name")?)?;
+    names.push(Name::new(b"acme").ok_or("a name")?)?;
     Ok(names)
 }
 

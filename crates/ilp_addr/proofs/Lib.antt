@@ -6,3 +6,6 @@ pub mod CalendarText
 pub mod OneText
 pub mod Boundary
 pub mod Hosts
+pub mod Ends
+pub mod OneTarget
+pub mod Addresses

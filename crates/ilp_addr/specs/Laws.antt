@@ -1,6 +1,8 @@
 -- What holds of addresses, of timestamps and of moments, in the terms of their definitions.
-use Rattle.std.specs.Prelude.{◌≡◌, ◌≢◌, ◌≤◌, ◌∷◌, ◌↔◌, ℕ, List, [], pos, Ok, IsTrue}
+use Rattle.std.specs.Prelude.{◌≡◌, ◌≢◌, ◌≤◌, ◌∷◌, ◌↔◌, ℕ, List, [], pos, Ok, IsTrue, true, not, ◌==◌}
+use Rattle.std.specs.List.{list_all}
 use Rattle.ilp_addr.specs.Address.{IsAddress, address_at, IsPrefix, prefix_at, without_last_dot, Begins, begins_with}
+use Rattle.ilp_addr.specs.Target.{Parts, IsTarget}
 use Rattle.ilp_addr.specs.Timestamp.{IsTimestamp, is_timestamp, instant_of, moment_of, latest_expiry, timestamp_at}
 use Rattle.ilp_addr.specs.Timestamp.{timestamp_of}
 
@@ -23,6 +25,17 @@ pub record PrefixLaws : Type 0 where
   -- The test of segments says whether the segments of a prefix come first.
   pub begins_with_decides : (prefix parts : List (List ℕ))
       → IsTrue (begins_with prefix parts) ↔ Begins prefix parts
+
+-- Prefixes as words: each is one, and its own spelling.
+pub record PrefixWordLaws : Type 0 where
+  -- A prefix is read as itself.
+  pub prefix_is_itself : (prefix : List ℕ) → IsPrefix prefix → prefix_at prefix ≡ Ok prefix
+  -- It has no space.
+  pub prefix_has_no_space : (prefix : List ℕ) → IsPrefix prefix → list_all (λ b. not (b == 32)) prefix ≡ true
+
+-- Targets: a URL and a token have one target at most.
+abbrev pub TargetLaw : Type 0
+TargetLaw = (url token : List ℕ) (a b : Parts) → IsTarget url token a → IsTarget url token b → a ≡ b
 
 -- Timestamps: reading agrees with what they are, and each moment has one (RFC 0027, "ILP Prepare").
 pub record TimestampLaws : Type 0 where

@@ -1,12 +1,18 @@
 -- Where a peer listens and the token that it is shown: an `http` URL (RFC 9110, 4.2.1) and a bearer token (RFC 6750,
 -- 2.1).
-use Rattle.std.specs.Prelude.{◌≡◌, ◌≤◌, ℕ, ◌+◌, ◌-◌, ◌*◌, List, [], ◌∷◌, ◌++◌, length, take, drop, fold, slice_index}
-use Rattle.std.specs.Prelude.{codes}
-use Rattle.std.specs.Prelude.{Bool, not, ◌&&◌, ◌==◌, if◌then◌else◌, IsTrue, Option, Some, None}
+use Rattle.std.specs.Prelude.{◌≡◌, ◌≤◌, ℕ, ◌+◌, List, [], ◌∷◌, ◌++◌, length, take, drop, slice_index, codes}
+use Rattle.std.specs.Prelude.{Bool, ◌==◌, if◌then◌else◌, IsTrue, Option, Some, None, option_map, ◌&&◌, ◌-◌, nat_le}
 use Rattle.std.specs.List.{list_all, position_or_len}
 use Rattle.std.specs.Net.Grammar.{IsIpv4Text, IsIpv6Text}
+use Rattle.std.specs.Result.{result_ok}
+use Rattle.std.specs.Str.{bytes_eq}
+use Rattle.common_types.specs.OptionChain.{◌>>=◌}
 use Rattle.common_types.specs.Numbers.{is_between}
+use Rattle.common_types.specs.Numerals.{number_in}
 use Rattle.common_types.specs.Token.{is_token}
+use Rattle.std.specs.Net.Reader.{read_ipv4, read_ipv6, whole_value}
+use Rattle.std.specs.declared.net.ipv4_addr.Ipv4Addr.{Ipv4Addr}
+use Rattle.std.specs.declared.net.ipv6_addr.Ipv6Addr.{Ipv6Addr}
 use Rattle.ilp_addr.specs.declared.target.Host.{Host}
 use Rattle.ilp_addr.specs.declared.target.Host.TheVariants.{Localhost, V4, V6}
 
@@ -55,30 +61,66 @@ IsHost text (V4 address) = IsIpv4Text text address
 IsHost text (V6 address) =
     (literal : List ℕ) × (text ≡ 91 ∷ literal ++ 93 ∷ []) × IsIpv6Text literal address
 
--- the value of decimal digits
-abbrev pub value_of : List ℕ → ℕ
-value_of digits = fold (λ n d. n * 10 + (d - 48)) 0 digits
+-- the IPv4 address of four octets
+abbrev pub v4_of : List ℕ → Ipv4Addr
+v4_of octets = record { octets = octets }
 
--- 1 to 65,535 in decimal, with no zero in front
-abbrev pub is_port : List ℕ → Bool
-is_port digits =
-    list_all (is_between 48 57) digits && not (slice_index digits 0 == 48) && is_between 1 65_535 (value_of digits)
+-- the IPv4 address that a text spells
+unfoldable pub v4_in : List ℕ → Option Ipv4Addr
+v4_in text = option_map v4_of (whole_value (read_ipv4 text))
 
--- the port that stands behind a host with a colon, 80 where nothing does (RFC 9110, 4.2.1)
+-- the IPv6 address of eight segments
+abbrev pub v6_of : List ℕ → Ipv6Addr
+v6_of segments = record { segments = segments }
+
+-- the IPv6 address that a text spells
+unfoldable pub v6_in : List ℕ → Option Ipv6Addr
+v6_in text = option_map v6_of (whole_value (read_ipv6 text))
+
+-- the text between brackets
+abbrev pub literal_in : List ℕ → Option (List ℕ)
+literal_in text =
+    if (slice_index text 0 == 91) && (slice_index text (length text - 1) == 93) && nat_le 2 (length text)
+    then Some (take (length text - 2) (drop 1 text))
+    else None
+
+-- one address or the other
+abbrev pub host_or : Option Ipv4Addr → Option Ipv6Addr → Option Host
+host_or (Some a) other = Some (V4 a)
+host_or None (Some a) = Some (V6 a)
+host_or None None = None
+
+-- the host that a text spells
+unfoldable pub host_in : List ℕ → Option Host
+host_in text =
+    if bytes_eq text (codes "localhost") then Some Localhost
+    else host_or (v4_in text) (literal_in text >>= v6_in)
+
+-- the port that stands behind a host with a colon: 1 to 65,535 in decimal with no zero in front, or 80 where nothing
+-- stands there (RFC 9110, 4.2.1)
 abbrev pub port_behind : List ℕ → Option ℕ
 port_behind [] = Some 80
-port_behind (first ∷ digits) = if (first == 58) && is_port digits then Some (value_of digits) else None
+port_behind (first ∷ digits) = if first == 58 then result_ok (number_in 1 65_535 digits) else None
 
--- a path: a slash, and visible ASCII bytes behind it
-abbrev pub is_path : List ℕ → Bool
-is_path path = (slice_index path 0 == 47) && list_all (is_between 33 126) path
+-- each byte is visible ASCII (RFC 3986, 2)
+abbrev pub are_visible : List ℕ → Bool
+are_visible bytes = list_all (is_between 33 126) bytes
 
--- the URL names that host and that port
+-- the URL is visible ASCII, begins with `http://`, and names that host and that port before a path
 pub record Names (url : List ℕ) (host : Host) (port : ℕ) : Type 0 where
   pub scheme : take 7 url ≡ codes "http://"
   pub is_host : IsHost (host_text (authority_of url)) host
   pub is_port : port_behind (port_text (authority_of url)) ≡ Some port
-  pub is_path : IsTrue (is_path (path_of url))
+  pub is_path : slice_index (path_of url) 0 ≡ 47
+  pub visible : IsTrue (are_visible url)
+
+-- the host and the port that a URL names
+unfoldable pub endpoint_in : List ℕ → Option (Host × ℕ)
+endpoint_in url =
+    if bytes_eq (take 7 url) (codes "http://") && are_visible url && (slice_index (path_of url) 0 == 47)
+    then (host_in (host_text (authority_of url)) >>= λ host.
+    option_map (λ port. (host, port)) (port_behind (port_text (authority_of url))))
+    else None
 
 -- the target of a URL of at most 255 bytes and a token
 pub record IsTarget (url token : List ℕ) (target : Parts) : Type 0 where
@@ -87,3 +129,10 @@ pub record IsTarget (url token : List ℕ) (target : Parts) : Type 0 where
   pub short : length url ≤ 255
   pub names : Names url target.host target.port
   pub is_token : IsTrue (is_token token)
+
+-- the target of a URL and a token, where they have one
+unfoldable pub target_in : List ℕ → List ℕ → Option Parts
+target_in url token =
+    if is_token token && nat_le (length url) 255
+    then option_map (λ e. record { url = url; token = token; host = e.0; port = e.1 }) (endpoint_in url)
+    else None

@@ -1,6 +1,6 @@
-//! Laws of addresses, prefixes and timestamps, each the contract of a function that does nothing.
+//! Laws of addresses, prefixes, targets and timestamps, each the contract of a function that does nothing.
 
-ghost use Rattle.ilp_addr.specs.Laws.{AddressLaws, PrefixLaws, TimestampLaws};
+ghost use Rattle.ilp_addr.specs.Laws.{AddressLaws, PrefixLaws, PrefixWordLaws, TargetLaw, TimestampLaws};
 
 /// What is read as an address is one, and each address is read. (RFC 0015, "Address Requirements")
 pub fn addresses()
@@ -11,6 +11,16 @@ pub fn addresses()
 /// prefix begins an address. (RFC 0015, "Address Prefixes")
 pub fn prefixes()
     ensures { PrefixLaws }
+{}
+
+/// A prefix is read as itself, and has no space. (RFC 0015, "Address Prefixes")
+pub fn prefix_words()
+    ensures { PrefixWordLaws }
+{}
+
+/// A URL and a token have one target at most. (RFC 0035)
+pub fn targets()
+    ensures { TargetLaw }
 {}
 
 /// What is read as an expiry is a timestamp, and each timestamp is read; each moment has one

@@ -1,13 +1,16 @@
 //! Where a peer listens for packets, and the token that it is shown (RFC 0035).
 
 ghost use Rattle.std.specs.Prelude.{◌≡◌, ◌≢◌, ◌≤◌, ◌+◌, ◌∷◌, ◌++◌, ◌==◌, ℕ, List, [], length, slice_index, take, drop};
-ghost use Rattle.std.specs.Prelude.{min, if◌then◌else◌, codes, IsTrue, ◌↔◌, MatchOption, Some, None};
-ghost use Rattle.std.specs.List.{list_all, position, position_or_len};
-ghost use Rattle.common_types.specs.Numbers.{is_between};
+ghost use Rattle.std.specs.Prelude.{codes, IsTrue, ◌↔◌, MatchOption, option_copied};
+ghost use Rattle.std.specs.List.{position, position_or_len};
+ghost use Rattle.std.specs.Result.{result_ok};
+ghost use Rattle.common_types.specs.Numerals.{number_in};
 ghost use Rattle.ilp_addr.specs.Target.{Parts, IsTarget, Names, IsHost, up_to, from_first, authority_of, path_of};
-ghost use Rattle.ilp_addr.specs.Target.{host_len, value_of, is_port, port_behind, is_path, host_text, port_text};
+ghost use Rattle.ilp_addr.specs.Target.{host_len, port_behind, are_visible, host_text, port_text};
+ghost use Rattle.ilp_addr.specs.Target.{v4_in, v6_in, literal_in, host_in, endpoint_in, target_in};
+ghost use Rattle.std.specs.Net.Grammar.{IsIpv4Text, IsIpv6Text};
 
-use common_types::{MAX_TOKEN, Text, is_token};
+use common_types::{MAX_TOKEN, Text, is_token, number_in};
 use std::marker::Model;
 use std::net::{Ipv4Addr, Ipv6Addr};
 
@@ -39,6 +42,8 @@ impl Model for Target {
     ghost Value = { Parts };
 
     ghost view = { λ t. record { url = t.url; token = t.token; host = t.host; port = t.port } };
+
+    ghost invariant = { λ t. IsTarget t.url t.token (record { url = t.url; token = t.token; host = t.host; port = t.port }) };
 }
 
 impl Target {
@@ -46,9 +51,12 @@ impl Target {
     ///
     /// The URL has at most 255 bytes, `http` and `localhost` in lower case. Its host is `localhost`, an IPv4 literal,
     /// or an IPv6 literal in brackets and without a zone; its port is 1 to 65,535 without a zero in front, or left out
-    /// for 80; its path begins with a slash and is visible ASCII. The token is 1 to 64 letters, digits and `-._~+/=`.
+    /// for 80; its path begins with a slash; all of it is visible ASCII. The token is 1 to 64 letters, digits and `-._~+/=`.
+    #[tactic(auto, unfolding(crate::specs::Target::target_in))]
     pub fn new(url: &[u8], token: &[u8]) -> Option<Target>
-        ensures { MatchOption result ((t : Parts) → ¬ (IsTarget url.now token.now t)) (IsTarget url.now token.now) }
+        ensures target { MatchOption result ((t : Parts) → ¬ (IsTarget url.now token.now t))
+            (IsTarget url.now token.now) }
+        ensures exact { result ≡ target_in url.now token.now }
     {
         if !is_token(token) {
             return None;
@@ -76,6 +84,14 @@ impl Target {
             host: self.host,
             port: self.port,
         }
+    }
+
+    /// The URL. At most 255 bytes.
+    pub fn url(&self) -> &[u8]
+        ensures value { result.now ≡ self.now.url }
+        ensures target { IsTarget self.now.url self.now.token self.now }
+    {
+        self.url.as_bytes()
     }
 
     /// What the URL says between `http://` and the next slash: the host, and the port where the URL has one. At most
@@ -156,12 +172,14 @@ fn has_scheme(url: &[u8]) -> bool
 }
 
 // The host and the port that a URL names.
+#[tactic(auto, unfolding(crate::specs::Target::endpoint_in))]
 fn endpoint(url: &[u8]) -> Option<(Host, u16)>
-    ensures { MatchOption result ((host : Host) (port : ℕ) → ¬ (Names url.now host port))
+    ensures names { MatchOption result ((host : Host) (port : ℕ) → ¬ (Names url.now host port))
         (λ e. Names url.now e.0 e.1) }
+    ensures exact { result ≡ endpoint_in url.now }
 {
     let (authority, path) = split_before(behind_scheme(url), b'/');
-    if !has_scheme(url) || !is_path(path) {
+    if !has_scheme(url) || !are_visible(url) || !is_path(path) {
         return None;
     }
     let (host, port) = split_host(authority);
@@ -179,24 +197,18 @@ fn split_host(authority: &[u8]) -> (&[u8], &[u8])
 }
 
 fn is_path(path: &[u8]) -> bool
-    ensures { result ≡ is_path path.now }
+    ensures { IsTrue result ↔ (slice_index path.now 0 ≡ 47) }
 {
     match path {
-        [b'/', ..] => are_visible(path),
+        [b'/', ..] => true,
         _ => false,
     }
 }
 
 fn are_visible(bytes: &[u8]) -> bool
-    ensures { result ≡ list_all (is_between 33 126) bytes.now }
+    ensures { result ≡ are_visible bytes.now }
 {
     bytes.iter().all(|b| 33 <= *b && *b <= 126)
-}
-
-fn are_digits(bytes: &[u8]) -> bool
-    ensures { result ≡ list_all (is_between 48 57) bytes.now }
-{
-    bytes.iter().all(|b| 48 <= *b && *b <= 57)
 }
 
 fn host_len(authority: &[u8]) -> usize
@@ -216,26 +228,48 @@ fn is_localhost(text: &[u8]) -> bool
     text == b"localhost".as_slice()
 }
 
+#[tactic(auto, unfolding(crate::specs::Target::host_in))]
 fn read_host(text: &[u8]) -> Option<Host>
-    ensures { MatchOption result ((host : Host) → ¬ (IsHost text.now host)) (IsHost text.now) }
+    ensures host { MatchOption result ((host : Host) → ¬ (IsHost text.now host)) (IsHost text.now) }
+    ensures exact { result ≡ host_in text.now }
 {
     if is_localhost(text) {
         return Some(Host::Localhost);
     }
-    if let Ok(address) = Ipv4Addr::parse_ascii(text) {
+    if let Some(address) = v4_in(text) {
         return Some(Host::V4(address));
     }
-    let address = Ipv6Addr::parse_ascii(literal_in(text)?);
-    match address {
-        Ok(address) => Some(Host::V6(address)),
+    match v6_in(literal_in(text)?) {
+        Some(address) => Some(Host::V6(address)),
+        None => None,
+    }
+}
+
+fn v4_in(text: &[u8]) -> Option<Ipv4Addr>
+    ensures address { MatchOption result ((a : Ipv4Addr) → ¬ (IsIpv4Text text.now a)) (IsIpv4Text text.now) }
+    ensures exact { result ≡ v4_in text.now }
+{
+    match Ipv4Addr::parse_ascii(text) {
+        Ok(address) => Some(address),
+        Err(_) => None,
+    }
+}
+
+fn v6_in(text: &[u8]) -> Option<Ipv6Addr>
+    ensures address { MatchOption result ((a : Ipv6Addr) → ¬ (IsIpv6Text text.now a)) (IsIpv6Text text.now) }
+    ensures exact { result ≡ v6_in text.now }
+{
+    match Ipv6Addr::parse_ascii(text) {
+        Ok(address) => Some(address),
         Err(_) => None,
     }
 }
 
 // The text between brackets.
 fn literal_in(text: &[u8]) -> Option<&[u8]>
-    ensures { MatchOption result ((literal : List ℕ) → text.now ≢ 91 ∷ literal ++ 93 ∷ [])
+    ensures literal { MatchOption result ((literal : List ℕ) → text.now ≢ 91 ∷ literal ++ 93 ∷ [])
         (λ literal. text.now ≡ 91 ∷ literal.now ++ 93 ∷ []) }
+    ensures exact { option_copied result ≡ literal_in text.now }
 {
     match text {
         [b'[', literal @ .., b']'] => Some(literal),
@@ -254,36 +288,10 @@ fn port_behind(text: &[u8]) -> Option<u16>
 }
 
 fn port_of(digits: &[u8]) -> Option<u16>
-    ensures { result ≡ (if is_port digits.now then Some (value_of digits.now) else None) }
+    ensures { result ≡ result_ok (number_in 1 65_535 digits.now) }
 {
-    if !are_digits(digits) || begins_with_zero(digits) {
-        return None;
+    match number_in::<1, 65_535>(digits) {
+        Ok(port) => Some(port.get() as u16),
+        Err(_) => None,
     }
-    let value = value_up_to(digits, 65_536);
-    if 1 <= value && value <= 65_535 {
-        Some(value as u16)
-    } else {
-        None
-    }
-}
-
-fn begins_with_zero(digits: &[u8]) -> bool
-    ensures { result ≡ (slice_index digits.now 0 == 48) }
-{
-    match digits {
-        [b'0', ..] => true,
-        _ => false,
-    }
-}
-
-// The value of digits, or the bound where it is no less.
-fn value_up_to(digits: &[u8], bound: u32) -> u32
-    ensures { result ≡ min (value_of digits.now) bound }
-{
-    let mut value: u32 = 0;
-    for digit in digits {
-        let more = value as u64 * 10 + digit.saturating_sub(b'0') as u64;
-        value = more.min(bound as u64) as u32;
-    }
-    value
 }

@@ -64,6 +64,27 @@ impl Rate {
 
 impl Rate {
     ghost use Rattle.std.specs.Prelude.{◌≡◌};
+    ghost use Rattle.money_core.specs.Fraction.{IsFraction};
+
+    /// The outgoing units.
+    pub fn numerator(self) -> u64
+        ensures value { result ≡ self.numerator }
+        ensures fraction { IsFraction self.numerator self.denominator }
+    {
+        self.numerator
+    }
+
+    /// The incoming units that they are for.
+    pub fn denominator(self) -> u64
+        ensures value { result ≡ self.denominator }
+        ensures fraction { IsFraction self.numerator self.denominator }
+    {
+        self.denominator
+    }
+}
+
+impl Rate {
+    ghost use Rattle.std.specs.Prelude.{◌≡◌};
     ghost use Rattle.money_core.specs.Price.{price_of, greatest_amount, IsPrice, IsGreatestAmount};
 
     /// What `amount` incoming units cost in outgoing ones: the exact product, rounded down.

@@ -7,8 +7,10 @@ use Rattle.std.proofs.lemmas.Bool.{ltb-true, lt-ltb, and_parts}
 use Rattle.std.proofs.lemmas.Option.{cond_some, option_and_then_some}
 use Rattle.std.proofs.lemmas.List.Elements.{All-from_recursion}
 use Rattle.std.proofs.lemmas.List.Quantifiers.{position-Some}
-use Rattle.replay_text.specs.Script.{moment_spelled, given_of, answer_of, tick_of, step_behind, number_below, tenant_named, token_of, frame_of, load_of, decide_of, step_of_words, words_of, meaning_of}
-use Rattle.replay_text.specs.Script.{is_empty, is_numeral, value_of, is_skipped, then_steps}
+use Rattle.replay_text.specs.Script.{moment_spelled, given_of, answer_of, tick_of, step_behind, number_below, tenant_named, token_of, frame_of, load_of, decide_of, step_of_words, meaning_of}
+use Rattle.common_types.specs.Words.{words_of}
+use Rattle.common_types.specs.Numerals.{is_numeral, value_of}
+use Rattle.replay_text.specs.Script.{is_empty, is_skipped, then_steps}
 use Rattle.replay_text.specs.Script.{step_or_bad, steps_from, steps_of_script, lines_of}
 use Rattle.replay_text.specs.declared.script.Meaning.{Meaning}
 use Rattle.replay_text.specs.declared.script.Meaning.TheVariants.{Skipped, Runs, Bad}

@@ -1,5 +1,5 @@
 -- Replay scripts: ASCII lines of words, each line a step of a worker.
-use Rattle.std.specs.Prelude.{◌≡◌, ℕ, ◌+◌, ◌-◌, ◌*◌, List, [], ◌∷◌, ◌++◌, length, fold, Bool, true, false, not}
+use Rattle.std.specs.Prelude.{◌≡◌, ℕ, ◌+◌, List, [], ◌∷◌, ◌++◌, length, Bool, true, false, not}
 use Rattle.std.specs.Prelude.{◌&&◌, ◌||◌, ◌==◌, nat_lt, if◌then◌else◌, Option, Some, None}
 use Rattle.std.specs.Prelude.{option_map}
 use Rattle.std.specs.Prelude.{Result, Ok, Err, codes}
@@ -9,8 +9,9 @@ use Rattle.std.specs.Result.{result_ok}
 use Rattle.hex.specs.Hex.{decode_of}
 use Rattle.ilp_addr.specs.Timestamp.{last_moment}
 use Rattle.common_types.specs.OptionChain.{◌>>=◌}
-use Rattle.common_types.specs.Numbers.{is_between}
+use Rattle.common_types.specs.Numerals.{is_numeral, value_of}
 use Rattle.common_types.specs.Token.{is_token}
+use Rattle.common_types.specs.Words.{words_of}
 use Rattle.floor_core.specs.declared.step.Given.{Given}
 use Rattle.floor_core.specs.declared.step.Given.TheVariants.{Bytes, Fault}
 use Rattle.floor_core.specs.declared.step.Step.{Step}
@@ -35,23 +36,6 @@ without_empty_end (line ∷ next ∷ lines) = line ∷ without_empty_end (next �
 -- the lines of a text, without their ends
 abbrev pub lines_of : List ℕ → List (List ℕ)
 lines_of text = without_empty_end (slice_split (λ b. b == 10) text)
-
--- what stands between single spaces
-abbrev pub words_of : List ℕ → List (List ℕ)
-words_of line = slice_split (λ b. b == 32) line
-
--- the value of decimal digits
-abbrev pub value_of : List ℕ → ℕ
-value_of digits = fold (λ n d. n * 10 + (d - 48)) 0 digits
-
--- a decimal digit
-abbrev pub is_digit : ℕ → Bool
-is_digit b = is_between 48 57 b
-
--- `0`, or digits that do not begin with `0`
-abbrev pub is_numeral : List ℕ → Bool
-is_numeral [] = false
-is_numeral (first ∷ rest) = (is_empty rest || not (first == 48)) && list_all is_digit (first ∷ rest)
 
 -- the number that a word spells, if it does and the number is below the bound
 abbrev pub number_below : ℕ → List ℕ → Option ℕ

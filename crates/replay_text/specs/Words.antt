@@ -1,10 +1,5 @@
--- Words and lines taken off the front, seen as lists.
+-- Lists of so many words.
 use Rattle.std.specs.Prelude.{ℕ, List, [], ◌∷◌, Option, Some, None}
-
--- a first part and the parts of what follows it, if anything does
-abbrev pub parts : (List ℕ → List (List ℕ)) → List ℕ → Option (List ℕ) → List (List ℕ)
-parts split first None = first ∷ []
-parts split first (Some rest) = first ∷ split rest
 
 -- two words, where that is all
 abbrev pub two_of : List (List ℕ) → Option (List ℕ × List ℕ)

@@ -5,12 +5,12 @@ ghost use Rattle.std.specs.Fmt.{decimal};
 ghost use Rattle.hex.specs.Hex.{encode_lower};
 ghost use Rattle.replay_text.specs.Printed.{name_of, word_of, tick_text, line_text, line_of, printed_lines};
 
-use common_types::Text;
+use common_types::Name;
 use floor_core::{Malformed, Output};
 use std::alloc::{AllocError, Global};
 use tenant_core::BookFault;
 
-fn name_of(names: &[Text<32>], tenant: usize) -> &[u8]
+fn name_of(names: &[Name], tenant: usize) -> &[u8]
     ensures { result.now ≡ name_of names.now tenant }
 {
     match names.get(tenant) {
@@ -84,7 +84,7 @@ fn put_ticked(
 
 // The tenant's name, and words behind it.
 fn put_named(
-    names: &[Text<32>],
+    names: &[Name],
     tenant: usize,
     out: &mut Vec<u8>,
     words: &[u8],
@@ -97,7 +97,7 @@ fn put_named(
 
 fn put_text(
     alloc: Global,
-    names: &[Text<32>],
+    names: &[Name],
     out: &mut Vec<u8>,
     output: &Output,
 ) -> Result<(), AllocError>
@@ -138,7 +138,7 @@ fn put_text(
 #[tactic(auto, unfolding(crate::specs::Printed::line_of))]
 fn put_line(
     alloc: Global,
-    names: &[Text<32>],
+    names: &[Name],
     out: &mut Vec<u8>,
     output: &Output,
 ) -> Result<(), AllocError>
@@ -151,11 +151,7 @@ fn put_line(
 
 /// The lines of some outputs, each ended by a line feed, for the tenants of these names, numbered
 /// from 0. It fails only where memory does.
-pub fn print_lines(
-    alloc: Global,
-    names: &[Text<32>],
-    outputs: &[Output],
-) -> Result<Vec<u8>, AllocError>
+pub fn print_lines(alloc: Global, names: &[Name], outputs: &[Output]) -> Result<Vec<u8>, AllocError>
     ensures { IfOk result (λ text. text.items ≡ printed_lines names.now outputs.now) }
 {
     let mut out = Vec::new(alloc);

@@ -4,15 +4,16 @@ ghost use Rattle.std.specs.Prelude.{◌≡◌, ◌==◌, ◌<◌, ◌≤◌, ◌
 ghost use Rattle.std.specs.Prelude.{option_map, option_and_then, min, nat_lt, IfOk, All};
 ghost use Rattle.std.specs.List.{position, list_all};
 ghost use Rattle.std.specs.Str.{bytes_eq};
-ghost use Rattle.replay_text.specs.Script.{lines_of, words_of, is_digit, is_numeral, value_of, number_below};
+ghost use Rattle.replay_text.specs.Script.{lines_of, number_below};
+ghost use Rattle.common_types.specs.Words.{words_of};
 ghost use Rattle.replay_text.specs.Script.{tenant_named, token_of, frame_of, load_of, decide_of, answer_of, tick_of};
 ghost use Rattle.replay_text.specs.Script.{given_of, moment_spelled, step_behind, step_of_words};
 ghost use Rattle.replay_text.specs.Script.{is_skipped, meaning_of, steps_from, steps_of_script, AreSteps, IsFirstBad};
 ghost use Rattle.common_types.specs.Outcomes.{GivesUnlessMemory};
 ghost use Rattle.floor_core.specs.World.{FitsIn};
-ghost use Rattle.replay_text.specs.Words.{parts, two_of, three_of, four_of};
+ghost use Rattle.replay_text.specs.Words.{two_of, three_of, four_of};
 
-use common_types::{Bytes, ReadError, Text, is_token};
+use common_types::{Bytes, Name, ReadError, first_word, is_numeral, is_token, value_of};
 use floor_core::{Given, Step};
 use hex::FromHexError;
 use ilp_addr::Moment;
@@ -50,16 +51,6 @@ fn place_of(byte: u8, bytes: &[u8]) -> Option<usize>
     ensures { result ≡ position (λ b. b == byte) bytes.now }
 {
     bytes.iter().position(|b| *b == byte)
-}
-
-/// The first word of a line, and what follows the space after it.
-fn first_word(line: &[u8]) -> (&[u8], Option<&[u8]>)
-    ensures value { words_of line.now ≡ parts words_of result.0.now (option_copied result.1) }
-{
-    match place_of(b' ', line) {
-        Some(end) => (&line[..end], Some(&line[end + 1..])),
-        None => (line, None),
-    }
 }
 
 /// The first line of a text that is not empty, without its end, and what follows it.
@@ -104,34 +95,6 @@ fn four_words(text: &[u8]) -> Option<(&[u8], &[u8], &[u8], &[u8])>
     Some((first, second, third, fourth))
 }
 
-fn all_digits(word: &[u8]) -> bool
-    ensures { result ≡ list_all is_digit word.now }
-{
-    word.iter().all(|b| b'0' <= *b && *b <= b'9')
-}
-
-/// Whether a word is `0` or digits that do not begin with `0`.
-fn is_numeral(word: &[u8]) -> bool
-    ensures { result ≡ is_numeral word.now }
-{
-    match word {
-        [] => false,
-        [first, rest @ ..] => (rest.is_empty() || *first != b'0') && all_digits(word),
-    }
-}
-
-/// The value of digits, or the bound where it is no less.
-fn value_up_to(digits: &[u8], bound: u64) -> u64
-    ensures { result ≡ min (value_of digits.now) bound }
-{
-    let mut value: u64 = 0;
-    for digit in digits {
-        let more = value as u128 * 10 + digit.saturating_sub(b'0') as u128;
-        value = more.min(bound as u128) as u64;
-    }
-    value
-}
-
 /// The number that a word spells, if it does and the number is below the bound.
 fn number_below(bound: u64, word: &[u8]) -> Option<u64>
     ensures { result ≡ number_below bound word.now }
@@ -139,24 +102,26 @@ fn number_below(bound: u64, word: &[u8]) -> Option<u64>
     if !is_numeral(word) {
         return None;
     }
-    let value = value_up_to(word, bound);
-    if value < bound { Some(value) } else { None }
+    match u64::try_from(value_of(word)) {
+        Ok(value) if value < bound => Some(value),
+        _ => None,
+    }
 }
 
-fn is_name(name: &Text<32>, word: &[u8]) -> bool
+fn is_name(name: &Name, word: &[u8]) -> bool
     ensures { result ≡ bytes_eq name.now word.now }
 {
     name.as_bytes() == word
 }
 
-fn place_of_name(names: &[Text<32>], word: &[u8]) -> Option<usize>
+fn place_of_name(names: &[Name], word: &[u8]) -> Option<usize>
     ensures { result ≡ position (λ name. bytes_eq name word.now) names.now }
 {
     names.iter().position(|name| is_name(name, word))
 }
 
 /// The number of the first tenant of that name.
-fn tenant_named(names: &[Text<32>], word: &[u8]) -> Option<usize>
+fn tenant_named(names: &[Name], word: &[u8]) -> Option<usize>
     ensures { result ≡ tenant_named names.now word.now }
 {
     if word.is_empty() {
@@ -215,7 +180,7 @@ fn given_of(alloc: Global, word: &[u8]) -> Result<Option<Given>, AllocError>
 /// The step that the words behind `load` spell: W TENANT TOKEN HEX.
 fn load_of(
     alloc: Global,
-    names: &[Text<32>],
+    names: &[Name],
     workers: usize,
     words: &[u8],
 ) -> Result<Option<Step>, AllocError>
@@ -281,7 +246,7 @@ fn answer_of(alloc: Global, workers: usize, words: &[u8]) -> Result<Option<Step>
 }
 
 /// The step that the words behind `tick` spell: TENANT NOW.
-fn tick_of(names: &[Text<32>], words: &[u8]) -> Option<Step>
+fn tick_of(names: &[Name], words: &[u8]) -> Option<Step>
     ensures { result ≡ option_and_then (tick_of names.now) (two_of (words_of words.now)) }
 {
     let (tenant, now) = two_words(words)?;
@@ -293,7 +258,7 @@ fn tick_of(names: &[Text<32>], words: &[u8]) -> Option<Step>
 /// The step that a verb and the words behind it spell.
 fn step_behind(
     alloc: Global,
-    names: &[Text<32>],
+    names: &[Name],
     workers: usize,
     verb: &[u8],
     words: &[u8],
@@ -316,7 +281,7 @@ fn step_behind(
 /// The step that a line spells.
 fn step_of(
     alloc: Global,
-    names: &[Text<32>],
+    names: &[Name],
     workers: usize,
     line: &[u8],
 ) -> Result<Option<Step>, AllocError>
@@ -347,7 +312,7 @@ fn is_skipped(line: &[u8]) -> bool
 #[tactic(auto, unfolding(crate::specs::Script::meaning_of))]
 fn meaning_of(
     alloc: Global,
-    names: &[Text<32>],
+    names: &[Name],
     workers: usize,
     line: &[u8],
 ) -> Result<Meaning, AllocError>
@@ -367,7 +332,7 @@ fn meaning_of(
 
 fn numbered_steps(
     alloc: Global,
-    names: &[Text<32>],
+    names: &[Name],
     workers: usize,
     text: &[u8],
 ) -> Result<Vec<Step>, ReadError<ScriptFault>>
@@ -399,7 +364,7 @@ fn numbered_steps(
 /// fault `Line` has the number, from 1, of the first that is none of these.
 pub fn parse_script(
     alloc: Global,
-    names: &[Text<32>],
+    names: &[Name],
     workers: usize,
     text: &[u8],
 ) -> Result<Vec<Step>, ReadError<ScriptFault>>

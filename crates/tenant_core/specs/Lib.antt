@@ -1,4 +1,5 @@
 pub mod Limits
+pub mod Commands
 pub mod Key
 pub mod State
 pub mod Holds

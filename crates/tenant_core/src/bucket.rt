@@ -21,8 +21,8 @@ pub fn is_admitted(peer: &Peer, start: u64, records: &[Record], now: u64) -> boo
     let mut credit = Credit::since(
         start,
         peer.bucket,
-        terms.bucket.burst,
-        terms.bucket.per_second,
+        terms.bucket.burst.get() as u32,
+        terms.bucket.per_second.get() as u32,
         now,
     );
     for entered in records {

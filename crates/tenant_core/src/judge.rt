@@ -57,8 +57,8 @@ impl Standing<'_> {
         if stays_here(opening, key.destination) {
             return refuse(RejectCode::Unreachable);
         }
-        if key.amount > from.terms.limits.cap {
-            return refuse_over(key.amount, from.terms.limits.cap);
+        if key.amount > from.terms.limits.cap.get() {
+            return refuse_over(key.amount, from.terms.limits.cap.get());
         }
         let Some(to) = onward(opening, from.number, key.destination) else {
             return refuse(RejectCode::Unreachable);
@@ -85,10 +85,10 @@ impl Standing<'_> {
         ensures sooner { IsSooner result key.now.expiry }
     {
         let price = rate.price(key.amount);
-        if price > to.terms.limits.cap as u128 {
+        if price > to.terms.limits.cap.get() as u128 {
             return refuse_over(
                 key.amount,
-                rate.greatest(from.terms.limits.cap, to.terms.limits.cap),
+                rate.greatest(from.terms.limits.cap.get(), to.terms.limits.cap.get()),
             );
         }
         let expiry = outgoing_expiry(self.opening, key.expiry, clock);
@@ -118,7 +118,7 @@ impl Standing<'_> {
         owes_more(
             balance(self.opening, self.holds, from.number),
             held,
-            from.terms.limits.ceiling,
+            from.terms.limits.ceiling.get(),
         )
     }
 
@@ -130,7 +130,7 @@ impl Standing<'_> {
         is_owed_more(
             balance(self.opening, self.holds, to.number),
             held,
-            to.terms.limits.credit,
+            to.terms.limits.credit.get(),
         )
     }
 }

@@ -3,6 +3,7 @@
 
 mod book;
 mod bucket;
+mod command;
 mod faults;
 mod hold;
 mod journal;
@@ -20,6 +21,7 @@ mod terms;
 mod verdict;
 
 pub use book::Book;
+pub use command::{Amount, Command, Order, Pair, Side};
 pub use faults::{BookFault, HoldFault};
 pub use journal::{
     AnswerEntry, AnswerKey, DecideEntry, Entry, Outcome, PrepareKey, Record, TickEntry,
@@ -28,5 +30,5 @@ pub use opening::{Opening, Peer};
 pub use route_table::PeerNo;
 pub use row::Row;
 pub use setup::TenantSetup;
-pub use terms::{BucketTerms, NewPeer, PeerLimits, PeerTerms, RateTerms, Role, TenantTerms};
+pub use terms::{BucketTerms, Money, NewPeer, PeerLimits, PeerTerms, RateTerms, Role, TenantTerms};
 pub use verdict::{RejectCode, Verdict};

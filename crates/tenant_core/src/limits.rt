@@ -22,7 +22,7 @@ pub const MAX_MARGIN: u64 = 60_000;
 pub const MAX_HOLD: u64 = 600_000;
 
 /// The most packets that a full bucket admits at once.
-pub const MAX_BURST: u32 = 1_000_000;
+pub const MAX_BURST: u64 = 1_000_000;
 
 /// The most packets that flow into a bucket in a second.
-pub const MAX_PER_SECOND: u32 = 1_000_000;
+pub const MAX_PER_SECOND: u64 = 1_000_000;

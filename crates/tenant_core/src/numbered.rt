@@ -22,7 +22,7 @@ pub fn numbered(alloc: Global, peers: &[NewPeer]) -> Result<Items<Peer>, AllocEr
             number: number as PeerNo,
             terms: peer.terms.copy(),
             balance: peer.balance,
-            bucket: full_bucket(peer.terms.bucket.burst),
+            bucket: full_bucket(peer.terms.bucket.burst.get() as u32),
         });
     }
     Ok(Items::from_vec(list))

@@ -1,7 +1,7 @@
 //! What a period begins with.
 
 use crate::terms::{PeerTerms, RateTerms};
-use common_types::{Items, Text};
+use common_types::{Items, Name, Text};
 use route_table::{PeerNo, Routes};
 
 /// A peer under its number, as a period finds it.
@@ -21,7 +21,7 @@ pub struct Peer {
 pub struct Opening {
     /// The tenant's place among all tenants.
     pub tenant: usize,
-    pub name: Text<32>,
+    pub name: Name,
     pub address: Text<900>,
     /// How many places the journal has.
     pub journal: u64,

@@ -1,11 +1,11 @@
 //! What a peer owes, and what is held.
 
-use common_types::Text;
+use common_types::Name;
 
 /// A peer's money, in its units.
 #[derive(Drop)]
 pub struct Row {
-    pub name: Text<32>,
+    pub name: Name,
     /// What the peer owes, below 0 where it is owed.
     pub balance: i64,
     /// What packets from it hold until their answers.

@@ -64,13 +64,17 @@ fn tokens_differ(peers: &[NewPeer]) -> bool
 fn are_limits_within(limits: &PeerLimits) -> bool
     ensures { result ≡ are_limits_within limits.now }
 {
-    limits.cap <= MAX_MONEY && limits.ceiling <= MAX_MONEY && limits.credit <= MAX_MONEY
+    limits.cap.get() <= MAX_MONEY
+        && limits.ceiling.get() <= MAX_MONEY
+        && limits.credit.get() <= MAX_MONEY
 }
 
 fn is_bucket_within(bucket: &BucketTerms) -> bool
     ensures { result ≡ is_bucket_within bucket.now }
 {
-    1 <= bucket.burst && bucket.burst <= MAX_BURST && bucket.per_second <= MAX_PER_SECOND
+    1 <= bucket.burst.get()
+        && bucket.burst.get() <= MAX_BURST
+        && bucket.per_second.get() <= MAX_PER_SECOND
 }
 
 fn are_terms_within(terms: &PeerTerms) -> bool

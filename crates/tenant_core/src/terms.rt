@@ -2,7 +2,8 @@
 
 ghost use Rattle.std.specs.Prelude.{◌≡◌, IfOk};
 
-use common_types::{Items, Text};
+use common_types::{AssetCode, Between, Items, Name, Text, Token};
+use ilp_addr::Target;
 use money_core::Rate;
 use route_table::{PeerNo, Routes};
 use std::alloc::{AllocError, Global};
@@ -16,36 +17,38 @@ pub enum Role {
     Peer,
 }
 
+/// An amount of money in a peer's units, at most 2^62.
+pub type Money = Between<0, 4_611_686_018_427_387_904>;
+
 /// How far a peer is trusted, in its units.
 #[derive(Clone, Copy)]
 pub struct PeerLimits {
     /// The greatest amount of one packet.
-    pub cap: u64,
+    pub cap: Money,
     /// The most that the peer may owe.
-    pub ceiling: u64,
+    pub ceiling: Money,
     /// The most that may be owed to the peer.
-    pub credit: u64,
+    pub credit: Money,
 }
 
 /// How many packets of a peer pass: so many at once, and so many a second after that.
 #[derive(Clone, Copy)]
 pub struct BucketTerms {
-    pub burst: u32,
-    pub per_second: u32,
+    pub burst: Between<1, 1_000_000>,
+    pub per_second: Between<0, 1_000_000>,
 }
 
 /// What is agreed with a peer.
 #[derive(Drop)]
 pub struct PeerTerms {
-    pub name: Text<32>,
+    pub name: Name,
     pub role: Role,
     /// What the peer shows with the packets that it sends.
-    pub token: Text<64>,
+    pub token: Token,
     /// Where the peer takes packets, and what is shown there.
-    pub url: Text<255>,
-    pub out_token: Text<64>,
+    pub target: Target,
     /// The code of the peer's asset, and how many decimal places a unit of it has.
-    pub asset: Text<16>,
+    pub asset: AssetCode,
     pub scale: u8,
     pub limits: PeerLimits,
     pub bucket: BucketTerms,
@@ -60,8 +63,7 @@ impl PeerTerms {
             name: self.name.copy(),
             role: self.role,
             token: self.token.copy(),
-            url: self.url.copy(),
-            out_token: self.out_token.copy(),
+            target: self.target.copy(),
             asset: self.asset.copy(),
             scale: self.scale,
             limits: self.limits,
@@ -96,11 +98,11 @@ pub fn copied_rates(alloc: Global, rates: &[RateTerms]) -> Result<Items<RateTerm
 /// A tenant as its setup describes it.
 #[derive(Drop)]
 pub struct TenantTerms {
-    pub name: Text<32>,
+    pub name: Name,
     /// The tenant's own address.
     pub address: Text<900>,
     /// What an operator shows who governs the tenant.
-    pub admin: Text<64>,
+    pub admin: Token,
     /// How many places the journal of a period has.
     pub journal: u64,
     /// By how many milliseconds a packet's expiry is brought forward.

@@ -1,7 +1,6 @@
 use Rattle.std.proofs.Common.{◌≡◌, ◌∷◌, ◌∙◌, ap}
 use Rattle.std.specs.Prelude.{option_copied, option_map}
-use Rattle.replay_text.specs.Words.{parts}
-use Rattle.replay_text.specs.Script.{words_of}
+use Rattle.common_types.specs.Words.{parts, words_of}
 use Rattle.replay_text.proofs.Splits.{three_of-two}
 use Rattle.replay_text.proofs.script.three_words.Goals as goal
 

@@ -1,8 +1,7 @@
 use Rattle.std.proofs.Common.{◌≡◌, ◌<◌, ◌∷◌, length, sym, ap, ◌∙◌, eqb, arith}
 use Rattle.std.specs.Prelude.{option_copied}
 use Rattle.std.proofs.lemmas.List.Splits.{length-slice_split}
-use Rattle.replay_text.specs.Words.{parts}
-use Rattle.replay_text.specs.Script.{words_of}
+use Rattle.common_types.specs.Words.{parts, words_of}
 use Rattle.replay_text.proofs.Splits.{two_of-more}
 use Rattle.replay_text.proofs.script.two_words.Goals as goal
 

@@ -1,0 +1,6 @@
+use Rattle.std.proofs.Common.{◌≡◌, ◌^◌, min, take}
+use Rattle.common_types.specs.Numerals.{value_of}
+use Rattle.common_types.proofs.numerals.value_of.Given as goal
+
+abbrev pub invariant-loop-digit : goal.invariant-loop-digit
+invariant-loop-digit l = l.value ≡ min (value_of (take l.digit-index l.digits)) (2 ^ 64)

@@ -1,6 +1,0 @@
-use Rattle.std.proofs.Common.{◌≡◌, min, take}
-use Rattle.ilp_addr.specs.Target.{value_of}
-use Rattle.ilp_addr.proofs.target.value_up_to.Given as goal
-
-abbrev pub invariant-loop-digit : goal.invariant-loop-digit
-invariant-loop-digit l = l.value ≡ min (value_of (take l.digit-index l.digits)) l.bound
