@@ -286,7 +286,8 @@ removed_route words = do
 -- a name that is another than the first
 abbrev pub other_name_in : List ℕ → List ℕ → Result Ends TextFault
 other_name_in from to =
-    if is_name to then (if bytes_eq from to then Err Argument else Ok (record { from = from; to = to })) else Err Argument
+    if is_name to then (if bytes_eq from to then Err Argument else Ok (record { from = from; to = to }))
+    else Err Argument
 
 -- behind `rate set`
 unfoldable pub set_rate : List (List ℕ) → Result Order TextFault
@@ -368,7 +369,8 @@ command_of found (verb ∷ words) =
 abbrev pub AreForTarget : Option Parts → List (List ℕ) → Type 0
 AreForTarget found [] = Unit {0}
 AreForTarget found (url ∷ []) = Unit {0}
-AreForTarget found (url ∷ token ∷ words) = MatchOption found ((t : Parts) → ¬ (IsTarget url token t)) (IsTarget url token)
+AreForTarget found (url ∷ token ∷ words) =
+    MatchOption found ((t : Parts) → ¬ (IsTarget url token t)) (IsTarget url token)
 
 -- the words behind NAME, ROLE and TOKEN do, where these three are good
 abbrev pub AreForPeer : Option Parts → List (List ℕ) → Type 0

@@ -463,9 +463,9 @@ fn command_of(alloc: Global, words: Words<'_>) -> Result<Command, ReadError<Text
 ///
 /// A text is words with one space between two: `peer add NAME ROLE TOKEN URL OUTTOKEN ASSET SCALE CAP CEILING CREDIT
 /// BURST PERSECOND`, `peer remove NAME`, `peer limits NAME CAP CEILING CREDIT`, `peer bucket NAME BURST PERSECOND`,
-/// `route add PREFIX PEER`, `route remove PREFIX`, `rate set FROM TO NUM DEN`, `settle in NAME AMOUNT`, `settle out NAME
-/// AMOUNT`, `balances` or `roll`. A role is `child` or `peer`, the empty prefix `*`, and a number `0` or digits without a
-/// zero in front.
+/// `route add PREFIX PEER`, `route remove PREFIX`, `rate set FROM TO NUM DEN`, `settle in NAME AMOUNT`,
+/// `settle out NAME AMOUNT`, `balances` or `roll`. A role is `child` or `peer`, the empty prefix `*`, and a number `0`
+/// or digits without a zero in front.
 ///
 /// The first word that fails decides: the first one or two with `Verb`, a number outside its limits with `Range`, any
 /// other and one that is missing or too many with `Argument`. `Memory` comes for a prefix alone.

@@ -12,7 +12,8 @@ ghost use Rattle.tenant_core.specs.declared.command.Order.TheVariants as spec;
 ghost use Rattle.admin_text.specs.Prefixes.{prefix_word};
 ghost use Rattle.admin_text.specs.Spaces.{is_spaceless};
 ghost use Rattle.admin_text.specs.Commands.{role_word, side_word, limits_words, bucket_words, terms_words, order_words};
-ghost use Rattle.admin_text.specs.Commands.{command_words, AreOrderWords, AreLimits, IsBucket, AreTerms, IsOrder, IsCommandText};
+ghost use Rattle.admin_text.specs.Commands.{command_words, AreOrderWords, AreLimits, IsBucket, AreTerms, IsOrder};
+ghost use Rattle.admin_text.specs.Commands.{IsCommandText};
 
 use common_types::laws::numerals;
 use common_types::{AssetCode, Between, Name, Token};
@@ -154,7 +155,8 @@ fn removed_peer(alloc: Global, peer: &Name) -> Result<Vec<u8>, AllocError>
 
 fn set_limits(alloc: Global, peer: &Name, limits: PeerLimits) -> Result<Vec<u8>, AllocError>
     ensures { IfOk result (λ text.
-        (words_of text.items ≡ order_words (spec.SetLimits peer.now limits)) × IsOrder (spec.SetLimits peer.now limits)) }
+        (words_of text.items ≡ order_words (spec.SetLimits peer.now limits))
+        × IsOrder (spec.SetLimits peer.now limits)) }
 {
     let mut text = Vec::from_slice(alloc, b"peer limits")?;
     put_name(&mut text, peer)?;
@@ -164,7 +166,8 @@ fn set_limits(alloc: Global, peer: &Name, limits: PeerLimits) -> Result<Vec<u8>,
 
 fn set_bucket(alloc: Global, peer: &Name, bucket: BucketTerms) -> Result<Vec<u8>, AllocError>
     ensures { IfOk result (λ text.
-        (words_of text.items ≡ order_words (spec.SetBucket peer.now bucket)) × IsOrder (spec.SetBucket peer.now bucket)) }
+        (words_of text.items ≡ order_words (spec.SetBucket peer.now bucket))
+        × IsOrder (spec.SetBucket peer.now bucket)) }
 {
     let mut text = Vec::from_slice(alloc, b"peer bucket")?;
     put_name(&mut text, peer)?;
@@ -243,8 +246,8 @@ fn write_order(alloc: Global, order: &Order) -> Result<Vec<u8>, AllocError>
     Ok(text)
 }
 
-/// The text of a command, which [`parse_command`](crate::parse_command) reads as the same command: its prefix is written
-/// without a dot at the end.
+/// The text of a command, which [`parse_command`](crate::parse_command) reads as the same command: its prefix is
+/// written without a dot at the end.
 ///
 /// It fails only where memory does.
 pub fn write_command(alloc: Global, command: &Command) -> Result<Vec<u8>, AllocError>

@@ -9,11 +9,14 @@ use std::alloc::Global;
 use std::test::Fail;
 
 // 1500 units to g.acme.bob.x until 2030-01-01T00:00:09Z.
-const SENT: &[u8; 73] =
-    b"\x0cG\0\0\0\0\0\0\x05\xdc20300101000009000fhz\xad\xf8b\xbdwl\x8f\xc1\x8b\x8e\x9f\x8e \x08\x97\x14\x85n\xe23\xb3\x90\x2aY\x1d\x0d_\x29\x25\x0cg.acme.bob.x\0";
+const SENT: &[u8; 73] = b"\x0cG\0\0\0\0\0\0\x05\xdc20300101000009000\
+        fhz\xad\xf8b\xbdwl\x8f\xc1\x8b\x8e\x9f\x8e\
+        \x20\x08\x97\x14\x85n\xe23\xb3\x90\x2aY\x1d\x0d_\x29\x25\x0cg.acme.bob.x\0";
 
 const HEAD: &[u8] =
-    b"POST /ilp HTTP/1.1\r\nHost: 127.0.0.1:7802\r\nAuthorization: Bearer out-bob\r\nAccept: application/octet-stream\r\nContent-Type: application/octet-stream\r\nContent-Length: 73\r\nConnection: close\r\n\r\n";
+    b"POST /ilp HTTP/1.1\r\nHost: 127.0.0.1:7802\r\nAuthorization: Bearer out-bob\r\n\
+        Accept: application/octet-stream\r\nContent-Type: application/octet-stream\r\n\
+        Content-Length: 73\r\nConnection: close\r\n\r\n";
 
 // A Fulfill with 32 zero bytes and no data.
 const FULFILLED: &[u8; 35] =

@@ -563,7 +563,8 @@ static WAITING: [(&[u8], usize); 4] = [
         5,
     ),
     (
-        b"Expect: x\r\nContent-Length: 5\r\nAuthorization: Bearer tok-Bob\r\nExpect: 100-continue\r\nExpect: 100-continue\r\n",
+        b"Expect: x\r\nContent-Length: 5\r\nAuthorization: Bearer tok-Bob\r\n\
+            Expect: 100-continue\r\nExpect: 100-continue\r\n",
         5,
     ),
     (

@@ -1,10 +1,12 @@
 -- What a link sends to a peer, and what the peer's answer means (RFC 0035).
-use Rattle.std.specs.Prelude.{◌≡◌, ◌≢◌, ◌⊎◌, ℕ, suc, zero, List, ◌++◌, length, take, Bool, ◌==◌, nat_lt, if◌then◌else◌, codes, decimal, Option, Some, Result, Ok, Err, IsTrue, IsFalse}
+use Rattle.std.specs.Prelude.{◌≡◌, ◌≢◌, ◌⊎◌, ℕ, suc, zero, List, ◌++◌, length, take, Bool, ◌==◌, nat_lt, if◌then◌else◌}
+use Rattle.std.specs.Prelude.{codes, decimal, Option, Some, Result, Ok, Err, IsTrue, IsFalse}
 use Rattle.common_types.specs.Numbers.{is_between}
 use Rattle.ilp_addr.specs.Target.{Parts, authority_of, path_of}
 use Rattle.httparse.specs.Grammar.{ResponseHead}
 use Rattle.http_link.specs.declared.posting.PostFault.{PostFault}
-use Rattle.http_link.specs.declared.posting.PostFault.TheVariants.{Read, Write, Turns, Cut, Head, Status, Unframed, Size}
+use Rattle.http_link.specs.declared.posting.PostFault.TheVariants.{Read, Write, Turns, Cut, Head, Status, Unframed}
+use Rattle.http_link.specs.declared.posting.PostFault.TheVariants.{Size}
 use Rattle.http_link.specs.declared.streams.LinkFault.{LinkFault}
 use Rattle.http_link.specs.declared.streams.LinkFault.TheVariants as links
 use Rattle.http_link.specs.Fields.{Standing, missing, once, repeated, standing, value_of, is_length}

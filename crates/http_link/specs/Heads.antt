@@ -1,6 +1,7 @@
 -- What a stream begins with: a head within our limits (RFC 9112, 2.1).
 use Rattle.std.specs.Prelude.{◌≤◌, ℕ, List, length, map}
-use Rattle.httparse.specs.Grammar.{RequestHead, ReadsRequest, print_request, ResponseHead, ReadsResponse, print_response, status_code}
+use Rattle.httparse.specs.Grammar.{RequestHead, ReadsRequest, print_request, ResponseHead, ReadsResponse}
+use Rattle.httparse.specs.Grammar.{print_response, status_code}
 use Rattle.httparse.specs.Spans.{name_and_value}
 use Rattle.http_link.specs.Fields.{Line}
 

@@ -1,5 +1,6 @@
 -- What the head of a request asks for, or the status that refuses it: checks in the order in which they are made.
-use Rattle.std.specs.Prelude.{ℕ, List, length, take, drop, slice_index, Bool, ◌&&◌, ◌||◌, ◌==◌, nat_lt, if◌then◌else◌, codes}
+use Rattle.std.specs.Prelude.{ℕ, List, length, take, drop, slice_index, Bool, ◌&&◌, ◌||◌, ◌==◌, nat_lt, if◌then◌else◌}
+use Rattle.std.specs.Prelude.{codes}
 use Rattle.std.specs.Prelude.{Option, Some, None, Result, Ok, Err}
 use Rattle.std.specs.List.{list_any}
 use Rattle.std.specs.Str.{bytes_eq, str_eq_ignore_ascii_case}
@@ -7,7 +8,8 @@ use Rattle.common_types.specs.ResultChain.{◌>>=◌}
 use Rattle.common_types.specs.Token.{is_token}
 use Rattle.http_link.specs.declared.request.Kind.{Kind}
 use Rattle.http_link.specs.declared.request.Kind.TheVariants.{Ilp, Admin}
-use Rattle.http_link.specs.Fields.{Line, values_of, Standing, missing, once, repeated, standing, has_element, value_of, is_length, skip_spaces}
+use Rattle.http_link.specs.Fields.{Line, values_of, Standing, missing, once, repeated, standing, has_element, value_of}
+use Rattle.http_link.specs.Fields.{is_length, skip_spaces}
 use Rattle.http_link.specs.Heads.{Head}
 
 -- the most bytes of a request's body

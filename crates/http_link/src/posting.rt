@@ -74,7 +74,8 @@ impl From<LinkFault> for PostFault {
 /// Errors: `Read` and `Write` where the device failed in this call; `Turns` where 50,000 reads or writes did not
 /// suffice; of what the peer answers, `Head` for a malformed head, one of more than 8,192 bytes or 64 lines, or the
 /// fifth of status 1xx, `Status` for a status other than 200, `Unframed` for a coded body or a bad or repeated length,
-/// `Size` for a body of more than 34,000 bytes, and `Cut` where the stream ends inside a head or before a stated length.
+/// `Size` for a body of more than 34,000 bytes, and `Cut` where the stream ends inside a head or before a stated
+/// length.
 pub fn post<R: Read + Device, W: Write + Device>(
     r: &mut R,
     w: &mut W,

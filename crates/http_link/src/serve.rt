@@ -46,7 +46,8 @@ struct Failures {
 /// head. Nothing behind its body is taken from the reader.
 ///
 /// Errors: `Read` and `Write` where the device failed in this call, and `Turns` where 50,000 reads or writes did not
-/// suffice. Each ends the connection. Before a `Write` or a `Turns` the service may have been asked, before a `Read` not.
+/// suffice. Each ends the connection. Before a `Write` or a `Turns` the service may have been asked, before a `Read`
+/// not.
 pub fn serve_one<R: Read + Device, W: Write + Device, S: Service>(
     r: &mut R,
     w: &mut W,

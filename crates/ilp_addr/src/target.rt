@@ -43,7 +43,8 @@ impl Model for Target {
 
     ghost view = { λ t. record { url = t.url; token = t.token; host = t.host; port = t.port } };
 
-    ghost invariant = { λ t. IsTarget t.url t.token (record { url = t.url; token = t.token; host = t.host; port = t.port }) };
+    ghost invariant = { λ t. IsTarget t.url t.token
+        (record { url = t.url; token = t.token; host = t.host; port = t.port }) };
 }
 
 impl Target {
@@ -51,7 +52,8 @@ impl Target {
     ///
     /// The URL has at most 255 bytes, `http` and `localhost` in lower case. Its host is `localhost`, an IPv4 literal,
     /// or an IPv6 literal in brackets and without a zone; its port is 1 to 65,535 without a zero in front, or left out
-    /// for 80; its path begins with a slash; all of it is visible ASCII. The token is 1 to 64 letters, digits and `-._~+/=`.
+    /// for 80; its path begins with a slash; all of it is visible ASCII. The token is 1 to 64 letters, digits and
+    /// `-._~+/=`.
     #[tactic(auto, unfolding(crate::specs::Target::target_in))]
     pub fn new(url: &[u8], token: &[u8]) -> Option<Target>
         ensures target { MatchOption result ((t : Parts) → ¬ (IsTarget url.now token.now t))
