@@ -6,7 +6,8 @@ use Rattle.std.proofs.lemmas.List.{length-append}
 use Rattle.std.proofs.lemmas.List.Folds.{list_all-append}
 use Rattle.common_types.specs.Numbers.{is_between}
 use Rattle.ilp_addr.specs.Address.{segments, is_segment_byte, is_segment, AreAddressParts, IsAddress}
-use Rattle.ildcp_core.specs.Client.{is_name_byte, is_name, is_code_byte, is_code, Client, IsClient, client_address}
+use Rattle.common_types.specs.Names.{is_name_byte, is_asset_byte}
+use Rattle.ildcp_core.specs.Client.{Client, IsClient, client_address}
 
 spread : (a c d u t m : Bool) → (a || d || m) ≡ true → (a || c || d || u || t || m) ≡ true
 spread true c d u t m h = refl
@@ -78,14 +79,12 @@ pub record Limits (c : Client) : Type 0 where
 
 pub limits_of : (c : Client) → IsClient c → Limits c
 limits_of c h =
-    let outer = and_parts (leb (length c.tenant) 900 && is_name c.name) (is_code c.code) h.limits in
-    let inner = and_parts (leb (length c.tenant) 900) (is_name c.name) outer.0 in
-    let name = and_parts (is_between 1 32 (length c.name)) (list_all is_name_byte c.name) inner.1 in
+    let name = and_parts (is_between 1 32 (length c.name)) (list_all is_name_byte c.name) h.name in
     let size = and_parts (leb 1 (length c.name)) (leb (length c.name) 32) name.0 in
-    let code = and_parts (is_between 1 16 (length c.code)) (list_all is_code_byte c.code) outer.1 in
+    let code = and_parts (is_between 1 16 (length c.code)) (list_all is_asset_byte c.code) h.code in
     let least = and_parts (leb 1 (length c.code)) (leb (length c.code) 16) code.0 in
     record {
-      tenant = leb-true (length c.tenant) 900 inner.0;
+      tenant = h.short;
       some = leb-true 1 (length c.name) size.0;
       name = leb-true (length c.name) 32 size.1;
       bytes = name.1;

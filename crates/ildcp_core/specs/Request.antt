@@ -1,5 +1,5 @@
 -- Which Prepares may ask for the configuration (RFC 0031).
-use Rattle.std.specs.Prelude.{ℕ, Bool, true, false, not, ◌==◌, List, replicate, Result, Ok, Err, if◌then◌else◌}
+use Rattle.std.specs.Prelude.{ℕ, Bool, true, false, not, ◌==◌, List, codes, replicate, Result, Ok, Err, if◌then◌else◌}
 use Rattle.std.specs.Str.{bytes_eq}
 use Rattle.sha2.specs.Sha256.{sha256}
 use Rattle.ildcp_core.specs.declared.child.Role.{Role}
@@ -14,6 +14,10 @@ config_condition = sha256 (replicate 32 0)
 -- A condition is that one.
 abbrev pub is_config_condition : List ℕ → Bool
 is_config_condition condition = bytes_eq condition config_condition
+
+-- An address is `peer.config` (RFC 0031).
+abbrev pub is_config : List ℕ → Bool
+is_config destination = bytes_eq destination (codes "peer.config")
 
 -- A peer is a child.
 abbrev pub is_child : Role → Bool

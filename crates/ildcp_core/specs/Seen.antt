@@ -6,7 +6,7 @@ use Rattle.ildcp_core.specs.Client.{Client}
 abbrev pub client_of : ChildParts → Client
 client_of p = record {
   role = p.role;
-  tenant = p.tenant;
+  tenant = p.tenant.now;
   name = p.name.now;
   scale = p.scale;
   code = p.code.now;

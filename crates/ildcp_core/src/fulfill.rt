@@ -39,9 +39,9 @@ fn put_configuration(room: &mut [u8], child: &Child<'_>) -> usize
     laws_below();
     configurations();
     let parts = child.parts();
-    let at = put_address(room, parts.tenant.bytes(), parts.name);
+    let at = put_address(room, parts.tenant.as_bytes(), parts.name.as_bytes());
     put_bytes(room, at, &[parts.scale]);
-    put_octets(room, at + 1, parts.code)
+    put_octets(room, at + 1, parts.code.as_bytes())
 }
 
 /// Writes the answer to a child that asks for its configuration at the front of `out`, a Fulfill of 32

@@ -12,7 +12,7 @@ mod fulfill;
 pub mod laws;
 mod request;
 
-pub use child::{Child, ChildParts, MAX_CODE, MAX_NAME, MAX_TENANT_ADDRESS, Role};
+pub use child::{Child, ChildParts, Role};
 pub use fault::IldcpFault;
 pub use fulfill::{MAX_ANSWER, answer};
 pub use request::{check, is_config};

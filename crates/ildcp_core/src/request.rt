@@ -17,7 +17,8 @@ const CONFIG_CONDITION: [u8; 32] = [
 /// Whether a packet to this address asks for the configuration: it is `peer.config` exactly.
 /// (RFC 0031)
 pub fn is_config(destination: &Address<'_>) -> bool
-    ensures { IsTrue result ↔ (destination.now ≡ codes "peer.config") }
+    ensures exact { result ≡ spec.is_config destination.now }
+    ensures same { IsTrue result ↔ (destination.now ≡ codes "peer.config") }
 {
     destination.bytes() == b"peer.config".as_slice()
 }

@@ -1,4 +1,5 @@
 pub mod Address
+pub mod OwnAddress
 pub mod Segments
 pub mod Target
 pub mod Timestamp

@@ -3,6 +3,7 @@
 ghost use Rattle.std.specs.Prelude.{◌≡◌, ◌≤◌, ◌↔◌, ℕ, List, length, Ok, Err, IfOk, IsTrue, MatchResult};
 ghost use Rattle.ilp_addr.specs.Address.{segments, prefix_segments, Begins, begins_with, IsAddress, address_at};
 ghost use Rattle.ilp_addr.specs.Address.{max_address};
+ghost use Rattle.ilp_addr.specs.OwnAddress.{is_for_neighbors};
 
 use crate::fault::AddrFault;
 use crate::prefix::Prefix;
@@ -61,6 +62,17 @@ impl<'a> Address<'a> {
         ensures { segments_left result ≡ segments self.now }
     {
         Segments::new(self.bytes)
+    }
+
+    /// Whether it is for direct neighbors, of the scheme `peer`: no packet is sent on for it (RFC 0015,
+    /// "Allocation Schemes").
+    pub fn is_for_neighbors(&self) -> bool
+        ensures { result ≡ is_for_neighbors self.now }
+    {
+        match self.segments().next() {
+            Some(first) => first == b"peer".as_slice(),
+            None => false,
+        }
     }
 
     /// Whether the segments of the prefix are the first segments of the address (RFC 0015,

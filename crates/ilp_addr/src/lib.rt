@@ -3,6 +3,7 @@
 //!
 //! - [`Address`] and [`Prefix`] keep the rules of RFC 0015, at most [`MAX_ADDRESS`] bytes;
 //!   [`Address::begins_with`] compares them segment by segment, and [`Segments`] yields the parts.
+//! - [`OwnAddress`] is the address of a tenant, which it keeps.
 //! - [`Moment`] is a number of milliseconds since 1970-01-01T00:00:00 UTC; [`Stamp`] reads and writes
 //!   an expiry.
 //! - [`AddrFault`] says why a text is none of them; [`laws`] what ties reading to what they are.
@@ -13,6 +14,7 @@ mod calendar;
 mod fault;
 pub mod laws;
 mod moment;
+mod own_address;
 mod prefix;
 mod segments;
 mod stamp;
@@ -21,6 +23,7 @@ mod target;
 pub use address::{Address, MAX_ADDRESS};
 pub use fault::AddrFault;
 pub use moment::Moment;
+pub use own_address::{MAX_OWN_ADDRESS, OwnAddress};
 pub use prefix::Prefix;
 pub use segments::Segments;
 pub use stamp::Stamp;

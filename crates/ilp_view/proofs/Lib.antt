@@ -4,3 +4,4 @@ pub mod PrepareLaws
 pub mod AnswerLaws
 pub mod Writes
 pub mod WrittenAnswers
+pub mod Rewrites

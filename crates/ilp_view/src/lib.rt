@@ -13,6 +13,7 @@ mod fields;
 mod fulfill;
 pub mod laws;
 mod prepare;
+mod prepare_mut;
 mod reject;
 
 pub use answers::{write_fulfill, write_reject};
@@ -20,4 +21,5 @@ pub use fault::ViewFault;
 pub use fields::{MAX_DATA, MAX_FRAME};
 pub use fulfill::FulfillView;
 pub use prepare::PrepareView;
+pub use prepare_mut::set_amount_and_expiry;
 pub use reject::RejectView;

@@ -16,7 +16,7 @@ use std::alloc::{AllocError, Global};
 use std::marker::Model;
 
 /// The type byte of a Prepare (RFC 0027).
-const PREPARE: u8 = 12;
+pub(crate) const PREPARE: u8 = 12;
 
 #[derive(Debug, Drop)]
 struct PrepareParts<'a> {

@@ -1,14 +1,15 @@
 -- Which peers the routes name, by prefix and by path.
-use Rattle.std.proofs.Common.{◌≡◌, ℕ, Bool, true, false, cond, not, ltb, ◌&&◌, T, List, [], ◌∷◌, Ordering, Less, Equal, Greater, refl, sym, ap, ◌∙◌, inl, inr}
+use Rattle.std.proofs.Common.{◌≡◌, ℕ, Bool, true, false, cond, not, ltb, eqb, ◌&&◌, ◌||◌, T, List, [], ◌∷◌, Ordering, Less, Equal, Greater, refl, sym, ap, ◌∙◌, inl, inr}
 use Rattle.std.specs.Prelude.{Some, None, ◌↔◌, IsTrue}
-use Rattle.std.specs.List.{join_with_byte, list_all}
+use Rattle.std.specs.List.{join_with_byte, list_all, list_any}
 use Rattle.std.specs.Ordering.{nat_cmp, is_eq, is_lt, eq_by_cmp}
 use Rattle.std.specs.Cmp.Lexicographic.{slice_cmp}
 use Rattle.std.specs.FinMap as map
+use Rattle.std.proofs.Common.{map as List-map}
 use Rattle.std.specs.FinMap.{find, is_sorted, entries, entries_sorted, get-entries, values}
 use Rattle.std.specs.FinMap.Entries.{below_all}
-use Rattle.std.proofs.lemmas.Bool.{ltb-false, le-ltb}
-use Rattle.std.proofs.Math.Bool.{and-false}
+use Rattle.std.proofs.lemmas.Bool.{ltb-false, le-ltb, eq-eqb, eqb-true}
+use Rattle.std.proofs.Math.Bool.{and-false, or-true}
 use Rattle.std.proofs.lemmas.List.Folds.{list_all-map}
 use Rattle.ilp_addr.specs.Address.{prefix_segments}
 use Rattle.route_table.specs.declared.node.Wanted.{Wanted}
@@ -102,4 +103,45 @@ names_below_is m routes count b view valid decides = answer b refl ∙ sym (list
         sym (each_passes (λ peer. ltb peer count) (entries routes) (entries_sorted routes) (λ k n f. elim (cases (ltb n count)) [
           | inl less ↦ less
           | inr most ↦ let bad : b ≡ true = decides.1 (both.1 (k, n, get-entries routes k ∙ f, ltb-false n count most)) in absurd cc
+        ]))
+
+-- ---- one peer
+
+one_passes : (p : ℕ → Bool) (k : List ℕ) (n : ℕ) (rows : List Row) → find prefix_cmp k rows ≡ Some n → p n ≡ true → list_any (λ row. p row.1) rows ≡ true
+one_passes p k n [] e f = absurd cc
+one_passes p k n (row ∷ rows) e f =
+    elim (cases (eq_by_cmp prefix_cmp k row.0)) [
+      | inl here ↦
+          let is : Some row.1 ≡ Some n = rw here at e in
+          let peer : row.1 ≡ n = cc in
+          ap (λ b. b || list_any (λ (x : Row). p x.1) rows) (ap p peer ∙ f)
+      | inr away ↦ ap (λ b. p row.1 || b) (one_passes p k n rows (rw away at e) f) ∙ or-true (p row.1)
+    ]
+
+none_passes : (p : ℕ → Bool) (rows : List Row) → T (is_sorted prefix_cmp rows) → ((k : List ℕ) (n : ℕ) → find prefix_cmp k rows ≡ Some n → p n ≡ false) → list_any (λ row. p row.1) rows ≡ false
+none_passes p [] sorted h = refl
+none_passes p (row ∷ rows) sorted h =
+    let both = parts _ _ sorted in
+    let here : p row.1 ≡ false = h row.0 row.1 (ap (λ b. cond b (Some row.1) (find prefix_cmp row.0 rows)) (same_tied row.0 row.0 refl)) in
+    ap (λ b. b || list_any (λ (x : Row). p x.1) rows) here ∙ none_passes p rows both.1 (λ k n e. h k n (later row rows k n both.0 e))
+
+list_any-map : (p : ℕ → Bool) (rows : List Row) → list_any p (List-map (λ (row : Row). row.1) rows) ≡ list_any (λ row. p row.1) rows
+list_any-map p [] = refl
+list_any-map p (row ∷ rows) = ap (λ b. p row.1 || b) (list_any-map p rows)
+
+pub names_peer_listed : (m : PathMap) (routes : RouteMap) (peer : ℕ) (b : Bool) → routes_of m ≡ routes → ArePrefixes (entries m) → IsTrue b ↔ Names (Peer peer) m
+    → b ≡ list_any (λ other. eqb other peer) (values routes)
+names_peer_listed m routes peer b view valid decides = answer b refl ∙ sym (list_any-map (λ other. eqb other peer) (entries routes))
+  where
+    both : Names (Peer peer) m ↔ PrefixNames (Peer peer) routes
+    both = by_prefix (Peer peer) m routes view valid
+
+    answer : (a : Bool) → b ≡ a → a ≡ list_any (λ row. eqb row.1 peer) (entries routes)
+    answer true e =
+        let named = both.0 (decides.0 e) in
+        sym (one_passes (λ other. eqb other peer) named.0 named.1 (entries routes) (sym (get-entries routes named.0) ∙ named.2) (eq-eqb named.1 peer named.3))
+    answer false e =
+        sym (none_passes (λ other. eqb other peer) (entries routes) (entries_sorted routes) (λ k n f. elim (cases (eqb n peer)) [
+          | inl same ↦ let bad : b ≡ true = decides.1 (both.1 (k, n, get-entries routes k ∙ f, eqb-true n peer same)) in absurd cc
+          | inr other ↦ other
         ]))

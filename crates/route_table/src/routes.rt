@@ -3,7 +3,7 @@
 ghost use Rattle.std.specs.Prelude.{◌≡◌, ◌≢◌, ◌≤◌, ◌↔◌, ◌==◌, ℕ, IsTrue, IsOk, OnOk, OnErr, IfOk, IfSome, OnSome};
 ghost use Rattle.std.specs.Prelude.{IfNone, if◌then◌else◌, nat_lt, Ok, Err, List, false};
 ghost use Rattle.std.specs.FinMap.{empty, get, contains_key, insert, remove, len, values};
-ghost use Rattle.std.specs.List.{list_all};
+ghost use Rattle.std.specs.List.{list_all, list_any};
 ghost use Rattle.route_table.specs.Routes.{RouteMap, IsBestRoute, HasNoRoute, NamesPeer, best_route, max_routes};
 
 use crate::fault::RouteFault;
@@ -72,6 +72,13 @@ impl Routes {
         self.count == 0
     }
 
+    /// Whether the prefix has a route.
+    pub fn has(&self, prefix: &Prefix) -> bool
+        ensures { result ≡ contains_key self.now prefix.now }
+    {
+        self.peer_of(prefix).is_some()
+    }
+
     /// Sends packets for the prefix to the peer.
     ///
     /// The errors are, in the order in which they are looked for: `Present` where the prefix has a
@@ -128,7 +135,8 @@ impl Routes {
 
     /// Whether some prefix has a route to the peer.
     pub fn names_peer(&self, peer: PeerNo) -> bool
-        ensures { IsTrue result ↔ NamesPeer self.now peer }
+        ensures named { IsTrue result ↔ NamesPeer self.now peer }
+        ensures listed { result ≡ list_any (λ other. other == peer) (values self.now) }
     {
         self.root.names(Wanted::Peer(peer))
     }
