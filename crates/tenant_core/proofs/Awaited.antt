@@ -1,26 +1,38 @@
 -- What each call makes of the holds that await their answers.
-use Rattle.std.proofs.Common.{◌≡◌, ℕ, ◌+◌, ◌≤◌, Bool, true, false, cond, not, eqb, List, [], ◌∷◌, ◌++◌, length, map, arith, refl, sym, ap, subst, ◌∙◌, le_refl}
-use Rattle.std.specs.Prelude.{Option, Some, None, IfSome, is_some, option_map, find, max, ◌&&◌, ◌||◌, nat_le}
+use Rattle.std.proofs.Common.{◌≡◌, ℕ, ◌+◌, ◌≤◌, Bool, true, false, cond, not, eqb, ltb, List, [], ◌∷◌, ◌++◌, length, map, arith, refl, sym, ap, subst, ◌∙◌, le_refl}
+use Rattle.std.specs.Prelude.{Option, Some, None, IfSome, is_some, count_by, Result, Ok, Err, option_map, find, max, ◌&&◌, ◌||◌, nat_le}
 use Rattle.std.specs.List.{list_any}
 use Rattle.std.specs.Str.{bytes_eq}
-use Rattle.std.proofs.lemmas.Bool.{eqb-true, ne_eqb}
+use Rattle.std.proofs.lemmas.Bool.{eqb-true, ne_eqb, ltb-false}
 use Rattle.std.proofs.lemmas.List.Folds.{list_any-append}
+use Rattle.std.proofs.lemmas.List.Sums.{sum_by-cons}
 use Rattle.tenant_core.specs.declared.hold.Fate.{Fate}
 use Rattle.tenant_core.specs.declared.hold.Fate.TheVariants.{Held, Marked, Ended}
 use Rattle.tenant_core.specs.declared.hold.Hold.{Hold}
 use Rattle.tenant_core.specs.declared.journal.AnswerKey.{AnswerKey}
-use Rattle.tenant_core.specs.declared.opening.Peer.{Peer}
+use Rattle.tenant_core.specs.declared.peer.Peer.{Peer}
 use Rattle.tenant_core.specs.declared.verdict.Verdict.{Verdict}
-use Rattle.tenant_core.specs.declared.verdict.Verdict.TheVariants.{Unknown, NoRoom, Refuse, Forward, Relay}
+use Rattle.tenant_core.specs.declared.verdict.Verdict.TheVariants.{Unknown, NoRoom, Refuse, Forward, Fulfil, Relay}
 use Rattle.tenant_core.specs.Answer.{answered, answer_record, settle_answer, ticked, tick_record, tick_count, has_no_place}
 use Rattle.tenant_core.specs.Checks.{◌otherwise◌}
-use Rattle.tenant_core.specs.Holds.{holds_of, open_hold, next_hold, hold_ended, hold_ticked, is_open_under, is_fulfill, is_relay, awaits_answer, AreNumbered}
+use Rattle.tenant_core.specs.Holds.{holds_of, is_open, open_holds, open_hold, next_hold, hold_ended, hold_ticked, is_open_under, is_fulfill, is_relay, awaits_answer, AreNumbered}
 use Rattle.tenant_core.specs.Judge.{judge, decided, decide_record, record_left, is_full, is_recorded, verdict_for_sender}
 use Rattle.tenant_core.specs.Key.{Key}
 use Rattle.tenant_core.specs.OpenHolds.{is_awaited, begins, OpenHoldLaws}
 use Rattle.tenant_core.specs.Sound.{IsSound}
-use Rattle.tenant_core.specs.State.{State, clock_of, peer_with_token, recorded}
-use Rattle.tenant_core.proofs.Courses.{holds_of-decide, holds_of-answer, holds_of-tick}
+use Rattle.tenant_core.specs.Network.{peer_with_token}
+use Rattle.tenant_core.specs.Present.{network_of}
+use Rattle.tenant_core.specs.Governed.{commanded, order_left, roll_left}
+use Rattle.tenant_core.specs.Limits.{max_period}
+use Rattle.tenant_core.specs.Orders.{ordered}
+use Rattle.tenant_core.specs.Periods.{next_opening}
+use Rattle.tenant_core.specs.declared.command.Command.{Command}
+use Rattle.tenant_core.specs.declared.command.Command.TheVariants as command
+use Rattle.tenant_core.specs.declared.faults.CommandFault.{CommandFault}
+use Rattle.tenant_core.specs.declared.faults.CommandFault.TheVariants.{InUse, Limit}
+use Rattle.tenant_core.specs.declared.journal.Change.{Change as Changed}
+use Rattle.tenant_core.specs.State.{State, opened, clock_of, recorded}
+use Rattle.tenant_core.proofs.Courses.{holds_of-decide, holds_of-answer, holds_of-tick, holds_of-change, holds_of-opened}
 use Rattle.tenant_core.proofs.Purses.{ticked_awaits, has_terms_within, has_limits, found_passes, IsPaid}
 use Rattle.tenant_core.proofs.Verdicts.{sender_paid}
 
@@ -64,6 +76,8 @@ after_verdict s from key now Unknown n = or-false (is_awaited s n)
 after_verdict s from key now NoRoom n = or-false (is_awaited s n)
 after_verdict s from key now (Refuse code amounts) n =
     ap (λ (hs : List Hold). is_some (find (is_open_under n) hs)) (holds_of-decide s from key now (Refuse code amounts)) ∙ or-false (is_awaited s n)
+after_verdict s from key now Fulfil n =
+    ap (λ (hs : List Hold). is_some (find (is_open_under n) hs)) (holds_of-decide s from key now Fulfil) ∙ or-false (is_awaited s n)
 after_verdict s from key now Relay n =
     ap (λ (hs : List Hold). is_some (find (is_open_under n) hs)) (holds_of-decide s from key now Relay) ∙ or-false (is_awaited s n)
 after_verdict s from key now (Forward hold peer price expiry) n =
@@ -81,7 +95,7 @@ after_verdict s from key now (Forward hold peer price expiry) n =
 
 pub is_awaited-decided : (s : State) (token : List ℕ) (key : Key) (now n : ℕ)
     → is_awaited (decided s token key now) n ≡ (is_awaited s n || begins n (judge s token key now))
-is_awaited-decided s token key now n = by (peer_with_token token s.opening.peers)
+is_awaited-decided s token key now n = by (peer_with_token token (network_of s).peers)
   where
     verdict : Peer → Verdict
     verdict from = cond (is_full s) NoRoom (verdict_for_sender s from key (max (clock_of s) now))
@@ -148,6 +162,36 @@ is_awaited-ticked s now n = by (has_no_place s)
         ∙ (list_any-map-same (is_open_under n) (hold_ticked clock) (holds_of s) (λ h. ap (λ t. eqb h.number n && t) (ticked_awaits h.fate (nat_le h.expiry clock)))
         ∙ sym (is_some-find (is_open_under n) (holds_of s))))
 
+-- ---- a command
+
+none_open : (n : ℕ) (hs : List Hold) → count_by is_open hs ≡ 0 → is_some (find (is_open_under n) hs) ≡ false
+none_open n [] e = refl
+none_open n (h ∷ hs) e = by (eqb h.number n) (is_open h) (sym (sum_by-cons (λ (x : Hold). cond (is_open x) 1 0) h hs) ∙ e) (none_open n hs)
+  where
+    by : (a b : Bool) → cond b 1 0 + count_by is_open hs ≡ 0 → (count_by is_open hs ≡ 0 → is_some (find (is_open_under n) hs) ≡ false)
+        → is_some (cond (a && b) (Some h) (find (is_open_under n) hs)) ≡ false
+    by a true e rest = absurd (omega arith)
+    by true false e rest = rest (omega arith)
+    by false false e rest = rest (omega arith)
+
+rolled : (s : State) (now n : ℕ) (t u : Bool) → ltb 0 (open_holds s) ≡ t
+    → is_awaited (roll_left s (cond t (Some InUse) (cond u (Some Limit) None)) now) n ≡ is_awaited s n
+rolled s now n true u e = refl
+rolled s now n false true e = refl
+rolled s now n false false e =
+    let none : open_holds s ≡ 0 = let l = ltb-false 0 (open_holds s) e in omega arith in
+    let next : State = opened (next_opening s (max (clock_of s) now)) in
+    ap (λ (hs : List Hold). is_some (find (is_open_under n) hs)) (holds_of-opened next refl) ∙ sym (none_open n (holds_of s) none)
+
+pub is_awaited-commanded : (s : State) (command : Command) (now n : ℕ) → is_awaited (commanded s command now) n ≡ is_awaited s n
+is_awaited-commanded s (command.Order order) now n = by (ordered s order)
+  where
+    by : (r : Result Changed CommandFault) → is_awaited (order_left s r now) n ≡ is_awaited s n
+    by (Ok change) = ap (λ (hs : List Hold). is_some (find (is_open_under n) hs)) (holds_of-change s change now)
+    by (Err fault) = refl
+is_awaited-commanded s command.Balances now n = refl
+is_awaited-commanded s command.Roll now n = rolled s now n (ltb 0 (open_holds s)) (nat_le max_period s.opening.period) refl
+
 -- ---- numbers
 
 none_past : (n m : ℕ) (hs : List Hold) → AreNumbered m hs → m + length hs ≤ n → is_some (find (is_open_under n) hs) ≡ false
@@ -164,22 +208,23 @@ begun_is_next : (s : State) (from amount n : ℕ) (v : Verdict) → IsPaid s fro
 begun_is_next s from amount n Unknown paid e = absurd cc
 begun_is_next s from amount n NoRoom paid e = absurd cc
 begun_is_next s from amount n (Refuse code amounts) paid e = absurd cc
+begun_is_next s from amount n Fulfil paid e = absurd cc
 begun_is_next s from amount n Relay paid e = absurd cc
 begun_is_next s from amount n (Forward hold peer price expiry) paid e = sym (eqb-true hold n e) ∙ paid.2
 
 pub begins-judge : (s : State) (token : List ℕ) (key : Key) (now n : ℕ) → IsSound s → begins n (judge s token key now) ≡ true → n ≡ next_hold s
-begins-judge s token key now n sound = by (peer_with_token token s.opening.peers) refl
+begins-judge s token key now n sound = by (peer_with_token token (network_of s).peers) refl
   where
     verdict : Peer → Verdict
     verdict from = verdict_for_sender s from key (max (clock_of s) now)
 
-    judged : (from : Peer) (t : Bool) → peer_with_token token s.opening.peers ≡ Some from → begins n (cond t NoRoom (verdict from)) ≡ true → n ≡ next_hold s
+    judged : (from : Peer) (t : Bool) → peer_with_token token (network_of s).peers ≡ Some from → begins n (cond t NoRoom (verdict from)) ≡ true → n ≡ next_hold s
     judged from true is e = absurd cc
     judged from false is e =
-        let sender = subst (λ o. IfSome o (λ p. has_terms_within p ≡ true)) is (found_passes (λ p. bytes_eq p.terms.token token) s.opening.peers sound.terms) in
-        begun_is_next s from.number key.amount n (verdict from) (sender_paid s from key (max (clock_of s) now) sound.terms (has_limits from.terms sender)) e
+        let sender = subst (λ o. IfSome o (λ p. has_terms_within p ≡ true)) is (found_passes (λ p. bytes_eq p.terms.token token) (network_of s).peers sound.network.terms) in
+        begun_is_next s from.number key.amount n (verdict from) (sender_paid s from key (max (clock_of s) now) sound.network.terms (has_limits from.terms sender)) e
 
-    by : (o : Option Peer) → peer_with_token token s.opening.peers ≡ o
+    by : (o : Option Peer) → peer_with_token token (network_of s).peers ≡ o
         → begins n ((o otherwise Unknown) (λ from. cond (is_full s) NoRoom (verdict from))) ≡ true → n ≡ next_hold s
     by None is e = absurd cc
     by (Some from) is e = judged from (is_full s) is e
@@ -192,4 +237,5 @@ open_hold_laws =
       fresh = is_awaited-next;
       answered = is_awaited-answered;
       ticked = is_awaited-ticked;
+      commanded = is_awaited-commanded;
     }

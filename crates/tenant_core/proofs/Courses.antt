@@ -18,6 +18,8 @@ use Rattle.tenant_core.specs.Answer.{answer_record, tick_record}
 use Rattle.tenant_core.specs.Holds.{Course, course_after, holds_of, hold_after, hold_begun, hold_ended, hold_ticked, begun_by, is_open, is_open_under, is_fulfill, is_relay, with_fate, AreNumbered}
 use Rattle.tenant_core.specs.Judge.{decide_entry, decide_record}
 use Rattle.tenant_core.specs.Key.{Key}
+use Rattle.tenant_core.specs.Orders.{change_record}
+use Rattle.tenant_core.specs.declared.journal.Change.{Change as Changed}
 use Rattle.tenant_core.specs.State.{State, clock_of, later, extended, recorded}
 
 -- ---- one record more
@@ -47,6 +49,9 @@ holds_of-answer s n now key v = holds_of-recorded s (answer_record n now key v)
 pub holds_of-tick : (s : State) (now count : ℕ)
     → holds_of (recorded s (Some (tick_record now count))) ≡ map (hold_ticked (max (clock_of s) now)) (holds_of s)
 holds_of-tick s now count = holds_of-recorded s (tick_record now count)
+
+pub holds_of-change : (s : State) (c : Changed) (now : ℕ) → holds_of (recorded s (Some (change_record c now))) ≡ holds_of s
+holds_of-change s c now = holds_of-recorded s (change_record c now) ∙ map-id (holds_of s)
 
 pub holds_of-opened : (s : State) → s.records ≡ [] → holds_of s ≡ []
 unfolding holds_of

@@ -1,7 +1,7 @@
 -- A book keeps what its type says, one record more.
 use Rattle.std.proofs.Common.{◌≡◌, ℕ, ◌+◌, ◌-◌, ◌≤◌, List, [], ◌∷◌, ◌++◌, length, map, arith, refl, sym, ap, subst, ◌∙◌, vec_capacity, le_of_eq}
 use Rattle.ilp_addr.specs.Timestamp.{last_moment}
-use Rattle.std.specs.Prelude.{Option, Some, None, option_map, find, max, count_by, ◌&&◌, false}
+use Rattle.std.specs.Prelude.{Option, Some, None, option_map, find, max, count_by, ◌&&◌, true, false}
 use Rattle.std.proofs.lemmas.List.{length_push, length-map}
 use Rattle.std.proofs.lemmas.List.Sums.{fold_push}
 use Rattle.tenant_core.specs.declared.book.Book.TheInside.{Inside}
@@ -9,18 +9,23 @@ use Rattle.tenant_core.specs.declared.hold.Hold.{Hold}
 use Rattle.tenant_core.specs.declared.journal.AnswerKey.{AnswerKey}
 use Rattle.tenant_core.specs.declared.journal.Record.{Record}
 use Rattle.tenant_core.specs.declared.opening.Opening.{Opening}
-use Rattle.tenant_core.specs.declared.opening.Peer.{Peer}
+use Rattle.tenant_core.specs.declared.peer.Peer.{Peer}
 use Rattle.tenant_core.specs.declared.verdict.Verdict.{Verdict}
 use Rattle.tenant_core.specs.Answer.{settle_answer, answer_record, tick_record, tick_count, has_no_place}
 use Rattle.tenant_core.specs.Holds.{holds_of, open_holds, is_open, is_open_under, is_overdue, is_fulfill, is_relay, hold_ended, hold_ticked, begun_by, AreNumbered}
 use Rattle.tenant_core.specs.Judge.{decide_entry, decide_record, is_full, verdict_for_sender}
 use Rattle.tenant_core.specs.Kept.{state_of, IsKept}
+use Rattle.tenant_core.specs.declared.journal.Change.{Change as Changed}
+use Rattle.tenant_core.specs.Orders.{change_record, change_refusal, names_present}
 use Rattle.tenant_core.specs.Key.{Key}
 use Rattle.tenant_core.specs.Sound.{IsSound}
-use Rattle.tenant_core.specs.State.{State, clock_of, later, extended, recorded, peer_with_token}
-use Rattle.tenant_core.proofs.Courses.{holds_of-decide, holds_of-answer, holds_of-tick}
+use Rattle.tenant_core.specs.Network.{Net, IsNetwork, peer_with_token}
+use Rattle.tenant_core.specs.Present.{network_of, net_after}
+use Rattle.tenant_core.specs.State.{State, clock_of, later, extended, recorded}
+use Rattle.tenant_core.proofs.Courses.{holds_of-decide, holds_of-answer, holds_of-tick, holds_of-change}
+use Rattle.tenant_core.proofs.Presents.{network_of-recorded}
 use Rattle.tenant_core.proofs.Purses.{ticked_count}
-use Rattle.tenant_core.proofs.Soundness.{decided_sound, answered_sound, ticked_sound}
+use Rattle.tenant_core.proofs.Soundness.{decided_sound, answered_sound, ticked_sound, changed_sound}
 
 -- what a book keeps of another one, with a record more
 pub record Follows (b c : Inside) (r : Record) : Type 0 where
@@ -29,6 +34,7 @@ pub record Follows (b c : Inside) (r : Record) : Type 0 where
   pub room : vec_capacity c.records ≡ vec_capacity b.records
   pub holds_room : vec_capacity c.holds ≡ vec_capacity b.holds
   pub clock : c.clock ≡ later b.clock r
+  pub network : c.network ≡ net_after (state_of b) b.network (later b.clock r) r.entry
 
 -- its holds and the count of those that are open are those of the state with that record
 record HoldsFollow (b c : Inside) (r : Record) : Type 0 where
@@ -41,11 +47,19 @@ state_after b c r f =
     ap (λ (o : Opening). record { opening = o; records = c.records.items }) f.opening
     ∙ ap (λ (rs : List Record). record { opening = b.opening; records = rs }) f.records
 
+network_follows : (b c : Inside) (r : Record) → IsKept b → Follows b c r → c.network ≡ network_of (recorded (state_of b) (Some r))
+network_follows b c r k f =
+    let s : State = state_of b in
+    f.network
+    ∙ (ap (λ (x : Net). net_after s x (later b.clock r) r.entry) k.network
+    ∙ (ap (λ n. net_after s (network_of s) (later n r) r.entry) k.clock ∙ sym (network_of-recorded s r)))
+
 kept : (b c : Inside) (r : Record) → IsKept b → Follows b c r → HoldsFollow b c r → IsSound (recorded (state_of b) (Some r)) → IsKept c
 kept b c r k f h sound =
     let is = state_after b c r f in
     let clock : c.clock ≡ clock_of (recorded (state_of b) (Some r)) =
     f.clock ∙ (ap (λ n. later n r) k.clock ∙ sym (fold_push later b.opening.clock b.records.items r)) in
+    let network = network_follows b c r k f in
     let longer : length c.records.items ≡ length b.records.items + 1 = ap length f.records ∙ length_push b.records.items r in
     let journal : c.opening.journal ≡ b.opening.journal = ap (λ (o : Opening). o.journal) f.opening in
     let r1 = k.room in
@@ -59,6 +73,7 @@ kept b c r k f h sound =
       holds_room = omega arith;
       few = omega arith;
       clock = clock ∙ ap clock_of (sym is);
+      network = network ∙ ap network_of (sym is);
       holds = h.holds ∙ ap holds_of (sym is);
       awaited = h.awaited ∙ ap open_holds (sym is);
       sound = subst (λ (t : State). IsSound t) (sym is) sound;
@@ -97,7 +112,7 @@ length-extended xs None = omega arith
 length-extended xs (Some x) = le_of_eq (length_push xs x)
 
 pub decided_kept : (b c : Inside) (token : List ℕ) (key : Key) (now clock added : ℕ) (from : Peer) (v : Verdict) → IsKept b → now ≤ last_moment → clock ≡ max b.clock now
-    → peer_with_token token b.opening.peers ≡ Some from → is_full (state_of b) ≡ false
+    → peer_with_token token (network_of (state_of b)).peers ≡ Some from → is_full (state_of b) ≡ false
     → v ≡ verdict_for_sender (state_of b) from key clock
     → Follows b c (decide_record from.number key now v)
     → c.holds.items ≡ extended b.holds.items (begun_by (decide_entry from.number key now) v)
@@ -140,3 +155,19 @@ ticked_kept b c now clock count k early at room counted f marked awaited =
     ap (count_by is_open) (holds_of-tick s now count) ∙ ticked_count (max (clock_of s) now) (holds_of s) in
     let was = k.awaited in
     kept b c (tick_record now count) k f (record { few = omega arith; holds = holds; awaited = awaited ∙ (was ∙ sym open_after) }) sound
+
+pub changed_kept : (b c : Inside) (change : Changed) (now clock : ℕ) → IsKept b → now ≤ last_moment → clock ≡ max b.clock now
+    → has_no_place (state_of b) ≡ false → names_present b.network change ≡ true → change_refusal (state_of b) b.network change ≡ None
+    → IsNetwork c.network → Follows b c (change_record change now) → c.holds.items ≡ b.holds.items → c.awaited ≡ b.awaited → IsKept c
+changed_kept b c change now clock k early at room present allowed is f same awaited =
+    let s : State = state_of b in
+    let r : Record = change_record change now in
+    let network : IsNetwork (network_of (recorded s (Some r))) = subst (λ (n : Net). IsNetwork n) (network_follows b c r k f) is in
+    let there : names_present (network_of s) change ≡ true = ap (λ (n : Net). names_present n change) (sym k.network) ∙ present in
+    let free : change_refusal s (network_of s) change ≡ None = ap (λ (n : Net). change_refusal s n change) (sym k.network) ∙ allowed in
+    let sound : IsSound (recorded s (Some r)) = changed_sound s change now k.sound room early there free network in
+    let holds : c.holds.items ≡ holds_of (recorded s (Some r)) = same ∙ (k.holds ∙ sym (holds_of-change s change now)) in
+    let was = k.awaited in
+    let count : open_holds (recorded s (Some r)) ≡ open_holds s = ap (count_by is_open) (holds_of-change s change now) in
+    let long : length c.holds.items ≡ length b.holds.items = ap length same in
+    kept b c r k f (record { few = omega arith; holds = holds; awaited = omega arith }) sound

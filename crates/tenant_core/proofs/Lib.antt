@@ -4,5 +4,9 @@ pub mod Purses
 pub mod Verdicts
 pub mod Soundness
 pub mod Keeping
-pub mod Openings
+pub mod Rolls
+pub mod Governs
+pub mod Networks
+pub mod Presents
 pub mod Awaited
+pub mod Steady

@@ -1,6 +1,6 @@
 -- A replay, one entry more.
-use Rattle.std.proofs.Common.{◌≡◌, ℕ, false, List, [], ◌∷◌, map, refl, sym, ap, subst, ◌∙◌}
-use Rattle.std.specs.Prelude.{Bool, cond, Option, Some, None, find, All, max, option_map, option_and_then, fold}
+use Rattle.std.proofs.Common.{◌≡◌, ℕ, true, false, List, [], ◌∷◌, map, refl, sym, ap, subst, ◌∙◌}
+use Rattle.std.specs.Prelude.{◌||◌, not, is_some, Bool, cond, Option, Some, None, find, All, max, option_map, option_and_then, fold}
 use Rattle.std.specs.List.{position_or_len, slice_get}
 use Rattle.std.proofs.lemmas.List.{map-append}
 use Rattle.std.proofs.lemmas.List.Elements.{All-get_or}
@@ -10,15 +10,20 @@ use Rattle.std.proofs.lemmas.Option.{slice_get_within, get_or_from_slice_get}
 use Rattle.tenant_core.specs.declared.hold.Hold.{Hold}
 use Rattle.tenant_core.specs.declared.journal.AnswerKey.{AnswerKey}
 use Rattle.tenant_core.specs.declared.journal.Entry.{Entry}
-use Rattle.tenant_core.specs.declared.journal.Outcome.TheVariants.{Packet}
+use Rattle.tenant_core.specs.declared.journal.Outcome.TheVariants.{Packet, Done}
 use Rattle.tenant_core.specs.declared.journal.Record.{Record}
-use Rattle.tenant_core.specs.declared.opening.Peer.{Peer}
+use Rattle.tenant_core.specs.declared.peer.Peer.{Peer}
 use Rattle.tenant_core.specs.Answer.{answer_record, settle_answer, tick_record, tick_count, has_no_place}
 use Rattle.tenant_core.specs.Holds.{open_hold}
 use Rattle.tenant_core.specs.Judge.{decide_record, is_full, verdict_for_sender}
+use Rattle.tenant_core.specs.declared.faults.CommandFault.{CommandFault}
+use Rattle.tenant_core.specs.declared.journal.Change.{Change as Changed}
+use Rattle.tenant_core.specs.Orders.{change_record, change_refusal, names_present}
 use Rattle.tenant_core.specs.Key.{Key}
 use Rattle.tenant_core.specs.Replay.{IsReplay, replay, outcome_of, appended}
-use Rattle.tenant_core.specs.State.{State, opened, clock_of, peer_numbered, peer_with_token, recorded}
+use Rattle.tenant_core.specs.Network.{peer_numbered, peer_with_token}
+use Rattle.tenant_core.specs.Present.{network_of}
+use Rattle.tenant_core.specs.State.{State, opened, clock_of, recorded}
 
 -- what holds of each holds of what is found
 pub All-find : {A : Type 0} (P : A → Type 0) (q : A → Bool) (xs : List A) (x : A) → All P xs → find q xs ≡ Some x → P x
@@ -46,11 +51,11 @@ chosen_some : {A B : Type 0} (b : Bool) (o : Option A) (f : A → B) (x : A) →
 chosen_some b o f x not is = rw (not, is) refl
 
 pub decided_replay : (s : State) (token : List ℕ) (key : Key) (now : ℕ) (from : Peer) → IsReplay s
-    → All (λ p. peer_numbered p.number s.opening.peers ≡ Some p) s.opening.peers
-    → peer_with_token token s.opening.peers ≡ Some from → is_full s ≡ false
+    → All (λ p. peer_numbered p.number (network_of s).peers ≡ Some p) (network_of s).peers
+    → peer_with_token token (network_of s).peers ≡ Some from → is_full s ≡ false
     → IsReplay (recorded s (Some (decide_record from.number key now (verdict_for_sender s from key (max (clock_of s) now)))))
 decided_replay s token key now from before numbers is room =
-    let same = All-find (λ p. peer_numbered p.number s.opening.peers ≡ Some p) _ s.opening.peers from numbers is in
+    let same = All-find (λ p. peer_numbered p.number (network_of s).peers ≡ Some p) _ (network_of s).peers from numbers is in
     replayed s (decide_record from.number key now (verdict_for_sender s from key (max (clock_of s) now))) before
     (chosen_some (is_full s) _ (λ p. Packet (verdict_for_sender s p key (max (clock_of s) now))) from room same)
 
@@ -62,3 +67,11 @@ answered_replay s n now key h before is =
 pub ticked_replay : (s : State) (now : ℕ) → IsReplay s → has_no_place s ≡ false
     → IsReplay (recorded s (Some (tick_record now (tick_count s (max (clock_of s) now)))))
 ticked_replay s now before room = replayed s (tick_record now (tick_count s (max (clock_of s) now))) before (rw room refl)
+
+pub changed_replay : (s : State) (c : Changed) (now : ℕ) → IsReplay s → has_no_place s ≡ false → names_present (network_of s) c ≡ true
+    → change_refusal s (network_of s) c ≡ None → IsReplay (recorded s (Some (change_record c now)))
+changed_replay s c now before room present allowed =
+    replayed s (change_record c now) before (by (has_no_place s) (names_present (network_of s) c) (change_refusal s (network_of s) c) room present allowed)
+  where
+    by : (a b : Bool) (o : Option CommandFault) → a ≡ false → b ≡ true → o ≡ None → cond ((a || not b) || is_some o) None (Some Done) ≡ Some Done
+    by a b o e f g = rw (e, f, g) refl

@@ -1,7 +1,7 @@
 -- A state stays within its limits.
-use Rattle.std.proofs.Common.{◌≡◌, ℕ, ◌+◌, ◌≤◌, Bool, true, false, cond, eqb, List, length, get_or, map, arith, refl, sym, subst, ◌∙◌, le_of_eq}
+use Rattle.std.proofs.Common.{◌≡◌, ℕ, ◌+◌, ◌≤◌, Bool, true, false, cond, eqb, List, length, get_or, map, arith, refl, sym, ap, subst, ◌∙◌, le_of_eq}
 use Rattle.ilp_addr.specs.Timestamp.{last_moment}
-use Rattle.std.specs.Prelude.{Some, IfSome, count_by, max, ◌&&◌, ◌||◌, nat_le}
+use Rattle.std.specs.Prelude.{Some, None, IfSome, count_by, max, ◌&&◌, ◌||◌, nat_le}
 use Rattle.std.specs.List.{position_or_len, slice_get}
 use Rattle.std.proofs.Math.ListN.{set}
 use Rattle.std.proofs.lemmas.Bool.{ltb-false, and_parts}
@@ -12,22 +12,27 @@ use Rattle.std.proofs.lemmas.Option.{slice_get_within, get_or_from_slice_get}
 use Rattle.tenant_core.specs.declared.hold.Fate.{Fate}
 use Rattle.tenant_core.specs.declared.hold.Fate.TheVariants.{Held, Marked, Ended}
 use Rattle.tenant_core.specs.declared.hold.Hold.{Hold}
-use Rattle.tenant_core.specs.declared.opening.Peer.{Peer}
+use Rattle.tenant_core.specs.declared.peer.Peer.{Peer}
 use Rattle.tenant_core.specs.declared.journal.AnswerKey.{AnswerKey}
 use Rattle.tenant_core.specs.declared.journal.Record.{Record}
 use Rattle.tenant_core.specs.declared.verdict.RejectCode.TheVariants.{TimedOut, WrongCondition, PeerUnreachable}
 use Rattle.tenant_core.specs.declared.verdict.Verdict.{Verdict}
-use Rattle.tenant_core.specs.declared.verdict.Verdict.TheVariants.{Unknown, NoRoom, Refuse, Forward, Relay}
+use Rattle.tenant_core.specs.declared.verdict.Verdict.TheVariants.{Unknown, NoRoom, Refuse, Forward, Fulfil, Relay}
 use Rattle.tenant_core.specs.Answer.{settle_answer, is_marked, is_misfit, is_fault, answer_record, tick_record, tick_count, has_no_place}
 use Rattle.tenant_core.specs.Holds.{holds_of, open_holds, open_hold, is_open, is_open_under, is_fulfill, is_relay, awaits_answer, holds_amounts}
 use Rattle.tenant_core.specs.Holds.{hold_ended, hold_ticked, with_fate, begun_by, AreNumbered}
 use Rattle.tenant_core.specs.Key.{Key}
-use Rattle.tenant_core.specs.State.{State, clock_of, peer_with_token, recorded, extended, later}
+use Rattle.tenant_core.specs.Network.{Net, IsNetwork, peer_with_token}
+use Rattle.tenant_core.specs.Present.{network_of}
+use Rattle.tenant_core.specs.State.{State, clock_of, recorded, extended, later}
+use Rattle.tenant_core.specs.declared.journal.Change.{Change as Changed}
+use Rattle.tenant_core.specs.Orders.{change_record, change_refusal, names_present}
 use Rattle.tenant_core.specs.Judge.{is_full, refuse, verdict_for_sender, decide_entry, decide_record}
 use Rattle.tenant_core.specs.Sound.{IsSound}
-use Rattle.tenant_core.proofs.Courses.{holds_of-decide, holds_of-answer, holds_of-tick, numbered-map, numbered-push, ended_is_set, count-ended, find_passes}
-use Rattle.tenant_core.proofs.Purses.{has_terms_within, has_limits, found_passes, IsPaid, decided_within, moved_within, ended_moves, ticked_moves, ticked_count}
-use Rattle.tenant_core.proofs.Replays.{decided_replay, answered_replay, ticked_replay}
+use Rattle.tenant_core.proofs.Courses.{holds_of-decide, holds_of-answer, holds_of-tick, holds_of-change, numbered-map, numbered-push, ended_is_set, count-ended, find_passes}
+use Rattle.tenant_core.proofs.Purses.{has_terms_within, has_limits, found_passes, IsPaid, decided_within, changed_within, moved_within, ended_moves, ticked_moves, ticked_count}
+use Rattle.tenant_core.proofs.Presents.{network_of-decide, network_of-answer, network_of-tick}
+use Rattle.tenant_core.proofs.Replays.{decided_replay, answered_replay, ticked_replay, changed_replay}
 use Rattle.tenant_core.proofs.Verdicts.{sender_paid}
 
 clock_after : (s : State) (r : Record) → later (clock_of s) r ≤ last_moment → clock_of (recorded s (Some r)) ≤ last_moment
@@ -40,6 +45,7 @@ pub decided_count : (hs : List Hold) (peer : ℕ) (key : Key) (now : ℕ) (v : V
 decided_count hs peer key now Unknown = omega arith
 decided_count hs peer key now NoRoom = omega arith
 decided_count hs peer key now (Refuse code amounts) = omega arith
+decided_count hs peer key now Fulfil = omega arith
 decided_count hs peer key now Relay = omega arith
 decided_count hs peer key now (Forward hold to price expiry) =
     let h : Hold = record { number = hold; from = peer; to = to; amount = key.amount; price = price; expiry = expiry; condition = key.condition; fate = Held } in
@@ -51,13 +57,14 @@ decided_numbers : (s : State) (peer : ℕ) (key : Key) (now : ℕ) (v : Verdict)
 decided_numbers s peer key now Unknown paid e = e
 decided_numbers s peer key now NoRoom paid e = e
 decided_numbers s peer key now (Refuse code amounts) paid e = e
+decided_numbers s peer key now Fulfil paid e = e
 decided_numbers s peer key now Relay paid e = e
 decided_numbers s peer key now (Forward hold to price expiry) paid e =
     let h : Hold = record { number = hold; from = peer; to = to; amount = key.amount; price = price; expiry = expiry; condition = key.condition; fate = Held } in
     numbered-push s.opening.next_hold (holds_of s) h e paid.2
 
 pub decided_sound : (s : State) (token : List ℕ) (key : Key) (now : ℕ) (from : Peer) → IsSound s
-    → peer_with_token token s.opening.peers ≡ Some from → is_full s ≡ false → now ≤ last_moment
+    → peer_with_token token (network_of s).peers ≡ Some from → is_full s ≡ false → now ≤ last_moment
     → IsSound (recorded s (Some (decide_record from.number key now (verdict_for_sender s from key (max (clock_of s) now)))))
 decided_sound s token key now from sound is room early =
     let v : Verdict = verdict_for_sender s from key (max (clock_of s) now) in
@@ -67,18 +74,17 @@ decided_sound s token key now from sound is room early =
     let counted : open_holds (recorded s (Some r)) ≤ open_holds s + 1 =
     subst (λ (hs : List Hold). count_by is_open hs ≤ open_holds s + 1) (sym holds) (decided_count (holds_of s) from.number key now v) in
     let longer = length_push s.records r in
-    let sender = subst (λ o. IfSome o (λ p. has_terms_within p ≡ true)) is (found_passes _ s.opening.peers sound.terms) in
-    let paid = sender_paid s from key (max (clock_of s) now) sound.terms (has_limits from.terms sender) in
+    let sender = subst (λ o. IfSome o (λ p. has_terms_within p ≡ true)) is (found_passes _ (network_of s).peers sound.network.terms) in
+    let paid = sender_paid s from key (max (clock_of s) now) sound.network.terms (has_limits from.terms sender) in
     let last = sound.clock in
     record {
-      replay = decided_replay s token key now from sound.replay sound.named.numbers is room;
+      replay = decided_replay s token key now from sound.replay sound.network.numbers is room;
       tenant = sound.tenant;
-      named = sound.named;
+      network = subst (λ (x : Net). IsNetwork x) (sym (network_of-decide s from.number key now v)) sound.network;
       room = omega arith;
       journal = sound.journal;
       numbers = subst (λ (hs : List Hold). AreNumbered s.opening.next_hold hs) (sym holds) (decided_numbers s from.number key now v paid sound.numbers);
       purses = λ n. decided_within s from.number key now v paid n (sound.purses n);
-      terms = sound.terms;
       hold = sound.hold;
       first_hold = sound.first_hold;
       period = sound.period;
@@ -124,12 +130,11 @@ answered_sound s n now key h sound is early =
     record {
       replay = answered_replay s n now key h sound.replay is;
       tenant = sound.tenant;
-      named = sound.named;
+      network = subst (λ (x : Net). IsNetwork x) (sym (network_of-answer s n now key v)) sound.network;
       room = omega arith;
       journal = sound.journal;
       numbers = subst (λ (ks : List Hold). AreNumbered s.opening.next_hold ks) (sym holds) (numbered-map (hold_ended n b) (λ x. refl) s.opening.next_hold hs sound.numbers);
-      purses = λ p. moved_within s r (set hs i (with_fate h (Ended b))) p (holds ∙ ended) (ended_moves p hs i h b there place «open» held) (sound.purses p);
-      terms = sound.terms;
+      purses = λ p. moved_within s r (set hs i (with_fate h (Ended b))) p refl refl (holds ∙ ended) (ended_moves p hs i h b there place «open» held) (sound.purses p);
       hold = sound.hold;
       first_hold = sound.first_hold;
       period = sound.period;
@@ -152,12 +157,36 @@ ticked_sound s now sound room early =
     record {
       replay = ticked_replay s now sound.replay room;
       tenant = sound.tenant;
-      named = sound.named;
+      network = subst (λ (x : Net). IsNetwork x) (sym (network_of-tick s now (tick_count s clock))) sound.network;
       room = omega arith;
       journal = sound.journal;
       numbers = subst (λ (ks : List Hold). AreNumbered s.opening.next_hold ks) (sym holds) (numbered-map (hold_ticked clock) (λ x. refl) s.opening.next_hold hs sound.numbers);
-      purses = λ p. moved_within s r (map (hold_ticked clock) hs) p holds (ticked_moves p clock hs) (sound.purses p);
-      terms = sound.terms;
+      purses = λ p. moved_within s r (map (hold_ticked clock) hs) p refl refl holds (ticked_moves p clock hs) (sound.purses p);
+      hold = sound.hold;
+      first_hold = sound.first_hold;
+      period = sound.period;
+      clock = clock_after s r (omega arith);
+    }
+
+-- ---- an order was accepted
+
+pub changed_sound : (s : State) (c : Changed) (now : ℕ) → IsSound s → has_no_place s ≡ false → now ≤ last_moment → names_present (network_of s) c ≡ true
+    → change_refusal s (network_of s) c ≡ None → IsNetwork (network_of (recorded s (Some (change_record c now)))) → IsSound (recorded s (Some (change_record c now)))
+changed_sound s c now sound room early present allowed network =
+    let r : Record = change_record c now in
+    let holds : holds_of (recorded s (Some r)) ≡ holds_of s = holds_of-change s c now in
+    let counted : open_holds (recorded s (Some r)) ≡ open_holds s = ap (count_by is_open) holds in
+    let fits : length s.records + open_holds s + 1 ≤ s.opening.journal = ltb-false _ _ room in
+    let longer = length_push s.records r in
+    let last = sound.clock in
+    record {
+      replay = changed_replay s c now sound.replay room present allowed;
+      tenant = sound.tenant;
+      network = network;
+      room = omega arith;
+      journal = sound.journal;
+      numbers = subst (λ (hs : List Hold). AreNumbered s.opening.next_hold hs) (sym holds) sound.numbers;
+      purses = λ n. changed_within s c now n allowed (sound.purses n);
       hold = sound.hold;
       first_hold = sound.first_hold;
       period = sound.period;

@@ -1,16 +1,17 @@
 -- What a verdict holds keeps the bounds of both purses, check by check.
 use Rattle.std.proofs.Common.{◌≡◌, ℕ, ◌≤◌, ℤ, pos, ◌≤ℤ◌, Bool, true, false, cond, eqb, arith, refl, subst}
-use Rattle.std.specs.Prelude.{Option, Some, None, IfSome, neg_ℤ, nat_le, nat_lt, int_lt, not, option_and_then}
-use Rattle.std.specs.List.{list_all}
+use Rattle.std.specs.Prelude.{Result, Ok, Err, Option, Some, None, IfSome, neg_ℤ, nat_le, nat_lt, int_lt, not, option_and_then}
 use Rattle.std.specs.Int.Signed.{lt_z, lt_z_no}
 use Rattle.std.proofs.lemmas.Float.{T_from_false}
 use Rattle.std.proofs.lemmas.Int.{ints}
+use Rattle.ildcp_core.specs.Request.{is_config, checked_request}
+use Rattle.ildcp_core.specs.declared.fault.IldcpFault.{IldcpFault}
+use Rattle.ildcp_core.specs.declared.fault.IldcpFault.TheVariants.{NotChild, Amount, Condition}
 use Rattle.money_core.specs.Fraction.{Fraction}
 use Rattle.money_core.specs.Price.{price_of}
 use Rattle.rate_bucket.specs.Bucket.{is_admitted}
 use Rattle.route_table.specs.Routes.{best_route}
-use Rattle.tenant_core.specs.declared.opening.Opening.{Opening}
-use Rattle.tenant_core.specs.declared.opening.Peer.{Peer}
+use Rattle.tenant_core.specs.declared.peer.Peer.{Peer}
 use Rattle.tenant_core.specs.declared.verdict.Verdict.{Verdict}
 use Rattle.tenant_core.specs.declared.verdict.RejectCode.TheVariants.{Unreachable}
 use Rattle.tenant_core.specs.Bucket.{stretch_of}
@@ -20,9 +21,11 @@ use Rattle.tenant_core.specs.Limits.{max_money, max_holds}
 use Rattle.tenant_core.specs.Purse.{is_over_ceiling, is_over_credit}
 use Rattle.tenant_core.specs.Routing.{another, onward, stays_here, rate_between, outgoing_expiry}
 use Rattle.tenant_core.specs.Holds.{open_holds}
-use Rattle.tenant_core.specs.State.{State, peer_numbered}
-use Rattle.tenant_core.specs.Judge.{verdict_for_sender, verdict_at_rate, refuse}
-use Rattle.tenant_core.proofs.Purses.{IsPaid, HasLimits, has_limits, has_terms_within, found_passes}
+use Rattle.tenant_core.specs.Network.{Net, peer_numbered}
+use Rattle.tenant_core.specs.Present.{network_of}
+use Rattle.tenant_core.specs.State.{State}
+use Rattle.tenant_core.specs.Judge.{verdict_for_sender, verdict_at_rate, config_verdict, refuse}
+use Rattle.tenant_core.proofs.Purses.{IsPaid, HasLimits, has_limits, has_terms_within, AreLimited, found_passes}
 
 -- ---- one line
 
@@ -62,23 +65,30 @@ rate_paid s from to rate key clock f t =
       refl,
     ))))))
 
-onward_passes : (o : Opening) (n : Option ℕ) → list_all has_terms_within o.peers ≡ true
-    → IfSome (option_and_then (λ to. peer_numbered to o.peers) n) (λ to. has_terms_within to ≡ true)
-onward_passes o None e = tt
-onward_passes o (Some n) e = found_passes (λ p. eqb p.number n) o.peers e
+onward_passes : (net : Net) (n : Option ℕ) → AreLimited net.peers
+    → IfSome (option_and_then (λ to. peer_numbered to net.peers) n) (λ to. has_terms_within to ≡ true)
+onward_passes net None e = tt
+onward_passes net (Some n) e = found_passes (λ p. eqb p.number n) net.peers e
 
-pub sender_paid : (s : State) (from : Peer) (key : Key) (clock : ℕ) → list_all has_terms_within s.opening.peers ≡ true
+config_paid : (s : State) (n amount : ℕ) (r : Result (Unit {0}) IldcpFault) → IsPaid s n amount (config_verdict r)
+config_paid s n amount (Ok good) = tt
+config_paid s n amount (Err NotChild) = tt
+config_paid s n amount (Err Amount) = tt
+config_paid s n amount (Err Condition) = tt
+
+pub sender_paid : (s : State) (from : Peer) (key : Key) (clock : ℕ) → AreLimited (network_of s).peers
     → HasLimits from.terms → IsPaid s from.number key.amount (verdict_for_sender s from key clock)
 sender_paid s from key clock within f =
     passed s from.number key.amount (not (is_admitted (stretch_of s from) clock)) _ _ tt (λ _.
     passed s from.number key.amount (nat_le key.expiry clock) _ _ tt (λ _.
+    passed s from.number key.amount (is_config key.destination) _ _ (config_paid s from.number key.amount (checked_request from.terms.role key.amount key.condition)) (λ _.
     passed s from.number key.amount (stays_here s.opening key.destination) _ _ tt (λ _.
     passed s from.number key.amount (nat_lt from.terms.limits.cap key.amount) _ _ tt (λ _.
-    found s from.number key.amount (onward s.opening from.number key.destination) (refuse Unreachable) _ tt (λ to is.
-    found s from.number key.amount (rate_between s.opening from.number to.number) (refuse Unreachable) _ tt (λ rate _.
-    rate_paid s from to rate key clock f (has_limits to.terms (passes to is))))))))
+    found s from.number key.amount (onward (network_of s) from.number key.destination) (refuse Unreachable) _ tt (λ to is.
+    found s from.number key.amount (rate_between (network_of s) from.number to.number) (refuse Unreachable) _ tt (λ rate _.
+    rate_paid s from to rate key clock f (has_limits to.terms (passes to is)))))))))
   where
-    passes : (to : Peer) → onward s.opening from.number key.destination ≡ Some to → has_terms_within to ≡ true
+    passes : (to : Peer) → onward (network_of s) from.number key.destination ≡ Some to → has_terms_within to ≡ true
     passes to is =
-        let each = onward_passes s.opening (option_and_then (another from.number) (best_route s.opening.routes key.destination)) within in
+        let each = onward_passes (network_of s) (option_and_then (another from.number) (best_route (network_of s).routes key.destination)) within in
         subst (λ o. IfSome o (λ p. has_terms_within p ≡ true)) is each

@@ -1,10 +1,10 @@
 -- The bucket of a peer, as the records of a state leave it.
-use Rattle.std.specs.Prelude.{ℕ, Bool, ◌&&◌, not, false, true, List, [], ◌∷◌, if◌then◌else◌}
+use Rattle.std.specs.Prelude.{ℕ, Bool, ◌&&◌, not, false, true, List, [], ◌∷◌, drop, if◌then◌else◌}
 use Rattle.rate_bucket.specs.Bucket.{Stretch}
 use Rattle.tenant_core.specs.State.{State, later, is_of}
-use Rattle.tenant_core.specs.declared.opening.Peer.{Peer}
+use Rattle.tenant_core.specs.declared.peer.Peer.{Peer}
 use Rattle.tenant_core.specs.declared.journal.Outcome.{Outcome}
-use Rattle.tenant_core.specs.declared.journal.Outcome.TheVariants.{Packet, Ticked}
+use Rattle.tenant_core.specs.declared.journal.Outcome.TheVariants.{Packet}
 use Rattle.tenant_core.specs.declared.journal.Record.{Record}
 use Rattle.tenant_core.specs.declared.verdict.RejectCode.{RejectCode}
 use Rattle.tenant_core.specs.declared.verdict.RejectCode.TheVariants.{RateLimited}
@@ -24,7 +24,7 @@ is_limited _ = false
 -- the bucket admitted what led to this
 abbrev pub admits : Outcome → Bool
 admits (Packet v) = not (is_limited v)
-admits (Ticked count) = false
+admits _ = false
 
 -- the clocks at which records that follow that clock say that packets of the peer of that number were admitted
 abbrev pub admitted_clocks : ℕ → ℕ → List Record → List ℕ
@@ -34,17 +34,17 @@ admitted_clocks n clock (r ∷ rs) =
     then later clock r ∷ admitted_clocks n (later clock r) rs
     else admitted_clocks n (later clock r) rs
 
--- the bucket of a peer since that clock, which the records follow
-abbrev pub bucket_of : Peer → ℕ → List Record → Stretch
-bucket_of p clock records =
+-- the bucket of a peer since its level was taken, which those records follow
+abbrev pub bucket_of : Peer → List Record → Stretch
+bucket_of p records =
     record {
-      start = clock;
-      credit = p.bucket;
+      start = p.bucket.clock;
+      credit = p.bucket.credit;
       burst = p.terms.bucket.burst;
       per_second = p.terms.bucket.per_second;
-      admitted = admitted_clocks p.number clock records;
+      admitted = admitted_clocks p.number p.bucket.clock records;
     }
 
--- the bucket of a peer since the period began
+-- the bucket of a peer of a state
 abbrev pub stretch_of : State → Peer → Stretch
-stretch_of s p = bucket_of p s.opening.clock s.records
+stretch_of s p = bucket_of p (drop p.bucket.entries s.records)

@@ -9,7 +9,7 @@ use Rattle.tenant_core.specs.declared.journal.AnswerKey.{AnswerKey}
 use Rattle.tenant_core.specs.declared.journal.AnswerKey.TheVariants.{Fulfilled}
 use Rattle.tenant_core.specs.declared.journal.DecideEntry.{DecideEntry}
 use Rattle.tenant_core.specs.declared.journal.Entry.{Entry}
-use Rattle.tenant_core.specs.declared.journal.Entry.TheVariants.{Decide, Answer, Tick}
+use Rattle.tenant_core.specs.declared.journal.Entry.TheVariants.{Decide, Answer, Tick, Change, Roll}
 use Rattle.tenant_core.specs.declared.journal.Outcome.{Outcome}
 use Rattle.tenant_core.specs.declared.journal.Outcome.TheVariants.{Packet}
 use Rattle.tenant_core.specs.declared.journal.Record.{Record}
@@ -102,6 +102,8 @@ abbrev pub hold_after : ℕ → Entry → Outcome → Hold → Hold
 hold_after clock (Decide d) o h = h
 hold_after clock (Answer a) o h = hold_ended a.hold (is_fulfill a.key && is_relayed o) h
 hold_after clock (Tick t) o h = hold_ticked clock h
+hold_after clock (Change c) o h = h
+hold_after clock (Roll r) o h = h
 
 -- ---- the holds of a state
 

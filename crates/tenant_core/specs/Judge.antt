@@ -1,7 +1,11 @@
 -- The verdict on a Prepare: that of the first check that fails, line by line. `fails ⇒ verdict` is a check, and
 -- `name ← search otherwise verdict` one that finds what later lines name.
-use Rattle.std.specs.Prelude.{ℕ, ◌≤◌, ◌+◌, Bool, true, false, not, List, length, max, Option, Some, None, nat_lt}
+use Rattle.std.specs.Prelude.{ℕ, ◌≤◌, ◌+◌, Bool, true, false, not, List, length, max, Option, Some, None, Result, Ok, Err, nat_lt}
 use Rattle.std.specs.Prelude.{nat_le, if◌then◌else◌}
+use Rattle.ildcp_core.specs.Client.{Client}
+use Rattle.ildcp_core.specs.Request.{is_config, checked_request}
+use Rattle.ildcp_core.specs.declared.fault.IldcpFault.{IldcpFault}
+use Rattle.ildcp_core.specs.declared.fault.IldcpFault.TheVariants.{NotChild, Amount, Condition}
 use Rattle.money_core.specs.Fraction.{Fraction}
 use Rattle.money_core.specs.Price.{price_of, greatest_amount}
 use Rattle.rate_bucket.specs.Bucket.{is_admitted}
@@ -12,18 +16,21 @@ use Rattle.tenant_core.specs.Limits.{max_holds}
 use Rattle.tenant_core.specs.Purse.{is_over_ceiling, is_over_credit}
 use Rattle.tenant_core.specs.Routing.{stays_here, onward, rate_between, outgoing_expiry}
 use Rattle.tenant_core.specs.Holds.{open_holds, next_hold}
-use Rattle.tenant_core.specs.State.{State, clock_of, peer_with_token, recorded}
-use Rattle.tenant_core.specs.declared.opening.Peer.{Peer}
+use Rattle.tenant_core.specs.Network.{peer_with_token}
+use Rattle.tenant_core.specs.Present.{network_of}
+use Rattle.tenant_core.specs.State.{State, clock_of, recorded}
+use Rattle.tenant_core.specs.declared.opening.Opening.{Opening}
+use Rattle.tenant_core.specs.declared.peer.Peer.{Peer}
 use Rattle.tenant_core.specs.declared.journal.DecideEntry.{DecideEntry}
 use Rattle.tenant_core.specs.declared.journal.Entry.TheVariants.{Decide}
 use Rattle.tenant_core.specs.declared.journal.Outcome.TheVariants.{Packet}
 use Rattle.tenant_core.specs.declared.journal.Record.{Record}
 use Rattle.tenant_core.specs.declared.verdict.RejectCode.{RejectCode}
-use Rattle.tenant_core.specs.declared.verdict.RejectCode.TheVariants.{Unreachable, AmountTooLarge, Busy}
+use Rattle.tenant_core.specs.declared.verdict.RejectCode.TheVariants.{BadRequest, Unreachable, InvalidAmount, WrongCondition, AmountTooLarge, Busy}
 use Rattle.tenant_core.specs.declared.verdict.RejectCode.TheVariants.{InsufficientLiquidity, RateLimited}
 use Rattle.tenant_core.specs.declared.verdict.RejectCode.TheVariants.{InsufficientTimeout}
 use Rattle.tenant_core.specs.declared.verdict.Verdict.{Verdict}
-use Rattle.tenant_core.specs.declared.verdict.Verdict.TheVariants.{Unknown, NoRoom, Refuse, Forward, Relay}
+use Rattle.tenant_core.specs.declared.verdict.Verdict.TheVariants.{Unknown, NoRoom, Refuse, Fulfil, Forward, Relay}
 
 -- a refusal that names no amounts (RFC 0027, "Error Codes")
 abbrev pub refuse : RejectCode → Verdict
@@ -36,6 +43,24 @@ refuse_over amount greatest = Refuse AmountTooLarge (Some (amount, greatest))
 -- the journal has no room for another entry, its answer and those of all open holds
 abbrev pub is_full : State → Bool
 is_full s = nat_lt s.opening.journal (length s.records + open_holds s + 2)
+
+-- a peer, as far as its configuration goes (RFC 0031)
+abbrev pub child_of : Opening → Peer → Client
+child_of o p =
+    record {
+      role = p.terms.role;
+      tenant = o.address;
+      name = p.terms.name;
+      scale = p.terms.scale;
+      code = p.terms.asset;
+    }
+
+-- the verdict on a request for the configuration (RFC 0031)
+abbrev pub config_verdict : Result (Unit {0}) IldcpFault → Verdict
+config_verdict (Ok good) = Fulfil
+config_verdict (Err NotChild) = refuse BadRequest
+config_verdict (Err Amount) = refuse InvalidAmount
+config_verdict (Err Condition) = refuse WrongCondition
 
 -- the last checks: those of a packet of one peer for another, at the rate between them
 abbrev pub verdict_at_rate : State → Peer → Peer → Fraction → Key → ℕ → Verdict
@@ -55,16 +80,17 @@ abbrev pub verdict_for_sender : State → Peer → Key → ℕ → Verdict
 verdict_for_sender s from key clock = do
   not (is_admitted (stretch_of s from) clock) ⇒ refuse RateLimited
   nat_le key.expiry clock ⇒ refuse InsufficientTimeout
+  is_config key.destination ⇒ config_verdict (checked_request from.terms.role key.amount key.condition)
   stays_here s.opening key.destination ⇒ refuse Unreachable
   nat_lt from.terms.limits.cap key.amount ⇒ refuse_over key.amount from.terms.limits.cap
-  to ← onward s.opening from.number key.destination otherwise refuse Unreachable
-  rate ← rate_between s.opening from.number to.number otherwise refuse Unreachable
+  to ← onward (network_of s) from.number key.destination otherwise refuse Unreachable
+  rate ← rate_between (network_of s) from.number to.number otherwise refuse Unreachable
   verdict_at_rate s from to rate key clock
 
 -- the verdict on a Prepare that came with this token at this moment
 abbrev pub judge : State → List ℕ → Key → ℕ → Verdict
 judge s token key now = do
-  from ← peer_with_token token s.opening.peers otherwise Unknown
+  from ← peer_with_token token (network_of s).peers otherwise Unknown
   is_full s ⇒ NoRoom
   verdict_for_sender s from key (max (clock_of s) now)
 
@@ -89,6 +115,7 @@ abbrev pub is_recorded : Verdict → Bool
 is_recorded Unknown = false
 is_recorded NoRoom = false
 is_recorded (Refuse code amounts) = true
+is_recorded Fulfil = true
 is_recorded (Forward hold peer amount expiry) = true
 is_recorded Relay = true
 
@@ -100,7 +127,7 @@ record_left (Some from) key now v = if is_recorded v then Some (decide_record fr
 -- the state after a Prepare was decided
 abbrev pub decided : State → List ℕ → Key → ℕ → State
 decided s token key now =
-    recorded s (record_left (peer_with_token token s.opening.peers) key now (judge s token key now))
+    recorded s (record_left (peer_with_token token (network_of s).peers) key now (judge s token key now))
 
 -- a packet that goes on expires no later than it did
 abbrev pub IsSooner : Verdict → ℕ → Type 0

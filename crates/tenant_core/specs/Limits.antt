@@ -44,3 +44,7 @@ max_per_second = 1_000_000
 -- the number of a period
 abbrev pub max_period : ℕ
 max_period = 4_294_967_295
+
+-- peers that a tenant ever has
+abbrev pub max_peer_numbers : ℕ
+max_peer_numbers = 65_535

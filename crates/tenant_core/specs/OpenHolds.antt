@@ -1,11 +1,13 @@
 -- What each call makes of the holds that await their answers: the laws that those above go by.
 use Rattle.std.specs.Prelude.{ℕ, ◌≡◌, Bool, true, false, not, ◌&&◌, ◌||◌, List, is_some, ◌==◌}
 use Rattle.tenant_core.specs.Answer.{answered, ticked}
+use Rattle.tenant_core.specs.Governed.{commanded}
 use Rattle.tenant_core.specs.Holds.{open_hold, next_hold}
 use Rattle.tenant_core.specs.Judge.{judge, decided}
 use Rattle.tenant_core.specs.Key.{Key}
 use Rattle.tenant_core.specs.Sound.{IsSound}
 use Rattle.tenant_core.specs.State.{State}
+use Rattle.tenant_core.specs.declared.command.Command.{Command}
 use Rattle.tenant_core.specs.declared.journal.AnswerKey.{AnswerKey}
 use Rattle.tenant_core.specs.declared.verdict.Verdict.{Verdict}
 use Rattle.tenant_core.specs.declared.verdict.Verdict.TheVariants.{Forward}
@@ -31,5 +33,6 @@ pub record OpenHoldLaws : Type 0 where
   -- an answer ends its hold, and no other
   pub answered : (s : State) (hold now : ℕ) (key : AnswerKey) (n : ℕ)
       → is_awaited (answered s hold now key) n ≡ (is_awaited s n && not (n == hold))
-  -- a tick ends none
+  -- a tick ends none, nor does a command
   pub ticked : (s : State) (now n : ℕ) → is_awaited (ticked s now) n ≡ is_awaited s n
+  pub commanded : (s : State) (command : Command) (now n : ℕ) → is_awaited (commanded s command now) n ≡ is_awaited s n

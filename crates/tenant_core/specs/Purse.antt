@@ -3,9 +3,16 @@ use Rattle.std.specs.Prelude.{ℕ, ◌+◌, ℤ, pos, ◌+ℤ◌, ◌-ℤ◌, �
 use Rattle.std.specs.Prelude.{None, if◌then◌else◌}
 use Rattle.tenant_core.specs.Holds.{holds_of, holds_amounts, took_amounts}
 use Rattle.tenant_core.specs.Limits.{max_money}
-use Rattle.tenant_core.specs.State.{State, peer_numbered}
+use Rattle.tenant_core.specs.Network.{peer_numbered}
+use Rattle.tenant_core.specs.State.{State}
+use Rattle.tenant_core.specs.declared.command.Side.TheVariants.{In, Out}
 use Rattle.tenant_core.specs.declared.hold.Hold.{Hold}
-use Rattle.tenant_core.specs.declared.opening.Peer.{Peer}
+use Rattle.tenant_core.specs.declared.journal.Change.{Change as Changed}
+use Rattle.tenant_core.specs.declared.journal.Change.TheVariants.{Settled}
+use Rattle.tenant_core.specs.declared.journal.Entry.{Entry}
+use Rattle.tenant_core.specs.declared.journal.Entry.TheVariants.{Change}
+use Rattle.tenant_core.specs.declared.journal.Record.{Record}
+use Rattle.tenant_core.specs.declared.peer.Peer.{Peer}
 use Rattle.tenant_core.specs.declared.row.Row.{Row}
 
 -- what a hold holds from the peer of that number
@@ -45,9 +52,41 @@ abbrev pub opening_balance : Option Peer → ℤ
 opening_balance None = pos 0
 opening_balance (Some p) = p.balance
 
+-- what a change says that the peer of that number paid
+abbrev pub paid_in : ℕ → Changed → ℕ
+paid_in n (Settled peer In amount) = if peer == n then amount else 0
+paid_in n _ = 0
+
+-- what a change says that it was paid
+abbrev pub paid_out : ℕ → Changed → ℕ
+paid_out n (Settled peer Out amount) = if peer == n then amount else 0
+paid_out n _ = 0
+
+-- what a record says that the peer of that number paid
+abbrev pub settled_in : ℕ → Record → ℕ
+settled_in n r = of_entry r.entry
+  where
+    of_entry : Entry → ℕ
+    of_entry (Change c) = paid_in n c.change
+    of_entry _ = 0
+
+-- what it says that the peer was paid
+abbrev pub settled_out : ℕ → Record → ℕ
+settled_out n r = of_entry r.entry
+  where
+    of_entry : Entry → ℕ
+    of_entry (Change c) = paid_out n c.change
+    of_entry _ = 0
+
+-- what the peer of that number owed at first and by what was settled since, in its units
+abbrev pub base_of : State → ℕ → ℤ
+base_of s n =
+    (opening_balance (peer_numbered n s.opening.network.peers) -ℤ pos (sum_by (settled_in n) s.records))
+    +ℤ pos (sum_by (settled_out n) s.records)
+
 -- what the peer of that number owes the tenant, in its units, below 0 where it is owed
 abbrev pub balance_of : State → ℕ → ℤ
-balance_of s n = (opening_balance (peer_numbered n s.opening.peers) +ℤ pos (taken_in_of s n)) -ℤ pos (taken_out_of s n)
+balance_of s n = (base_of s n +ℤ pos (taken_in_of s n)) -ℤ pos (taken_out_of s n)
 
 -- a peer's name, its balance and what is held from it and for it
 abbrev pub row_of : State → Peer → Row

@@ -1,16 +1,21 @@
 -- Replays: the outcomes that a journal's entries lead to, from its opening on.
-use Rattle.std.specs.Prelude.{◌≡◌, List, fold, map, max, Option, Some, None, option_map, option_and_then, if◌then◌else◌}
+use Rattle.std.specs.Prelude.{◌≡◌, ◌||◌, not, is_some, List, fold, map, max, Option, Some, None, option_map, option_and_then, if◌then◌else◌}
 use Rattle.tenant_core.specs.Answer.{settle_answer, has_no_place, tick_count}
 use Rattle.tenant_core.specs.Holds.{open_hold}
 use Rattle.tenant_core.specs.Judge.{is_full, verdict_for_sender}
 use Rattle.tenant_core.specs.Key.{Key}
-use Rattle.tenant_core.specs.State.{State, opened, clock_of, peer_numbered, recorded}
+use Rattle.tenant_core.specs.Network.{peer_numbered}
+use Rattle.tenant_core.specs.Present.{network_of}
+use Rattle.tenant_core.specs.Orders.{names_present, change_refusal}
+use Rattle.tenant_core.specs.Periods.{roll_refusal}
+use Rattle.tenant_core.specs.State.{State, opened, clock_of, recorded}
 use Rattle.tenant_core.specs.declared.journal.AnswerEntry.{AnswerEntry}
+use Rattle.tenant_core.specs.declared.journal.ChangeEntry.{ChangeEntry}
 use Rattle.tenant_core.specs.declared.journal.DecideEntry.{DecideEntry}
 use Rattle.tenant_core.specs.declared.journal.Entry.{Entry}
-use Rattle.tenant_core.specs.declared.journal.Entry.TheVariants.{Decide, Answer, Tick}
+use Rattle.tenant_core.specs.declared.journal.Entry.TheVariants.{Decide, Answer, Tick, Change, Roll}
 use Rattle.tenant_core.specs.declared.journal.Outcome.{Outcome}
-use Rattle.tenant_core.specs.declared.journal.Outcome.TheVariants.{Packet, Ticked}
+use Rattle.tenant_core.specs.declared.journal.Outcome.TheVariants.{Packet, Ticked, Done, Rolled}
 use Rattle.tenant_core.specs.declared.journal.TickEntry.{TickEntry}
 use Rattle.tenant_core.specs.declared.opening.Opening.{Opening}
 
@@ -24,7 +29,7 @@ decide_outcome s d =
     if is_full s then None
     else option_map
     (λ from. Packet (verdict_for_sender s from (key_entered d) (max (clock_of s) d.now)))
-    (peer_numbered d.peer s.opening.peers)
+    (peer_numbered d.peer (network_of s).peers)
 
 -- what the answer to an open hold leads to
 abbrev pub answer_outcome : State → AnswerEntry → Option Outcome
@@ -35,11 +40,24 @@ answer_outcome s a =
 abbrev pub tick_outcome : State → TickEntry → Option Outcome
 tick_outcome s t = if has_no_place s then None else Some (Ticked (tick_count s (max (clock_of s) t.now)))
 
+-- what the change of the entry leads to, where the journal has room for it, its peers are there and nothing refuses it
+abbrev pub change_outcome : State → ChangeEntry → Option Outcome
+change_outcome s c =
+    if has_no_place s || not (names_present (network_of s) c.change)
+    || is_some (change_refusal s (network_of s) c.change)
+    then None else Some Done
+
+-- what a roll leads to, where nothing refuses it
+abbrev pub roll_outcome : State → Option Outcome
+roll_outcome s = if is_some (roll_refusal s) then None else Some Rolled
+
 -- what an entry leads to in a state; nothing where it would not be appended
 abbrev pub outcome_of : State → Entry → Option Outcome
 outcome_of s (Decide d) = decide_outcome s d
 outcome_of s (Answer a) = answer_outcome s a
 outcome_of s (Tick t) = tick_outcome s t
+outcome_of s (Change c) = change_outcome s c
+outcome_of s (Roll r) = roll_outcome s
 
 -- the state with that entry and what it leads to
 abbrev pub appended : State → Entry → Option State

@@ -1,41 +1,31 @@
 -- Where a packet goes, and by when.
-use Rattle.std.specs.Prelude.{ℕ, ◌+◌, ◌-◌, Bool, false, ◌&&◌, ◌||◌, List, [], ◌∷◌, find, min, codes, Option, Some, None}
+use Rattle.std.specs.Prelude.{ℕ, ◌+◌, ◌-◌, Bool, ◌||◌, List, find, min, Option, Some, None}
 use Rattle.std.specs.Prelude.{option_map, option_and_then, ◌==◌, if◌then◌else◌}
 use Rattle.std.specs.Str.{bytes_eq}
 use Rattle.money_core.specs.Fraction.{Fraction}
-use Rattle.ilp_addr.specs.Address.{segments}
+use Rattle.ilp_addr.specs.OwnAddress.{is_for_neighbors}
 use Rattle.route_table.specs.Routes.{best_route}
-use Rattle.tenant_core.specs.State.{peer_numbered}
+use Rattle.tenant_core.specs.Network.{Net, peer_numbered, is_for_pair}
 use Rattle.tenant_core.specs.declared.opening.Opening.{Opening}
-use Rattle.tenant_core.specs.declared.opening.Peer.{Peer}
-use Rattle.tenant_core.specs.declared.terms.RateTerms.{RateTerms}
-
--- the first segment is that one
-abbrev pub begins_at : List ℕ → List (List ℕ) → Bool
-begins_at name [] = false
-begins_at name (first ∷ others) = bytes_eq first name
+use Rattle.tenant_core.specs.declared.peer.Peer.{Peer}
 
 -- addresses that no packet is sent on for: those for direct neighbours (RFC 0015, "Allocation Schemes"), and the
 -- tenant's own
 abbrev pub stays_here : Opening → List ℕ → Bool
-stays_here o destination = begins_at (codes "peer") (segments destination) || bytes_eq destination o.address
+stays_here o destination = is_for_neighbors destination || bytes_eq destination o.address
 
 -- the number of a peer other than the sender
 abbrev pub another : ℕ → ℕ → Option ℕ
 another from to = if to == from then None else Some to
 
 -- the peer that a packet goes on to: that of the best route, unless it leads back
-abbrev pub onward : Opening → ℕ → List ℕ → Option Peer
-onward o from destination =
-    option_and_then (λ to. peer_numbered to o.peers) (option_and_then (another from) (best_route o.routes destination))
-
--- the rate is for this ordered pair of peers
-abbrev pub is_for_pair : ℕ → ℕ → RateTerms → Bool
-is_for_pair from to r = (r.from == from) && (r.to == to)
+abbrev pub onward : Net → ℕ → List ℕ → Option Peer
+onward net from destination =
+    option_and_then (λ to. peer_numbered to net.peers) (option_and_then (another from) (best_route net.routes destination))
 
 -- the rate of an ordered pair of peers
-abbrev pub rate_between : Opening → ℕ → ℕ → Option Fraction
-rate_between o from to = option_map (λ r. r.rate) (find (is_for_pair from to) o.rates)
+abbrev pub rate_between : Net → ℕ → ℕ → Option Fraction
+rate_between net from to = option_map (λ r. r.rate) (find (is_for_pair from to) net.rates)
 
 -- the expiry that a packet goes on with: earlier by the margin, and no later than it may be held
 abbrev pub outgoing_expiry : Opening → ℕ → ℕ → ℕ

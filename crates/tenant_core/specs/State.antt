@@ -1,29 +1,17 @@
 -- A tenant's state: an opening and the records since. Every question about it is one about that list.
-use Rattle.std.specs.Prelude.{ℕ, ◌+◌, Bool, false, List, [], ◌∷◌, ◌++◌, fold, max, find, length, Option, Some, None}
+use Rattle.std.specs.Prelude.{ℕ, Bool, false, List, [], ◌∷◌, ◌++◌, fold, max, Option, Some, None}
 use Rattle.std.specs.Prelude.{◌==◌}
-use Rattle.std.specs.Str.{bytes_eq}
-use Rattle.rate_bucket.specs.Bucket.{full_bucket}
+use Rattle.tenant_core.specs.Network.{begun}
 use Rattle.tenant_core.specs.declared.opening.Opening.{Opening}
-use Rattle.tenant_core.specs.declared.opening.Peer.{Peer}
-use Rattle.tenant_core.specs.declared.terms.NewPeer.{NewPeer}
 use Rattle.tenant_core.specs.declared.terms.TenantTerms.{TenantTerms}
 use Rattle.tenant_core.specs.declared.journal.Entry.{Entry}
-use Rattle.tenant_core.specs.declared.journal.Entry.TheVariants.{Decide, Answer, Tick}
+use Rattle.tenant_core.specs.declared.journal.Entry.TheVariants.{Decide, Answer, Tick, Change, Roll}
 use Rattle.tenant_core.specs.declared.journal.Record.{Record}
 
 -- what a period began with, and what happened since
 pub record State : Type 0 where
   pub opening : Opening
   pub records : List Record
-
--- a peer that was just added under that number: its bucket is full
-abbrev pub added : ℕ → NewPeer → Peer
-added n p = record { number = n; terms = p.terms; balance = p.balance; bucket = full_bucket p.terms.bucket.burst }
-
--- the peers of a setup under their numbers, the first under n
-abbrev pub numbered : ℕ → List NewPeer → List Peer
-numbered n [] = []
-numbered n (p ∷ ps) = added n p ∷ numbered (n + 1) ps
 
 -- what the first period of a tenant begins with
 abbrev pub opening_of : ℕ → TenantTerms → ℕ → Opening
@@ -38,10 +26,7 @@ opening_of tenant t start =
       period = 0;
       clock = start;
       next_hold = 0;
-      next_peer = length t.peers;
-      peers = numbered 0 t.peers;
-      routes = t.routes;
-      rates = t.rates;
+      network = begun start t.network;
     }
 
 -- the state in which nothing has happened since
@@ -53,6 +38,8 @@ abbrev pub entered_at : Entry → ℕ
 entered_at (Decide d) = d.now
 entered_at (Answer a) = a.now
 entered_at (Tick t) = t.now
+entered_at (Change c) = c.now
+entered_at (Roll r) = r.now
 
 -- the later of the clock so far and the record's moment
 abbrev pub later : ℕ → Record → ℕ
@@ -61,18 +48,6 @@ later clock r = max clock (entered_at r.entry)
 -- a tenant's clock: the greatest moment of its opening and its entries
 abbrev pub clock_of : State → ℕ
 clock_of s = fold later s.opening.clock s.records
-
--- the peer of this number
-abbrev pub peer_numbered : ℕ → List Peer → Option Peer
-peer_numbered n peers = find (λ p. p.number == n) peers
-
--- the peer that shows this token
-abbrev pub peer_with_token : List ℕ → List Peer → Option Peer
-peer_with_token token peers = find (λ p. bytes_eq p.terms.token token) peers
-
--- the peer of this name
-abbrev pub peer_named : List ℕ → List Peer → Option Peer
-peer_named name peers = find (λ p. bytes_eq p.terms.name name) peers
 
 -- the entry is a packet of the peer of that number
 abbrev pub is_of : ℕ → Entry → Bool

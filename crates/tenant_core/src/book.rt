@@ -1,28 +1,37 @@
 //! Books: an opening and the records since.
 
-use crate::faults::{BookFault, HoldFault};
-use crate::hold::{Hold, begin_hold, end_hold, mark_overdue};
+use crate::command::{Answered, Command, Order};
+use crate::faults::{BookFault, CommandFault, HoldFault};
+use crate::hold::{Hold, begin_hold, copied_holds, end_hold, mark_overdue};
 use crate::journal::{
-    AnswerEntry, AnswerKey, Entry, Outcome, PrepareKey, Record, TickEntry, decide_entry,
+    AnswerEntry, AnswerKey, ChangeEntry, Entry, Outcome, PrepareKey, Record, RollEntry, TickEntry,
+    copied_records, decide_entry,
 };
-use crate::judge::Standing;
-use crate::numbered::numbered;
+use crate::judge::{Standing, child_of};
+use crate::limits::MAX_PERIOD;
+use crate::network::Network;
 use crate::opening::Opening;
-use crate::purse::{balance, held_in, held_out};
+use crate::orders::change_of;
+use crate::period::Period;
+use crate::periods::{next_network, next_opening, row_of, rows_of};
 use crate::routing::{peer_numbered, peer_with_token};
 use crate::row::Row;
 use crate::setup::TenantSetup;
-use crate::terms::copied_rates;
 use crate::verdict::Verdict;
-use ilp_addr::Moment;
+use common_types::Items;
+use ildcp_core::Child;
+use ilp_addr::{Moment, Target};
 use route_table::PeerNo;
 use std::alloc::{AllocError, Global};
 use std::marker::Model;
+use std::mem;
 
 /// A tenant's book. Contracts see it as a `State`: what its period began with, and the records since.
 #[derive(Drop)]
 pub struct Book {
     opening: Opening,
+    // Whom the tenant deals with at present.
+    network: Network,
     records: Vec<Record>,
     clock: u64,
     holds: Vec<Hold>,
@@ -48,8 +57,11 @@ impl Model for Book {
 
 impl Book {
     ghost use Rattle.std.specs.Prelude.{◌≡◌, ◌<◌, ◌≤◌, length, IfOk, IfSome, option_copied, option_map};
-    ghost use Rattle.tenant_core.specs.State.{opened, opening_of, peer_numbered};
+    ghost use Rattle.tenant_core.specs.State.{opened, opening_of};
     ghost use Rattle.tenant_core.specs.Limits.{max_tenants};
+    ghost use Rattle.tenant_core.specs.Network.{peer_numbered, peer_with_token};
+    ghost use Rattle.tenant_core.specs.Judge.{child_of};
+    ghost use Rattle.tenant_core.specs.Present.{network_of};
     ghost use Rattle.tenant_core.specs.Purse.{row_of};
     ghost use Rattle.tenant_core.specs.Sound.{IsSound};
     ghost use Rattle.tenant_core.specs.Standing.{state_shown, IsShown};
@@ -67,11 +79,13 @@ impl Book {
         ensures { IfOk result (λ book. book ≡ opened (opening_of tenant setup.now start)) }
     {
         let terms = setup.terms();
-        let records = Vec::with_capacity(alloc, terms.journal as usize)?;
+        let clock = start.millis();
+        let records = Vec::with_capacity(alloc, terms.journal as usize + 1)?;
         let holds = Vec::with_capacity(alloc, terms.journal as usize)?;
-        let peers = numbered(alloc, terms.peers.as_slice())?;
-        let routes = terms.routes.copy(alloc)?;
-        let rates = copied_rates(alloc, terms.rates.as_slice())?;
+        let mut network = terms.network.copy(alloc)?;
+        network.begin(clock);
+        network.is_network();
+        let present = network.copy(alloc)?;
         let opening = Opening {
             tenant,
             name: terms.name.copy(),
@@ -80,19 +94,36 @@ impl Book {
             margin: terms.margin,
             hold: terms.hold,
             period: 0,
-            clock: start.millis(),
+            clock,
             next_hold: 0,
-            next_peer: terms.peers.as_slice().len() as PeerNo,
-            peers,
-            routes,
-            rates,
+            network,
         };
         Ok(Book {
             opening,
+            network: present,
             records,
-            clock: start.millis(),
+            clock,
             holds,
             awaited: 0,
+        })
+    }
+
+    /// The same book once more, with as much room. The one error is want of memory.
+    pub fn copy(&self, alloc: Global) -> Result<Book, AllocError>
+        ensures { IfOk result (λ book. book ≡ self.now) }
+    {
+        let places = self.opening.journal as usize;
+        let opening = self.opening.copy(alloc)?;
+        let network = self.network.copy(alloc)?;
+        let records = copied_records(alloc, self.records.as_slice(), places + 1)?;
+        let holds = copied_holds(alloc, self.holds.as_slice(), places)?;
+        Ok(Book {
+            opening,
+            network,
+            records,
+            clock: self.clock,
+            holds,
+            awaited: self.awaited,
         })
     }
 
@@ -106,13 +137,33 @@ impl Book {
     /// The name of the peer of that number.
     pub fn peer_name(&self, peer: PeerNo) -> Option<&[u8]>
         ensures value { option_copied result
-            ≡ option_map (λ p. p.terms.name) (peer_numbered peer self.now.opening.peers) }
+            ≡ option_map (λ p. p.terms.name) (peer_numbered peer (network_of self.now).peers) }
         ensures short { IfSome result (λ name. length name.now ≤ 32) }
     {
-        match peer_numbered(self.opening.peers.as_slice(), peer) {
+        match peer_numbered(self.network.peers(), peer) {
             Some(peer) => Some(peer.terms.name.as_bytes()),
             None => None,
         }
+    }
+
+    /// Where the peer of that number takes packets, and what is shown there.
+    pub fn target(&self, peer: PeerNo) -> Option<&Target>
+        ensures { option_copied result
+            ≡ option_map (λ p. p.terms.target) (peer_numbered peer (network_of self.now).peers) }
+    {
+        match peer_numbered(self.network.peers(), peer) {
+            Some(peer) => Some(&peer.terms.target),
+            None => None,
+        }
+    }
+
+    /// The peer that shows this token, as far as its configuration goes (RFC 0031).
+    pub fn child(&self, token: &[u8]) -> Option<Child<'_>>
+        ensures { result ≡ option_map (child_of self.now.opening)
+            (peer_with_token token.now (network_of self.now).peers) }
+    {
+        let peer = peer_with_token(self.network.peers(), token)?;
+        Some(child_of(&self.opening, peer))
     }
 
     /// How many entries the running period has.
@@ -131,16 +182,10 @@ impl Book {
 
     /// What the peer of that number owes, and what is held from it and for it.
     pub fn balance(&self, peer: PeerNo) -> Option<Row>
-        ensures { result ≡ option_map (row_of self.now) (peer_numbered peer self.now.opening.peers) }
+        ensures { result ≡ option_map (row_of self.now) (peer_numbered peer (network_of self.now).peers) }
     {
-        let peer = peer_numbered(self.opening.peers.as_slice(), peer)?;
-        let holds = self.holds.as_slice();
-        Some(Row {
-            name: peer.terms.name.copy(),
-            balance: balance(&self.opening, holds, peer.number) as i64,
-            held_in: held_in(holds, peer.number) as u64,
-            held_out: held_out(holds, peer.number) as u64,
-        })
+        let peer = peer_numbered(self.network.peers(), peer)?;
+        Some(row_of(&self.standing(), peer))
     }
 
     /// The tenant's own address.
@@ -158,6 +203,7 @@ impl Book {
     {
         Standing {
             opening: &self.opening,
+            network: &self.network,
             records: self.records.as_slice(),
             holds: self.holds.as_slice(),
             awaited: self.awaited,
@@ -185,6 +231,8 @@ impl Book {
     /// - the journal has room for the packet and its answer, else `NoRoom`;
     /// - the sender's bucket admits the packet (T05);
     /// - the expiry is after the clock (R02);
+    /// - the destination is not `peer.config` (RFC 0031): else the sender is a child (F00), the amount is 0 (F03) and the
+    ///   condition that of 32 zero bytes (F05), and the packet is fulfilled;
     /// - the destination is neither a neighbour's, of the scheme `peer`, nor the tenant's own address (F02);
     /// - the amount is within the sender's cap (F08);
     /// - the best route leads on, to another peer than the sender (F02);
@@ -202,7 +250,7 @@ impl Book {
         ensures sooner { IsSooner result key.now.expiry }
     {
         let standing = self.standing();
-        let Some(from) = peer_with_token(standing.opening.peers.as_slice(), token) else {
+        let Some(from) = peer_with_token(standing.network.peers(), token) else {
             return Verdict::Unknown;
         };
         if standing.is_full() {
@@ -222,8 +270,13 @@ impl Book {
 }
 
 impl Book {
-    ghost use Rattle.std.specs.Prelude.{◌≡◌};
+    ghost use Rattle.std.specs.Prelude.{◌≡◌, IfOk, map};
     ghost use Rattle.tenant_core.specs.Answer.{answer_to, answered, tick_result, ticked};
+    ghost use Rattle.tenant_core.specs.Orders.{IsOrdered, ordered};
+    ghost use Rattle.tenant_core.specs.Periods.{IsRolled};
+    ghost use Rattle.tenant_core.specs.Governed.{IsGoverned};
+    ghost use Rattle.tenant_core.specs.Present.{network_of};
+    ghost use Rattle.tenant_core.specs.Purse.{row_of};
 
     /// Settles what came back for the packet that is held under that number, records it, and ends the hold.
     ///
@@ -258,6 +311,36 @@ impl Book {
         Ok(verdict)
     }
 
+    // Does what an operator orders: one entry more, and the network changed by it.
+    //
+    // The errors are, in the order in which they are looked for: `Full`, what the order says, and `Memory`.
+    fn order(&mut self, alloc: Global, order: &Order, now: Moment) -> Result<(), CommandFault>
+        ensures { IsOrdered result (ordered self.old order.now) self.old self.new now }
+    {
+        if self.records.len() as u64 + self.awaited + 1 > self.opening.journal {
+            return Err(CommandFault::Full);
+        }
+        if let Some(fault) = self.standing().refusal(order) {
+            return Err(fault);
+        }
+        let Some(change) = change_of(alloc, &self.network, order)? else {
+            return Err(CommandFault::Absent);
+        };
+        let clock = self.clock.max(now.millis());
+        let level = self.standing().level_left(clock, &change);
+        self.network.apply(alloc, &change, level)?;
+        self.network.is_network();
+        self.clock = clock;
+        self.records.push_reserved(Record {
+            entry: Entry::Change(ChangeEntry {
+                change,
+                now: now.millis(),
+            }),
+            outcome: Outcome::Done,
+        });
+        Ok(())
+    }
+
     /// Records that moment. What is held and expired by the clock after it is marked overdue: its amounts are
     /// released on both sides, and its answer is still to come. The result is how many were marked.
     ///
@@ -277,5 +360,86 @@ impl Book {
             outcome: Outcome::Ticked(count),
         });
         Ok(count)
+    }
+
+    // Ends the running period and begins the next one with what the book is at present. Gives the closed period.
+    fn roll(&mut self, alloc: Global, now: Moment) -> Result<Period, CommandFault>
+        ensures { IsRolled result self.old self.new now }
+    {
+        if self.awaited > 0 {
+            return Err(CommandFault::InUse);
+        }
+        if self.opening.period >= MAX_PERIOD {
+            return Err(CommandFault::Limit);
+        }
+        let clock = self.clock.max(now.millis());
+        let standing = self.standing();
+        let network = next_network(alloc, &standing, clock)?;
+        network.is_network();
+        let present = network.copy(alloc)?;
+        let rows = rows_of(alloc, &standing, self.network.peers())?;
+        let records = Vec::with_capacity(alloc, self.opening.journal as usize + 1)?;
+        let holds = Vec::with_capacity(alloc, self.opening.journal as usize)?;
+        let next = next_opening(&self.opening, clock, self.holds.len() as u64, network);
+        let opening = mem::replace(&mut self.opening, next);
+        let mut closed = mem::replace(&mut self.records, records);
+        closed.push_reserved(Record {
+            entry: Entry::Roll(RollEntry { now: now.millis() }),
+            outcome: Outcome::Rolled,
+        });
+        self.network = present;
+        self.clock = clock;
+        self.holds = holds;
+        Ok(Period {
+            opening,
+            records: Items::from_vec(closed),
+            rows: Items::from_vec(rows),
+        })
+    }
+
+    // What each peer owes, and what is held from it and for it. The one error is want of memory.
+    fn balances(&self, alloc: Global) -> Result<Vec<Row>, AllocError>
+        ensures { IfOk result (λ rows. rows.items ≡ map (row_of self.now) (network_of self.now).peers) }
+    {
+        rows_of(alloc, &self.standing(), self.network.peers())
+    }
+
+    /// Does what an operator commands at that moment.
+    ///
+    /// An order changes whom the tenant deals with, and is recorded. Its errors are, in the order in which they are looked
+    /// for: `Full` where entries, packets that await their answers and 1 more exceed the journal; then
+    ///
+    /// - a peer is added: `Present` (its name or its token is), `Limit` (256 peers, or 65,535 numbers were given);
+    /// - a peer is removed: `Absent`, `InUse` (a route, a packet that awaits its answer or a balance names it); the rates that
+    ///   name it go with it;
+    /// - limits or a bucket are set: `Absent`;
+    /// - a route is added: `Absent` (its peer is), `Present` (its prefix is), `Limit` (4,096 routes);
+    /// - a route is removed: `Absent`;
+    /// - a rate is set: `Absent` (a peer is), `Limit` (4,096 rates);
+    /// - money is settled: `Absent`, `Limit` (the balance and what is held would pass 2^62 on either side of 0).
+    ///
+    /// The balances change nothing. A roll records its entry in a place of its own, gives the period that it closes, and begins
+    /// the next one with what the book is at present. Its errors are `InUse` (a packet awaits its answer) and `Limit` (the last
+    /// period). `Memory` comes after each of these. An error leaves the book as it was, the clock included.
+    #[tactic(auto, using(crate::proofs::Governs::order_done, crate::proofs::Governs::order_refused))]
+    pub fn command(
+        &mut self,
+        alloc: Global,
+        command: &Command,
+        now: Moment,
+    ) -> Result<Answered, CommandFault>
+        ensures { IsGoverned result command.now self.old self.new now }
+    {
+        match command {
+            Command::Order(order) => {
+                self.order(alloc, order, now)?;
+                Ok(Answered::Done)
+            }
+            Command::Balances => {
+                let rows = self.balances(alloc)?;
+                Ok(Answered::Balances(Items::from_vec(rows)))
+            }
+            Command::Roll => Ok(Answered::Rolled(self.roll(alloc, now)?)),
+        }
     }
 }

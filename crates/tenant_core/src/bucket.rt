@@ -1,28 +1,46 @@
 //! Buckets: which packets the records say that a peer's bucket admitted.
 
-ghost use Rattle.std.specs.Prelude.{◌≡◌, ◌&&◌};
-ghost use Rattle.rate_bucket.specs.Bucket.{is_admitted};
+ghost use Rattle.std.specs.Prelude.{◌≡◌, ◌&&◌, drop};
+ghost use Rattle.rate_bucket.specs.Bucket.{credit_at, is_admitted};
 ghost use Rattle.tenant_core.specs.State.{later, is_of};
 ghost use Rattle.tenant_core.specs.Bucket.{admits, is_limited, bucket_of};
 
 use crate::journal::{Entry, Outcome, Record};
-use crate::opening::Peer;
+use crate::peer::Peer;
 use crate::verdict::{RejectCode, Verdict};
 use rate_bucket::Credit;
 use route_table::PeerNo;
 
-/// Whether the bucket of a peer, as it was at the clock `start`, admits a packet at the clock `now` after those that
-/// the records say were admitted.
-pub fn is_admitted(peer: &Peer, start: u64, records: &[Record], now: u64) -> bool
-    ensures { result ≡ is_admitted (bucket_of peer.now start records.now) now }
+/// What a packet costs, in the thousandths of a packet that credit is counted in.
+const PACKET: u64 = 1_000;
+
+/// The credit of the bucket of a peer at the clock `now`, in thousandths of a packet, after those that the records of the
+/// period say were admitted since its level was taken.
+pub fn credit_at(peer: &Peer, records: &[Record], now: u64) -> u64
+    ensures { result ≡ credit_at (bucket_of peer.now (drop peer.now.bucket.entries records.now)) now }
 {
-    let terms = &peer.terms;
-    let mut clock = start;
+    let first = records.len().min(peer.bucket.entries as usize);
+    credit_after(peer, &records[first..], now)
+}
+
+/// Whether it admits a packet.
+pub fn is_admitted(peer: &Peer, records: &[Record], now: u64) -> bool
+    ensures { result ≡ is_admitted (bucket_of peer.now (drop peer.now.bucket.entries records.now)) now }
+{
+    credit_at(peer, records, now) >= PACKET
+}
+
+// The credit after the records since.
+fn credit_after(peer: &Peer, records: &[Record], now: u64) -> u64
+    ensures { result ≡ credit_at (bucket_of peer.now records.now) now }
+{
+    let terms = &peer.terms.bucket;
+    let mut clock = peer.bucket.clock;
     let mut credit = Credit::since(
-        start,
-        peer.bucket,
-        terms.bucket.burst.get() as u32,
-        terms.bucket.per_second.get() as u32,
+        clock,
+        peer.bucket.credit,
+        terms.burst.get() as u32,
+        terms.per_second.get() as u32,
         now,
     );
     for entered in records {
@@ -31,7 +49,7 @@ pub fn is_admitted(peer: &Peer, start: u64, records: &[Record], now: u64) -> boo
             credit = credit.less_packet(clock);
         }
     }
-    credit.admits()
+    credit.thousandths()
 }
 
 fn later(clock: u64, entered: &Record) -> u64
@@ -41,6 +59,8 @@ fn later(clock: u64, entered: &Record) -> u64
         Entry::Decide(decide) => clock.max(decide.now),
         Entry::Answer(answer) => clock.max(answer.now),
         Entry::Tick(tick) => clock.max(tick.now),
+        Entry::Change(change) => clock.max(change.now),
+        Entry::Roll(roll) => clock.max(roll.now),
     }
 }
 

@@ -3,8 +3,10 @@
 ghost use Rattle.std.specs.Prelude.{◌≡◌, not, Some, None, if◌then◌else◌};
 ghost use Rattle.std.specs.Str.{bytes_eq};
 
+use crate::period::Period;
+use crate::row::Row;
 use crate::terms::{BucketTerms, PeerLimits, PeerTerms};
-use common_types::{Between, Name};
+use common_types::{Between, Items, Name};
 use ilp_addr::Prefix;
 use money_core::Rate;
 use std::marker::Model;
@@ -114,4 +116,15 @@ pub enum Command {
     Balances,
     /// The period ends, and the next begins.
     Roll,
+}
+
+/// What a command is answered with.
+#[derive(Drop)]
+pub enum Answered {
+    /// An order was accepted.
+    Done,
+    /// What each peer owes, in the order of their numbers.
+    Balances(Items<Row>),
+    /// The period that was closed.
+    Rolled(Period),
 }

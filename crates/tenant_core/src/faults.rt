@@ -1,5 +1,6 @@
-//! What an answer or a tick is refused for.
+//! What answers, ticks and commands are refused for.
 
+use std::alloc::{AllocError, AllocFailed};
 use thiserror::Error;
 
 /// Why an answer is refused. Nothing has changed then.
@@ -16,4 +17,49 @@ pub enum BookFault {
     /// The journal has room for the answers that are still to come and for nothing else.
     #[error("the journal is full")]
     Full,
+}
+
+/// Why a command is refused, in the order in which they are looked for. Nothing has changed then.
+#[derive(Clone, Copy, Debug, PartialEq, Eq, Error)]
+pub enum CommandFault {
+    /// The journal has room for the answers that are still to come and for nothing else.
+    #[error("the journal is full")]
+    Full,
+    /// A packet awaits its answer; or a route, a packet that awaits its answer or a balance names the peer.
+    #[error("it is in use")]
+    InUse,
+    /// It is there already.
+    #[error("it is there already")]
+    Present,
+    /// It is not there.
+    #[error("it is not there")]
+    Absent,
+    /// There would be too many, or too much.
+    #[error("it would exceed a limit")]
+    Limit,
+    /// Memory was refused.
+    #[error("out of memory")]
+    Memory,
+}
+
+impl From<AllocError> for CommandFault {
+    ghost use Rattle.std.specs.Prelude.{◌≡◌};
+    ghost use Rattle.tenant_core.specs.declared.faults.CommandFault.TheVariants.{Memory};
+
+    ghost from_gives = { λ _ e. e ≡ Memory };
+
+    fn from(_e: AllocError) -> CommandFault {
+        CommandFault::Memory
+    }
+}
+
+impl<T: Drop> From<AllocFailed<T>> for CommandFault {
+    ghost use Rattle.std.specs.Prelude.{◌≡◌};
+    ghost use Rattle.tenant_core.specs.declared.faults.CommandFault.TheVariants.{Memory};
+
+    ghost from_gives = { λ _ e. e ≡ Memory };
+
+    fn from(_e: AllocFailed<T>) -> CommandFault {
+        CommandFault::Memory
+    }
 }

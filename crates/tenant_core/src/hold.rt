@@ -1,7 +1,7 @@
 //! Holds: packets that went on.
 
 ghost use Rattle.std.specs.Prelude.{◌≡◌, ◌<◌, ◌≤◌, ◌+◌, ◌&&◌, ℕ, map, length, find, position, count_by, option_map};
-ghost use Rattle.std.specs.Prelude.{IfSome, IfNone, vec_capacity};
+ghost use Rattle.std.specs.Prelude.{IfSome, IfNone, IfOk, vec_capacity};
 ghost use Rattle.tenant_core.specs.Answer.{settle_answer};
 ghost use Rattle.tenant_core.specs.Holds.{is_open, is_open_under, is_overdue, hold_ticked, hold_ended, begun_by};
 ghost use Rattle.tenant_core.specs.Holds.{is_fulfill, is_relay, AreNumbered};
@@ -12,6 +12,7 @@ use crate::journal::{AnswerKey, DecideEntry};
 use crate::settle::settle_answer;
 use crate::verdict::Verdict;
 use route_table::PeerNo;
+use std::alloc::{AllocError, Global};
 
 /// What became of a packet that went on.
 #[derive(Clone, Copy, Debug, PartialEq, Eq)]
@@ -39,6 +40,19 @@ pub struct Hold {
     pub expiry: u64,
     pub condition: [u8; 32],
     pub fate: Fate,
+}
+
+/// The holds once more, with room for so many. The one error is want of memory.
+pub fn copied_holds(alloc: Global, holds: &[Hold], room: usize) -> Result<Vec<Hold>, AllocError>
+    requires { length holds.now ≤ room }
+    ensures items { IfOk result (λ copy. copy.items ≡ holds.now) }
+    ensures room { IfOk result (λ copy. room ≤ vec_capacity copy) }
+{
+    let mut copy = Vec::with_capacity(alloc, room)?;
+    for hold in holds {
+        copy.push_reserved(*hold);
+    }
+    Ok(copy)
 }
 
 fn begun_by(decide: &DecideEntry, verdict: Verdict) -> Option<Hold>
@@ -81,7 +95,7 @@ pub fn begin_hold(holds: &mut Vec<Hold>, decide: &DecideEntry, verdict: Verdict)
     }
 }
 
-fn is_open(hold: &Hold) -> bool
+pub fn is_open(hold: &Hold) -> bool
     ensures { result ≡ is_open hold.now }
 {
     match hold.fate {

@@ -1,13 +1,16 @@
 //! What a tenant's journal is made of.
 
-ghost use Rattle.std.specs.Prelude.{◌≡◌};
+ghost use Rattle.std.specs.Prelude.{◌≡◌, ◌≤◌, length, IfOk, vec_capacity};
 ghost use Rattle.tenant_core.specs.Key.{key_of};
 ghost use Rattle.tenant_core.specs.Judge.{decide_entry};
 
+use crate::command::{Amount, Side};
+use crate::terms::{BucketTerms, PeerLimits, PeerTerms, RateTerms};
 use crate::verdict::Verdict;
 use common_types::Text;
-use ilp_addr::{Address, Moment};
+use ilp_addr::{Address, Moment, Prefix};
 use route_table::PeerNo;
+use std::alloc::{AllocError, Global};
 
 /// What a Prepare says that a tenant decides by.
 #[derive(Clone, Copy)]
@@ -55,7 +58,7 @@ impl AnswerKey {
 }
 
 /// What came back for the packet that is held under that number, and the moment.
-#[derive(Drop)]
+#[derive(Clone, Copy)]
 pub struct AnswerEntry {
     pub hold: u64,
     pub now: u64,
@@ -63,8 +66,49 @@ pub struct AnswerEntry {
 }
 
 /// A moment that was handed in.
-#[derive(Drop)]
+#[derive(Clone, Copy)]
 pub struct TickEntry {
+    pub now: u64,
+}
+
+/// What an accepted order changed: it names peers by their numbers.
+#[derive(Drop)]
+pub enum Change {
+    /// A peer more, under the next number.
+    PeerAdded(PeerTerms),
+    /// A peer less, and with it the rates that named it.
+    PeerRemoved(PeerNo),
+    LimitsSet {
+        peer: PeerNo,
+        limits: PeerLimits,
+    },
+    BucketSet {
+        peer: PeerNo,
+        bucket: BucketTerms,
+    },
+    RouteAdded {
+        prefix: Prefix,
+        peer: PeerNo,
+    },
+    RouteRemoved(Prefix),
+    RateSet(RateTerms),
+    Settled {
+        peer: PeerNo,
+        side: Side,
+        amount: Amount,
+    },
+}
+
+/// An accepted order, and the moment.
+#[derive(Drop)]
+pub struct ChangeEntry {
+    pub change: Change,
+    pub now: u64,
+}
+
+/// The end of a period, at that moment.
+#[derive(Clone, Copy)]
+pub struct RollEntry {
     pub now: u64,
 }
 
@@ -74,6 +118,9 @@ pub enum Entry {
     Decide(DecideEntry),
     Answer(AnswerEntry),
     Tick(TickEntry),
+    Change(ChangeEntry),
+    /// The last of its period.
+    Roll(RollEntry),
 }
 
 /// What an event led to.
@@ -83,6 +130,10 @@ pub enum Outcome {
     Packet(Verdict),
     /// Of a tick: how many packets are overdue since it.
     Ticked(u32),
+    /// Of an order: it was accepted.
+    Done,
+    /// Of a roll.
+    Rolled,
 }
 
 /// An entry with its outcome.
@@ -90,6 +141,94 @@ pub enum Outcome {
 pub struct Record {
     pub entry: Entry,
     pub outcome: Outcome,
+}
+
+impl DecideEntry {
+    fn copy(&self) -> DecideEntry
+        ensures { result ≡ self.entry.now }
+    {
+        DecideEntry {
+            peer: self.peer,
+            amount: self.amount,
+            expiry: self.expiry,
+            condition: self.condition,
+            destination: self.destination.copy(),
+            now: self.now,
+        }
+    }
+}
+
+impl Change {
+    ghost use Rattle.std.specs.Prelude.{◌≡◌, IfOk};
+
+    fn copy(&self, alloc: Global) -> Result<Change, AllocError>
+        ensures { IfOk result (λ copy. copy ≡ self.now) }
+    {
+        Ok(match self {
+            Change::PeerAdded(terms) => Change::PeerAdded(terms.copy()),
+            Change::PeerRemoved(peer) => Change::PeerRemoved(*peer),
+            Change::LimitsSet { peer, limits } => Change::LimitsSet {
+                peer: *peer,
+                limits: *limits,
+            },
+            Change::BucketSet { peer, bucket } => Change::BucketSet {
+                peer: *peer,
+                bucket: *bucket,
+            },
+            Change::RouteAdded { prefix, peer } => Change::RouteAdded {
+                prefix: prefix.copy(alloc)?,
+                peer: *peer,
+            },
+            Change::RouteRemoved(prefix) => Change::RouteRemoved(prefix.copy(alloc)?),
+            Change::RateSet(rate) => Change::RateSet(*rate),
+            Change::Settled { peer, side, amount } => Change::Settled {
+                peer: *peer,
+                side: *side,
+                amount: *amount,
+            },
+        })
+    }
+}
+
+impl Record {
+    ghost use Rattle.std.specs.Prelude.{◌≡◌, IfOk};
+
+    /// The same record once more. The one error is want of memory.
+    pub fn copy(&self, alloc: Global) -> Result<Record, AllocError>
+        ensures { IfOk result (λ copy. copy ≡ self.now) }
+    {
+        let entry = match &self.entry {
+            Entry::Decide(entry) => Entry::Decide(entry.copy()),
+            Entry::Answer(entry) => Entry::Answer(*entry),
+            Entry::Tick(entry) => Entry::Tick(*entry),
+            Entry::Change(entry) => Entry::Change(ChangeEntry {
+                change: entry.change.copy(alloc)?,
+                now: entry.now,
+            }),
+            Entry::Roll(entry) => Entry::Roll(*entry),
+        };
+        Ok(Record {
+            entry,
+            outcome: self.outcome,
+        })
+    }
+}
+
+/// The records once more, with room for so many. The one error is want of memory.
+pub fn copied_records(
+    alloc: Global,
+    records: &[Record],
+    room: usize,
+) -> Result<Vec<Record>, AllocError>
+    requires { length records.now ≤ room }
+    ensures items { IfOk result (λ copy. copy.items ≡ records.now) }
+    ensures room { IfOk result (λ copy. room ≤ vec_capacity copy) }
+{
+    let mut copy = Vec::with_capacity(alloc, room)?;
+    for record in records {
+        copy.push_reserved(record.copy(alloc)?);
+    }
+    Ok(copy)
 }
 
 /// The entry of a Prepare of that peer.

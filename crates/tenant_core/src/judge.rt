@@ -1,23 +1,28 @@
 //! The checks of a Prepare, in their order.
 
 ghost use Rattle.std.specs.Prelude.{◌≡◌};
-ghost use Rattle.tenant_core.specs.Judge.{refuse_over};
+ghost use Rattle.ildcp_core.specs.Request.{checked_request};
+ghost use Rattle.tenant_core.specs.Judge.{refuse_over, child_of, config_verdict};
 
 use crate::bucket::is_admitted;
 use crate::hold::Hold;
 use crate::journal::{PrepareKey, Record};
 use crate::limits::MAX_HOLDS;
-use crate::opening::{Opening, Peer};
+use crate::network::Network;
+use crate::opening::Opening;
+use crate::peer::Peer;
 use crate::purse::{balance, held_in, held_out, is_owed_more, owes_more};
 use crate::routing::{onward, outgoing_expiry, rate_between, stays_here};
 use crate::verdict::{RejectCode, Verdict, refuse};
+use ildcp_core::{Child, ChildParts, IldcpFault, check, is_config};
 use money_core::Rate;
 
-/// What the checks see of a book: what its period began with, the records since, their holds, and how many of these
-/// await their answers.
+/// What the checks see of a book: what its period began with, whom the tenant deals with, the records since, their holds, and how
+/// many of these await their answers.
 #[derive(Clone, Copy)]
 pub struct Standing<'a> {
     pub opening: &'a Opening,
+    pub network: &'a Network,
     pub records: &'a [Record],
     pub holds: &'a [Hold],
     pub awaited: u64,
@@ -47,23 +52,26 @@ impl Standing<'_> {
         ensures recorded { is_recorded result ≡ true }
         ensures sooner { IsSooner result key.now.expiry }
     {
-        let opening = self.opening;
-        if !is_admitted(from, opening.clock, self.records, clock) {
+        let network = self.network;
+        if !is_admitted(from, self.records, clock) {
             return refuse(RejectCode::RateLimited);
         }
         if key.expiry <= clock {
             return refuse(RejectCode::InsufficientTimeout);
         }
-        if stays_here(opening, key.destination) {
+        if is_config(key.destination) {
+            return config_verdict(&child_of(self.opening, from), key);
+        }
+        if stays_here(self.opening, key.destination) {
             return refuse(RejectCode::Unreachable);
         }
         if key.amount > from.terms.limits.cap.get() {
             return refuse_over(key.amount, from.terms.limits.cap.get());
         }
-        let Some(to) = onward(opening, from.number, key.destination) else {
+        let Some(to) = onward(network, from.number, key.destination) else {
             return refuse(RejectCode::Unreachable);
         };
-        let Some(rate) = rate_between(opening, from.number, to.number) else {
+        let Some(rate) = rate_between(network, from.number, to.number) else {
             return refuse(RejectCode::Unreachable);
         };
         self.verdict_at_rate(from, to, rate, key, clock)
@@ -116,7 +124,7 @@ impl Standing<'_> {
     {
         let held = held_in(self.holds, from.number) + amount as u128;
         owes_more(
-            balance(self.opening, self.holds, from.number),
+            balance(self.opening, self.records, self.holds, from.number),
             held,
             from.terms.limits.ceiling.get(),
         )
@@ -128,10 +136,36 @@ impl Standing<'_> {
     {
         let held = held_out(self.holds, to.number) + amount as u128;
         is_owed_more(
-            balance(self.opening, self.holds, to.number),
+            balance(self.opening, self.records, self.holds, to.number),
             held,
             to.terms.limits.credit.get(),
         )
+    }
+}
+
+/// A peer, as far as its configuration goes (RFC 0031).
+pub fn child_of<'a>(opening: &'a Opening, peer: &'a Peer) -> Child<'a>
+    ensures { result ≡ child_of opening.now peer.now }
+{
+    Child::new(ChildParts {
+        role: peer.terms.role,
+        tenant: &opening.address,
+        name: &peer.terms.name,
+        scale: peer.terms.scale,
+        code: &peer.terms.asset,
+    })
+}
+
+// The verdict on a request for the configuration.
+fn config_verdict(child: &Child<'_>, key: &PrepareKey<'_>) -> Verdict
+    ensures verdict { result
+        ≡ config_verdict (checked_request child.now.role key.now.amount key.now.condition.now) }
+{
+    match check(child, key.amount, key.condition) {
+        Ok(()) => Verdict::Fulfil,
+        Err(IldcpFault::NotChild) => refuse(RejectCode::BadRequest),
+        Err(IldcpFault::Amount) => refuse(RejectCode::InvalidAmount),
+        Err(IldcpFault::Condition) => refuse(RejectCode::WrongCondition),
     }
 }
 

@@ -1,7 +1,9 @@
 //! Laws of books and their states, each the contract of a function that does nothing.
 
+ghost use Rattle.tenant_core.specs.Calls.{CallLaws};
 ghost use Rattle.tenant_core.specs.OpenHolds.{OpenHoldLaws};
 ghost use Rattle.tenant_core.specs.Sound.{IsSound};
+ghost use Rattle.tenant_core.specs.Staying.{StayingLaws};
 
 use crate::book::Book;
 
@@ -16,4 +18,15 @@ pub fn book_is_sound(book: &Book)
 /// nothing else does.
 pub fn open_holds()
     ensures { OpenHoldLaws }
+{}
+
+/// Packets, answers and ticks leave whom a tenant deals with, and how; commands leave the tenant's number, and
+/// all of it where they are refused.
+pub fn what_stays()
+    ensures { StayingLaws }
+{}
+
+/// No call makes a book another tenant's, and an answer settles a packet exactly where one is awaited.
+pub fn calls()
+    ensures { CallLaws }
 {}

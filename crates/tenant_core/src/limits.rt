@@ -26,3 +26,9 @@ pub const MAX_BURST: u64 = 1_000_000;
 
 /// The most packets that flow into a bucket in a second.
 pub const MAX_PER_SECOND: u64 = 1_000_000;
+
+/// The greatest number of a period.
+pub const MAX_PERIOD: u64 = 4_294_967_295;
+
+/// The most peers that a tenant ever has: numbers are never used again.
+pub const MAX_PEER_NUMBERS: u16 = 65_535;

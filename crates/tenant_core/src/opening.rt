@@ -1,20 +1,9 @@
 //! What a period begins with.
 
-use crate::terms::{PeerTerms, RateTerms};
-use common_types::{Items, Name, Text};
-use route_table::{PeerNo, Routes};
-
-/// A peer under its number, as a period finds it.
-#[derive(Drop)]
-pub struct Peer {
-    /// Peers are numbered from 0 in the order in which they are added.
-    pub number: PeerNo,
-    pub terms: PeerTerms,
-    /// What the peer owes, in its units.
-    pub balance: i64,
-    /// What its bucket holds, in thousandths of a packet.
-    pub bucket: u64,
-}
+use crate::network::Network;
+use common_types::Name;
+use ilp_addr::OwnAddress;
+use std::alloc::{AllocError, Global};
 
 /// A tenant as a period finds it.
 #[derive(Drop)]
@@ -22,7 +11,8 @@ pub struct Opening {
     /// The tenant's place among all tenants.
     pub tenant: usize,
     pub name: Name,
-    pub address: Text<900>,
+    /// The tenant's own address.
+    pub address: OwnAddress,
     /// How many places the journal has.
     pub journal: u64,
     /// Milliseconds by which an expiry is brought forward, and that a packet may be held at most.
@@ -33,9 +23,28 @@ pub struct Opening {
     pub clock: u64,
     /// The number of the next packet that is held.
     pub next_hold: u64,
-    /// The number of the next peer that is added. Numbers are never used again.
-    pub next_peer: PeerNo,
-    pub peers: Items<Peer>,
-    pub routes: Routes,
-    pub rates: Items<RateTerms>,
+    pub network: Network,
+}
+
+impl Opening {
+    ghost use Rattle.std.specs.Prelude.{◌≡◌, IfOk};
+
+    /// The same opening once more. The one error is want of memory.
+    pub fn copy(&self, alloc: Global) -> Result<Opening, AllocError>
+        ensures { IfOk result (λ copy. copy ≡ self.now) }
+    {
+        let network = self.network.copy(alloc)?;
+        Ok(Opening {
+            tenant: self.tenant,
+            name: self.name.copy(),
+            address: self.address.copy(),
+            journal: self.journal,
+            margin: self.margin,
+            hold: self.hold,
+            period: self.period,
+            clock: self.clock,
+            next_hold: self.next_hold,
+            network,
+        })
+    }
 }

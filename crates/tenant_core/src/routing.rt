@@ -4,12 +4,13 @@ ghost use Rattle.std.specs.Prelude.{◌≡◌, ◌≤◌};
 ghost use Rattle.ilp_addr.specs.Timestamp.{last_moment};
 ghost use Rattle.std.specs.Option.{option_copied};
 ghost use Rattle.std.specs.Str.{bytes_eq};
-ghost use Rattle.ilp_addr.specs.Address.{segments};
 ghost use Rattle.tenant_core.specs.Limits.{max_hold};
-ghost use Rattle.tenant_core.specs.State.{peer_numbered, peer_with_token};
-ghost use Rattle.tenant_core.specs.Routing.{begins_at, stays_here, onward, rate_between, outgoing_expiry};
+ghost use Rattle.tenant_core.specs.Network.{peer_numbered, peer_with_token};
+ghost use Rattle.tenant_core.specs.Routing.{stays_here, onward, rate_between, outgoing_expiry};
 
-use crate::opening::{Opening, Peer};
+use crate::network::Network;
+use crate::opening::Opening;
+use crate::peer::Peer;
 use ilp_addr::Address;
 use money_core::Rate;
 use route_table::PeerNo;
@@ -34,38 +35,29 @@ pub fn peer_numbered(peers: &[Peer], number: PeerNo) -> Option<&Peer>
     peers.iter().find(|peer| peer.number == number)
 }
 
-fn begins_at(destination: &Address<'_>, scheme: &[u8]) -> bool
-    ensures { result ≡ begins_at scheme.now (segments destination.now) }
-{
-    match destination.segments().next() {
-        Some(first) => first == scheme,
-        None => false,
-    }
-}
-
 /// Whether packets for the destination are not sent on: it is for direct neighbours, or the tenant's own address.
 pub fn stays_here(opening: &Opening, destination: &Address<'_>) -> bool
     ensures { result ≡ stays_here opening.now destination.now }
 {
-    begins_at(destination, b"peer") || destination.bytes() == opening.address.as_bytes()
+    destination.is_for_neighbors() || destination.bytes() == opening.address.as_bytes()
 }
 
 /// The peer that a packet of `from` goes on to: that of the best route, unless it leads back.
-pub fn onward<'a>(opening: &'a Opening, from: PeerNo, destination: &Address<'_>) -> Option<&'a Peer>
-    ensures { option_copied result ≡ onward opening.now from destination.now }
+pub fn onward<'a>(network: &'a Network, from: PeerNo, destination: &Address<'_>) -> Option<&'a Peer>
+    ensures { option_copied result ≡ onward network.now from destination.now }
 {
-    match opening.routes.find(destination) {
-        Some(to) if to != from => peer_numbered(opening.peers.as_slice(), to),
+    match network.routes().find(destination) {
+        Some(to) if to != from => peer_numbered(network.peers(), to),
         _ => None,
     }
 }
 
 /// The rate of an ordered pair of peers.
-pub fn rate_between(opening: &Opening, from: PeerNo, to: PeerNo) -> Option<Rate>
-    ensures { result ≡ rate_between opening.now from to }
+pub fn rate_between(network: &Network, from: PeerNo, to: PeerNo) -> Option<Rate>
+    ensures { result ≡ rate_between network.now from to }
 {
-    let rates = opening.rates.as_slice();
-    let terms = rates
+    let terms = network
+        .rates()
         .iter()
         .find(|rate| rate.from == from && rate.to == to)?;
     Some(terms.rate)

@@ -1,21 +1,15 @@
 //! What a tenant's setup says, before anything is tested.
 
-ghost use Rattle.std.specs.Prelude.{◌≡◌, IfOk};
+ghost use Rattle.std.specs.Prelude.{◌≡◌, true};
 
-use common_types::{AssetCode, Between, Items, Name, Text, Token};
-use ilp_addr::Target;
+use crate::limits::MAX_MONEY;
+use crate::network::Network;
+use common_types::{AssetCode, Between, Name, Token};
+use ildcp_core::Role;
+use ilp_addr::{OwnAddress, Target};
 use money_core::Rate;
-use route_table::{PeerNo, Routes};
-use std::alloc::{AllocError, Global};
-
-/// What a peer is to the tenant.
-#[derive(Clone, Copy, Debug, PartialEq, Eq)]
-pub enum Role {
-    /// A customer below the tenant, with an address below the tenant's own.
-    Child,
-    /// A neighbour beside it.
-    Peer,
-}
+use route_table::PeerNo;
+use std::marker::Model;
 
 /// An amount of money in a peer's units, at most 2^62.
 pub type Money = Between<0, 4_611_686_018_427_387_904>;
@@ -38,6 +32,78 @@ pub struct BucketTerms {
     pub per_second: Between<0, 1_000_000>,
 }
 
+impl PeerLimits {
+    ghost use Rattle.tenant_core.specs.Terms.{are_limits_within};
+
+    /// What the types of its numbers keep.
+    pub(crate) fn are_within(&self)
+        ensures { are_limits_within self.now ≡ true }
+    {
+        let _ = (self.cap.get(), self.ceiling.get(), self.credit.get());
+    }
+}
+
+impl BucketTerms {
+    ghost use Rattle.tenant_core.specs.Terms.{is_bucket_within};
+
+    /// What the types of its numbers keep.
+    pub(crate) fn is_within(&self)
+        ensures { is_bucket_within self.now ≡ true }
+    {
+        let _ = (self.burst.get(), self.per_second.get());
+    }
+}
+
+/// A balance, from -2^62 to 2^62 in a peer's units: what the peer owes, below 0 where it is owed.
+#[derive(Clone, Copy, Debug, PartialEq, Eq)]
+pub struct Balance {
+    owed: i64,
+}
+
+impl Model for Balance {
+    ghost use Rattle.std.specs.Prelude.{ℤ, ◌≡◌, true};
+    ghost use Rattle.tenant_core.specs.Terms.{is_balance_within};
+
+    ghost Value = { ℤ };
+
+    ghost view = { λ b. b.owed };
+
+    ghost invariant = { λ b. is_balance_within b.owed ≡ true };
+
+    ghost inverse = { λ z. record { owed = z } };
+}
+
+impl Balance {
+    ghost use Rattle.std.specs.Prelude.{◌≡◌, Some, None, if◌then◌else◌, true, pos};
+    ghost use Rattle.tenant_core.specs.Terms.{is_balance_within};
+
+    /// The balance, if it is within the limits.
+    pub fn new(owed: i64) -> Option<Balance>
+        ensures { result ≡ (if is_balance_within owed then Some owed else None) }
+    {
+        if owed.unsigned_abs() <= MAX_MONEY {
+            Some(Balance { owed })
+        } else {
+            None
+        }
+    }
+
+    /// Nothing is owed.
+    pub fn zero() -> Balance
+        ensures { result ≡ pos 0 }
+    {
+        Balance { owed: 0 }
+    }
+
+    /// The number.
+    pub fn get(self) -> i64
+        ensures value { result ≡ self }
+        ensures within { is_balance_within result ≡ true }
+    {
+        self.owed
+    }
+}
+
 /// What is agreed with a peer.
 #[derive(Drop)]
 pub struct PeerTerms {
@@ -55,6 +121,17 @@ pub struct PeerTerms {
 }
 
 impl PeerTerms {
+    ghost use Rattle.std.specs.Prelude.{◌≡◌, true};
+    ghost use Rattle.tenant_core.specs.Terms.{are_terms_within};
+
+    /// What the types of its parts keep.
+    pub(crate) fn are_within(&self)
+        ensures { are_terms_within self.now ≡ true }
+    {
+        self.limits.are_within();
+        self.bucket.is_within();
+    }
+
     /// The same terms once more.
     pub fn copy(&self) -> PeerTerms
         ensures { result ≡ self.now }
@@ -72,14 +149,6 @@ impl PeerTerms {
     }
 }
 
-/// A peer as a setup brings it in.
-#[derive(Drop)]
-pub struct NewPeer {
-    pub terms: PeerTerms,
-    /// What the peer owes at the start, in its units.
-    pub balance: i64,
-}
-
 /// What packets of one peer for another cost.
 #[derive(Clone, Copy)]
 pub struct RateTerms {
@@ -88,19 +157,12 @@ pub struct RateTerms {
     pub rate: Rate,
 }
 
-/// The same rates once more.
-pub fn copied_rates(alloc: Global, rates: &[RateTerms]) -> Result<Items<RateTerms>, AllocError>
-    ensures { IfOk result (λ copy. copy ≡ rates.now) }
-{
-    Ok(Items::from_vec(Vec::from_slice(alloc, rates)?))
-}
-
 /// A tenant as its setup describes it.
 #[derive(Drop)]
 pub struct TenantTerms {
     pub name: Name,
     /// The tenant's own address.
-    pub address: Text<900>,
+    pub address: OwnAddress,
     /// What an operator shows who governs the tenant.
     pub admin: Token,
     /// How many places the journal of a period has.
@@ -109,9 +171,6 @@ pub struct TenantTerms {
     pub margin: u64,
     /// For how many milliseconds a packet may be held at most.
     pub hold: u64,
-    pub peers: Items<NewPeer>,
-    /// Which peer packets for a prefix go to.
-    pub routes: Routes,
-    /// The rates, one for an ordered pair of peers.
-    pub rates: Items<RateTerms>,
+    /// Whom the tenant deals with, and how.
+    pub network: Network,
 }

@@ -8,9 +8,14 @@ use route_table::PeerNo;
 /// Why a packet is refused, by the error codes of the protocol (RFC 0027, "Error Codes").
 #[derive(Clone, Copy, Debug, PartialEq, Eq)]
 pub enum RejectCode {
+    /// F00: the sender is no child, and asks for a child's configuration.
+    BadRequest,
     /// F02: no peer leads to the destination.
     Unreachable,
-    /// F05: the fulfillment that came back does not fit the condition.
+    /// F03: a request for the configuration brings an amount.
+    InvalidAmount,
+    /// F05: the fulfillment that came back does not fit the condition, or a request for the configuration does not have the
+    /// condition of 32 zero bytes.
     WrongCondition,
     /// F08: the amount is over what a peer may send or be sent in one packet.
     AmountTooLarge,
@@ -40,6 +45,8 @@ pub enum Verdict {
         code: RejectCode,
         amounts: Option<(u64, u64)>,
     },
+    /// The packet asks for the sender's configuration, and is fulfilled with it (RFC 0031).
+    Fulfil,
     /// The packet goes on to the peer, held under that number, with that amount in the peer's units and that
     /// expiry in milliseconds since 1970-01-01.
     Forward {

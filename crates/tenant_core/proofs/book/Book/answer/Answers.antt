@@ -12,7 +12,7 @@ invariant_of-self c = rw c.in_default.ensures.none c.self.invariant
 pub invariant_of-self-2 : goal.invariant_of-self-2
 invariant_of-self-2 c =
     let b : Inside = c.self.inside in
-    let after : Inside = record { opening = b.opening; records = c.push_reserved.new.self; clock = c.max-clock.result; holds = c.end_hold.new.holds; awaited = b.awaited - 1 } in
+    let after : Inside = record { opening = b.opening; network = b.network; records = c.push_reserved.new.self; clock = c.max-clock.result; holds = c.end_hold.new.holds; awaited = b.awaited - 1 } in
     let early = subst (λ n. n ≤ last_moment) c.millis.ensures.value c.millis.ensures.bound in
     let clock = c.max-clock.ensures ∙ ap (λ n. max b.clock n) c.millis.ensures.value in
     answered_kept b after c.args.hold c.args.now c.max-clock.result c.args.key c.in-Some.verdict c.self.invariant early clock
@@ -22,4 +22,5 @@ invariant_of-self-2 c =
       room = c.push_reserved.ensures.capacity;
       holds_room = c.in-Some.ensures.capacity;
       clock = clock;
+      network = refl;
     }) c.in-Some.ensures.verdict c.in-Some.ensures.holds c.in-Some.ensures.length c.in-Some.ensures.count refl

@@ -12,19 +12,21 @@ use Rattle.tenant_core.specs.Key.{Key, key_of}
 use Rattle.tenant_core.specs.Judge.{is_full, verdict_for_sender}
 use Rattle.tenant_core.specs.Kept.{state_of}
 use Rattle.tenant_core.specs.Standing.{state_shown}
-use Rattle.tenant_core.specs.State.{State, peer_with_token, extended}
+use Rattle.tenant_core.specs.Network.{Net, peer_with_token}
+use Rattle.tenant_core.specs.Present.{network_of}
+use Rattle.tenant_core.specs.State.{State, extended}
 use Rattle.tenant_core.proofs.Keeping.{decided_kept}
 use Rattle.tenant_core.proofs.book.Book.decide.Goals as goal
 
 pub invariant_of-self : goal.invariant_of-self
 invariant_of-self c =
     let b : Inside = c.self.inside in
-    let after : Inside = record { opening = b.opening; records = c.push_reserved.new.self; clock = c.max-clock.result; holds = c.begin_hold.new.holds; awaited = b.awaited + c.begin_hold.result } in
+    let after : Inside = record { opening = b.opening; network = b.network; records = c.push_reserved.new.self; clock = c.max-clock.result; holds = c.begin_hold.new.holds; awaited = b.awaited + c.begin_hold.result } in
     let early = subst (λ n. n ≤ last_moment) c.millis.ensures.value c.millis.ensures.bound in
     let clock = c.max-clock.ensures ∙ ap (λ n. max b.clock n) c.millis.ensures.value in
     let shown : state_shown c.standing-standing.result ≡ state_of b = c.standing-standing.ensures.state ∙ sym c.self.view_is in
-    let found : peer_with_token c.args.token.now b.opening.peers ≡ Some c.in-Some.from.now =
-    sym (c.in-Some.ensures ∙ ap (peer_with_token c.args.token.now) (c.as_slice.ensures.value ∙ ap (λ (s : State). s.opening.peers) shown)) in
+    let found : peer_with_token c.args.token.now (network_of (state_of b)).peers ≡ Some c.in-Some.from.now =
+    sym (c.in-Some.ensures ∙ ap (peer_with_token c.args.token.now) (c.peers.ensures.value ∙ ap (λ (n : Net). n.peers) (c.standing-standing.ensures.shown.network ∙ ap network_of shown))) in
     let room : is_full (state_of b) ≡ false = ap is_full (sym shown) ∙ (sym c.is_full.ensures ∙ c.if-is_full.false) in
     let verdict : c.verdict_for_sender-verdict.result ≡ verdict_for_sender (state_of b) c.in-Some.from.now (key_of c.args.key.now) c.max-clock.result =
     c.verdict_for_sender-verdict.ensures.verdict ∙ ap (λ (s : State). verdict_for_sender s c.in-Some.from.now (key_of c.args.key.now) c.max-clock.result) shown in
@@ -37,4 +39,5 @@ invariant_of-self c =
       room = c.push_reserved.ensures.capacity;
       holds_room = c.begin_hold.ensures.capacity;
       clock = clock;
+      network = refl;
     }) (c.begin_hold.ensures.holds ∙ ap (λ (d : DecideEntry). extended b.holds.items (begun_by d v)) c.decide_entry-entry.ensures) c.begin_hold.ensures.count refl

@@ -12,7 +12,7 @@ use Rattle.tenant_core.proofs.book.Book.tick.Goals as goal
 pub invariant_of-self : goal.invariant_of-self
 invariant_of-self c =
     let b : Inside = c.self.inside in
-    let after : Inside = record { opening = b.opening; records = c.push_reserved.new.self; clock = c.max-self-inside.result; holds = c.mark_overdue-count.new.holds; awaited = b.awaited } in
+    let after : Inside = record { opening = b.opening; network = b.network; records = c.push_reserved.new.self; clock = c.max-self-inside.result; holds = c.mark_overdue-count.new.holds; awaited = b.awaited } in
     let early = subst (λ n. n ≤ last_moment) c.millis.ensures.value c.millis.ensures.bound in
     let clock = c.max-self-inside.ensures ∙ ap (λ n. max b.clock n) c.millis.ensures.value in
     let count = c.len.ensures in
@@ -26,4 +26,5 @@ invariant_of-self c =
       room = c.push_reserved.ensures.capacity;
       holds_room = c.mark_overdue-count.ensures.capacity;
       clock = clock;
+      network = refl;
     }) c.mark_overdue-count.ensures.holds refl

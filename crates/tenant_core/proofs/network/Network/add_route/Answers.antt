@@ -1,0 +1,14 @@
+use Rattle.std.proofs.Common.{subst, sym}
+use Rattle.std.specs.Prelude.{IsSome}
+use Rattle.std.specs.FinMap.{insert}
+use Rattle.tenant_core.specs.Network.{Net, peer_numbered}
+use Rattle.tenant_core.specs.Nets.{net_of}
+use Rattle.tenant_core.proofs.Networks.{with_route_is, either_routes_is}
+use Rattle.tenant_core.proofs.network.Network.add_route.Goals as goal
+
+pub invariant_of-self : goal.invariant_of-self
+invariant_of-self c =
+    let net : Net = net_of c.self.inside in
+    let there = subst (λ (n : Net). IsSome (peer_numbered c.args.number n.peers)) (sym c.self.view_is) c.requires in
+    either_routes_is net (insert net.routes c.args.prefix c.args.number) c.add.new.self c.add.result c.self.invariant
+    (with_route_is net c.args.prefix c.args.number c.self.invariant there) c.add.ensures.added c.add.ensures.unchanged

@@ -1,0 +1,12 @@
+use Rattle.std.proofs.Common.{◌≡◌, take, map, length, vec_len, vec_capacity}
+use Rattle.tenant_core.specs.Periods.{carried}
+use Rattle.tenant_core.specs.Standing.{state_shown}
+use Rattle.tenant_core.proofs.periods.carried_peers.Given as goal
+
+abbrev pub invariant-loop-peer : goal.invariant-loop-peer
+invariant-loop-peer l =
+    record {
+      done : l.list.items ≡ map (carried (state_shown l.standing) l.clock) (take l.peer-index l.peers);
+      count : vec_len l.list ≡ l.peer-index;
+      room : vec_capacity l.list ≡ length l.peers;
+    }

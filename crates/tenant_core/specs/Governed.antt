@@ -1,0 +1,57 @@
+-- Commands of an operator: what each is answered with, and the state after it.
+use Rattle.std.specs.Prelude.{ℕ, ◌≡◌, map, max, Option, Some, None, Result, Ok, Err}
+use Rattle.tenant_core.specs.Orders.{ordered, change_record}
+use Rattle.tenant_core.specs.Periods.{roll_refusal, closed, next_opening}
+use Rattle.tenant_core.specs.Present.{network_of}
+use Rattle.tenant_core.specs.Purse.{row_of}
+use Rattle.tenant_core.specs.State.{State, opened, clock_of, recorded}
+use Rattle.tenant_core.specs.declared.command.Answered.{Answered}
+use Rattle.tenant_core.specs.declared.command.Answered.TheVariants.{Done, Balances, Rolled}
+use Rattle.tenant_core.specs.declared.command.Command.{Command}
+use Rattle.tenant_core.specs.declared.command.Command.TheVariants as command
+use Rattle.tenant_core.specs.declared.faults.CommandFault.{CommandFault}
+use Rattle.tenant_core.specs.declared.faults.CommandFault.TheVariants.{Memory}
+use Rattle.tenant_core.specs.declared.journal.Change.{Change as Changed}
+
+-- what an order is answered with: the change that it makes, or what it is refused for
+abbrev pub order_answer : Result Changed CommandFault → Result Answered CommandFault
+order_answer (Ok change) = Ok Done
+order_answer (Err fault) = Err fault
+
+-- the state after it
+abbrev pub order_left : State → Result Changed CommandFault → ℕ → State
+order_left s (Ok change) now = recorded s (Some (change_record change now))
+order_left s (Err fault) now = s
+
+-- what a roll is answered with, by what it is refused for
+abbrev pub roll_answer : State → Option CommandFault → ℕ → Result Answered CommandFault
+roll_answer s None now = Ok (Rolled (closed s now))
+roll_answer s (Some fault) now = Err fault
+
+-- the state after it
+abbrev pub roll_left : State → Option CommandFault → ℕ → State
+roll_left s None now = opened (next_opening s (max (clock_of s) now))
+roll_left s (Some fault) now = s
+
+-- what a command is answered with at that moment
+abbrev pub command_answer : State → Command → ℕ → Result Answered CommandFault
+command_answer s (command.Order order) now = order_answer (ordered s order)
+command_answer s command.Balances now = Ok (Balances (map (row_of s) (network_of s).peers))
+command_answer s command.Roll now = roll_answer s (roll_refusal s) now
+
+-- the state after it
+abbrev pub commanded : State → Command → ℕ → State
+commanded s (command.Order order) now = order_left s (ordered s order) now
+commanded s command.Balances now = s
+commanded s command.Roll now = roll_left s (roll_refusal s) now
+
+-- a fault is what was to come, or want of memory where nothing is refused
+abbrev pub IsRefusal : CommandFault → Result Answered CommandFault → Type 0
+IsRefusal fault (Ok answered) = fault ≡ Memory
+IsRefusal fault (Err named) = fault ≡ named
+
+-- what became of a command: its answer and the state after it, or its refusal and no change
+abbrev pub IsGoverned : Result Answered CommandFault → Command → State → State → ℕ → Type 0
+IsGoverned (Ok answered) c before after now =
+    (Ok answered ≡ command_answer before c now) × (after ≡ commanded before c now)
+IsGoverned (Err fault) c before after now = IsRefusal fault (command_answer before c now) × (after ≡ before)

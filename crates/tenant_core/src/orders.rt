@@ -1,0 +1,110 @@
+//! What orders change, and what they are refused for.
+
+ghost use Rattle.std.specs.Prelude.{◌≡◌, IfOk, IfSome, is_some, true};
+ghost use Rattle.std.specs.List.{list_any};
+ghost use Rattle.std.specs.Option.{option_copied};
+ghost use Rattle.std.specs.Str.{bytes_eq};
+ghost use Rattle.tenant_core.specs.Network.{peer_named, peer_numbered};
+ghost use Rattle.tenant_core.specs.Orders.{number_named, change_of, awaits_for, names_present};
+
+use crate::command::Order;
+use crate::hold::{Hold, is_open};
+use crate::journal::Change;
+use crate::network::Network;
+use crate::peer::Peer;
+use crate::terms::RateTerms;
+use common_types::Name;
+use route_table::PeerNo;
+use std::alloc::{AllocError, Global};
+
+fn has_name(peer: &Peer, name: &[u8]) -> bool
+    ensures { result ≡ bytes_eq peer.now.terms.name name.now }
+{
+    peer.terms.name.as_bytes() == name
+}
+
+// The peer of this name.
+fn peer_named<'a>(peers: &'a [Peer], name: &[u8]) -> Option<&'a Peer>
+    ensures { option_copied result ≡ peer_named name.now peers.now }
+{
+    peers.iter().find(|peer| has_name(peer, name))
+}
+
+/// The number of the peer of this name.
+pub fn number_named(network: &Network, name: &Name) -> Option<PeerNo>
+    ensures exact { result ≡ number_named network.now name.now }
+    ensures present { IfSome result (λ n. is_some (peer_numbered n network.now.peers) ≡ true) }
+{
+    let peer = peer_named(network.peers(), name.as_bytes())?;
+    Some(peer.number)
+}
+
+/// What an order changes, if the peers are there that it names. The one error is want of memory.
+pub fn change_of(
+    alloc: Global,
+    network: &Network,
+    order: &Order,
+) -> Result<Option<Change>, AllocError>
+    ensures exact { IfOk result (λ change. change ≡ change_of network.now order.now) }
+    ensures present { IfOk result (λ found. IfSome found (λ c. names_present network.now c ≡ true)) }
+{
+    Ok(match order {
+        Order::AddPeer(terms) => Some(Change::PeerAdded(terms.copy())),
+        Order::RemovePeer(name) => number_named(network, name).map(|peer| Change::PeerRemoved(
+            peer,
+        )),
+        Order::SetLimits { peer, limits } => number_named(network, peer).map(
+            |peer| Change::LimitsSet {
+                peer,
+                limits: *limits,
+            },
+        ),
+        Order::SetBucket { peer, bucket } => number_named(network, peer).map(
+            |peer| Change::BucketSet {
+                peer,
+                bucket: *bucket,
+            },
+        ),
+        Order::AddRoute { prefix, peer } => match number_named(network, peer) {
+            Some(peer) => Some(Change::RouteAdded {
+                prefix: prefix.copy(alloc)?,
+                peer,
+            }),
+            None => None,
+        },
+        Order::RemoveRoute(prefix) => Some(Change::RouteRemoved(prefix.copy(alloc)?)),
+        Order::SetRate { pair, rate } => {
+            match (
+                number_named(network, pair.from()),
+                number_named(network, pair.to()),
+            ) {
+                (Some(from), Some(to)) => Some(Change::RateSet(RateTerms {
+                    from,
+                    to,
+                    rate: *rate,
+                })),
+                _ => None,
+            }
+        }
+        Order::Settle { peer, side, amount } => number_named(network, peer).map(
+            |peer| Change::Settled {
+                peer,
+                side: *side,
+                amount: *amount,
+            },
+        ),
+    })
+}
+
+fn awaits_for(hold: &Hold, peer: PeerNo) -> bool
+    ensures { result ≡ awaits_for peer hold.now }
+{
+    is_open(hold) && (hold.from == peer || hold.to == peer)
+}
+
+/// Whether a hold that awaits its answer names the peer.
+pub fn is_awaited_for(holds: &[Hold], peer: PeerNo) -> bool
+    ensures { result ≡ list_any (awaits_for peer) holds.now }
+{
+    holds.iter().any(|hold| awaits_for(hold, peer))
+}

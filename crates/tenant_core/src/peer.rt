@@ -1,0 +1,43 @@
+//! Peers of a tenant.
+
+ghost use Rattle.std.specs.Prelude.{◌≡◌};
+
+use crate::terms::{Balance, PeerTerms};
+use route_table::PeerNo;
+
+/// What a bucket held at a clock.
+#[derive(Clone, Copy, Debug, PartialEq, Eq)]
+pub struct Level {
+    /// In thousandths of a packet.
+    pub credit: u64,
+    /// Milliseconds since 1970-01-01.
+    pub clock: u64,
+    /// How many entries the period had by then.
+    pub entries: u64,
+}
+
+/// A peer under its number.
+#[derive(Drop)]
+pub struct Peer {
+    /// Peers are numbered from 0 in the order in which they are added.
+    pub number: PeerNo,
+    pub terms: PeerTerms,
+    /// What the peer owed when the period began, or when it was added, in its units.
+    pub balance: Balance,
+    /// What its bucket held when it was last changed, or when the period began.
+    pub bucket: Level,
+}
+
+impl Peer {
+    /// The same peer once more.
+    pub fn copy(&self) -> Peer
+        ensures { result ≡ self.now }
+    {
+        Peer {
+            number: self.number,
+            terms: self.terms.copy(),
+            balance: self.balance,
+            bucket: self.bucket,
+        }
+    }
+}
