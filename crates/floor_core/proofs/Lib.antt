@@ -1,2 +1,9 @@
-pub mod Runs
-pub mod OneList
+pub mod Calls
+pub mod Changed
+pub mod Keeping
+pub mod Simulation
+pub mod Views
+pub mod Whole
+pub mod Governs
+pub mod Opened
+pub mod Decides

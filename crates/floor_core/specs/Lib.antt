@@ -1,3 +1,12 @@
 pub mod Replies
 pub mod World
-pub mod Runner
+pub mod Rooms
+pub mod Work
+pub mod SlotView
+pub mod Lending
+pub mod Kept
+pub mod FloorView
+pub mod Moves
+pub mod Worlds
+pub mod Parts
+pub mod FloorKept

@@ -1,16 +1,27 @@
--- The Rejects that a connector writes (RFC 0027, "ILP Reject" and "Error Codes").
-use Rattle.std.specs.Prelude.{ℕ, List, [], ◌++◌, Option, Some, None, codes}
+-- What the connector itself answers to a Prepare: Rejects (RFC 0027, "ILP Reject" and "Error Codes"), and a child's
+-- configuration (RFC 0031).
+use Rattle.std.specs.Prelude.{ℕ, List, [], ◌++◌, Option, Some, None, option_map, codes}
 use Rattle.std.specs.Int.{w64, to_be_bytes}
+use Rattle.ildcp_core.specs.Answer.{config_answer}
+use Rattle.ildcp_core.specs.Client.{Client}
 use Rattle.ilp_view.specs.Packet.{reject_frame}
+use Rattle.tenant_core.specs.Judge.{child_of}
+use Rattle.tenant_core.specs.Network.{peer_with_token}
+use Rattle.tenant_core.specs.Present.{network_of}
+use Rattle.tenant_core.specs.State.{State}
 use Rattle.tenant_core.specs.declared.verdict.RejectCode.{RejectCode}
-use Rattle.tenant_core.specs.declared.verdict.RejectCode.TheVariants.{Unreachable, WrongCondition, PeerUnreachable}
-use Rattle.tenant_core.specs.declared.verdict.RejectCode.TheVariants.{TimedOut, AmountTooLarge, Busy}
-use Rattle.tenant_core.specs.declared.verdict.RejectCode.TheVariants.{InsufficientLiquidity, RateLimited}
-use Rattle.tenant_core.specs.declared.verdict.RejectCode.TheVariants.{InsufficientTimeout}
+use Rattle.tenant_core.specs.declared.verdict.RejectCode.TheVariants.{BadRequest, Unreachable, InvalidAmount}
+use Rattle.tenant_core.specs.declared.verdict.RejectCode.TheVariants.{WrongCondition, AmountTooLarge, PeerUnreachable}
+use Rattle.tenant_core.specs.declared.verdict.RejectCode.TheVariants.{Busy, InsufficientLiquidity, RateLimited}
+use Rattle.tenant_core.specs.declared.verdict.RejectCode.TheVariants.{TimedOut, InsufficientTimeout}
+use Rattle.tenant_core.specs.declared.verdict.Verdict.{Verdict}
+use Rattle.tenant_core.specs.declared.verdict.Verdict.TheVariants.{Unknown, NoRoom, Refuse, Fulfil, Forward, Relay}
 
 -- the three bytes of a code
 abbrev pub code_of : RejectCode → List ℕ
+code_of BadRequest = codes "F00"
 code_of Unreachable = codes "F02"
+code_of InvalidAmount = codes "F03"
 code_of WrongCondition = codes "F05"
 code_of AmountTooLarge = codes "F08"
 code_of PeerUnreachable = codes "T01"
@@ -22,7 +33,9 @@ code_of InsufficientTimeout = codes "R02"
 
 -- the message for people
 abbrev pub message_of : RejectCode → List ℕ
+message_of BadRequest = codes "bad request"
 message_of Unreachable = codes "unreachable"
+message_of InvalidAmount = codes "invalid amount"
 message_of WrongCondition = codes "wrong condition"
 message_of AmountTooLarge = codes "amount too large"
 message_of PeerUnreachable = codes "peer unreachable"
@@ -44,3 +57,21 @@ refusal_reply address code amounts = reject_frame (code_of code) address (messag
 -- the refusal of a packet for which the journal has no room
 abbrev pub busy_reply : List ℕ → List ℕ
 busy_reply address = refusal_reply address Busy None
+
+-- what a child is told; who is none, nothing
+abbrev pub config_reply : Option Client → List ℕ
+config_reply None = []
+config_reply (Some c) = config_answer c
+
+-- the peer that shows this token, as far as its configuration goes
+abbrev pub client_with_token : State → List ℕ → Option Client
+client_with_token s token = option_map (child_of s.opening) (peer_with_token token (network_of s).peers)
+
+-- what the sender of a packet that came with this token is told of a verdict; of one that tells it nothing, no byte
+abbrev pub decision_reply : State → List ℕ → Verdict → List ℕ
+decision_reply s token Unknown = []
+decision_reply s token NoRoom = busy_reply s.opening.address
+decision_reply s token (Refuse code amounts) = refusal_reply s.opening.address code amounts
+decision_reply s token Fulfil = config_reply (client_with_token s token)
+decision_reply s token (Forward hold peer amount expiry) = []
+decision_reply s token Relay = []

@@ -1,32 +1,38 @@
 -- The one-tenant connector, and whose step each step of a list is.
 use Rattle.std.specs.Prelude.{ℕ, ◌≡◌, ◌+◌, ◌<◌, List, [], ◌∷◌, length, Option, Some, None, Result, Ok, Err, ◌==◌}
-use Rattle.std.specs.Prelude.{if◌then◌else◌}
+use Rattle.std.specs.Prelude.{if◌then◌else◌, nat_lt}
+use Rattle.std.specs.List.{slice_get}
 use Rattle.common_types.specs.Token.{is_token}
 use Rattle.ilp_addr.specs.Timestamp.{moment_of, timestamp_of}
 use Rattle.ilp_view.specs.declared.fault.ViewFault.{ViewFault}
 use Rattle.ilp_view.specs.declared.fault.ViewFault.TheVariants as fault
-use Rattle.ilp_view.specs.Packet.{Prepare, Fulfill, Reject, with_amount_and_expiry}
+use Rattle.ilp_view.specs.Packet.{Prepare, Fulfill, Reject, max_frame, with_amount_and_expiry}
 use Rattle.ilp_view.specs.Reading.{prepare_at, fulfill_at, reject_at}
-use Rattle.tenant_core.specs.Key.{Key}
-use Rattle.tenant_core.specs.State.{State, peer_numbered}
-use Rattle.tenant_core.specs.Judge.{judge, decided}
 use Rattle.tenant_core.specs.Answer.{answer_to, answered, tick_result, ticked}
+use Rattle.tenant_core.specs.Governed.{command_answer, commanded}
+use Rattle.tenant_core.specs.Judge.{judge, decided}
+use Rattle.tenant_core.specs.Key.{Key}
+use Rattle.tenant_core.specs.Network.{nobody, peer_numbered}
+use Rattle.tenant_core.specs.Present.{network_of}
+use Rattle.tenant_core.specs.State.{State, opened, opening_of}
+use Rattle.tenant_core.specs.declared.command.Command.{Command}
 use Rattle.tenant_core.specs.declared.faults.HoldFault.{HoldFault}
 use Rattle.tenant_core.specs.declared.journal.AnswerKey.{AnswerKey}
 use Rattle.tenant_core.specs.declared.journal.AnswerKey.TheVariants as key
-use Rattle.tenant_core.specs.declared.opening.Opening.{Opening}
-use Rattle.tenant_core.specs.declared.opening.Peer.{Peer}
+use Rattle.tenant_core.specs.declared.peer.Peer.{Peer}
+use Rattle.tenant_core.specs.declared.terms.TenantTerms.{TenantTerms}
 use Rattle.tenant_core.specs.declared.verdict.Verdict.{Verdict}
-use Rattle.tenant_core.specs.declared.verdict.Verdict.TheVariants.{Unknown, NoRoom, Refuse, Forward, Relay}
-use Rattle.floor_core.specs.Replies.{busy_reply, refusal_reply}
+use Rattle.tenant_core.specs.declared.verdict.Verdict.TheVariants.{Unknown, Refuse, Forward, Relay}
+use Rattle.floor_core.specs.Replies.{decision_reply, refusal_reply}
 use Rattle.floor_core.specs.declared.step.Malformed.{Malformed}
 use Rattle.floor_core.specs.declared.step.Malformed.TheVariants as malformed
 use Rattle.floor_core.specs.declared.step.Given.{Given}
 use Rattle.floor_core.specs.declared.step.Given.TheVariants.{Bytes, Fault}
 use Rattle.floor_core.specs.declared.step.Step.{Step}
-use Rattle.floor_core.specs.declared.step.Step.TheVariants.{Load, Decide, Answer, Tick}
+use Rattle.floor_core.specs.declared.step.Step.TheVariants.{Load, Decide, Answer, Tick, Govern}
 use Rattle.floor_core.specs.declared.step.Output.{Output}
 use Rattle.floor_core.specs.declared.step.Output.TheVariants.{Busy, Idle, Loaded, Bad, Stranger, Reply, Send, Ticked}
+use Rattle.floor_core.specs.declared.step.Output.TheVariants.{Governed}
 
 -- where a call stands that has not ended: its packet may be decided, or went on and awaits its answer
 pub data Stage : Type 0 where
@@ -40,12 +46,13 @@ pub record Tenant : Type 0 where
   pub calls : ℕ → Option Stage
 
 -- what happens to one tenant: bytes arrive with a token, a call is decided, what came back for a call that was sent on
--- settles it, and a moment is handed in
+-- settles it, a moment is handed in, and an operator commands
 pub data Event : Type 0 where
   Arrives : (token bytes : List ℕ) → Event
   Decides : (call now : ℕ) → Event
   Answers : (call now : ℕ) (given : Given) → Event
   Ticks : (now : ℕ) → Event
+  Governs : (now : ℕ) (command : Command) → Event
 
 -- the function f with v at k
 abbrev pub put : {A : Type 0} → (ℕ → A) → ℕ → A → ℕ → A
@@ -92,15 +99,14 @@ abbrev pub peer_name : Option Peer → List ℕ
 peer_name None = []
 peer_name (Some p) = p.terms.name
 
--- what a verdict on a packet is answered with; the packet that goes on is the one that came, with another amount
--- and another expiry
-abbrev pub said : Opening → Prepare → Verdict → Output
-said o p Unknown = Stranger o.tenant
-said o p NoRoom = Reply o.tenant (busy_reply o.address)
-said o p (Refuse code amounts) = Reply o.tenant (refusal_reply o.address code amounts)
-said o p (Forward hold peer amount expiry) =
-    Send o.tenant (peer_name (peer_numbered peer o.peers)) hold (with_amount_and_expiry p amount (timestamp_of expiry))
-said o p Relay = Reply o.tenant []
+-- what a verdict on a packet is answered with, which came with this token; the packet that goes on is the one that
+-- came, with another amount and another expiry
+abbrev pub said : State → List ℕ → Prepare → Verdict → Output
+said s token p Unknown = Stranger s.opening.tenant
+said s token p (Forward hold peer amount expiry) =
+    Send s.opening.tenant (peer_name (peer_numbered peer (network_of s).peers)) hold
+    (with_amount_and_expiry p amount (timestamp_of expiry))
+said s token p v = Reply s.opening.tenant (decision_reply s token v)
 
 -- the call after that verdict: it awaits its answer where the packet went on, else it has ended
 abbrev pub stage_after : Verdict → Option Stage
@@ -125,7 +131,7 @@ arrive_after s token (Err wrong) = s
 -- what the decide of a call is answered with
 abbrev pub decide_reply : Tenant → Option Stage → ℕ → Output
 decide_reply s None now = Idle
-decide_reply s (Some (Ready token p)) now = said s.book.opening p (judge s.book token (key_in p) now)
+decide_reply s (Some (Ready token p)) now = said s.book token p (judge s.book token (key_in p) now)
 decide_reply s (Some (Sent hold)) now = Idle
 
 -- what the decide of a call leaves
@@ -155,21 +161,26 @@ abbrev pub bytes_given : Given → List ℕ
 bytes_given (Bytes bytes) = bytes
 bytes_given Fault = []
 
+-- what came back, if it is short enough for an answer
+abbrev pub heard : Given → Given
+heard (Bytes bytes) = if nat_lt max_frame (length bytes) then Fault else Bytes bytes
+heard Fault = Fault
+
 -- what the sender of a packet is told once it is settled: the bytes that came back, or why it is refused
-abbrev pub said_back : Opening → List ℕ → Verdict → Output
-said_back o bytes Relay = Reply o.tenant bytes
-said_back o bytes (Refuse code amounts) = Reply o.tenant (refusal_reply o.address code amounts)
-said_back o bytes _ = Idle
+abbrev pub settled_reply : List ℕ → List ℕ → Verdict → List ℕ
+settled_reply address bytes Relay = bytes
+settled_reply address bytes (Refuse code amounts) = refusal_reply address code amounts
+settled_reply address bytes _ = []
 
 -- what is said of an answer to a hold; of one that awaits none, nothing
-abbrev pub settled_reply : Opening → Given → Result Verdict HoldFault → Output
-settled_reply o given (Ok v) = said_back o (bytes_given given) v
-settled_reply o given (Err f) = Idle
+abbrev pub said_back : State → Given → Result Verdict HoldFault → Output
+said_back s given (Ok v) = Reply s.opening.tenant (settled_reply s.opening.address (bytes_given given) v)
+said_back s given (Err f) = Idle
 
 -- what the answer to a call is answered with
 abbrev pub answer_reply : Tenant → Option Stage → ℕ → Given → Output
 answer_reply s (Some (Sent hold)) now given =
-    settled_reply s.book.opening given (answer_to s.book hold now (answer_key given))
+    said_back s.book (heard given) (answer_to s.book hold now (answer_key (heard given)))
 answer_reply s _ now given = Idle
 
 -- a call has ended once its hold was settled
@@ -181,9 +192,9 @@ calls_settled calls call (Err f) = calls
 abbrev pub answer_after : Tenant → ℕ → Option Stage → ℕ → Given → Tenant
 answer_after s call (Some (Sent hold)) now given =
     record {
-      book = answered s.book hold now (answer_key given);
+      book = answered s.book hold now (answer_key (heard given));
       next_call = s.next_call;
-      calls = calls_settled s.calls call (answer_to s.book hold now (answer_key given));
+      calls = calls_settled s.calls call (answer_to s.book hold now (answer_key (heard given)));
     }
 answer_after s call _ now given = s
 
@@ -193,6 +204,7 @@ reply_alone s (Arrives token bytes) = arrive_reply s (arrival token bytes)
 reply_alone s (Decides call now) = decide_reply s (s.calls call) now
 reply_alone s (Answers call now given) = answer_reply s (s.calls call) now given
 reply_alone s (Ticks now) = Ticked (number_of s) (tick_result s.book now)
+reply_alone s (Governs now command) = Governed (number_of s) (command_answer s.book command now)
 
 -- the one-tenant connector: where an event leaves it
 abbrev pub after_alone : Tenant → Event → Tenant
@@ -200,6 +212,7 @@ after_alone s (Arrives token bytes) = arrive_after s token (arrival token bytes)
 after_alone s (Decides call now) = decide_after s call (s.calls call) now
 after_alone s (Answers call now given) = answer_after s call (s.calls call) now given
 after_alone s (Ticks now) = record s { book = ticked s.book now }
+after_alone s (Governs now command) = record s { book = commanded s.book command now }
 
 -- what the one-tenant connector says to events, one after the other
 abbrev pub run_alone : Tenant → List Event → List Output
@@ -239,12 +252,13 @@ abbrev pub answer_owner : Hand → ℕ → Given → Owner
 answer_owner (Awaits t call) now given = Own t (Answers call now given)
 answer_owner _ now given = Nobody Idle
 
--- whose a step is, by what its worker has in hand; a tick is the tenant's that it names
+-- whose a step is, by what its worker has in hand; a tick and a command are the tenant's that they name
 abbrev pub owner : (ℕ → Hand) → Step → Owner
 owner hands (Load worker tenant token bytes) = load_owner (hands worker) tenant token bytes
 owner hands (Decide worker now) = decide_owner (hands worker) now
 owner hands (Answer worker now given) = answer_owner (hands worker) now given
 owner hands (Tick tenant now) = Own tenant (Ticks now)
+owner hands (Govern tenant now command) = Own tenant (Governs now command)
 
 -- a call that was sent awaits its answer
 abbrev pub awaiting : Hand → Hand
@@ -262,6 +276,7 @@ told hand (Stranger t) = Free
 told hand (Reply t bytes) = Free
 told hand (Send t peer hold frame) = awaiting hand
 told hand (Ticked t answer) = hand
+told hand (Governed t answer) = hand
 
 -- the worker of a step, if it is one's
 abbrev pub worker_of : Step → Option ℕ
@@ -269,6 +284,7 @@ worker_of (Load worker tenant token bytes) = Some worker
 worker_of (Decide worker now) = Some worker
 worker_of (Answer worker now given) = Some worker
 worker_of (Tick tenant now) = None
+worker_of (Govern tenant now command) = None
 
 -- what the workers have in hand once one of them was told this
 abbrev pub hands_told : (ℕ → Hand) → Option ℕ → Output → ℕ → Hand
@@ -311,20 +327,59 @@ FitsIn workers tenants (Load worker tenant token bytes) = (worker < workers) × 
 FitsIn workers tenants (Decide worker now) = worker < workers
 FitsIn workers tenants (Answer worker now given) = worker < workers
 FitsIn workers tenants (Tick tenant now) = tenant < tenants
+FitsIn workers tenants (Govern tenant now command) = tenant < tenants
 
 -- workers that have nothing in hand
 abbrev pub all_free : ℕ → Hand
 all_free = λ w. Free
 
--- The outputs of the steps of workers who began with these hands: there is one for each step, the tenant sees what
--- the one-tenant connector says to the tenant's own steps alone, and nobody's steps have nobody's outputs.
-pub record AreOutputs (tenant : Tenant) (hands : ℕ → Hand) (steps : List Step) (outputs : List Output) : Type 0 where
-  pub each_step : length outputs ≡ length steps
-  pub alone : seen_by (number_of tenant) (owners hands steps outputs) outputs
-      ≡ run_alone tenant (own_steps (number_of tenant) (owners hands steps outputs))
-  pub nobodys : NobodysAreRight (owners hands steps outputs) outputs
+-- what the workers have in hand after steps with these outputs
+abbrev pub hands_left : (ℕ → Hand) → List Step → List Output → ℕ → Hand
+hands_left hands [] outputs = hands
+hands_left hands (s ∷ ss) [] = hands
+hands_left hands (s ∷ ss) (x ∷ xs) = hands_left (hands_after hands s x) ss xs
 
--- where the one-tenant connector ends on the tenant's own steps
-abbrev pub IsLeft : Tenant → (ℕ → Hand) → List Step → List Output → Tenant → Type 0
-IsLeft tenant hands steps outputs after =
-    left_alone tenant (own_steps (number_of tenant) (owners hands steps outputs)) ≡ after
+-- every tenant, by number, and what every worker has in hand; tenants and workers that are not there have nothing, and
+-- no step is theirs
+pub record World : Type 0 where
+  pub tenants : ℕ → Tenant
+  pub hands : ℕ → Hand
+
+-- the book of a tenant that is not there
+abbrev pub no_book : State
+no_book =
+    opened (record {
+      tenant = 0;
+      name = [];
+      address = [];
+      journal = 0;
+      margin = 0;
+      hold = 0;
+      period = 0;
+      clock = 0;
+      next_hold = 0;
+      network = nobody;
+    })
+
+-- the tenant of that number, to whom nothing has happened, if these are its terms
+abbrev pub tenant_at_start : ℕ → ℕ → Option TenantTerms → Tenant
+tenant_at_start start t None = new_tenant no_book
+tenant_at_start start t (Some terms) = new_tenant (opened (opening_of t terms start))
+
+-- the world of these tenants at its start: nothing has happened to any of them, and the workers have nothing in hand
+abbrev pub world_at_start : List TenantTerms → ℕ → World
+world_at_start setups start = record { tenants = λ t. tenant_at_start start t (slice_get setups t); hands = all_free }
+
+-- The outputs of these steps in that world: there is one for each step, each tenant sees what the one-tenant connector
+-- says to the tenant's own steps alone, and nobody's steps have nobody's outputs.
+pub record AreOutputs (world : World) (steps : List Step) (outputs : List Output) : Type 0 where
+  pub each_step : length outputs ≡ length steps
+  pub alone : (t : ℕ) → seen_by t (owners world.hands steps outputs) outputs
+      ≡ run_alone (world.tenants t) (own_steps t (owners world.hands steps outputs))
+  pub nobodys : NobodysAreRight (owners world.hands steps outputs) outputs
+
+-- The world that these steps lead to, whose outputs these are: each tenant stands where the one-tenant connector ends
+-- on the tenant's own steps alone, and each worker has in hand what it was told last.
+pub record IsLeft (world : World) (steps : List Step) (outputs : List Output) (after : World) : Type 0 where
+  pub alone : (t : ℕ) → left_alone (world.tenants t) (own_steps t (owners world.hands steps outputs)) ≡ after.tenants t
+  pub hands : after.hands ≡ hands_left world.hands steps outputs

@@ -1,14 +1,25 @@
 //! Laws of the definitions, each the contract of a function that does nothing.
 
-ghost use Rattle.std.specs.Prelude.{◌≡◌, List, All};
-ghost use Rattle.floor_core.specs.World.{Tenant, number_of, all_free, AreOutputs, FitsIn};
+ghost use Rattle.std.specs.Prelude.{◌≡◌, ℕ, List};
+ghost use Rattle.floor_core.specs.World.{World, owners, own_steps, seen_by, AreOutputs, IsLeft};
 ghost use Rattle.floor_core.specs.declared.step.Step.{Step};
 ghost use Rattle.floor_core.specs.declared.step.Output.{Output};
 
-/// What tenant 0 sees and what is nobody's leave no choice: the steps of one worker, who begins with nothing in hand,
-/// have one list of outputs.
+/// What each tenant sees and what is nobody's leave no choice: in a world, a list of steps has one list of outputs.
 pub fn one_list_of_outputs()
-    ensures { (tenant : Tenant) (steps : List Step) (xs ys : List Output)
-        → number_of tenant ≡ 0 → All (FitsIn 1 1) steps
-        → AreOutputs tenant all_free steps xs → AreOutputs tenant all_free steps ys → xs ≡ ys }
+    ensures { (world : World) (steps : List Step) (xs ys : List Output)
+        → AreOutputs world steps xs → AreOutputs world steps ys → xs ≡ ys }
+{}
+
+/// Two worlds, with any other tenants and any numbers of workers, in which a tenant stands alike, and two lists of
+/// steps of which the tenant's own are alike: the tenant sees the same, and stands alike afterwards.
+pub fn two_worlds()
+    ensures seen { (t : ℕ) (v w : World) (xs ys : List Step) (os ps : List Output) → v.tenants t ≡ w.tenants t
+        → AreOutputs v xs os → AreOutputs w ys ps
+        → own_steps t (owners v.hands xs os) ≡ own_steps t (owners w.hands ys ps)
+        → seen_by t (owners v.hands xs os) os ≡ seen_by t (owners w.hands ys ps) ps }
+    ensures left { (t : ℕ) (v w : World) (xs ys : List Step) (os ps : List Output) (x y : World)
+        → v.tenants t ≡ w.tenants t → IsLeft v xs os x → IsLeft w ys ps y
+        → own_steps t (owners v.hands xs os) ≡ own_steps t (owners w.hands ys ps)
+        → x.tenants t ≡ y.tenants t }
 {}

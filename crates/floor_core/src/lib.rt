@@ -1,11 +1,15 @@
 //! Steps of workers for tenants, and what each of them puts out.
 #![tactic(auto)]
 
-mod carried;
+mod floor;
 pub mod laws;
+mod parts;
 mod replies;
-mod runner;
+mod room;
+mod slot;
 mod step;
 
-pub use runner::Runner;
+pub use floor::{Floor, RunFault};
+pub use parts::{Got, LoadFault, Turn};
+pub use slot::Slot;
 pub use step::{Given, Malformed, Output, Step};

@@ -1,23 +1,23 @@
-//! The Rejects that the connector writes.
+//! What the connector itself answers to a Prepare, written where it is sent from.
 
-ghost use Rattle.std.specs.Prelude.{◌≡◌, ◌≤◌, [], IfOk, Some, codes, length};
-ghost use Rattle.ilp_view.specs.Packet.{reject_frame};
-ghost use Rattle.floor_core.specs.Replies.{code_of, message_of, amounts_data, refusal_reply, busy_reply};
+ghost use Rattle.std.specs.Prelude.{◌≡◌, ◌≤◌, List, ℕ, length, take};
+ghost use Rattle.oer_core.specs.Writing.{Writes};
+ghost use Rattle.ilp_view.specs.Packet.{max_frame, reject_frame};
+ghost use Rattle.std.specs.Prelude.{Some, codes};
+ghost use Rattle.floor_core.specs.Replies.{code_of, message_of, amounts_data, refusal_reply, decision_reply};
+ghost use Rattle.floor_core.specs.World.{settled_reply};
 
-use common_types::Bytes;
 use ilp_view::laws::written_frames_are_short;
 use ilp_view::write_reject;
-use std::alloc::{AllocError, Global};
-use tenant_core::RejectCode;
-
-// No reply is longer: an address has at most 900 bytes, a message 22 and the data 16.
-const MOST_BYTES: usize = 1024;
+use tenant_core::{Book, RejectCode, Verdict};
 
 fn code_of(code: RejectCode) -> &'static [u8; 3]
     ensures { result.now ≡ code_of code }
 {
     match code {
+        RejectCode::BadRequest => b"F00",
         RejectCode::Unreachable => b"F02",
+        RejectCode::InvalidAmount => b"F03",
         RejectCode::WrongCondition => b"F05",
         RejectCode::AmountTooLarge => b"F08",
         RejectCode::PeerUnreachable => b"T01",
@@ -34,7 +34,9 @@ fn message_of(code: RejectCode) -> &'static [u8]
     ensures short { length result.now ≤ 22 }
 {
     match code {
+        RejectCode::BadRequest => b"bad request",
         RejectCode::Unreachable => b"unreachable",
+        RejectCode::InvalidAmount => b"invalid amount",
         RejectCode::WrongCondition => b"wrong condition",
         RejectCode::AmountTooLarge => b"amount too large",
         RejectCode::PeerUnreachable => b"peer unreachable",
@@ -46,59 +48,17 @@ fn message_of(code: RejectCode) -> &'static [u8]
     }
 }
 
-fn reject(
-    alloc: Global,
-    code: &[u8; 3],
-    address: &[u8],
-    message: &[u8],
-    payload: &[u8],
-) -> Result<Bytes, AllocError>
+// The Reject of that code, and how many bytes it has.
+fn put_reject(out: &mut [u8], address: &[u8], code: RejectCode, payload: &[u8]) -> usize
+    requires room { length out.old ≡ max_frame }
     requires address { length address.now ≤ 900 }
-    requires message { length message.now ≤ 22 }
     requires payload { length payload.now ≤ 16 }
-    ensures { IfOk result (λ reply. reply ≡ reject_frame code.now address.now message.now payload.now) }
+    ensures written { Writes out.old 0
+        (reject_frame (code_of code) address.now (message_of code) payload.now) out.new result }
+    ensures within { result ≤ max_frame }
 {
     written_frames_are_short();
-    let mut room = [0u8; MOST_BYTES];
-    let end = write_reject(&mut room, code, address, message, payload).unwrap();
-    Ok(Bytes::from_vec(Vec::from_slice(alloc, &room[..end])?))
-}
-
-/// The refusal of a packet for which the journal has no room.
-pub fn busy_reply(alloc: Global, address: &[u8]) -> Result<Bytes, AllocError>
-    requires { length address.now ≤ 900 }
-    ensures { IfOk result (λ reply. reply ≡ busy_reply address.now) }
-{
-    refusal(alloc, address, RejectCode::Busy, &[])
-}
-
-/// The refusal of a packet, with the amounts that it names.
-pub fn refusal_reply(
-    alloc: Global,
-    address: &[u8],
-    code: RejectCode,
-    amounts: Option<(u64, u64)>,
-) -> Result<Bytes, AllocError>
-    requires { length address.now ≤ 900 }
-    ensures { IfOk result (λ reply. reply ≡ refusal_reply address.now code amounts) }
-{
-    match amounts {
-        None => refusal(alloc, address, code, &[]),
-        Some(amounts) => refusal(alloc, address, code, &two_amounts(amounts)),
-    }
-}
-
-fn refusal(
-    alloc: Global,
-    address: &[u8],
-    code: RejectCode,
-    payload: &[u8],
-) -> Result<Bytes, AllocError>
-    requires address { length address.now ≤ 900 }
-    requires payload { length payload.now ≤ 16 }
-    ensures { IfOk result (λ reply. reply ≡ reject_frame (code_of code) address.now (message_of code) payload.now) }
-{
-    reject(alloc, code_of(code), address, message_of(code), payload)
+    write_reject(out, code_of(code), address, message_of(code), payload).unwrap()
 }
 
 fn two_amounts(amounts: (u64, u64)) -> [u8; 16]
@@ -109,4 +69,56 @@ fn two_amounts(amounts: (u64, u64)) -> [u8; 16]
     [
         a0, a1, a2, a3, a4, a5, a6, a7, b0, b1, b2, b3, b4, b5, b6, b7,
     ]
+}
+
+// The refusal of a packet, with the amounts that it names.
+fn put_refusal(
+    out: &mut [u8],
+    address: &[u8],
+    code: RejectCode,
+    amounts: Option<(u64, u64)>,
+) -> usize
+    requires room { length out.old ≡ max_frame }
+    requires address { length address.now ≤ 900 }
+    ensures written { Writes out.old 0 (refusal_reply address.now code amounts) out.new result }
+    ensures within { result ≤ max_frame }
+{
+    match amounts {
+        None => put_reject(out, address, code, &[]),
+        Some(amounts) => put_reject(out, address, code, &two_amounts(amounts)),
+    }
+}
+
+/// Writes what the sender of a packet is told of the verdict at the front of `out`, and gives how many bytes it has:
+/// none where the verdict tells the sender nothing. The packet came with `token`.
+pub fn put_decision(out: &mut [u8], book: &Book, token: &[u8], verdict: Verdict) -> usize
+    requires { length out.old ≡ max_frame }
+    ensures written { Writes out.old 0 (decision_reply book.now token.now verdict) out.new result }
+    ensures within { result ≤ max_frame }
+{
+    match verdict {
+        Verdict::NoRoom => put_refusal(out, book.address(), RejectCode::Busy, None),
+        Verdict::Refuse { code, amounts } => put_refusal(out, book.address(), code, amounts),
+        Verdict::Fulfil => match book.child(token) {
+            Some(child) => ildcp_core::answer(&child, out),
+            None => 0,
+        },
+        Verdict::Unknown | Verdict::Forward { .. } | Verdict::Relay => 0,
+    }
+}
+
+/// Writes what the sender of a packet is told of the verdict on its answer, the first `len` bytes of `out`, in their
+/// place, and gives how many bytes that has.
+pub fn put_settlement(out: &mut [u8], address: &[u8], len: usize, verdict: Verdict) -> usize
+    requires room { length out.old ≡ max_frame }
+    requires address { length address.now ≤ 900 }
+    requires answer { len ≤ max_frame }
+    ensures written { Writes out.old 0 (settled_reply address.now (take len out.old) verdict) out.new result }
+    ensures within { result ≤ max_frame }
+{
+    match verdict {
+        Verdict::Relay => len,
+        Verdict::Refuse { code, amounts } => put_refusal(out, address, code, amounts),
+        Verdict::Unknown | Verdict::NoRoom | Verdict::Fulfil | Verdict::Forward { .. } => 0,
+    }
 }

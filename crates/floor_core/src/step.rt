@@ -2,7 +2,7 @@
 
 use common_types::{Bytes, Text};
 use ilp_addr::Moment;
-use tenant_core::BookFault;
+use tenant_core::{Answered, BookFault, Command, CommandFault};
 
 /// What a worker is to do.
 #[derive(Drop)]
@@ -33,6 +33,12 @@ pub enum Step {
     Tick {
         tenant: usize,
         now: Moment,
+    },
+    /// An operator commands a tenant's book, at this moment.
+    Govern {
+        tenant: usize,
+        now: Moment,
+        command: Command,
     },
 }
 
@@ -100,5 +106,10 @@ pub enum Output {
     Ticked {
         tenant: usize,
         answer: Result<u32, BookFault>,
+    },
+    /// What the command was answered with, or why it is refused.
+    Governed {
+        tenant: usize,
+        answer: Result<Answered, CommandFault>,
     },
 }

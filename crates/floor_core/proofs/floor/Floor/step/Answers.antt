@@ -1,0 +1,22 @@
+use Rattle.floor_core.proofs.Whole.{met, stepped}
+use Rattle.floor_core.proofs.floor.Floor.step.Goals as goal
+
+pub step-requires-clause-met : goal.step-requires-clause-met
+step-requires-clause-met c = met c.self.inside.parts c.self.invariant
+
+pub invariant_of-self : goal.invariant_of-self
+invariant_of-self c =
+    (stepped c.open_holds.ensures c.calls.ensures c.self.inside.parts c.step.new.self c.args.step.now c.step.result c.self.invariant
+    (rw c.self.view_is c.requires.fits) c.step.ensures.asked c.step.ensures.output c.step.ensures.moved c.step.ensures.same).whole
+
+pub returns-clause-output : goal.returns-clause-output
+returns-clause-output c =
+    rw (← c.self.view_is)
+    (stepped c.open_holds.ensures c.calls.ensures c.self.inside.parts c.step.new.self c.args.step.now c.step.result c.self.invariant
+    (rw c.self.view_is c.requires.fits) c.step.ensures.asked c.step.ensures.output c.step.ensures.moved c.step.ensures.same).output
+
+pub returns-clause-world : goal.returns-clause-world
+returns-clause-world c =
+    rw (← c.self.view_is)
+    (stepped c.open_holds.ensures c.calls.ensures c.self.inside.parts c.step.new.self c.args.step.now c.step.result c.self.invariant
+    (rw c.self.view_is c.requires.fits) c.step.ensures.asked c.step.ensures.output c.step.ensures.moved c.step.ensures.same).world

@@ -1,0 +1,149 @@
+-- What each step puts out, and what it does to the parts of a floor.
+use Rattle.std.specs.Prelude.{ℕ, ◌+◌, List, slice_index, slice_set, Option, Some, None, Result, Ok, Err}
+use Rattle.tenant_core.specs.Answer.{tick_result, ticked}
+use Rattle.tenant_core.specs.Governed.{command_answer, commanded}
+use Rattle.tenant_core.specs.Network.{peer_numbered}
+use Rattle.tenant_core.specs.Present.{network_of}
+use Rattle.tenant_core.specs.Sound.{IsSound}
+use Rattle.tenant_core.specs.State.{State}
+use Rattle.floor_core.specs.FloorView.{FloorState, seat_at, book_at}
+use Rattle.floor_core.specs.Work.{Work, frame_of, tenant_in, load_result, loaded, decide_turn, decide_work, decide_book}
+use Rattle.floor_core.specs.Work.{waiting_in, filled_as, filled_room, answer_turn, answer_work, answer_book}
+use Rattle.floor_core.specs.World.{malformed_by, peer_name}
+use Rattle.floor_core.specs.declared.floor.Seat.{Seat}
+use Rattle.floor_core.specs.declared.parts.Got.{Got}
+use Rattle.floor_core.specs.declared.parts.Got.TheVariants as got
+use Rattle.floor_core.specs.declared.parts.LoadFault.{LoadFault}
+use Rattle.floor_core.specs.declared.parts.LoadFault.TheVariants as load
+use Rattle.floor_core.specs.declared.parts.Turn.{Turn}
+use Rattle.floor_core.specs.declared.parts.Turn.TheVariants as turn
+use Rattle.floor_core.specs.declared.step.Given.{Given}
+use Rattle.floor_core.specs.declared.step.Given.TheVariants as given
+use Rattle.floor_core.specs.declared.step.Malformed.TheVariants as malformed
+use Rattle.floor_core.specs.declared.step.Output.{Output}
+use Rattle.floor_core.specs.declared.step.Output.TheVariants.{Busy, Idle, Loaded, Bad, Stranger, Reply, Send, Ticked}
+use Rattle.floor_core.specs.declared.step.Output.TheVariants.{Governed}
+use Rattle.floor_core.specs.declared.step.Step.{Step}
+use Rattle.floor_core.specs.declared.step.Step.TheVariants.{Load, Decide, Answer, Tick, Govern}
+
+-- a floor of these parts
+abbrev pub parts : List Seat → List State → List ℕ → FloorState
+parts seats books next_calls = record { seats = seats; books = books; next_calls = next_calls }
+
+-- ---- a load
+
+-- what a slot's answer to a load is put out as
+abbrev pub load_output : ℕ → ℕ → Result (Unit {0}) LoadFault → Output
+load_output t call (Ok done) = Loaded t call
+load_output t call (Err load.Busy) = Busy
+load_output t call (Err load.Token) = Bad t malformed.Token
+load_output t call (Err (load.Bad fault)) = Bad t (malformed_by fault)
+
+-- what depends on whether a load was good
+abbrev pub if_good : {A : Type 0} → Result (Unit {0}) LoadFault → A → A → A
+if_good (Ok done) new old = new
+if_good (Err fault) new old = old
+
+-- the seat after a load: a good one takes the tenant's next number
+abbrev pub load_seat : FloorState → ℕ → ℕ → List ℕ → List ℕ → Seat
+load_seat f w t token bytes =
+    record {
+      slot = loaded (seat_at f w).slot t token bytes;
+      call = if_good (load_result (seat_at f w).slot.job token bytes) (slice_index f.next_calls t) (seat_at f w).call;
+    }
+
+-- ---- a decide, and an answer
+
+-- what a slot's turn is put out as, by the tenant's book before it and the slot after it
+abbrev pub turn_output : ℕ → State → Work → Turn → Output
+turn_output t book work turn.Idle = Idle
+turn_output t book work turn.Stray = Idle
+turn_output t book work turn.Stranger = Stranger t
+turn_output t book work turn.Reply = Reply t work.reply
+turn_output t book work (turn.Send peer hold) =
+    Send t (peer_name (peer_numbered peer (network_of book).peers)) hold (frame_of work.job)
+
+-- the slot and the book of one step are changed
+abbrev pub put_both : FloorState → ℕ → ℕ → Work → State → FloorState
+put_both f w t work book =
+    record {
+      seats = slice_set f.seats w (record { slot = work; call = (seat_at f w).call });
+      books = slice_set f.books t book;
+      next_calls = f.next_calls;
+    }
+
+-- what a decide puts out, by the tenant whose call the worker carries
+abbrev pub decide_output : FloorState → ℕ → ℕ → Option ℕ → Output
+decide_output f w now None = Idle
+decide_output f w now (Some t) =
+    turn_output t (book_at f t) (decide_work (seat_at f w).slot (book_at f t) now)
+    (decide_turn (seat_at f w).slot.job (book_at f t) now)
+
+-- what it leaves
+abbrev pub decide_moved : FloorState → ℕ → ℕ → Option ℕ → FloorState
+decide_moved f w now None = f
+decide_moved f w now (Some t) =
+    put_both f w t (decide_work (seat_at f w).slot (book_at f t) now)
+    (decide_book (seat_at f w).slot.job (book_at f t) now)
+
+-- what came back, as a slot takes it
+abbrev pub got_of : Given → Got
+got_of (given.Bytes bytes) = filled_as bytes
+got_of given.Fault = got.Fault
+
+-- the slot that took it
+abbrev pub filled : Work → Given → Work
+filled w (given.Bytes bytes) = record w { room = filled_room w.room bytes }
+filled w given.Fault = w
+
+-- what an answer puts out, by the tenant whose answer the worker awaits
+abbrev pub answer_output : FloorState → ℕ → ℕ → Given → Option ℕ → Output
+answer_output f w now given None = Idle
+answer_output f w now given (Some t) =
+    let slot = filled (seat_at f w).slot given
+    in turn_output t (book_at f t) (answer_work slot (book_at f t) now (got_of given))
+    (answer_turn slot (book_at f t) now (got_of given))
+
+-- what it leaves
+abbrev pub answer_moved : FloorState → ℕ → ℕ → Given → Option ℕ → FloorState
+answer_moved f w now given None = f
+answer_moved f w now given (Some t) =
+    let slot = filled (seat_at f w).slot given
+    in put_both f w t (answer_work slot (book_at f t) now (got_of given))
+    (answer_book slot (book_at f t) now (got_of given))
+
+-- ---- every step
+
+-- what a step puts out
+abbrev pub output_of : FloorState → Step → Output
+output_of f (Load w t token bytes) =
+    load_output t (slice_index f.next_calls t) (load_result (seat_at f w).slot.job token bytes)
+output_of f (Decide w now) = decide_output f w now (tenant_in (seat_at f w).slot.job)
+output_of f (Answer w now given) = answer_output f w now given (waiting_in (seat_at f w).slot.job)
+output_of f (Tick t now) = Ticked t (tick_result (book_at f t) now)
+output_of f (Govern t now command) = Governed t (command_answer (book_at f t) command now)
+
+-- what a step leaves
+abbrev pub moved : FloorState → Step → FloorState
+moved f (Load w t token bytes) =
+    record {
+      seats = slice_set f.seats w (load_seat f w t token bytes);
+      books = f.books;
+      next_calls =
+          if_good (load_result (seat_at f w).slot.job token bytes)
+          (slice_set f.next_calls t (slice_index f.next_calls t + 1)) f.next_calls;
+    }
+moved f (Decide w now) = decide_moved f w now (tenant_in (seat_at f w).slot.job)
+moved f (Answer w now given) = answer_moved f w now given (waiting_in (seat_at f w).slot.job)
+moved f (Tick t now) = record f { books = slice_set f.books t (ticked (book_at f t) now) }
+moved f (Govern t now command) = record f { books = slice_set f.books t (commanded (book_at f t) command now) }
+
+-- the book that a decide asks is a state within its limits
+abbrev pub IsAsked : FloorState → Option ℕ → Type 0
+IsAsked f None = Unit {0}
+IsAsked f (Some t) = IsSound (book_at f t)
+
+-- and so of the step
+abbrev pub AsksSound : FloorState → Step → Type 0
+AsksSound f (Decide w now) = IsAsked f (tenant_in (seat_at f w).slot.job)
+AsksSound f _ = Unit {0}

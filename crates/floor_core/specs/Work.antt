@@ -1,0 +1,244 @@
+-- What a slot carries, and what its calls do to it and to a tenant's book.
+use Rattle.std.specs.Prelude.{ℕ, ◌≡◌, ◌≤◌, true, List, [], length, take, Option, Some, None, option_map, IsSome}
+use Rattle.std.specs.Prelude.{Result, Ok, Err, is_ok, nat_lt, ◌==◌, if◌then◌else◌}
+use Rattle.common_types.specs.Token.{is_token}
+use Rattle.ilp_addr.specs.Target.{Parts as TargetParts}
+use Rattle.ilp_addr.specs.Timestamp.{timestamp_of}
+use Rattle.ilp_view.specs.Packet.{Prepare, max_frame, with_amount_and_expiry}
+use Rattle.ilp_view.specs.Reading.{prepare_at}
+use Rattle.ilp_view.specs.declared.fault.ViewFault.{ViewFault}
+use Rattle.oer_core.specs.Writing.{overwritten}
+use Rattle.tenant_core.specs.Answer.{answer_to, answered}
+use Rattle.tenant_core.specs.Judge.{judge, decided}
+use Rattle.tenant_core.specs.Network.{peer_numbered}
+use Rattle.tenant_core.specs.Present.{network_of}
+use Rattle.tenant_core.specs.State.{State}
+use Rattle.tenant_core.specs.declared.faults.HoldFault.{HoldFault}
+use Rattle.tenant_core.specs.declared.verdict.Verdict.{Verdict}
+use Rattle.tenant_core.specs.declared.verdict.Verdict.TheVariants.{Unknown, NoRoom, Refuse, Fulfil, Forward, Relay}
+use Rattle.floor_core.specs.Replies.{decision_reply}
+use Rattle.floor_core.specs.World.{key_in, answer_key, bytes_given, settled_reply}
+use Rattle.floor_core.specs.declared.parts.Got.{Got}
+use Rattle.floor_core.specs.declared.parts.Got.TheVariants as got
+use Rattle.floor_core.specs.declared.parts.LoadFault.{LoadFault}
+use Rattle.floor_core.specs.declared.parts.LoadFault.TheVariants as load
+use Rattle.floor_core.specs.declared.parts.Turn.{Turn}
+use Rattle.floor_core.specs.declared.parts.Turn.TheVariants.{Idle, Stray, Stranger, Reply, Send}
+use Rattle.floor_core.specs.declared.step.Given.{Given}
+use Rattle.floor_core.specs.declared.step.Given.TheVariants as given
+
+-- ---- what is carried
+
+-- a call: none; a frame that came with a token for a tenant, and is a Prepare; or the frame that was sent on, and the
+-- hold under which the tenant awaits its answer
+pub data Job : Type 0 where
+  NoJob : Job
+  Carries : (tenant : ℕ) (token frame : List ℕ) → Job
+  Waits : (tenant hold : ℕ) (frame : List ℕ) → Job
+
+-- a slot: its call, whom the frame that was sent on goes to, what the sender is told once the call has ended, and the
+-- room that answers come into
+pub record Work : Type 0 where
+  pub job : Job
+  pub target : Option TargetParts
+  pub reply : List ℕ
+  pub room : List ℕ
+
+-- the frame of a call
+abbrev pub frame_of : Job → List ℕ
+frame_of Job.NoJob = []
+frame_of (Job.Carries tenant token frame) = frame
+frame_of (Job.Waits tenant hold frame) = frame
+
+-- the tenant of a call
+abbrev pub tenant_in : Job → Option ℕ
+tenant_in Job.NoJob = None
+tenant_in (Job.Carries tenant token frame) = Some tenant
+tenant_in (Job.Waits tenant hold frame) = Some tenant
+
+-- the tenant whose answer a call awaits
+abbrev pub waiting_in : Job → Option ℕ
+waiting_in (Job.Waits tenant hold frame) = Some tenant
+waiting_in _ = None
+
+-- a slot with that call, whose frame goes nowhere, and with nothing to tell
+abbrev pub carrying : Job → List ℕ → Work
+carrying job room = record { job = job; target = None; reply = []; room = room }
+
+-- a slot with no call, that tells these bytes: they stand at the front of the room
+abbrev pub telling : List ℕ → List ℕ → Work
+telling reply room = record { job = Job.NoJob; target = None; reply = reply; room = overwritten room 0 reply }
+
+-- ---- a load
+
+-- what the reading of a frame is answered with
+abbrev pub frame_result : Result Prepare ViewFault → Result (Unit {0}) LoadFault
+frame_result (Ok p) = Ok tt
+frame_result (Err fault) = Err (load.Bad fault)
+
+-- what a load is answered with: the first fault of the slot, the token and the frame
+abbrev pub load_result : Job → (token bytes : List ℕ) → Result (Unit {0}) LoadFault
+load_result Job.NoJob token bytes = if is_token token then frame_result (prepare_at bytes) else Err load.Token
+load_result _ token bytes = Err load.Busy
+
+-- what a load leaves after that answer
+abbrev pub loaded_as : Work → ℕ → List ℕ → List ℕ → Result (Unit {0}) LoadFault → Work
+loaded_as w tenant token bytes (Ok done) = carrying (Job.Carries tenant token bytes) w.room
+loaded_as w tenant token bytes (Err fault) = w
+
+-- what a load leaves
+abbrev pub loaded : Work → (tenant : ℕ) → (token bytes : List ℕ) → Work
+loaded w tenant token bytes = loaded_as w tenant token bytes (load_result w.job token bytes)
+
+-- ---- a decide
+
+-- what a verdict on a packet is to its slot
+abbrev pub turn_of : Verdict → Turn
+turn_of Unknown = Stranger
+turn_of NoRoom = Reply
+turn_of (Refuse code amounts) = Reply
+turn_of Fulfil = Reply
+turn_of (Forward hold peer amount expiry) = Send peer hold
+turn_of Relay = Reply
+
+-- the verdict on a frame, which is a Prepare
+abbrev pub packet_verdict : State → List ℕ → Result Prepare ViewFault → ℕ → Option Verdict
+packet_verdict s token (Ok p) now = Some (judge s token (key_in p) now)
+packet_verdict s token (Err fault) now = None
+
+-- what a decide of a frame leads to
+abbrev pub packet_turn : State → List ℕ → Result Prepare ViewFault → ℕ → Turn
+packet_turn s token (Ok p) now = turn_of (judge s token (key_in p) now)
+packet_turn s token (Err fault) now = Idle
+
+-- what a decide leads to
+abbrev pub decide_turn : Job → State → (now : ℕ) → Turn
+decide_turn (Job.Carries tenant token frame) s now =
+    if s.opening.tenant == tenant then packet_turn s token (prepare_at frame) now else Stray
+decide_turn _ s now = Idle
+
+-- the target of the peer of that number
+abbrev pub target_of : State → ℕ → Option TargetParts
+target_of s peer = option_map (λ p. p.terms.target) (peer_numbered peer (network_of s).peers)
+
+-- a slot whose packet goes on to that peer, with that amount and that expiry, and awaits its answer under that hold
+abbrev pub sent_on : State → ℕ → Prepare → (hold peer amount expiry : ℕ) → List ℕ → Work
+sent_on s tenant p hold peer amount expiry room =
+    record {
+      job = Job.Waits tenant hold (with_amount_and_expiry p amount (timestamp_of expiry));
+      target = target_of s peer;
+      reply = [];
+      room = room;
+    }
+
+-- what a verdict on a packet leaves of its slot
+abbrev pub work_after : State → ℕ → List ℕ → Prepare → List ℕ → Verdict → Work
+work_after s tenant token p room Unknown = carrying Job.NoJob room
+work_after s tenant token p room (Forward hold peer amount expiry) = sent_on s tenant p hold peer amount expiry room
+work_after s tenant token p room v = telling (decision_reply s token v) room
+
+-- what a decide of a frame leaves
+abbrev pub packet_work : Work → State → ℕ → List ℕ → Result Prepare ViewFault → ℕ → Work
+packet_work w s tenant token (Ok p) now = work_after s tenant token p w.room (judge s token (key_in p) now)
+packet_work w s tenant token (Err fault) now = w
+
+-- what a decide leaves of a slot with that call
+abbrev pub job_decided : Job → Work → State → ℕ → Work
+job_decided (Job.Carries tenant token frame) w s now =
+    if s.opening.tenant == tenant then packet_work w s tenant token (prepare_at frame) now else w
+job_decided _ w s now = w
+
+-- what a decide leaves of the slot
+abbrev pub decide_work : Work → State → ℕ → Work
+decide_work w s now = job_decided w.job w s now
+
+-- what a decide of a frame leaves of the book
+abbrev pub packet_book : State → List ℕ → Result Prepare ViewFault → ℕ → State
+packet_book s token (Ok p) now = decided s token (key_in p) now
+packet_book s token (Err fault) now = s
+
+-- what a decide leaves of the book
+abbrev pub decide_book : Job → State → ℕ → State
+decide_book (Job.Carries tenant token frame) s now =
+    if s.opening.tenant == tenant then packet_book s token (prepare_at frame) now else s
+decide_book _ s now = s
+
+-- ---- an answer
+
+-- an answer is awaited
+abbrev pub IsWaiting : Job → Type 0
+IsWaiting (Job.Waits tenant hold frame) = Unit {0}
+IsWaiting _ = ⊥
+
+-- what comes of bytes that are to be an answer
+abbrev pub filled_as : List ℕ → Got
+filled_as bytes = if nat_lt max_frame (length bytes) then got.Fault else got.Filled (length bytes)
+
+-- the room with them at its front, if there is room for them
+abbrev pub filled_room : List ℕ → List ℕ → List ℕ
+filled_room room bytes = if nat_lt max_frame (length bytes) then room else overwritten room 0 bytes
+
+-- what came back: so many bytes at the front of the room, no more than a frame may have, or nothing
+abbrev pub given_by : (room : List ℕ) → Got → Given
+given_by room (got.Filled n) = if nat_lt max_frame n then given.Fault else given.Bytes (take n room)
+given_by room got.Fault = given.Fault
+
+-- what an answer to a hold leads to
+abbrev pub settled_turn : Result Verdict HoldFault → Turn
+settled_turn (Ok v) = Reply
+settled_turn (Err fault) = Stray
+
+-- what an answer to a call leads to
+abbrev pub job_answer_turn : Job → State → ℕ → Given → Turn
+job_answer_turn (Job.Waits tenant hold frame) s now given =
+    if s.opening.tenant == tenant then settled_turn (answer_to s hold now (answer_key given)) else Stray
+job_answer_turn _ s now given = Idle
+
+-- what an answer leads to
+abbrev pub answer_turn : Work → State → ℕ → Got → Turn
+answer_turn w s now got = job_answer_turn w.job s now (given_by w.room got)
+
+-- what an answer to a hold leaves of its slot
+abbrev pub settled_work : Work → State → Given → Result Verdict HoldFault → Work
+settled_work w s given (Ok v) = telling (settled_reply s.opening.address (bytes_given given) v) w.room
+settled_work w s given (Err fault) = w
+
+-- what an answer leaves of a slot with that call
+abbrev pub job_answered : Job → Work → State → ℕ → Given → Work
+job_answered (Job.Waits tenant hold frame) w s now given =
+    if s.opening.tenant == tenant then settled_work w s given (answer_to s hold now (answer_key given)) else w
+job_answered _ w s now given = w
+
+-- what an answer leaves of the slot
+abbrev pub answer_work : Work → State → ℕ → Got → Work
+answer_work w s now got = job_answered w.job w s now (given_by w.room got)
+
+-- what an answer to a call leaves of the book
+abbrev pub job_answer_book : Job → State → ℕ → Given → State
+job_answer_book (Job.Waits tenant hold frame) s now given =
+    if s.opening.tenant == tenant then answered s hold now (answer_key given) else s
+job_answer_book _ s now given = s
+
+-- what an answer leaves of the book
+abbrev pub answer_book : Work → State → ℕ → Got → State
+answer_book w s now got = job_answer_book w.job s now (given_by w.room got)
+
+-- ---- what a slot keeps
+
+-- a frame that came is a Prepare
+abbrev pub IsReadable : Job → Type 0
+IsReadable (Job.Carries tenant token frame) = is_ok (prepare_at frame) ≡ true
+IsReadable _ = Unit {0}
+
+-- a frame that was sent on goes to someone
+abbrev pub IsSomewhere : Job → Option TargetParts → Type 0
+IsSomewhere (Job.Waits tenant hold frame) target = IsSome target
+IsSomewhere _ target = Unit {0}
+
+-- what holds of a slot, whatever it was told
+pub record IsWork (w : Work) : Type 0 where
+  pub readable : IsReadable w.job
+  pub somewhere : IsSomewhere w.job w.target
+  pub frame : length (frame_of w.job) ≤ max_frame
+  pub reply : length w.reply ≤ max_frame
+  pub room : length w.room ≡ max_frame

@@ -1,0 +1,487 @@
+//! The floor: workers that carry packets for tenants, one step after the other.
+
+ghost use Rattle.std.specs.Prelude.{◌≡◌, ◌≤◌, ◌<◌, ◌+◌, ◌^◌, ℕ, [], length, slice_index, vec_capacity};
+ghost use Rattle.std.specs.Prelude.{IfOk, OnOk, OnErr, IsTrue, ◌↔◌};
+ghost use Rattle.tenant_core.specs.Governed.{command_answer, commanded};
+ghost use Rattle.tenant_core.specs.Network.{peer_numbered};
+ghost use Rattle.tenant_core.specs.Present.{network_of};
+ghost use Rattle.floor_core.specs.FloorView.{IsMet, seat_at, seat_in};
+ghost use Rattle.floor_core.specs.Moves.{parts, output_of, moved, IsAsked, got_of, filled};
+ghost use Rattle.floor_core.specs.Work.{tenant_in, IsWaiting};
+ghost use Rattle.floor_core.specs.Work.Job.{NoJob};
+ghost use Rattle.floor_core.specs.World.{peer_name, malformed_by};
+ghost use Rattle.floor_core.specs.declared.step.Step.TheVariants.{Load, Decide, Answer, Tick, Govern};
+
+use crate::parts::{Got, LoadFault, Turn};
+use crate::slot::Slot;
+use crate::step::{Given, Malformed, Output, Step};
+use common_types::{Bytes, Items, Text};
+use ilp_addr::Moment;
+use ilp_view::{MAX_FRAME, ViewFault};
+use std::alloc::{AllocError, Global};
+use std::marker::Model;
+use tenant_core::laws::{book_is_sound, calls, open_holds, what_stays};
+use tenant_core::{Answered, Book, Command, CommandFault, PeerNo, TenantSetup};
+
+/// A worker's place: its slot, and the number of the call in it.
+#[derive(Drop)]
+pub struct Seat {
+    slot: Slot,
+    call: u64,
+}
+
+// Workers and tenants by their numbers, and the number of each tenant's next call.
+#[derive(Drop)]
+struct Parts {
+    seats: Vec<Seat>,
+    books: Vec<Book>,
+    next_calls: Vec<u64>,
+}
+
+impl Model for Parts {
+    ghost use Rattle.floor_core.specs.FloorView.{FloorState};
+    ghost use Rattle.std.specs.Coded.{codes};
+    ghost use Rattle.route_table.specs.contracts.routes.Routes as routes;
+
+    ghost Value = { FloorState };
+
+    ghost coded = { Prim.hlevel (codes, routes.the_row.coded) };
+
+    ghost use Rattle.floor_core.specs.Parts.{lists_of};
+
+    ghost view = { lists_of };
+}
+
+/// Workers that carry packets for tenants. Contracts see what it shows to the one-tenant connectors.
+#[derive(Drop)]
+pub struct Floor {
+    parts: Parts,
+}
+
+impl Model for Floor {
+    ghost use Rattle.floor_core.specs.FloorView.{FloorState};
+    ghost use Rattle.std.specs.Coded.{codes};
+    ghost use Rattle.route_table.specs.contracts.routes.Routes as routes;
+
+    ghost Value = { FloorState };
+
+    ghost coded = { Prim.hlevel (codes, routes.the_row.coded) };
+
+    ghost use Rattle.floor_core.specs.FloorKept.{parts_of, IsSteady};
+
+    ghost view = { parts_of };
+
+    ghost invariant = { IsSteady };
+}
+
+/// Memory was refused. Each step before stands, and nothing of the one that wanted it.
+#[derive(Drop)]
+pub struct RunFault {
+    /// The outputs of the steps that were done.
+    pub outputs: Items<Output>,
+}
+
+fn malformed_by(fault: ViewFault) -> Malformed
+    ensures { result ≡ malformed_by fault }
+{
+    match fault {
+        ViewFault::Kind => Malformed::Kind,
+        ViewFault::Oer => Malformed::Oer,
+        ViewFault::Field => Malformed::Field,
+        ViewFault::AfterEnd => Malformed::AfterEnd,
+        ViewFault::Size | ViewFault::Short => Malformed::Size,
+    }
+}
+
+// The bytes, in room that was taken for them.
+fn copied(mut room: Vec<u8>, bytes: &[u8]) -> Bytes
+    requires empty { room.items ≡ [] }
+    requires fits { length bytes.now ≤ vec_capacity room }
+    ensures { result ≡ bytes.now }
+{
+    let _ = room.extend_from_slice(bytes);
+    room.shrink_to_fit();
+    Bytes::from_vec(room)
+}
+
+fn peer_name(book: &Book, peer: PeerNo) -> Text<32>
+    ensures { result ≡ peer_name (peer_numbered peer (network_of book.now).peers) }
+{
+    match book.peer_name(peer) {
+        Some(name) => Text::from_bytes(name).unwrap(),
+        None => Text::from_bytes(&[]).unwrap(),
+    }
+}
+
+fn load_on(
+    seats: &mut [Seat],
+    next_calls: &mut [u64],
+    worker: usize,
+    tenant: usize,
+    token: &[u8],
+    bytes: &[u8],
+) -> Output
+    requires worker { worker < length seats.old }
+    requires tenant { tenant < length next_calls.old }
+    requires room { slice_index next_calls.old tenant + 1 < 2 ^ 64 }
+    ensures output { result ≡ output_of (parts seats.old [] next_calls.old) (Load worker tenant token.now bytes.now) }
+    ensures seats { seats.new
+        ≡ (moved (parts seats.old [] next_calls.old) (Load worker tenant token.now bytes.now)).seats }
+    ensures calls { next_calls.new
+        ≡ (moved (parts seats.old [] next_calls.old) (Load worker tenant token.now bytes.now)).next_calls }
+{
+    let seat = &mut seats[worker];
+    match seat.slot.load(tenant, token, bytes) {
+        Ok(()) => {
+            let call = next_calls[tenant];
+            seat.call = call;
+            next_calls[tenant] = call + 1;
+            Output::Loaded { tenant, call }
+        }
+        Err(LoadFault::Busy) => Output::Busy,
+        Err(LoadFault::Token) => Output::Bad {
+            tenant,
+            kind: Malformed::Token,
+        },
+        Err(LoadFault::Bad(fault)) => Output::Bad {
+            tenant,
+            kind: malformed_by(fault),
+        },
+    }
+}
+
+// Where memory is refused, nothing has changed.
+fn decide_on(
+    alloc: Global,
+    seats: &mut [Seat],
+    books: &mut [Book],
+    worker: usize,
+    now: Moment,
+) -> Result<Output, AllocError>
+    requires worker { worker < length seats.old }
+    requires met { IsMet (seat_at (parts seats.old books.old []) worker).slot.job books.old }
+    ensures output { IfOk result (λ output. output ≡ output_of (parts seats.old books.old []) (Decide worker now)) }
+    ensures seats { OnOk result (seats.new ≡ (moved (parts seats.old books.old []) (Decide worker now)).seats) }
+    ensures books { OnOk result (books.new ≡ (moved (parts seats.old books.old []) (Decide worker now)).books) }
+    ensures asked { IsAsked (parts seats.old books.old [])
+        (tenant_in (seat_at (parts seats.old books.old []) worker).slot.job) }
+    ensures same_seats { OnErr result (seats.new ≡ seats.old) }
+    ensures same_books { OnErr result (books.new ≡ books.old) }
+{
+    what_stays();
+    let seat = &mut seats[worker];
+    let Some(tenant) = seat.slot.tenant() else {
+        return Ok(Output::Idle);
+    };
+    let book = &mut books[tenant];
+    book_is_sound(book);
+    let room = Vec::with_capacity(alloc, MAX_FRAME)?;
+    Ok(match seat.slot.decide(book, now) {
+        Turn::Idle => Output::Idle,
+        Turn::Stray => unreachable!(),
+        Turn::Stranger => Output::Stranger { tenant },
+        Turn::Reply => Output::Reply {
+            tenant,
+            bytes: copied(room, seat.slot.reply()),
+        },
+        Turn::Send { peer, hold } => Output::Send {
+            tenant,
+            peer: peer_name(book, peer),
+            hold,
+            frame: copied(room, seat.slot.frame()),
+        },
+    })
+}
+
+// What came back for the packet of a slot, taken in by it.
+fn taken_in(slot: &mut Slot, given: &Given) -> Got
+    requires { IsWaiting slot.old.job }
+    ensures got { result ≡ got_of given.now }
+    ensures slot { slot.new ≡ filled slot.old given.now }
+{
+    match given {
+        Given::Bytes(bytes) => slot.fill(bytes.as_slice()),
+        Given::Fault => Got::Fault,
+    }
+}
+
+// Where memory is refused, nothing has changed.
+fn answer_on(
+    alloc: Global,
+    seats: &mut [Seat],
+    books: &mut [Book],
+    worker: usize,
+    now: Moment,
+    given: &Given,
+) -> Result<Output, AllocError>
+    requires worker { worker < length seats.old }
+    requires met { IsMet (seat_at (parts seats.old books.old []) worker).slot.job books.old }
+    ensures output { IfOk result (λ output.
+        output ≡ output_of (parts seats.old books.old []) (Answer worker now given.now)) }
+    ensures seats { OnOk result
+        (seats.new ≡ (moved (parts seats.old books.old []) (Answer worker now given.now)).seats) }
+    ensures books { OnOk result
+        (books.new ≡ (moved (parts seats.old books.old []) (Answer worker now given.now)).books) }
+    ensures same_seats { OnErr result (seats.new ≡ seats.old) }
+    ensures same_books { OnErr result (books.new ≡ books.old) }
+{
+    calls();
+    let seat = &mut seats[worker];
+    let Some(tenant) = seat.slot.waiting() else {
+        return Ok(Output::Idle);
+    };
+    let room = Vec::with_capacity(alloc, MAX_FRAME)?;
+    let got = taken_in(&mut seat.slot, given);
+    Ok(match seat.slot.answer(&mut books[tenant], now, got) {
+        Turn::Reply => Output::Reply {
+            tenant,
+            bytes: copied(room, seat.slot.reply()),
+        },
+        _ => unreachable!(),
+    })
+}
+
+fn tick_on(books: &mut [Book], tenant: usize, now: Moment) -> Output
+    requires { tenant < length books.old }
+    ensures output { result ≡ output_of (parts [] books.old []) (Tick tenant now) }
+    ensures books { books.new ≡ (moved (parts [] books.old []) (Tick tenant now)).books }
+{
+    let answer = books[tenant].tick(now);
+    Output::Ticked { tenant, answer }
+}
+
+// What the book answers to a command. Where memory is refused, nothing has changed.
+fn governed(
+    alloc: Global,
+    book: &mut Book,
+    command: &Command,
+    now: Moment,
+) -> Result<Result<Answered, CommandFault>, AllocError>
+    ensures answer { IfOk result (λ answer. answer ≡ command_answer book.old command.now now) }
+    ensures book { OnOk result (book.new ≡ commanded book.old command.now now) }
+    ensures same { OnErr result (book.new ≡ book.old) }
+{
+    what_stays();
+    match book.command(alloc, command, now) {
+        Ok(answered) => Ok(Ok(answered)),
+        Err(fault) => match fault {
+            CommandFault::Memory => Err(AllocError),
+            fault => Ok(Err(fault)),
+        },
+    }
+}
+
+fn govern_on(
+    alloc: Global,
+    books: &mut [Book],
+    tenant: usize,
+    now: Moment,
+    command: &Command,
+) -> Result<Output, AllocError>
+    requires { tenant < length books.old }
+    ensures output { IfOk result (λ output.
+        output ≡ output_of (parts [] books.old []) (Govern tenant now command.now)) }
+    ensures books { OnOk result (books.new ≡ (moved (parts [] books.old []) (Govern tenant now command.now)).books) }
+    ensures same { OnErr result (books.new ≡ books.old) }
+{
+    let answer = governed(alloc, &mut books[tenant], command, now)?;
+    Ok(Output::Governed { tenant, answer })
+}
+
+impl Parts {
+    ghost use Rattle.std.specs.Prelude.{◌≡◌, ℕ, length, IfOk, OnOk, OnErr};
+    ghost use Rattle.floor_core.specs.FloorView.{Fits, HasRoom, IsMet, seat_at};
+    ghost use Rattle.floor_core.specs.Moves.{output_of, moved, AsksSound};
+
+    // One step, or nothing where memory is refused.
+    fn step(&mut self, alloc: Global, step: &Step) -> Result<Output, AllocError>
+        requires fits { Fits self.old step.now }
+        requires met { (w : ℕ) → IsMet (seat_at self.old w).slot.job self.old.books }
+        requires as_many { length self.old.next_calls ≡ length self.old.books }
+        requires room { HasRoom self.old 1 }
+        ensures output { IfOk result (λ output. output ≡ output_of self.old step.now) }
+        ensures moved { OnOk result (self.new ≡ moved self.old step.now) }
+        ensures asked { OnOk result (AsksSound self.old step.now) }
+        ensures same { OnErr result (self.new ≡ self.old) }
+    {
+        match step {
+            Step::Load {
+                worker,
+                tenant,
+                token,
+                bytes,
+            } => Ok(load_on(
+                &mut self.seats,
+                &mut self.next_calls,
+                *worker,
+                *tenant,
+                token.as_slice(),
+                bytes.as_slice(),
+            )),
+            Step::Decide { worker, now } => decide_on(
+                alloc,
+                &mut self.seats,
+                &mut self.books,
+                *worker,
+                *now,
+            ),
+            Step::Answer { worker, now, given } => answer_on(
+                alloc,
+                &mut self.seats,
+                &mut self.books,
+                *worker,
+                *now,
+                given,
+            ),
+            Step::Tick { tenant, now } => Ok(tick_on(&mut self.books, *tenant, *now)),
+            Step::Govern {
+                tenant,
+                now,
+                command,
+            } => govern_on(alloc, &mut self.books, *tenant, *now, command),
+        }
+    }
+}
+
+impl Floor {
+    ghost use Rattle.std.specs.Prelude.{◌≡◌, ◌≤◌, ◌+◌, ℕ, length, slice_index, take, All, IfOk, OnOk, IfErr, OnErr};
+    ghost use Rattle.floor_core.specs.FloorView.{world_of, Fits, HasRoom};
+    ghost use Rattle.floor_core.specs.World.{AreOutputs, IsLeft};
+    ghost use Rattle.floor_core.specs.Worlds.{reply, after};
+
+    // One step of the floor is one step of the world that it shows; or nothing, where memory is refused.
+    fn step(&mut self, alloc: Global, step: &Step) -> Result<Output, AllocError>
+        requires fits { Fits self.old step.now }
+        requires room { HasRoom self.old 1 }
+        ensures output { IfOk result (λ output. output ≡ reply (world_of self.old) step.now) }
+        ensures world { OnOk result (world_of self.new ≡ after (world_of self.old) step.now) }
+        ensures same { OnErr result (self.new ≡ self.old) }
+        ensures workers { length self.new.seats ≡ length self.old.seats }
+        ensures tenants { length self.new.books ≡ length self.old.books }
+        ensures counted { (t : ℕ) → slice_index self.new.next_calls t ≤ slice_index self.old.next_calls t + 1 }
+    {
+        open_holds();
+        calls();
+        self.parts.step(alloc, step)
+    }
+
+    /// Does the steps in order, and gives their outputs. To each tenant they are those of the one-tenant connector on
+    /// the tenant's own steps alone, and so is where the tenant stands afterwards; nobody's steps put out that their
+    /// worker is busy or idle.
+    ///
+    /// The one error is want of memory. It has the outputs of the steps that were done, of which the same holds: each
+    /// step stands whole or not at all.
+    pub fn run(&mut self, alloc: Global, steps: &[Step]) -> Result<Vec<Output>, RunFault>
+        requires fit { All (Fits self.old) steps.now }
+        requires room { HasRoom self.old (length steps.now) }
+        ensures outputs { IfOk result (λ outputs. AreOutputs (world_of self.old) steps.now outputs.items) }
+        ensures left { IfOk result (λ outputs.
+            IsLeft (world_of self.old) steps.now outputs.items (world_of self.new)) }
+        ensures done { IfErr result (λ fault.
+            AreOutputs (world_of self.old) (take (length fault.outputs) steps.now) fault.outputs) }
+        ensures stands { IfErr result (λ fault.
+            IsLeft (world_of self.old) (take (length fault.outputs) steps.now) fault.outputs (world_of self.new)) }
+        ensures workers { length self.new.seats ≡ length self.old.seats }
+        ensures tenants { length self.new.books ≡ length self.old.books }
+    {
+        let mut outputs: Vec<Output> = Vec::new(alloc);
+        for step in steps {
+            let Ok(()) = outputs.reserve(1) else {
+                return Err(RunFault {
+                    outputs: Items::from_vec(outputs),
+                });
+            };
+            let Ok(output) = self.step(alloc, step) else {
+                return Err(RunFault {
+                    outputs: Items::from_vec(outputs),
+                });
+            };
+            outputs.push_reserved(output);
+        }
+        Ok(outputs)
+    }
+}
+
+impl Floor {
+    ghost use Rattle.std.specs.Prelude.{◌≡◌, ◌≤◌, ℕ, length, IfOk};
+    ghost use Rattle.floor_core.specs.FloorView.{IsNew};
+    ghost use Rattle.tenant_core.specs.Limits.{max_tenants};
+
+    /// The floor of these tenants, whose first periods begin at `start`, and of so many workers, with nothing in hand:
+    /// 1 to 64 of each. The one error is want of memory.
+    pub fn new(
+        alloc: Global,
+        setups: &[TenantSetup],
+        start: Moment,
+        workers: usize,
+    ) -> Result<Floor, AllocError>
+        requires tenants { (1 ≤ length setups.now) × (length setups.now ≤ max_tenants) }
+        requires workers { (1 ≤ workers) × (workers ≤ 64) }
+        ensures { IfOk result (λ floor. IsNew setups.now start workers floor) }
+    {
+        let seats = free_seats(alloc, workers)?;
+        let mut books: Vec<Book> = Vec::with_capacity(alloc, setups.len())?;
+        for (tenant, setup) in setups.iter().enumerate() {
+            books.push_reserved(Book::new(alloc, tenant, setup, start)?);
+        }
+        let next_calls: Vec<u64> = vec![in alloc; 0; books.len()]?;
+        Ok(Floor {
+            parts: Parts {
+                seats,
+                books,
+                next_calls,
+            },
+        })
+    }
+}
+
+fn free_seats(alloc: Global, workers: usize) -> Result<Vec<Seat>, AllocError>
+    ensures count { IfOk result (λ seats. length seats.items ≡ workers) }
+    ensures free { IfOk result (λ seats. (w : ℕ) → (seat_in seats.items w).slot.job ≡ NoJob) }
+{
+    let mut seats: Vec<Seat> = Vec::with_capacity(alloc, workers)?;
+    for _ in 0..workers {
+        seats.push_reserved(Seat {
+            slot: Slot::new(alloc)?,
+            call: 0,
+        });
+    }
+    Ok(seats)
+}
+
+impl Floor {
+    ghost use Rattle.std.specs.Prelude.{◌≡◌, ◌↔◌, IsTrue};
+    ghost use Rattle.floor_core.specs.FloorView.{Fits, HasRoom};
+
+    /// Whether the worker and the tenant are there that a step names.
+    pub fn fits(&self, step: &Step) -> bool
+        ensures { IsTrue result ↔ Fits self.now step.now }
+    {
+        let workers = self.parts.seats.len();
+        let tenants = self.parts.books.len();
+        match step {
+            Step::Load { worker, tenant, .. } => *worker < workers && *tenant < tenants,
+            Step::Decide { worker, .. } | Step::Answer { worker, .. } => *worker < workers,
+            Step::Tick { tenant, .. } | Step::Govern { tenant, .. } => *tenant < tenants,
+        }
+    }
+
+    /// Whether each tenant has numbers left for the calls of so many steps.
+    pub fn room(&self, steps: usize) -> bool
+        ensures { IsTrue result ↔ HasRoom self.now steps }
+    {
+        have_room(&self.parts.next_calls, steps)
+    }
+}
+
+// Whether so many more leave each number at most 2^63.
+fn have_room(next_calls: &[u64], steps: usize) -> bool
+    ensures { IsTrue result ↔ ((t : ℕ) → t < length next_calls.now → slice_index next_calls.now t + steps ≤ 2 ^ 63) }
+{
+    for next in next_calls {
+        if *next > 1 << 63 || steps as u64 > (1 << 63) - *next {
+            return false;
+        }
+    }
+    true
+}

@@ -1,0 +1,43 @@
+//! What calls of a slot are answered with.
+
+use ilp_view::ViewFault;
+use route_table::PeerNo;
+use thiserror::Error;
+
+/// Why a slot takes no frame, in the order in which it is looked for. Nothing has changed then.
+#[derive(Clone, Copy, Debug, PartialEq, Eq, Error)]
+pub enum LoadFault {
+    /// The slot carries a call already.
+    #[error("a call is carried already")]
+    Busy,
+    /// The token is none: it has no byte or over 64, or one that no token has.
+    #[error("the token is malformed")]
+    Token,
+    /// The frame is no Prepare.
+    #[error("{0}")]
+    Bad(ViewFault),
+}
+
+/// What came back from the next peer, into a slot's room for it.
+#[derive(Clone, Copy, Debug, PartialEq, Eq)]
+pub enum Got {
+    /// That many bytes, at the front of the room. More than 34,000 count as a fault.
+    Filled(usize),
+    /// No answer.
+    Fault,
+}
+
+/// What a call of a slot with a book led to.
+#[derive(Clone, Copy, Debug, PartialEq, Eq)]
+pub enum Turn {
+    /// The slot carries nothing that the call is for. Nothing has changed.
+    Idle,
+    /// The book is another tenant's, or the hold does not await an answer in it. Nothing has changed.
+    Stray,
+    /// The token is no peer's of the tenant. The slot is idle.
+    Stranger,
+    /// The sender of the frame is told what the slot's reply says. The slot is idle.
+    Reply,
+    /// The slot's frame goes on to the peer of that number, under that hold. The slot awaits its answer.
+    Send { peer: PeerNo, hold: u64 },
+}

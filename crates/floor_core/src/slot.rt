@@ -1,0 +1,368 @@
+//! Slots: what a worker carries, in room that is used again and again.
+
+ghost use Rattle.std.specs.Prelude.{◌≡◌, ◌≤◌, IfOk, IsOk, IsSome, Some, take, List, ℕ, length};
+ghost use Rattle.ilp_addr.specs.Timestamp.{latest_expiry, timestamp_of};
+ghost use Rattle.ilp_view.specs.Packet.{max_frame, with_amount_and_expiry};
+ghost use Rattle.ilp_view.specs.Reading.{prepare_at, fulfill_at, reject_at};
+ghost use Rattle.tenant_core.specs.Judge.{IsSooner};
+ghost use Rattle.floor_core.specs.World.{answer_key, bytes_given, key_read};
+ghost use Rattle.floor_core.specs.SlotView.{target_at};
+ghost use Rattle.floor_core.specs.Work.{given_by, packet_book, packet_verdict, target_of};
+ghost use Rattle.tenant_core.specs.Present.{network_of};
+
+use crate::parts::{Got, LoadFault, Turn};
+use crate::replies::{put_decision, put_settlement};
+use crate::room::Room;
+use common_types::Token;
+use ilp_addr::{Moment, Target};
+use ilp_view::{FulfillView, MAX_FRAME, PrepareView, RejectView, set_amount_and_expiry};
+use route_table::PeerNo;
+use std::alloc::{AllocError, Global};
+use std::marker::Model;
+use tenant_core::laws::what_stays;
+use tenant_core::{AnswerKey, Book, PrepareKey, Verdict};
+
+/// What a slot does.
+#[derive(Drop)]
+enum Stage {
+    Idle,
+    /// A frame that is a Prepare came for the tenant, with that token.
+    Loaded {
+        tenant: usize,
+        token: Token,
+    },
+    /// The tenant sent the frame on to the target, and awaits its answer under that hold.
+    Waiting {
+        tenant: usize,
+        hold: u64,
+        target: Target,
+    },
+}
+
+/// What one worker carries: a frame, the one that came or the one that was sent on, and what the sender is told in the
+/// end. All its room is taken when it is made. Contracts see it as a `Work`.
+#[derive(Drop)]
+pub struct Slot {
+    stage: Stage,
+    frame: Room,
+    // How many bytes the frame has, at the front of its room.
+    frame_len: usize,
+    reply: Room,
+    reply_len: usize,
+}
+
+impl Model for Slot {
+    ghost use Rattle.floor_core.specs.Work.{Work};
+
+    ghost Value = { Work };
+
+    ghost use Rattle.floor_core.specs.SlotView.{work_of, IsKept};
+
+    ghost view = { work_of };
+
+    ghost invariant = { IsKept };
+}
+
+impl Slot {
+    ghost use Rattle.std.specs.Prelude.{◌≡◌, ◌≤◌, ◌↔◌, IfOk, IsSome, Some, length};
+    ghost use Rattle.ilp_view.specs.Packet.{max_frame};
+    ghost use Rattle.floor_core.specs.Work.{Job, Work, load_result, loaded, decide_turn, decide_work, decide_book};
+    ghost use Rattle.floor_core.specs.Work.{answer_turn, answer_work, answer_book, frame_of, tenant_in, carrying};
+    ghost use Rattle.floor_core.specs.Work.{IsWaiting, waiting_in, filled_as, filled_room, IsWork};
+    ghost use Rattle.std.specs.Borrow.{sem};
+    ghost use Rattle.floor_core.specs.Lending.{LendsRoom};
+
+    /// A slot with nothing to carry and nothing to tell. The one error is want of memory.
+    pub fn new(alloc: Global) -> Result<Slot, AllocError>
+        ensures { IfOk result (λ slot. slot ≡ carrying Job.NoJob slot.room) }
+    {
+        Ok(Slot {
+            stage: Stage::Idle,
+            frame: Room::new(alloc)?,
+            frame_len: 0,
+            reply: Room::new(alloc)?,
+            reply_len: 0,
+        })
+    }
+
+    /// The tenant of the call that is carried.
+    pub fn tenant(&self) -> Option<usize>
+        ensures { result ≡ tenant_in self.now.job }
+    {
+        match &self.stage {
+            Stage::Idle => None,
+            Stage::Loaded { tenant, .. } | Stage::Waiting { tenant, .. } => Some(*tenant),
+        }
+    }
+
+    /// The tenant whose answer is awaited.
+    pub fn waiting(&self) -> Option<usize>
+        ensures value { result ≡ waiting_in self.now.job }
+        ensures waits { IsSome result ↔ IsWaiting self.now.job }
+    {
+        match &self.stage {
+            Stage::Waiting { tenant, .. } => Some(*tenant),
+            Stage::Idle | Stage::Loaded { .. } => None,
+        }
+    }
+
+    /// The frame that is carried: the one that came, or the one that was sent on; none where the slot is idle.
+    pub fn frame(&self) -> &[u8]
+        ensures value { result.now ≡ frame_of self.now.job }
+        ensures short { length result.now ≤ max_frame }
+    {
+        match &self.stage {
+            Stage::Idle => &[],
+            Stage::Loaded { .. } | Stage::Waiting { .. } => &self
+                .frame
+                .as_slice()[..self.frame_len],
+        }
+    }
+
+    /// What the sender of the last frame is told; none before the call has ended.
+    pub fn reply(&self) -> &[u8]
+        ensures value { result.now ≡ self.now.reply }
+        ensures short { length result.now ≤ max_frame }
+    {
+        &self.reply.as_slice()[..self.reply_len]
+    }
+
+    /// What holds of each slot.
+    pub fn is_work(&self)
+        ensures { IsWork self.now }
+    {
+        let _frame = self.frame.as_slice();
+        let _reply = self.reply.as_slice();
+    }
+
+    /// Drops the call that is carried, and what is told of the last one.
+    pub fn clear(&mut self)
+        ensures { self.new ≡ carrying Job.NoJob self.old.room }
+    {
+        self.stage = Stage::Idle;
+        self.reply_len = 0;
+    }
+
+    /// Takes in a frame that came for a tenant, with the token that the sender showed.
+    ///
+    /// The errors are, in the order in which they are looked for: `Busy` where the slot carries a call; `Token` where
+    /// the token is none; and `Bad` with what is wrong with the frame, where it is no Prepare. Nothing has changed
+    /// then.
+    pub fn load(&mut self, tenant: usize, token: &[u8], bytes: &[u8]) -> Result<(), LoadFault>
+        ensures result { result ≡ load_result self.old.job token.now bytes.now }
+        ensures slot { self.new ≡ loaded self.old tenant token.now bytes.now }
+    {
+        if !matches!(self.stage, Stage::Idle) {
+            return Err(LoadFault::Busy);
+        }
+        let Some(token) = Token::new(token) else {
+            return Err(LoadFault::Token);
+        };
+        if let Err(fault) = PrepareView::read(bytes) {
+            return Err(LoadFault::Bad(fault));
+        }
+        self.frame.put(bytes);
+        self.frame_len = bytes.len();
+        self.reply_len = 0;
+        self.stage = Stage::Loaded { tenant, token };
+        Ok(())
+    }
+
+    /// Lets the tenant of the frame decide, by its book, what becomes of it at this moment.
+    ///
+    /// `Idle` where no frame came in that is still to be decided, and `Stray` where the book is another tenant's:
+    /// nothing has changed then. Else as the book decides by the token and the packet: `Stranger` where the token is no
+    /// peer's; `Send` where the packet goes on, with the amount and the expiry of the verdict in place of its own and
+    /// every other byte as it came; `Reply` for every other verdict. (RFC 0027; RFC 0031)
+    pub fn decide(&mut self, book: &mut Book, now: Moment) -> Turn
+        ensures turn { result ≡ decide_turn self.old.job book.old now }
+        ensures slot { self.new ≡ decide_work self.old book.old now }
+        ensures book { book.new ≡ decide_book self.old.job book.old now }
+    {
+        let Stage::Loaded { tenant, token } = &self.stage else {
+            return Turn::Idle;
+        };
+        let tenant = *tenant;
+        if book.tenant() != tenant {
+            return Turn::Stray;
+        }
+        let verdict = decided(
+            book,
+            token.as_bytes(),
+            self.frame.as_slice(),
+            self.frame_len,
+            now,
+        );
+        match verdict {
+            Verdict::Unknown => {
+                self.stage = Stage::Idle;
+                Turn::Stranger
+            }
+            Verdict::Forward {
+                hold,
+                peer,
+                amount,
+                expiry,
+            } => {
+                rewrite(self.frame.as_mut_slice(), self.frame_len, amount, expiry);
+                self.stage = Stage::Waiting {
+                    tenant,
+                    hold,
+                    target: target_of(book, peer),
+                };
+                Turn::Send { peer, hold }
+            }
+            verdict => {
+                self.reply_len = put_decision(
+                    self.reply.as_mut_slice(),
+                    book,
+                    token.as_bytes(),
+                    verdict,
+                );
+                self.stage = Stage::Idle;
+                Turn::Reply
+            }
+        }
+    }
+
+    /// Whom the frame goes to, the frame, and the room for the answer to it, to be written.
+    pub fn exchange(&mut self) -> (&Target, &[u8], &mut [u8])
+        requires { IsWaiting self.old.job }
+        ensures* writes_back { sem 𝓛 (LendsRoom self.entry result.2) }
+        ensures target { Some result.0.now ≡ self.old.target }
+        ensures frame { result.1.now ≡ frame_of self.old.job }
+        ensures room { result.2.now ≡ self.old.room }
+        ensures size { length result.2.now ≡ max_frame }
+    {
+        let len = self.frame_len;
+        let frame = &self.frame.as_slice()[..len];
+        (target_in(&self.stage), frame, self.reply.as_mut_slice())
+    }
+
+    /// Puts what came back from the next peer into the room for it, where it has no more bytes than a frame may have.
+    pub fn fill(&mut self, bytes: &[u8]) -> Got
+        requires { IsWaiting self.old.job }
+        ensures got { result ≡ filled_as bytes.now }
+        ensures slot { self.new ≡ record self.old { room = filled_room self.old.room bytes.now } }
+    {
+        if bytes.len() > MAX_FRAME {
+            return Got::Fault;
+        }
+        self.reply.put(bytes);
+        Got::Filled(bytes.len())
+    }
+
+    /// Lets the tenant settle the packet that was sent on, by its book and what came back from the next peer.
+    ///
+    /// `Idle` where the slot awaits no answer, and `Stray` where the book is another tenant's or knows of no such hold:
+    /// nothing has changed then. Else `Reply`: what came back, where the book relays it, or the refusal of its verdict.
+    /// (RFC 0027)
+    pub fn answer(&mut self, book: &mut Book, now: Moment, got: Got) -> Turn
+        ensures turn { result ≡ answer_turn self.old book.old now got }
+        ensures slot { self.new ≡ answer_work self.old book.old now got }
+        ensures book { book.new ≡ answer_book self.old book.old now got }
+    {
+        let Stage::Waiting { tenant, hold, .. } = &self.stage else {
+            return Turn::Idle;
+        };
+        if book.tenant() != *tenant {
+            return Turn::Stray;
+        }
+        let key = answer_key(self.reply.as_slice(), got);
+        let Ok(verdict) = book.answer(*hold, now, key) else {
+            return Turn::Stray;
+        };
+        self.reply_len = put_settlement(
+            self.reply.as_mut_slice(),
+            book.address(),
+            answer_len(got),
+            verdict,
+        );
+        self.stage = Stage::Idle;
+        Turn::Reply
+    }
+}
+
+// Whom the frame was sent on to.
+fn target_in(stage: &Stage) -> &Target
+    requires { IsSome (target_at stage.now) }
+    ensures { Some result.now ≡ target_at stage.now }
+{
+    match stage {
+        Stage::Waiting { target, .. } => target,
+        Stage::Idle | Stage::Loaded { .. } => unreachable!(),
+    }
+}
+
+// The verdict of the book on the Prepare of that length at the front of the room.
+fn decided(book: &mut Book, token: &[u8], room: &[u8], len: usize, now: Moment) -> Verdict
+    requires len { len ≤ length room.now }
+    requires prepare { IsOk (prepare_at (take len room.now)) }
+    ensures book { book.new ≡ packet_book book.old token.now (prepare_at (take len room.now)) now }
+    ensures verdict { Some result ≡ packet_verdict book.old token.now (prepare_at (take len room.now)) now }
+    ensures sooner { IsSooner result latest_expiry }
+    ensures opening { book.new.opening ≡ book.old.opening }
+    ensures network { network_of book.new ≡ network_of book.old }
+{
+    what_stays();
+    let packet = PrepareView::read(&room[..len]).unwrap();
+    let key = PrepareKey {
+        amount: packet.amount(),
+        expiry: packet.expiry(),
+        condition: packet.condition().try_into().unwrap(),
+        destination: packet.destination(),
+    };
+    book.decide(token, &key, now)
+}
+
+// Another amount and another expiry in the Prepare of that length at the front of the room.
+fn rewrite(room: &mut [u8], len: usize, amount: u64, expiry: u64)
+    requires len { len ≤ length room.old }
+    requires prepare { IsOk (prepare_at (take len room.old)) }
+    requires expiry { expiry ≤ latest_expiry }
+    ensures { IfOk (prepare_at (take len room.old)) (λ p.
+        take len room.new ≡ with_amount_and_expiry p amount (timestamp_of expiry)) }
+{
+    set_amount_and_expiry(&mut room[..len], amount, expiry);
+}
+
+fn target_of(book: &Book, peer: PeerNo) -> Target
+    requires { IsSome (target_of book.now peer) }
+    ensures { Some result ≡ target_of book.now peer }
+{
+    book.target(peer).unwrap().copy()
+}
+
+// How many bytes came back into the room.
+fn answer_len(got: Got) -> usize
+    ensures value { (room : List ℕ) → take result room ≡ bytes_given (given_by room got) }
+    ensures within { result ≤ max_frame }
+{
+    match got {
+        Got::Filled(len) if len <= MAX_FRAME => len,
+        Got::Filled(_) | Got::Fault => 0,
+    }
+}
+
+// What the tenant settles a packet by.
+fn answer_key(room: &[u8], got: Got) -> AnswerKey
+    requires { length room.now ≡ max_frame }
+    ensures { result ≡ answer_key (given_by room.now got) }
+{
+    match got {
+        Got::Filled(len) if len <= MAX_FRAME => key_read(&room[..len]),
+        Got::Filled(_) | Got::Fault => AnswerKey::Fault,
+    }
+}
+
+fn key_read(bytes: &[u8]) -> AnswerKey
+    ensures { result ≡ key_read (fulfill_at bytes.now) (reject_at bytes.now) }
+{
+    if let Ok(fulfill) = FulfillView::read(bytes) {
+        return AnswerKey::Fulfilled(fulfill.fulfillment().try_into().unwrap());
+    }
+    match RejectView::read(bytes) {
+        Ok(_) => AnswerKey::Rejected,
+        Err(_) => AnswerKey::Fault,
+    }
+}
