@@ -11,9 +11,9 @@ is_name_byte b = is_between 97 122 b || is_between 48 57 b || (b == 45)
 abbrev pub is_name : List ℕ → Bool
 is_name bytes = is_between 1 32 (length bytes) && list_all is_name_byte bytes
 
--- capital letters and digits
+-- letters and digits
 abbrev pub is_asset_byte : ℕ → Bool
-is_asset_byte b = is_between 65 90 b || is_between 48 57 b
+is_asset_byte b = is_between 65 90 b || is_between 97 122 b || is_between 48 57 b
 
 -- the code of an asset is 1 to 16 of these
 abbrev pub is_asset_code : List ℕ → Bool

@@ -30,7 +30,7 @@ fn all_name_bytes(bytes: &[u8]) -> bool
 fn is_asset_byte(b: u8) -> bool
     ensures { result ≡ is_asset_byte b }
 {
-    matches!(b, b'A'..=b'Z' | b'0'..=b'9')
+    b.is_ascii_alphanumeric()
 }
 
 fn all_asset_bytes(bytes: &[u8]) -> bool
@@ -46,7 +46,7 @@ pub fn is_name(bytes: &[u8]) -> bool
     !bytes.is_empty() && bytes.len() <= MAX_NAME && all_name_bytes(bytes)
 }
 
-/// Whether the bytes are the code of an asset: 1 to 16 capital letters and digits.
+/// Whether the bytes are the code of an asset: 1 to 16 letters and digits.
 pub fn is_asset_code(bytes: &[u8]) -> bool
     ensures { result ≡ is_asset_code bytes.now }
 {
