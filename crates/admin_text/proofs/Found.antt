@@ -14,8 +14,8 @@ use Rattle.common_types.specs.declared.numerals.NumberFault.TheVariants.{Malform
 use Rattle.ilp_addr.specs.Target.{Parts, IsTarget}
 use Rattle.tenant_core.specs.declared.terms.PeerLimits.{PeerLimits}
 use Rattle.tenant_core.specs.declared.terms.BucketTerms.{BucketTerms}
-use Rattle.tenant_core.specs.declared.terms.Role.{Role}
-use Rattle.tenant_core.specs.declared.terms.Role.TheVariants.{Child, Peer}
+use Rattle.ildcp_core.specs.declared.child.Role.{Role}
+use Rattle.ildcp_core.specs.declared.child.Role.TheVariants.{Child, Peer}
 use Rattle.admin_text.specs.declared.commands.TextFault.{TextFault}
 use Rattle.admin_text.specs.declared.commands.TextFault.TheVariants.{Argument}
 use Rattle.admin_text.specs.Prefixes.{written_prefix}

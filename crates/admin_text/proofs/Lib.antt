@@ -1,4 +1,3 @@
-pub mod Peers
 pub mod Texts
 pub mod Readings
 pub mod Found
@@ -6,3 +5,4 @@ pub mod Orders
 pub mod Only
 pub mod Spaces
 pub mod PrefixWords
+pub mod Few

@@ -23,8 +23,8 @@ use Rattle.tenant_core.specs.declared.command.Side.TheVariants.{In, Out}
 use Rattle.tenant_core.specs.declared.terms.BucketTerms.{BucketTerms}
 use Rattle.tenant_core.specs.declared.terms.PeerLimits.{PeerLimits}
 use Rattle.tenant_core.specs.declared.terms.PeerTerms.{PeerTerms}
-use Rattle.tenant_core.specs.declared.terms.Role.{Role}
-use Rattle.tenant_core.specs.declared.terms.Role.TheVariants.{Child, Peer}
+use Rattle.ildcp_core.specs.declared.child.Role.{Role}
+use Rattle.ildcp_core.specs.declared.child.Role.TheVariants.{Child, Peer}
 use Rattle.admin_text.specs.declared.commands.TextFault.{TextFault}
 use Rattle.admin_text.specs.Prefixes.{written_prefix}
 use Rattle.admin_text.specs.Commands.{name_in, token_in, asset_in, role_in, role_word, prefix_in}

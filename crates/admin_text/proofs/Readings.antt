@@ -1,9 +1,9 @@
 -- Readings of the words of a command, one after the other.
-use Rattle.std.proofs.Common.{◌≡◌, ◌∷◌, [], ℕ, true, false, List, Option, None, Ok, Err, refl, sym, ◌∙◌}
+use Rattle.std.proofs.Common.{◌≡◌, ◌∷◌, [], ℕ, true, false, List, Option, Ok, Err, refl, sym, ◌∙◌}
 use Rattle.std.specs.Prelude.{codes}
 use Rattle.std.specs.Str.{bytes_eq}
 use Rattle.ilp_addr.specs.Target.{Parts}
-use Rattle.tenant_core.specs.declared.terms.Role.{Role}
+use Rattle.ildcp_core.specs.declared.child.Role.{Role}
 use Rattle.admin_text.specs.declared.commands.TextFault.{TextFault}
 use Rattle.admin_text.specs.declared.commands.TextFault.TheVariants.{Verb}
 use Rattle.admin_text.specs.Commands.{peer_taken, target_taken, peer_behind, peer_at_target, added_peer, changed_peer}
@@ -19,9 +19,9 @@ pub at_target_ok : (found : Option Parts) (peer : List ℕ × Role × List ℕ) 
 unfolding peer_at_target
 at_target_ok found peer words r h = rw h refl
 
-pub added_err : (words : List (List ℕ)) (e : TextFault) → peer_taken words ≡ Err e → AreForPeer None words × (added_peer None words ≡ Err e)
+pub added_err : (found : Option Parts) (words : List (List ℕ)) (e : TextFault) → peer_taken words ≡ Err e → AreForPeer found words × (added_peer found words ≡ Err e)
 unfolding added_peer
-added_err words e h = (rw h tt, rw h refl)
+added_err found words e h = (rw h tt, rw h refl)
 
 pub added_ok : (found : Option Parts) (words : List (List ℕ)) (r : (List ℕ × Role × List ℕ) × List (List ℕ)) → peer_taken words ≡ Ok r
     → AreForTarget found r.1 → AreForPeer found words × (added_peer found words ≡ peer_at_target found r.0 r.1)
@@ -34,14 +34,14 @@ pub order_add : (found : Option Parts) (words : List (List ℕ)) (verb : List �
 unfolding peer_order
 order_add found words verb rest w h is = (rw w (λ _. is), rw (w, h) refl)
 
-pub order_other : (words : List (List ℕ)) (verb : List ℕ) (rest : List (List ℕ)) → words ≡ verb ∷ rest → bytes_eq verb (codes "add") ≡ false
-    → AreForVerb None words × (peer_order None words ≡ changed_peer verb rest)
+pub order_other : (found : Option Parts) (words : List (List ℕ)) (verb : List ℕ) (rest : List (List ℕ)) → words ≡ verb ∷ rest → bytes_eq verb (codes "add") ≡ false
+    → AreForVerb found words × (peer_order found words ≡ changed_peer verb rest)
 unfolding peer_order
-order_other words verb rest w h = (rw w (λ t. absurd (let g : true ≡ false = sym t ∙ h in cc)), rw (w, h) refl)
+order_other found words verb rest w h = (rw w (λ t. absurd (let g : true ≡ false = sym t ∙ h in cc)), rw (w, h) refl)
 
-pub order_none : (words : List (List ℕ)) → words ≡ [] → AreForVerb None words × (peer_order None words ≡ Err Verb)
+pub order_none : (found : Option Parts) (words : List (List ℕ)) → words ≡ [] → AreForVerb found words × (peer_order found words ≡ Err Verb)
 unfolding peer_order
-order_none words w = (rw w tt, rw w refl)
+order_none found words w = (rw w tt, rw w refl)
 
 -- the first word is `peer`, or it is another
 pub command_peer : (found : Option Parts) (words : List (List ℕ)) (verb : List ℕ) (rest : List (List ℕ)) → words ≡ verb ∷ rest → bytes_eq verb (codes "peer") ≡ true → AreForVerb found rest
@@ -49,11 +49,11 @@ pub command_peer : (found : Option Parts) (words : List (List ℕ)) (verb : List
 unfolding command_of
 command_peer found words verb rest w h is = (rw w (λ _. is), rw (w, h) refl)
 
-pub command_other : (words : List (List ℕ)) (verb : List ℕ) (rest : List (List ℕ)) → words ≡ verb ∷ rest → bytes_eq verb (codes "peer") ≡ false
-    → HasTarget None words × (command_of None words ≡ other_command verb rest)
+pub command_other : (found : Option Parts) (words : List (List ℕ)) (verb : List ℕ) (rest : List (List ℕ)) → words ≡ verb ∷ rest → bytes_eq verb (codes "peer") ≡ false
+    → HasTarget found words × (command_of found words ≡ other_command verb rest)
 unfolding command_of
-command_other words verb rest w h = (rw w (λ t. absurd (let g : true ≡ false = sym t ∙ h in cc)), rw (w, h) refl)
+command_other found words verb rest w h = (rw w (λ t. absurd (let g : true ≡ false = sym t ∙ h in cc)), rw (w, h) refl)
 
-pub command_none : (words : List (List ℕ)) → words ≡ [] → HasTarget None words × (command_of None words ≡ Err Verb)
+pub command_none : (found : Option Parts) (words : List (List ℕ)) → words ≡ [] → HasTarget found words × (command_of found words ≡ Err Verb)
 unfolding command_of
-command_none words w = (rw w tt, rw w refl)
+command_none found words w = (rw w tt, rw w refl)

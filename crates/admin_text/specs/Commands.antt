@@ -1,5 +1,5 @@
 -- The text of a command: words with single spaces between them.
-use Rattle.std.specs.Prelude.{◌≡◌, ℕ, List, [], ◌∷◌, codes, true, false, if◌then◌else◌, IfOk, MatchOption}
+use Rattle.std.specs.Prelude.{◌≡◌, ℕ, List, [], ◌∷◌, drop, codes, true, false, if◌then◌else◌, IfOk, MatchOption}
 use Rattle.std.specs.Prelude.{Option, Some, None, Result, Ok, Err}
 use Rattle.std.specs.Fmt.{decimal}
 use Rattle.std.specs.Str.{bytes_eq}
@@ -12,7 +12,7 @@ use Rattle.common_types.specs.Words.{words_of}
 use Rattle.common_types.specs.declared.numerals.NumberFault.{NumberFault}
 use Rattle.common_types.specs.declared.numerals.NumberFault.TheVariants.{Malformed, Outside}
 use Rattle.ilp_addr.specs.Address.{IsPrefix}
-use Rattle.ilp_addr.specs.Target.{Parts, IsTarget}
+use Rattle.ilp_addr.specs.Target.{Parts, IsTarget, target_in}
 use Rattle.money_core.specs.Fraction.{IsFraction}
 use Rattle.tenant_core.specs.Commands.{Ends}
 use Rattle.tenant_core.specs.declared.command.Command.{Command}
@@ -25,8 +25,8 @@ use Rattle.tenant_core.specs.declared.command.Side.TheVariants.{In, Out}
 use Rattle.tenant_core.specs.declared.terms.BucketTerms.{BucketTerms}
 use Rattle.tenant_core.specs.declared.terms.PeerLimits.{PeerLimits}
 use Rattle.tenant_core.specs.declared.terms.PeerTerms.{PeerTerms}
-use Rattle.tenant_core.specs.declared.terms.Role.{Role}
-use Rattle.tenant_core.specs.declared.terms.Role.TheVariants.{Child, Peer}
+use Rattle.ildcp_core.specs.declared.child.Role.{Role}
+use Rattle.ildcp_core.specs.declared.child.Role.TheVariants.{Child, Peer}
 use Rattle.admin_text.specs.Prefixes.{written_prefix, prefix_word}
 use Rattle.admin_text.specs.declared.commands.TextFault.{TextFault}
 use Rattle.admin_text.specs.declared.commands.TextFault.TheVariants.{Verb, Argument, Range}
@@ -359,11 +359,28 @@ other_command verb words =
     else (if bytes_eq verb (codes "balances") then alone command.Balances words
     else (if bytes_eq verb (codes "roll") then alone command.Roll words else Err Verb))))
 
+-- the target of a URL and a token that come first, where they have one
+abbrev pub target_first : List (List ℕ) → Option Parts
+target_first (url ∷ token ∷ words) = target_in url token
+target_first _ = None
+
+-- the target that the words `peer add NAME ROLE TOKEN URL OUTTOKEN` and those behind them give
+abbrev pub target_among : List (List ℕ) → Option Parts
+target_among words = target_first (drop 5 words)
+
 -- the command of these words, where those for a target give that one, or none
 unfoldable pub command_of : Option Parts → List (List ℕ) → Result Command TextFault
 command_of found [] = Err Verb
 command_of found (verb ∷ words) =
     if bytes_eq verb (codes "peer") then ordered (peer_order found words) else other_command verb words
+
+-- the command that words spell, or the fault of the first that fails
+abbrev pub command_among : List (List ℕ) → Result Command TextFault
+command_among words = command_of (target_among words) words
+
+-- the command that a text spells, or the fault of the first word that fails
+abbrev pub command_in : List ℕ → Result Command TextFault
+command_in text = command_among (words_of text)
 
 -- the first two words, for a URL and a token, give that target, or none
 abbrev pub AreForTarget : Option Parts → List (List ℕ) → Type 0

@@ -1,4 +1,8 @@
-pub mod Setup
 pub mod Prefixes
+pub mod Keys
+pub mod Networks
+pub mod TenantTable
+pub mod Tenants
+pub mod Setup
 pub mod Spaces
 pub mod Commands

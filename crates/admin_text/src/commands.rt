@@ -1,16 +1,15 @@
 //! Commands: lines of text by which an operator governs a tenant.
 
-ghost use Rattle.std.specs.Prelude.{◌≡◌, ℕ, List, Option, Ok, IfOk};
+ghost use Rattle.std.specs.Prelude.{◌≡◌, drop, Ok, IfOk};
 ghost use Rattle.common_types.specs.Outcomes.{GivesUnlessMemory};
-ghost use Rattle.common_types.specs.Words.{words_of};
-ghost use Rattle.ilp_addr.specs.Target.{Parts};
 ghost use Rattle.tenant_core.specs.declared.command.Command as spec;
 ghost use Rattle.admin_text.specs.Commands.{name_in, token_in, asset_in, role_in, prefix_in, number_within, taken};
 ghost use Rattle.admin_text.specs.Commands.{ended, peer_taken, target_taken, limits_taken, bucket_taken, peer_left};
 ghost use Rattle.admin_text.specs.Commands.{peer_behind, peer_at_target, added_peer, removed_peer, limited_peer};
 ghost use Rattle.admin_text.specs.Commands.{bucketed_peer, changed_peer, added_route, removed_route, other_name_in};
 ghost use Rattle.admin_text.specs.Commands.{set_rate, settled, peer_order, route_order, rate_order, settle_order};
-ghost use Rattle.admin_text.specs.Commands.{ordered, alone, other_command, command_of, IsCommandText};
+ghost use Rattle.admin_text.specs.Commands.{ordered, alone, other_command, command_of, command_in, IsCommandText};
+ghost use Rattle.admin_text.specs.Commands.{target_first, target_among};
 ghost use Rattle.admin_text.specs.Commands.{AreForTarget, AreForPeer, AreForVerb, HasTarget};
 
 use crate::prefixes::written_prefix;
@@ -274,7 +273,8 @@ fn added_route(alloc: Global, words: Words<'_>) -> Result<Order, ReadError<TextF
 
 #[tactic(auto, unfolding(crate::specs::Commands::target_taken))]
 fn next_target(words: Words<'_>) -> Result<(Target, Words<'_>), TextFault>
-    ensures { (found : Option Parts) × AreForTarget found words.entry × (result ≡ target_taken found words.entry) }
+    ensures target { AreForTarget (target_first words.entry) words.entry }
+    ensures exact { result ≡ target_taken (target_first words.entry) words.entry }
 {
     let Some((url, words)) = words.split_first() else {
         return Err(TextFault::Argument);
@@ -315,15 +315,16 @@ fn peer_behind(
 }
 
 fn peer_at_target(peer: (Name, Role, Token), words: Words<'_>) -> Result<Order, TextFault>
-    ensures { (found : Option Parts) × AreForTarget found words.entry
-        × (result ≡ peer_at_target found peer words.entry) }
+    ensures target { AreForTarget (target_first words.entry) words.entry }
+    ensures exact { result ≡ peer_at_target (target_first words.entry) peer words.entry }
 {
     let (target, words) = next_target(words)?;
     peer_behind(peer, target, words)
 }
 
 fn added_peer(words: Words<'_>) -> Result<Order, TextFault>
-    ensures { (found : Option Parts) × AreForPeer found words.entry × (result ≡ added_peer found words.entry) }
+    ensures target { AreForPeer (target_first (drop 3 words.entry)) words.entry }
+    ensures exact { result ≡ added_peer (target_first (drop 3 words.entry)) words.entry }
 {
     let (peer, words) = next_peer(words)?;
     peer_at_target(peer, words)
@@ -345,7 +346,8 @@ fn changed_peer(verb: &[u8], words: Words<'_>) -> Result<Order, TextFault>
 }
 
 fn peer_order(words: Words<'_>) -> Result<Order, TextFault>
-    ensures { (found : Option Parts) × AreForVerb found words.entry × (result ≡ peer_order found words.entry) }
+    ensures target { AreForVerb (target_first (drop 4 words.entry)) words.entry }
+    ensures exact { result ≡ peer_order (target_first (drop 4 words.entry)) words.entry }
 {
     let Some((verb, words)) = words.split_first() else {
         return Err(TextFault::Verb);
@@ -446,8 +448,8 @@ fn other_command(
 }
 
 fn command_of(alloc: Global, words: Words<'_>) -> Result<Command, ReadError<TextFault>>
-    ensures { (found : Option Parts) × HasTarget found words.entry
-        × GivesUnlessMemory (λ c. c) result (command_of found words.entry) }
+    ensures target { HasTarget (target_among words.entry) words.entry }
+    ensures exact { GivesUnlessMemory (λ c. c) result (command_of (target_among words.entry) words.entry) }
 {
     let Some((verb, words)) = words.split_first() else {
         return Err(ReadError::Fault(TextFault::Verb));
@@ -475,8 +477,7 @@ pub fn parse_command(alloc: Global, text: &[u8]) -> Result<Command, ReadError<Te
     // Each spelling of a command is read as that command, unless memory runs out.
     ensures only { (c : spec.Command) → IsCommandText text.now c → GivesUnlessMemory (λ c. c) result (Ok c) }
     // Which fault comes: that of the first word that fails.
-    ensures exact { (found : Option Parts) × HasTarget found (words_of text.now)
-        × GivesUnlessMemory (λ c. c) result (command_of found (words_of text.now)) }
+    ensures exact { GivesUnlessMemory (λ c. c) result (command_in text.now) }
 {
     numerals();
     prefixes();

@@ -2,11 +2,17 @@
 #![tactic(auto)]
 
 mod commands;
+mod explained;
+mod keys;
 pub mod laws;
+mod networks;
+mod places;
 mod prefixes;
 mod setup;
+mod wanted;
 mod written;
 
 pub use commands::{TextFault, parse_command};
-pub use setup::{Setup, SetupFault, read_setup};
+pub use explained::{Explained, explain};
+pub use setup::{MAX_TENANTS, Setup, SetupFault, read_setup};
 pub use written::write_command;
