@@ -5,7 +5,8 @@ mod command_line;
 #[cfg(test)]
 mod tests;
 
-use command_line::arguments;
+use admin_text::explain;
+use command_line::{Task, arguments};
 use oer_core::Counted;
 pub use replay_text::{ReplayFault, replay};
 use std::io::ErrorKind;
@@ -29,6 +30,18 @@ fn fault_of(error: io::Error) -> Ending {
     })
 }
 
+// Says whether a setup is good, and else what is wrong.
+fn check(rt: &(impl Print + AllocGlobal), setup: &[u8]) -> Result<(), Ending> {
+    let found = explain(rt.alloc(), setup).map_err(|_| Ending::Fault(ReplayFault::Memory))?;
+    match found {
+        None => rt.println("good").map_err(fault_of),
+        Some(explained) => {
+            rt.println(explained.words.as_str()).map_err(fault_of)?;
+            Err(Ending::Fault(ReplayFault::Setup(explained.fault)))
+        }
+    }
+}
+
 fn run(rt: &(impl Env + Files + Input + Print + AllocGlobal)) -> Result<(), Ending> {
     let alloc = rt.alloc();
     let words: Vec<String> = env::args(rt)
@@ -37,9 +50,15 @@ fn run(rt: &(impl Env + Files + Input + Print + AllocGlobal)) -> Result<(), Endi
         .map_err(|_| Ending::Fault(ReplayFault::Memory))?;
     let line = arguments(alloc, words.as_slice()).map_err(Ending::Usage)?;
     let setup = fs::read(rt, line.setup).map_err(fault_of)?;
-    let mut reader = Counted::new(rt.reader());
-    let mut writer = Counted::new(io::writer(rt));
-    replay(alloc, setup.as_slice(), 1, &mut reader, &mut writer).map_err(Ending::Fault)
+    match line.task {
+        Task::Check => check(rt, setup.as_slice()),
+        Task::Replay => {
+            let mut reader = Counted::new(rt.reader());
+            let mut writer = Counted::new(io::writer(rt));
+            let (setup, workers) = (setup.as_slice(), line.workers);
+            replay(alloc, setup, workers, &mut reader, &mut writer).map_err(Ending::Fault)
+        }
+    }
 }
 
 fn main(rt: HostRuntime) -> ExitCode {

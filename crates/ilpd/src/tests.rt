@@ -1,6 +1,6 @@
 //! The command line, and the program's main job.
 
-use crate::command_line::arguments;
+use crate::command_line::{Task, arguments};
 use crate::replay;
 use std::test::Fail;
 
@@ -12,17 +12,39 @@ address = \"g.acme\"
 admin = \"root-a\"
 ";
 
-// The words after the program's name, and the file of the setup, or what the error begins with.
-static LINES: [(&[&str], Result<&str, &str>); 9] = [
-    (&["replay", "s1.toml"], Ok("s1.toml")),
-    (&["replay", "s1.toml", "--workers", "1"], Ok("s1.toml")),
-    (&["replay", "--workers", "1", "s1.toml"], Ok("s1.toml")),
+// The words after the program's name, and the task, the file of the setup and the number of workers, or what the error
+// begins with.
+type Words = (
+    &'static [&'static str],
+    Result<(Task, &'static str, usize), &'static str>,
+);
+
+static LINES: [Words; 19] = [
+    (&["replay", "s1.toml"], Ok((Task::Replay, "s1.toml", 1))),
+    (
+        &["replay", "s1.toml", "--workers", "2"],
+        Ok((Task::Replay, "s1.toml", 2)),
+    ),
+    (
+        &["replay", "--workers=64", "s1.toml"],
+        Ok((Task::Replay, "s1.toml", 64)),
+    ),
+    (&["check", "s1.toml"], Ok((Task::Check, "s1.toml", 1))),
+    (&["check", "--", "-1.toml"], Ok((Task::Check, "-1.toml", 1))),
+    (&["replay", "check"], Ok((Task::Replay, "check", 1))),
     (&[], Err("error:")),
     (&["replay"], Err("error:")),
+    (&["check"], Err("error:")),
+    (&["check", "s1.toml", "--workers", "1"], Err("error:")),
     (&["replay", "s1.toml", "s2.toml"], Err("error:")),
-    (&["replay", "s1.toml", "--workers", "2"], Err("error:")),
+    (&["replay", "s1.toml", "--workers", "0"], Err("error:")),
+    (&["replay", "s1.toml", "--workers", "65"], Err("error:")),
     (&["replay", "s1.toml", "--workers", "one"], Err("error:")),
+    (&["replay", "s1.toml", "--workers"], Err("error:")),
     (&["serve", "s1.toml"], Err("error:")),
+    (&["--help"], Err("A connector")),
+    (&["help"], Err("A connector")),
+    (&["replay", "--help"], Err("Runs the script")),
 ];
 
 #[test]
@@ -35,7 +57,10 @@ fn command_lines(rt: HostRuntime) -> Result<(), Fail> {
             line.push(word.to_string(alloc)?)?;
         }
         match (arguments(alloc, line.as_slice()), wanted) {
-            (Ok(found), Ok(setup)) => assert_eq!(rt; found.setup, setup),
+            (Ok(found), Ok((task, setup, workers))) => {
+                assert!(rt; found.task == task && found.workers == workers, "{words:?}");
+                assert_eq!(rt; found.setup, setup);
+            }
             (Err(error), Err(begin)) => {
                 let text = error.to_string(alloc)?;
                 assert!(rt; text.as_str().starts_with(begin), "{words:?}");

@@ -2,12 +2,14 @@
 use Rattle.std.proofs.Common.{◌≡◌, ◌<◌, ◌+◌, ℕ, List, [], ◌∷◌, length, Bool, true, false, cond, Option, Some, None, Result, Ok, Err, refl, subst}
 use Rattle.std.specs.Prelude.{IfOk, IfSome, codes, ◌&&◌, nat_lt}
 use Rattle.std.specs.List.{All, AllByRecursion, position}
+use Rattle.std.specs.Result.{result_ok}
 use Rattle.std.specs.Str.{bytes_eq}
+use Rattle.admin_text.specs.Commands.{command_among}
 use Rattle.std.proofs.lemmas.Bool.{ltb-true, lt-ltb, and_parts}
 use Rattle.std.proofs.lemmas.Option.{cond_some, option_and_then_some}
 use Rattle.std.proofs.lemmas.List.Elements.{All-from_recursion}
 use Rattle.std.proofs.lemmas.List.Quantifiers.{position-Some}
-use Rattle.replay_text.specs.Script.{moment_spelled, given_of, answer_of, tick_of, step_behind, number_below, tenant_named, token_of, frame_of, load_of, decide_of, step_of_words, meaning_of}
+use Rattle.replay_text.specs.Script.{moment_spelled, given_of, answer_of, tick_of, govern_of, step_behind, number_below, tenant_named, token_of, frame_of, load_of, decide_of, step_of_words, meaning_of}
 use Rattle.common_types.specs.Words.{words_of}
 use Rattle.common_types.specs.Numerals.{is_numeral, value_of}
 use Rattle.replay_text.specs.Script.{is_empty, is_skipped, then_steps}
@@ -21,7 +23,7 @@ use Rattle.floor_core.specs.World.{FitsIn}
 use Rattle.common_types.specs.declared.read_error.ReadError.{ReadError}
 use Rattle.replay_text.specs.Words.{two_of, three_of, four_of}
 use Rattle.floor_core.specs.declared.step.Step.{Step}
-use Rattle.floor_core.specs.declared.step.Step.TheVariants.{Load, Decide, Answer, Tick}
+use Rattle.floor_core.specs.declared.step.Step.TheVariants.{Load, Decide, Answer, Tick, Govern}
 
 some_is : {A : Type 0} (x y : A) → (let o : Option A = Some x in o) ≡ Some y → x ≡ y
 some_is x y e = cc
@@ -67,6 +69,15 @@ tick_fits names workers words s e =
     option_and_then_some _ (moment_spelled words.1) s rest (λ n n_is rest.
     subst (FitsIn workers (length names)) (some_is (Tick t n) s rest) (tenant_fits names words.0 t t_is)))
 
+govern_fits : (names : List (List ℕ)) (workers : ℕ) (words : List (List ℕ)) (s : Step) → govern_of names words ≡ Some s → FitsIn workers (length names) s
+govern_fits names workers [] s e = absurd cc
+govern_fits names workers (tenant ∷ []) s e = absurd cc
+govern_fits names workers (tenant ∷ now ∷ words) s e =
+    option_and_then_some _ (tenant_named names tenant) s e (λ t t_is rest.
+    option_and_then_some _ (moment_spelled now) s rest (λ n n_is rest.
+    option_and_then_some _ (result_ok (command_among words)) s rest (λ c c_is rest.
+    subst (FitsIn workers (length names)) (some_is (Govern t n c) s rest) (tenant_fits names tenant t t_is))))
+
 -- the first of two choices, or the second
 either : {P : Type 0} (b : Bool) (x y : Option Step) (s : Step) → (x ≡ Some s → P) → (y ≡ Some s → P) → cond b x y ≡ Some s → P
 either true x y s f g e = f e
@@ -78,7 +89,8 @@ behind_fits names workers verb words s e =
     (either (bytes_eq verb (codes "decide")) _ _ s (λ e. option_and_then_some _ (two_of words) s e (λ w w_is rest. decide_fits names workers w s rest))
     (either (bytes_eq verb (codes "answer")) _ _ s (λ e. option_and_then_some _ (three_of words) s e (λ w w_is rest. answer_fits names workers w s rest))
     (either (bytes_eq verb (codes "tick")) _ _ s (λ e. option_and_then_some _ (two_of words) s e (λ w w_is rest. tick_fits names workers w s rest))
-    (λ e. absurd cc)))) e
+    (either (bytes_eq verb (codes "do")) _ _ s (λ e. govern_fits names workers words s e)
+    (λ e. absurd cc))))) e
 
 step_fits : (names : List (List ℕ)) (workers : ℕ) (words : List (List ℕ)) (s : Step) → step_of_words names workers words ≡ Some s → FitsIn workers (length names) s
 step_fits names workers [] s e = absurd cc

@@ -1,6 +1,7 @@
 pub mod Splits
 pub mod Fronts
 pub mod Scripts
+pub mod Governs
 pub mod Known
 pub mod Fits
 pub mod Composition

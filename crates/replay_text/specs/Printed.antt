@@ -1,14 +1,19 @@
--- The lines that a replay prints: one for each output, ended by a line feed.
-use Rattle.std.specs.Prelude.{ℕ, List, [], ◌∷◌, ◌++◌, slice_index_or, codes, Result, Ok, Err}
+-- The lines that a replay prints: one or more for each output, each ended by a line feed.
+use Rattle.std.specs.Prelude.{ℕ, List, [], ◌∷◌, ◌++◌, slice_index_or, length, codes, Result, Ok, Err}
 use Rattle.std.specs.List.{flat_map}
-use Rattle.std.specs.Fmt.{decimal}
+use Rattle.std.specs.Fmt.{decimal, signed_decimal}
 use Rattle.hex.specs.Hex.{encode_lower}
+use Rattle.tenant_core.specs.declared.command.Answered.{Answered}
+use Rattle.tenant_core.specs.declared.command.Answered.TheVariants.{Done, Balances, Rolled}
 use Rattle.tenant_core.specs.declared.faults.BookFault.{BookFault}
 use Rattle.tenant_core.specs.declared.faults.BookFault.TheVariants.{Full}
+use Rattle.tenant_core.specs.declared.faults.CommandFault.{CommandFault}
+use Rattle.tenant_core.specs.declared.faults.CommandFault.TheVariants as refused
+use Rattle.tenant_core.specs.declared.row.Row.{Row}
 use Rattle.floor_core.specs.declared.step.Malformed.{Malformed}
 use Rattle.floor_core.specs.declared.step.Malformed.TheVariants.{Token, Kind, Oer, Field, AfterEnd, Size}
 use Rattle.floor_core.specs.declared.step.Output.{Output}
-use Rattle.floor_core.specs.declared.step.Output.TheVariants.{Busy, Idle, Loaded, Bad, Stranger, Reply, Send, Ticked}
+use Rattle.floor_core.specs.declared.step.Output.TheVariants.{Busy, Idle, Loaded, Bad, Stranger, Reply, Send, Ticked, Governed}
 
 -- the name of a tenant, or nothing where no tenant has that number
 abbrev pub name_of : List (List ℕ) → ℕ → List ℕ
@@ -28,6 +33,30 @@ abbrev pub tick_text : Result ℕ BookFault → List ℕ
 tick_text (Ok count) = codes " ticked " ++ decimal count
 tick_text (Err Full) = codes " refused full"
 
+-- why a command is refused, in a word; for want of memory no command is answered
+abbrev pub refusal_word : CommandFault → List ℕ
+refusal_word refused.Full = codes "full"
+refusal_word refused.InUse = codes "in-use"
+refusal_word refused.Present = codes "present"
+refusal_word refused.Absent = codes "absent"
+refusal_word refused.Limit = codes "limit"
+refusal_word refused.Memory = codes "memory"
+
+-- the line of what a peer owes, and what is held from it and for it
+unfoldable pub row_line : List ℕ → Row → List ℕ
+row_line name row =
+    name ++ codes " balance " ++ row.name ++ codes " " ++ signed_decimal row.balance ++ codes " "
+    ++ decimal row.held_in ++ codes " " ++ decimal row.held_out ++ 10 ∷ []
+
+-- the words of a command's answer, behind the lines of what each peer owes where the answer tells them
+abbrev pub command_text : List ℕ → Result Answered CommandFault → List ℕ
+command_text name (Ok Done) = name ++ codes " ok"
+command_text name (Ok (Balances rows)) = flat_map (row_line name) rows ++ name ++ codes " ok"
+command_text name (Ok (Rolled period)) =
+    flat_map (row_line name) period.rows ++ name ++ codes " rolled " ++ decimal period.opening.period
+    ++ codes " " ++ decimal (length period.records)
+command_text name (Err fault) = name ++ codes " refused " ++ refusal_word fault
+
 -- the words of an output
 abbrev pub line_text : List (List ℕ) → Output → List ℕ
 line_text names Busy = codes "- busy"
@@ -36,11 +65,12 @@ line_text names (Loaded tenant call) = name_of names tenant ++ codes " loaded " 
 line_text names (Bad tenant kind) = name_of names tenant ++ codes " bad " ++ word_of kind
 line_text names (Stranger tenant) = name_of names tenant ++ codes " stranger"
 line_text names (Ticked tenant answer) = name_of names tenant ++ tick_text answer
+line_text names (Governed tenant answer) = command_text (name_of names tenant) answer
 line_text names (Reply tenant bytes) = name_of names tenant ++ codes " reply " ++ encode_lower bytes
 line_text names (Send tenant peer hold frame) =
     name_of names tenant ++ codes " send " ++ peer ++ codes " " ++ decimal hold ++ codes " " ++ encode_lower frame
 
--- the line of an output
+-- the line of an output, or its lines
 unfoldable pub line_of : List (List ℕ) → Output → List ℕ
 line_of names output = line_text names output ++ 10 ∷ []
 

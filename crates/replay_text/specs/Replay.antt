@@ -1,9 +1,8 @@
 -- What a replay of a script for a setup writes, and what refuses it.
-use Rattle.std.specs.Prelude.{ℕ, ◌≡◌, List, [], ◌∷◌, ◌⊎◌, Option, Some, option_map, Result, Ok, Err, IfSome}
+use Rattle.std.specs.Prelude.{ℕ, ◌≡◌, List, map, ◌⊎◌, Option, Some, option_map, Result, Ok, Err, IfSome}
 use Rattle.std.specs.Result.{result_err}
 use Rattle.std.specs.Io.KnownBytes.{Keeps, Appends}
-use Rattle.tenant_core.specs.State.{opened, opening_of}
-use Rattle.floor_core.specs.World.{Tenant, new_tenant, AreOutputs, all_free}
+use Rattle.floor_core.specs.World.{World, world_at_start, AreOutputs}
 use Rattle.floor_core.specs.declared.step.Output.{Output}
 use Rattle.floor_core.specs.declared.step.Step.{Step}
 use Rattle.admin_text.specs.Setup.{setup_of}
@@ -15,23 +14,23 @@ use Rattle.replay_text.specs.Streams.{AppendsFront}
 use Rattle.replay_text.specs.declared.replays.ReplayFault.{ReplayFault}
 use Rattle.replay_text.specs.declared.replays.ReplayFault.TheVariants as fault
 
--- the tenant of a setup, to whom nothing has happened
-abbrev pub tenant_at_start : Setup → Tenant
-tenant_at_start s = new_tenant (opened (opening_of 0 s.tenant s.start))
+-- the tenants of a setup, to whom nothing has happened, and workers with nothing in hand
+abbrev pub world_of_setup : Setup → World
+world_of_setup s = world_at_start s.tenants s.start
 
 -- the names that a script may use
 abbrev pub names_in : Setup → List (List ℕ)
-names_in s = s.tenant.name ∷ []
+names_in s = map (λ t. t.name) s.tenants
 
--- The setup and the script are well formed, and what is written is the lines of the outputs of the script's steps:
--- those of the one-tenant connector on the tenant's own steps, and nobody's.
-pub record IsReplayed (setup_text script written : List ℕ) : Type 0 where
+-- The setup and the script are well formed, and what is written is the lines of the outputs of the script's steps: to
+-- each tenant those of the one-tenant connector on the tenant's own steps alone, and nobody's.
+pub record IsReplayed (setup_text : List ℕ) (workers : ℕ) (script written : List ℕ) : Type 0 where
   pub setup : Setup
   pub steps : List Step
   pub outputs : List Output
   pub setup_is : setup_of setup_text ≡ Ok setup
-  pub steps_are : steps_of_script (names_in setup) 1 script ≡ Ok steps
-  pub outputs_are : AreOutputs (tenant_at_start setup) all_free steps outputs
+  pub steps_are : steps_of_script (names_in setup) workers script ≡ Ok steps
+  pub outputs_are : AreOutputs (world_of_setup setup) steps outputs
   pub written_is : written ≡ printed_lines (names_in setup) outputs
 
 -- the exit status of a program that a replay with this fault ends
@@ -42,37 +41,43 @@ status_of (fault.Script f) = 4
 status_of fault.Device = 5
 
 -- the first fault of a setup, and after it of the script for that setup, if there is one
-abbrev pub refusal_of : Result Setup SetupFault → List ℕ → Option ReplayFault
-refusal_of (Ok setup) script =
-    option_map (λ f. fault.Script f) (result_err (steps_of_script (names_in setup) 1 script))
-refusal_of (Err f) script = Some (fault.Setup f)
+abbrev pub refusal_of : Result Setup SetupFault → ℕ → List ℕ → Option ReplayFault
+refusal_of (Ok setup) workers script =
+    option_map (λ f. fault.Script f) (result_err (steps_of_script (names_in setup) workers script))
+refusal_of (Err f) workers script = Some (fault.Setup f)
 
 -- A setup or a script is refused by its own first fault. Of memory and devices nothing is said here.
-abbrev pub IsRefusedBy : ReplayFault → Result Setup SetupFault → Option (List ℕ) → Type 0
-IsRefusedBy fault.Memory read known = Unit {0}
-IsRefusedBy fault.Device read known = Unit {0}
-IsRefusedBy (fault.Setup f) read known = read ≡ Err f
-IsRefusedBy (fault.Script f) read known = IfSome known (λ script. refusal_of read script ≡ Some (fault.Script f))
+abbrev pub IsRefusedBy : ReplayFault → Result Setup SetupFault → ℕ → Option (List ℕ) → Type 0
+IsRefusedBy fault.Memory read workers known = Unit {0}
+IsRefusedBy fault.Device read workers known = Unit {0}
+IsRefusedBy (fault.Setup f) read workers known = read ≡ Err f
+IsRefusedBy (fault.Script f) read workers known =
+    IfSome known (λ script. refusal_of read workers script ≡ Some (fault.Script f))
 
 -- what is to be written was written whole
-abbrev pub WritesAll : List ℕ → List ℕ → Option (List ℕ) → Option (List ℕ) → Type 0
-WritesAll setup_text script old new =
-    (written : List ℕ) × IsReplayed setup_text script written × Appends old new written
+abbrev pub WritesAll : List ℕ → ℕ → List ℕ → Option (List ℕ) → Option (List ℕ) → Type 0
+WritesAll setup_text workers script old new =
+    (written : List ℕ) × IsReplayed setup_text workers script written × Appends old new written
 
 -- or a front of it
-abbrev pub WritesFront : List ℕ → List ℕ → Option (List ℕ) → Option (List ℕ) → Type 0
-WritesFront setup_text script old new =
-    (written : List ℕ) × IsReplayed setup_text script written × AppendsFront written old new
+abbrev pub WritesFront : List ℕ → ℕ → List ℕ → Option (List ℕ) → Option (List ℕ) → Type 0
+WritesFront setup_text workers script old new =
+    (written : List ℕ) × IsReplayed setup_text workers script written × AppendsFront written old new
 
 -- After a fault of the setup or the script nothing was written, and after any other a front at most.
-abbrev pub LeavesWritten : ReplayFault → List ℕ → Option (List ℕ) → Option (List ℕ) → Option (List ℕ) → Type 0
-LeavesWritten (fault.Setup f) setup_text known old new = Keeps old new
-LeavesWritten (fault.Script f) setup_text known old new = Keeps old new
-LeavesWritten _ setup_text known old new =
-    Keeps old new ⊎ IfSome known (λ script. WritesFront setup_text script old new)
+abbrev pub LeavesWritten : ReplayFault → List ℕ → ℕ → Option (List ℕ) → Option (List ℕ) → Option (List ℕ) → Type 0
+LeavesWritten (fault.Setup f) setup_text workers known old new = Keeps old new
+LeavesWritten (fault.Script f) setup_text workers known old new = Keeps old new
+LeavesWritten _ setup_text workers known old new =
+    Keeps old new ⊎ IfSome known (λ script. WritesFront setup_text workers script old new)
 
--- the lines of the outputs of these steps, for the tenant of a setup
+-- the lines of the outputs of these steps, for the tenants of a setup
 abbrev pub IsAnswered : Setup → List Step → List ℕ → Type 0
 IsAnswered setup steps written =
-    (outputs : List Output) × AreOutputs (tenant_at_start setup) all_free steps outputs
+    (outputs : List Output) × AreOutputs (world_of_setup setup) steps outputs
     × (written ≡ printed_lines (names_in setup) outputs)
+
+-- what is written for a setup that was read, and a script
+abbrev pub IsReplayedFor : Setup → ℕ → List ℕ → List ℕ → Type 0
+IsReplayedFor setup workers script written =
+    (steps : List Step) × (steps_of_script (names_in setup) workers script ≡ Ok steps) × IsAnswered setup steps written

@@ -12,11 +12,12 @@ use Rattle.common_types.specs.OptionChain.{◌>>=◌}
 use Rattle.common_types.specs.Numerals.{is_numeral, value_of}
 use Rattle.common_types.specs.Token.{is_token}
 use Rattle.common_types.specs.Words.{words_of}
+use Rattle.admin_text.specs.Commands.{command_among}
 use Rattle.floor_core.specs.declared.step.Given.{Given}
 use Rattle.floor_core.specs.declared.step.Given.TheVariants.{Bytes, Fault}
 use Rattle.floor_core.specs.declared.step.Step.{Step}
 use Rattle.replay_text.specs.Words.{two_of, three_of, four_of}
-use Rattle.floor_core.specs.declared.step.Step.TheVariants.{Load, Decide, Answer, Tick}
+use Rattle.floor_core.specs.declared.step.Step.TheVariants.{Load, Decide, Answer, Tick, Govern}
 use Rattle.replay_text.specs.declared.script.ScriptFault.{ScriptFault}
 use Rattle.replay_text.specs.declared.script.ScriptFault.TheVariants.{Size, Line}
 use Rattle.replay_text.specs.declared.script.Meaning.{Meaning}
@@ -94,6 +95,15 @@ tick_of names words = do
   now ← moment_spelled words.1
   Some (Tick tenant now)
 
+-- the words behind `do`: TENANT NOW, and those of a command
+abbrev pub govern_of : List (List ℕ) → List (List ℕ) → Option Step
+govern_of names (tenant_word ∷ now_word ∷ words) = do
+  tenant ← tenant_named names tenant_word
+  now ← moment_spelled now_word
+  command ← result_ok (command_among words)
+  Some (Govern tenant now command)
+govern_of names _ = None
+
 -- the step that a verb and the words behind it spell
 abbrev pub step_behind : List (List ℕ) → ℕ → List ℕ → List (List ℕ) → Option Step
 step_behind names workers verb words =
@@ -101,7 +111,8 @@ step_behind names workers verb words =
     else (if bytes_eq verb (codes "decide") then two_of words >>= decide_of workers
     else (if bytes_eq verb (codes "answer") then three_of words >>= answer_of workers
     else (if bytes_eq verb (codes "tick") then two_of words >>= tick_of names
-    else None)))
+    else (if bytes_eq verb (codes "do") then govern_of names words
+    else None))))
 
 -- the step that the words of a line spell: it is picked by the first of them
 abbrev pub step_of_words : List (List ℕ) → ℕ → List (List ℕ) → Option Step

@@ -7,7 +7,8 @@ use floor_core::laws::one_list_of_outputs;
 
 /// A setup and a script leave no choice of what is to be written.
 pub fn one_text()
-    ensures { (setup script a b : List ℕ) → IsReplayed setup script a → IsReplayed setup script b → a ≡ b }
+    ensures { (setup : List ℕ) (workers : ℕ) (script a b : List ℕ)
+        → IsReplayed setup workers script a → IsReplayed setup workers script b → a ≡ b }
 {
     one_list_of_outputs();
 }

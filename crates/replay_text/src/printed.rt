@@ -1,14 +1,16 @@
 //! The lines that a replay prints.
 
 ghost use Rattle.std.specs.Prelude.{◌≡◌, ◌++◌, ◌∷◌, [], IfOk, OnOk, codes};
-ghost use Rattle.std.specs.Fmt.{decimal};
+ghost use Rattle.std.specs.Fmt.{decimal, signed_decimal};
 ghost use Rattle.hex.specs.Hex.{encode_lower};
 ghost use Rattle.replay_text.specs.Printed.{name_of, word_of, tick_text, line_text, line_of, printed_lines};
+ghost use Rattle.replay_text.specs.Printed.{refusal_word, row_line, command_text};
+ghost use Rattle.std.specs.List.{flat_map};
 
 use common_types::Name;
 use floor_core::{Malformed, Output};
 use std::alloc::{AllocError, Global};
-use tenant_core::BookFault;
+use tenant_core::{Answered, BookFault, CommandFault, Row};
 
 fn name_of(names: &[Name], tenant: usize) -> &[u8]
     ensures { result.now ≡ name_of names.now tenant }
@@ -82,6 +84,88 @@ fn put_ticked(
     }
 }
 
+fn refusal_word(fault: CommandFault) -> &'static [u8]
+    ensures { result.now ≡ refusal_word fault }
+{
+    match fault {
+        CommandFault::Full => b"full",
+        CommandFault::InUse => b"in-use",
+        CommandFault::Present => b"present",
+        CommandFault::Absent => b"absent",
+        CommandFault::Limit => b"limit",
+        CommandFault::Memory => b"memory",
+    }
+}
+
+fn put_signed(alloc: Global, out: &mut Vec<u8>, number: i64) -> Result<(), AllocError>
+    ensures { OnOk result (out.new.items ≡ out.old.items ++ signed_decimal number) }
+{
+    let text = number.to_string(alloc)?;
+    out.extend_from_slice(text.as_bytes())
+}
+
+// What a peer owes, and what is held from it and for it.
+#[tactic(auto, unfolding(crate::specs::Printed::row_line))]
+fn put_row(alloc: Global, out: &mut Vec<u8>, name: &[u8], row: &Row) -> Result<(), AllocError>
+    ensures { OnOk result (out.new.items ≡ out.old.items ++ row_line name.now row.now) }
+{
+    out.extend_from_slice(name)?;
+    out.extend_from_slice(b" balance ")?;
+    out.extend_from_slice(row.name.as_bytes())?;
+    out.push(b' ')?;
+    put_signed(alloc, out, row.balance)?;
+    out.push(b' ')?;
+    put_decimal(alloc, out, row.held_in)?;
+    out.push(b' ')?;
+    put_decimal(alloc, out, row.held_out)?;
+    out.push(b'\n')?;
+    Ok(())
+}
+
+fn put_rows(alloc: Global, out: &mut Vec<u8>, name: &[u8], rows: &[Row]) -> Result<(), AllocError>
+    ensures { OnOk result (out.new.items ≡ out.old.items ++ flat_map (row_line name.now) rows.now) }
+{
+    for row in rows {
+        put_row(alloc, out, name, row)?;
+    }
+    Ok(())
+}
+
+// What a command was answered with.
+fn put_governed(
+    alloc: Global,
+    out: &mut Vec<u8>,
+    name: &[u8],
+    answer: &Result<Answered, CommandFault>,
+) -> Result<(), AllocError>
+    ensures { OnOk result (out.new.items ≡ out.old.items ++ command_text name.now answer.now) }
+{
+    match answer {
+        Ok(Answered::Done) => {
+            out.extend_from_slice(name)?;
+            out.extend_from_slice(b" ok")
+        }
+        Ok(Answered::Balances(rows)) => {
+            put_rows(alloc, out, name, rows.as_slice())?;
+            out.extend_from_slice(name)?;
+            out.extend_from_slice(b" ok")
+        }
+        Ok(Answered::Rolled(period)) => {
+            put_rows(alloc, out, name, period.rows.as_slice())?;
+            out.extend_from_slice(name)?;
+            out.extend_from_slice(b" rolled ")?;
+            put_decimal(alloc, out, period.opening.period)?;
+            out.push(b' ')?;
+            put_decimal(alloc, out, period.records.as_slice().len() as u64)
+        }
+        Err(fault) => {
+            out.extend_from_slice(name)?;
+            out.extend_from_slice(b" refused ")?;
+            out.extend_from_slice(refusal_word(*fault))
+        }
+    }
+}
+
 // The tenant's name, and words behind it.
 fn put_named(
     names: &[Name],
@@ -123,6 +207,9 @@ fn put_text(
             out.extend_from_slice(name_of(names, *tenant))?;
             put_ticked(alloc, out, *answer)
         }
+        Output::Governed { tenant, answer } => {
+            put_governed(alloc, out, name_of(names, *tenant), answer)
+        }
         Output::Send {
             tenant,
             peer,
@@ -149,7 +236,7 @@ fn put_line(
     Ok(())
 }
 
-/// The lines of some outputs, each ended by a line feed, for the tenants of these names, numbered
+/// The lines of some outputs, one or more for each, each ended by a line feed, for the tenants of these names, numbered
 /// from 0. It fails only where memory does.
 pub fn print_lines(alloc: Global, names: &[Name], outputs: &[Output]) -> Result<Vec<u8>, AllocError>
     ensures { IfOk result (λ text. text.items ≡ printed_lines names.now outputs.now) }

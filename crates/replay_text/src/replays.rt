@@ -1,11 +1,12 @@
 //! Replays of scripts.
 
-ghost use Rattle.std.specs.Prelude.{◌≡◌, ◌≤◌, ◌<◌, ◌⊎◌, ◌↔◌, OnOk, IfOk, IfErr, IfSome, IsOk, None, Ok, Err};
+ghost use Rattle.std.specs.Prelude.{◌≡◌, ◌≤◌, ◌<◌, ◌⊎◌, ◌↔◌, OnOk, IfOk, IfErr, IfSome, IsOk, None, Ok, Err, map, length};
 ghost use Rattle.replay_text.specs.Printed.{printed_lines};
 ghost use Rattle.replay_text.specs.Replay.{names_in, IsReplayed, refusal_of, IsRefusedBy, WritesAll, LeavesWritten};
-ghost use Rattle.replay_text.specs.Replay.{IsAnswered};
+ghost use Rattle.replay_text.specs.Replay.{IsAnswered, IsReplayedFor};
 ghost use Rattle.admin_text.specs.Setup.{setup_of};
 ghost use Rattle.floor_core.specs.World.{FitsIn};
+ghost use Rattle.tenant_core.specs.Limits.{max_tenants};
 ghost use Rattle.std.specs.Prelude.{All};
 ghost use Rattle.replay_text.specs.Script.{steps_of_script};
 ghost use Rattle.replay_text.specs.Streams.{ConsumesAtMost};
@@ -13,13 +14,14 @@ ghost use Rattle.replay_text.specs.Streams.{ConsumesAtMost};
 use crate::printed::print_lines;
 use crate::script::{ScriptFault, parse_script};
 use crate::streams::{StreamFault, read_script, write_text};
+use admin_text::laws::setups;
 use admin_text::{Setup, SetupFault, read_setup};
-use common_types::ReadError;
-use floor_core::{Runner, Step};
+use common_types::{Name, ReadError};
+use floor_core::{Floor, Step};
 use oer_core::Device;
 use std::alloc::{AllocError, Global};
 use std::io::{Read, Write};
-use tenant_core::Book;
+use tenant_core::TenantSetup;
 use thiserror::Error;
 
 /// Why a replay ended early.
@@ -54,28 +56,51 @@ impl ReplayFault {
     }
 }
 
-// What the steps are answered, as lines.
-fn answered(alloc: Global, setup: &Setup, steps: &[Step]) -> Result<Vec<u8>, AllocError>
-    requires { All (FitsIn 1 1) steps.now }
-    ensures { IfOk result (λ text. IsAnswered setup.now steps.now text.items) }
+// The names of the tenants, in their order.
+fn names_of(alloc: Global, tenants: &[TenantSetup]) -> Result<Vec<Name>, AllocError>
+    ensures { IfOk result (λ names. names.items ≡ map (λ t. t.name) tenants.now) }
 {
-    let book = Book::new(alloc, 0, &setup.tenant, setup.start)?;
-    let mut runner = Runner::new(book);
-    let outputs = runner.run(alloc, steps)?;
-    let names = [setup.tenant.terms().name.copy()];
-    print_lines(alloc, &names, outputs.as_slice())
+    let mut names = Vec::with_capacity(alloc, tenants.len())?;
+    for tenant in tenants {
+        names.push_reserved(tenant.terms().name.copy());
+    }
+    Ok(names)
 }
 
-// The steps of the script that the reader has left, for the setup's tenant.
+// What the steps are answered, as lines.
+fn answered(
+    alloc: Global,
+    setup: &Setup,
+    names: &[Name],
+    workers: usize,
+    steps: &[Step],
+) -> Result<Vec<u8>, AllocError>
+    requires tenants { (1 ≤ length setup.now.tenants) × (length setup.now.tenants ≤ max_tenants) }
+    requires workers { (1 ≤ workers) × (workers ≤ 64) }
+    requires names { names.now ≡ names_in setup.now }
+    requires fit { All (FitsIn workers (length setup.now.tenants)) steps.now }
+    ensures { IfOk result (λ text. IsAnswered setup.now steps.now text.items) }
+{
+    let mut floor = Floor::new(alloc, setup.tenants.as_slice(), setup.start, workers)?;
+    match floor.run(alloc, steps) {
+        Ok(outputs) => print_lines(alloc, names, outputs.as_slice()),
+        Err(_) => Err(AllocError),
+    }
+}
+
+// The steps of the script that the reader has left, for the setup's tenants.
 fn read_steps<R: Read + Device>(
     alloc: Global,
     setup: &Setup,
+    names: &[Name],
+    workers: usize,
     reader: &mut R,
 ) -> Result<Vec<Step>, ReplayFault>
+    requires names { names.now ≡ names_in setup.now }
     ensures steps { IfOk result (λ steps. IfSome (R.remaining reader.old)
-        (λ script. steps_of_script (names_in setup.now) 1 script ≡ Ok steps.items)) }
-    ensures fit { IfOk result (λ steps. All (FitsIn 1 1) steps.items) }
-    ensures refused { IfErr result (λ fault. IsRefusedBy fault (Ok setup.now) (R.remaining reader.old)) }
+        (λ script. steps_of_script (names_in setup.now) workers script ≡ Ok steps.items)) }
+    ensures fit { IfOk result (λ steps. All (FitsIn workers (length names.now)) steps.items) }
+    ensures refused { IfErr result (λ fault. IsRefusedBy fault (Ok setup.now) workers (R.remaining reader.old)) }
     ensures device { (result ≡ Err ReplayFault.Device) ↔ (R.failure_count reader.old < R.failure_count reader.new) }
     ensures taken { ConsumesAtMost 16_777_217 (R.remaining reader.old) (R.remaining reader.new) }
 {
@@ -85,11 +110,35 @@ fn read_steps<R: Read + Device>(
         Err(StreamFault::Device) => return Err(ReplayFault::Device),
         Err(StreamFault::Size) => return Err(ReplayFault::Script(ScriptFault::Size)),
     };
-    let names = [setup.tenant.terms().name.copy()];
-    match parse_script(alloc, &names, 1, script.as_slice()) {
+    match parse_script(alloc, names, workers, script.as_slice()) {
         Ok(steps) => Ok(steps),
         Err(ReadError::Memory) => Err(ReplayFault::Memory),
         Err(ReadError::Fault(fault)) => Err(ReplayFault::Script(fault)),
+    }
+}
+
+// What is to be written for a setup that was read and the script that the reader has left.
+fn text_of_setup<R: Read + Device>(
+    alloc: Global,
+    setup: &Setup,
+    workers: usize,
+    reader: &mut R,
+) -> Result<Vec<u8>, ReplayFault>
+    requires tenants { (1 ≤ length setup.now.tenants) × (length setup.now.tenants ≤ max_tenants) }
+    requires workers { (1 ≤ workers) × (workers ≤ 64) }
+    ensures text { IfOk result (λ text. IfSome (R.remaining reader.old)
+        (λ script. IsReplayedFor setup.now workers script text.items)) }
+    ensures refused { IfErr result (λ fault. IsRefusedBy fault (Ok setup.now) workers (R.remaining reader.old)) }
+    ensures device { (result ≡ Err ReplayFault.Device) ↔ (R.failure_count reader.old < R.failure_count reader.new) }
+    ensures taken { ConsumesAtMost 16_777_217 (R.remaining reader.old) (R.remaining reader.new) }
+{
+    let Ok(names) = names_of(alloc, setup.tenants.as_slice()) else {
+        return Err(ReplayFault::Memory);
+    };
+    let steps = read_steps(alloc, setup, names.as_slice(), workers, reader)?;
+    match answered(alloc, setup, names.as_slice(), workers, steps.as_slice()) {
+        Ok(text) => Ok(text),
+        Err(_) => Err(ReplayFault::Memory),
     }
 }
 
@@ -97,31 +146,29 @@ fn read_steps<R: Read + Device>(
 fn text_to_write<R: Read + Device>(
     alloc: Global,
     setup: &[u8],
+    workers: usize,
     reader: &mut R,
 ) -> Result<Vec<u8>, ReplayFault>
+    requires { (1 ≤ workers) × (workers ≤ 64) }
     ensures text { IfOk result (λ text. IfSome (R.remaining reader.old)
-        (λ script. IsReplayed setup.now script text.items)) }
+        (λ script. IsReplayed setup.now workers script text.items)) }
     ensures read { OnOk result (IsOk (setup_of setup.now)) }
-    ensures refused { IfErr result (λ fault. IsRefusedBy fault (setup_of setup.now) (R.remaining reader.old)) }
+    ensures refused { IfErr result (λ fault. IsRefusedBy fault (setup_of setup.now) workers (R.remaining reader.old)) }
     ensures order { result ≡ Err ReplayFault.Device → IsOk (setup_of setup.now) }
     ensures device { (result ≡ Err ReplayFault.Device) ↔ (R.failure_count reader.old < R.failure_count reader.new) }
     ensures taken { ConsumesAtMost 16_777_217 (R.remaining reader.old) (R.remaining reader.new) }
 {
-    let setup = match read_setup(alloc, setup) {
-        Ok(setup) => setup,
-        Err(ReadError::Memory) => return Err(ReplayFault::Memory),
-        Err(ReadError::Fault(fault)) => return Err(ReplayFault::Setup(fault)),
-    };
-    let steps = read_steps(alloc, &setup, reader)?;
-    match answered(alloc, &setup, steps.as_slice()) {
-        Ok(text) => Ok(text),
-        Err(_) => Err(ReplayFault::Memory),
+    setups();
+    match read_setup(alloc, setup) {
+        Ok(setup) => text_of_setup(alloc, &setup, workers, reader),
+        Err(ReadError::Memory) => Err(ReplayFault::Memory),
+        Err(ReadError::Fault(fault)) => Err(ReplayFault::Setup(fault)),
     }
 }
 
 /// Replays the script that the reader has left, for the setup, and writes a line or more for each of its steps.
 ///
-/// `setup` are the bytes of a setup, and `workers` is 1 for now. The whole script is read before the first step; at
+/// `setup` are the bytes of a setup, and `workers` is from 1 to 64. The whole script is read before the first step; at
 /// most 16,777,217 bytes are taken from the reader. The faults are looked for in this order: those of the setup, a
 /// read that failed, a script that is too long, its first bad line. After them nothing was written. Memory may be
 /// refused at any point, and a write may fail: then a front of the text was written, or nothing. `Device` comes exactly
@@ -133,14 +180,14 @@ pub fn replay<R: Read + Device, W: Write + Device>(
     reader: &mut R,
     writer: &mut W,
 ) -> Result<(), ReplayFault>
-    requires { workers ≡ 1 }
-    // What was written are the lines of the one-tenant connector on the script's own steps.
+    requires { (1 ≤ workers) × (workers ≤ 64) }
+    // What was written are, to each tenant, the lines of the one-tenant connector on the tenant's own steps alone.
     ensures written { OnOk result (IfSome (R.remaining reader.old)
-        (λ script. WritesAll setup.now script (W.contents writer.old) (W.contents writer.new))) }
+        (λ script. WritesAll setup.now workers script (W.contents writer.old) (W.contents writer.new))) }
     // Which fault it is, and what it leaves.
-    ensures refused { IfErr result (λ fault. IsRefusedBy fault (setup_of setup.now) (R.remaining reader.old)) }
+    ensures refused { IfErr result (λ fault. IsRefusedBy fault (setup_of setup.now) workers (R.remaining reader.old)) }
     ensures left { IfErr result (λ fault.
-        LeavesWritten fault setup.now (R.remaining reader.old) (W.contents writer.old) (W.contents writer.new)) }
+        LeavesWritten fault setup.now workers (R.remaining reader.old) (W.contents writer.old) (W.contents writer.new)) }
     ensures device { (result ≡ Err ReplayFault.Device)
         ↔ ((R.failure_count reader.old < R.failure_count reader.new)
         ⊎ (W.failure_count writer.old < W.failure_count writer.new)) }
@@ -148,10 +195,10 @@ pub fn replay<R: Read + Device, W: Write + Device>(
     ensures order { result ≡ Err ReplayFault.Device → IsOk (setup_of setup.now) }
     ensures script_order { result ≡ Err ReplayFault.Device
         → R.failure_count reader.new ≤ R.failure_count reader.old
-        → IfSome (R.remaining reader.old) (λ script. refusal_of (setup_of setup.now) script ≡ None) }
+        → IfSome (R.remaining reader.old) (λ script. refusal_of (setup_of setup.now) workers script ≡ None) }
     ensures taken { ConsumesAtMost 16_777_217 (R.remaining reader.old) (R.remaining reader.new) }
 {
-    let text = text_to_write(alloc, setup, reader)?;
+    let text = text_to_write(alloc, setup, workers, reader)?;
     match write_text(writer, text.as_slice()) {
         Ok(()) => Ok(()),
         Err(StreamFault::Device) => Err(ReplayFault::Device),

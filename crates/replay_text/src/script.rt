@@ -3,21 +3,26 @@
 ghost use Rattle.std.specs.Prelude.{◌≡◌, ◌==◌, ◌<◌, ◌≤◌, ◌↔◌, ℕ, List, Ok, Err, ◌∷◌, length, ◌≢◌, [], option_copied};
 ghost use Rattle.std.specs.Prelude.{option_map, option_and_then, min, nat_lt, IfOk, All};
 ghost use Rattle.std.specs.List.{position, list_all};
+ghost use Rattle.std.specs.Result.{result_ok};
 ghost use Rattle.std.specs.Str.{bytes_eq};
 ghost use Rattle.replay_text.specs.Script.{lines_of, number_below};
 ghost use Rattle.common_types.specs.Words.{words_of};
 ghost use Rattle.replay_text.specs.Script.{tenant_named, token_of, frame_of, load_of, decide_of, answer_of, tick_of};
+ghost use Rattle.replay_text.specs.Script.{govern_of};
 ghost use Rattle.replay_text.specs.Script.{given_of, moment_spelled, step_behind, step_of_words};
 ghost use Rattle.replay_text.specs.Script.{is_skipped, meaning_of, steps_from, steps_of_script, AreSteps, IsFirstBad};
+ghost use Rattle.admin_text.specs.Commands.{command_in};
 ghost use Rattle.common_types.specs.Outcomes.{GivesUnlessMemory};
 ghost use Rattle.floor_core.specs.World.{FitsIn};
 ghost use Rattle.replay_text.specs.Words.{two_of, three_of, four_of};
 
+use admin_text::parse_command;
 use common_types::{Bytes, Name, ReadError, first_word, is_numeral, is_token, value_of};
 use floor_core::{Given, Step};
 use hex::FromHexError;
 use ilp_addr::Moment;
 use std::alloc::{AllocError, Global};
+use tenant_core::Command;
 use thiserror::Error;
 
 /// The most bytes of a script.
@@ -255,6 +260,45 @@ fn tick_of(names: &[Name], words: &[u8]) -> Option<Step>
     Some(Step::Tick { tenant, now })
 }
 
+// The command that a text spells.
+fn command_in(alloc: Global, text: &[u8]) -> Result<Option<Command>, AllocError>
+    ensures { IfOk result (λ command. command ≡ result_ok (command_in text.now)) }
+{
+    match parse_command(alloc, text) {
+        Ok(command) => Ok(Some(command)),
+        Err(ReadError::Fault(_)) => Ok(None),
+        Err(ReadError::Memory) => Err(AllocError),
+    }
+}
+
+/// The step that the words behind `do` spell: TENANT NOW, and those of a command.
+fn govern_of(alloc: Global, names: &[Name], words: &[u8]) -> Result<Option<Step>, AllocError>
+    ensures { IfOk result (λ step. step ≡ govern_of names.now (words_of words.now)) }
+{
+    let (tenant, rest) = first_word(words);
+    let Some(rest) = rest else {
+        return Ok(None);
+    };
+    let (now, command) = first_word(rest);
+    let Some(command) = command else {
+        return Ok(None);
+    };
+    let Some(tenant) = tenant_named(names, tenant) else {
+        return Ok(None);
+    };
+    let Some(now) = moment_spelled(now) else {
+        return Ok(None);
+    };
+    Ok(match command_in(alloc, command)? {
+        Some(command) => Some(Step::Govern {
+            tenant,
+            now,
+            command,
+        }),
+        None => None,
+    })
+}
+
 /// The step that a verb and the words behind it spell.
 fn step_behind(
     alloc: Global,
@@ -273,6 +317,8 @@ fn step_behind(
         answer_of(alloc, workers, words)
     } else if verb == b"tick".as_slice() {
         Ok(tick_of(names, words))
+    } else if verb == b"do".as_slice() {
+        govern_of(alloc, names, words)
     } else {
         Ok(None)
     }
@@ -360,8 +406,8 @@ fn numbered_steps(
 /// A script has at most [`MOST_BYTES`] bytes, else the fault is `Size`. Its lines end with a line
 /// feed each, which the last may lack, and are ASCII, of at most [`MOST_LINE`] bytes without it.
 /// Empty lines and those that begin with `#` are skipped. Any other is `load W TENANT TOKEN HEX`,
-/// `decide W NOW`, `answer W NOW HEX`, `answer W NOW fault` or `tick TENANT NOW`, with one space between two words; the
-/// fault `Line` has the number, from 1, of the first that is none of these.
+/// `decide W NOW`, `answer W NOW HEX`, `answer W NOW fault`, `tick TENANT NOW` or `do TENANT NOW COMMAND`, with one space
+/// between two words; the fault `Line` has the number, from 1, of the first that is none of these.
 pub fn parse_script(
     alloc: Global,
     names: &[Name],
