@@ -1,14 +1,14 @@
-//! Books of tenants: the limits of their setups, and verdicts at the bounds of what was agreed.
+//! Books of tenants: the limits of their setups and networks, verdicts at the bounds of what was agreed, and copies.
 
-use common_types::{AssetCode, Between, Items, Name, Text, Token};
-use ilp_addr::{Address, Moment, Prefix, Target};
+use common_types::{AssetCode, Between, Name, Token};
+use ilp_addr::{Address, Moment, OwnAddress, Prefix, Target};
 use money_core::Rate;
-use route_table::Routes;
 use std::alloc::Global;
 use std::test::Fail;
 use tenant_core::{
-    AnswerKey, Book, BucketTerms, HoldFault, NewPeer, PeerLimits, PeerNo, PeerTerms, PrepareKey,
-    RateTerms, RejectCode, Role, TenantSetup, TenantTerms, Verdict,
+    AnswerKey, Answered, Balance, Book, BucketTerms, Command, CommandFault, HoldFault, Level,
+    Network, PeerLimits, PeerTerms, PrepareKey, RateTerms, RejectCode, Role, TenantSetup,
+    TenantTerms, Verdict, number_named,
 };
 
 // 2030-01-01T00:00:00Z, and the greatest moment.
@@ -63,10 +63,10 @@ fn number<const LOW: u64, const HIGH: u64>(n: u64) -> Result<Between<LOW, HIGH>,
     Ok(Between::new(n).ok_or("a number within limits")?)
 }
 
-// The peer of that number, which owes nothing yet: p0, p1 and so on, with tokens by the same names.
-fn new_peer(alloc: Global, place: u32, agreed: Agreed) -> Result<NewPeer, Fail> {
+// What is agreed with the peer of that number: p0, p1 and so on, with tokens by the same names.
+fn terms(alloc: Global, place: u32, agreed: Agreed) -> Result<PeerTerms, Fail> {
     let called = format!(in alloc; "p{place}")?;
-    let terms = PeerTerms {
+    Ok(PeerTerms {
         name: name(called.as_bytes())?,
         role: Role::Peer,
         token: token(called.as_bytes())?,
@@ -82,92 +82,143 @@ fn new_peer(alloc: Global, place: u32, agreed: Agreed) -> Result<NewPeer, Fail> 
             burst: number(agreed.burst)?,
             per_second: number(agreed.per_second)?,
         },
-    };
-    Ok(NewPeer { terms, balance: 0 })
+    })
 }
 
-fn rates(
+// The level that a book gives a new bucket itself.
+const FULL: Level = Level {
+    credit: 0,
+    clock: 0,
+    entries: 0,
+};
+
+fn add_peer(
     alloc: Global,
-    rate: (u64, u64),
-    pairs: &[(PeerNo, PeerNo)],
-) -> Result<Items<RateTerms>, Fail> {
-    let rate = Rate::new(rate.0, rate.1)?;
-    let mut rates = Vec::new(alloc);
-    for (from, to) in pairs {
-        rates.push(RateTerms {
-            from: *from,
-            to: *to,
-            rate,
-        })?;
-    }
-    Ok(Items::from_vec(rates))
+    network: &mut Network,
+    place: u32,
+    agreed: Agreed,
+) -> Result<Result<(), CommandFault>, Fail> {
+    Ok(network.add_peer(terms(alloc, place, agreed)?, Balance::zero(), FULL))
 }
 
-// A tenant of so many peers, with a route for g.acme.bob to one of them and rates for these pairs, from one to another.
+fn set_rate(
+    alloc: Global,
+    network: &mut Network,
+    from: u32,
+    to: u32,
+    rate: (u64, u64),
+) -> Result<Result<(), CommandFault>, Fail> {
+    let from = format!(in alloc; "p{from}")?;
+    let to = format!(in alloc; "p{to}")?;
+    let from = number_named(network, &name(from.as_bytes())?).ok_or("the first peer")?;
+    let to = number_named(network, &name(to.as_bytes())?).ok_or("the second peer")?;
+    let rate = Rate::new(rate.0, rate.1)?;
+    Ok(network.set_rate(&RateTerms { from, to, rate }))
+}
+
+fn add_route(
+    alloc: Global,
+    network: &mut Network,
+    prefix: &[u8],
+    to: &[u8],
+) -> Result<Result<(), CommandFault>, Fail> {
+    let to = number_named(network, &name(to)?).ok_or("the peer of the route")?;
+    Ok(network.add_route(Prefix::parse(alloc, prefix)?, to))
+}
+
+// p0, p1 and so on, with a route for g.acme.bob to p1, and a rate from p0 to p1.
+fn network(alloc: Global, agreed: Agreed, peers: u32) -> Result<Network, Fail> {
+    let mut network = Network::new(alloc);
+    for place in 0..peers {
+        add_peer(alloc, &mut network, place, agreed)??;
+    }
+    add_route(alloc, &mut network, b"g.acme.bob", b"p1")??;
+    set_rate(alloc, &mut network, 0, 1, agreed.rate)??;
+    Ok(network)
+}
+
+// A tenant of two peers.
 fn tenant(
     alloc: Global,
     journal: u64,
+    margin: u64,
+    hold: u64,
     agreed: Agreed,
-    peers: u32,
-    routed_to: PeerNo,
-    pairs: &[(PeerNo, PeerNo)],
 ) -> Result<Option<TenantSetup>, Fail> {
-    let mut list = Vec::new(alloc);
-    for number in 0..peers {
-        list.push(new_peer(alloc, number, agreed)?)?;
-    }
-    let mut routes = Routes::new(alloc);
-    routes.add(Prefix::parse(alloc, b"g.acme.bob")?, routed_to)?;
     Ok(TenantSetup::new(TenantTerms {
         name: name(b"acme")?,
-        address: Text::from_bytes(b"g.acme").ok_or("an address")?,
+        address: OwnAddress::new(b"g.acme").ok_or("an address")?,
         admin: token(b"root-a")?,
         journal,
-        margin: 1_000,
-        hold: 30_000,
-        peers: Items::from_vec(list),
-        routes,
-        rates: rates(alloc, agreed.rate, pairs)?,
+        margin,
+        hold,
+        network: network(alloc, agreed, 2)?,
     }))
 }
 
-// How many places the journal has, the peer that the route names, the pairs with a rate, and whether that is a setup.
-static SETUPS: [(u64, PeerNo, &[(PeerNo, PeerNo)], bool); 10] = [
-    (1, 1, &[(0, 1)], false),
-    (2, 1, &[(0, 1)], true),
-    (16_384, 1, &[(0, 1)], true),
-    (16_385, 1, &[(0, 1)], false),
-    (2, 2, &[(0, 1)], false),
-    (2, 1, &[(0, 2)], false),
-    (2, 1, &[(2, 0)], false),
-    (2, 1, &[(1, 1)], false),
-    (2, 1, &[(0, 1), (1, 0)], true),
-    (2, 1, &[(0, 1), (1, 0), (0, 1)], false),
+// Places of a journal, margin and longest hold, and whether they are a setup's.
+static SETUPS: [(u64, u64, u64, bool); 8] = [
+    (1, 1_000, 30_000, false),
+    (2, 0, 1, true),
+    (16_384, 60_000, 600_000, true),
+    (16_385, 1_000, 30_000, false),
+    (2, 60_001, 30_000, false),
+    (2, 1_000, 0, false),
+    (2, 1_000, 600_001, false),
+    (2, u64::MAX, 30_000, false),
 ];
 
 #[test]
 fn limits_of_a_setup(rt: HostRuntime) -> Result<(), Fail> {
     let alloc = rt.alloc();
-    for (journal, routed_to, pairs, is_within) in SETUPS {
-        let found = tenant(alloc, journal, USUAL, 2, routed_to, pairs)?;
-        assert!(rt;
-            found.is_some() == is_within,
-            "{journal} {routed_to} {pairs:?}"
-        );
+    for (journal, margin, hold, is_within) in SETUPS {
+        let found = tenant(alloc, journal, margin, hold, USUAL)?;
+        assert!(rt; found.is_some() == is_within, "{journal} {margin} {hold}");
     }
-    // Of 66 peers, 4,096 pairs have a rate, and then one more.
-    let mut pairs = Vec::new(alloc);
-    for pair in 0..4_097u32 {
-        let from = (pair / 65) as PeerNo;
-        let other = (pair % 65) as PeerNo;
+    Ok(())
+}
+
+#[test]
+fn limits_of_a_network(rt: HostRuntime) -> Result<(), Fail> {
+    let alloc = rt.alloc();
+    let mut network = network(alloc, USUAL, 256)?;
+    let full = Err(CommandFault::Limit);
+    assert!(rt; add_peer(alloc, &mut network, 256, USUAL)? == full);
+    let present = Err(CommandFault::Present);
+    assert!(rt; add_peer(alloc, &mut network, 255, USUAL)? == present);
+    // Of 65 peers, 4,096 pairs have a rate, and then one more has none.
+    for pair in 0..4_096u32 {
+        let from = pair / 64;
+        let other = pair % 64;
         let to = if other < from { other } else { other + 1 };
-        pairs.push((from, to))?;
+        set_rate(alloc, &mut network, from, to, (1, 1))??;
     }
-    for (count, is_within) in [(4_096, true), (4_097, false)] {
-        let some = pairs.as_slice().get(..count).ok_or("so many pairs")?;
-        let found = tenant(alloc, 2, USUAL, 66, 1, some)?;
-        assert!(rt; found.is_some() == is_within, "{count} rates");
+    assert!(rt; set_rate(alloc, &mut network, 64, 0, (1, 1))? == full);
+    assert!(rt; set_rate(alloc, &mut network, 0, 1, (2, 1))? == Ok(()));
+    for route in 1..4_096u32 {
+        let prefix = format!(in alloc; "g.r{route}")?;
+        add_route(alloc, &mut network, prefix.as_bytes(), b"p0")??;
     }
+    assert!(rt; add_route(alloc, &mut network, b"g.one-more", b"p0")? == full);
+    assert!(rt; add_route(alloc, &mut network, b"g.r1", b"p0")? == present);
+    Ok(())
+}
+
+#[test]
+fn numbers_of_peers_are_never_used_again(rt: HostRuntime) -> Result<(), Fail> {
+    let alloc = rt.alloc();
+    let mut network = Network::new(alloc);
+    for number in 0..65_535u32 {
+        add_peer(alloc, &mut network, 0, USUAL)??;
+        let found = number_named(&network, &name(b"p0")?).ok_or("the peer")?;
+        assert!(rt; u32::from(found) == number);
+        if network.routes().names_peer(found) {
+            panic!(rt; "no route leads to it");
+        }
+        network.remove_peer(found);
+    }
+    let used_up = Err(CommandFault::Limit);
+    assert!(rt; add_peer(alloc, &mut network, 0, USUAL)? == used_up);
     Ok(())
 }
 
@@ -203,7 +254,7 @@ fn verdict(wanted: Wanted) -> Verdict {
 }
 
 fn book(alloc: Global, journal: u64, agreed: Agreed, start: u64) -> Result<Book, Fail> {
-    let setup = tenant(alloc, journal, agreed, 2, 1, &[(0, 1)])?.ok_or("a setup")?;
+    let setup = tenant(alloc, journal, 1_000, 30_000, agreed)?.ok_or("a setup")?;
     let start = Moment::new(start).ok_or("a moment")?;
     Ok(Book::new(alloc, 0, &setup, start)?)
 }
@@ -700,5 +751,50 @@ fn as_many_packets_are_held_as_a_tenant_can_hold(rt: HostRuntime) -> Result<(), 
     assert!(rt; book.answer(700, overdue, AnswerKey::Rejected) == Ok(late));
     let found = decide(&mut book, 1, START + 60_000, START)?;
     assert!(rt; found == verdict(Wanted::Forwarded(1_024, 1, START + 59_000)));
+    Ok(())
+}
+
+#[test]
+fn a_copy_has_what_the_book_had(rt: HostRuntime) -> Result<(), Fail> {
+    let alloc = rt.alloc();
+    let mut book = book(alloc, 8, USUAL, START)?;
+    send(&mut book, START)?;
+    let now = Moment::new(START).ok_or("a moment")?;
+    assert!(rt; book.answer(0, now, AnswerKey::Fulfilled([0; 32])) == Ok(Verdict::Relay));
+    let mut copy = book.copy(alloc)?;
+    assert!(rt; owed_and_held(&copy)? == (1_000, -1_500, 0, 0));
+    assert!(rt; copy.entries() == 2 && copy.period() == 0 && copy.tenant() == 0);
+    assert!(rt; copy.peer_name(1) == Some(b"p1".as_slice()));
+    // What happens to the copy does not happen to the book.
+    let sent = send(&mut copy, START)?;
+    assert!(rt; sent == verdict(Wanted::Forwarded(1, 1_500, START + 29_000)));
+    assert!(rt; copy.entries() == 3 && book.entries() == 2);
+    assert!(rt; owed_and_held(&book)? == (1_000, -1_500, 0, 0));
+    Ok(())
+}
+
+#[test]
+fn a_closed_period_has_its_entries(rt: HostRuntime) -> Result<(), Fail> {
+    let alloc = rt.alloc();
+    let mut book = book(alloc, 8, USUAL, START)?;
+    send(&mut book, START)?;
+    let now = Moment::new(START + 1).ok_or("a moment")?;
+    assert!(rt; book.command(alloc, &Command::Roll, now).err() == Some(CommandFault::InUse));
+    assert!(rt; book.answer(0, now, AnswerKey::Fulfilled([0; 32])) == Ok(Verdict::Relay));
+    let Answered::Rolled(period) = book.command(alloc, &Command::Roll, now)? else {
+        panic!(rt; "a period");
+    };
+    assert!(rt; period.opening.tenant == 0 && period.opening.period == 0);
+    assert!(rt; period.opening.clock == START && period.opening.next_hold == 0);
+    assert!(rt; period.records.as_slice().len() == 3);
+    let mut rows = Vec::new(alloc);
+    for row in period.rows.as_slice() {
+        rows.push((row.balance, row.held_in, row.held_out))?;
+    }
+    assert!(rt; rows.as_slice() == [(1_000, 0, 0), (-1_500, 0, 0)].as_slice());
+    assert!(rt; book.period() == 1 && book.entries() == 0);
+    assert!(rt; owed_and_held(&book)? == (1_000, -1_500, 0, 0));
+    let sent = send(&mut book, START)?;
+    assert!(rt; sent == verdict(Wanted::Forwarded(1, 1_500, START + 29_000)));
     Ok(())
 }

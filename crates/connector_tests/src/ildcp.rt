@@ -1,7 +1,8 @@
 //! The configuration of children (RFC 0031): answers that were worked out by hand, and what is refused.
 
+use common_types::{AssetCode, Name};
 use ildcp_core::{Child, ChildParts, IldcpFault, Role, answer, check, is_config};
-use ilp_addr::Address;
+use ilp_addr::{Address, OwnAddress};
 use std::test::Fail;
 
 // The SHA-256 of 32 zero bytes: `head -c 32 /dev/zero | sha256sum` gives it.
@@ -10,40 +11,28 @@ const CONDITION: [u8; 32] = [
     0x08, 0x97, 0x14, 0x85, 0x6e, 0xe2, 0x33, 0xb3, 0x90, 0x2a, 0x59, 0x1d, 0x0d, 0x5f, 0x29, 0x25,
 ];
 
-// A peer of a tenant of that address, with that name and asset, 9 decimal places to its unit.
-fn peer<'a>(
-    role: Role,
-    tenant: &'a [u8],
-    name: &'a [u8],
-    code: &'a [u8],
-) -> Result<Option<Child<'a>>, Fail> {
-    let tenant = Address::parse(tenant).ok().ok_or("an address")?;
-    Ok(Child::new(ChildParts {
-        role,
-        tenant,
-        name,
-        scale: 9,
-        code,
-    }))
+// A name and the code of an asset.
+fn parts(name: &[u8], code: &[u8]) -> Result<(Name, AssetCode), Fail> {
+    let name = Name::new(name).ok_or("a name")?;
+    Ok((name, AssetCode::new(code).ok_or("the code of an asset")?))
 }
 
-// A name, the code of an asset, and whether they are a child's.
-static LIMITS: [(&[u8], &[u8], bool); 10] = [
-    (b"", b"XRP", false),
-    (&[b'b'; 32], b"XRP", true),
-    (&[b'b'; 33], b"XRP", false),
-    (b"Bob", b"XRP", false),
-    (b"b.b", b"XRP", false),
-    (b"b_b", b"XRP", false),
-    (b"bob", b"", false),
-    (b"bob", &[b'X'; 16], true),
-    (b"bob", &[b'X'; 17], false),
-    (b"bob", b"xrp", false),
-];
+// A peer of a tenant of that address, with that name and asset, 9 decimal places to its unit.
+fn peer<'a>(role: Role, tenant: &'a OwnAddress, parts: &'a (Name, AssetCode)) -> Child<'a> {
+    Child::new(ChildParts {
+        role,
+        tenant,
+        name: &parts.0,
+        scale: 9,
+        code: &parts.1,
+    })
+}
 
 #[test]
 fn answers(rt: HostRuntime) -> Result<(), Fail> {
-    let bob = peer(Role::Child, b"g.acme", b"bob", b"XRP")?.ok_or("bob")?;
+    let tenant = OwnAddress::new(b"g.acme").ok_or("an address")?;
+    let parts = parts(b"bob", b"XRP")?;
+    let bob = peer(Role::Child, &tenant, &parts);
     let mut out = [7; 1000];
     assert!(rt; answer(&bob, &mut out) == 51);
     let mut wanted = [7; 1000];
@@ -58,7 +47,9 @@ fn answers(rt: HostRuntime) -> Result<(), Fail> {
 fn longest_answer(rt: HostRuntime) -> Result<(), Fail> {
     let mut tenant = [b'a'; 900];
     tenant[..2].copy_from_slice(b"g.");
-    let child = peer(Role::Child, &tenant, &[b'-'; 32], &[b'C'; 16])?.ok_or("a child")?;
+    let address = OwnAddress::new(&tenant).ok_or("an address")?;
+    let parts = parts(&[b'-'; 32], &[b'C'; 16])?;
+    let child = peer(Role::Child, &address, &parts);
     let mut out = [7; 1000];
     assert!(rt; answer(&child, &mut out) == 993);
     let mut wanted = [7; 1000];
@@ -76,8 +67,11 @@ fn longest_answer(rt: HostRuntime) -> Result<(), Fail> {
 
 #[test]
 fn requests(rt: HostRuntime) -> Result<(), Fail> {
-    let child = peer(Role::Child, b"g.acme", b"alice", b"USD")?.ok_or("alice")?;
-    let neighbour = peer(Role::Peer, b"g.acme", b"carol", b"USD")?.ok_or("carol")?;
+    let tenant = OwnAddress::new(b"g.acme").ok_or("an address")?;
+    let alice = parts(b"alice", b"USD")?;
+    let carol = parts(b"carol", b"USD")?;
+    let child = peer(Role::Child, &tenant, &alice);
+    let neighbour = peer(Role::Peer, &tenant, &carol);
     let mut other = CONDITION;
     other[31] = 0x24;
     for (child, amount, condition, wanted) in [
@@ -99,21 +93,6 @@ fn requests(rt: HostRuntime) -> Result<(), Fail> {
     ] {
         let address = Address::parse(destination).ok().ok_or("an address")?;
         assert!(rt; is_config(&address) == wanted, "{destination:?}");
-    }
-    Ok(())
-}
-
-#[test]
-fn limits(rt: HostRuntime) -> Result<(), Fail> {
-    let mut tenant = [b'a'; 901];
-    tenant[..2].copy_from_slice(b"g.");
-    let longest = peer(Role::Child, &tenant[..900], b"0-z", b"0Z")?;
-    assert!(rt; longest.is_some());
-    let too_long = peer(Role::Child, &tenant, b"bob", b"XRP")?;
-    assert!(rt; too_long.is_none());
-    for (name, code, wanted) in LIMITS {
-        let found = peer(Role::Child, b"g.a", name, code)?;
-        assert!(rt; found.is_some() == wanted, "{name:?} {code:?}");
     }
     Ok(())
 }

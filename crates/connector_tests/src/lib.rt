@@ -11,7 +11,15 @@ mod books;
 #[cfg(test)]
 mod commands;
 #[cfg(test)]
+mod configured;
+#[cfg(test)]
+mod crowds;
+#[cfg(test)]
 mod devices;
+#[cfg(test)]
+mod floors;
+#[cfg(test)]
+mod governed;
 #[cfg(test)]
 mod http_devices;
 #[cfg(test)]
@@ -36,6 +44,8 @@ mod rows;
 mod scripts;
 #[cfg(test)]
 mod setup_texts;
+#[cfg(test)]
+mod setup_words;
 #[cfg(test)]
 mod setups;
 #[cfg(test)]

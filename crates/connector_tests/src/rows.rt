@@ -1,6 +1,8 @@
 //! Rows of replays: changes of the usual setup, a script, and the lines that it prints. Frames, replies and moments are
 //! named in braces in scripts and lines.
 
+ghost use Rattle.std.specs.Prelude.{◌≤◌};
+
 use crate::setups::{Line, setup_with};
 use replay_text::{ReplayFault, replay};
 use std::alloc::Global;
@@ -17,7 +19,7 @@ pub struct Row {
 
 // What stands for a name in braces, which may have names of its own in it. The values were worked out by hand from the
 // formats of RFC 0027 and RFC 0030.
-static NAMES: [(&str, &str); 61] = [
+static NAMES: [(&str, &str); 80] = [
     ("T", "1893456000000"),
     ("T+999", "1893456000999"),
     ("T+1000", "1893456001000"),
@@ -132,9 +134,74 @@ static NAMES: [(&str, &str); 61] = [
         "below own to carol",
         "0c4300000000000007d0{until 9 s}{condition}{to below}00",
     ),
+    ("to config", "0b706565722e636f6e666967"),
     (
         "config",
-        "0c4600000000000003e8{until 10 s}{condition}0b706565722e636f6e66696700",
+        "0c460000000000000000{until 10 s}{condition}{to config}00",
+    ),
+    (
+        "config with 1",
+        "0c460000000000000001{until 10 s}{condition}{to config}00",
+    ),
+    (
+        "config of another condition",
+        "0c460000000000000000{until 10 s}{another condition}{to config}00",
+    ),
+    (
+        "another condition",
+        "66687aadf862bd776c8fc18b8e9f8e20089714856ee233b3902a591d0d5f2924",
+    ),
+    (
+        "below config",
+        "0c480000000000000000{until 10 s}{condition}0d706565722e636f6e6669672e7800",
+    ),
+    (
+        "beside config",
+        "0c470000000000000000{until 10 s}{condition}0c706565722e636f6e6669677300",
+    ),
+    (
+        "configuration of bob",
+        "0d31{31 zeros}00100a672e61636d652e626f620903585250",
+    ),
+    (
+        "configuration of carol",
+        "0d33{31 zeros}00120c672e61636d652e6361726f6c0203455552",
+    ),
+    ("F00", "0e17463030{by acme}0b626164207265717565737400"),
+    ("F03", "0e1a463033{by acme}0e696e76616c696420616d6f756e7400"),
+    (
+        "base 1",
+        "0c470000000000000001{until 10 s}{condition}{to bob}00",
+    ),
+    (
+        "sent 0",
+        "0c470000000000000000{until 9 s}{condition}{to bob}00",
+    ),
+    (
+        "sent to carol",
+        "0c4700000000000007d0{until 9 s}{condition}{to bob}00",
+    ),
+    (
+        "wide",
+        "0c81ab00000000000003e8{until 10 s}{condition}{to bob}64{100 times aa}",
+    ),
+    (
+        "wide sent",
+        "0c81ab00000000000005dc{until 9 s}{condition}{to bob}64{100 times aa}",
+    ),
+    (
+        "100 times aa",
+        "aaaaaaaaaaaaaaaaaaaaaaaaaaaaaaaaaaaaaaaaaaaaaaaaaaaaaaaaaaaaaaaaaaaaaaaaaaaaaaaaaaaaaaaaaaaaaaaaaaaa\
+            aaaaaaaaaaaaaaaaaaaaaaaaaaaaaaaaaaaaaaaaaaaaaaaaaaaaaaaaaaaaaaaaaaaaaaaaaaaaaaaaaaaaaaaaaaaaaaaaaaaa",
+    ),
+    ("to bob of beta", "0c672e626574612e626f622e78"),
+    (
+        "for beta",
+        "0c4700000000000003e8{until 10 s}{condition}{to bob of beta}00",
+    ),
+    (
+        "for beta sent",
+        "0c4700000000000005dc{until 9 s}{condition}{to bob of beta}00",
     ),
     (
         "neighbour",
@@ -217,19 +284,43 @@ pub fn filled(alloc: Global, text: &str) -> Result<String, Fail> {
 
 /// What a replay of the script writes, for the setup and one worker.
 pub fn written(alloc: Global, setup: &str, script: &str) -> Result<Vec<u8>, ReplayFault> {
+    written_by(alloc, setup, 1, script)
+}
+
+/// What a replay of the script writes, for the setup and so many workers.
+pub fn written_by(
+    alloc: Global,
+    setup: &str,
+    workers: usize,
+    script: &str,
+) -> Result<Vec<u8>, ReplayFault>
+    requires { (1 ≤ workers) × (workers ≤ 64) }
+{
     let mut reader = script.as_bytes();
     let mut text = Vec::new(alloc);
-    replay(alloc, setup.as_bytes(), 1, &mut reader, &mut text)?;
+    replay(alloc, setup.as_bytes(), workers, &mut reader, &mut text)?;
     Ok(text)
 }
 
 /// Each row prints its lines.
 pub fn expect_rows(rt: &impl Abort, alloc: Global, rows: &[Row]) -> Result<(), Fail> {
+    expect_rows_by(rt, alloc, 1, rows)
+}
+
+/// Each row prints its lines, with so many workers.
+pub fn expect_rows_by(
+    rt: &impl Abort,
+    alloc: Global,
+    workers: usize,
+    rows: &[Row],
+) -> Result<(), Fail>
+    requires { (1 ≤ workers) × (workers ≤ 64) }
+{
     for row in rows {
         let setup = setup_with(alloc, row.changes)?;
         let script = filled(alloc, row.script)?;
         let lines = filled(alloc, row.lines)?;
-        let text = written(alloc, setup.as_str(), script.as_str())?;
+        let text = written_by(alloc, setup.as_str(), workers, script.as_str())?;
         let title = row.title;
         assert!(rt; text.as_slice() == lines.as_bytes(), "{title}");
     }

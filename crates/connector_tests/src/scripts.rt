@@ -13,7 +13,7 @@ fn acme(alloc: Global) -> Result<Vec<Name>, Fail> {
 }
 
 // A script, how many workers it has, and the number of its first bad line, 0 where none is bad.
-static SCRIPTS: [(&str, usize, usize); 30] = [
+static SCRIPTS: [(&str, usize, usize); 43] = [
     ("", 2, 0),
     ("decide 1 0", 2, 0),
     ("decide 2 0\n", 2, 1),
@@ -44,6 +44,19 @@ static SCRIPTS: [(&str, usize, usize); 30] = [
     ("answer 0 1 faults\n", 1, 1),
     ("answer 0 1\n", 1, 1),
     ("tock acme 0\n", 1, 1),
+    ("do acme 0 balances\ndo acme 0 roll\n", 1, 0),
+    ("do acme 0 peer limits bob 0 0 0", 1, 0),
+    ("do acme 0\n", 1, 1),
+    ("do acme 0 \n", 1, 1),
+    ("do acme\n", 1, 1),
+    ("do\n", 1, 1),
+    ("do acme 0 balance\n", 1, 1),
+    ("do acme 0 roll \n", 1, 1),
+    ("do acme 0  roll\n", 1, 1),
+    ("do other 0 roll\n", 1, 1),
+    ("do acme 00 roll\n", 1, 1),
+    ("do acme 0 rate set bob bob 1 1\n", 1, 1),
+    ("do acme 0 settle in bob 0\n", 1, 1),
 ];
 
 #[test]

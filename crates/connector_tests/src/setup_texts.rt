@@ -144,12 +144,16 @@ fn a_setup_says_what_its_text_says(rt: HostRuntime) -> Result<(), Fail> {
     let text = setup_with(alloc, &[])?;
     let setup = read_setup(alloc, text.as_bytes())?;
     assert!(rt; setup.start.millis() == 1_893_456_000_000);
-    let terms = setup.tenant.terms();
+    let [tenant] = setup.tenants.as_slice() else {
+        panic!(rt; "one tenant");
+    };
+    let terms = tenant.terms();
     assert!(rt; terms.journal == 64 && terms.margin == 1_000 && terms.hold == 30_000);
-    assert!(rt; terms.peers.as_slice().len() == 2);
-    assert!(rt; terms.routes.len() == 1);
-    assert!(rt; terms.rates.as_slice().len() == 1);
-    for rate in terms.rates.as_slice() {
+    let network = &terms.network;
+    assert!(rt; network.peers().len() == 2 && network.next_peer() == 2);
+    assert!(rt; network.routes().len() == 1);
+    assert!(rt; network.rates().len() == 1);
+    for rate in network.rates() {
         assert!(rt; rate.from == 0 && rate.to == 1);
     }
     Ok(())

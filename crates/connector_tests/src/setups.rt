@@ -16,8 +16,11 @@ pub const ROUTE: &str = "[[tenant.route]]";
 
 pub const RATE: &str = "[[tenant.rate]]";
 
-// alice, who may send to bob at 3/2, and what rows may add: a third peer, routes and rates before and after.
-static USUAL: [Line; 83] = [
+pub const TENANT: &str = "[[tenant]]";
+
+// alice, who may send to bob at 3/2, and what rows may add: a third peer, routes and rates before and after, and a second
+// tenant, beta, like the first.
+static USUAL: [Line; 122] = [
     ("", "version", "1"),
     ("", "start", "1893456000000"),
     ("acme", "", "[[tenant]]"),
@@ -99,6 +102,45 @@ static USUAL: [Line; 83] = [
     ("rate after", "to", "'bob'"),
     ("rate after", "num", "1"),
     ("rate after", "den", "2"),
+    ("beta", "", ABSENT),
+    ("beta", "name", "'beta'"),
+    ("beta", "address", "'g.beta'"),
+    ("beta", "admin", "'root-b'"),
+    ("beta", "journal", "64"),
+    ("beta alice", "", ABSENT),
+    ("beta alice", "name", "'alice'"),
+    ("beta alice", "role", "'peer'"),
+    ("beta alice", "token", "'tok-alice'"),
+    ("beta alice", "url", "'http://127.0.0.1:7801/ilp'"),
+    ("beta alice", "out_token", "'out-alice'"),
+    ("beta alice", "asset", "'USD'"),
+    ("beta alice", "scale", "2"),
+    ("beta alice", "cap", "1000000"),
+    ("beta alice", "ceiling", "1000000"),
+    ("beta alice", "credit", "1000000"),
+    ("beta alice", "burst", "100"),
+    ("beta alice", "per_second", "100"),
+    ("beta bob", "", ABSENT),
+    ("beta bob", "name", "'bob'"),
+    ("beta bob", "role", "'child'"),
+    ("beta bob", "token", "'tok-bob'"),
+    ("beta bob", "url", "'http://127.0.0.1:7802/ilp'"),
+    ("beta bob", "out_token", "'out-bob'"),
+    ("beta bob", "asset", "'XRP'"),
+    ("beta bob", "scale", "9"),
+    ("beta bob", "cap", "1000000"),
+    ("beta bob", "ceiling", "1000000"),
+    ("beta bob", "credit", "1000000"),
+    ("beta bob", "burst", "100"),
+    ("beta bob", "per_second", "100"),
+    ("beta route", "", ABSENT),
+    ("beta route", "prefix", "'g.beta.bob'"),
+    ("beta route", "peer", "'bob'"),
+    ("beta rate", "", ABSENT),
+    ("beta rate", "from", "'alice'"),
+    ("beta rate", "to", "'bob'"),
+    ("beta rate", "num", "3"),
+    ("beta rate", "den", "2"),
     ("second tenant", "", ABSENT),
     ("second tenant", "name", ABSENT),
 ];

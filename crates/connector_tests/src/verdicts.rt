@@ -179,8 +179,9 @@ static WAYS: [Row; 15] = [
     Row {
         title: "addresses of neighbours",
         changes: &[("route", "prefix", "'*'")],
-        script: "load 0 acme tok-alice {config}\ndecide 0 {T}\nload 0 acme tok-alice {neighbour}\ndecide 0 {T}\n",
-        lines: "acme loaded 0\nacme reply {F02}\nacme loaded 1\nacme reply {F02}\n",
+        script: "load 0 acme tok-bob {below config}\ndecide 0 {T}\nload 0 acme tok-bob {beside config}\ndecide 0 {T}\n\
+            load 0 acme tok-alice {neighbour}\ndecide 0 {T}\n",
+        lines: "acme loaded 0\nacme reply {F02}\nacme loaded 1\nacme reply {F02}\nacme loaded 2\nacme reply {F02}\n",
     },
     Row {
         title: "the tenant's own address and one below it",

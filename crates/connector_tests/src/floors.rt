@@ -1,0 +1,247 @@
+//! Floors: workers that carry packets for two tenants, crosswise, with their outputs as text.
+
+ghost use Rattle.std.specs.Prelude.{All};
+ghost use Rattle.std.specs.Bool.{OnTrue};
+ghost use Rattle.floor_core.specs.FloorView.{Fits};
+
+use crate::rows::filled;
+use crate::setups::{Line, setup_with};
+use admin_text::read_setup;
+use common_types::Bytes;
+use floor_core::{Floor, Given, Output, Step};
+use ilp_addr::Moment;
+use std::alloc::Global;
+use std::process::Abort;
+use std::str;
+use std::test::Fail;
+use tenant_core::{Answered, Command, TenantSetup};
+
+// 2030-01-01T00:00:00Z, when the books begin.
+const START: u64 = 1_893_456_000_000;
+
+// The first tenant, whose journal has room for one packet and its answer.
+static ACME: [Line; 1] = [("acme", "journal", "2")];
+
+// The second tenant, whose peers have the tokens of the first one's.
+static BETA: [Line; 3] = [
+    ("acme", "name", "'beta'"),
+    ("acme", "address", "'g.beta'"),
+    ("route", "prefix", "'g.beta.bob'"),
+];
+
+const TO_BETA: &str = "0c4700000000000003e8{until 10 s}{condition}0c672e626574612e626f622e7800";
+
+// A packet of a worker for a tenant, by the token of alice, and what it puts out.
+enum Row {
+    Load(usize, usize, &'static str, &'static str),
+    Decide(usize, &'static str),
+    Answer(usize, &'static str, &'static str),
+    Lost(usize, &'static str),
+    Tick(usize, &'static str),
+    Balances(usize, &'static str),
+}
+
+fn bytes(alloc: Global, text: &str) -> Result<Bytes, Fail> {
+    let digits = filled(alloc, text)?;
+    Ok(Bytes::from_vec(hex::decode(alloc, digits.as_str())?))
+}
+
+fn moment(millis: u64) -> Result<Moment, Fail> {
+    Ok(Moment::new(millis).ok_or("a moment")?)
+}
+
+// The step of a row, and the text of its output.
+fn step_of(alloc: Global, row: &Row) -> Result<(Step, &'static str), Fail> {
+    let now = moment(START)?;
+    Ok(match *row {
+        Row::Load(worker, tenant, text, output) => {
+            let token = Bytes::from_vec(Vec::from_slice(alloc, b"tok-alice")?);
+            let bytes = bytes(alloc, text)?;
+            let step = Step::Load {
+                worker,
+                tenant,
+                token,
+                bytes,
+            };
+            (step, output)
+        }
+        Row::Decide(worker, output) => (Step::Decide { worker, now }, output),
+        Row::Answer(worker, text, output) => {
+            let given = Given::Bytes(bytes(alloc, text)?);
+            (Step::Answer { worker, now, given }, output)
+        }
+        Row::Lost(worker, output) => {
+            let given = Given::Fault;
+            (Step::Answer { worker, now, given }, output)
+        }
+        Row::Tick(tenant, output) => (Step::Tick { tenant, now }, output),
+        Row::Balances(tenant, output) => {
+            let command = Command::Balances;
+            let step = Step::Govern {
+                tenant,
+                now,
+                command,
+            };
+            (step, output)
+        }
+    })
+}
+
+// What each peer owes, and what is held from it and for it.
+fn answered(alloc: Global, answer: &Answered) -> Result<String, Fail> {
+    let Answered::Balances(rows) = answer else {
+        return Err(Fail::from("balances"));
+    };
+    let mut text = String::new(alloc);
+    for row in rows.as_slice() {
+        let name = str::from_utf8(row.name.as_bytes())?;
+        let part = format!(in alloc; " {name} {} {} {}", row.balance, row.held_in, row.held_out)?;
+        text.push_str(part.as_str())?;
+    }
+    Ok(text)
+}
+
+fn text_of(alloc: Global, output: &Output) -> Result<String, Fail> {
+    Ok(match output {
+        Output::Busy => String::from_str(alloc, "busy")?,
+        Output::Idle => String::from_str(alloc, "idle")?,
+        Output::Loaded { tenant, call } => format!(in alloc; "{tenant} loaded {call}")?,
+        Output::Bad { tenant, kind } => format!(in alloc; "{tenant} bad {kind:?}")?,
+        Output::Stranger { tenant } => format!(in alloc; "{tenant} stranger")?,
+        Output::Reply { tenant, bytes } => {
+            let digits = hex::encode(alloc, bytes.as_slice())?;
+            format!(in alloc; "{tenant} reply {digits}")?
+        }
+        Output::Send {
+            tenant,
+            peer,
+            hold,
+            frame,
+        } => {
+            let peer = str::from_utf8(peer.as_bytes())?;
+            let digits = hex::encode(alloc, frame.as_slice())?;
+            format!(in alloc; "{tenant} send {peer} {hold} {digits}")?
+        }
+        Output::Ticked { tenant, answer } => format!(in alloc; "{tenant} ticked {answer:?}")?,
+        Output::Governed { tenant, answer } => match answer {
+            Ok(answer) => format!(in alloc; "{tenant}{}", answered(alloc, answer)?)?,
+            Err(fault) => format!(in alloc; "{tenant} {fault}")?,
+        },
+    })
+}
+
+// The tenants of the usual setup, so changed.
+fn tenants(alloc: Global, changes: &[Line]) -> Result<Vec<TenantSetup>, Fail> {
+    let text = setup_with(alloc, changes)?;
+    Ok(read_setup(alloc, text.as_bytes())?.tenants.into_vec())
+}
+
+// Two tenants, and two workers.
+fn floor_of(alloc: Global, first: &[Line], second: &[Line]) -> Result<Floor, Fail> {
+    let mut setups = tenants(alloc, first)?;
+    for setup in tenants(alloc, second)? {
+        setups.push(setup)?;
+    }
+    if setups.len() == 0 || setups.len() > 64 {
+        return Err(Fail::from("two tenants"));
+    }
+    Ok(Floor::new(alloc, setups.as_slice(), moment(START)?, 2)?)
+}
+
+fn all_fit(floor: &Floor, steps: &[Step]) -> bool
+    ensures { OnTrue result (All (Fits floor.now) steps.now) }
+{
+    for step in steps {
+        if !floor.fits(step) {
+            return false;
+        }
+    }
+    true
+}
+
+fn run(alloc: Global, floor: &mut Floor, steps: &[Step]) -> Result<Vec<Output>, Fail> {
+    if !all_fit(floor, steps) || !floor.room(steps.len()) {
+        return Err(Fail::from("steps of the floor"));
+    }
+    match floor.run(alloc, steps) {
+        Ok(outputs) => Ok(outputs),
+        Err(_) => Err(Fail::from("memory")),
+    }
+}
+
+fn expect_rows(
+    rt: &impl Abort,
+    alloc: Global,
+    floor: &mut Floor,
+    rows: &[Row],
+) -> Result<(), Fail> {
+    let mut steps = Vec::new(alloc);
+    let mut texts = Vec::new(alloc);
+    for row in rows {
+        let (step, text) = step_of(alloc, row)?;
+        steps.push(step)?;
+        texts.push(filled(alloc, text)?)?;
+    }
+    let outputs = run(alloc, floor, steps.as_slice())?;
+    assert!(rt; outputs.len() == texts.len());
+    for (output, text) in outputs.iter().zip(texts.iter()) {
+        let told = text_of(alloc, output)?;
+        assert!(rt; told.as_str() == text.as_str(), "{told} is not {text}");
+    }
+    Ok(())
+}
+
+// Two workers for one tenant: the calls are decided and answered crosswise.
+static CROSSWISE: [Row; 13] = [
+    Row::Load(0, 0, "{base}", "0 loaded 0"),
+    Row::Load(1, 0, "{base}", "0 loaded 1"),
+    Row::Load(1, 1, "{base}", "busy"),
+    Row::Answer(1, "{fulfill}", "idle"),
+    Row::Decide(1, "0 send bob 0 {sent}"),
+    Row::Decide(0, "0 send bob 1 {sent}"),
+    Row::Decide(0, "idle"),
+    Row::Load(0, 0, "{base}", "busy"),
+    Row::Lost(0, "0 reply {T01}"),
+    Row::Answer(1, "{fulfill}", "0 reply {fulfill}"),
+    Row::Answer(1, "{fulfill}", "idle"),
+    Row::Load(0, 1, "{base cut}", "1 bad Oer"),
+    Row::Balances(0, "0 alice 1000 0 0 bob -1500 0 0"),
+];
+
+#[test]
+fn two_workers_crosswise(rt: HostRuntime) -> Result<(), Fail> {
+    let alloc = rt.alloc();
+    let mut floor = floor_of(alloc, &[], &BETA)?;
+    expect_rows(&rt, alloc, &mut floor, &CROSSWISE)
+}
+
+// Two tenants by one worker: the full journal of the first is nothing to the second, whose holds begin at 0.
+static APART: [Row; 14] = [
+    Row::Load(0, 0, "{base}", "0 loaded 0"),
+    Row::Decide(0, "0 send bob 0 {sent}"),
+    Row::Lost(0, "0 reply {T01}"),
+    Row::Tick(0, "0 ticked Err(Full)"),
+    Row::Tick(1, "1 ticked Ok(0)"),
+    Row::Load(0, 1, TO_BETA, "1 loaded 0"),
+    Row::Decide(
+        0,
+        "1 send bob 0 0c4700000000000005dc{until 9 s}{condition}0c672e626574612e626f622e7800",
+    ),
+    Row::Answer(0, "{fulfill}", "1 reply {fulfill}"),
+    Row::Load(0, 0, "{base}", "0 loaded 1"),
+    Row::Decide(0, "0 reply {T03}"),
+    Row::Load(1, 1, "{base}", "1 loaded 1"),
+    Row::Decide(
+        1,
+        "1 reply 0e1746303206672e626574610b756e726561636861626c6500",
+    ),
+    Row::Balances(0, "0 alice 0 0 0 bob 0 0 0"),
+    Row::Balances(1, "1 alice 1000 0 0 bob -1500 0 0"),
+];
+
+#[test]
+fn two_tenants_apart(rt: HostRuntime) -> Result<(), Fail> {
+    let alloc = rt.alloc();
+    let mut floor = floor_of(alloc, &ACME, &BETA)?;
+    expect_rows(&rt, alloc, &mut floor, &APART)
+}
