@@ -1,0 +1,16 @@
+//! Meters: what a connector answered, counted for each tenant and each kind, by threads of which none waits.
+//!
+//! Each thread counts through a seat of its own, and each count is one word that all threads add to in single atomic
+//! steps. So a word is the sum of what the seats have counted, and where the first seat has joined all others, its
+//! counts are the totals.
+#![tactic(auto)]
+
+mod kind;
+pub mod laws;
+mod meters;
+mod rule;
+mod totals;
+
+pub use kind::Kind;
+pub use meters::{MeterSeat, Meters, Spent};
+pub use totals::Totals;
