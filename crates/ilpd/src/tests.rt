@@ -2,6 +2,7 @@
 
 use crate::command_line::{Task, arguments};
 use crate::replay;
+use std::alloc::{AllocError, Global};
 use std::test::Fail;
 
 const SETUP: &str = "version = 1
@@ -47,15 +48,21 @@ static LINES: [Words; 19] = [
     (&["replay", "--help"], Err("Runs the script")),
 ];
 
+// The program's name and the words after it.
+fn line_of(alloc: Global, words: &[&str]) -> Result<Vec<String>, AllocError> {
+    let mut line = Vec::new(alloc);
+    line.push("ilpd".to_string(alloc)?)?;
+    for word in words {
+        line.push(word.to_string(alloc)?)?;
+    }
+    Ok(line)
+}
+
 #[test]
 fn command_lines(rt: HostRuntime) -> Result<(), Fail> {
     let alloc = rt.alloc();
     for (words, wanted) in LINES {
-        let mut line = Vec::new(alloc);
-        line.push("ilpd".to_string(alloc)?)?;
-        for word in words {
-            line.push(word.to_string(alloc)?)?;
-        }
+        let line = line_of(alloc, words)?;
         match (arguments(alloc, line.as_slice()), wanted) {
             (Ok(found), Ok((task, setup, workers))) => {
                 assert!(rt; found.task == task && found.workers == workers, "{words:?}");
