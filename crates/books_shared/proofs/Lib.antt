@@ -1,0 +1,5 @@
+pub mod Entries
+pub mod Commanded
+pub mod Turned
+pub mod Counted
+pub mod Crossing

@@ -1,0 +1,24 @@
+-- What lies under a tenant's lock, as contracts see it.
+use Rattle.std.specs.Prelude.{ℕ, ◌+◌, ◌*◌, ◌≤◌, length}
+use Rattle.tenant_core.specs.Limits.{max_journal}
+use Rattle.tenant_core.specs.Sound.{IsSound}
+use Rattle.tenant_core.specs.State.{State}
+
+-- a tenant's book, and how many entries its closed periods had
+pub record Kept : Type 0 where
+  pub state : State
+  pub closed : ℕ
+
+-- how many entries were appended since the books were made
+abbrev pub number_of : Kept → ℕ
+number_of k = k.closed + length k.state.records
+
+-- the most entries of so many closed periods: each has no more than a journal has places, and that of its roll
+abbrev pub most_entries : ℕ → ℕ
+most_entries periods = (max_journal + 1) * periods
+
+-- what holds of a book whenever its lock is free
+pub record IsKept (k : Kept) : Type 0 where
+  -- it is the replay of its journal, and within its limits
+  pub sound : IsSound k.state
+  pub closed : k.closed ≤ most_entries k.state.opening.period

@@ -1,0 +1,177 @@
+//! A tenant's book whose lock is held.
+
+use crate::kept::Kept;
+use crate::share::Share;
+use floor_core::{Got, Slot, Turn};
+use ilp_addr::Moment;
+use std::alloc::Global;
+use std::marker::Model;
+use std::sync::MutexGuard;
+use tenant_core::laws::book_is_sound;
+use tenant_core::{Answered, Book, BookFault, Command, CommandFault};
+
+/// A tenant's book whose lock is held, until the guard is dropped. Contracts see it as a `Kept`: the book's state, and how
+/// many entries its closed periods had.
+#[derive(Drop)]
+pub struct Guard<'a> {
+    kept: MutexGuard<'a, Kept>,
+}
+
+impl<'a> Model for Guard<'a> {
+    ghost use Rattle.std.specs.Sync.Mutex.{mutex_guard_value};
+    ghost use Rattle.books_shared.specs.Kept.{Kept};
+    ghost use Rattle.std.specs.Coded.{codes};
+    ghost use Rattle.route_table.specs.contracts.routes.Routes as routes;
+
+    ghost Value = { Kept };
+
+    ghost coded = { Prim.hlevel (codes, routes.the_row.coded) };
+
+    ghost view = { λ g. mutex_guard_value g.kept };
+}
+
+impl<'a> Guard<'a> {
+    ghost use Rattle.std.specs.Prelude.{◌≡◌};
+    ghost use Rattle.std.specs.Sync.Mutex.{mutex_guard_value};
+
+    // The book whose lock was taken.
+    pub(crate) fn new(kept: MutexGuard<'a, Kept>) -> Guard<'a>
+        ensures { result ≡ mutex_guard_value kept.entry }
+    {
+        Guard { kept }
+    }
+}
+
+impl Guard<'_> {
+    ghost use Rattle.std.specs.Prelude.{◌≡◌, ◌+◌, ◌<◌, ◌^◌, length};
+    ghost use Rattle.floor_core.specs.Work.{decide_turn, decide_work, decide_book, answer_turn, answer_work, answer_book};
+    ghost use Rattle.floor_core.specs.Work.{tenant_in};
+    ghost use Rattle.tenant_core.specs.Answer.{tick_result, ticked};
+    ghost use Rattle.tenant_core.specs.Governed.{IsGoverned};
+    ghost use Rattle.tenant_core.specs.Sound.{IsSound};
+    ghost use Rattle.books_shared.specs.Kept.{IsKept, number_of};
+    ghost use Rattle.books_shared.specs.Rises.{answer_rise, command_rise, decide_rise, entries_closed, tick_rise};
+    ghost use Rattle.books_shared.specs.Shares.{raised};
+    ghost use Rattle.books_shared.specs.Turns.{IsCounted, IsSettled, IsLeft, IsEnded};
+
+    // What the type keeps.
+    pub(crate) fn is_kept(&self)
+        ensures { IsKept self.now }
+    {
+        self.kept.is_kept();
+    }
+
+    /// The book. It is the replay of its journal, and within its limits.
+    pub fn book(&self) -> &Book
+        ensures book { result.now ≡ self.now.state }
+        ensures sound { IsSound self.now.state }
+    {
+        self.kept.is_kept();
+        self.kept.book()
+    }
+
+    /// How many entries were appended to the book since `Books::new`, those of the closed periods and of their rolls
+    /// too: below 2^47.
+    pub fn number(&self) -> u64
+        ensures value { result ≡ number_of self.now }
+        ensures within { result < 2 ^ 47 }
+    {
+        self.kept.number()
+    }
+
+    /// Decides the frame of the slot by the book at this moment, as `Slot::decide` does, and counts what that adds: the
+    /// entry; or the token that is no peer's (`Stranger`); or the packet for which the journal has no room (one of
+    /// `Reply`). After `Idle` and `Stray` nothing has changed but that the call was used up.
+    ///
+    /// The share has room for a call, which this one uses up.
+    pub fn decide(&mut self, share: &mut Share, slot: &mut Slot, now: Moment) -> Turn
+        requires room { 0 < share.old.room }
+        ensures turn { result ≡ decide_turn slot.old.job self.old.state now }
+        ensures slot { slot.new ≡ decide_work slot.old self.old.state now }
+        ensures book { self.new.state ≡ decide_book slot.old.job self.old.state now }
+        ensures closed { self.new.closed ≡ self.old.closed }
+        ensures share { share.new
+            ≡ raised (decide_rise slot.old.job self.old.state now) self.old.state.opening.tenant share.old }
+        ensures number { number_of self.new
+            ≡ number_of self.old + (decide_rise slot.old.job self.old.state now).entries }
+
+        // What is known from the turn alone.
+        ensures counted { IsCounted result (tenant_in slot.old.job) share.old share.new }
+        ensures left { IsLeft result slot.old slot.new }
+    {
+        self.kept.is_kept();
+        let tenant = self.kept.book().tenant();
+        let (turn, rise) = self.kept.decide(slot, now);
+        share.raise(tenant, rise);
+        turn
+    }
+
+    /// Settles the packet of the slot by the book and what came back, as `Slot::answer` does, and counts the entry that
+    /// `Reply` appends. After `Idle` and `Stray` nothing has changed but that the call was used up.
+    ///
+    /// The share has room for a call, which this one uses up.
+    pub fn answer(&mut self, share: &mut Share, slot: &mut Slot, now: Moment, got: Got) -> Turn
+        requires room { 0 < share.old.room }
+        ensures turn { result ≡ answer_turn slot.old self.old.state now got }
+        ensures slot { slot.new ≡ answer_work slot.old self.old.state now got }
+        ensures book { self.new.state ≡ answer_book slot.old self.old.state now got }
+        ensures closed { self.new.closed ≡ self.old.closed }
+        ensures share { share.new ≡ raised (answer_rise result) self.old.state.opening.tenant share.old }
+        ensures number { number_of self.new ≡ number_of self.old + (answer_rise result).entries }
+
+        // What is known from the turn alone.
+        ensures counted { IsSettled result (tenant_in slot.old.job) share.old share.new }
+        ensures left { IsEnded result slot.old slot.new }
+    {
+        self.kept.is_kept();
+        let tenant = self.kept.book().tenant();
+        let (turn, rise) = self.kept.answer(slot, now, got);
+        share.raise(tenant, rise);
+        turn
+    }
+
+    /// Records this moment in the book, as `Book::tick` does, and counts the entry. After `Full` nothing has changed but
+    /// that the call was used up.
+    ///
+    /// The share has room for a call, which this one uses up.
+    pub fn tick(&mut self, share: &mut Share, now: Moment) -> Result<u32, BookFault>
+        requires room { 0 < share.old.room }
+        ensures count { result ≡ tick_result self.old.state now }
+        ensures book { self.new.state ≡ ticked self.old.state now }
+        ensures closed { self.new.closed ≡ self.old.closed }
+        ensures share { share.new ≡ raised (tick_rise result) self.old.state.opening.tenant share.old }
+        ensures number { number_of self.new ≡ number_of self.old + (tick_rise result).entries }
+    {
+        self.kept.is_kept();
+        let tenant = self.kept.book().tenant();
+        let (count, rise) = self.kept.tick(now);
+        share.raise(tenant, rise);
+        count
+    }
+
+    /// Does what an operator commands at this moment, as `Book::command` does, and counts the entry of an order or a roll.
+    /// After a roll the entries of the period that it closed, and its own, are among those of the closed periods. The
+    /// errors are those of `Book::command`, in its order; nothing has changed then but that the call was used up.
+    ///
+    /// The share has room for a call, which this one uses up.
+    pub fn command(
+        &mut self,
+        alloc: Global,
+        share: &mut Share,
+        command: &Command,
+        now: Moment,
+    ) -> Result<Answered, CommandFault>
+        requires room { 0 < share.old.room }
+        ensures answer { IsGoverned result command.now self.old.state self.new.state now }
+        ensures closed { self.new.closed
+            ≡ self.old.closed + entries_closed result (length self.old.state.records) }
+        ensures share { share.new ≡ raised (command_rise result) self.old.state.opening.tenant share.old }
+        ensures number { number_of self.new ≡ number_of self.old + (command_rise result).entries }
+    {
+        self.kept.is_kept();
+        let tenant = self.kept.book().tenant();
+        let (answer, rise) = self.kept.command(alloc, command, now);
+        share.raise(tenant, rise);
+        answer
+    }
+}

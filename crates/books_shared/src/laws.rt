@@ -1,0 +1,35 @@
+//! Laws of books that are shared, each the contract of a function that does nothing.
+
+ghost use Rattle.std.specs.Prelude.{◌≡◌, ◌<◌, ◌↔◌, ℕ, List, IsTrue, length};
+ghost use Rattle.tenant_core.specs.Sound.{IsSound};
+ghost use Rattle.books_shared.specs.Gathers.{are_all_there, shares_of};
+ghost use Rattle.books_shared.specs.Shares.{ShareView, fresh_shares, raised};
+ghost use Rattle.books_shared.specs.declared.rise.Rise.{Rise};
+ghost use denote.Param.Send.{IsSync};
+ghost use Rattle.books_shared.specs.contracts.books.Books as Books;
+
+use crate::guard::Guard;
+
+/// Whenever a lock is held, and so whenever it is free, the book is the replay of its journal, and within its limits.
+pub fn guard_is_sound(guard: &Guard<'_>)
+    ensures { IsSound guard.now.state }
+{
+    guard.is_kept();
+}
+
+/// The shares are all there exactly where there are as many as workers, and each worker has one.
+pub fn all_there()
+    ensures { (workers : ℕ) (shares : List ShareView) → IsTrue (are_all_there workers shares)
+        ↔ ((length shares ≡ workers) × ((worker : ℕ) → worker < workers → shares_of worker shares ≡ 1)) }
+{}
+
+/// The shares that `Books::new` gives are all there, and what calls count leaves them so: a share stays its worker's.
+pub fn fresh_shares_are_all_there()
+    ensures fresh { (workers : ℕ) → IsTrue (are_all_there workers (fresh_shares workers)) }
+    ensures same { (rise : Rise) (tenant : ℕ) (share : ShareView) → (raised rise tenant share).worker ≡ share.worker }
+{}
+
+/// Threads may share books. Call it ahead of a call that hands them to threads: what that call requires is proved by it.
+pub fn books_are_shared()
+    ensures { IsSync Books.the_row }
+{}

@@ -1,0 +1,15 @@
+//! The books of all tenants, each behind a lock of its own, and what each worker counts.
+#![tactic(auto)]
+
+mod books;
+mod gather;
+mod guard;
+mod kept;
+pub mod laws;
+mod rise;
+mod share;
+
+pub use books::Books;
+pub use gather::GatherFault;
+pub use guard::Guard;
+pub use share::{Share, Spent};
