@@ -755,25 +755,6 @@ fn as_many_packets_are_held_as_a_tenant_can_hold(rt: HostRuntime) -> Result<(), 
 }
 
 #[test]
-fn a_copy_has_what_the_book_had(rt: HostRuntime) -> Result<(), Fail> {
-    let alloc = rt.alloc();
-    let mut book = book(alloc, 8, USUAL, START)?;
-    send(&mut book, START)?;
-    let now = Moment::new(START).ok_or("a moment")?;
-    assert!(rt; book.answer(0, now, AnswerKey::Fulfilled([0; 32])) == Ok(Verdict::Relay));
-    let mut copy = book.copy(alloc)?;
-    assert!(rt; owed_and_held(&copy)? == (1_000, -1_500, 0, 0));
-    assert!(rt; copy.entries() == 2 && copy.period() == 0 && copy.tenant() == 0);
-    assert!(rt; copy.peer_name(1) == Some(b"p1".as_slice()));
-    // What happens to the copy does not happen to the book.
-    let sent = send(&mut copy, START)?;
-    assert!(rt; sent == verdict(Wanted::Forwarded(1, 1_500, START + 29_000)));
-    assert!(rt; copy.entries() == 3 && book.entries() == 2);
-    assert!(rt; owed_and_held(&book)? == (1_000, -1_500, 0, 0));
-    Ok(())
-}
-
-#[test]
 fn a_closed_period_has_its_entries(rt: HostRuntime) -> Result<(), Fail> {
     let alloc = rt.alloc();
     let mut book = book(alloc, 8, USUAL, START)?;

@@ -11,8 +11,8 @@ static GOOD: [(&str, &str); 16] = [
         "peer add alice child tok-a http://127.0.0.1:7801/ilp out-a USD 2 1500 1000000 0 100 50",
     ),
     (
-        "peer add b peer t http://[::1]/ o EUR 255 0 4611686018427387904 4611686018427387904 1000000 0",
-        "peer add b peer t http://[::1]/ o EUR 255 0 4611686018427387904 4611686018427387904 1000000 0",
+        "peer add b peer t http://[::1]/ o mBTC9 255 0 4611686018427387904 4611686018427387904 1000000 0",
+        "peer add b peer t http://[::1]/ o mBTC9 255 0 4611686018427387904 4611686018427387904 1000000 0",
     ),
     ("peer remove alice", "peer remove alice"),
     (
@@ -83,7 +83,7 @@ static ARGUMENTS: [&str; 50] = [
     "peer add alice child t http://localhost:65536/ o USD 2 1 1 1 1 1",
     "peer add alice child t http://localhost/ , USD 2 1 1 1 1 1",
     "peer add alice child t http://localhost/",
-    "peer add alice child t http://localhost/ o usd 2 1 1 1 1 1",
+    "peer add alice child t http://localhost/ o US-D 2 1 1 1 1 1",
     "peer add alice child t http://localhost/ o USD 02 1 1 1 1 1",
     "peer add alice child t http://localhost/ o USD 2 -1 1 1 1 1",
     "peer add alice child t http://localhost/ o USD 2 1 1 1 1",

@@ -1,7 +1,10 @@
 //! Many tenants and many workers, through replays.
 
-use crate::rows::{Row, expect_rows, expect_rows_by};
+use crate::rows::{Row, expect_rows, expect_rows_by, filled, written_by};
 use crate::setups::{PEER, RATE, ROUTE, TENANT};
+use admin_text::{SetupFault, read_setup};
+use common_types::ReadError;
+use std::alloc::{AllocError, Global};
 use std::test::Fail;
 
 static TENANTS: [Row; 4] = [
@@ -93,5 +96,74 @@ fn tenants_and_workers_are_told_apart(rt: HostRuntime) -> Result<(), Fail> {
     let alloc = rt.alloc();
     expect_rows(&rt, alloc, &TENANTS)?;
     expect_rows_by(&rt, alloc, 2, &WORKERS)?;
+    Ok(())
+}
+
+// A setup of so many tenants, each of whom sends everything to bob, at 3/2.
+fn crowd(alloc: Global, tenants: usize) -> Result<String, AllocError> {
+    let mut text = String::from_str(alloc, "version = 1\nstart = 1893456000000\n")?;
+    for tenant in 0..tenants {
+        let own = format!(in alloc;
+            "[[tenant]]\nname = \"t{tenant}\"\naddress = \"g.t{tenant}\"\nadmin = \"root\"\n"
+        )?;
+        text.push_str(own.as_str())?;
+        for peer in ["alice", "bob"] {
+            let name = format!(in alloc;
+                "[[tenant.peer]]\nname = \"{peer}\"\ntoken = \"tok-{peer}\"\n"
+            )?;
+            text.push_str(name.as_str())?;
+            text.push_str(
+                "role = \"peer\"\nurl = \"http://127.0.0.1/\"\nout_token = \"out\"\nasset = \"USD\"\nscale = 2\n",
+            )?;
+            text.push_str(
+                "cap = 1500\nceiling = 2000\ncredit = 3000\nburst = 2\nper_second = 0\n",
+            )?;
+        }
+        text.push_str("[[tenant.route]]\nprefix = \"*\"\npeer = \"bob\"\n")?;
+        text.push_str("[[tenant.rate]]\nfrom = \"alice\"\nto = \"bob\"\nnum = 3\nden = 2\n")?;
+    }
+    Ok(text)
+}
+
+// Twice round: each worker takes a packet of a tenant, in the second round of the next one; all are decided, the last
+// worker's first; and all are answered.
+fn rounds(alloc: Global) -> Result<(String, String), AllocError> {
+    let mut script = String::new(alloc);
+    let mut lines = String::new(alloc);
+    for round in 0..2usize {
+        for worker in 0..64usize {
+            let tenant = (worker + round) % 64;
+            script.push_str(format!(in alloc;
+                "load {worker} t{tenant} tok-alice {{base}}\n"
+            )?.as_str())?;
+            lines.push_str(format!(in alloc; "t{tenant} loaded {round}\n")?.as_str())?;
+        }
+        for place in 0..64usize {
+            let worker = 63 - place;
+            let tenant = (worker + round) % 64;
+            script.push_str(format!(in alloc; "decide {worker} {{T}}\n")?.as_str())?;
+            lines.push_str(format!(in alloc; "t{tenant} send bob {round} {{sent}}\n")?.as_str())?;
+        }
+        for worker in 0..64usize {
+            let tenant = (worker + round) % 64;
+            script.push_str(format!(in alloc; "answer {worker} {{T}} {{fulfill}}\n")?.as_str())?;
+            lines.push_str(format!(in alloc; "t{tenant} reply {{fulfill}}\n")?.as_str())?;
+        }
+    }
+    Ok((script, lines))
+}
+
+#[test]
+fn sixty_four_tenants_and_workers(rt: HostRuntime) -> Result<(), Fail> {
+    let alloc = rt.alloc();
+    let setup = crowd(alloc, 64)?;
+    let (script, lines) = rounds(alloc)?;
+    let script = filled(alloc, script.as_str())?;
+    let lines = filled(alloc, lines.as_str())?;
+    let text = written_by(alloc, setup.as_str(), 64, script.as_str())?;
+    assert!(rt; text.as_slice() == lines.as_bytes());
+    let setup = crowd(alloc, 65)?;
+    let found = read_setup(alloc, setup.as_bytes()).err();
+    assert!(rt; found == Some(ReadError::Fault(SetupFault::Tenant(64))));
     Ok(())
 }

@@ -68,21 +68,19 @@ fn longest_answer(rt: HostRuntime) -> Result<(), Fail> {
 #[test]
 fn requests(rt: HostRuntime) -> Result<(), Fail> {
     let tenant = OwnAddress::new(b"g.acme").ok_or("an address")?;
-    let alice = parts(b"alice", b"USD")?;
-    let carol = parts(b"carol", b"USD")?;
-    let child = peer(Role::Child, &tenant, &alice);
-    let neighbour = peer(Role::Peer, &tenant, &carol);
-    let mut other = CONDITION;
-    other[31] = 0x24;
-    for (child, amount, condition, wanted) in [
-        (&child, 0, &CONDITION, Ok(())),
-        (&child, 0, &other, Err(IldcpFault::Condition)),
-        (&child, 1, &CONDITION, Err(IldcpFault::Amount)),
-        (&child, u64::MAX, &other, Err(IldcpFault::Amount)),
-        (&neighbour, 0, &CONDITION, Err(IldcpFault::NotChild)),
-        (&neighbour, 1, &other, Err(IldcpFault::NotChild)),
+    let parts = parts(b"alice", b"USD")?;
+    for (role, amount, last, wanted) in [
+        (Role::Child, 0, 0x25, Ok(())),
+        (Role::Child, 0, 0x24, Err(IldcpFault::Condition)),
+        (Role::Child, 1, 0x25, Err(IldcpFault::Amount)),
+        (Role::Child, u64::MAX, 0x24, Err(IldcpFault::Amount)),
+        (Role::Peer, 0, 0x25, Err(IldcpFault::NotChild)),
+        (Role::Peer, 1, 0x24, Err(IldcpFault::NotChild)),
     ] {
-        assert!(rt; check(child, amount, condition) == wanted, "{amount}");
+        let child = peer(role, &tenant, &parts);
+        let mut condition = CONDITION;
+        condition[31] = last;
+        assert!(rt; check(&child, amount, &condition) == wanted, "{amount}");
     }
     for (destination, wanted) in [
         (b"peer.config".as_slice(), true),

@@ -21,6 +21,8 @@ mod floors;
 #[cfg(test)]
 mod governed;
 #[cfg(test)]
+mod http_books;
+#[cfg(test)]
 mod http_devices;
 #[cfg(test)]
 mod http_posted;
@@ -42,6 +44,10 @@ mod routes;
 mod rows;
 #[cfg(test)]
 mod scripts;
+#[cfg(test)]
+mod seats;
+#[cfg(test)]
+mod setup_limits;
 #[cfg(test)]
 mod setup_texts;
 #[cfg(test)]
