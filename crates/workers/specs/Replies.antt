@@ -1,0 +1,82 @@
+-- What becomes of a packet that a worker carries, and what it is answered.
+use Rattle.std.specs.Prelude.{ℕ, ◌≡◌, List, Option, Some, None}
+use Rattle.ilp_addr.specs.Target.{Parts as TargetParts}
+use Rattle.meters.specs.declared.kind.Kind.{Kind}
+use Rattle.meters.specs.declared.kind.Kind.TheVariants as kind
+use Rattle.floor_core.specs.Work.{Job}
+use Rattle.floor_core.specs.declared.parts.Got.{Got}
+use Rattle.workers.specs.declared.reply.Reply.{Reply}
+use Rattle.workers.specs.declared.reply.Reply.TheVariants.{Malformed, Nameless, Stranger, Spent, Stray, Decided, Settled, Lost}
+use Rattle.workers.specs.declared.reply.Status.{Status}
+use Rattle.workers.specs.declared.reply.Status.TheVariants as status
+
+-- the number of a status (RFC 9110, 15)
+abbrev pub code_of : Status → ℕ
+code_of status.Answered = 200
+code_of status.Malformed = 400
+code_of status.Unauthorized = 401
+code_of status.Unavailable = 503
+
+-- what an answer with that status is counted as
+abbrev pub kind_of : Status → Kind
+kind_of status.Answered = kind.Answered
+kind_of status.Malformed = kind.Refused
+kind_of status.Unauthorized = kind.Refused
+kind_of status.Unavailable = kind.Unavailable
+
+-- the status of the answer to a packet
+abbrev pub status_of : Reply → Status
+status_of Malformed = status.Malformed
+status_of Nameless = status.Unauthorized
+status_of Stranger = status.Unauthorized
+status_of Spent = status.Unavailable
+status_of Stray = status.Unavailable
+status_of Decided = status.Answered
+status_of (Settled got) = status.Answered
+status_of (Lost got) = status.Unavailable
+
+-- what came back, if the packet was sent on
+abbrev pub got_of : Reply → Option Got
+got_of (Settled got) = Some got
+got_of (Lost got) = Some got
+got_of _ = None
+
+-- how often it was sent on
+abbrev pub sends_of : Reply → ℕ
+sends_of (Settled got) = 1
+sends_of (Lost got) = 1
+sends_of _ = 0
+
+-- a packet that was sent, and what came back: so many bytes at the front of the room, or nothing
+pub record Sending : Type 0 where
+  pub tenant : ℕ
+  pub target : TargetParts
+  pub frame : List ℕ
+  pub got : Got
+  pub room : List ℕ
+
+-- the tenant's packet was sent so, and this came back
+pub record WasSent (came : Got) (sender : ℕ) (So : Sending → Type 0) : Type 0 where
+  pub sending : Sending
+  pub tenant : sending.tenant ≡ sender
+  pub got : sending.got ≡ came
+  pub so : So sending
+
+-- the packet was sent once, or the link is as it was
+abbrev pub IsSentSo : Reply → ℕ → (Sending → Type 0) → Type 0 → Type 0
+IsSentSo (Settled got) tenant So Same = WasSent got tenant So
+IsSentSo (Lost got) tenant So Same = WasSent got tenant So
+IsSentSo _ tenant So Same = Same
+
+-- unless the answer is that nothing was to be had, the call is over
+abbrev pub IsOver : Reply → Job → Type 0
+IsOver Spent job = Unit {0}
+IsOver Stray job = Unit {0}
+IsOver (Lost got) job = Unit {0}
+IsOver _ job = job ≡ Job.NoJob
+
+-- the packet was one, under a token
+abbrev pub IsOfPrepare : Reply → Type 0
+IsOfPrepare Malformed = ⊥
+IsOfPrepare Nameless = ⊥
+IsOfPrepare _ = Unit {0}

@@ -1,0 +1,209 @@
+//! One packet, carried: taken in, decided, sent on, and its answer settled.
+
+ghost use Rattle.std.specs.Prelude.{◌≡◌, ◌+◌, ◌<◌, ◌≤◌, ◌^◌, ◌↔◌, true, false, is_ok, Some};
+ghost use Rattle.common_types.specs.Token.{is_token};
+ghost use Rattle.ilp_view.specs.Reading.{prepare_at};
+ghost use Rattle.floor_core.specs.Work.{IsWaiting, tenant_in};
+ghost use Rattle.floor_core.specs.Work.Job.{NoJob};
+ghost use Rattle.books_shared.specs.Turns.{IsLeft, IsEnded};
+ghost use Rattle.workers.specs.Counting.{HasCounted, HasDecided, HasSettled, reply_tallied, tallied};
+ghost use Rattle.workers.specs.Replies.{IsOfPrepare, IsOver, IsSentSo, WasSent, sends_of};
+ghost use Rattle.workers.specs.declared.reply.Reply.TheVariants as reply;
+
+use crate::reply::{Reply, Status};
+use crate::traits::{Clock, Gate, Link, Point};
+use books_shared::{Books, Share};
+use floor_core::{Got, LoadFault, Slot, Turn};
+use meters::{Kind, MeterSeat, Meters};
+use std::sync::Wait;
+
+/// A link that has sent so many packets sends no more.
+const MAX_SENDS: u64 = 1 << 62;
+
+/// A packet that came for a tenant, with the token that its sender showed.
+#[derive(Clone, Copy)]
+pub struct Job<'a> {
+    pub tenant: usize,
+    pub token: &'a [u8],
+    pub frame: &'a [u8],
+}
+
+/// Carries one packet, in a slot that is idle, for a tenant of the books and of the meters, through a seat of these meters.
+///
+/// The slot takes the packet in; the share makes room; the tenant's book decides under its lock; where the packet goes on,
+/// the link sends it; and the book settles what came back, under its lock again. No lock is held while the gate is passed,
+/// after each of these steps, or while the link sends. The slot is idle in the end.
+///
+/// The reply's status is counted for the tenant, and a fault of the link too, unless the seat's count of it is full. What
+/// the sender is told is the slot's reply where the status is 200, and nothing where it is 503.
+pub fn carry<R: Wait, L: Link, G: Gate, C: Clock>(
+    rt: &R,
+    books: &Books,
+    meters: &Meters,
+    seat: &mut MeterSeat,
+    slot: &mut Slot,
+    share: &mut Share,
+    link: &mut L,
+    gate: &G,
+    clock: &C,
+    job: Job<'_>,
+) -> Reply
+    requires idle { slot.old.job ≡ NoJob }
+    requires seat { seat.old.meters ≡ meters.now.id }
+    requires books { job.tenant < books.now.tenants }
+    requires meters { job.tenant < meters.now.tenants }
+    ensures nameless { result ≡ reply.Nameless ↔ is_token job.entry.token.now ≡ false }
+    ensures malformed { result ≡ reply.Malformed
+        ↔ (is_token job.entry.token.now ≡ true) × (is_ok (prepare_at job.entry.frame.now) ≡ false) }
+    ensures counted { HasCounted result job.entry.tenant slot.new.reply share.old share.new }
+    ensures sends { L.sent link.new ≡ L.sent link.old + sends_of result }
+    ensures sent { IsSentSo result job.entry.tenant
+        (λ sending. L.sends_so link.old sending link.new) (link.new ≡ link.old) }
+    ensures seat { seat.new ≡ reply_tallied job.entry.tenant result seat.old }
+    ensures idle { slot.new.job ≡ NoJob }
+{
+    let reply = carried(rt, books, slot, share, link, gate, clock, job);
+    if reply.status() == Status::Unavailable {
+        slot.clear();
+    }
+    tally(meters, seat, job.tenant, reply.status().kind());
+    if reply.got() == Some(Got::Fault) {
+        tally(meters, seat, job.tenant, Kind::LinkFault);
+    }
+    reply
+}
+
+// Counts one of a kind, unless the count is full.
+pub(crate) fn tally(meters: &Meters, seat: &mut MeterSeat, tenant: usize, kind: Kind)
+    requires seat { seat.old.meters ≡ meters.now.id }
+    requires tenant { tenant < meters.now.tenants }
+    ensures { seat.new ≡ tallied tenant kind seat.old }
+{
+    let _ = meters.count(seat, tenant, kind);
+}
+
+// Carries a packet, and leaves the call in the slot where the answer is that nothing was to be had.
+fn carried<R: Wait, L: Link, G: Gate, C: Clock>(
+    rt: &R,
+    books: &Books,
+    slot: &mut Slot,
+    share: &mut Share,
+    link: &mut L,
+    gate: &G,
+    clock: &C,
+    job: Job<'_>,
+) -> Reply
+    requires idle { slot.old.job ≡ NoJob }
+    requires books { job.tenant < books.now.tenants }
+    ensures nameless { result ≡ reply.Nameless ↔ is_token job.entry.token.now ≡ false }
+    ensures malformed { result ≡ reply.Malformed
+        ↔ (is_token job.entry.token.now ≡ true) × (is_ok (prepare_at job.entry.frame.now) ≡ false) }
+    ensures counted { HasCounted result job.entry.tenant slot.new.reply share.old share.new }
+    ensures sends { L.sent link.new ≡ L.sent link.old + sends_of result }
+    ensures sent { IsSentSo result job.entry.tenant
+        (λ sending. L.sends_so link.old sending link.new) (link.new ≡ link.old) }
+    ensures over { IsOver result slot.new.job }
+{
+    match slot.load(job.tenant, job.token, job.frame) {
+        Ok(()) => {}
+        Err(LoadFault::Token) => return Reply::Nameless,
+        Err(LoadFault::Bad(_)) => return Reply::Malformed,
+        Err(LoadFault::Busy) => unreachable!(),
+    }
+    gate.pass(share.worker(), Point::Loaded);
+    exchanged(rt, books, slot, share, link, gate, clock, job.tenant)
+}
+
+// Lets the tenant decide the packet of the slot, sends it on, and lets the tenant settle what comes back.
+fn exchanged<R: Wait, L: Link, G: Gate, C: Clock>(
+    rt: &R,
+    books: &Books,
+    slot: &mut Slot,
+    share: &mut Share,
+    link: &mut L,
+    gate: &G,
+    clock: &C,
+    tenant: usize,
+) -> Reply
+    requires books { tenant < books.now.tenants }
+    requires loaded { tenant_in slot.old.job ≡ Some tenant }
+    ensures loaded { IsOfPrepare result }
+    ensures counted { HasCounted result tenant slot.new.reply share.old share.new }
+    ensures sends { L.sent link.new ≡ L.sent link.old + sends_of result }
+    ensures sent { IsSentSo result tenant
+        (λ sending. L.sends_so link.old sending link.new) (link.new ≡ link.old) }
+    ensures over { IsOver result slot.new.job }
+{
+    if link.sends() >= MAX_SENDS || share.make_room(None).is_err() {
+        return Reply::Spent;
+    }
+    let turn = decide(rt, books, slot, share, clock, tenant);
+    gate.pass(share.worker(), Point::Decided);
+    match turn {
+        Turn::Idle | Turn::Stray => Reply::Stray,
+        Turn::Stranger => Reply::Stranger,
+        Turn::Reply => Reply::Decided,
+        Turn::Send { .. } => {
+            let got = send(slot, link, tenant);
+            gate.pass(share.worker(), Point::Sent);
+            let turn = answer(rt, books, slot, share, clock, tenant, got);
+            gate.pass(share.worker(), Point::Answered);
+            match turn {
+                Turn::Reply => Reply::Settled(got),
+                _ => Reply::Lost(got),
+            }
+        }
+    }
+}
+
+// Lets the tenant decide, by its book, under its lock.
+fn decide<R: Wait, C: Clock>(
+    rt: &R,
+    books: &Books,
+    slot: &mut Slot,
+    share: &mut Share,
+    clock: &C,
+    tenant: usize,
+) -> Turn
+    requires books { tenant < books.now.tenants }
+    requires loaded { tenant_in slot.old.job ≡ Some tenant }
+    requires room { 1 < share.old.room }
+    ensures counted { HasDecided result tenant slot.new.reply share.old share.new }
+    ensures left { IsLeft result slot.old slot.new }
+    ensures room { 0 < share.new.room }
+{
+    let mut guard = books.enter(rt, tenant);
+    guard.decide(share, slot, clock.now())
+}
+
+// Sends the packet on. What comes back stands in the slot's room.
+fn send<L: Link>(slot: &mut Slot, link: &mut L, tenant: usize) -> Got
+    requires waits { IsWaiting slot.old.job }
+    requires few { L.sent link.old < 2 ^ 62 }
+    ensures sent { WasSent result tenant (λ sending. L.sends_so link.old sending link.new) }
+    ensures sends { L.sent link.new ≡ L.sent link.old + 1 }
+    ensures job { slot.new.job ≡ slot.old.job }
+{
+    let (target, frame, out) = slot.exchange();
+    link.send(tenant, target, frame, out)
+}
+
+// Lets the tenant settle what came back, by its book, under its lock.
+fn answer<R: Wait, C: Clock>(
+    rt: &R,
+    books: &Books,
+    slot: &mut Slot,
+    share: &mut Share,
+    clock: &C,
+    tenant: usize,
+    got: Got,
+) -> Turn
+    requires books { tenant < books.now.tenants }
+    requires tenant { tenant_in slot.old.job ≡ Some tenant }
+    requires room { 0 < share.old.room }
+    ensures counted { HasSettled result tenant share.old share.new }
+    ensures ended { IsEnded result slot.old slot.new }
+{
+    let mut guard = books.enter(rt, tenant);
+    guard.answer(share, slot, clock.now(), got)
+}

@@ -1,0 +1,90 @@
+//! One command of an operator, done.
+
+ghost use Rattle.std.specs.Prelude.{◌≡◌, ◌<◌};
+ghost use Rattle.workers.specs.Counting.{Rises, command_kind, command_rise, tallied};
+
+use crate::carrying::tally;
+use crate::traits::Clock;
+use books_shared::{Books, Share};
+use meters::{Kind, MeterSeat, Meters};
+use std::alloc::Global;
+use std::sync::Wait;
+use tenant_core::{Answered, Command, CommandFault};
+use thiserror::Error;
+
+/// Why a command was not done. Nothing has changed then.
+#[derive(Clone, Copy, Debug, PartialEq, Eq, Error)]
+pub enum GovernFault {
+    /// One of the worker's counts is full.
+    #[error("a worker's count is full")]
+    Spent,
+    /// The book under the lock is another tenant's.
+    #[error("the book is another tenant's")]
+    Stray,
+    /// The book refuses it, or memory was refused.
+    #[error("{0}")]
+    Refused(CommandFault),
+}
+
+/// Does what the operator of a tenant of the books and of the meters commands, under the lock of the tenant's book, and
+/// counts it through a seat of these meters, unless the seat's count is full: as answered, also where the book refuses it;
+/// or as unavailable where the fault is `Spent`, `Stray` or want of memory.
+///
+/// The errors are, in the order in which they are looked for: `Spent`, `Stray`, and what `Book::command` refuses. Nothing
+/// has changed then in the book and in the share's counts.
+pub fn govern<R: Wait, C: Clock>(
+    rt: &R,
+    alloc: Global,
+    books: &Books,
+    meters: &Meters,
+    seat: &mut MeterSeat,
+    share: &mut Share,
+    clock: &C,
+    tenant: usize,
+    command: &Command,
+) -> Result<Answered, GovernFault>
+    requires seat { seat.old.meters ≡ meters.now.id }
+    requires books { tenant < books.now.tenants }
+    requires meters { tenant < meters.now.tenants }
+    ensures counted { Rises (command_rise result) tenant share.old share.new }
+    ensures seat { seat.new ≡ tallied tenant (command_kind result) seat.old }
+{
+    let answer = commanded(rt, alloc, books, share, clock, tenant, command);
+    tally(meters, seat, tenant, kind_of(&answer));
+    answer
+}
+
+fn kind_of(answer: &Result<Answered, GovernFault>) -> Kind
+    ensures { result ≡ command_kind answer.now }
+{
+    match answer {
+        Ok(_) => Kind::Answered,
+        Err(GovernFault::Spent | GovernFault::Stray | GovernFault::Refused(CommandFault::Memory)) =>
+            Kind::Unavailable,
+        Err(GovernFault::Refused(_)) => Kind::Answered,
+    }
+}
+
+fn commanded<R: Wait, C: Clock>(
+    rt: &R,
+    alloc: Global,
+    books: &Books,
+    share: &mut Share,
+    clock: &C,
+    tenant: usize,
+    command: &Command,
+) -> Result<Answered, GovernFault>
+    requires { tenant < books.now.tenants }
+    ensures { Rises (command_rise result) tenant share.old share.new }
+{
+    if share.make_room(Some(command)).is_err() {
+        return Err(GovernFault::Spent);
+    }
+    let mut guard = books.enter(rt, tenant);
+    if guard.book().tenant() != tenant {
+        return Err(GovernFault::Stray);
+    }
+    guard
+        .command(alloc, share, command, clock.now())
+        .map_err(GovernFault::Refused)
+}

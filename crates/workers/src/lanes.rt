@@ -1,0 +1,71 @@
+//! Workers, each on a thread of its own.
+
+ghost use Rattle.std.specs.Prelude.{◌≡◌, ◌<◌, ℕ, length, OnOk, OnErr, slice_index_or};
+
+use std::sync::Wait;
+use std::sync::atomic::{AtomicU64, Ordering};
+use std::thread;
+use std::thread::Threads;
+use thiserror::Error;
+
+/// What one worker does.
+pub trait Lane: Send {
+    /// What one call of `work` leaves of a lane.
+    ghost works: { Self → Self → Type 0 };
+
+    /// Does all that the worker has to do.
+    fn work<R: Threads + Wait + Sync>(&mut self, rt: &R)
+        ensures { works self.old self.new };
+}
+
+/// Not as many threads could be started as there are workers. No lane has worked.
+#[derive(Clone, Copy, Debug, PartialEq, Eq, Error)]
+#[error("a thread could not be started")]
+pub struct StartFault;
+
+// Waits until the word is 1.
+fn wait_for<R: Wait>(rt: &R, start: &AtomicU64) {
+    for _ in rt.forever() {
+        if start.load(Ordering::SeqCst) == 1 {
+            break;
+        }
+        thread::yield_now();
+    }
+}
+
+// Whether so many threads can be there at once.
+fn can_start<R: Threads + Wait + Sync>(rt: &R, count: usize) -> bool {
+    let start = AtomicU64::new(0);
+    let gate = &start;
+    thread::scope(thread::scope_env(), rt, |scope| {
+        let mut all = true;
+        for _ in 0..count {
+            if scope.spawn(move || wait_for(rt, gate)).is_err() {
+                all = false;
+            }
+        }
+        gate.store(1, Ordering::SeqCst);
+        all
+    })
+}
+
+/// Lets each lane work once, each on a thread of its own, and waits for all of them.
+///
+/// `StartFault` where that many threads could not be started, and no lane has worked then.
+pub fn run_workers<R: Threads + Wait + Sync, W: Lane>(
+    rt: &R,
+    lanes: &mut [W],
+) -> Result<(), StartFault>
+    ensures ok { OnOk result ((i : ℕ) (d : W) → i < length lanes.old
+        → W.works (slice_index_or lanes.old i d) (slice_index_or lanes.new i d)) }
+    ensures err { OnErr result (lanes.new ≡ lanes.old) }
+{
+    let count = lanes.len();
+    if !can_start(rt, count) {
+        return Err(StartFault);
+    }
+    if count > 0 {
+        thread::for_each_mut(rt, lanes, count, &|_, lane| lane.work(rt));
+    }
+    Ok(())
+}

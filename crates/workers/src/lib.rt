@@ -1,0 +1,15 @@
+//! What a worker does: it carries packets and governs tenants by books that it shares with others, over a link, a gate
+//! and a clock that it is given; and workers, each on a thread of its own.
+#![tactic(auto)]
+
+mod carrying;
+mod governing;
+mod lanes;
+mod reply;
+mod traits;
+
+pub use carrying::{Job, carry};
+pub use governing::{GovernFault, govern};
+pub use lanes::{Lane, StartFault, run_workers};
+pub use reply::{Reply, Status};
+pub use traits::{Clock, Gate, Link, Point};
