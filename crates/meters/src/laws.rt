@@ -3,6 +3,9 @@
 ghost use Rattle.std.specs.Prelude.{◌≡◌, ◌<◌, ◌++◌, ◌∷◌, ℕ, List};
 ghost use Rattle.meters.specs.declared.kind.Kind.{Kind};
 ghost use Rattle.meters.specs.declared.rule.View.{View};
+ghost use denote.Param.Send.{IsSend, IsSync};
+ghost use Rattle.meters.specs.contracts.meters.Meters as Meters;
+ghost use Rattle.meters.specs.contracts.meters.MeterSeat as MeterSeat;
 ghost use Rattle.meters.specs.Counts.{word_of};
 ghost use Rattle.meters.specs.Rule.{word_total, spent_view};
 
@@ -16,4 +19,11 @@ pub fn places()
 pub fn spent_views()
     ensures { (t : ℕ) (k : Kind) (before after : List View)
         → word_total t k (before ++ spent_view ∷ after) ≡ word_total t k (before ++ after) }
+{}
+
+/// Threads may share meters, and a seat may go to another thread. Call it ahead of a call that hands them to threads: what
+/// that call requires is proved by it.
+pub fn meters_are_shared()
+    ensures shared { IsSync Meters.the_row }
+    ensures sent { IsSend MeterSeat.the_row }
 {}
