@@ -97,9 +97,21 @@ room_keeps : (rise : Rise) (t : ℕ) (s after : ShareView) → Rises rise t (wit
 room_keeps rise t s after h =
     both_rise nothing rise rise t s (with_room s) after (omega arith) (omega arith) (omega arith) (room_rises t s) h
 
+rise_keeps : (rise : Rise) (t : ℕ) (s roomy after : ShareView) → roomy ≡ with_room s → Rises rise t roomy after → Rises rise t s after
+rise_keeps rise t s roomy after is h = room_keeps rise t s after (subst (λ (r : ShareView). Rises rise t r after) is h)
+
 -- an entry after room was made
 pub entry_keeps : (t : ℕ) (s roomy after : ShareView) → roomy ≡ with_room s → Rises an_entry t roomy after → Rises an_entry t s after
-entry_keeps t s roomy after is h = room_keeps an_entry t s after (subst (λ (r : ShareView). Rises an_entry t r after) is h)
+entry_keeps t s roomy after is h = rise_keeps an_entry t s roomy after is h
+
+-- a decide after room was made
+pub entered_keeps : (t : ℕ) (reply : List ℕ) (s roomy after : ShareView) → roomy ≡ with_room s → IsEntered t reply roomy after → IsEntered t reply s after
+entered_keeps t reply s roomy after is (inl h) = inl (rise_keeps an_entry t s roomy after is h)
+entered_keeps t reply s roomy after is (inr h) = inr (rise_keeps a_full_journal t s roomy after is h.0, h.1)
+
+-- room alone counts nothing
+pub spends_nothing : (t : ℕ) (s roomy : ShareView) → roomy ≡ with_room s → Rises nothing t s roomy
+spends_nothing t s roomy is = subst (λ (r : ShareView). Rises nothing t s r) (sym is) (room_rises t s)
 
 -- ---- a decide
 

@@ -3,9 +3,10 @@
 ghost use Rattle.std.specs.Prelude.{◌≡◌, ◌+◌, ◌<◌, ◌≤◌, ◌^◌, ◌↔◌, true, false, is_ok, Some};
 ghost use Rattle.common_types.specs.Token.{is_token};
 ghost use Rattle.ilp_view.specs.Reading.{prepare_at};
-ghost use Rattle.floor_core.specs.Work.{IsWaiting, tenant_in};
+ghost use Rattle.floor_core.specs.Work.{IsWaiting, loaded, tenant_in};
 ghost use Rattle.floor_core.specs.Work.Job.{NoJob};
-ghost use Rattle.books_shared.specs.Turns.{IsLeft, IsEnded};
+ghost use Rattle.books_shared.specs.Turns.{IsEnded, IsLeft, IsLoaded};
+ghost use Rattle.workers.specs.Carrying.{IsAnswered, IsCarried, IsDecided, WasExchanged, closed};
 ghost use Rattle.workers.specs.Counting.{HasCounted, HasDecided, HasSettled, reply_tallied, tallied};
 ghost use Rattle.workers.specs.Replies.{IsOfPrepare, IsOver, IsSentSo, WasSent, sends_of};
 ghost use Rattle.workers.specs.declared.reply.Reply.TheVariants as reply;
@@ -34,6 +35,10 @@ pub struct Job<'a> {
 /// the link sends it; and the book settles what came back, under its lock again. No lock is held while the gate is passed,
 /// after each of these steps, or while the link sends. The slot is idle in the end.
 ///
+/// By the reply (`IsCarried`), the packet was judged by a book of the tenant that was sound at that moment; where the verdict
+/// was to send it on, what was sent is the packet with the verdict's amount and expiry, to the target of the verdict's peer;
+/// and the sender is told what the book made of it, or of what came back.
+///
 /// The reply's status is counted for the tenant, and a fault of the link too, unless the seat's count of it is full. What
 /// the sender is told is the slot's reply where the status is 200, and nothing where it is 503.
 pub fn carry<R: Wait, L: Link, G: Gate, C: Clock>(
@@ -59,13 +64,15 @@ pub fn carry<R: Wait, L: Link, G: Gate, C: Clock>(
     ensures sends { L.sent link.new ≡ L.sent link.old + sends_of result }
     ensures sent { IsSentSo result job.entry.tenant
         (λ sending. L.sends_so link.old sending link.new) (link.new ≡ link.old) }
+    ensures carried { IsCarried result job.entry.tenant
+        (loaded slot.old job.entry.tenant job.entry.token.now job.entry.frame.now) slot.new
+        (λ sending. L.sends_so link.old sending link.new) }
     ensures seat { seat.new ≡ reply_tallied job.entry.tenant result seat.old }
+    ensures same_meters { seat.new.meters ≡ seat.old.meters }
     ensures idle { slot.new.job ≡ NoJob }
 {
     let reply = carried(rt, books, slot, share, link, gate, clock, job);
-    if reply.status() == Status::Unavailable {
-        slot.clear();
-    }
+    close(slot, reply);
     tally(meters, seat, job.tenant, reply.status().kind());
     if reply.got() == Some(Got::Fault) {
         tally(meters, seat, job.tenant, Kind::LinkFault);
@@ -73,11 +80,21 @@ pub fn carry<R: Wait, L: Link, G: Gate, C: Clock>(
     reply
 }
 
+// Drops the call of the slot where the answer is that nothing was to be had.
+fn close(slot: &mut Slot, reply: Reply)
+    ensures { slot.new ≡ closed reply slot.old }
+{
+    if reply.status() == Status::Unavailable {
+        slot.clear();
+    }
+}
+
 // Counts one of a kind, unless the count is full.
 pub(crate) fn tally(meters: &Meters, seat: &mut MeterSeat, tenant: usize, kind: Kind)
     requires seat { seat.old.meters ≡ meters.now.id }
     requires tenant { tenant < meters.now.tenants }
-    ensures { seat.new ≡ tallied tenant kind seat.old }
+    ensures seat { seat.new ≡ tallied tenant kind seat.old }
+    ensures same_meters { seat.new.meters ≡ seat.old.meters }
 {
     let _ = meters.count(seat, tenant, kind);
 }
@@ -102,6 +119,9 @@ fn carried<R: Wait, L: Link, G: Gate, C: Clock>(
     ensures sends { L.sent link.new ≡ L.sent link.old + sends_of result }
     ensures sent { IsSentSo result job.entry.tenant
         (λ sending. L.sends_so link.old sending link.new) (link.new ≡ link.old) }
+    ensures carried { IsCarried result job.entry.tenant
+        (loaded slot.old job.entry.tenant job.entry.token.now job.entry.frame.now) (closed result slot.new)
+        (λ sending. L.sends_so link.old sending link.new) }
     ensures over { IsOver result slot.new.job }
 {
     match slot.load(job.tenant, job.token, job.frame) {
@@ -126,12 +146,15 @@ fn exchanged<R: Wait, L: Link, G: Gate, C: Clock>(
     tenant: usize,
 ) -> Reply
     requires books { tenant < books.now.tenants }
-    requires loaded { tenant_in slot.old.job ≡ Some tenant }
+    requires loaded { IsLoaded slot.old.job }
+    requires tenant { tenant_in slot.old.job ≡ Some tenant }
     ensures loaded { IsOfPrepare result }
     ensures counted { HasCounted result tenant slot.new.reply share.old share.new }
     ensures sends { L.sent link.new ≡ L.sent link.old + sends_of result }
     ensures sent { IsSentSo result tenant
         (λ sending. L.sends_so link.old sending link.new) (link.new ≡ link.old) }
+    ensures carried { IsCarried result tenant slot.old (closed result slot.new)
+        (λ sending. L.sends_so link.old sending link.new) }
     ensures over { IsOver result slot.new.job }
 {
     if link.sends() >= MAX_SENDS || share.make_room(None).is_err() {
@@ -166,12 +189,15 @@ fn decide<R: Wait, C: Clock>(
     tenant: usize,
 ) -> Turn
     requires books { tenant < books.now.tenants }
-    requires loaded { tenant_in slot.old.job ≡ Some tenant }
+    requires loaded { IsLoaded slot.old.job }
+    requires tenant { tenant_in slot.old.job ≡ Some tenant }
     requires room { 1 < share.old.room }
     ensures counted { HasDecided result tenant slot.new.reply share.old share.new }
+    ensures decided { IsDecided result tenant slot.old slot.new }
     ensures left { IsLeft result slot.old slot.new }
     ensures room { 0 < share.new.room }
 {
+    slot.is_work();
     let mut guard = books.enter(rt, tenant);
     guard.decide(share, slot, clock.now())
 }
@@ -181,6 +207,8 @@ fn send<L: Link>(slot: &mut Slot, link: &mut L, tenant: usize) -> Got
     requires waits { IsWaiting slot.old.job }
     requires few { L.sent link.old < 2 ^ 62 }
     ensures sent { WasSent result tenant (λ sending. L.sends_so link.old sending link.new) }
+    ensures exchanged { WasExchanged tenant slot.old result slot.new
+        (λ sending. L.sends_so link.old sending link.new) }
     ensures sends { L.sent link.new ≡ L.sent link.old + 1 }
     ensures job { slot.new.job ≡ slot.old.job }
 {
@@ -199,9 +227,11 @@ fn answer<R: Wait, C: Clock>(
     got: Got,
 ) -> Turn
     requires books { tenant < books.now.tenants }
+    requires waits { IsWaiting slot.old.job }
     requires tenant { tenant_in slot.old.job ≡ Some tenant }
     requires room { 0 < share.old.room }
     ensures counted { HasSettled result tenant share.old share.new }
+    ensures answered { IsAnswered result tenant got slot.old slot.new }
     ensures ended { IsEnded result slot.old slot.new }
 {
     let mut guard = books.enter(rt, tenant);

@@ -1,6 +1,7 @@
 //! One command of an operator, done.
 
 ghost use Rattle.std.specs.Prelude.{◌≡◌, ◌<◌};
+ghost use Rattle.workers.specs.Carrying.{IsDone};
 ghost use Rattle.workers.specs.Counting.{Rises, command_kind, command_rise, tallied};
 
 use crate::carrying::tally;
@@ -30,6 +31,8 @@ pub enum GovernFault {
 /// counts it through a seat of these meters, unless the seat's count is full: as answered, also where the book refuses it;
 /// or as unavailable where the fault is `Spent`, `Stray` or want of memory.
 ///
+/// What is answered, or refused, is what a book of the tenant that was sound answers to this command (`IsDone`).
+///
 /// The errors are, in the order in which they are looked for: `Spent`, `Stray`, and what `Book::command` refuses. Nothing
 /// has changed then in the book and in the share's counts.
 pub fn govern<R: Wait, C: Clock>(
@@ -46,8 +49,10 @@ pub fn govern<R: Wait, C: Clock>(
     requires seat { seat.old.meters ≡ meters.now.id }
     requires books { tenant < books.now.tenants }
     requires meters { tenant < meters.now.tenants }
+    ensures done { IsDone result tenant command.now }
     ensures counted { Rises (command_rise result) tenant share.old share.new }
     ensures seat { seat.new ≡ tallied tenant (command_kind result) seat.old }
+    ensures same_meters { seat.new.meters ≡ seat.old.meters }
 {
     let answer = commanded(rt, alloc, books, share, clock, tenant, command);
     tally(meters, seat, tenant, kind_of(&answer));
@@ -75,7 +80,8 @@ fn commanded<R: Wait, C: Clock>(
     command: &Command,
 ) -> Result<Answered, GovernFault>
     requires { tenant < books.now.tenants }
-    ensures { Rises (command_rise result) tenant share.old share.new }
+    ensures done { IsDone result tenant command.now }
+    ensures counted { Rises (command_rise result) tenant share.old share.new }
 {
     if share.make_room(Some(command)).is_err() {
         return Err(GovernFault::Spent);
@@ -84,7 +90,6 @@ fn commanded<R: Wait, C: Clock>(
     if guard.book().tenant() != tenant {
         return Err(GovernFault::Stray);
     }
-    guard
-        .command(alloc, share, command, clock.now())
-        .map_err(GovernFault::Refused)
+    let answer = guard.command(alloc, share, command, clock.now());
+    answer.map_err(GovernFault::Refused)
 }

@@ -6,6 +6,8 @@ mod carrying;
 mod governing;
 mod lanes;
 mod reply;
+#[cfg(test)]
+mod tests;
 mod traits;
 
 pub use carrying::{Job, carry};
