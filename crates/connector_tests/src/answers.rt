@@ -1,10 +1,10 @@
 //! Packets that come back, and packets that are overdue: the sender is told once, and each hold ends once.
 
-use crate::rows::{Row, expect_rows, filled, written};
-use crate::setups::setup_with;
+use crate::rows::{Row, expect_rows, written};
 use std::alloc::Global;
 use std::process::Abort;
 use std::test::Fail;
+use test_texts::{filled, setup_with};
 
 static ANSWERS: [Row; 11] = [
     Row {

@@ -1,11 +1,11 @@
 //! Many tenants and many workers, through replays.
 
-use crate::rows::{Row, expect_rows, expect_rows_by, filled, written_by};
-use crate::setups::{PEER, RATE, ROUTE, TENANT};
+use crate::rows::{Row, expect_rows, expect_rows_by, written_by};
 use admin_text::{SetupFault, read_setup};
 use common_types::ReadError;
 use std::alloc::{AllocError, Global};
 use std::test::Fail;
+use test_texts::{PEER, RATE, ROUTE, TENANT, filled};
 
 static TENANTS: [Row; 4] = [
     Row {

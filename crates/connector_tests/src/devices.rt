@@ -1,12 +1,11 @@
 //! Replays over devices that give and take one byte at a time and fail in mid-stream.
 
-use crate::rows::filled;
-use crate::setups::setup_with;
 use oer_core::Device;
 use replay_text::{ReplayFault, replay};
 use std::io;
 use std::io::{ErrorKind, Read, Write};
 use std::test::Fail;
+use test_texts::{filled, setup_with};
 
 /// Gives one byte at a time, and fails once that many were given.
 #[derive(Drop)]

@@ -1,10 +1,10 @@
 //! Replays of whole scripts: what is loaded, what is malformed, and what goes on.
 
 use crate::rows::{Row, expect_rows, written};
-use crate::setups::{Line, setup_with};
 use admin_text::SetupFault;
 use replay_text::{ReplayFault, ScriptFault};
 use std::test::Fail;
+use test_texts::{Line, setup_with};
 
 static ROWS: [Row; 19] = [
     Row {

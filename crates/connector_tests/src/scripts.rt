@@ -59,15 +59,31 @@ static SCRIPTS: [(&str, usize, usize); 43] = [
     ("do acme 0 settle in bob 0\n", 1, 1),
 ];
 
+fn fault_of(
+    alloc: Global,
+    names: &[Name],
+    workers: usize,
+    script: &str,
+) -> Option<ReadError<ScriptFault>> {
+    parse_script(alloc, names, workers, script.as_bytes()).err()
+}
+
 #[test]
 fn scripts_name_their_first_bad_line(rt: HostRuntime) -> Result<(), Fail> {
     let alloc = rt.alloc();
     let names = acme(alloc)?;
-    for (script, workers, line) in SCRIPTS {
-        let found = parse_script(alloc, names.as_slice(), workers, script.as_bytes()).err();
-        let fault = (line != 0).then_some(ReadError::Fault(ScriptFault::Line(line)));
+    for (script, workers, line) in &SCRIPTS {
+        let found = fault_of(alloc, names.as_slice(), *workers, script);
+        let fault = (*line != 0).then_some(ReadError::Fault(ScriptFault::Line(*line)));
         assert!(rt; found == fault, "{script:?}");
     }
+    Ok(())
+}
+
+#[test]
+fn a_good_script_has_its_steps(rt: HostRuntime) -> Result<(), Fail> {
+    let alloc = rt.alloc();
+    let names = acme(alloc)?;
     let text = b"load 1 acme tok 0cFf\ndecide 1 77\n";
     match parse_script(alloc, names.as_slice(), 2, text)?.as_slice() {
         [

@@ -1,8 +1,8 @@
 //! Each check of a packet, through a replay.
 
 use crate::rows::{Row, expect_rows};
-use crate::setups::{ABSENT, PEER, RATE, ROUTE};
 use std::test::Fail;
+use test_texts::{ABSENT, PEER, RATE, ROUTE};
 
 // Caps, buckets, ceilings and credits.
 static LIMITS: [Row; 20] = [

@@ -4,8 +4,6 @@ ghost use Rattle.std.specs.Prelude.{All};
 ghost use Rattle.std.specs.Bool.{OnTrue};
 ghost use Rattle.floor_core.specs.FloorView.{Fits};
 
-use crate::rows::filled;
-use crate::setups::{Line, setup_with};
 use admin_text::read_setup;
 use common_types::Bytes;
 use floor_core::{Floor, Given, Output, Step};
@@ -15,6 +13,7 @@ use std::process::Abort;
 use std::str;
 use std::test::Fail;
 use tenant_core::{Answered, Command, TenantSetup};
+use test_texts::{Line, filled, setup_with};
 
 // 2030-01-01T00:00:00Z, when the books begin.
 const START: u64 = 1_893_456_000_000;
@@ -31,9 +30,11 @@ static BETA: [Line; 3] = [
 
 const TO_BETA: &str = "0c4700000000000003e8{until 10 s}{condition}0c672e626574612e626f622e7800";
 
-// A packet of a worker for a tenant, by the token of alice, and what it puts out.
+// A step of a worker for a tenant, and what it puts out. A packet comes by the token of alice, or the packet `base`
+// for acme to the first worker by another token.
 enum Row {
     Load(usize, usize, &'static str, &'static str),
+    Show(&'static [u8], &'static str),
     Decide(usize, &'static str),
     Answer(usize, &'static str, &'static str),
     Lost(usize, &'static str),
@@ -50,21 +51,29 @@ fn moment(millis: u64) -> Result<Moment, Fail> {
     Ok(Moment::new(millis).ok_or("a moment")?)
 }
 
+fn load(
+    alloc: Global,
+    worker: usize,
+    tenant: usize,
+    token: &[u8],
+    text: &str,
+) -> Result<Step, Fail> {
+    Ok(Step::Load {
+        worker,
+        tenant,
+        token: Bytes::from_vec(Vec::from_slice(alloc, token)?),
+        bytes: bytes(alloc, text)?,
+    })
+}
+
 // The step of a row, and the text of its output.
 fn step_of(alloc: Global, row: &Row) -> Result<(Step, &'static str), Fail> {
     let now = moment(START)?;
     Ok(match *row {
         Row::Load(worker, tenant, text, output) => {
-            let token = Bytes::from_vec(Vec::from_slice(alloc, b"tok-alice")?);
-            let bytes = bytes(alloc, text)?;
-            let step = Step::Load {
-                worker,
-                tenant,
-                token,
-                bytes,
-            };
-            (step, output)
+            (load(alloc, worker, tenant, b"tok-alice", text)?, output)
         }
+        Row::Show(token, output) => (load(alloc, 0, 0, token, "{base}")?, output),
         Row::Decide(worker, output) => (Step::Decide { worker, now }, output),
         Row::Answer(worker, text, output) => {
             let given = Given::Bytes(bytes(alloc, text)?);
@@ -244,4 +253,47 @@ fn two_tenants_apart(rt: HostRuntime) -> Result<(), Fail> {
     let alloc = rt.alloc();
     let mut floor = floor_of(alloc, &ACME, &BETA)?;
     expect_rows(&rt, alloc, &mut floor, &APART)
+}
+
+// No byte, 65 bytes, and bytes beside those that tokens have: nothing is taken in hand, and no call has a number.
+static TOKENS: [Row; 26] = [
+    Row::Show(b"", "0 bad Token"),
+    Row::Decide(0, "idle"),
+    Row::Show(
+        b"aaaaaaaaaaaaaaaaaaaaaaaaaaaaaaaaaaaaaaaaaaaaaaaaaaaaaaaaaaaaaaaaa",
+        "0 bad Token",
+    ),
+    Row::Decide(0, "idle"),
+    Row::Show(b"tok alice", "0 bad Token"),
+    Row::Decide(0, "idle"),
+    Row::Show(b"tok-alice\n", "0 bad Token"),
+    Row::Decide(0, "idle"),
+    Row::Show(b"\0", "0 bad Token"),
+    Row::Show(b"*", "0 bad Token"),
+    Row::Show(b",", "0 bad Token"),
+    Row::Show(b":", "0 bad Token"),
+    Row::Show(b"@", "0 bad Token"),
+    Row::Show(b"[", "0 bad Token"),
+    Row::Show(b"^", "0 bad Token"),
+    Row::Show(b"`", "0 bad Token"),
+    Row::Show(b"{", "0 bad Token"),
+    Row::Show(b"}", "0 bad Token"),
+    Row::Show(b"\x7f", "0 bad Token"),
+    Row::Show(b"\xc3\xa9", "0 bad Token"),
+    Row::Decide(0, "idle"),
+    Row::Load(0, 0, "{base}", "0 loaded 0"),
+    Row::Decide(0, "0 send bob 0 {sent}"),
+    Row::Answer(0, "{fulfill}", "0 reply {fulfill}"),
+    Row::Show(
+        b"aaaaaaaaaaaaaaaaaaaaaaaaaaaaaaaaaaaaaaaaaaaaaaaaaaaaaa-._~+/=AZ9",
+        "0 loaded 1",
+    ),
+    Row::Decide(0, "0 stranger"),
+];
+
+#[test]
+fn tokens_that_are_none(rt: HostRuntime) -> Result<(), Fail> {
+    let alloc = rt.alloc();
+    let mut floor = floor_of(alloc, &[], &BETA)?;
+    expect_rows(&rt, alloc, &mut floor, &TOKENS)
 }

@@ -1,10 +1,10 @@
 //! What is wrong with a setup, in words for people: a row for each rule.
 
-use crate::setups::{ABSENT, Line, PEER, RATE, ROUTE, setup_with};
 use admin_text::explain;
 use std::alloc::Global;
 use std::process::Abort;
 use std::test::Fail;
+use test_texts::{ABSENT, Line, PEER, RATE, ROUTE, setup_with};
 
 // Changes of the usual setup, and the words for what they make wrong.
 static CHANGES: [(&[Line], &str); 52] = [
@@ -262,26 +262,56 @@ fn expect_words(rt: &impl Abort, alloc: Global, text: &[u8], words: &str) -> Res
     Ok(())
 }
 
+// Of the usual setup, so changed.
+fn expect_words_of(
+    rt: &impl Abort,
+    alloc: Global,
+    changes: &[Line],
+    words: &str,
+) -> Result<(), Fail> {
+    let text = setup_with(alloc, changes)?;
+    expect_words(rt, alloc, text.as_bytes(), words)
+}
+
+// Of a setup with these lines below its head.
+fn expect_words_below(
+    rt: &impl Abort,
+    alloc: Global,
+    lines: &str,
+    words: &str,
+) -> Result<(), Fail> {
+    let text = format!(in alloc; "{HEAD}{lines}\n")?;
+    expect_words(rt, alloc, text.as_bytes(), words)
+}
+
 #[test]
 fn what_is_wrong_is_said(rt: HostRuntime) -> Result<(), Fail> {
-    let alloc = rt.alloc();
     for (changes, words) in CHANGES {
-        let text = setup_with(alloc, changes)?;
-        expect_words(&rt, alloc, text.as_bytes(), words)?;
+        expect_words_of(&rt, rt.alloc(), changes, words)?;
     }
+    Ok(())
+}
+
+#[test]
+fn what_is_wrong_with_texts_is_said(rt: HostRuntime) -> Result<(), Fail> {
     for (tenants, words) in TEXTS {
-        let text = format!(in alloc; "{HEAD}{tenants}\n")?;
-        expect_words(&rt, alloc, text.as_bytes(), words)?;
+        expect_words_below(&rt, rt.alloc(), tenants, words)?;
     }
-    let twice = format!(in alloc; "{HEAD}{TENANT}{TENANT}")?;
+    Ok(())
+}
+
+#[test]
+fn names_of_tenants_differ(rt: HostRuntime) -> Result<(), Fail> {
+    let alloc = rt.alloc();
+    let twice = format!(in alloc; "{TENANT}{TENANT}")?;
     let words = "tenant 1 acme: name = \"acme\": tenant 0 has that name too";
-    expect_words(&rt, alloc, twice.as_bytes(), words)?;
-    expect_words(
-        &rt,
-        alloc,
-        b"version = 1 # \xff",
-        "TOML parse error at line 1, column 15: invalid UTF-8",
-    )
+    expect_words_below(&rt, alloc, twice.as_str(), words)
+}
+
+#[test]
+fn setups_are_utf_8(rt: HostRuntime) -> Result<(), Fail> {
+    let words = "TOML parse error at line 1, column 15: invalid UTF-8";
+    expect_words(&rt, rt.alloc(), b"version = 1 # \xff", words)
 }
 
 // What may stand at a key that nobody reads, and whether it is TOML: what version 1.1 added to 1.0 is.

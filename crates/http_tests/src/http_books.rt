@@ -3,8 +3,6 @@
 ghost use Rattle.std.specs.Prelude.{◌≡◌, ◌≤◌, length};
 
 use crate::http_devices::{Pieces, Taken};
-use crate::rows::filled;
-use crate::setups::{Line, setup_with};
 use admin_text::read_setup;
 use floor_core::{Got, LoadFault, Slot, Turn};
 use http_link::{Served, Service, serve_one};
@@ -12,6 +10,7 @@ use ilp_addr::Moment;
 use std::alloc::{AllocError, Global};
 use std::test::Fail;
 use tenant_core::Book;
+use test_texts::{Line, filled, setup_with};
 
 // The second tenant, one of whose peers has the token of the first one's, and the other not.
 static BETA: [Line; 4] = [
@@ -25,7 +24,7 @@ const CONFIG: &str = "0c460000000000000000{until 10 s}{condition}0b706565722e636
 
 const CHILD: &str = "0d31{31 zeros}00100a672e61636d652e626f620903585250";
 
-// The bytes of a frame in hexadecimal digits and names of `rows`.
+// The bytes of a frame in hexadecimal digits and names of `test_texts`.
 fn frame(alloc: Global, text: &str) -> Result<Vec<u8>, Fail> {
     let digits = filled(alloc, text)?;
     Ok(hex::decode(alloc, digits.as_str())?)
@@ -146,7 +145,7 @@ const UNAUTHORIZED: &str =
 
 const BAD: &str = "HTTP/1.1 400 Bad Request\r\nContent-Length: 0\r\n\r\n";
 
-// A packet and its reply are in hexadecimal digits and names of `rows`.
+// A packet and its reply are in hexadecimal digits and names of `test_texts`.
 struct Exchange {
     path: &'static str,
     token: &'static str,

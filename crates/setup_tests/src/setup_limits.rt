@@ -1,10 +1,10 @@
 //! The limits of setups: each met, and then passed by one.
 
-use crate::setups::{Line, setup_with};
 use admin_text::{SetupFault, read_setup};
 use common_types::ReadError;
 use std::alloc::Global;
 use std::test::Fail;
+use test_texts::{Line, setup_with};
 
 // Whose it is, the key, the greatest value or the least, and one past it. The setup is good with the first.
 static NUMBERS: [(&str, &str, &str, &str); 26] = [
@@ -99,25 +99,31 @@ fn numbers_meet_their_limits(rt: HostRuntime) -> Result<(), Fail> {
     Ok(())
 }
 
+// The fault of the usual setup with another text in the place of that one.
+fn fault_instead(
+    alloc: Global,
+    old: &str,
+    new: &str,
+) -> Result<Option<ReadError<SetupFault>>, Fail> {
+    let old = format!(in alloc; "\"{old}\"")?;
+    let new = format!(in alloc; "\"{new}\"")?;
+    let text = setup_with(alloc, &[])?.replace(alloc, old.as_str(), new.as_str())?;
+    Ok(fault_of(alloc, text.as_str()))
+}
+
 #[test]
 fn texts_meet_their_limits(rt: HostRuntime) -> Result<(), Fail> {
     let alloc = rt.alloc();
-    let usual = setup_with(alloc, &[])?;
-    for (old, front, filling, most) in TEXTS {
-        let quoted = format!(in alloc; "\"{old}\"")?;
+    for (old, front, filling, most) in &TEXTS {
         let rest = filling.repeat(alloc, most.saturating_sub(front.len()))?;
-        let longest = format!(in alloc; "\"{front}{rest}\"")?;
-        let good = usual.replace(alloc, quoted.as_str(), longest.as_str())?;
-        assert!(rt; fault_of(alloc, good.as_str()).is_none(), "{old}: {most}");
-        let longer = format!(in alloc; "\"{front}{rest}{filling}\"")?;
-        let bad = usual.replace(alloc, quoted.as_str(), longer.as_str())?;
+        let longest = format!(in alloc; "{front}{rest}")?;
+        let found = fault_instead(alloc, old, longest.as_str())?;
+        assert!(rt; found.is_none(), "{old}: {most}");
+        let longer = format!(in alloc; "{front}{rest}{filling}")?;
         let wanted = Some(ReadError::Fault(SetupFault::Tenant(0)));
-        assert!(rt;
-            fault_of(alloc, bad.as_str()) == wanted,
-            "{old}: {most} and one"
-        );
-        let none = usual.replace(alloc, quoted.as_str(), "\"\"")?;
-        assert!(rt; fault_of(alloc, none.as_str()) == wanted, "{old}: none");
+        let found = fault_instead(alloc, old, longer.as_str())?;
+        assert!(rt; found == wanted, "{old}: {most} and one");
+        assert!(rt; fault_instead(alloc, old, "")? == wanted, "{old}: none");
     }
     Ok(())
 }

@@ -1,7 +1,7 @@
 use Rattle.std.proofs.Common.{arith, below_more, subst, ◌∙◌}
 use Rattle.std.proofs.lemmas.List.{get_or_default}
 use Rattle.floor_core.specs.FloorView.{Fits}
-use Rattle.connector_tests.proofs.floors.all_fit.Goals as goal
+use Rattle.book_tests.proofs.floors.all_fit.Goals as goal
 
 pub loop-step-preserved : goal.loop-step-preserved
 loop-step-preserved c = below_more _ _ c.loop-step.invariant (λ d.

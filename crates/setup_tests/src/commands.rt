@@ -2,6 +2,7 @@
 
 use admin_text::{TextFault, parse_command, write_command};
 use common_types::ReadError;
+use std::alloc::Global;
 use std::test::Fail;
 
 // A text, and how its command is written.
@@ -39,15 +40,19 @@ static GOOD: [(&str, &str); 16] = [
     ("roll", "roll"),
 ];
 
+fn written_again(alloc: Global, text: &[u8]) -> Result<Vec<u8>, Fail> {
+    let command = parse_command(alloc, text)?;
+    Ok(write_command(alloc, &command)?)
+}
+
 #[test]
 fn commands_written_again(rt: HostRuntime) -> Result<(), Fail> {
     let alloc = rt.alloc();
-    for (text, wanted) in GOOD {
-        let command = parse_command(alloc, text.as_bytes())?;
-        let written = write_command(alloc, &command)?;
+    for (text, wanted) in &GOOD {
+        let written = written_again(alloc, text.as_bytes())?;
         assert!(rt; written.as_slice() == wanted.as_bytes(), "{text}");
-        let again = write_command(alloc, &parse_command(alloc, written.as_slice())?)?;
-        assert!(rt; again.as_slice() == written.as_slice(), "{text}");
+        let again = written_again(alloc, written.as_slice())?;
+        assert!(rt; again.as_slice() == wanted.as_bytes(), "{text}");
     }
     Ok(())
 }

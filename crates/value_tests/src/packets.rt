@@ -2,16 +2,16 @@
 
 ghost use Rattle.std.specs.Prelude.{◌≡◌, ◌≤◌, length};
 
-use crate::rows::filled;
 use ilp_view::laws::written_frames_are_short;
 use ilp_view::{FulfillView, PrepareView, RejectView, ViewFault, write_fulfill, write_reject};
 use std::alloc::Global;
 use std::test::Fail;
+use test_texts::filled;
 
 // 2030-01-01T00:00:10Z: `date -u -d 2030-01-01T00:00:10 +%s` gives its seconds.
 const EXPIRY: u64 = 1_893_456_010_000;
 
-// The bytes of a frame in hexadecimal digits and names of `rows`.
+// The bytes of a frame in hexadecimal digits and names of `test_texts`.
 fn frame(alloc: Global, text: &str) -> Result<Vec<u8>, Fail> {
     let digits = filled(alloc, text)?;
     Ok(hex::decode(alloc, digits.as_str())?)

@@ -1,9 +1,10 @@
 //! Setups as texts: the first fault of each, and what a good one says.
 
-use crate::setups::{ABSENT, Line, RATE, ROUTE, setup_with};
 use admin_text::{SetupFault, read_setup};
 use common_types::ReadError;
+use std::alloc::Global;
 use std::test::Fail;
+use test_texts::{ABSENT, Line, RATE, ROUTE, setup_with};
 
 // Changes of the usual setup, and the fault that they bring.
 static CHANGES: [(&[Line], Option<SetupFault>); 42] = [
@@ -112,26 +113,39 @@ static SECOND_ROUTES: [(&str, &str, bool); 11] = [
     ("'test'", "'carol'", true),
 ];
 
+fn fault_of(alloc: Global, text: &[u8]) -> Option<ReadError<SetupFault>> {
+    read_setup(alloc, text).err()
+}
+
+// Of the usual setup, so changed.
+fn fault_with(alloc: Global, changes: &[Line]) -> Result<Option<ReadError<SetupFault>>, Fail> {
+    let text = setup_with(alloc, changes)?;
+    Ok(fault_of(alloc, text.as_bytes()))
+}
+
 #[test]
 fn setups_give_their_first_fault(rt: HostRuntime) -> Result<(), Fail> {
     let alloc = rt.alloc();
-    for (changes, fault) in CHANGES {
-        let text = setup_with(alloc, changes)?;
-        let found = read_setup(alloc, text.as_bytes()).err();
+    for (changes, fault) in &CHANGES {
+        let found = fault_with(alloc, changes)?;
         assert!(rt; found == fault.map(ReadError::Fault), "{changes:?}");
     }
-    for (text, fault) in TEXTS {
-        let found = read_setup(alloc, text).err();
-        assert!(rt; found == Some(ReadError::Fault(fault)), "{text:?}");
+    for (text, fault) in &TEXTS {
+        let found = fault_of(alloc, text);
+        assert!(rt; found == Some(ReadError::Fault(*fault)), "{text:?}");
     }
+    Ok(())
+}
+
+#[test]
+fn second_routes(rt: HostRuntime) -> Result<(), Fail> {
     for (prefix, peer, is_fault) in SECOND_ROUTES {
         let changes = [
             ("route after", "", ROUTE),
             ("route after", "prefix", prefix),
             ("route after", "peer", peer),
         ];
-        let text = setup_with(alloc, &changes)?;
-        let found = read_setup(alloc, text.as_bytes()).err();
+        let found = fault_with(rt.alloc(), &changes)?;
         let fault = is_fault.then_some(ReadError::Fault(SetupFault::Tenant(0)));
         assert!(rt; found == fault, "{prefix:?} to {peer}");
     }

@@ -4,11 +4,12 @@ use common_types::{AssetCode, Between, Name, Token};
 use ilp_addr::{Address, Moment, OwnAddress, Prefix, Target};
 use money_core::Rate;
 use std::alloc::Global;
+use std::process::Abort;
 use std::test::Fail;
 use tenant_core::{
-    AnswerKey, Answered, Balance, Book, BucketTerms, Command, CommandFault, HoldFault, Level,
-    Network, PeerLimits, PeerTerms, PrepareKey, RateTerms, RejectCode, Role, TenantSetup,
-    TenantTerms, Verdict, number_named,
+    AnswerKey, Answered, Balance, Book, BookFault, BucketTerms, Command, CommandFault, HoldFault,
+    Level, Network, PeerLimits, PeerTerms, Period, PrepareKey, RateTerms, RejectCode, Role,
+    TenantSetup, TenantTerms, Verdict, number_named,
 };
 
 // 2030-01-01T00:00:00Z, and the greatest moment.
@@ -178,29 +179,67 @@ fn limits_of_a_setup(rt: HostRuntime) -> Result<(), Fail> {
     Ok(())
 }
 
-#[test]
-fn limits_of_a_network(rt: HostRuntime) -> Result<(), Fail> {
-    let alloc = rt.alloc();
-    let mut network = network(alloc, USUAL, 256)?;
+fn expect_no_more_peers(rt: &impl Abort, alloc: Global, network: &mut Network) -> Result<(), Fail> {
     let full = Err(CommandFault::Limit);
-    assert!(rt; add_peer(alloc, &mut network, 256, USUAL)? == full);
+    assert!(rt; add_peer(alloc, network, 256, USUAL)? == full);
     let present = Err(CommandFault::Present);
-    assert!(rt; add_peer(alloc, &mut network, 255, USUAL)? == present);
-    // Of 65 peers, 4,096 pairs have a rate, and then one more has none.
+    assert!(rt; add_peer(alloc, network, 255, USUAL)? == present);
+    Ok(())
+}
+
+// Of 65 peers, 4,096 pairs have a rate, and then one more has none.
+fn expect_no_more_rates(rt: &impl Abort, alloc: Global, network: &mut Network) -> Result<(), Fail> {
     for pair in 0..4_096u32 {
         let from = pair / 64;
         let other = pair % 64;
         let to = if other < from { other } else { other + 1 };
-        set_rate(alloc, &mut network, from, to, (1, 1))??;
+        set_rate(alloc, network, from, to, (1, 1))??;
     }
-    assert!(rt; set_rate(alloc, &mut network, 64, 0, (1, 1))? == full);
-    assert!(rt; set_rate(alloc, &mut network, 0, 1, (2, 1))? == Ok(()));
+    let full = Err(CommandFault::Limit);
+    assert!(rt; set_rate(alloc, network, 64, 0, (1, 1))? == full);
+    assert!(rt; set_rate(alloc, network, 0, 1, (2, 1))? == Ok(()));
+    Ok(())
+}
+
+fn expect_no_more_routes(
+    rt: &impl Abort,
+    alloc: Global,
+    network: &mut Network,
+) -> Result<(), Fail> {
     for route in 1..4_096u32 {
         let prefix = format!(in alloc; "g.r{route}")?;
-        add_route(alloc, &mut network, prefix.as_bytes(), b"p0")??;
+        add_route(alloc, network, prefix.as_bytes(), b"p0")??;
     }
-    assert!(rt; add_route(alloc, &mut network, b"g.one-more", b"p0")? == full);
-    assert!(rt; add_route(alloc, &mut network, b"g.r1", b"p0")? == present);
+    let full = Err(CommandFault::Limit);
+    assert!(rt; add_route(alloc, network, b"g.one-more", b"p0")? == full);
+    let present = Err(CommandFault::Present);
+    assert!(rt; add_route(alloc, network, b"g.r1", b"p0")? == present);
+    Ok(())
+}
+
+#[test]
+fn limits_of_a_network(rt: HostRuntime) -> Result<(), Fail> {
+    let alloc = rt.alloc();
+    let mut network = network(alloc, USUAL, 256)?;
+    expect_no_more_peers(&rt, alloc, &mut network)?;
+    expect_no_more_rates(&rt, alloc, &mut network)?;
+    expect_no_more_routes(&rt, alloc, &mut network)
+}
+
+// A peer that comes, has this number, and goes.
+fn expect_number(
+    rt: &impl Abort,
+    alloc: Global,
+    network: &mut Network,
+    number: u32,
+) -> Result<(), Fail> {
+    add_peer(alloc, network, 0, USUAL)??;
+    let found = number_named(network, &name(b"p0")?).ok_or("the peer")?;
+    assert!(rt; u32::from(found) == number);
+    if network.routes().names_peer(found) {
+        panic!(rt; "no route leads to it");
+    }
+    network.remove_peer(found);
     Ok(())
 }
 
@@ -209,13 +248,7 @@ fn numbers_of_peers_are_never_used_again(rt: HostRuntime) -> Result<(), Fail> {
     let alloc = rt.alloc();
     let mut network = Network::new(alloc);
     for number in 0..65_535u32 {
-        add_peer(alloc, &mut network, 0, USUAL)??;
-        let found = number_named(&network, &name(b"p0")?).ok_or("the peer")?;
-        assert!(rt; u32::from(found) == number);
-        if network.routes().names_peer(found) {
-            panic!(rt; "no route leads to it");
-        }
-        network.remove_peer(found);
+        expect_number(&rt, alloc, &mut network, number)?;
     }
     let used_up = Err(CommandFault::Limit);
     assert!(rt; add_peer(alloc, &mut network, 0, USUAL)? == used_up);
@@ -554,20 +587,29 @@ static RATES: [((u64, u64), u64, Wanted); 5] = [
     ),
 ];
 
+fn expect_verdicts(rt: &impl Abort, book: &mut Book, packets: &Packets) -> Result<(), Fail> {
+    let title = packets.title;
+    for (amount, expiry, now, wanted) in packets.steps {
+        let found = decide(book, *amount, *expiry, *now)?;
+        assert!(rt; found == verdict(*wanted), "{title}: {amount} at {now}");
+    }
+    assert!(rt; book.entries() == packets.entries, "{title}");
+    Ok(())
+}
+
+fn first_verdict(alloc: Global, rate: (u64, u64), amount: u64) -> Result<Verdict, Fail> {
+    let mut book = book(alloc, 4, Agreed { rate, ..GREATEST }, 0)?;
+    decide(&mut book, amount, 30_000, 0)
+}
+
 #[test]
 fn packets_at_the_bounds_of_what_was_agreed(rt: HostRuntime) -> Result<(), Fail> {
     for packets in &PACKETS {
-        let title = packets.title;
         let mut book = book(rt.alloc(), packets.journal, packets.agreed, packets.start)?;
-        for (amount, expiry, now, wanted) in packets.steps {
-            let found = decide(&mut book, *amount, *expiry, *now)?;
-            assert!(rt; found == verdict(*wanted), "{title}: {amount} at {now}");
-        }
-        assert!(rt; book.entries() == packets.entries, "{title}");
+        expect_verdicts(&rt, &mut book, packets)?;
     }
     for (rate, amount, wanted) in RATES {
-        let mut book = book(rt.alloc(), 4, Agreed { rate, ..GREATEST }, 0)?;
-        let found = decide(&mut book, amount, 30_000, 0)?;
+        let found = first_verdict(rt.alloc(), rate, amount)?;
         assert!(rt; found == verdict(wanted), "{amount} at {rate:?}");
     }
     Ok(())
@@ -601,6 +643,21 @@ fn send(book: &mut Book, now: u64) -> Result<Verdict, Fail> {
     };
     let now = Moment::new(now).ok_or("a moment")?;
     Ok(book.decide(b"p0", &key, now))
+}
+
+fn answer(
+    book: &mut Book,
+    hold: u64,
+    now: u64,
+    key: AnswerKey,
+) -> Result<Result<Verdict, HoldFault>, Fail> {
+    let now = Moment::new(now).ok_or("a moment")?;
+    Ok(book.answer(hold, now, key))
+}
+
+fn tick(book: &mut Book, now: u64) -> Result<Result<u32, BookFault>, Fail> {
+    let now = Moment::new(now).ok_or("a moment")?;
+    Ok(book.tick(now))
 }
 
 /// What comes back for a packet of 1,000 units that goes on as 1,500, when, and whether a tick comes just before:
@@ -681,46 +738,90 @@ static RETURNS: [Return; 8] = [
     },
 ];
 
+fn expect_sent(rt: &impl Abort, book: &mut Book) -> Result<(), Fail> {
+    let sent = send(book, START)?;
+    assert!(rt; sent == verdict(Wanted::Forwarded(0, 1_500, START + 29_000)));
+    assert!(rt; owed_and_held(book)? == (0, 0, 1_000, 1_500));
+    Ok(())
+}
+
+// Nothing is held any more, and a second tick marks nothing.
+fn expect_marked(rt: &impl Abort, book: &mut Book) -> Result<(), Fail> {
+    assert!(rt; tick(book, START + 29_000)? == Ok(1));
+    assert!(rt; owed_and_held(book)? == (0, 0, 0, 0));
+    assert!(rt; tick(book, START + 29_000)? == Ok(0));
+    Ok(())
+}
+
+// No other hold is answered, and this one is once.
+fn expect_answered(rt: &impl Abort, book: &mut Book, row: &Return) -> Result<(), Fail> {
+    let title = row.title;
+    let none = Err(HoldFault::NoSuchHold);
+    let wanted = match row.verdict {
+        Ok(()) => Verdict::Relay,
+        Err(code) => verdict(Wanted::Refused(code)),
+    };
+    assert!(rt; answer(book, 1, row.at, row.key)? == none, "{title}");
+    assert!(rt; answer(book, 0, row.at, row.key)? == Ok(wanted), "{title}");
+    assert!(rt; answer(book, 0, row.at, row.key)? == none, "{title}");
+    Ok(())
+}
+
+fn expect_return(rt: &impl Abort, book: &mut Book, row: &Return) -> Result<(), Fail> {
+    let title = row.title;
+    expect_sent(rt, book)?;
+    if row.is_marked {
+        expect_marked(rt, book)?;
+    }
+    expect_answered(rt, book, row)?;
+    let (sender, receiver) = row.owed;
+    assert!(rt; owed_and_held(book)? == (sender, receiver, 0, 0), "{title}");
+    let entries = if row.is_marked { 4 } else { 2 };
+    assert!(rt; book.entries() == entries, "{title}");
+    assert!(rt; book.period() == 0, "{title}");
+    Ok(())
+}
+
 #[test]
 fn what_is_held_moves_once_on_both_sides(rt: HostRuntime) -> Result<(), Fail> {
     for row in &RETURNS {
-        let title = row.title;
         let mut book = book(rt.alloc(), 8, USUAL, START)?;
-        let sent = send(&mut book, START)?;
-        assert!(rt;
-            sent == verdict(Wanted::Forwarded(0, 1_500, START + 29_000)),
-            "{title}"
-        );
-        assert!(rt; owed_and_held(&book)? == (0, 0, 1_000, 1_500), "{title}");
-        if row.is_marked {
-            let overdue = Moment::new(START + 29_000).ok_or("a moment")?;
-            assert!(rt; book.tick(overdue) == Ok(1), "{title}");
-            assert!(rt; owed_and_held(&book)? == (0, 0, 0, 0), "{title}");
-            assert!(rt; book.tick(overdue) == Ok(0), "{title}");
-        }
-        let now = Moment::new(row.at).ok_or("a moment")?;
-        let wanted = match row.verdict {
-            Ok(()) => Verdict::Relay,
-            Err(code) => verdict(Wanted::Refused(code)),
-        };
-        assert!(rt;
-            book.answer(1, now, row.key) == Err(HoldFault::NoSuchHold),
-            "{title}"
-        );
-        assert!(rt; book.answer(0, now, row.key) == Ok(wanted), "{title}");
-        assert!(rt;
-            owed_and_held(&book)? == (row.owed.0, row.owed.1, 0, 0),
-            "{title}"
-        );
-        assert!(rt;
-            book.answer(0, now, row.key) == Err(HoldFault::NoSuchHold),
-            "{title}"
-        );
-        let entries = if row.is_marked { 4 } else { 2 };
-        assert!(rt; book.entries() == entries, "{title}");
-        assert!(rt; book.period() == 0);
+        expect_return(&rt, &mut book, row)?;
     }
     Ok(())
+}
+
+// As many packets as a tenant can hold, and one more.
+fn expect_full(rt: &impl Abort, book: &mut Book) -> Result<(), Fail> {
+    for hold in 0..1_024u64 {
+        let found = decide(book, 1, START + 30_000, START)?;
+        let wanted = verdict(Wanted::Forwarded(hold, 1, START + 29_000));
+        assert!(rt; found == wanted, "hold {hold}");
+    }
+    let found = decide(book, 1, START + 30_000, START)?;
+    assert!(rt; found == verdict(Wanted::Refused(RejectCode::Busy)));
+    assert!(rt; book.entries() == 1_025);
+    Ok(())
+}
+
+// Marked ones await their answers, and count as well.
+fn expect_full_of_marked(rt: &impl Abort, book: &mut Book) -> Result<(), Fail> {
+    assert!(rt; tick(book, START + 29_000)? == Ok(1_024));
+    let found = decide(book, 1, START + 60_000, START)?;
+    assert!(rt; found == verdict(Wanted::Refused(RejectCode::Busy)));
+    let late = verdict(Wanted::Refused(RejectCode::TimedOut));
+    let answered = answer(book, 700, START + 29_000, AnswerKey::Rejected)?;
+    assert!(rt; answered == Ok(late));
+    let found = decide(book, 1, START + 60_000, START)?;
+    assert!(rt; found == verdict(Wanted::Forwarded(1_024, 1, START + 59_000)));
+    Ok(())
+}
+
+fn expect_names(rt: &impl Abort, book: &Book) {
+    assert!(rt; book.tenant() == 0);
+    assert!(rt; book.address() == b"g.acme".as_slice());
+    assert!(rt; book.peer_name(1) == Some(b"p1".as_slice()));
+    assert!(rt; book.peer_name(2).is_none());
 }
 
 #[test]
@@ -730,52 +831,101 @@ fn as_many_packets_are_held_as_a_tenant_can_hold(rt: HostRuntime) -> Result<(), 
         ..USUAL
     };
     let mut book = book(rt.alloc(), 4_096, agreed, START)?;
-    assert!(rt; book.tenant() == 0);
-    assert!(rt; book.address() == b"g.acme".as_slice());
-    assert!(rt; book.peer_name(1) == Some(b"p1".as_slice()));
-    assert!(rt; book.peer_name(2).is_none());
-    for hold in 0..1_024u64 {
-        let found = decide(&mut book, 1, START + 30_000, START)?;
-        let wanted = verdict(Wanted::Forwarded(hold, 1, START + 29_000));
-        assert!(rt; found == wanted, "hold {hold}");
+    expect_names(&rt, &book);
+    expect_full(&rt, &mut book)?;
+    expect_full_of_marked(&rt, &mut book)
+}
+
+// A command to close the period, a millisecond after the book's start.
+fn roll(alloc: Global, book: &mut Book) -> Result<Result<Answered, CommandFault>, Fail> {
+    let now = Moment::new(START + 1).ok_or("a moment")?;
+    Ok(book.command(alloc, &Command::Roll, now))
+}
+
+fn fault_of_roll(alloc: Global, book: &mut Book) -> Result<Option<CommandFault>, Fail> {
+    Ok(roll(alloc, book)?.err())
+}
+
+fn closed(alloc: Global, book: &mut Book) -> Result<Period, Fail> {
+    match roll(alloc, book)?? {
+        Answered::Rolled(period) => Ok(period),
+        Answered::Done | Answered::Balances(_) => Err(Fail::from("a period")),
     }
-    let found = decide(&mut book, 1, START + 30_000, START)?;
-    assert!(rt; found == verdict(Wanted::Refused(RejectCode::Busy)));
-    assert!(rt; book.entries() == 1_025);
-    // Marked ones await their answers, and count as well.
-    let overdue = Moment::new(START + 29_000).ok_or("a moment")?;
-    assert!(rt; book.tick(overdue) == Ok(1_024));
-    let found = decide(&mut book, 1, START + 60_000, START)?;
-    assert!(rt; found == verdict(Wanted::Refused(RejectCode::Busy)));
-    let late = verdict(Wanted::Refused(RejectCode::TimedOut));
-    assert!(rt; book.answer(700, overdue, AnswerKey::Rejected) == Ok(late));
-    let found = decide(&mut book, 1, START + 60_000, START)?;
-    assert!(rt; found == verdict(Wanted::Forwarded(1_024, 1, START + 59_000)));
+}
+
+// Whether the period is the first one of the first tenant.
+fn is_first(period: &Period) -> bool {
+    let opening = &period.opening;
+    opening.tenant == 0 && opening.period == 0 && opening.clock == START && opening.next_hold == 0
+}
+
+// What each peer owed at the end of the period, and what was held from it and for it.
+fn rows_of(alloc: Global, period: &Period) -> Result<Vec<(i64, u64, u64)>, Fail> {
+    let mut rows = Vec::new(alloc);
+    for row in period.rows.as_slice() {
+        rows.push((row.balance, row.held_in, row.held_out))?;
+    }
+    Ok(rows)
+}
+
+fn expect_period(rt: &impl Abort, alloc: Global, period: &Period) -> Result<(), Fail> {
+    assert!(rt; is_first(period));
+    assert!(rt; period.records.as_slice().len() == 3);
+    let rows = rows_of(alloc, period)?;
+    assert!(rt; rows.as_slice() == [(1_000, 0, 0), (-1_500, 0, 0)].as_slice());
+    Ok(())
+}
+
+// No period closes while a packet is held; once it is fulfilled, one does.
+fn expect_rolled(rt: &impl Abort, alloc: Global, book: &mut Book) -> Result<(), Fail> {
+    send(book, START)?;
+    assert!(rt; fault_of_roll(alloc, book)? == Some(CommandFault::InUse));
+    let settled = answer(book, 0, START + 1, AnswerKey::Fulfilled([0; 32]))?;
+    assert!(rt; settled == Ok(Verdict::Relay));
+    let period = closed(alloc, book)?;
+    expect_period(rt, alloc, &period)
+}
+
+// The next period begins with what is owed, and the number of the hold goes on.
+fn expect_next_period(rt: &impl Abort, book: &mut Book) -> Result<(), Fail> {
+    assert!(rt; book.period() == 1 && book.entries() == 0);
+    assert!(rt; owed_and_held(book)? == (1_000, -1_500, 0, 0));
+    let sent = send(book, START)?;
+    assert!(rt; sent == verdict(Wanted::Forwarded(1, 1_500, START + 29_000)));
     Ok(())
 }
 
 #[test]
 fn a_closed_period_has_its_entries(rt: HostRuntime) -> Result<(), Fail> {
-    let alloc = rt.alloc();
-    let mut book = book(alloc, 8, USUAL, START)?;
-    send(&mut book, START)?;
-    let now = Moment::new(START + 1).ok_or("a moment")?;
-    assert!(rt; book.command(alloc, &Command::Roll, now).err() == Some(CommandFault::InUse));
-    assert!(rt; book.answer(0, now, AnswerKey::Fulfilled([0; 32])) == Ok(Verdict::Relay));
-    let Answered::Rolled(period) = book.command(alloc, &Command::Roll, now)? else {
-        panic!(rt; "a period");
-    };
-    assert!(rt; period.opening.tenant == 0 && period.opening.period == 0);
-    assert!(rt; period.opening.clock == START && period.opening.next_hold == 0);
-    assert!(rt; period.records.as_slice().len() == 3);
-    let mut rows = Vec::new(alloc);
-    for row in period.rows.as_slice() {
-        rows.push((row.balance, row.held_in, row.held_out))?;
-    }
-    assert!(rt; rows.as_slice() == [(1_000, 0, 0), (-1_500, 0, 0)].as_slice());
-    assert!(rt; book.period() == 1 && book.entries() == 0);
-    assert!(rt; owed_and_held(&book)? == (1_000, -1_500, 0, 0));
-    let sent = send(&mut book, START)?;
-    assert!(rt; sent == verdict(Wanted::Forwarded(1, 1_500, START + 29_000)));
+    let mut book = book(rt.alloc(), 8, USUAL, START)?;
+    expect_rolled(&rt, rt.alloc(), &mut book)?;
+    expect_next_period(&rt, &mut book)
+}
+
+fn expect_fulfilled(rt: &impl Abort, book: &mut Book) -> Result<(), Fail> {
+    expect_sent(rt, book)?;
+    let settled = answer(book, 0, START, AnswerKey::Fulfilled([0; 32]))?;
+    assert!(rt; settled == Ok(Verdict::Relay));
     Ok(())
+}
+
+// The copy has what the book had, and what is then done to it does not show in the book.
+fn expect_apart(rt: &impl Abort, copy: &mut Book, book: &Book) -> Result<(), Fail> {
+    assert!(rt; owed_and_held(copy)? == (1_000, -1_500, 0, 0));
+    assert!(rt; copy.entries() == 2);
+    assert!(rt; tick(copy, START)? == Ok(0));
+    assert!(rt; copy.entries() == 3 && book.entries() == 2);
+    Ok(())
+}
+
+fn expect_copied(rt: &impl Abort, alloc: Global, book: &Book) -> Result<(), Fail> {
+    let mut copy = book.copy(alloc)?;
+    expect_apart(rt, &mut copy, book)
+}
+
+#[test]
+fn a_copy_has_what_the_book_had(rt: HostRuntime) -> Result<(), Fail> {
+    let mut book = book(rt.alloc(), 8, USUAL, START)?;
+    expect_fulfilled(&rt, &mut book)?;
+    expect_copied(&rt, rt.alloc(), &book)
 }

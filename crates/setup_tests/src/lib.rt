@@ -1,0 +1,11 @@
+//! Tests of setups, of what is said of bad ones, and of the text of commands, as tables of cases.
+#![tactic(auto)]
+
+#[cfg(test)]
+mod commands;
+#[cfg(test)]
+mod setup_limits;
+#[cfg(test)]
+mod setup_texts;
+#[cfg(test)]
+mod setup_words;

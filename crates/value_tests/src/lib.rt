@@ -1,0 +1,20 @@
+//! Tests of single values through public functions, as tables of cases: lengths, addresses, targets, packets,
+//! configurations, prices, routes and counts.
+#![tactic(auto)]
+
+#[cfg(test)]
+mod addresses;
+#[cfg(test)]
+mod ildcp;
+#[cfg(test)]
+mod lengths;
+#[cfg(test)]
+mod packets;
+#[cfg(test)]
+mod prices;
+#[cfg(test)]
+mod routes;
+#[cfg(test)]
+mod seats;
+#[cfg(test)]
+mod targets;
