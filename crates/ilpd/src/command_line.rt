@@ -1,6 +1,7 @@
 //! The command line.
 
-ghost use Rattle.std.specs.Prelude.{◌≤◌, IfOk};
+ghost use Rattle.std.specs.Prelude.{◌≡◌, ◌≤◌, IfOk};
+ghost use Rattle.ilpd.specs.CommandLine.{IsBounded};
 
 use clap::{Arg, ArgAction, ArgMatches, Command, Error, value_parser};
 use std::alloc::{AllocError, Global};
@@ -12,20 +13,31 @@ pub enum Task {
     Replay,
     /// To say whether it is good.
     Check,
+    /// To serve so many connections on each worker's thread.
+    Serve { rounds: u32 },
 }
 
-/// The most workers of a replay.
+/// The most workers.
 const MAX_WORKERS: usize = 64;
 
-/// What the command line asks for, the file of the setup, and how many workers a replay has.
+/// The most connections of a worker.
+const MAX_ROUNDS: u32 = 1_000_000;
+
+/// What the command line asks for, the file of the setup, how many workers there are, and the address that a service
+/// listens on.
 #[derive(Drop)]
 pub struct CommandLine<'a> {
     pub task: Task,
     pub setup: &'a str,
     pub workers: usize,
+    pub address: &'a str,
 }
 
-const USAGE: &str = "ilpd replay SETUP [--workers W] < SCRIPT\n       ilpd check SETUP";
+/// The address that a service listens on where the command line names none.
+const ADDRESS: &str = "127.0.0.1:7768";
+
+const USAGE: &str = "ilpd replay SETUP [--workers W] < SCRIPT\n       ilpd check SETUP\n       \
+ilpd serve SETUP --workers W --rounds N [--listen ADDR]";
 
 const WHERE: &str =
     "docs/FORMATS.md describes setups, scripts and what is printed; examples/ has some of each";
@@ -60,6 +72,36 @@ fn check_of<'a>(alloc: Global) -> Result<Command<'a>, AllocError> {
         .arg(setup_of(alloc))
 }
 
+fn serve_of<'a>(alloc: Global) -> Result<Command<'a>, AllocError> {
+    let workers = Arg::new(alloc, "workers")
+        .long("workers")
+        .value_name("W")
+        .help("How many threads serve, 1 to 64")
+        .required(true)
+        .value_parser(value_parser!(u64).range(1..=64));
+    let rounds = Arg::new(alloc, "rounds")
+        .long("rounds")
+        .value_name("N")
+        .help("How many connections each of them serves before the program ends, 1 to 1000000")
+        .required(true)
+        .value_parser(value_parser!(u64).range(1..=1_000_000));
+    let listen = Arg::new(alloc, "listen")
+        .long("listen")
+        .value_name("ADDR")
+        .help("The address to listen on: an IP address and a port")
+        .default_value(ADDRESS);
+    Command::new(alloc, "serve")
+        .about(
+            "Serves packets and commands over HTTP, and prints in the end how many were answered how",
+        )
+        .override_usage("ilpd serve SETUP --workers W --rounds N [--listen ADDR]")
+        .after_help("Example: ilpd serve examples/s1.toml --workers 4 --rounds 1000000")
+        .arg(setup_of(alloc))?
+        .arg(workers)?
+        .arg(rounds)?
+        .arg(listen)
+}
+
 // How many workers there are, 1 where nothing is said.
 fn workers_of(words: &ArgMatches<'_>) -> usize
     ensures least { 1 ≤ result }
@@ -71,13 +113,62 @@ fn workers_of(words: &ArgMatches<'_>) -> usize
     }
 }
 
-/// Reads the words of `ilpd replay SETUP [--workers W]` or `ilpd check SETUP`, the program's name first. W is 1 to 64,
-/// and 1 where it is left out.
+// How many connections each worker serves.
+fn rounds_of(matches: &ArgMatches<'_>) -> u32
+    ensures least { 1 ≤ result }
+    ensures most { result ≤ 1_000_000 }
+{
+    match matches.get_one::<u32>("rounds") {
+        Some(rounds) if 1 <= rounds && rounds <= MAX_ROUNDS => rounds,
+        _ => 1,
+    }
+}
+
+// A line with the setup that the words name.
+fn line_of<'a>(
+    task: Task,
+    words: &ArgMatches<'a>,
+    workers: usize,
+    address: &'a str,
+) -> CommandLine<'a>
+    ensures task { result.task ≡ task }
+    ensures workers { result.workers ≡ workers }
+{
+    CommandLine {
+        task,
+        setup: words.get_str("SETUP").unwrap_or(""),
+        workers,
+        address,
+    }
+}
+
+// What the words of a subcommand ask for.
+fn line_in<'a>(matches: &ArgMatches<'a>) -> CommandLine<'a>
+    ensures least { 1 ≤ result.workers }
+    ensures most { result.workers ≤ 64 }
+    ensures rounds { IsBounded result.task }
+{
+    match matches.subcommand() {
+        Some(("check", check)) => line_of(Task::Check, check, 1, ADDRESS),
+        Some(("serve", serve)) => {
+            let rounds = rounds_of(serve);
+            let address = serve.get_str("listen").unwrap_or(ADDRESS);
+            line_of(Task::Serve { rounds }, serve, workers_of(serve), address)
+        }
+        Some((_, replay)) => line_of(Task::Replay, replay, workers_of(replay), ADDRESS),
+        None => line_of(Task::Replay, matches, 1, ADDRESS),
+    }
+}
+
+/// Reads the words of `ilpd replay SETUP [--workers W]`, `ilpd check SETUP` or
+/// `ilpd serve SETUP --workers W --rounds N [--listen ADDR]`, the program's name first. W is 1 to 64, and 1 for a replay
+/// where it is left out; N is 1 to 1,000,000; ADDR is 127.0.0.1:7768 where it is left out.
 ///
 /// The error has the text for people, of a request for help too, or says that memory was refused.
 pub fn arguments<'a>(alloc: Global, words: &'a [String]) -> Result<CommandLine<'a>, Error>
     ensures least { IfOk result (λ line. 1 ≤ line.workers) }
     ensures most { IfOk result (λ line. line.workers ≤ 64) }
+    ensures rounds { IfOk result (λ line. IsBounded line.task) }
 {
     let command = Command::new(alloc, "ilpd")
         .about("A connector of the Interledger Protocol v4 for many operators")
@@ -85,16 +176,8 @@ pub fn arguments<'a>(alloc: Global, words: &'a [String]) -> Result<CommandLine<'
         .after_help(WHERE)
         .subcommand_required(true)
         .subcommand(replay_of(alloc)?)?
-        .subcommand(check_of(alloc)?)?;
+        .subcommand(check_of(alloc)?)?
+        .subcommand(serve_of(alloc)?)?;
     let matches = command.try_get_matches_from(words)?;
-    let (task, setup, workers) = match matches.subcommand() {
-        Some(("check", check)) => (Task::Check, check.get_str("SETUP"), 1),
-        Some((_, replay)) => (Task::Replay, replay.get_str("SETUP"), workers_of(replay)),
-        None => (Task::Replay, None, 1),
-    };
-    Ok(CommandLine {
-        task,
-        setup: setup.unwrap_or(""),
-        workers,
-    })
+    Ok(line_in(&matches))
 }

@@ -1,17 +1,35 @@
 //! The connector's program.
 #![tactic(auto)]
 
+ghost use Rattle.std.specs.Prelude.{◌≤◌};
+
+mod clock;
 mod command_line;
+mod link;
+mod office;
+mod serving;
+#[cfg(test)]
+mod serving_tests;
 #[cfg(test)]
 mod tests;
+mod timed;
+mod worker;
 
-use admin_text::explain;
+use admin_text::laws::setups;
+use admin_text::{explain, read_setup};
+use clock::SystemClock;
 use command_line::{Task, arguments};
+use common_types::ReadError;
 use oer_core::Counted;
 pub use replay_text::{ReplayFault, replay};
+pub use serving::{ServeFault, serve};
 use std::io::ErrorKind;
+use std::net::{Net, SocketAddr, TcpListener, TcpStream};
 use std::process::ExitCode;
 use std::rt::{Env, Files};
+use std::sync::Wait;
+use std::thread::Threads;
+use std::time::Clock;
 use std::{env, fs, io};
 
 /// Why the program ended early.
@@ -42,7 +60,62 @@ fn check(rt: &(impl Print + AllocGlobal), setup: &[u8]) -> Result<(), Ending> {
     }
 }
 
-fn run(rt: &(impl Env + Files + Input + Print + AllocGlobal)) -> Result<(), Ending> {
+// Serves the setup on an address, which is an IP address and a port.
+fn serve_at<
+    R: Net<Listener = TcpListener, Stream = TcpStream>
+        + Threads
+        + Wait
+        + Clock
+        + Print
+        + AllocGlobal
+        + Sync,
+>(rt: &R, setup: &[u8], workers: usize, rounds: u32, address: &str) -> Result<(), Ending>
+    requires { (1 ≤ workers) × (workers ≤ 64) }
+{
+    let alloc = rt.alloc();
+    setups();
+    let setup = match read_setup(alloc, setup) {
+        Ok(setup) => setup,
+        Err(ReadError::Memory) => return Err(Ending::Fault(ReplayFault::Memory)),
+        Err(ReadError::Fault(fault)) => return Err(Ending::Fault(ReplayFault::Setup(fault))),
+    };
+    let Ok(address) = address.parse::<SocketAddr>() else {
+        return Err(Ending::Fault(ReplayFault::Device));
+    };
+    let listener = TcpListener::bind(rt, address).map_err(fault_of)?;
+    println!(rt; "listening {address}").map_err(fault_of)?;
+    let clock = SystemClock::new(rt);
+    let mut writer = io::writer(rt);
+    serve(
+        rt,
+        alloc,
+        &setup,
+        workers,
+        rounds,
+        &listener,
+        &clock,
+        &mut writer,
+    )
+    .map_err(|fault| {
+        Ending::Fault(match fault {
+            ServeFault::Memory => ReplayFault::Memory,
+            ServeFault::Device => ReplayFault::Device,
+        })
+    })
+}
+
+fn run<
+    R: Env
+        + Files
+        + Input
+        + Print
+        + AllocGlobal
+        + Net<Listener = TcpListener, Stream = TcpStream>
+        + Threads
+        + Wait
+        + Clock
+        + Sync,
+>(rt: &R) -> Result<(), Ending> {
     let alloc = rt.alloc();
     let words: Vec<String> = env::args(rt)
         .map_err(fault_of)?
@@ -52,6 +125,9 @@ fn run(rt: &(impl Env + Files + Input + Print + AllocGlobal)) -> Result<(), Endi
     let setup = fs::read(rt, line.setup).map_err(fault_of)?;
     match line.task {
         Task::Check => check(rt, setup.as_slice()),
+        Task::Serve { rounds } => {
+            serve_at(rt, setup.as_slice(), line.workers, rounds, line.address)
+        }
         Task::Replay => {
             let mut reader = Counted::new(rt.reader());
             let mut writer = Counted::new(io::writer(rt));

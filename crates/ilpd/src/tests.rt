@@ -20,7 +20,7 @@ type Words = (
     Result<(Task, &'static str, usize), &'static str>,
 );
 
-static LINES: [Words; 19] = [
+static LINES: [Words; 25] = [
     (&["replay", "s1.toml"], Ok((Task::Replay, "s1.toml", 1))),
     (
         &["replay", "s1.toml", "--workers", "2"],
@@ -42,11 +42,58 @@ static LINES: [Words; 19] = [
     (&["replay", "s1.toml", "--workers", "65"], Err("error:")),
     (&["replay", "s1.toml", "--workers", "one"], Err("error:")),
     (&["replay", "s1.toml", "--workers"], Err("error:")),
+    (
+        &["serve", "s1.toml", "--workers", "2", "--rounds", "3"],
+        Ok((Task::Serve { rounds: 3 }, "s1.toml", 2)),
+    ),
+    (
+        &[
+            "serve",
+            "--rounds=1000000",
+            "--workers=64",
+            "s1.toml",
+            "--listen=[::1]:80",
+        ],
+        Ok((Task::Serve { rounds: 1_000_000 }, "s1.toml", 64)),
+    ),
     (&["serve", "s1.toml"], Err("error:")),
+    (&["serve", "s1.toml", "--rounds", "1"], Err("error:")),
+    (&["serve", "s1.toml", "--workers", "1"], Err("error:")),
+    (
+        &["serve", "s1.toml", "--workers", "1", "--rounds", "0"],
+        Err("error:"),
+    ),
+    (
+        &["serve", "s1.toml", "--workers", "1", "--rounds", "1000001"],
+        Err("error:"),
+    ),
     (&["--help"], Err("A connector")),
     (&["help"], Err("A connector")),
     (&["replay", "--help"], Err("Runs the script")),
 ];
+
+#[test]
+fn addresses(rt: HostRuntime) -> Result<(), Fail> {
+    let alloc = rt.alloc();
+    let words = ["serve", "s1.toml", "--workers", "1", "--rounds", "1"];
+    let line = line_of(alloc, &words)?;
+    let found = arguments(alloc, line.as_slice())?;
+    assert_eq!(rt; found.address, "127.0.0.1:7768");
+    let words = [
+        "serve",
+        "s1.toml",
+        "--workers",
+        "1",
+        "--rounds",
+        "1",
+        "--listen",
+        "[::1]:80",
+    ];
+    let line = line_of(alloc, &words)?;
+    let found = arguments(alloc, line.as_slice())?;
+    assert_eq!(rt; found.address, "[::1]:80");
+    Ok(())
+}
 
 // The program's name and the words after it.
 fn line_of(alloc: Global, words: &[&str]) -> Result<Vec<String>, AllocError> {

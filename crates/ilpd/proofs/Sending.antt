@@ -1,0 +1,42 @@
+-- What a worker holds may go to a thread of its own.
+use denote.Struct.Declared.{shape}
+use denote.Param.Send.{IsSend, IsSync, struct_send, struct_sync, recorded_send, recorded_sync, sendable}
+use Rattle.std.proofs.Crossing as std
+use Rattle.floor_core.specs.contracts.slot.Slot as Slot
+use Rattle.books_shared.specs.contracts.books.Books as Books
+use Rattle.books_shared.specs.contracts.share.Share as Share
+use Rattle.meters.specs.contracts.meters.Meters as Meters
+use Rattle.common_types.specs.contracts.names.Name as Name
+use Rattle.common_types.specs.contracts.names.Token as Token
+use denote.RattleType.{RattleType}
+use denote.Ref.{NamedLft}
+use Rattle.meters.specs.contracts.meters.MeterSeat as MeterSeat
+use Rattle.ilpd.specs.contracts.worker.Worker as Worker
+use Rattle.ilpd.specs.contracts.office.Office as Office
+use Rattle.ilpd.specs.contracts.office.Terms as Terms
+
+pub share_send : IsSend Share.the_row
+share_send = search (sendable, std.crosses) depth 40
+
+pub slot_send : IsSend Slot.the_row
+slot_send = search (sendable, std.crosses) depth 40
+
+pub name_sync : IsSync Name.the_row
+name_sync = search (sendable, std.crosses) depth 40
+
+pub terms_sync : IsSync Terms.the_row
+terms_sync = search (sendable, std.crosses) depth 40
+
+pub office_sync : IsSync Books.the_row → IsSync Meters.the_row → IsSync Office.the_row
+office_sync books meters =
+    let fields = struct_sync (shape Office.the_type) (
+      search (sendable, std.crosses, name_sync) depth 40,
+      (search (sendable, std.crosses, terms_sync) depth 40, (books, (meters, tt))),
+    ) in
+    search (recorded_sync, fields) depth 10
+
+pub worker_send : (κ : NamedLft) (H C : RattleType) → IsSync H → IsSync C → IsSync Office.the_row → IsSend MeterSeat.the_row
+    → IsSend (Worker.the_row κ H C)
+worker_send κ H C h c office seat =
+    recorded_send _ _ _ (Worker.the_type κ H C).to_one (struct_send (shape (Worker.the_type κ H C))
+    (search (sendable, std.crosses, h) depth 40, (search (sendable, std.crosses) depth 40, (search (sendable, std.crosses, office) depth 40, (search (sendable, std.crosses, c) depth 40, (search (sendable, std.crosses) depth 40, (search (sendable, std.crosses) depth 40, (search (sendable, std.crosses) depth 40, (search (sendable, std.crosses) depth 40, (seat, (share_send, (slot_send, (search (sendable, std.crosses) depth 40, (search (sendable, std.crosses) depth 40, tt))))))))))))))

@@ -1,0 +1,17 @@
+use Rattle.std.proofs.Common.{◌≡◌, ◌≤◌, ◌+◌, vec_len, All}
+use Rattle.std.specs.Prelude.{vec_capacity}
+use Rattle.ilpd.proofs.serving.dismissed.Given as goal
+
+abbrev pub invariant-loop-lane : goal.invariant-loop-lane
+invariant-loop-lane g l = record {
+  here : l.first.meters ≡ l.fn.office.meters.id;
+  first : l.first.first ≡ l.fn.first.first;
+  splits : l.first.splits ≡ l.fn.first.splits;
+  joined : l.first.joins + vec_len l.lanes ≡ l.fn.first.joins + vec_len l.fn.lanes;
+  all : vec_len l.shares + vec_len l.lanes ≡ vec_len l.fn.lanes;
+  room : vec_len l.shares + vec_len l.lanes ≤ vec_capacity l.shares;
+  seats : All (λ lane. lane.seat.meters ≡ l.fn.office.meters.id) l.lanes.items;
+}
+
+abbrev pub decreases-loop-lane : goal.decreases-loop-lane
+decreases-loop-lane g l = goal.left-loop-lane g l

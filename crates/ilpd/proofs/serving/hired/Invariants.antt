@@ -1,0 +1,18 @@
+use Rattle.std.proofs.Common.{◌≡◌, ◌≤◌, ◌+◌, vec_len, All}
+use Rattle.std.specs.Prelude.{true, vec_capacity}
+use Rattle.books_shared.specs.Gathers.{max_workers}
+use Rattle.ilpd.proofs.serving.hired.Given as goal
+
+abbrev pub invariant-loop-share : goal.invariant-loop-share
+invariant-loop-share g l = record {
+  here : l.first.meters ≡ l.fn.office.meters.id;
+  first : l.first.first ≡ true;
+  joins : l.first.joins ≡ l.fn.first.joins;
+  few : l.first.splits + vec_len l.shares ≤ max_workers;
+  split : vec_len l.lanes ≡ l.first.splits;
+  room : vec_len l.lanes + vec_len l.shares ≤ vec_capacity l.lanes;
+  seats : All (λ lane. lane.seat.meters ≡ l.fn.office.meters.id) l.lanes.items;
+}
+
+abbrev pub decreases-loop-share : goal.decreases-loop-share
+decreases-loop-share g l = vec_len l.shares

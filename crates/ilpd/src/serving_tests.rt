@@ -1,0 +1,437 @@
+//! The service on loopback.
+
+use crate::serving::{ServeFault, serve};
+use admin_text::laws::setups;
+use admin_text::read_setup;
+use ilp_addr::Moment;
+use std::alloc::Global;
+use std::io::{Read, Write};
+use std::net::{Net, OpenListener, Shutdown, SocketAddr, TcpListener, TcpStream};
+use std::process::Abort;
+use std::sync::Wait;
+use std::test::Fail;
+use std::thread::{Threads, join};
+use std::time::{Clock, Duration};
+use std::{io, thread};
+
+// 2030-01-01T00:00:00Z.
+const START: u64 = 1_893_456_000_000;
+
+const CONFIG: &str =
+    "0c460000000000000000323033303031303130303030313030303066687aadf862bd776c8fc18b8e9f8e20089714856ee233b3902a591d0d5f29250b706565722e636f6e66696700";
+
+const CHILD: &str =
+    "0d310000000000000000000000000000000000000000000000000000000000000000100a672e61636d652e626f620903585250";
+
+const BASE: &str =
+    "0c4700000000000003e8323033303031303130303030313030303066687aadf862bd776c8fc18b8e9f8e20089714856ee233b3902a591d0d5f29250c672e61636d652e626f622e7800";
+
+// BASE as it goes on: 1,500 units, and the expiry where the hold ends.
+const SENT: &str =
+    "0c4700000000000005dc323033303031303130303030303034303066687aadf862bd776c8fc18b8e9f8e20089714856ee233b3902a591d0d5f29250c672e61636d652e626f622e7800";
+
+const FULFILL: &str = "0d21000000000000000000000000000000000000000000000000000000000000000000";
+
+const UNREACHABLE: &str = "0e1c54303106672e61636d65107065657220756e726561636861626c6500";
+
+// A setup of one tenant whose second peer listens at that port, and which holds packets for 400 milliseconds at most.
+fn setup_with(alloc: Global, port: u16) -> Result<String, Fail> {
+    Ok(format!(in alloc;
+        "version = 1
+start = 1893456000000
+[[tenant]]
+name = \"acme\"
+address = \"g.acme\"
+admin = \"root-a\"
+journal = 64
+hold = 400
+[[tenant.peer]]
+name = \"alice\"
+role = \"peer\"
+token = \"tok-alice\"
+url = \"http://127.0.0.1:7801/ilp\"
+out_token = \"out-alice\"
+asset = \"USD\"
+scale = 2
+cap = 1000000
+ceiling = 1000000
+credit = 1000000
+burst = 100
+per_second = 100
+[[tenant.peer]]
+name = \"bob\"
+role = \"child\"
+token = \"tok-bob\"
+url = \"http://127.0.0.1:{port}/ilp\"
+out_token = \"out-bob\"
+asset = \"XRP\"
+scale = 9
+cap = 1000000
+ceiling = 1000000
+credit = 1000000
+burst = 100
+per_second = 100
+[[tenant.route]]
+prefix = \"g.acme.bob\"
+peer = \"bob\"
+[[tenant.rate]]
+from = \"alice\"
+to = \"bob\"
+num = 3
+den = 2
+"
+    )?)
+}
+
+/// A clock that stands at the start.
+struct Standing;
+
+impl workers::Clock for Standing {
+    fn now(&self) -> Moment {
+        Moment::new(START).unwrap_or_else(|| unreachable!())
+    }
+}
+
+fn bytes(alloc: Global, text: &str) -> Result<Vec<u8>, Fail> {
+    Ok(hex::decode(alloc, text)?)
+}
+
+// A request for acme, with that token and that body.
+fn request(alloc: Global, place: &str, token: &str, body: &[u8]) -> Result<Vec<u8>, Fail> {
+    let size = body.len();
+    let head = format!(in alloc;
+        "POST /{place}/acme HTTP/1.1\r\nAuthorization: Bearer {token}\r\nContent-Length: {size}\r\n\r\n"
+    )?;
+    let mut whole = Vec::new(alloc);
+    whole.extend_from_slice(head.as_bytes())?;
+    whole.extend_from_slice(body)?;
+    Ok(whole)
+}
+
+// An answer of status 200 with that body.
+fn good(alloc: Global, kind: &str, body: &[u8]) -> Result<Vec<u8>, Fail> {
+    let size = body.len();
+    let head = format!(in alloc;
+        "HTTP/1.1 200 OK\r\nContent-Type: {kind}\r\nContent-Length: {size}\r\n\r\n"
+    )?;
+    let mut whole = Vec::new(alloc);
+    whole.extend_from_slice(head.as_bytes())?;
+    whole.extend_from_slice(body)?;
+    Ok(whole)
+}
+
+// All that comes back on a connection of its own for these bytes.
+fn asked(
+    net: &impl Net<Stream = TcpStream>,
+    alloc: Global,
+    addr: &SocketAddr,
+    request: &[u8],
+) -> io::Result<Vec<u8>> {
+    let stream = TcpStream::connect_timeout(net, addr, Duration::from_secs(5))?;
+    stream.set_read_timeout(Some(Duration::from_secs(20)))?;
+    let mut out = &stream;
+    out.write_all(request)?;
+    stream.shutdown(Shutdown::Write)?;
+    let mut answer = Vec::new(alloc);
+    let mut input = &stream;
+    input.read_to_end(&mut answer)?;
+    Ok(answer)
+}
+
+// Serves so many connections on one thread, for the setup of that text.
+fn serve_some<
+    R: Threads
+        + Wait
+        + Net<Listener = TcpListener, Stream = TcpStream>
+        + Clock
+        + AllocGlobal
+        + Sync,
+>(
+    rt: &R,
+    text: &str,
+    rounds: u32,
+    listener: &TcpListener,
+    lines: &mut Vec<u8>,
+) -> Result<(), ServeFault> {
+    setups();
+    let Ok(setup) = read_setup(rt.alloc(), text.as_bytes()) else {
+        return Err(ServeFault::Device);
+    };
+    serve(
+        rt,
+        rt.alloc(),
+        &setup,
+        1,
+        rounds,
+        listener,
+        &Standing,
+        lines,
+    )
+}
+
+// What one worker answers to some requests, each on a connection of its own, and what it prints in the end.
+fn served<
+    R: Threads
+        + Wait
+        + Net<Listener = TcpListener, Stream = TcpStream>
+        + Clock
+        + AllocGlobal
+        + Sync,
+>(rt: &R, setup: &str, requests: &[Vec<u8>]) -> Result<(Vec<Vec<u8>>, Vec<u8>), Fail> {
+    let alloc = rt.alloc();
+    let listener = TcpListener::bind(rt, "127.0.0.1:0")?;
+    let addr = listener.local_addr()?;
+    let rounds = requests.len().min(1000) as u32;
+    let mut lines = Vec::new(alloc);
+    let (end, answers) = join(
+        rt,
+        || serve_some(rt, setup, rounds, &listener, &mut lines),
+        || ask_all(rt, alloc, &addr, requests),
+    );
+    let answers = answers?;
+    end?;
+    Ok((answers, lines))
+}
+
+fn ask_all(
+    net: &impl Net<Stream = TcpStream>,
+    alloc: Global,
+    addr: &SocketAddr,
+    requests: &[Vec<u8>],
+) -> io::Result<Vec<Vec<u8>>> {
+    let mut answers = Vec::new(alloc);
+    for request in requests {
+        answers.push(asked(net, alloc, addr, request.as_slice())?)?;
+    }
+    Ok(answers)
+}
+
+/// What the next peer does with a packet.
+#[derive(Clone, Copy, Debug, PartialEq, Eq)]
+enum Peer {
+    Fulfils,
+    Babbles,
+    Drips,
+}
+
+// What the peer is to be sent.
+fn posted(alloc: Global, port: u16) -> Result<Vec<u8>, Fail> {
+    let head = format!(in alloc;
+        "POST /ilp HTTP/1.1\r\nHost: 127.0.0.1:{port}\r\nAuthorization: Bearer out-bob\r\nAccept: application/octet-stream\r\nContent-Type: application/octet-stream\r\nContent-Length: 73\r\nConnection: close\r\n\r\n"
+    )?;
+    let mut whole = Vec::new(alloc);
+    whole.extend_from_slice(head.as_bytes())?;
+    whole.extend_from_slice(bytes(alloc, SENT)?.as_slice())?;
+    Ok(whole)
+}
+
+// A byte each 60 milliseconds, for over a second.
+fn drip(rt: &impl Clock, stream: &TcpStream) -> io::Result<()> {
+    for _ in 0..20 {
+        let mut out = stream;
+        out.write_all(b"H")?;
+        thread::sleep(rt, Duration::from_millis(60));
+    }
+    Ok(())
+}
+
+// Takes one packet as such a peer, and says whether it was the one that is wanted.
+fn taken(
+    rt: &(impl Clock + AllocGlobal),
+    listener: &TcpListener,
+    peer: Peer,
+    wanted: &[u8],
+    fulfill: &[u8],
+) -> io::Result<bool> {
+    let alloc = rt.alloc();
+    let (stream, _) = listener.accept()?;
+    stream.set_read_timeout(Some(Duration::from_secs(20)))?;
+    let mut came = vec![in alloc; 0u8; wanted.len()]?;
+    let mut input = &stream;
+    input.read_exact(came.as_mut_slice())?;
+    let mut out = &stream;
+    match peer {
+        Peer::Fulfils => {
+            out.write_all(b"HTTP/1.1 200 OK\r\nContent-Length: 35\r\n\r\n")?;
+            out.write_all(fulfill)?;
+        }
+        Peer::Babbles => out.write_all(b"HTTP/1.1 200 OK\r\nContent-Length: 5\r\n\r\nhello")?,
+        Peer::Drips => {
+            let _ = drip(rt, &stream);
+        }
+    }
+    Ok(came.as_slice() == wanted)
+}
+
+// A packet of alice's, and what the balances are afterwards.
+fn packet_and_balances(alloc: Global) -> Result<Vec<Vec<u8>>, Fail> {
+    let mut requests = Vec::new(alloc);
+    requests.push(request(alloc, "ilp", "tok-alice", bytes(alloc, BASE)?.as_slice())?)?;
+    requests.push(request(alloc, "admin", "root-a", b"balances\n")?)?;
+    Ok(requests)
+}
+
+// What comes back for both, and what is printed in the end, where the peer behaves so.
+fn with_peer<
+    R: Threads
+        + Wait
+        + Net<Listener = TcpListener, Stream = TcpStream>
+        + Clock
+        + AllocGlobal
+        + Sync,
+>(rt: &R, peer: Peer) -> Result<(Vec<Vec<u8>>, Vec<u8>), Fail> {
+    let alloc = rt.alloc();
+    let listener = TcpListener::bind(rt, "127.0.0.1:0")?;
+    let port = listener.local_addr()?.port();
+    let setup = setup_with(alloc, port)?;
+    let wanted = posted(alloc, port)?;
+    let requests = packet_and_balances(alloc)?;
+    let fulfill = bytes(alloc, FULFILL)?;
+    let (answers, right) = join(
+        rt,
+        || served(rt, setup.as_str(), requests.as_slice()),
+        || taken(rt, &listener, peer, wanted.as_slice(), fulfill.as_slice()),
+    );
+    let answers = answers?;
+    if right? {
+        Ok(answers)
+    } else {
+        Err("what the peer was sent".into())
+    }
+}
+
+fn expect(
+    rt: &(impl Abort + AllocGlobal),
+    came: (Vec<Vec<u8>>, Vec<u8>),
+    reply: &str,
+    balances: &str,
+    lines: &str,
+) -> Result<(), Fail> {
+    let alloc = rt.alloc();
+    let (answers, printed) = came;
+    let reply = good(
+        alloc,
+        "application/octet-stream",
+        bytes(alloc, reply)?.as_slice(),
+    )?;
+    let balances = good(alloc, "text/plain", balances.as_bytes())?;
+    assert!(rt; answers.len() == 2);
+    assert_eq!(rt; answers[0].as_slice(), reply.as_slice());
+    assert_eq!(rt; answers[1].as_slice(), balances.as_slice());
+    assert_eq!(rt; printed.as_slice(), lines.as_bytes());
+    Ok(())
+}
+
+const NOTHING: &str = "acme balance alice 0 0 0\nacme balance bob 0 0 0\nacme ok\n";
+
+const MOVED: &str = "acme balance alice 1000 0 0\nacme balance bob -1500 0 0\nacme ok\n";
+
+#[test]
+fn a_child_is_configured(rt: HostRuntime) -> Result<(), Fail> {
+    let alloc = rt.alloc();
+    let setup = setup_with(alloc, 7802)?;
+    let mut requests = Vec::new(alloc);
+    requests.push(request(alloc, "ilp", "tok-bob", bytes(alloc, CONFIG)?.as_slice())?)?;
+    let (answers, lines) = served(&rt, setup.as_str(), requests.as_slice())?;
+    let wanted = good(
+        alloc,
+        "application/octet-stream",
+        bytes(alloc, CHILD)?.as_slice(),
+    )?;
+    assert!(rt; answers.len() == 1);
+    assert_eq!(rt; answers[0].as_slice(), wanted.as_slice());
+    assert_eq!(rt;
+        lines.as_slice(),
+        b"acme 200 1 4xx 0 503 0 link 0\n".as_slice()
+    );
+    Ok(())
+}
+
+#[test]
+fn a_peer_fulfils(rt: HostRuntime) -> Result<(), Fail> {
+    let came = with_peer(&rt, Peer::Fulfils)?;
+    expect(&rt, came, FULFILL, MOVED, "acme 200 2 4xx 0 503 0 link 0\n")
+}
+
+#[test]
+fn a_peer_babbles(rt: HostRuntime) -> Result<(), Fail> {
+    let came = with_peer(&rt, Peer::Babbles)?;
+    expect(
+        &rt,
+        came,
+        UNREACHABLE,
+        NOTHING,
+        "acme 200 2 4xx 0 503 0 link 0\n",
+    )
+}
+
+#[test]
+fn a_peer_drips_past_the_hold(rt: HostRuntime) -> Result<(), Fail> {
+    let came = with_peer(&rt, Peer::Drips)?;
+    expect(
+        &rt,
+        came,
+        UNREACHABLE,
+        NOTHING,
+        "acme 200 2 4xx 0 503 0 link 1\n",
+    )
+}
+
+// A port where nobody listens.
+fn lonely_port(rt: &impl Net<Listener = TcpListener, Stream = TcpStream>) -> Result<u16, Fail> {
+    let listener = TcpListener::bind(rt, "127.0.0.1:0")?;
+    Ok(listener.local_addr()?.port())
+}
+
+#[test]
+fn nobody_listens(rt: HostRuntime) -> Result<(), Fail> {
+    let alloc = rt.alloc();
+    let setup = setup_with(alloc, lonely_port(&rt)?)?;
+    let requests = packet_and_balances(alloc)?;
+    let came = served(&rt, setup.as_str(), requests.as_slice())?;
+    expect(
+        &rt,
+        came,
+        UNREACHABLE,
+        NOTHING,
+        "acme 200 2 4xx 0 503 0 link 1\n",
+    )
+}
+
+// A request of acme's operator, and how its answer begins.
+static COMMANDS: [(&str, &str, &str); 5] = [
+    (
+        "root-a",
+        "peer remove alice",
+        "HTTP/1.1 200 OK\r\nContent-Type: text/plain\r\nContent-Length: 8\r\n\r\nacme ok\n",
+    ),
+    (
+        "root-a",
+        "route remove g.acme.x\n",
+        "HTTP/1.1 200 OK\r\nContent-Type: text/plain\r\nContent-Length: 20\r\n\r\nacme refused absent\n",
+    ),
+    ("root-a", "rates", "HTTP/1.1 400 Bad Request\r\n"),
+    ("root-b", "balances", "HTTP/1.1 401 Unauthorized\r\n"),
+    ("tok-bob", "roll", "HTTP/1.1 401 Unauthorized\r\n"),
+];
+
+#[test]
+fn operators_are_answered(rt: HostRuntime) -> Result<(), Fail> {
+    let alloc = rt.alloc();
+    let setup = setup_with(alloc, 7802)?;
+    let mut requests = Vec::new(alloc);
+    for (token, command, _) in COMMANDS {
+        requests.push(request(alloc, "admin", token, command.as_bytes())?)?;
+    }
+    let (answers, lines) = served(&rt, setup.as_str(), requests.as_slice())?;
+    assert!(rt; answers.len() == COMMANDS.len());
+    for i in 0..COMMANDS.len() {
+        let (_, _, begin) = COMMANDS[i];
+        assert!(rt; answers[i].as_slice().starts_with(begin.as_bytes()), "{i}");
+    }
+    assert_eq!(rt;
+        lines.as_slice(),
+        b"acme 200 2 4xx 0 503 0 link 0\n".as_slice()
+    );
+    Ok(())
+}

@@ -1,0 +1,126 @@
+//! Connections whose reads and writes end in time.
+
+ghost use Rattle.std.specs.Prelude.{◌≡◌, ◌≤◌};
+
+use oer_core::Device;
+use std::io;
+use std::io::{ErrorKind, Read, Write};
+use std::net::TcpStream;
+use std::time::{Clock, Duration, Instant};
+
+/// How many bytes are read ahead at most.
+const AHEAD: usize = 2048;
+
+/// One side of a connection, whose reads and writes fail once a moment has come. It reads ahead, and counts what failed.
+#[derive(Drop)]
+pub struct Timed<'a, H> {
+    stream: &'a TcpStream,
+    clock: &'a H,
+    until: Instant,
+    failures: u64,
+    ahead: [u8; AHEAD],
+    from: usize,
+    to: usize,
+    ghost ordered: { from ≤ to },
+    ghost within: { to ≤ 2048 },
+}
+
+impl<'a, H: Clock> Timed<'a, H> {
+    /// A side of the connection, which fails from that moment of the clock on.
+    pub fn new(stream: &'a TcpStream, clock: &'a H, until: Instant) -> Timed<'a, H> {
+        Timed {
+            stream,
+            clock,
+            until,
+            failures: 0,
+            ahead: [0; AHEAD],
+            from: 0,
+            to: 0,
+        }
+    }
+
+    /// Gives it until another moment.
+    pub fn extend(&mut self, until: Instant) {
+        self.until = until;
+    }
+
+    // The time that is left.
+    fn left(&self) -> io::Result<Duration> {
+        let now = Instant::now(self.clock)?;
+        match self.until.checked_duration_since(now) {
+            Some(left) if !left.is_zero() => Ok(left),
+            _ => Err(io::Error::from(ErrorKind::TimedOut)),
+        }
+    }
+
+    fn read_ahead(&mut self) -> io::Result<()> {
+        self.stream.set_read_timeout(Some(self.left()?))?;
+        let mut stream = self.stream;
+        let n = stream.read(&mut self.ahead)?;
+        self.from = 0;
+        self.to = n;
+        Ok(())
+    }
+}
+
+impl<H: Clock> Timed<'_, H> {
+    ghost use Rattle.std.specs.Io.{ReadsAtMost, WritesAtMost};
+
+    fn read_some(&mut self, buf: &mut [u8]) -> io::Result<usize>
+        ensures { ReadsAtMost result buf.new }
+    {
+        if self.from == self.to {
+            self.read_ahead()?;
+        }
+        let held = &self.ahead[self.from..self.to];
+        let n = held.len().min(buf.len());
+        buf[..n].copy_from_slice(&held[..n]);
+        self.from += n;
+        Ok(n)
+    }
+
+    fn write_some(&mut self, buf: &[u8]) -> io::Result<usize>
+        ensures { WritesAtMost result buf.now }
+    {
+        self.stream.set_write_timeout(Some(self.left()?))?;
+        let mut stream = self.stream;
+        stream.write(buf)
+    }
+
+    fn count(&mut self, failed: bool) {
+        if failed {
+            self.failures = self.failures.saturating_add(1);
+        }
+    }
+}
+
+impl<H> Device for Timed<'_, H> {
+    ghost failure_count = { λ t. t.failures };
+
+    fn failures(&self) -> u64 {
+        self.failures
+    }
+}
+
+impl<H: Clock> Read for Timed<'_, H> {
+    fn read(&mut self, buf: &mut [u8]) -> io::Result<usize> {
+        let result = self.read_some(buf);
+        self.count(result.is_err());
+        result
+    }
+}
+
+impl<H: Clock> Write for Timed<'_, H> {
+    fn write(&mut self, buf: &[u8]) -> io::Result<usize> {
+        let result = self.write_some(buf);
+        self.count(match &result {
+            Ok(taken) => *taken == 0 && !buf.is_empty(),
+            Err(_) => true,
+        });
+        result
+    }
+
+    fn flush(&mut self) -> io::Result<()> {
+        Ok(())
+    }
+}
