@@ -1,2 +1,4 @@
 pub mod Sending
 pub mod Fresh
+pub mod Leading
+pub mod Sums

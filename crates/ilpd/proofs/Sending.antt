@@ -12,6 +12,7 @@ use denote.RattleType.{RattleType}
 use denote.Ref.{NamedLft}
 use Rattle.meters.specs.contracts.meters.MeterSeat as MeterSeat
 use Rattle.ilpd.specs.contracts.worker.Worker as Worker
+use Rattle.ilpd.specs.contracts.desk.Desk as Desk
 use Rattle.ilpd.specs.contracts.office.Office as Office
 use Rattle.ilpd.specs.contracts.office.Terms as Terms
 
@@ -35,8 +36,12 @@ office_sync books meters =
     ) in
     search (recorded_sync, fields) depth 10
 
+pub desk_send : IsSend MeterSeat.the_row → IsSend (Desk.the_field).row
+desk_send seat = struct_send (shape Desk.the_type)
+    (share_send, (seat, (slot_send, (search (sendable, std.crosses) depth 40, (search (sendable, std.crosses) depth 40, (search (sendable, std.crosses) depth 40, tt))))))
+
 pub worker_send : (κ : NamedLft) (H C : RattleType) → IsSync H → IsSync C → IsSync Office.the_row → IsSend MeterSeat.the_row
     → IsSend (Worker.the_row κ H C)
 worker_send κ H C h c office seat =
     recorded_send _ _ _ (Worker.the_type κ H C).to_one (struct_send (shape (Worker.the_type κ H C))
-    (search (sendable, std.crosses, h) depth 40, (search (sendable, std.crosses) depth 40, (search (sendable, std.crosses, office) depth 40, (search (sendable, std.crosses, c) depth 40, (search (sendable, std.crosses) depth 40, (search (sendable, std.crosses) depth 40, (search (sendable, std.crosses) depth 40, (search (sendable, std.crosses) depth 40, (seat, (share_send, (slot_send, (search (sendable, std.crosses) depth 40, (search (sendable, std.crosses) depth 40, tt))))))))))))))
+    (search (sendable, std.crosses, h) depth 40, (search (sendable, std.crosses) depth 40, (search (sendable, std.crosses, office) depth 40, (search (sendable, std.crosses, c) depth 40, (search (sendable, std.crosses) depth 40, (search (sendable, std.crosses) depth 40, (search (sendable, std.crosses) depth 40, (desk_send seat, tt)))))))))

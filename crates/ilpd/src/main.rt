@@ -3,10 +3,13 @@
 
 ghost use Rattle.std.specs.Prelude.{◌≤◌};
 
+mod answering;
 mod clock;
 mod command_line;
+mod desk;
 mod link;
 mod office;
+mod opening;
 mod serving;
 #[cfg(test)]
 mod serving_tests;

@@ -1,13 +1,11 @@
 //! What all workers share.
 
-ghost use Rattle.std.specs.Prelude.{◌≡◌, ◌≤◌, length, map, vec_len, IfOk};
+ghost use Rattle.std.specs.Prelude.{◌≡◌, vec_len};
 ghost use Rattle.ilpd.specs.Served.{tenant_named};
 
 use books_shared::Books;
 use common_types::{Name, Token};
 use meters::Meters;
-use std::alloc::{AllocError, Global};
-use tenant_core::TenantSetup;
 
 /// What a service knows of a tenant beside its book.
 #[derive(Drop)]
@@ -39,30 +37,4 @@ impl Office {
             .iter()
             .position(|known| known.as_bytes() == name)
     }
-}
-
-/// The names of the tenants, in their order.
-pub fn names_of(alloc: Global, tenants: &[TenantSetup]) -> Result<Vec<Name>, AllocError>
-    ensures { IfOk result (λ names. names.items ≡ map (λ t. t.name) tenants.now) }
-{
-    let mut names = Vec::with_capacity(alloc, tenants.len())?;
-    for tenant in tenants {
-        names.push_reserved(tenant.terms().name.copy());
-    }
-    Ok(names)
-}
-
-/// The terms of the tenants, in their order.
-pub fn terms_of(alloc: Global, tenants: &[TenantSetup]) -> Result<Vec<Terms>, AllocError>
-    ensures { IfOk result (λ terms. vec_len terms ≡ length tenants.now) }
-{
-    let mut terms = Vec::with_capacity(alloc, tenants.len())?;
-    for tenant in tenants {
-        let agreed = tenant.terms();
-        terms.push_reserved(Terms {
-            admin: agreed.admin.copy(),
-            hold: agreed.hold,
-        });
-    }
-    Ok(terms)
 }

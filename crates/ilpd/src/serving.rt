@@ -1,21 +1,27 @@
 //! The service: all its workers, and what they counted.
 
-ghost use Rattle.std.specs.Prelude.{◌≡◌, ◌+◌, ◌≤◌, ◌<◌, ◌++◌, length, map, vec_len, true, All, IfOk, OnOk};
+ghost use Rattle.std.specs.Prelude.{ℕ, ◌≡◌, ◌+◌, ◌≤◌, ◌<◌, ◌++◌, length, vec_len, true, All, IfOk, OnOk};
+ghost use Rattle.std.specs.Io.KnownBytes.{Appends};
+ghost use Rattle.std.specs.List.{sum_by};
 ghost use Rattle.books_shared.specs.Gathers.{max_workers};
 ghost use Rattle.tenant_core.specs.Limits.{max_tenants};
 ghost use Rattle.std.specs.Fmt.{decimal};
-ghost use Rattle.atomic_table.specs.Seated.{TableId};
+ghost use Rattle.meters.specs.Seats.{count_of};
+ghost use Rattle.meters.specs.declared.kind.Kind as meter;
+ghost use Rattle.ilpd.specs.Answering.{HasToldCounts, HasWorked, HaveCounted, IsFresh, IsNew};
 ghost use Rattle.ilpd.specs.Served.{line_of, lines_upto};
 
-use crate::office::{Office, names_of, terms_of};
+use crate::desk::Desk;
+use crate::office::Office;
+use crate::opening::{Opened, open_office};
 use crate::worker::Worker;
 use admin_text::Setup;
+use books_shared::Share;
 use books_shared::laws::books_are_shared;
-use books_shared::{Books, Share};
 use common_types::Name;
 use floor_core::Slot;
 use meters::laws::meters_are_shared;
-use meters::{Kind, MeterSeat, Meters, Totals};
+use meters::{Kind, MeterSeat, Totals};
 use std::alloc::{AllocError, Global};
 use std::io;
 use std::io::{ErrorKind, Write};
@@ -68,24 +74,26 @@ fn hired<
     requires first { first.old.first ≡ true }
     requires whole { first.old.splits ≡ 0 }
     requires few { vec_len shares ≤ max_workers }
+    requires new { All IsFresh shares.items }
     ensures here { first.new.meters ≡ office.now.meters.id }
     ensures first { first.new.first ≡ true }
     ensures joins { first.new.joins ≡ first.old.joins }
+    ensures counts { first.new.counts ≡ first.old.counts }
     ensures split { IfOk result (λ lanes. vec_len lanes ≡ first.new.splits) }
-    ensures seats { IfOk result (λ lanes. All (λ lane. lane.seat.meters ≡ office.now.meters.id) lanes.items) }
+    ensures each { IfOk result (λ lanes. vec_len lanes ≡ vec_len shares) }
+    ensures new { IfOk result (λ lanes. All (λ lane. IsNew lane.desk) lanes.items) }
+    ensures office { IfOk result (λ lanes. All (λ lane. lane.office.now ≡ office.now) lanes.items) }
 {
     let mut lanes = Vec::with_capacity(alloc, shares.len())?;
     while let Some(share) = shares.pop() {
         let slot = Slot::new(alloc)?;
-        let seat = office.meters.split(first);
-        lanes.push_reserved(Worker::new(
-            handle, alloc, office, clock, listener, rounds, seat, share, slot,
-        ));
+        let desk = Desk::new(alloc, share, office.meters.split(first), slot);
+        lanes.push_reserved(Worker::new(handle, alloc, office, clock, listener, rounds, desk));
     }
     Ok(lanes)
 }
 
-// What the workers leave: the counts of their seats are those of the first one from then on.
+// What the workers leave: what their seats have counted is the first one's from then on.
 fn dismissed<H, C>(
     alloc: Global,
     office: &Office,
@@ -93,17 +101,21 @@ fn dismissed<H, C>(
     mut lanes: Vec<Worker<'_, H, C>>,
 ) -> Result<Done, AllocError>
     requires here { first.old.meters ≡ office.now.meters.id }
-    requires same { All (λ lane. lane.seat.meters ≡ office.now.meters.id) lanes.items }
+    requires same { All (λ lane. lane.office.now ≡ office.now) lanes.items }
     ensures here { first.new.meters ≡ office.now.meters.id }
     ensures first { first.new.first ≡ first.old.first }
     ensures splits { first.new.splits ≡ first.old.splits }
     ensures joined { OnOk result (first.new.joins ≡ first.old.joins + vec_len lanes.entry) }
     ensures all { IfOk result (λ done. vec_len done.shares ≡ vec_len lanes.entry) }
+    ensures counts { OnOk result ((tenant : ℕ) (kind : meter.Kind)
+        → count_of tenant kind first.new ≡ count_of tenant kind first.old
+        + sum_by (λ lane. count_of tenant kind lane.desk.seat) lanes.entry.items) }
 {
     let mut shares = Vec::with_capacity(alloc, lanes.len())?;
     let mut failed = false;
     while let Some(lane) = lanes.pop() {
-        let (share, seat, broken) = lane.into_counts();
+        let (desk, broken) = lane.into_desk();
+        let Desk { seat, share, .. } = desk;
         office.meters.join(first, seat);
         shares.push_reserved(share);
         failed |= broken;
@@ -111,14 +123,16 @@ fn dismissed<H, C>(
     Ok(Done { shares, failed })
 }
 
-// Lets all workers serve, each on a thread of its own. Each keeps its seat.
+// Lets all workers serve, each on a thread of its own.
 fn work_all<
     'a,
     H: Threads + Wait + Net<Listener = TcpListener, Stream = TcpStream> + std::time::Clock + Sync,
     C: workers::Clock + Sync,
->(handle: &'a H, lanes: &mut [Worker<'a, H, C>]) -> Result<(), ServeFault>
-    ensures { (id : TableId) → All (λ lane. lane.seat.meters ≡ id) lanes.old
-        → All (λ lane. lane.seat.meters ≡ id) lanes.new }
+>(handle: &'a H, office: &'a Office, lanes: &mut [Worker<'a, H, C>]) -> Result<(), ServeFault>
+    requires new { All (λ lane. IsNew lane.desk) lanes.old }
+    requires office { All (λ lane. lane.office.now ≡ office.now) lanes.old }
+    ensures office { All (λ lane. lane.office.now ≡ office.now) lanes.new }
+    ensures worked { OnOk result (All (λ lane. HasWorked office.now lane.desk) lanes.new) }
 {
     books_are_shared();
     meters_are_shared();
@@ -147,14 +161,19 @@ pub fn run_all<
     requires first { first.old.first ≡ true }
     requires whole { first.old.splits ≡ 0 }
     requires none { first.old.joins ≡ 0 }
+    requires nothing { (tenant : ℕ) (kind : meter.Kind) → count_of tenant kind first.old ≡ 0 }
     requires few { vec_len shares ≤ max_workers }
+    requires new { All IsFresh shares.items }
     ensures here { first.new.meters ≡ office.now.meters.id }
     ensures joined { OnOk result (first.new.joins ≡ first.new.splits) }
+    ensures first { first.new.first ≡ true }
+    ensures counted { OnOk result (HaveCounted office.now (vec_len shares)
+        (λ tenant kind. count_of tenant kind first.new)) }
 {
     let mut lanes = hired(
         handle, alloc, office, first, shares, rounds, listener, clock,
     )?;
-    work_all(handle, lanes.as_mut_slice())?;
+    work_all(handle, office, lanes.as_mut_slice())?;
     Ok(dismissed(alloc, office, first, lanes)?)
 }
 
@@ -207,7 +226,32 @@ fn fault_of(error: io::Error) -> ServeFault {
     }
 }
 
+// Writes the lines of the tenants.
+fn tell<W: Write>(
+    alloc: Global,
+    names: &[Name],
+    totals: &Totals,
+    writer: &mut W,
+) -> Result<(), ServeFault>
+    requires { length names.now ≤ totals.now.tenants }
+    ensures { OnOk result (Appends (W.contents writer.old) (W.contents writer.new)
+        (lines_upto (length names.now) names.now totals.now)) }
+{
+    let text = lines_of(alloc, names, totals)?;
+    match writer.write_all(text.as_slice()) {
+        Ok(()) => Ok(()),
+        Err(error) => Err(fault_of(error)),
+    }
+}
+
 /// Serves so many connections on each of so many threads, joins them, and writes a line for each tenant.
+///
+/// A line says how many packets and commands of the tenant were answered with which status, and how often its peers gave
+/// no answer: the sums of what the workers have counted, each of which begins with nothing and counts with each question
+/// that it is asked as `HasAnswered` says.
+///
+/// `Memory` where memory was refused; `Device` where a thread could not be started, a connection not be accepted, or the
+/// lines not be written.
 pub fn serve<
     H: Threads + Wait + Net<Listener = TcpListener, Stream = TcpStream> + std::time::Clock + Sync,
     C: workers::Clock + Sync,
@@ -224,23 +268,19 @@ pub fn serve<
 ) -> Result<(), ServeFault>
     requires tenants { (1 ≤ length setup.now.tenants) × (length setup.now.tenants ≤ max_tenants) }
     requires workers { (1 ≤ workers) × (workers ≤ max_workers) }
+    ensures { OnOk result (HasToldCounts setup.now workers (W.contents writer.old) (W.contents writer.new)) }
 {
-    let tenants = setup.tenants.as_slice();
-    let (books, shares) = Books::new(alloc, tenants, setup.start, workers)?;
-    let (meters, mut first) = Meters::new(alloc, tenants.len())?;
-    let office = Office {
-        names: names_of(alloc, tenants)?,
-        terms: terms_of(alloc, tenants)?,
-        books,
-        meters,
-    };
+    let Opened {
+        office,
+        mut first,
+        shares,
+    } = open_office(alloc, setup, workers)?;
     let done = run_all(
         handle, alloc, &office, &mut first, shares, rounds, listener, clock,
     )?;
     let Office { names, meters, .. } = office;
     let totals = meters.close(first);
-    let text = lines_of(alloc, names.as_slice(), &totals)?;
-    writer.write_all(text.as_slice()).map_err(fault_of)?;
+    tell(alloc, names.as_slice(), &totals, writer)?;
     if done.failed {
         return Err(ServeFault::Device);
     }

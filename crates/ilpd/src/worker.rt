@@ -1,20 +1,14 @@
 //! A worker, and what it answers to requests.
 
-ghost use Rattle.std.specs.Prelude.{◌≡◌, ◌<◌, ◌≤◌, length, false};
+ghost use Rattle.std.specs.Prelude.{◌≡◌, ◌≤◌, length};
+ghost use Rattle.ilpd.specs.Answering.{HasAnswered, HasServed};
 ghost use Rattle.ilpd.specs.Served.{tenant_named, told_text};
-ghost use Rattle.floor_core.specs.Work.Job.{NoJob};
 
-use crate::link::PeerLink;
+use crate::desk::Desk;
 use crate::office::Office;
 use crate::timed::Timed;
-use admin_text::parse_command;
-use books_shared::Share;
-use common_types::ReadError;
-use floor_core::{Output, Slot};
 use http_link::{Kind, MAX_BODY, Served, Service, serve_one};
-use meters::MeterSeat;
 use oer_core::Counted;
-use replay_text::print_lines;
 use std::alloc::Global;
 use std::io;
 use std::io::ErrorKind;
@@ -22,15 +16,7 @@ use std::net::{Net, TcpListener, TcpStream};
 use std::sync::Wait;
 use std::thread::Threads;
 use std::time::{Duration, Instant};
-use tenant_core::{Answered, Command, CommandFault};
-use workers::{Clock, Gate, GovernFault, Job, Lane, Link, Point, Status, carry, govern};
-
-/// A gate that stands open.
-struct NoGate;
-
-impl Gate for NoGate {
-    fn pass(&self, _worker: usize, _point: Point) {}
-}
+use workers::{Clock, Lane, Status};
 
 /// A worker that serves so many connections, one after another. It carries packets to the next peers, and does the commands
 /// of those who show the tenant's token for them.
@@ -43,15 +29,8 @@ pub struct Worker<'a, H, C> {
     listener: &'a TcpListener,
     rounds: u32,
     failed: bool,
-    sent: u64,
-    seat: MeterSeat,
-    share: Share,
-    slot: Slot,
-    printed: Vec<u8>,
-    told: Kind,
-    ghost seated: { seat.meters ≡ office.now.meters.id },
-    ghost plain: { seat.first ≡ false },
-    ghost idle: { slot.job ≡ NoJob },
+    desk: Desk,
+    ghost seated: { desk.seat.meters ≡ office.now.meters.id },
 }
 
 impl<'a, H, C> Worker<'a, H, C> {
@@ -62,14 +41,11 @@ impl<'a, H, C> Worker<'a, H, C> {
         clock: &'a C,
         listener: &'a TcpListener,
         rounds: u32,
-        seat: MeterSeat,
-        share: Share,
-        slot: Slot,
+        desk: Desk,
     ) -> Worker<'a, H, C>
-        requires seat { seat.meters ≡ office.now.meters.id }
-        requires plain { seat.first ≡ false }
-        requires idle { slot.job ≡ NoJob }
-        ensures { result.seat ≡ seat }
+        requires { desk.seat.meters ≡ office.now.meters.id }
+        ensures desk { result.desk ≡ desk }
+        ensures office { result.office.now ≡ office.now }
     {
         Worker {
             handle,
@@ -79,144 +55,60 @@ impl<'a, H, C> Worker<'a, H, C> {
             listener,
             rounds,
             failed: false,
-            sent: 0,
-            seat,
-            share,
-            slot,
-            printed: Vec::new(alloc),
-            told: Kind::Ilp,
+            desk,
         }
     }
 
-    /// What it counted, and whether a connection could not be accepted.
-    pub fn into_counts(self) -> (Share, MeterSeat, bool)
-        ensures seat { result.1 ≡ self.entry.seat }
-        ensures plain { result.1.first ≡ false }
+    /// What is left on its desk, and whether a connection could not be accepted.
+    pub fn into_desk(self) -> (Desk, bool)
+        ensures { result.0 ≡ self.entry.desk }
     {
-        let Worker {
-            share,
-            seat,
-            failed,
-            ..
-        } = self;
-        (share, seat, failed)
-    }
-}
-
-// A command without the line feed that may end it.
-fn without_line_feed(body: &[u8]) -> &[u8] {
-    match body.split_last() {
-        Some((b'\n', command)) => command,
-        _ => body,
-    }
-}
-
-impl<H: Wait + Net<Stream = TcpStream> + std::time::Clock, C: Clock> Worker<'_, H, C> {
-    // Keeps what is printed of a command's answer, and gives the status.
-    fn print(&mut self, tenant: usize, answer: Result<Answered, CommandFault>) -> Status
-        ensures { self.new.seat ≡ self.old.seat }
-    {
-        let outputs = [Output::Governed { tenant, answer }];
-        match print_lines(self.alloc, self.office.names.as_slice(), &outputs) {
-            Ok(text) => {
-                self.printed = text;
-                Status::Answered
-            }
-            Err(_) => Status::Unavailable,
-        }
-    }
-
-    fn govern(&mut self, tenant: usize, command: &Command) -> Status
-        requires { tenant < self.old.office.now.books.tenants }
-        ensures { self.new.seat.meters ≡ self.old.seat.meters }
-    {
-        let office = self.office;
-        let answer = govern(
-            self.handle,
-            self.alloc,
-            &office.books,
-            &office.meters,
-            &mut self.seat,
-            &mut self.share,
-            self.clock,
-            tenant,
-            command,
-        );
-        match answer {
-            Ok(answered) => self.print(tenant, Ok(answered)),
-            Err(GovernFault::Spent | GovernFault::Stray) => Status::Unavailable,
-            Err(GovernFault::Refused(CommandFault::Memory)) => Status::Unavailable,
-            Err(GovernFault::Refused(fault)) => self.print(tenant, Err(fault)),
-        }
-    }
-
-    fn carry(&mut self, tenant: usize, token: &[u8], frame: &[u8]) -> Status
-        requires { tenant < self.old.office.now.books.tenants }
-        ensures { self.new.seat.meters ≡ self.old.seat.meters }
-    {
-        let office = self.office;
-        let mut link = PeerLink::new(self.handle, office.terms.as_slice(), self.sent);
-        let reply = carry(
-            self.handle,
-            &office.books,
-            &office.meters,
-            &mut self.seat,
-            &mut self.slot,
-            &mut self.share,
-            &mut link,
-            &NoGate,
-            self.clock,
-            Job {
-                tenant,
-                token,
-                frame,
-            },
-        );
-        self.sent = link.sends();
-        reply.status()
+        let Worker { desk, failed, .. } = self;
+        (desk, failed)
     }
 }
 
 impl<H: Wait + Net<Stream = TcpStream> + std::time::Clock, C: Clock> Service for Worker<'_, H, C> {
-    ghost asks = { λ before _ after. after.seat.meters ≡ before.seat.meters };
+    ghost asks = { λ before asked after. (after.office ≡ before.office)
+        × HasAnswered before.office.now before.desk asked after.desk };
 
     ghost tenant_of = { λ c name. tenant_named c.office.now.names.items name };
 
-    ghost answer = { λ c. told_text c.told c.slot.reply c.printed.items };
+    ghost answer = { λ c. told_text c.desk.told c.desk.slot.reply c.desk.printed.items };
 
     fn tenant(&self, name: &[u8]) -> Option<usize> {
         self.office.tenant_named(name)
     }
 
     fn ilp(&mut self, tenant: usize, token: &[u8], body: &[u8]) -> u16 {
-        self.told = Kind::Ilp;
-        if tenant >= self.office.books.tenants() {
+        self.desk.told = Kind::Ilp;
+        let office = self.office;
+        if tenant >= office.books.tenants() {
             return Status::Unavailable.code();
         }
-        self.carry(tenant, token, body).code()
+        let status = self
+            .desk
+            .carry(self.handle, office, self.clock, tenant, token, body);
+        status.code()
     }
 
     fn admin(&mut self, tenant: usize, token: &[u8], body: &[u8]) -> u16 {
-        self.told = Kind::Admin;
-        let Some(terms) = self.office.terms.get(tenant) else {
+        self.desk.told = Kind::Admin;
+        let office = self.office;
+        let Some(terms) = office.terms.get(tenant) else {
             return Status::Unavailable.code();
         };
         if terms.admin.as_bytes() != token {
             return Status::Unauthorized.code();
         }
-        let status = match parse_command(self.alloc, without_line_feed(body)) {
-            Ok(command) => self.govern(tenant, &command),
-            Err(ReadError::Fault(_)) => Status::Malformed,
-            Err(ReadError::Memory) => Status::Unavailable,
-        };
+        let status = self
+            .desk
+            .obey(self.handle, self.alloc, office, self.clock, tenant, body);
         status.code()
     }
 
     fn body(&self) -> &[u8] {
-        match self.told {
-            Kind::Ilp => self.slot.reply(),
-            Kind::Admin => self.printed.as_slice(),
-        }
+        self.desk.told()
     }
 }
 
@@ -241,7 +133,8 @@ impl<H: Wait + Net<Stream = TcpStream> + std::time::Clock, C: Clock> Worker<'_, 
     ) -> io::Result<bool>
         requires { 34_000 ≤ length room.old }
         ensures room { length room.new ≡ length room.old }
-        ensures seat { self.new.seat.meters ≡ self.old.seat.meters }
+        ensures office { self.new.office ≡ self.old.office }
+        ensures served { HasServed self.old.office.now self.old.desk self.new.desk }
     {
         reader.extend(end_of_patience(self.handle)?);
         let served = serve_one(reader, writer, self, room);
@@ -249,10 +142,12 @@ impl<H: Wait + Net<Stream = TcpStream> + std::time::Clock, C: Clock> Worker<'_, 
     }
 
     // Serves the requests of a connection until it ends.
+    #[tactic(auto, using(crate::proofs::Leading::served_then, crate::proofs::Leading::served_nothing))]
     fn serve_connection(&mut self, stream: &TcpStream, room: &mut [u8]) -> io::Result<()>
         requires { 34_000 ≤ length room.old }
         ensures room { length room.new ≡ length room.old }
-        ensures seat { self.new.seat.meters ≡ self.old.seat.meters }
+        ensures office { self.new.office ≡ self.old.office }
+        ensures served { HasServed self.old.office.now self.old.desk self.new.desk }
     {
         stream.set_nodelay(true)?;
         stream.set_write_timeout(Some(Duration::from_secs(PATIENCE)))?;
@@ -269,8 +164,10 @@ impl<H: Wait + Net<Stream = TcpStream> + std::time::Clock, C: Clock> Worker<'_, 
 
 impl<H: Wait + Net<Stream = TcpStream> + std::time::Clock + Sync, C: Clock + Sync> Lane
     for Worker<'_, H, C> {
-    ghost works = { λ before after. after.seat.meters ≡ before.seat.meters };
+    ghost works = { λ before after. (after.office ≡ before.office)
+        × HasServed before.office.now before.desk after.desk };
 
+    #[tactic(auto, using(crate::proofs::Leading::served_then, crate::proofs::Leading::served_nothing))]
     fn work<R: Threads + Wait + Sync>(&mut self, _rt: &R) {
         let mut room = [0; MAX_BODY];
         for _ in 0..self.rounds {

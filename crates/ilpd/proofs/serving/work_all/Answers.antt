@@ -1,3 +1,5 @@
+use Rattle.std.proofs.Common.{ℕ, ◌<◌, length, rules, slice_index_or, subst}
+use Rattle.ilpd.specs.Answering.{HasServed}
 use denote.Param.{param}
 use denote.Param.Send.{IsSend, sendable}
 use denote.Ref.{NamedLft}
@@ -12,3 +14,14 @@ run_workers-requires-send-W g c κs within =
     let lane : (κ : NamedLft) → IsSend (Worker.the_row κ (param 0 g.row.H) (param 1 g.row.C))
     = λ κ. worker_send κ _ _ c.type_bounds.sync-H c.type_bounds.sync-C office seat in
     search (sendable, lane) depth 60
+
+pub returns-in-Ok-clause-worked : goal.returns-in-Ok-clause-worked
+returns-in-Ok-clause-worked g c k d below =
+    let within : k < length c.args.lanes.now = search rules in
+    let works = c.in-Ok.ensures.ok k d within in
+    record {
+      new = (slice_index_or c.args.lanes.now k d).desk;
+      is_new = c.requires.new k d within;
+      served = subst (λ office. HasServed office (slice_index_or c.args.lanes.now k d).desk
+          (slice_index_or c.run_workers.new.lanes k d).desk) (c.requires.office k d within) works.1;
+    }

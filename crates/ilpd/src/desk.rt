@@ -1,0 +1,56 @@
+//! What a worker has before it.
+
+ghost use Rattle.std.specs.Prelude.{◌≡◌, false};
+ghost use Rattle.floor_core.specs.Work.Job.{NoJob};
+ghost use Rattle.ilpd.specs.Served.{told_text};
+
+use books_shared::Share;
+use floor_core::Slot;
+use http_link::Kind;
+use meters::MeterSeat;
+use std::alloc::Global;
+
+/// What a worker counts, the slot that it carries packets in, and what it answered last.
+#[derive(Drop)]
+pub struct Desk {
+    pub share: Share,
+    pub seat: MeterSeat,
+    pub slot: Slot,
+    /// How many packets it has sent to next peers.
+    pub sent: u64,
+    /// The lines of the last command that was answered.
+    pub printed: Vec<u8>,
+    /// Whether it was a packet or a command that was answered last.
+    pub told: Kind,
+    ghost plain: { seat.first ≡ false },
+    ghost idle: { slot.job ≡ NoJob },
+}
+
+impl Desk {
+    /// A desk at which nothing was answered.
+    pub fn new(alloc: Global, share: Share, seat: MeterSeat, slot: Slot) -> Desk
+        requires plain { seat.first ≡ false }
+        requires idle { slot.job ≡ NoJob }
+        ensures share { result.share ≡ share }
+        ensures seat { result.seat ≡ seat }
+    {
+        Desk {
+            share,
+            seat,
+            slot,
+            sent: 0,
+            printed: Vec::new(alloc),
+            told: Kind::Ilp,
+        }
+    }
+
+    /// The bytes of the last answer of status 200.
+    pub fn told(&self) -> &[u8]
+        ensures { result.now ≡ told_text self.now.told self.now.slot.reply self.now.printed.items }
+    {
+        match self.told {
+            Kind::Ilp => self.slot.reply(),
+            Kind::Admin => self.printed.as_slice(),
+        }
+    }
+}
