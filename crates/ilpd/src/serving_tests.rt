@@ -1,9 +1,11 @@
 //! The service on loopback.
 
+mod crowd;
+mod wire;
+
 use crate::serving::{ServeFault, serve};
 use admin_text::laws::setups;
 use admin_text::read_setup;
-use ilp_addr::Moment;
 use std::alloc::Global;
 use std::io::{Read, Write};
 use std::net::{Net, OpenListener, Shutdown, SocketAddr, TcpListener, TcpStream};
@@ -13,9 +15,7 @@ use std::test::Fail;
 use std::thread::{Threads, join};
 use std::time::{Clock, Duration};
 use std::{io, thread};
-
-// 2030-01-01T00:00:00Z.
-const START: u64 = 1_893_456_000_000;
+use wire::{FULFILL, Standing, Terms, bytes, good, posted, request, tenant_text};
 
 const CONFIG: &str =
     "0c460000000000000000323033303031303130303030313030303066687aadf862bd776c8fc18b8e9f8e20089714856ee233b3902a591d0d5f29250b706565722e636f6e66696700";
@@ -30,94 +30,20 @@ const BASE: &str =
 const SENT: &str =
     "0c4700000000000005dc323033303031303130303030303034303066687aadf862bd776c8fc18b8e9f8e20089714856ee233b3902a591d0d5f29250c672e61636d652e626f622e7800";
 
-const FULFILL: &str = "0d21000000000000000000000000000000000000000000000000000000000000000000";
-
 const UNREACHABLE: &str = "0e1c54303106672e61636d65107065657220756e726561636861626c6500";
 
 // A setup of one tenant whose second peer listens at that port, and which holds packets for 400 milliseconds at most.
 fn setup_with(alloc: Global, port: u16) -> Result<String, Fail> {
-    Ok(format!(in alloc;
-        "version = 1
-start = 1893456000000
-[[tenant]]
-name = \"acme\"
-address = \"g.acme\"
-admin = \"root-a\"
-journal = 64
-hold = 400
-[[tenant.peer]]
-name = \"alice\"
-role = \"peer\"
-token = \"tok-alice\"
-url = \"http://127.0.0.1:7801/ilp\"
-out_token = \"out-alice\"
-asset = \"USD\"
-scale = 2
-cap = 1000000
-ceiling = 1000000
-credit = 1000000
-burst = 100
-per_second = 100
-[[tenant.peer]]
-name = \"bob\"
-role = \"child\"
-token = \"tok-bob\"
-url = \"http://127.0.0.1:{port}/ilp\"
-out_token = \"out-bob\"
-asset = \"XRP\"
-scale = 9
-cap = 1000000
-ceiling = 1000000
-credit = 1000000
-burst = 100
-per_second = 100
-[[tenant.route]]
-prefix = \"g.acme.bob\"
-peer = \"bob\"
-[[tenant.rate]]
-from = \"alice\"
-to = \"bob\"
-num = 3
-den = 2
-"
-    )?)
-}
-
-/// A clock that stands at the start.
-struct Standing;
-
-impl workers::Clock for Standing {
-    fn now(&self) -> Moment {
-        Moment::new(START).unwrap_or_else(|| unreachable!())
-    }
-}
-
-fn bytes(alloc: Global, text: &str) -> Result<Vec<u8>, Fail> {
-    Ok(hex::decode(alloc, text)?)
-}
-
-// A request for acme, with that token and that body.
-fn request(alloc: Global, place: &str, token: &str, body: &[u8]) -> Result<Vec<u8>, Fail> {
-    let size = body.len();
-    let head = format!(in alloc;
-        "POST /{place}/acme HTTP/1.1\r\nAuthorization: Bearer {token}\r\nContent-Length: {size}\r\n\r\n"
+    let tenant = tenant_text(
+        alloc,
+        Terms {
+            name: "acme",
+            port,
+            journal: 64,
+            hold: 400,
+        },
     )?;
-    let mut whole = Vec::new(alloc);
-    whole.extend_from_slice(head.as_bytes())?;
-    whole.extend_from_slice(body)?;
-    Ok(whole)
-}
-
-// An answer of status 200 with that body.
-fn good(alloc: Global, kind: &str, body: &[u8]) -> Result<Vec<u8>, Fail> {
-    let size = body.len();
-    let head = format!(in alloc;
-        "HTTP/1.1 200 OK\r\nContent-Type: {kind}\r\nContent-Length: {size}\r\n\r\n"
-    )?;
-    let mut whole = Vec::new(alloc);
-    whole.extend_from_slice(head.as_bytes())?;
-    whole.extend_from_slice(body)?;
-    Ok(whole)
+    Ok(format!(in alloc; "version = 1\nstart = 1893456000000\n{tenant}")?)
 }
 
 // All that comes back on a connection of its own for these bytes.
@@ -214,17 +140,6 @@ enum Peer {
     Drips,
 }
 
-// What the peer is to be sent.
-fn posted(alloc: Global, port: u16) -> Result<Vec<u8>, Fail> {
-    let head = format!(in alloc;
-        "POST /ilp HTTP/1.1\r\nHost: 127.0.0.1:{port}\r\nAuthorization: Bearer out-bob\r\nAccept: application/octet-stream\r\nContent-Type: application/octet-stream\r\nContent-Length: 73\r\nConnection: close\r\n\r\n"
-    )?;
-    let mut whole = Vec::new(alloc);
-    whole.extend_from_slice(head.as_bytes())?;
-    whole.extend_from_slice(bytes(alloc, SENT)?.as_slice())?;
-    Ok(whole)
-}
-
 // A byte each 60 milliseconds, for over a second.
 fn drip(rt: &impl Clock, stream: &TcpStream) -> io::Result<()> {
     for _ in 0..20 {
@@ -266,8 +181,13 @@ fn taken(
 // A packet of alice's, and what the balances are afterwards.
 fn packet_and_balances(alloc: Global) -> Result<Vec<Vec<u8>>, Fail> {
     let mut requests = Vec::new(alloc);
-    requests.push(request(alloc, "ilp", "tok-alice", bytes(alloc, BASE)?.as_slice())?)?;
-    requests.push(request(alloc, "admin", "root-a", b"balances\n")?)?;
+    requests.push(request(
+        alloc,
+        "/ilp/acme",
+        "tok-alice",
+        bytes(alloc, BASE)?.as_slice(),
+    )?)?;
+    requests.push(request(alloc, "/admin/acme", "root", b"balances\n")?)?;
     Ok(requests)
 }
 
@@ -284,7 +204,7 @@ fn with_peer<
     let listener = TcpListener::bind(rt, "127.0.0.1:0")?;
     let port = listener.local_addr()?.port();
     let setup = setup_with(alloc, port)?;
-    let wanted = posted(alloc, port)?;
+    let wanted = posted(alloc, port, bytes(alloc, SENT)?.as_slice())?;
     let requests = packet_and_balances(alloc)?;
     let fulfill = bytes(alloc, FULFILL)?;
     let (answers, right) = join(
@@ -331,7 +251,12 @@ fn a_child_is_configured(rt: HostRuntime) -> Result<(), Fail> {
     let alloc = rt.alloc();
     let setup = setup_with(alloc, 7802)?;
     let mut requests = Vec::new(alloc);
-    requests.push(request(alloc, "ilp", "tok-bob", bytes(alloc, CONFIG)?.as_slice())?)?;
+    requests.push(request(
+        alloc,
+        "/ilp/acme",
+        "tok-bob",
+        bytes(alloc, CONFIG)?.as_slice(),
+    )?)?;
     let (answers, lines) = served(&rt, setup.as_str(), requests.as_slice())?;
     let wanted = good(
         alloc,
@@ -401,17 +326,17 @@ fn nobody_listens(rt: HostRuntime) -> Result<(), Fail> {
 // A request of acme's operator, and how its answer begins.
 static COMMANDS: [(&str, &str, &str); 5] = [
     (
-        "root-a",
+        "root",
         "peer remove alice",
         "HTTP/1.1 200 OK\r\nContent-Type: text/plain\r\nContent-Length: 8\r\n\r\nacme ok\n",
     ),
     (
-        "root-a",
+        "root",
         "route remove g.acme.x\n",
         "HTTP/1.1 200 OK\r\nContent-Type: text/plain\r\nContent-Length: 20\r\n\r\nacme refused absent\n",
     ),
-    ("root-a", "rates", "HTTP/1.1 400 Bad Request\r\n"),
-    ("root-b", "balances", "HTTP/1.1 401 Unauthorized\r\n"),
+    ("root", "rates", "HTTP/1.1 400 Bad Request\r\n"),
+    ("toor", "balances", "HTTP/1.1 401 Unauthorized\r\n"),
     ("tok-bob", "roll", "HTTP/1.1 401 Unauthorized\r\n"),
 ];
 
@@ -421,7 +346,7 @@ fn operators_are_answered(rt: HostRuntime) -> Result<(), Fail> {
     let setup = setup_with(alloc, 7802)?;
     let mut requests = Vec::new(alloc);
     for (token, command, _) in COMMANDS {
-        requests.push(request(alloc, "admin", token, command.as_bytes())?)?;
+        requests.push(request(alloc, "/admin/acme", token, command.as_bytes())?)?;
     }
     let (answers, lines) = served(&rt, setup.as_str(), requests.as_slice())?;
     assert!(rt; answers.len() == COMMANDS.len());
