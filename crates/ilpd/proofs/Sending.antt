@@ -7,7 +7,6 @@ use Rattle.books_shared.specs.contracts.books.Books as Books
 use Rattle.books_shared.specs.contracts.share.Share as Share
 use Rattle.meters.specs.contracts.meters.Meters as Meters
 use Rattle.common_types.specs.contracts.names.Name as Name
-use Rattle.common_types.specs.contracts.names.Token as Token
 use denote.RattleType.{RattleType}
 use denote.Ref.{NamedLft}
 use Rattle.meters.specs.contracts.meters.MeterSeat as MeterSeat

@@ -1,4 +1,4 @@
-use Rattle.std.proofs.Common.{ℕ, ◌≡◌, ◌+◌, rules, arith}
+use Rattle.std.proofs.Common.{◌≡◌, ◌+◌, rules, arith}
 use Rattle.std.proofs.lemmas.List.Elements.{All-pop}
 use Rattle.meters.specs.Seats.{count_of}
 use Rattle.ilpd.proofs.Sums.{sum_popped}

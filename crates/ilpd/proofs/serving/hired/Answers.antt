@@ -1,4 +1,4 @@
-use Rattle.std.proofs.Common.{ℕ, ◌≡◌, rules, All, sym, subst}
+use Rattle.std.proofs.Common.{◌≡◌, rules, All, sym, subst}
 use Rattle.std.specs.Prelude.{IfSome}
 use Rattle.std.proofs.lemmas.List.Elements.{All-pop, All-push}
 use Rattle.meters.specs.Seats.{count_of}

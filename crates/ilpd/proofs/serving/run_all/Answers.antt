@@ -1,4 +1,4 @@
-use Rattle.std.proofs.Common.{ℕ, ◌≡◌, ◌+◌, ◌<◌, ◌++◌, length, map, take, drop, vec_len, rules, All, refl, sym, subst}
+use Rattle.std.proofs.Common.{◌≡◌, ◌++◌, length, map, take, drop, vec_len, rules, All, refl, sym, subst}
 use Rattle.std.specs.List.{sum_by}
 use Rattle.std.proofs.Math.Seq.{take-append_seam}
 use Rattle.std.proofs.lemmas.List.Elements.{All-map}

@@ -1,7 +1,5 @@
-use Rattle.std.proofs.Common.{ℕ, ◌≡◌, ◌<◌, length, rules, ap, sym, subst, ◌∙◌}
+use Rattle.std.proofs.Common.{◌≡◌, length, rules, ap, subst, ◌∙◌}
 use Rattle.std.specs.Io.KnownBytes.{Appends}
-use Rattle.meters.specs.declared.kind.Kind.{Kind}
-use Rattle.meters.specs.Seats.{count_of, total_of}
 use Rattle.ilpd.specs.Served.{lines_upto}
 use Rattle.ilpd.proofs.Sums.{length_map}
 use Rattle.ilpd.proofs.serving.serve.Goals as goal

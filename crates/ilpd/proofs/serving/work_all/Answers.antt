@@ -1,4 +1,4 @@
-use Rattle.std.proofs.Common.{ℕ, ◌<◌, length, rules, slice_index_or, subst}
+use Rattle.std.proofs.Common.{◌<◌, length, rules, slice_index_or, subst}
 use Rattle.ilpd.specs.Answering.{HasServed}
 use denote.Param.{param}
 use denote.Param.Send.{IsSend, sendable}

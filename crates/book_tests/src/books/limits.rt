@@ -1,0 +1,105 @@
+//! The limits of setups and networks.
+
+use super::setups::{USUAL, add_peer, add_route, name, network, set_rate, tenant};
+use std::alloc::Global;
+use std::process::Abort;
+use std::test::Fail;
+use tenant_core::{CommandFault, Network, number_named};
+
+// Places of a journal, margin and longest hold, and whether they are a setup's.
+static SETUPS: [(u64, u64, u64, bool); 8] = [
+    (1, 1_000, 30_000, false),
+    (2, 0, 1, true),
+    (16_384, 60_000, 600_000, true),
+    (16_385, 1_000, 30_000, false),
+    (2, 60_001, 30_000, false),
+    (2, 1_000, 0, false),
+    (2, 1_000, 600_001, false),
+    (2, u64::MAX, 30_000, false),
+];
+
+#[test]
+fn limits_of_a_setup(rt: HostRuntime) -> Result<(), Fail> {
+    let alloc = rt.alloc();
+    for (journal, margin, hold, is_within) in SETUPS {
+        let found = tenant(alloc, journal, margin, hold, USUAL)?;
+        assert!(rt; found.is_some() == is_within, "{journal} {margin} {hold}");
+    }
+    Ok(())
+}
+
+fn expect_no_more_peers(rt: &impl Abort, alloc: Global, network: &mut Network) -> Result<(), Fail> {
+    let full = Err(CommandFault::Limit);
+    assert!(rt; add_peer(alloc, network, 256, USUAL)? == full);
+    let present = Err(CommandFault::Present);
+    assert!(rt; add_peer(alloc, network, 255, USUAL)? == present);
+    Ok(())
+}
+
+// Of 65 peers, 4,096 pairs have a rate, and then one more has none.
+fn expect_no_more_rates(rt: &impl Abort, alloc: Global, network: &mut Network) -> Result<(), Fail> {
+    for pair in 0..4_096u32 {
+        let from = pair / 64;
+        let other = pair % 64;
+        let to = if other < from { other } else { other + 1 };
+        set_rate(alloc, network, from, to, (1, 1))??;
+    }
+    let full = Err(CommandFault::Limit);
+    assert!(rt; set_rate(alloc, network, 64, 0, (1, 1))? == full);
+    assert!(rt; set_rate(alloc, network, 0, 1, (2, 1))? == Ok(()));
+    Ok(())
+}
+
+fn expect_no_more_routes(
+    rt: &impl Abort,
+    alloc: Global,
+    network: &mut Network,
+) -> Result<(), Fail> {
+    for route in 1..4_096u32 {
+        let prefix = format!(in alloc; "g.r{route}")?;
+        add_route(alloc, network, prefix.as_bytes(), b"p0")??;
+    }
+    let full = Err(CommandFault::Limit);
+    assert!(rt; add_route(alloc, network, b"g.one-more", b"p0")? == full);
+    let present = Err(CommandFault::Present);
+    assert!(rt; add_route(alloc, network, b"g.r1", b"p0")? == present);
+    Ok(())
+}
+
+#[test]
+fn limits_of_a_network(rt: HostRuntime) -> Result<(), Fail> {
+    let alloc = rt.alloc();
+    let mut network = network(alloc, USUAL, 256)?;
+    expect_no_more_peers(&rt, alloc, &mut network)?;
+    expect_no_more_rates(&rt, alloc, &mut network)?;
+    expect_no_more_routes(&rt, alloc, &mut network)
+}
+
+// A peer that comes, has this number, and goes.
+fn expect_number(
+    rt: &impl Abort,
+    alloc: Global,
+    network: &mut Network,
+    number: u32,
+) -> Result<(), Fail> {
+    add_peer(alloc, network, 0, USUAL)??;
+    let found = number_named(network, &name(b"p0")?).ok_or("the peer")?;
+    assert!(rt; u32::from(found) == number);
+    if network.routes().names_peer(found) {
+        panic!(rt; "no route leads to it");
+    }
+    network.remove_peer(found);
+    Ok(())
+}
+
+#[test]
+fn numbers_of_peers_are_never_used_again(rt: HostRuntime) -> Result<(), Fail> {
+    let alloc = rt.alloc();
+    let mut network = Network::new(alloc);
+    for number in 0..65_535u32 {
+        expect_number(&rt, alloc, &mut network, number)?;
+    }
+    let used_up = Err(CommandFault::Limit);
+    assert!(rt; add_peer(alloc, &mut network, 0, USUAL)? == used_up);
+    Ok(())
+}

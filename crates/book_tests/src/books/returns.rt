@@ -1,0 +1,132 @@
+//! What comes back, once for each packet, and what it moves.
+
+use super::setups::{
+    START, USUAL, Wanted, answer, book, expect_sent, owed_and_held, tick, verdict,
+};
+use std::process::Abort;
+use std::test::Fail;
+use tenant_core::{AnswerKey, Book, HoldFault, RejectCode, Verdict};
+
+/// What comes back for a packet of 1,000 units that goes on as 1,500, when, and whether a tick comes just before:
+/// the verdict, and what is owed after it.
+struct Return {
+    title: &'static str,
+    key: AnswerKey,
+    at: u64,
+    is_marked: bool,
+    verdict: Result<(), RejectCode>,
+    owed: (i64, i64),
+}
+
+static RETURNS: [Return; 8] = [
+    Return {
+        title: "a Fulfill that fits",
+        key: AnswerKey::Fulfilled([0; 32]),
+        at: START + 28_999,
+        is_marked: false,
+        verdict: Ok(()),
+        owed: (1_000, -1_500),
+    },
+    Return {
+        title: "a Fulfill that does not fit",
+        key: AnswerKey::Fulfilled([1; 32]),
+        at: START,
+        is_marked: false,
+        verdict: Err(RejectCode::WrongCondition),
+        owed: (0, 0),
+    },
+    Return {
+        title: "a Reject",
+        key: AnswerKey::Rejected,
+        at: START,
+        is_marked: false,
+        verdict: Ok(()),
+        owed: (0, 0),
+    },
+    Return {
+        title: "no answer",
+        key: AnswerKey::Fault,
+        at: START,
+        is_marked: false,
+        verdict: Err(RejectCode::PeerUnreachable),
+        owed: (0, 0),
+    },
+    Return {
+        title: "a Fulfill that is late",
+        key: AnswerKey::Fulfilled([0; 32]),
+        at: START + 29_000,
+        is_marked: false,
+        verdict: Err(RejectCode::TimedOut),
+        owed: (0, 0),
+    },
+    Return {
+        title: "a Fulfill after the mark",
+        key: AnswerKey::Fulfilled([0; 32]),
+        at: START,
+        is_marked: true,
+        verdict: Err(RejectCode::TimedOut),
+        owed: (0, 0),
+    },
+    Return {
+        title: "a Reject after the mark",
+        key: AnswerKey::Rejected,
+        at: START,
+        is_marked: true,
+        verdict: Err(RejectCode::TimedOut),
+        owed: (0, 0),
+    },
+    Return {
+        title: "no answer after the mark",
+        key: AnswerKey::Fault,
+        at: START,
+        is_marked: true,
+        verdict: Err(RejectCode::TimedOut),
+        owed: (0, 0),
+    },
+];
+
+// Nothing is held any more, and a second tick marks nothing.
+fn expect_marked(rt: &impl Abort, book: &mut Book) -> Result<(), Fail> {
+    assert!(rt; tick(book, START + 29_000)? == Ok(1));
+    assert!(rt; owed_and_held(book)? == (0, 0, 0, 0));
+    assert!(rt; tick(book, START + 29_000)? == Ok(0));
+    Ok(())
+}
+
+// No other hold is answered, and this one is once.
+fn expect_answered(rt: &impl Abort, book: &mut Book, row: &Return) -> Result<(), Fail> {
+    let title = row.title;
+    let none = Err(HoldFault::NoSuchHold);
+    let wanted = match row.verdict {
+        Ok(()) => Verdict::Relay,
+        Err(code) => verdict(Wanted::Refused(code)),
+    };
+    assert!(rt; answer(book, 1, row.at, row.key)? == none, "{title}");
+    assert!(rt; answer(book, 0, row.at, row.key)? == Ok(wanted), "{title}");
+    assert!(rt; answer(book, 0, row.at, row.key)? == none, "{title}");
+    Ok(())
+}
+
+fn expect_return(rt: &impl Abort, book: &mut Book, row: &Return) -> Result<(), Fail> {
+    let title = row.title;
+    expect_sent(rt, book)?;
+    if row.is_marked {
+        expect_marked(rt, book)?;
+    }
+    expect_answered(rt, book, row)?;
+    let (sender, receiver) = row.owed;
+    assert!(rt; owed_and_held(book)? == (sender, receiver, 0, 0), "{title}");
+    let entries = if row.is_marked { 4 } else { 2 };
+    assert!(rt; book.entries() == entries, "{title}");
+    assert!(rt; book.period() == 0, "{title}");
+    Ok(())
+}
+
+#[test]
+fn what_is_held_moves_once_on_both_sides(rt: HostRuntime) -> Result<(), Fail> {
+    for row in &RETURNS {
+        let mut book = book(rt.alloc(), 8, USUAL, START)?;
+        expect_return(&rt, &mut book, row)?;
+    }
+    Ok(())
+}
