@@ -1,2 +1,4 @@
 pub mod Fraction
 pub mod Price
+pub mod Account
+pub mod PurseKept

@@ -6,6 +6,8 @@
 #![tactic(auto)]
 
 pub mod laws;
+mod purse;
 mod rate;
 
+pub use purse::{Purse, PurseFault};
 pub use rate::{Rate, RateFault};

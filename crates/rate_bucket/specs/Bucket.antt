@@ -1,6 +1,5 @@
 -- Buckets: how many packets may come, by windows. Credit is counted in thousandths of a packet.
 use Rattle.std.specs.Prelude.{ℕ, ◌≡◌, ◌+◌, ◌-◌, ◌*◌, ◌≤◌, Bool, List, [], ◌∷◌, ◌++◌, length, min, nat_le}
-use Rattle.rate_bucket.specs.declared.credit.Credit.{Credit}
 
 -- what a packet costs
 abbrev pub packet : ℕ
@@ -49,7 +48,3 @@ pub record IsAdmitted (b : Stretch) (now : ℕ) : Type 0 where
   pub whole : packet * (length b.admitted + 1) ≤ b.credit + gained b.per_second b.start now
   pub windows : (before after : List ℕ) (at : ℕ) → b.admitted ≡ before ++ at ∷ after
       → packet * (length after + 2) ≤ full_bucket b.burst + gained b.per_second at now
-
--- what a credit is after these packets more, by the windows that they begin
-unfoldable pub credit_after : Credit → List ℕ → ℕ
-credit_after c ats = min (c.left - packet * length ats) (windows_left c.burst c.per_second c.now ats)

@@ -1,7 +1,7 @@
 //! Buckets: how many packets may come at once, and how many a second after that.
 #![tactic(auto)]
 
-mod credit;
+mod bucket;
 pub mod laws;
 
-pub use credit::{Credit, full_bucket};
+pub use bucket::{Bucket, PACKET, full_bucket};

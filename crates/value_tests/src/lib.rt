@@ -1,9 +1,11 @@
 //! Tests of single values through public functions, as tables of cases: lengths, addresses, targets, packets,
-//! configurations, prices, routes and counts.
+//! configurations, prices, purses, buckets, routes and counts.
 #![tactic(auto)]
 
 #[cfg(test)]
 mod addresses;
+#[cfg(test)]
+mod buckets;
 #[cfg(test)]
 mod ildcp;
 #[cfg(test)]
@@ -12,6 +14,8 @@ mod lengths;
 mod packets;
 #[cfg(test)]
 mod prices;
+#[cfg(test)]
+mod purses;
 #[cfg(test)]
 mod routes;
 #[cfg(test)]
