@@ -1,4 +1,6 @@
 pub mod Courses
+pub mod Ticking
+pub mod Slots
 pub mod Replays
 pub mod Purses
 pub mod Verdicts
@@ -10,3 +12,17 @@ pub mod Networks
 pub mod Presents
 pub mod Awaited
 pub mod Steady
+pub mod Finds
+pub mod Indexes
+pub mod Keyed
+pub mod Tokens
+pub mod Pairs
+pub mod Numbers
+pub mod ChangedLists
+pub mod Runnings
+pub mod Moving
+pub mod Levels
+pub mod Marking
+pub mod Ending
+pub mod Follow
+pub mod Openings

@@ -3,16 +3,18 @@ use Rattle.std.proofs.Common.{◌≡◌, ℕ, ◌+◌, ◌<◌, ◌≤◌, Bool,
 use Rattle.std.specs.Prelude.{neg_ℤ, unsigned_abs, Result, Ok, Err, OnOk, OnErr, Option, Some, None, IsSome, find, All, ◌&&◌, ◌||◌, option_map}
 use Rattle.std.specs.Option.{option_or}
 use Rattle.std.specs.FinMap.{empty, get, insert, remove, get-empty, get-insert, get-remove}
-use Rattle.std.specs.List.{filter, list_any}
+use Rattle.std.specs.List.{filter, list_any, AllPairs}
 use Rattle.std.specs.Ordering.{eq_by_cmp, nat_cmp}
 use Rattle.std.specs.Cmp.Lexicographic.{slice_cmp}
 use Rattle.std.specs.Str.{bytes_eq}
 use Rattle.std.proofs.lemmas.Bool.{and_parts, or_parts, not-true, ne_eqb, eq-eqb, eqb-true, le-leb}
 use Rattle.std.proofs.lemmas.Int.{ints}
 use Rattle.std.proofs.lemmas.Cmp.{nat_list_cmp_total}
-use Rattle.std.proofs.lemmas.List.{length_push, length-map}
+use Rattle.std.proofs.lemmas.List.{length_push, length-map, get_or-map}
 use Rattle.std.proofs.lemmas.List.Elements.{All-nil, All-tail, All-push, All-map, All-filter, filter_passes}
 use Rattle.std.proofs.lemmas.List.Folds.{find-append}
+use Rattle.std.proofs.lemmas.List.Kept.{AllPairs-filter}
+use Rattle.std.proofs.lemmas.List.Quantifiers.{all_pairs_push}
 use Rattle.std.proofs.lemmas.List.Sums.{length-filter, count_by-le-length}
 use Rattle.std.proofs.lemmas.Slice.Eq.{bytes_eq-Decides}
 use Rattle.tenant_core.specs.declared.peer.Level.{Level}
@@ -65,6 +67,7 @@ nobody_is =
       numbers = All-nil (λ (p : Peer). peer_numbered p.number [] ≡ Some p);
       tokens = All-nil (λ (p : Peer). peer_with_token p.terms.token [] ≡ Some p);
       names = All-nil (λ (p : Peer). peer_named p.terms.name [] ≡ Some p);
+      rising = λ i j d lt h. absurd (omega arith);
       next = All-nil (λ (p : Peer). p.number < 0);
       few = omega arith;
       routes = λ prefix n e. let none : get {R = slice_cmp nat_cmp} (empty {X = ℕ}) prefix ≡ None = get-empty (slice_cmp nat_cmp) prefix in absurd (is_none n (sym none ∙ e));
@@ -98,6 +101,7 @@ with_peer_is net t balance level is absent few numbers within small =
       numbers = found_push (λ (p : Peer). p.number) eqb net.peers peer is.numbers (none_numbered net.next_peer net.peers is.next) (eq-eqb net.next_peer net.next_peer refl);
       tokens = found_push (λ (p : Peer). p.terms.token) bytes_eq net.peers peer is.tokens texts.1 ((bytes_eq-Decides t.token t.token).1 refl);
       names = found_push (λ (p : Peer). p.terms.name) bytes_eq net.peers peer is.names texts.0 ((bytes_eq-Decides t.name t.name).1 refl);
+      rising = all_pairs_push (λ p q. p.number < q.number) net.peers peer is.rising is.next;
       next = All-push (λ p. p.number < net.next_peer + 1) net.peers peer (λ k d l. let less = is.next k d l in omega arith) (omega arith);
       few = omega arith;
       routes = λ prefix n e. some_push (λ p. eqb p.number n) net.peers peer (is.routes prefix n e);
@@ -154,6 +158,7 @@ changed_is net g number name token within balance is =
       numbers = found_map (λ (p : Peer). p.number) eqb g number net.peers is.numbers;
       tokens = found_map (λ (p : Peer). p.terms.token) bytes_eq g token net.peers is.tokens;
       names = found_map (λ (p : Peer). p.terms.name) bytes_eq g name net.peers is.names;
+      rising = rising_map;
       next = All-map (λ p. p.number < net.next_peer) g net.peers (λ k d l. let less = is.next k d l in let same = number (get_or net.peers k d) in omega arith);
       few = is.few;
       routes = λ prefix n e. some_map (λ p. eqb p.number n) g (λ x. ap (λ a. eqb a n) (number x)) net.peers (is.routes prefix n e);
@@ -164,6 +169,15 @@ changed_is net g number name token within balance is =
       terms = All-map (λ p. are_terms_within p.terms ≡ true) g net.peers (λ k d l. within (get_or net.peers k d) (is.terms k d l));
       balances = All-map (λ p. is_balance_within p.balance ≡ true) g net.peers (λ k d l. balance (get_or net.peers k d) (is.balances k d l));
     }
+  where
+    rising_map : AllPairs (λ p q. p.number < q.number) (map g net.peers)
+    rising_map i j d lt h =
+        let inside : j < length net.peers = omega (arith, length-map net.peers g) in
+        let first : (get_or (map g net.peers) i d).number ≡ (get_or net.peers i d).number =
+        ap (λ (p : Peer). p.number) (get_or-map g net.peers i d d (omega arith)) ∙ number (get_or net.peers i d) in
+        let second : (get_or (map g net.peers) j d).number ≡ (get_or net.peers j d).number =
+        ap (λ (p : Peer). p.number) (get_or-map g net.peers j d d inside) ∙ number (get_or net.peers j d) in
+        rw (first, second) (is.rising i j d lt inside)
 
 -- one peer of them changed
 pub one_changed_is : (net : Net) (n : ℕ) (change : Peer → Peer) → ((p : Peer) → (change p).number ≡ p.number)
@@ -263,6 +277,7 @@ without_peer_is net n is free =
       numbers = found_filter (λ (p : Peer). p.number) eqb keep net.peers is.numbers;
       tokens = found_filter (λ (p : Peer). p.terms.token) bytes_eq keep net.peers is.tokens;
       names = found_filter (λ (p : Peer). p.terms.name) bytes_eq keep net.peers is.names;
+      rising = AllPairs-filter (λ p q. p.number < q.number) keep net.peers is.rising;
       next = All-filter keep (λ p. p.number < net.next_peer) net.peers is.next;
       few = is.few;
       routes = λ prefix m e. some_filter (λ p. eqb p.number m) keep (other_kept m n (λ same. free (prefix, e ∙ ap Some same))) net.peers (is.routes prefix m e);
@@ -297,6 +312,7 @@ with_route_is net prefix n is there =
       numbers = is.numbers;
       tokens = is.tokens;
       names = is.names;
+      rising = is.rising;
       next = is.next;
       few = is.few;
       routes = leads;
@@ -325,6 +341,7 @@ without_route_is net prefix is =
       numbers = is.numbers;
       tokens = is.tokens;
       names = is.names;
+      rising = is.rising;
       next = is.next;
       few = is.few;
       routes = leads;
@@ -361,6 +378,7 @@ pushed_rate_is net r is from to other room =
       numbers = is.numbers;
       tokens = is.tokens;
       names = is.names;
+      rising = is.rising;
       next = is.next;
       few = is.few;
       routes = is.routes;
@@ -383,6 +401,7 @@ replaced_rate_is net r is from to =
       numbers = is.numbers;
       tokens = is.tokens;
       names = is.names;
+      rising = is.rising;
       next = is.next;
       few = is.few;
       routes = is.routes;

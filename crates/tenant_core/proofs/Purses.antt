@@ -110,7 +110,7 @@ within_by s n b hs f e w =
     record { most = v.most; least = v.least }
 
 -- a record that settles nothing leaves what a peer owed but for its packets
-base_after : (s : State) (r : Record) (n : ℕ) → settled_in n r ≡ 0 → settled_out n r ≡ 0 → base_of (recorded s (Some r)) n ≡ base_of s n
+pub base_after : (s : State) (r : Record) (n : ℕ) → settled_in n r ≡ 0 → settled_out n r ≡ 0 → base_of (recorded s (Some r)) n ≡ base_of s n
 base_after s r n i o =
     let owed : ℤ = opening_balance (peer_numbered n s.opening.network.peers) in
     let paid : sum_by (settled_in n) (s.records ++ r ∷ []) ≡ sum_by (settled_in n) s.records = sum_by_push (settled_in n) s.records r ∙ (ap (λ k. sum_by (settled_in n) s.records + k) i ∙ add-zero (sum_by (settled_in n) s.records)) in
@@ -236,7 +236,7 @@ taken_le_held : (f : Fate) (b t : Bool) (x : ℕ) → (b ≡ true → holds_amou
 taken_le_held f false t x h = omega arith
 taken_le_held f true t x h = rw (h refl) (le_refl (cond t x 0))
 
-open_takes_nothing : (f : Fate) (t : Bool) (x : ℕ) → awaits_answer f ≡ true → cond (took_amounts f && t) x 0 ≡ 0
+pub open_takes_nothing : (f : Fate) (t : Bool) (x : ℕ) → awaits_answer f ≡ true → cond (took_amounts f && t) x 0 ≡ 0
 open_takes_nothing Held t x e = refl
 open_takes_nothing Marked t x e = refl
 open_takes_nothing (Ended b) t x e = absurd cc

@@ -13,6 +13,16 @@ use Rattle.tenant_core.specs.Network.{Net, IsNetwork}
 use Rattle.tenant_core.specs.Periods.{next_opening}
 use Rattle.tenant_core.specs.Sound.{IsSound}
 use Rattle.tenant_core.specs.State.{State, opened, clock_of}
+use Rattle.std.specs.Prelude.{map}
+use Rattle.rate_bucket.specs.Running.{RunningLaws}
+use Rattle.tenant_core.specs.Periods.{carried_net}
+use Rattle.tenant_core.specs.Present.{network_of}
+use Rattle.tenant_core.specs.Running.{opened_purse, opened_level, purse_of, AreLevels, IsNamed}
+use Rattle.tenant_core.proofs.Levels.{levels_opened}
+use Rattle.tenant_core.proofs.Openings.{purses_opened, named_opened, AreFresh, carried_fresh}
+use Rattle.tenant_core.specs.Fresh.{IsFresh}
+use Rattle.tenant_core.specs.HoldTables.{Table}
+use Rattle.tenant_core.specs.declared.fresh.Fresh.{Fresh}
 use Rattle.tenant_core.proofs.Courses.{holds_of-opened}
 use Rattle.tenant_core.proofs.Presents.{network_of-opened}
 use Rattle.tenant_core.proofs.Purses.{opened_within}
@@ -21,12 +31,13 @@ use Rattle.tenant_core.proofs.Replays.{opened_replay}
 -- what a book with an empty journal keeps beside its opening
 pub record IsEmpty (c : Inside) : Type 0 where
   pub room : c.opening.journal + 1 ≤ vec_capacity c.records
-  pub holds_room : c.opening.journal ≤ vec_capacity c.holds
+  pub holds_room : c.opening.journal ≤ c.holds.room
   pub records : c.records.items ≡ []
-  pub holds : c.holds.items ≡ []
+  pub holds : c.holds.holds ≡ []
   pub network : c.network ≡ c.opening.network
   pub clock : c.clock ≡ c.opening.clock
-  pub awaited : c.awaited ≡ 0
+  pub purses : c.purses.items ≡ map opened_purse c.opening.network.peers
+  pub buckets : c.buckets.items ≡ map opened_level c.opening.network.peers
 
 opened_sound : (o : Opening) (s : State) (clock : ℕ) → IsSound s → hold_count s ≤ length s.records → o ≡ next_opening s clock → s.opening.period < max_period
     → clock ≤ last_moment → IsNetwork o.network → IsSound (opened o)
@@ -59,17 +70,16 @@ opened_sound o s clock sound few is before early network =
       clock = omega arith;
     }
 
-pub rolled_kept : (b c : Inside) (clock : ℕ) → IsKept b → c.opening ≡ next_opening (state_of b) clock → b.opening.period < max_period → clock ≤ last_moment
-    → IsNetwork c.opening.network → IsEmpty c → IsKept c
-rolled_kept b c clock k is before early network e =
+-- a book with an empty journal keeps what its type says
+pub empty_kept : (laws : RunningLaws) (c : Inside) → IsSound (opened c.opening) → IsNetwork c.opening.network → AreFresh c.opening.clock c.opening.network.peers → IsEmpty c → IsKept c
+empty_kept laws c sound network fresh e =
     let o : Opening = c.opening in
     let shown : state_of c ≡ opened o = ap (λ (rs : List Record). record { opening = o; records = rs }) e.records in
-    let few : hold_count (state_of b) ≤ length (state_of b).records = subst (λ (hs : List Hold). length hs ≤ length b.records.items) k.holds k.few in
-    let sound : IsSound (opened o) = opened_sound o (state_of b) clock k.sound few is before early network in
+    let net_now : network_of (opened o) ≡ o.network = network_of-opened (opened o) refl in
     let none = holds_of-opened (state_of c) e.records in
     let r1 = e.room in
     let r2 = e.holds_room in
-    let short : length c.holds.items ≡ 0 = ap length e.holds in
+    let short : length c.holds.holds ≡ 0 = ap length e.holds in
     record {
       room = omega arith;
       holds_room = omega arith;
@@ -77,6 +87,33 @@ rolled_kept b c clock k is before early network e =
       clock = e.clock ∙ ap clock_of (sym shown);
       network = e.network ∙ sym (network_of-opened (state_of c) e.records);
       holds = e.holds ∙ sym none;
-      awaited = e.awaited ∙ sym (ap (count_by is_open) none);
+      purses = e.purses ∙ (purses_opened o o.network.peers network refl ∙ ap (λ (t : State). map (purse_of t) (network_of t).peers) (sym shown));
+      buckets = subst (λ (t : State). AreLevels t (network_of t).peers c.buckets.items) (sym shown) (subst (λ (n : Net). AreLevels (opened o) n.peers c.buckets.items) (sym net_now) (levels_opened laws o o.network.peers c.buckets.items e.buckets fresh));
+      named = subst (λ (t : State). IsNamed t) (sym shown) (named_opened o network);
       sound = subst (λ (t : State). IsSound t) (sym shown) sound;
     }
+
+-- a book with what is fresh is empty
+pub fresh_empty : (o : Opening) (clock : ℕ) (f : Fresh) → o.clock ≡ clock → IsFresh o.network o.journal f
+    → IsEmpty (record { opening = o; network = f.network; records = f.records; clock = clock; holds = f.holds; purses = f.purses; buckets = f.buckets })
+fresh_empty o clock f at is =
+    record {
+      room = is.room;
+      holds_room = let room : o.journal ≡ f.holds.room = sym (ap (λ (t : Table). t.room) is.holds) in omega arith;
+      records = is.records;
+      holds = ap (λ (t : Table). t.holds) is.holds;
+      network = is.network;
+      clock = sym at;
+      purses = is.purses;
+      buckets = is.buckets;
+    }
+
+pub rolled_kept : (laws : RunningLaws) (b c : Inside) (clock : ℕ) → IsKept b → c.opening ≡ next_opening (state_of b) clock → b.opening.period < max_period → clock ≤ last_moment
+    → IsNetwork c.opening.network → IsEmpty c → IsKept c
+rolled_kept laws b c clock k is before early network e =
+    let o : Opening = c.opening in
+    let few : hold_count (state_of b) ≤ length (state_of b).records = subst (λ (hs : List Hold). length hs ≤ length b.records.items) k.holds k.few in
+    let peers : o.network.peers ≡ (carried_net (state_of b) clock (network_of (state_of b))).peers = ap (λ (x : Opening). x.network.peers) is in
+    let at : o.clock ≡ clock = ap (λ (x : Opening). x.clock) is in
+    let fresh : AreFresh o.clock o.network.peers = subst (λ n. AreFresh n o.network.peers) (sym at) (subst (λ ps. AreFresh clock ps) (sym peers) (carried_fresh (state_of b) clock (network_of (state_of b)))) in
+    empty_kept laws c (opened_sound o (state_of b) clock k.sound few is before early network) network fresh e

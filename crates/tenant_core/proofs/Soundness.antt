@@ -94,7 +94,7 @@ decided_sound s token key now from sound is room early =
 -- ---- a hold was answered
 
 -- what is taken was held: it was not marked
-relayed_held : (h : Hold) (clock : ℕ) (key : AnswerKey) → is_open h ≡ true → (is_fulfill key && is_relay (settle_answer h clock key)) ≡ true → holds_amounts h.fate ≡ true
+pub relayed_held : (h : Hold) (clock : ℕ) (key : AnswerKey) → is_open h ≡ true → (is_fulfill key && is_relay (settle_answer h clock key)) ≡ true → holds_amounts h.fate ≡ true
 relayed_held h clock key «open» taken =
     let rest : Verdict = cond (is_misfit key h.condition) (refuse WrongCondition) (cond (is_fault key) (refuse PeerUnreachable) Relay) in
     by h.fate rest «open» (and_parts (is_fulfill key) (is_relay (settle_answer h clock key)) taken).1

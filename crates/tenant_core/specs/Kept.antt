@@ -1,8 +1,9 @@
 -- What a book keeps beside its records.
-use Rattle.std.specs.Prelude.{◌≡◌, ◌≤◌, ◌+◌, length, vec_capacity}
+use Rattle.std.specs.Prelude.{◌≡◌, ◌≤◌, ◌+◌, map, length, vec_capacity}
 use Rattle.tenant_core.specs.declared.book.Book.TheInside.{Inside}
-use Rattle.tenant_core.specs.Holds.{holds_of, open_holds}
+use Rattle.tenant_core.specs.Holds.{holds_of}
 use Rattle.tenant_core.specs.Present.{network_of}
+use Rattle.tenant_core.specs.Running.{purse_of, AreLevels, IsNamed}
 use Rattle.tenant_core.specs.Sound.{IsSound}
 use Rattle.tenant_core.specs.State.{State, clock_of}
 
@@ -14,12 +15,15 @@ state_of b = record { opening = b.opening; records = b.records.items }
 pub record IsKept (b : Inside) : Type 0 where
   -- there is room for each entry that the journal may have and for a roll's, and for each hold
   pub room : b.opening.journal + 1 ≤ vec_capacity b.records
-  pub holds_room : b.opening.journal ≤ vec_capacity b.holds
-  pub few : length b.holds.items ≤ length b.records.items
-  -- the running numbers, the network and the holds are what the records say
+  pub holds_room : b.opening.journal ≤ b.holds.room
+  pub few : length b.holds.holds ≤ length b.records.items
+  -- the clock, the network and the holds are what the records say
   pub clock : b.clock ≡ clock_of (state_of b)
   pub network : b.network ≡ network_of (state_of b)
-  pub holds : b.holds.items ≡ holds_of (state_of b)
-  pub awaited : b.awaited ≡ open_holds (state_of b)
+  pub holds : b.holds.holds ≡ holds_of (state_of b)
+  -- each purse has the balance and the held amounts of the sums over the records, and each bucket has come from its windows
+  pub purses : b.purses.items ≡ map (purse_of (state_of b)) (network_of (state_of b)).peers
+  pub buckets : AreLevels (state_of b) (network_of (state_of b)).peers b.buckets.items
+  pub named : IsNamed (state_of b)
   -- the state is within its limits
   pub sound : IsSound (state_of b)

@@ -2,7 +2,7 @@
 use Rattle.std.specs.Prelude.{ℕ, ◌≡◌, ◌≤◌, ◌<◌, ◌+◌, ℤ, Bool, true, not, ◌||◌, List, [], ◌∷◌, ◌++◌, map, length, find}
 use Rattle.std.specs.Prelude.{All, Option, Some, None, IsSome, ◌==◌, nat_le, if◌then◌else◌, Result, Ok, Err, ◌&&◌}
 use Rattle.std.specs.FinMap.{empty, get, contains_key, insert, remove, len}
-use Rattle.std.specs.List.{filter, list_any}
+use Rattle.std.specs.List.{filter, list_any, AllPairs}
 use Rattle.std.specs.Str.{bytes_eq}
 use Rattle.rate_bucket.specs.Bucket.{full_bucket}
 use Rattle.route_table.specs.Routes.{RouteMap, max_routes}
@@ -155,6 +155,8 @@ pub record IsNetwork (net : Net) : Type 0 where
   pub numbers : All (λ p. peer_numbered p.number net.peers ≡ Some p) net.peers
   pub tokens : All (λ p. peer_with_token p.terms.token net.peers ≡ Some p) net.peers
   pub names : All (λ p. peer_named p.terms.name net.peers ≡ Some p) net.peers
+  -- numbers rise in the order in which peers were added
+  pub rising : AllPairs (λ p q. p.number < q.number) net.peers
   -- the next peer has a number of its own
   pub next : All (λ p. p.number < net.next_peer) net.peers
   pub few : net.next_peer ≤ max_peer_numbers

@@ -2,25 +2,33 @@
 
 use crate::command::{Answered, Command, Order};
 use crate::faults::{BookFault, CommandFault, HoldFault};
-use crate::hold::{Hold, begin_hold, copied_holds, end_hold, mark_overdue};
+use crate::fresh::{begin_period, next_period};
+use crate::ground::Ground;
+use crate::hold::begun_by;
+use crate::hold_table::HoldTable;
 use crate::journal::{
     AnswerEntry, AnswerKey, ChangeEntry, Entry, Outcome, PrepareKey, Record, RollEntry, TickEntry,
     copied_records, decide_entry,
 };
 use crate::judge::{Standing, child_of};
 use crate::limits::MAX_PERIOD;
+use crate::moves::{begin_hold, end_hold, mark_overdue};
 use crate::network::Network;
 use crate::opening::Opening;
-use crate::orders::change_of;
+use crate::orders::{change_of, place_changed};
 use crate::period::Period;
-use crate::periods::{next_network, next_opening, row_of, rows_of};
+use crate::periods::{next_opening, row_of, rows_of};
 use crate::routing::{peer_numbered, peer_with_token};
 use crate::row::Row;
+use crate::running::{charge, copied_purses, follow_buckets, follow_purses};
 use crate::setup::TenantSetup;
 use crate::verdict::Verdict;
 use common_types::Items;
 use ildcp_core::Child;
 use ilp_addr::{Moment, Target};
+use money_core::Purse;
+use rate_bucket::Bucket;
+use rate_bucket::laws::running;
 use route_table::PeerNo;
 use std::alloc::{AllocError, Global};
 use std::marker::Model;
@@ -34,9 +42,10 @@ pub struct Book {
     network: Network,
     records: Vec<Record>,
     clock: u64,
-    holds: Vec<Hold>,
-    // How many of the holds await their answers.
-    awaited: u64,
+    holds: HoldTable,
+    // For each peer, at its place among them.
+    purses: Vec<Purse>,
+    buckets: Vec<Bucket>,
 }
 
 impl Model for Book {
@@ -57,6 +66,7 @@ impl Model for Book {
 
 impl Book {
     ghost use Rattle.std.specs.Prelude.{◌≡◌, ◌<◌, ◌≤◌, length, IfOk, IfSome, option_copied, option_map};
+    ghost use Rattle.tenant_core.specs.Answer.{has_no_place};
     ghost use Rattle.tenant_core.specs.State.{opened, opening_of};
     ghost use Rattle.tenant_core.specs.Limits.{max_tenants};
     ghost use Rattle.tenant_core.specs.Network.{peer_numbered, peer_with_token};
@@ -80,12 +90,11 @@ impl Book {
     {
         let terms = setup.terms();
         let clock = start.millis();
-        let records = Vec::with_capacity(alloc, terms.journal as usize + 1)?;
-        let holds = Vec::with_capacity(alloc, terms.journal as usize)?;
         let mut network = terms.network.copy(alloc)?;
         network.begin(clock);
         network.is_network();
-        let present = network.copy(alloc)?;
+        running();
+        let fresh = begin_period(alloc, &network, terms.journal)?;
         let opening = Opening {
             tenant,
             name: terms.name.copy(),
@@ -100,11 +109,12 @@ impl Book {
         };
         Ok(Book {
             opening,
-            network: present,
-            records,
+            network: fresh.network,
+            records: fresh.records,
             clock,
-            holds,
-            awaited: 0,
+            holds: fresh.holds,
+            purses: fresh.purses,
+            buckets: fresh.buckets,
         })
     }
 
@@ -116,14 +126,17 @@ impl Book {
         let opening = self.opening.copy(alloc)?;
         let network = self.network.copy(alloc)?;
         let records = copied_records(alloc, self.records.as_slice(), places + 1)?;
-        let holds = copied_holds(alloc, self.holds.as_slice(), places)?;
+        let holds = self.holds.copy(alloc)?;
+        let purses = copied_purses(alloc, self.purses.as_slice())?;
+        let buckets = Vec::from_slice(alloc, self.buckets.as_slice())?;
         Ok(Book {
             opening,
             network,
             records,
             clock: self.clock,
             holds,
-            awaited: self.awaited,
+            purses,
+            buckets,
         })
     }
 
@@ -140,7 +153,7 @@ impl Book {
             ≡ option_map (λ p. p.terms.name) (peer_numbered peer (network_of self.now).peers) }
         ensures short { IfSome result (λ name. length name.now ≤ 32) }
     {
-        match peer_numbered(self.network.peers(), peer) {
+        match peer_numbered(&self.network, peer) {
             Some(peer) => Some(peer.terms.name.as_bytes()),
             None => None,
         }
@@ -151,7 +164,7 @@ impl Book {
         ensures { option_copied result
             ≡ option_map (λ p. p.terms.target) (peer_numbered peer (network_of self.now).peers) }
     {
-        match peer_numbered(self.network.peers(), peer) {
+        match peer_numbered(&self.network, peer) {
             Some(peer) => Some(&peer.terms.target),
             None => None,
         }
@@ -162,7 +175,7 @@ impl Book {
         ensures { result ≡ option_map (child_of self.now.opening)
             (peer_with_token token.now (network_of self.now).peers) }
     {
-        let peer = peer_with_token(self.network.peers(), token)?;
+        let peer = peer_with_token(&self.network, token)?;
         Some(child_of(&self.opening, peer))
     }
 
@@ -184,8 +197,8 @@ impl Book {
     pub fn balance(&self, peer: PeerNo) -> Option<Row>
         ensures { result ≡ option_map (row_of self.now) (peer_numbered peer (network_of self.now).peers) }
     {
-        let peer = peer_numbered(self.network.peers(), peer)?;
-        Some(row_of(&self.standing(), peer))
+        let party = self.standing().numbered(peer)?;
+        Some(row_of(party.peer, party.purse))
     }
 
     /// The tenant's own address.
@@ -205,16 +218,24 @@ impl Book {
             opening: &self.opening,
             network: &self.network,
             records: self.records.as_slice(),
-            holds: self.holds.as_slice(),
-            awaited: self.awaited,
+            purses: self.purses.as_slice(),
+            buckets: self.buckets.as_slice(),
+            holds: &self.holds,
         }
+    }
+
+    // Whether the journal has no room for another entry and the answers of all open holds.
+    fn has_no_place(&self) -> bool
+        ensures { result ≡ has_no_place self.now }
+    {
+        self.records.len() as u64 + self.holds.awaited() as u64 + 1 > self.opening.journal
     }
 
     // What the type keeps, for whoever holds a book.
     pub(crate) fn is_sound(&self)
         ensures { IsSound self.now }
     {
-        let _awaited = self.awaited;
+        let _clock = self.clock;
     }
 }
 
@@ -249,18 +270,31 @@ impl Book {
         ensures records { self.new ≡ decided self.old token.now (key_of key.now) now }
         ensures sooner { IsSooner result key.now.expiry }
     {
+        running();
         let standing = self.standing();
-        let Some(from) = peer_with_token(standing.network.peers(), token) else {
+        let Some(from) = standing.sender(token) else {
             return Verdict::Unknown;
         };
         if standing.is_full() {
             return Verdict::NoRoom;
         }
         let clock = self.clock.max(now.millis());
-        let verdict = standing.verdict_for_sender(from, key, clock);
-        let entry = decide_entry(from.number, key, now);
+        let verdict = standing.verdict_for_sender(&from, key, clock);
+        let entry = decide_entry(from.peer.number, key, now);
+        let place = from.place;
+        charge(&mut self.buckets, place, clock);
+        let ground = Ground {
+            opening: &self.opening,
+            network: &self.network,
+            records: self.records.as_slice(),
+        };
+        begin_hold(
+            &ground,
+            &mut self.purses,
+            &mut self.holds,
+            begun_by(&entry, verdict),
+        );
         self.clock = clock;
-        self.awaited += begin_hold(&mut self.holds, &entry, verdict);
         self.records.push_reserved(Record {
             entry: Entry::Decide(entry),
             outcome: Outcome::Packet(verdict),
@@ -295,10 +329,21 @@ impl Book {
         ensures records { self.new ≡ answered self.old hold now key }
     {
         let clock = self.clock.max(now.millis());
-        let Some(verdict) = end_hold(&mut self.holds, hold, clock, &key) else {
+        let ground = Ground {
+            opening: &self.opening,
+            network: &self.network,
+            records: self.records.as_slice(),
+        };
+        let Some(verdict) = end_hold(
+            &ground,
+            &mut self.purses,
+            &mut self.holds,
+            hold,
+            clock,
+            &key,
+        ) else {
             return Err(HoldFault::NoSuchHold);
         };
-        self.awaited -= 1;
         self.clock = clock;
         self.records.push_reserved(Record {
             entry: Entry::Answer(AnswerEntry {
@@ -317,7 +362,7 @@ impl Book {
     fn order(&mut self, alloc: Global, order: &Order, now: Moment) -> Result<(), CommandFault>
         ensures { IsOrdered result (ordered self.old order.now) self.old self.new now }
     {
-        if self.records.len() as u64 + self.awaited + 1 > self.opening.journal {
+        if self.has_no_place() {
             return Err(CommandFault::Full);
         }
         if let Some(fault) = self.standing().refusal(order) {
@@ -328,8 +373,14 @@ impl Book {
         };
         let clock = self.clock.max(now.millis());
         let level = self.standing().level_left(clock, &change);
+        let place = place_changed(&self.network, &change);
+        self.purses.reserve(1)?;
+        self.buckets.reserve(1)?;
         self.network.apply(alloc, &change, level)?;
         self.network.is_network();
+        follow_purses(&mut self.purses, &change, place);
+        follow_buckets(&mut self.buckets, &change, place, clock);
+        running();
         self.clock = clock;
         self.records.push_reserved(Record {
             entry: Entry::Change(ChangeEntry {
@@ -350,11 +401,16 @@ impl Book {
         ensures count { result ≡ tick_result self.old now }
         ensures records { self.new ≡ ticked self.old now }
     {
-        if self.records.len() as u64 + self.awaited + 1 > self.opening.journal {
+        if self.has_no_place() {
             return Err(BookFault::Full);
         }
         self.clock = self.clock.max(now.millis());
-        let count = mark_overdue(&mut self.holds, self.clock);
+        let ground = Ground {
+            opening: &self.opening,
+            network: &self.network,
+            records: self.records.as_slice(),
+        };
+        let count = mark_overdue(&ground, &mut self.purses, &mut self.holds, self.clock);
         self.records.push_reserved(Record {
             entry: Entry::Tick(TickEntry { now: now.millis() }),
             outcome: Outcome::Ticked(count),
@@ -366,34 +422,32 @@ impl Book {
     fn roll(&mut self, alloc: Global, now: Moment) -> Result<Period, CommandFault>
         ensures { IsRolled result self.old self.new now }
     {
-        if self.awaited > 0 {
+        if self.holds.awaited() > 0 {
             return Err(CommandFault::InUse);
         }
         if self.opening.period >= MAX_PERIOD {
             return Err(CommandFault::Limit);
         }
         let clock = self.clock.max(now.millis());
-        let standing = self.standing();
-        let network = next_network(alloc, &standing, clock)?;
-        network.is_network();
-        let present = network.copy(alloc)?;
-        let rows = rows_of(alloc, &standing, self.network.peers())?;
-        let records = Vec::with_capacity(alloc, self.opening.journal as usize + 1)?;
-        let holds = Vec::with_capacity(alloc, self.opening.journal as usize)?;
-        let next = next_opening(&self.opening, clock, self.holds.len() as u64, network);
-        let opening = mem::replace(&mut self.opening, next);
-        let mut closed = mem::replace(&mut self.records, records);
+        let next = next_period(alloc, &self.standing(), clock)?;
+        next.network.is_network();
+        running();
+        let opening = next_opening(&self.opening, clock, self.holds.len() as u64, next.network);
+        let opening = mem::replace(&mut self.opening, opening);
+        let mut closed = mem::replace(&mut self.records, next.fresh.records);
         closed.push_reserved(Record {
             entry: Entry::Roll(RollEntry { now: now.millis() }),
             outcome: Outcome::Rolled,
         });
-        self.network = present;
+        self.network = next.fresh.network;
         self.clock = clock;
-        self.holds = holds;
+        self.holds = next.fresh.holds;
+        self.purses = next.fresh.purses;
+        self.buckets = next.fresh.buckets;
         Ok(Period {
             opening,
             records: Items::from_vec(closed),
-            rows: Items::from_vec(rows),
+            rows: Items::from_vec(next.rows),
         })
     }
 
@@ -401,7 +455,7 @@ impl Book {
     fn balances(&self, alloc: Global) -> Result<Vec<Row>, AllocError>
         ensures { IfOk result (λ rows. rows.items ≡ map (row_of self.now) (network_of self.now).peers) }
     {
-        rows_of(alloc, &self.standing(), self.network.peers())
+        rows_of(alloc, &self.standing())
     }
 
     /// Does what an operator commands at that moment.

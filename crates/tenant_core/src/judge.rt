@@ -3,100 +3,201 @@
 ghost use Rattle.std.specs.Prelude.{◌≡◌};
 ghost use Rattle.ildcp_core.specs.Request.{checked_request};
 ghost use Rattle.tenant_core.specs.Judge.{refuse_over, child_of, config_verdict};
+ghost use Rattle.tenant_core.specs.Holds.{open_holds};
 
-use crate::bucket::is_admitted;
-use crate::hold::Hold;
+use crate::hold_table::HoldTable;
 use crate::journal::{PrepareKey, Record};
 use crate::limits::MAX_HOLDS;
 use crate::network::Network;
 use crate::opening::Opening;
 use crate::peer::Peer;
-use crate::purse::{balance, held_in, held_out, is_owed_more, owes_more};
-use crate::routing::{onward, outgoing_expiry, rate_between, stays_here};
+use crate::routing::{outgoing_expiry, stays_here};
 use crate::verdict::{RejectCode, Verdict, refuse};
 use ildcp_core::{Child, ChildParts, IldcpFault, check, is_config};
-use money_core::Rate;
+use ilp_addr::Address;
+use money_core::{Purse, Rate};
+use rate_bucket::{Bucket, PACKET};
+use route_table::PeerNo;
 
-/// What the checks see of a book: what its period began with, whom the tenant deals with, the records since, their holds, and how
-/// many of these await their answers.
+/// What the checks see of a book: what its period began with, whom the tenant deals with, the records since, the peers' purses
+/// and buckets, and the holds.
 #[derive(Clone, Copy)]
 pub struct Standing<'a> {
     pub opening: &'a Opening,
     pub network: &'a Network,
     pub records: &'a [Record],
-    pub holds: &'a [Hold],
-    pub awaited: u64,
+    pub purses: &'a [Purse],
+    pub buckets: &'a [Bucket],
+    pub holds: &'a HoldTable,
+}
+
+/// A peer with its purse and its bucket, and where it stands among the peers.
+#[derive(Clone, Copy)]
+pub struct Party<'a> {
+    pub place: usize,
+    pub peer: &'a Peer,
+    pub purse: &'a Purse,
+    pub bucket: &'a Bucket,
+}
+
+impl<'a> Standing<'a> {
+    ghost use Rattle.std.specs.Prelude.{◌≡◌, ◌<◌, ◌≤◌, IfSome, is_some, true, length, option_map, slice_get, Some};
+    ghost use Rattle.tenant_core.specs.Network.{peer_numbered, peer_with_token};
+    ghost use Rattle.tenant_core.specs.Routing.{onward};
+    ghost use Rattle.tenant_core.specs.Standing.{state_shown, IsShown, IsParty, peer_of};
+
+    /// The peer that stands at that place.
+    pub fn party(&self, place: usize) -> Party<'a>
+        requires shown { IsShown self.now }
+        requires inside { place < length self.now.network.now.peers }
+        ensures peer { slice_get self.now.network.now.peers place ≡ Some (peer_of result) }
+        ensures kept { IsParty (state_shown self.now) result }
+        ensures place { result.place ≡ place }
+    {
+        Party {
+            place,
+            peer: &self.network.peers()[place],
+            purse: &self.purses[place],
+            bucket: &self.buckets[place],
+        }
+    }
+
+    /// The peer that shows this token.
+    pub fn sender(&self, token: &[u8]) -> Option<Party<'a>>
+        requires { IsShown self.now }
+        ensures peer { option_map peer_of result ≡ peer_with_token token.now self.now.network.now.peers }
+        ensures kept { IfSome result (IsParty (state_shown self.now)) }
+        ensures place { IfSome result (λ t. slice_get self.now.network.now.peers t.place ≡ Some (peer_of t)) }
+    {
+        let place = self.network.place_with_token(token)?;
+        Some(self.party(place))
+    }
+
+    /// The peer of this number.
+    pub fn numbered(&self, number: PeerNo) -> Option<Party<'a>>
+        requires { IsShown self.now }
+        ensures peer { option_map peer_of result ≡ peer_numbered number self.now.network.now.peers }
+        ensures kept { IfSome result (IsParty (state_shown self.now)) }
+    {
+        let place = self.network.place_numbered(number)?;
+        Some(self.party(place))
+    }
+
+    /// The peer of this number, which is there.
+    pub fn present(&self, number: PeerNo) -> Party<'a>
+        requires shown { IsShown self.now }
+        requires present { is_some (peer_numbered number self.now.network.now.peers) ≡ true }
+        ensures number { (peer_of result).number ≡ number }
+        ensures kept { IsParty (state_shown self.now) result }
+    {
+        self.numbered(number).unwrap()
+    }
+
+    // The peer that a packet of `from` goes on to: that of the best route, unless it leads back.
+    fn onward(&self, from: PeerNo, destination: &Address<'_>) -> Option<Party<'a>>
+        requires { IsShown self.now }
+        ensures peer { option_map peer_of result ≡ onward self.now.network.now from destination.now }
+        ensures kept { IfSome result (IsParty (state_shown self.now)) }
+    {
+        match self.network.routes().find(destination) {
+            Some(to) if to != from => self.numbered(to),
+            _ => None,
+        }
+    }
 }
 
 impl Standing<'_> {
-    ghost use Rattle.std.specs.Prelude.{◌≡◌, ◌≤◌, true};
+    ghost use Rattle.std.specs.Prelude.{◌≡◌, ◌≤◌, true, false, not};
     ghost use Rattle.ilp_addr.specs.Timestamp.{last_moment};
+    ghost use Rattle.rate_bucket.specs.Bucket.{is_admitted};
+    ghost use Rattle.tenant_core.specs.Bucket.{is_limited, stretch_of};
     ghost use Rattle.tenant_core.specs.Key.{key_of};
     ghost use Rattle.tenant_core.specs.Purse.{is_over_ceiling, is_over_credit};
     ghost use Rattle.tenant_core.specs.Judge.{verdict_for_sender, verdict_at_rate, is_full, is_recorded, IsSooner};
-    ghost use Rattle.tenant_core.specs.Standing.{state_shown, IsShown};
+    ghost use Rattle.tenant_core.specs.State.{clock_of};
+    ghost use Rattle.tenant_core.specs.Standing.{state_shown, IsShown, IsParty, CanGoOn, CanGoTo, peer_of};
+
+    // How many packets await their answers.
+    fn awaited(&self) -> u64
+        requires { IsShown self.now }
+        ensures { result ≡ open_holds (state_shown self.now) }
+    {
+        self.holds.awaited() as u64
+    }
 
     /// Whether the journal has no room for another entry, its answer and those of all open holds.
     pub fn is_full(&self) -> bool
         requires { IsShown self.now }
         ensures { result ≡ is_full (state_shown self.now) }
     {
-        self.records.len() as u64 + self.awaited + 2 > self.opening.journal
+        self.records.len() as u64 + self.awaited() + 2 > self.opening.journal
     }
 
     /// The verdict at that clock on a packet of that peer, for which the journal has room.
-    pub fn verdict_for_sender(&self, from: &Peer, key: &PrepareKey<'_>, clock: u64) -> Verdict
+    pub fn verdict_for_sender(&self, from: &Party<'_>, key: &PrepareKey<'_>, clock: u64) -> Verdict
         requires shown { IsShown self.now }
+        requires sender { IsParty (state_shown self.now) from.now }
         requires clock { clock ≤ last_moment }
-        ensures verdict { result ≡ verdict_for_sender (state_shown self.now) from.now (key_of key.now) clock }
+        requires later { clock_of (state_shown self.now) ≤ clock }
+        ensures verdict { result
+            ≡ verdict_for_sender (state_shown self.now) (peer_of from.now) (key_of key.now) clock }
         ensures recorded { is_recorded result ≡ true }
         ensures sooner { IsSooner result key.now.expiry }
+        ensures limited { is_limited result
+            ≡ not (is_admitted (stretch_of (state_shown self.now) (peer_of from.now)) clock) }
+        ensures goes { CanGoOn (state_shown self.now) (peer_of from.now) key.now.amount result }
     {
-        let network = self.network;
-        if !is_admitted(from, self.records, clock) {
+        if from.bucket.credit(clock) < PACKET {
             return refuse(RejectCode::RateLimited);
         }
         if key.expiry <= clock {
             return refuse(RejectCode::InsufficientTimeout);
         }
         if is_config(key.destination) {
-            return config_verdict(&child_of(self.opening, from), key);
+            return config_verdict(&child_of(self.opening, from.peer), key);
         }
         if stays_here(self.opening, key.destination) {
             return refuse(RejectCode::Unreachable);
         }
-        if key.amount > from.terms.limits.cap.get() {
-            return refuse_over(key.amount, from.terms.limits.cap.get());
+        let cap = from.peer.terms.limits.cap.get();
+        if key.amount > cap {
+            return refuse_over(key.amount, cap);
         }
-        let Some(to) = onward(network, from.number, key.destination) else {
+        let Some(to) = self.onward(from.peer.number, key.destination) else {
             return refuse(RejectCode::Unreachable);
         };
-        let Some(rate) = rate_between(network, from.number, to.number) else {
+        let Some(rate) = self.network.rate_between(from.peer.number, to.peer.number) else {
             return refuse(RejectCode::Unreachable);
         };
-        self.verdict_at_rate(from, to, rate, key, clock)
+        self.verdict_at_rate(from, &to, rate, key, clock)
     }
 
     // The verdict on a packet of one peer for another, at the rate between them.
     fn verdict_at_rate(
         &self,
-        from: &Peer,
-        to: &Peer,
+        from: &Party<'_>,
+        to: &Party<'_>,
         rate: Rate,
         key: &PrepareKey<'_>,
         clock: u64,
     ) -> Verdict
         requires shown { IsShown self.now }
+        requires sender { IsParty (state_shown self.now) from.now }
+        requires receiver { IsParty (state_shown self.now) to.now }
         requires clock { clock ≤ last_moment }
-        ensures verdict { result ≡ verdict_at_rate (state_shown self.now) from.now to.now rate (key_of key.now) clock }
+        ensures verdict { result ≡ verdict_at_rate (state_shown self.now) (peer_of from.now) (peer_of to.now) rate
+            (key_of key.now) clock }
         ensures recorded { is_recorded result ≡ true }
         ensures sooner { IsSooner result key.now.expiry }
+        ensures limited { is_limited result ≡ false }
+        ensures goes { CanGoTo (state_shown self.now) (peer_of from.now) (peer_of to.now) key.now.amount result }
     {
+        let cap = to.peer.terms.limits.cap.get();
         let price = rate.price(key.amount);
-        if price > to.terms.limits.cap.get() as u128 {
+        if price > cap as u128 {
             return refuse_over(
                 key.amount,
-                rate.greatest(from.terms.limits.cap.get(), to.terms.limits.cap.get()),
+                rate.greatest(from.peer.terms.limits.cap.get(), cap),
             );
         }
         let expiry = outgoing_expiry(self.opening, key.expiry, clock);
@@ -104,42 +205,18 @@ impl Standing<'_> {
             return refuse(RejectCode::InsufficientTimeout);
         }
         let amount = price as u64;
-        if self.is_over_ceiling(from, key.amount) || self.is_over_credit(to, amount) {
+        if from.purse.passes_ceiling(key.amount) || to.purse.passes_credit(amount) {
             return refuse(RejectCode::InsufficientLiquidity);
         }
-        if self.awaited >= MAX_HOLDS {
+        if self.awaited() >= MAX_HOLDS {
             return refuse(RejectCode::Busy);
         }
         Verdict::Forward {
             hold: self.opening.next_hold + self.holds.len() as u64,
-            peer: to.number,
+            peer: to.peer.number,
             amount,
             expiry,
         }
-    }
-
-    fn is_over_ceiling(&self, from: &Peer, amount: u64) -> bool
-        requires { IsShown self.now }
-        ensures { result ≡ is_over_ceiling (state_shown self.now) from.now amount }
-    {
-        let held = held_in(self.holds, from.number) + amount as u128;
-        owes_more(
-            balance(self.opening, self.records, self.holds, from.number),
-            held,
-            from.terms.limits.ceiling.get(),
-        )
-    }
-
-    fn is_over_credit(&self, to: &Peer, amount: u64) -> bool
-        requires { IsShown self.now }
-        ensures { result ≡ is_over_credit (state_shown self.now) to.now amount }
-    {
-        let held = held_out(self.holds, to.number) + amount as u128;
-        is_owed_more(
-            balance(self.opening, self.records, self.holds, to.number),
-            held,
-            to.terms.limits.credit.get(),
-        )
     }
 }
 

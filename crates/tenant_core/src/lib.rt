@@ -2,24 +2,29 @@
 #![tactic(auto)]
 
 mod book;
-mod bucket;
 mod command;
 mod faults;
+mod fresh;
+mod ground;
 mod hold;
+mod hold_table;
 mod journal;
 mod judge;
 pub mod laws;
 pub mod limits;
+mod moves;
 mod network;
 mod opening;
 mod orders;
 mod peer;
 mod period;
 mod periods;
+mod places;
 mod purse;
 mod refusals;
 mod routing;
 mod row;
+mod running;
 mod settle;
 mod setup;
 mod terms;

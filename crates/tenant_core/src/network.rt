@@ -1,34 +1,41 @@
 //! Whom a tenant deals with, and how: its peers, the routes to them, and the rates between them.
 
-ghost use Rattle.std.specs.Prelude.{◌≡◌, ◌||◌, ◌==◌, not, map, IfOk};
-ghost use Rattle.std.specs.List.{filter, list_any};
-ghost use Rattle.std.specs.Str.{bytes_eq};
-ghost use Rattle.tenant_core.specs.Network.{is_present, is_for_pair, names_peer, has_pair, replaced_rate};
-ghost use Rattle.tenant_core.specs.Network.{changed_peer, filled};
+ghost use Rattle.std.specs.Prelude.{◌≡◌, ◌==◌, not, map, IfOk};
+ghost use Rattle.std.specs.List.{filter};
+ghost use Rattle.tenant_core.specs.Network.{names_peer, changed_peer, filled};
 
 use crate::faults::CommandFault;
 use crate::journal::Change;
 use crate::limits::{MAX_PEER_NUMBERS, MAX_PEERS, MAX_RATES};
 use crate::peer::{Level, Peer};
+use crate::places::{
+    free_place, order_by_pair, order_by_token, search_number, search_pair, search_token,
+};
 use crate::terms::{Balance, BucketTerms, PeerLimits, PeerTerms, RateTerms};
 use ilp_addr::Prefix;
+use money_core::Rate;
 use rate_bucket::full_bucket;
 use route_table::{MAX_ROUTES, PeerNo, RouteFault, Routes};
 use std::alloc::{AllocError, Global};
 use std::marker::Model;
 
 /// Whom a tenant deals with, and how. Its type keeps that peers are told apart by number, name and token, that routes and
-/// rates name peers that are there, and that an ordered pair of peers has one rate.
+/// rates name peers that are there, and that an ordered pair of peers has one rate. Numbers, tokens and pairs are looked up
+/// without a walk over the list.
 #[derive(Drop)]
 pub struct Network {
     next_peer: PeerNo,
     peers: Vec<Peer>,
+    // The places of the peers, in the order of their tokens.
+    by_token: Vec<u16>,
     routes: Routes,
     rates: Vec<RateTerms>,
+    // The places of the rates, in the order of their pairs.
+    by_pair: Vec<u16>,
 }
 
 impl Model for Network {
-    ghost use Rattle.tenant_core.specs.Network.{Net, IsNetwork};
+    ghost use Rattle.tenant_core.specs.Network.{Net};
     ghost use Rattle.std.specs.Coded.{codes};
     ghost use Rattle.route_table.specs.contracts.routes.Routes as table;
 
@@ -40,20 +47,9 @@ impl Model for Network {
 
     ghost view = { net_of };
 
-    ghost invariant = { λ n. IsNetwork (net_of n) };
-}
+    ghost use Rattle.tenant_core.specs.Indexed.{IsIndexed};
 
-fn is_like(peer: &Peer, terms: &PeerTerms) -> bool
-    ensures { result ≡ (bytes_eq peer.now.terms.name terms.now.name || bytes_eq peer.now.terms.token terms.now.token) }
-{
-    peer.terms.name.as_bytes() == terms.name.as_bytes()
-        || peer.terms.token.as_bytes() == terms.token.as_bytes()
-}
-
-fn is_present(peers: &[Peer], terms: &PeerTerms) -> bool
-    ensures { result ≡ is_present peers.now terms.now }
-{
-    peers.iter().any(|peer| is_like(peer, terms))
+    ghost invariant = { IsIndexed };
 }
 
 fn copied_peers(alloc: Global, peers: &[Peer]) -> Result<Vec<Peer>, AllocError>
@@ -117,41 +113,20 @@ fn drop_rates(rates: &mut Vec<RateTerms>, number: PeerNo)
     rates.retain(|rate| !(rate.from == number || rate.to == number));
 }
 
-fn is_for_pair(rate: &RateTerms, from: PeerNo, to: PeerNo) -> bool
-    ensures { result ≡ is_for_pair from to rate.now }
-{
-    rate.from == from && rate.to == to
-}
-
-fn has_pair(rates: &[RateTerms], rate: &RateTerms) -> bool
-    ensures { result ≡ has_pair rate.now rates.now }
-{
-    rates
-        .iter()
-        .any(|other| is_for_pair(other, rate.from, rate.to))
-}
-
-// The rate stands in the place of the one for the same pair.
-fn replace_rate(rates: &mut Vec<RateTerms>, rate: &RateTerms)
-    ensures { rates.new.items ≡ replaced_rate rate.now rates.old.items }
-{
-    for place in 0..rates.len() {
-        if is_for_pair(&rates[place], rate.from, rate.to) {
-            rates[place] = *rate;
-        }
-    }
-}
-
 impl Network {
-    ghost use Rattle.std.specs.Prelude.{◌≡◌, ◌≤◌, IfOk};
-    ghost use Rattle.std.specs.Prelude.{IsSome};
+    ghost use Rattle.std.specs.Prelude.{◌≡◌, ◌≤◌, ◌<◌, length, map, IfOk, IfSome, IsSome};
+    ghost use Rattle.std.specs.List.{slice_get};
+    ghost use Rattle.std.specs.Option.{option_and_then};
     ghost use Rattle.route_table.specs.Routes.{NamesPeer};
     ghost use Rattle.tenant_core.specs.Network.{IsNetwork, IsChanged, nobody, peer_refusal, with_peer, without_peer};
     ghost use Rattle.tenant_core.specs.Network.{begun, with_limits, with_bucket, with_route, without_route, with_rate};
     ghost use Rattle.std.specs.Prelude.{true};
     ghost use Rattle.tenant_core.specs.Orders.{names_present, IsFree, net_refusal};
     ghost use Rattle.tenant_core.specs.Present.{changed};
-    ghost use Rattle.tenant_core.specs.Network.{route_refusal, no_route_refusal, rate_refusal, peer_numbered};
+    ghost use Rattle.tenant_core.specs.Network.{route_refusal, no_route_refusal, rate_refusal};
+    ghost use Rattle.tenant_core.specs.Network.{peer_numbered, peer_with_token};
+    ghost use Rattle.tenant_core.specs.Places.{token};
+    ghost use Rattle.tenant_core.specs.Routing.{rate_between};
 
     /// Nobody.
     pub fn new(alloc: Global) -> Network
@@ -160,8 +135,10 @@ impl Network {
         Network {
             next_peer: 0,
             peers: Vec::new(alloc),
+            by_token: Vec::new(alloc),
             routes: Routes::new(alloc),
             rates: Vec::new(alloc),
+            by_pair: Vec::new(alloc),
         }
     }
 
@@ -169,29 +146,27 @@ impl Network {
     pub fn copy(&self, alloc: Global) -> Result<Network, AllocError>
         ensures { IfOk result (λ copy. copy ≡ self.now) }
     {
-        let peers = copied_peers(alloc, self.peers.as_slice())?;
-        let routes = self.routes.copy(alloc)?;
-        let rates = Vec::from_slice(alloc, self.rates.as_slice())?;
-        Ok(Network {
-            next_peer: self.next_peer,
-            peers,
-            routes,
-            rates,
-        })
+        let peers = copied_peers(alloc, self.peers())?;
+        self.with_peers(alloc, peers)
     }
 
-    /// The same network with these peers, which keep what its type does.
+    /// The same network with these peers, which keep what its type does. Each has the token of the one in its place.
     pub(crate) fn with_peers(&self, alloc: Global, peers: Vec<Peer>) -> Result<Network, AllocError>
-        requires { IsNetwork (record self.now { peers = peers.items }) }
+        requires network { IsNetwork (record self.now { peers = peers.items }) }
+        requires tokens { map token peers.items ≡ map token self.now.peers }
         ensures { IfOk result (λ network. network ≡ record self.now { peers = peers.items }) }
     {
+        let by_token = Vec::from_slice(alloc, self.by_token.as_slice())?;
         let routes = self.routes.copy(alloc)?;
         let rates = Vec::from_slice(alloc, self.rates.as_slice())?;
+        let by_pair = Vec::from_slice(alloc, self.by_pair.as_slice())?;
         Ok(Network {
             next_peer: self.next_peer,
             peers,
+            by_token,
             routes,
             rates,
+            by_pair,
         })
     }
 
@@ -231,6 +206,37 @@ impl Network {
         self.rates.as_slice()
     }
 
+    /// Where the peer stands that shows this token, in the order in which peers were added.
+    pub fn place_with_token(&self, token: &[u8]) -> Option<usize>
+        ensures inside { IfSome result (λ at. at < length self.now.peers) }
+        ensures value { option_and_then (λ at. slice_get self.now.peers at) result
+            ≡ peer_with_token token.now self.now.peers }
+    {
+        match search_token(&self.peers, &self.by_token, token) {
+            Ok(at) => Some(self.by_token[at] as usize),
+            Err(_) => None,
+        }
+    }
+
+    /// Where the peer of that number stands.
+    pub fn place_numbered(&self, number: PeerNo) -> Option<usize>
+        ensures inside { IfSome result (λ at. at < length self.now.peers) }
+        ensures value { option_and_then (λ at. slice_get self.now.peers at) result
+            ≡ peer_numbered number self.now.peers }
+    {
+        search_number(&self.peers, number).ok()
+    }
+
+    /// The rate of an ordered pair of peers.
+    pub fn rate_between(&self, from: PeerNo, to: PeerNo) -> Option<Rate>
+        ensures { result ≡ rate_between self.now from to }
+    {
+        match search_pair(&self.rates, &self.by_pair, (from, to)) {
+            Ok(at) => Some(self.rates[self.by_pair[at] as usize].rate),
+            Err(_) => None,
+        }
+    }
+
     /// The number of the next peer. Numbers are never used again.
     pub fn next_peer(&self) -> PeerNo
         ensures { result ≡ self.now.next_peer }
@@ -242,7 +248,7 @@ impl Network {
     pub fn peer_refusal(&self, terms: &PeerTerms) -> Option<CommandFault>
         ensures { result ≡ peer_refusal self.now terms.now }
     {
-        if is_present(self.peers.as_slice(), terms) {
+        if free_place(&self.peers, &self.by_token, terms).is_none() {
             return Some(CommandFault::Present);
         }
         let is_full = self.peers.len() >= MAX_PEERS || self.next_peer >= MAX_PEER_NUMBERS;
@@ -274,7 +280,7 @@ impl Network {
     pub fn rate_refusal(&self, rate: &RateTerms) -> Option<CommandFault>
         ensures { result ≡ rate_refusal self.now rate.now }
     {
-        if has_pair(self.rates.as_slice(), rate) {
+        if search_pair(&self.rates, &self.by_pair, (rate.from, rate.to)).is_ok() {
             return None;
         }
         (self.rates.len() >= MAX_RATES).then_some(CommandFault::Limit)
@@ -293,10 +299,11 @@ impl Network {
         ensures { IsChanged result (peer_refusal self.old terms) self.old self.new
             (with_peer self.old terms balance level) }
     {
-        if is_present(self.peers.as_slice(), &terms) {
+        let Some(at) = free_place(&self.peers, &self.by_token, &terms) else {
             return Err(CommandFault::Present);
-        }
-        if self.peers.len() >= MAX_PEERS || self.next_peer >= MAX_PEER_NUMBERS {
+        };
+        let place = self.peers.len();
+        if place >= MAX_PEERS || self.next_peer >= MAX_PEER_NUMBERS {
             return Err(CommandFault::Limit);
         }
         terms.are_within();
@@ -308,7 +315,9 @@ impl Network {
             balance,
             bucket: level,
         };
+        self.by_token.reserve(1)?;
         self.peers.push(peer)?;
+        let _ = self.by_token.insert(at, place as u16);
         self.next_peer = number + 1;
         Ok(())
     }
@@ -319,7 +328,9 @@ impl Network {
         ensures { self.new ≡ without_peer self.old number }
     {
         drop_peer(&mut self.peers, number);
+        order_by_token(&self.peers, &mut self.by_token);
         drop_rates(&mut self.rates, number);
+        order_by_pair(&self.rates, &mut self.by_pair);
     }
 
     /// Other limits of the peer of that number.
@@ -374,14 +385,21 @@ impl Network {
         requires to { IsSome (peer_numbered rate.now.to self.old.peers) }
         ensures { IsChanged result (rate_refusal self.old rate.now) self.old self.new (with_rate self.old rate.now) }
     {
-        if has_pair(self.rates.as_slice(), rate) {
-            replace_rate(&mut self.rates, rate);
-            return Ok(());
-        }
-        if self.rates.len() >= MAX_RATES {
+        let at = match search_pair(&self.rates, &self.by_pair, (rate.from, rate.to)) {
+            Ok(at) => {
+                let place = self.by_pair[at] as usize;
+                self.rates[place] = *rate;
+                return Ok(());
+            }
+            Err(at) => at,
+        };
+        let place = self.rates.len();
+        if place >= MAX_RATES {
             return Err(CommandFault::Limit);
         }
+        self.by_pair.reserve(1)?;
         self.rates.push(*rate)?;
+        let _ = self.by_pair.insert(at, place as u16);
         Ok(())
     }
 

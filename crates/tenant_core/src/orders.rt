@@ -1,11 +1,12 @@
 //! What orders change, and what they are refused for.
 
-ghost use Rattle.std.specs.Prelude.{◌≡◌, IfOk, IfSome, is_some, true};
+ghost use Rattle.std.specs.Prelude.{length, option_and_then, slice_get, ◌<◌, ◌≡◌, IfOk, IfSome, is_some, true};
 ghost use Rattle.std.specs.List.{list_any};
 ghost use Rattle.std.specs.Option.{option_copied};
 ghost use Rattle.std.specs.Str.{bytes_eq};
 ghost use Rattle.tenant_core.specs.Network.{peer_named, peer_numbered};
 ghost use Rattle.tenant_core.specs.Orders.{number_named, change_of, awaits_for, names_present};
+ghost use Rattle.tenant_core.specs.Following.{peer_changed};
 
 use crate::command::Order;
 use crate::hold::{Hold, is_open};
@@ -94,6 +95,29 @@ pub fn change_of(
             },
         ),
     })
+}
+
+/// The peer whose purse or bucket a change is about, if it is there already.
+pub fn peer_changed(change: &Change) -> Option<PeerNo>
+    ensures { result ≡ peer_changed change.now }
+{
+    match change {
+        Change::PeerRemoved(peer) => Some(*peer),
+        Change::LimitsSet { peer, .. }
+        | Change::BucketSet { peer, .. }
+        | Change::Settled { peer, .. } => Some(*peer),
+        _ => None,
+    }
+}
+
+/// Where that peer stands.
+pub fn place_changed(network: &Network, change: &Change) -> Option<usize>
+    ensures inside { IfSome result (λ at. at < length network.now.peers) }
+    ensures value { option_and_then (λ at. slice_get network.now.peers at) result
+        ≡ option_and_then (λ n. peer_numbered n network.now.peers) (peer_changed change.now) }
+{
+    let peer = peer_changed(change)?;
+    network.place_numbered(peer)
 }
 
 fn awaits_for(hold: &Hold, peer: PeerNo) -> bool

@@ -1,90 +1,102 @@
 //! What a period leaves to the next one, and what each peer owes.
 
-ghost use Rattle.std.specs.Prelude.{◌≡◌, ◌≤◌, ◌<◌, ◌+◌, ◌^◌, map, IfOk};
-ghost use Rattle.ilp_addr.specs.Timestamp.{last_moment};
+ghost use Rattle.std.specs.Prelude.{◌≡◌, ◌≤◌, ◌<◌, ◌+◌, ◌^◌, map, length, slice_get, option_map, Some, IfOk};
 ghost use Rattle.tenant_core.specs.Limits.{max_period};
+ghost use Rattle.tenant_core.specs.Following.{row_with};
 ghost use Rattle.tenant_core.specs.Periods.{carried, carried_net};
-ghost use Rattle.tenant_core.specs.Purse.{balance_of, row_of};
+ghost use Rattle.tenant_core.specs.Purse.{row_of};
 ghost use Rattle.tenant_core.specs.Standing.{state_shown, IsShown};
+ghost use Rattle.tenant_core.specs.State.{clock_of};
 
-use crate::bucket::credit_at;
 use crate::judge::Standing;
 use crate::network::Network;
 use crate::opening::Opening;
 use crate::peer::{Level, Peer};
-use crate::purse::{balance, held_in, held_out};
 use crate::row::Row;
 use crate::terms::Balance;
-use route_table::PeerNo;
+use money_core::Purse;
 use std::alloc::{AllocError, Global};
 
-// What the peer of that number owes.
-fn balance_now(standing: &Standing<'_>, peer: PeerNo) -> Balance
-    requires { IsShown standing.now }
-    ensures { result ≡ balance_of (state_shown standing.now) peer }
-{
-    let owed = balance(standing.opening, standing.records, standing.holds, peer);
-    Balance::new(owed as i64).unwrap()
-}
-
 /// What a peer owes, and what is held from it and for it.
-pub fn row_of(standing: &Standing<'_>, peer: &Peer) -> Row
-    requires { IsShown standing.now }
-    ensures { result ≡ row_of (state_shown standing.now) peer.now }
+pub fn row_of(peer: &Peer, purse: &Purse) -> Row
+    ensures { result ≡ row_with peer.now purse.now }
 {
     Row {
         name: peer.terms.name.copy(),
-        balance: balance_now(standing, peer.number).get(),
-        held_in: held_in(standing.holds, peer.number) as u64,
-        held_out: held_out(standing.holds, peer.number) as u64,
+        balance: purse.balance(),
+        held_in: purse.held_in(),
+        held_out: purse.held_out(),
     }
 }
 
-/// What each peer owes.
-pub fn rows_of(
-    alloc: Global,
-    standing: &Standing<'_>,
-    peers: &[Peer],
-) -> Result<Vec<Row>, AllocError>
-    requires { IsShown standing.now }
-    ensures { IfOk result (λ rows. rows.items ≡ map (row_of (state_shown standing.now)) peers.now) }
+fn balance_of(purse: &Purse) -> Balance
+    ensures { result ≡ purse.now.balance }
 {
-    let mut rows = Vec::with_capacity(alloc, peers.len())?;
-    for peer in peers {
-        rows.push_reserved(row_of(standing, peer));
+    Balance::new(purse.balance()).unwrap()
+}
+
+// The row of the peer that stands at that place.
+fn row_at(standing: &Standing<'_>, place: usize) -> Row
+    requires shown { IsShown standing.now }
+    requires inside { place < length standing.now.network.now.peers }
+    ensures { option_map (row_of (state_shown standing.now)) (slice_get standing.now.network.now.peers place)
+        ≡ Some result }
+{
+    let party = standing.party(place);
+    row_of(party.peer, party.purse)
+}
+
+/// What each peer owes. The one error is want of memory.
+pub fn rows_of(alloc: Global, standing: &Standing<'_>) -> Result<Vec<Row>, AllocError>
+    requires { IsShown standing.now }
+    ensures { IfOk result (λ rows. rows.items
+        ≡ map (row_of (state_shown standing.now)) standing.now.network.now.peers) }
+{
+    let count = standing.network.peers().len();
+    let mut rows = Vec::with_capacity(alloc, count)?;
+    for place in 0..count {
+        rows.push_reserved(row_at(standing, place));
     }
     Ok(rows)
 }
 
-fn carried(standing: &Standing<'_>, clock: u64, peer: &Peer) -> Peer
-    requires { IsShown standing.now }
-    ensures { result ≡ carried (state_shown standing.now) clock peer.now }
+// The peer that stands at that place, as the next period finds it: with the balance of its purse, and the credit of its
+// bucket at that clock.
+fn carried_at(standing: &Standing<'_>, clock: u64, place: usize) -> Peer
+    requires shown { IsShown standing.now }
+    requires later { clock_of (state_shown standing.now) ≤ clock }
+    requires inside { place < length standing.now.network.now.peers }
+    ensures { option_map (carried (state_shown standing.now) clock) (slice_get standing.now.network.now.peers place)
+        ≡ Some result }
 {
+    let party = standing.party(place);
     Peer {
-        number: peer.number,
-        terms: peer.terms.copy(),
-        balance: balance_now(standing, peer.number),
+        number: party.peer.number,
+        terms: party.peer.terms.copy(),
+        balance: balance_of(party.purse),
         bucket: Level {
-            credit: credit_at(peer, standing.records, clock),
+            credit: party.bucket.credit(clock),
             clock,
             entries: 0,
         },
     }
 }
 
-/// Peers as the next period finds them, which begins at that clock.
+/// Peers as the next period finds them, which begins at that clock. The one error is want of memory.
 pub fn carried_peers(
     alloc: Global,
     standing: &Standing<'_>,
     clock: u64,
-    peers: &[Peer],
 ) -> Result<Vec<Peer>, AllocError>
-    requires { IsShown standing.now }
-    ensures { IfOk result (λ list. list.items ≡ map (carried (state_shown standing.now) clock) peers.now) }
+    requires shown { IsShown standing.now }
+    requires later { clock_of (state_shown standing.now) ≤ clock }
+    ensures { IfOk result (λ list. list.items
+        ≡ map (carried (state_shown standing.now) clock) standing.now.network.now.peers) }
 {
-    let mut list = Vec::with_capacity(alloc, peers.len())?;
-    for peer in peers {
-        list.push_reserved(carried(standing, clock, peer));
+    let count = standing.network.peers().len();
+    let mut list = Vec::with_capacity(alloc, count)?;
+    for place in 0..count {
+        list.push_reserved(carried_at(standing, clock, place));
     }
     Ok(list)
 }
@@ -95,10 +107,11 @@ pub fn next_network(
     standing: &Standing<'_>,
     clock: u64,
 ) -> Result<Network, AllocError>
-    requires { IsShown standing.now }
+    requires shown { IsShown standing.now }
+    requires later { clock_of (state_shown standing.now) ≤ clock }
     ensures { IfOk result (λ network. network ≡ carried_net (state_shown standing.now) clock standing.now.network.now) }
 {
-    let peers = carried_peers(alloc, standing, clock, standing.network.peers())?;
+    let peers = carried_peers(alloc, standing, clock)?;
     standing.network.with_peers(alloc, peers)
 }
 

@@ -2,53 +2,54 @@
 
 ghost use Rattle.std.specs.Prelude.{◌≡◌, Some, None, if◌then◌else◌};
 
-use crate::bucket::credit_at;
 use crate::command::{Amount, Order, Side};
 use crate::faults::CommandFault;
 use crate::journal::Change;
 use crate::judge::Standing;
-use crate::limits::MAX_MONEY;
 use crate::orders::{is_awaited_for, number_named};
 use crate::peer::Level;
-use crate::purse::{balance, held_in, held_out, is_owed_more, owes_more};
-use crate::routing::peer_numbered;
 use crate::terms::RateTerms;
 use rate_bucket::full_bucket;
 use route_table::PeerNo;
 
 impl Standing<'_> {
-    ghost use Rattle.std.specs.Prelude.{◌≡◌, IfNone, IfSome, false};
+    ghost use Rattle.std.specs.Prelude.{◌≡◌, ◌≤◌, IfNone, IfSome, true, false, is_some};
     ghost use Rattle.route_table.specs.Routes.{NamesPeer};
     ghost use Rattle.tenant_core.specs.Orders.{is_in_use, is_too_much, state_refusal, order_refusal, change_of, IsFree};
     ghost use Rattle.tenant_core.specs.declared.journal.Change.TheVariants.{PeerRemoved, Settled};
+    ghost use Rattle.tenant_core.specs.Network.{peer_numbered};
     ghost use Rattle.tenant_core.specs.Present.{credit_left, level_left};
+    ghost use Rattle.tenant_core.specs.State.{clock_of};
     ghost use Rattle.tenant_core.specs.Standing.{state_shown, IsShown};
 
     fn is_in_use(&self, peer: PeerNo) -> bool
-        requires { IsShown self.now }
+        requires shown { IsShown self.now }
+        requires present { is_some (peer_numbered peer self.now.network.now.peers) ≡ true }
         ensures exact { result ≡ is_in_use (state_shown self.now) self.now.network.now peer }
         ensures free { result ≡ false → ¬ (NamesPeer self.now.network.now.routes peer) }
     {
+        let owes = self.present(peer).purse.balance() != 0;
         self.network.routes().names_peer(peer)
-            || is_awaited_for(self.holds, peer)
-            || balance(self.opening, self.records, self.holds, peer) != 0
+            || is_awaited_for(self.holds.as_slice(), peer)
+            || owes
     }
 
     fn is_too_much(&self, peer: PeerNo, side: Side, amount: Amount) -> bool
-        requires { IsShown self.now }
+        requires shown { IsShown self.now }
+        requires present { is_some (peer_numbered peer self.now.network.now.peers) ≡ true }
         ensures { result ≡ is_too_much (state_shown self.now) peer side amount }
     {
-        let balance = balance(self.opening, self.records, self.holds, peer);
-        let amount = amount.get() as u128;
+        let purse = self.present(peer).purse;
         match side {
-            Side::In => is_owed_more(balance, held_out(self.holds, peer) + amount, MAX_MONEY),
-            Side::Out => owes_more(balance, held_in(self.holds, peer) + amount, MAX_MONEY),
+            Side::In => purse.passes_least(amount.get()),
+            Side::Out => purse.passes_most(amount.get()),
         }
     }
 
     // What taking a peer away is refused for.
     fn removal_refusal(&self, peer: PeerNo) -> Option<CommandFault>
-        requires { IsShown self.now }
+        requires shown { IsShown self.now }
+        requires present { is_some (peer_numbered peer self.now.network.now.peers) ≡ true }
         ensures exact { result ≡ state_refusal (state_shown self.now) self.now.network.now (PeerRemoved peer) }
         ensures free { IfNone result (¬ (NamesPeer self.now.network.now.routes peer)) }
     {
@@ -57,7 +58,8 @@ impl Standing<'_> {
 
     // What a settlement is refused for.
     fn settlement_refusal(&self, peer: PeerNo, side: Side, amount: Amount) -> Option<CommandFault>
-        requires { IsShown self.now }
+        requires shown { IsShown self.now }
+        requires present { is_some (peer_numbered peer self.now.network.now.peers) ≡ true }
         ensures { result ≡ state_refusal (state_shown self.now) self.now.network.now (Settled peer side amount) }
     {
         self.is_too_much(peer, side, amount)
@@ -106,15 +108,16 @@ impl Standing<'_> {
     }
 
     fn credit_left(&self, clock: u64, change: &Change) -> u64
-        requires { IsShown self.now }
+        requires shown { IsShown self.now }
+        requires later { clock_of (state_shown self.now) ≤ clock }
         ensures { result ≡ credit_left (state_shown self.now) self.now.network.now clock change.now }
     {
         match change {
             Change::PeerAdded(terms) => full_bucket(terms.bucket.burst.get() as u32),
             Change::BucketSet { peer, bucket } => {
                 let full = full_bucket(bucket.burst.get() as u32);
-                match peer_numbered(self.network.peers(), *peer) {
-                    Some(peer) => credit_at(peer, self.records, clock).min(full),
+                match self.numbered(*peer) {
+                    Some(party) => party.bucket.credit(clock).min(full),
                     None => 0,
                 }
             }
@@ -124,7 +127,8 @@ impl Standing<'_> {
 
     /// The level of the bucket that a change fills or changes, at the clock after its entry.
     pub fn level_left(&self, clock: u64, change: &Change) -> Level
-        requires { IsShown self.now }
+        requires shown { IsShown self.now }
+        requires later { clock_of (state_shown self.now) ≤ clock }
         ensures { result ≡ level_left (state_shown self.now) self.now.network.now clock change.now }
     {
         Level {

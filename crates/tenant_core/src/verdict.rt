@@ -19,7 +19,7 @@ pub enum RejectCode {
     WrongCondition,
     /// F08: the amount is over what a peer may send or be sent in one packet.
     AmountTooLarge,
-    /// T01: the next peer gave no answer.
+    /// T01: before the packet expired, what came back was neither a Fulfill nor a Reject, or nothing.
     PeerUnreachable,
     /// T03: as many packets await their answers as may at once.
     Busy,

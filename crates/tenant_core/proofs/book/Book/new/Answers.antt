@@ -1,60 +1,66 @@
-use Rattle.std.proofs.Common.{rules, arith, ◌≡◌, ◌∙◌, sym, ap, subst, [], length}
+use Rattle.std.proofs.Common.{arith, refl, true, ◌≡◌, ◌≤◌, ◌<◌, sym, ap, subst}
 use Rattle.std.specs.Prelude.{count_by}
+use Rattle.std.proofs.lemmas.Bool.Decides.{nat_tests}
+use Rattle.ilp_addr.specs.Timestamp.{last_moment}
+use Rattle.tenant_core.specs.declared.opening.Opening.{Opening}
+use Rattle.tenant_core.specs.declared.terms.TenantTerms.{TenantTerms}
 use Rattle.tenant_core.specs.Holds.{is_open, open_holds}
-use Rattle.tenant_core.specs.State.{State}
-use Rattle.tenant_core.proofs.Courses.{holds_of-opened}
+use Rattle.tenant_core.specs.Limits.{max_hold, max_journal, max_tenants}
 use Rattle.tenant_core.specs.Network.{Net, IsNetwork}
-use Rattle.tenant_core.specs.Present.{network_of}
+use Rattle.tenant_core.specs.Setup.{is_tenant_setup}
+use Rattle.tenant_core.specs.Sound.{IsSound}
+use Rattle.tenant_core.specs.State.{State, opened}
+use Rattle.tenant_core.proofs.Courses.{holds_of-opened}
+use Rattle.tenant_core.proofs.Openings.{AreFresh, begun_fresh}
 use Rattle.tenant_core.proofs.Presents.{network_of-opened}
 use Rattle.tenant_core.proofs.Purses.{opened_within}
 use Rattle.tenant_core.proofs.Replays.{opened_replay}
+use Rattle.tenant_core.proofs.Rolls.{empty_kept, fresh_empty}
 use Rattle.tenant_core.proofs.book.Book.new.Goals as goal
 
-pub invariant_of-result : goal.invariant_of-result
-unfolding network_of
-invariant_of-result c =
-    let s : State =
-    record {
-      opening =
-          record {
-            tenant = c.args.tenant;
-            name = c.copy-3.result;
-            address = c.copy-4.result;
-            journal = c.terms-terms.result.now.journal;
-            margin = c.terms-terms.result.now.margin;
-            hold = c.terms-terms.result.now.hold;
-            period = 0;
-            clock = c.millis-clock.result;
-            next_hold = 0;
-            network = c.begin.new.self;
-          };
-      records = c.in_ok-records.records.items;
-    } in
-    let none : s.records ≡ [] = search rules in
-    let no_holds : c.in_ok-holds.holds.items ≡ [] = search rules in
-    let holds = holds_of-opened s none in
+-- the limits of a setup
+limits : (t : TenantTerms) → is_tenant_setup t ≡ true → (t.journal ≤ max_journal) × (t.hold ≤ max_hold)
+limits t e = (grind (arith, nat_tests), grind (arith, nat_tests))
+
+-- a first period is within its limits
+first_sound : (o : Opening) → o.tenant < max_tenants → o.journal ≤ max_journal → o.hold ≤ max_hold → o.period ≡ 0 → o.next_hold ≡ 0 → o.clock ≤ last_moment → IsNetwork o.network
+    → IsSound (opened o)
+first_sound o tenant journal hold period first clock network =
+    let s : State = opened o in
+    let holds = holds_of-opened s refl in
     let count : open_holds s ≡ 0 = ap (count_by is_open) holds in
-    let long : length s.records ≡ 0 = ap length none in
     record {
-      room = search rules;
-      holds_room = search rules;
-      few = search rules;
-      clock = search rules;
-      network = search rules;
-      holds = no_holds ∙ sym holds;
-      awaited = sym (ap (count_by is_open) holds);
-      sound =
-          record {
-            replay = opened_replay s none;
-            tenant = search rules;
-            network = subst (λ (n : Net). IsNetwork n) (sym (network_of-opened s none)) c.is_network.ensures;
-            room = omega arith;
-            journal = search rules;
-            numbers = rw holds tt;
-            purses = opened_within s none holds c.is_network.ensures;
-            hold = search rules;
-            first_hold = search rules;
-            period = search rules;
-            clock = search rules;
-          };
+      replay = opened_replay s refl;
+      tenant = tenant;
+      network = subst (λ (n : Net). IsNetwork n) (sym (network_of-opened s refl)) network;
+      room = omega arith;
+      journal = journal;
+      numbers = rw holds tt;
+      purses = opened_within s refl holds network;
+      hold = hold;
+      first_hold = omega arith;
+      period = omega arith;
+      clock = clock;
     }
+
+pub invariant_of-result : goal.invariant_of-result
+invariant_of-result c =
+    let t : TenantTerms = c.terms-terms.result.now in
+    let o : Opening = record {
+      tenant = c.args.tenant;
+      name = c.copy-2.result;
+      address = c.copy-3.result;
+      journal = t.journal;
+      margin = t.margin;
+      hold = t.hold;
+      period = 0;
+      clock = c.millis-clock.result;
+      next_hold = 0;
+      network = c.begin.new.self;
+    } in
+    let within = limits t c.terms-terms.ensures.within in
+    let network : IsNetwork o.network = c.is_network.ensures in
+    let early : o.clock ≤ last_moment = c.millis-clock.ensures.bound in
+    let fresh : AreFresh o.clock o.network.peers = subst (λ (n : Net). AreFresh o.clock n.peers) (sym c.begin.ensures) (begun_fresh c.in_ok-network.network o.clock) in
+    empty_kept c.running.ensures _ (first_sound o c.requires within.0 within.1 refl refl early network) network fresh
+    (fresh_empty o o.clock c.in_ok-fresh.fresh refl c.in_ok-fresh.ensures)

@@ -14,16 +14,18 @@ invariant_of-self c =
     let d : Inside =
     record {
       opening = c.replace-opening.new.dest;
-      network = c.in_ok-present.present;
+      network = c.in_ok-next.next.fresh.network;
       records = c.replace-closed.new.dest;
       clock = c.max-clock.result;
-      holds = c.in_ok-holds.holds;
-      awaited = c.self.inside.awaited;
+      holds = c.in_ok-next.next.fresh.holds;
+      purses = c.in_ok-next.next.fresh.purses;
+      buckets = c.in_ok-next.next.fresh.buckets;
     } in
     let opening : d.opening ≡ next_opening (state_of b) d.clock = search rules in
     let period : b.opening.period < max_period = search rules in
     let clock : d.clock ≤ last_moment = search rules in
     let network : IsNetwork d.opening.network = search rules in
+    let is = c.in_ok-next.ensures.fresh in
     let empty : IsEmpty d =
     record {
       room = search rules;
@@ -32,6 +34,7 @@ invariant_of-self c =
       holds = search rules;
       network = search rules;
       clock = search rules;
-      awaited = search rules;
+      purses = search rules;
+      buckets = search rules;
     } in
-    rolled_kept b d d.clock c.self.invariant opening period clock network empty
+    rolled_kept c.running.ensures b d d.clock c.self.invariant opening period clock network empty

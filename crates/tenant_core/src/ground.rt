@@ -1,0 +1,13 @@
+//! What stays as it is while amounts move.
+
+use crate::journal::Record;
+use crate::network::Network;
+use crate::opening::Opening;
+
+/// What a period began with, whom the tenant deals with, and the records so far.
+#[derive(Clone, Copy)]
+pub struct Ground<'a> {
+    pub opening: &'a Opening,
+    pub network: &'a Network,
+    pub records: &'a [Record],
+}
