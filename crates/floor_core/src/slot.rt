@@ -119,7 +119,8 @@ impl Slot {
         }
     }
 
-    /// What the sender of the last frame is told; none before the call has ended.
+    /// What the sender of the last frame that was taken in is told; none before its call has ended. A `load` that is refused
+    /// leaves it.
     pub fn reply(&self) -> &[u8]
         ensures value { result.now ≡ self.now.reply }
         ensures short { length result.now ≤ max_frame }

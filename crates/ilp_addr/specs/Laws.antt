@@ -37,7 +37,7 @@ pub record PrefixWordLaws : Type 0 where
 abbrev pub TargetLaw : Type 0
 TargetLaw = (url token : List ℕ) (a b : Parts) → IsTarget url token a → IsTarget url token b → a ≡ b
 
--- Timestamps: reading agrees with what they are, and each moment has one (RFC 0027, "ILP Prepare").
+-- Timestamps: reading agrees with what they are, and one names each moment (RFC 0027, "ILP Prepare").
 pub record TimestampLaws : Type 0 where
   -- The test of a timestamp decides what a timestamp is.
   pub is_timestamp_decides : (text : List ℕ) → IsTrue (is_timestamp text) ↔ IsTimestamp text

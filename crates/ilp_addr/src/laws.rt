@@ -23,8 +23,8 @@ pub fn targets()
     ensures { TargetLaw }
 {}
 
-/// What is read as an expiry is a timestamp, and each timestamp is read; each moment has one
-/// timestamp, which is read as that moment. (RFC 0027, "ILP Prepare")
+/// What is read as an expiry is a timestamp, and each timestamp is read; one timestamp names each
+/// moment, and is read as that moment. (RFC 0027, "ILP Prepare")
 pub fn timestamps()
     ensures { TimestampLaws }
 {}

@@ -85,7 +85,7 @@ pub record WasGoverned (office : Office) (before : Desk) (tenant : ℕ) (given :
   pub slot : after.slot ≡ before.slot
   pub told_so : IsTold office tenant answer told after.printed.items
 
--- A text that spells a command is done; one that spells none is malformed (400). For want of memory nothing happens (503).
+-- A text that spells a command is done; one that spells none is malformed (400). Where there is no memory to read it nothing happens (503).
 abbrev pub WasObeyed : Result Command TextFault → Office → Desk → ℕ → Status → Desk → Type 0
 WasObeyed (Ok given) office before tenant told after =
     WasGoverned office before tenant given told after ⊎ ((told ≡ status.Unavailable) × IsUntouched before after)

@@ -13,7 +13,7 @@ pub enum Task {
     Replay,
     /// To say whether it is good.
     Check,
-    /// To serve so many connections on each worker's thread.
+    /// To serve so many connections with each worker.
     Serve { rounds: u32 },
 }
 
@@ -95,7 +95,7 @@ fn serve_of<'a>(alloc: Global) -> Result<Command<'a>, AllocError> {
             "Serves packets and commands over HTTP, and prints in the end how many were answered how",
         )
         .override_usage("ilpd serve SETUP --workers W --rounds N [--listen ADDR]")
-        .after_help("Example: ilpd serve examples/s1.toml --workers 4 --rounds 1000000")
+        .after_help("Example: ilpd serve examples/serve.toml --workers 4 --rounds 1000000")
         .arg(setup_of(alloc))?
         .arg(workers)?
         .arg(rounds)?

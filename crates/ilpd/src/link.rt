@@ -13,8 +13,8 @@ use std::net::{IpAddr, Ipv4Addr, Ipv6Addr, Net, SocketAddr, TcpStream};
 use std::time::{Clock, Duration, Instant};
 use workers::Link;
 
-/// A link that opens a connection for each packet. From its beginning to the end of the answer the exchange takes no
-/// longer than the tenant's longest hold.
+/// A link that opens a connection for each packet. From its beginning on, each connecting, read and write has what is left
+/// of the tenant's longest hold. None is begun after it, and the exchange ends a little later.
 #[derive(Drop)]
 pub struct PeerLink<'a, H> {
     handle: &'a H,

@@ -12,7 +12,7 @@ use meters::Meters;
 pub struct Terms {
     /// What an operator shows who governs the tenant.
     pub admin: Token,
-    /// For how many milliseconds an exchange with one of its peers may last at most.
+    /// For how many milliseconds steps of an exchange with one of its peers may begin.
     pub hold: u64,
 }
 

@@ -123,7 +123,7 @@ fn dismissed<H, C>(
     Ok(Done { shares, failed })
 }
 
-// Lets all workers serve, each on a thread of its own.
+// Lets all workers serve, on threads.
 fn work_all<
     'a,
     H: Threads + Wait + Net<Listener = TcpListener, Stream = TcpStream> + std::time::Clock + Sync,
@@ -244,7 +244,7 @@ fn tell<W: Write>(
     }
 }
 
-/// Serves so many connections on each of so many threads, joins them, and writes a line for each tenant.
+/// Serves so many connections with each of so many workers, joins them, and writes a line for each tenant.
 ///
 /// A line says how many packets and commands of the tenant were answered with which status, and how often its peers gave
 /// no answer: the sums of what the workers have counted, each of which begins with nothing and counts with each question

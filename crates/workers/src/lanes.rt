@@ -1,4 +1,4 @@
-//! Workers, each on a thread of its own.
+//! Workers at once, on threads.
 
 ghost use Rattle.std.specs.Prelude.{◌≡◌, ◌<◌, ℕ, length, OnOk, OnErr, slice_index_or};
 
@@ -49,9 +49,10 @@ fn can_start<R: Threads + Wait + Sync>(rt: &R, count: usize) -> bool {
     })
 }
 
-/// Lets each lane work once, each on a thread of its own, and waits for all of them.
+/// Lets each lane work once, and waits for all of them. As a probe, a thread for each lane is started and ended first.
 ///
-/// `StartFault` where that many threads could not be started, and no lane has worked then.
+/// `StartFault` where the probe could not start them all, and no lane has worked then. Where one can't be started after
+/// the probe, lanes share a thread and work one after another.
 pub fn run_workers<R: Threads + Wait + Sync, W: Lane>(
     rt: &R,
     lanes: &mut [W],
