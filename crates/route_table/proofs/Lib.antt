@@ -2,6 +2,7 @@ pub mod Matching
 pub mod BestRoute
 pub mod PathLemmas
 pub mod NodeLemmas
+pub mod Places
 pub mod Rekeyed
 pub mod BestAtPath
 pub mod Named

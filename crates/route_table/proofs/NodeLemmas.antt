@@ -1,12 +1,11 @@
 -- The routes of a node, by those of its children.
-use Rattle.std.proofs.Common.{◌≡◌, ℕ, Bool, true, false, cond, ◌&&◌, List, [], ◌∷◌, ◌++◌, length, arith, refl, sym, ap, subst, ◌∙◌, inl, inr, ◌⊎◌, Ordering}
-use Rattle.std.specs.Prelude.{Option, Some, None, Vec, Result, Ok, Err, OnOk, OnErr, ◌↔◌, is_some}
-use Rattle.std.specs.declared.alloc.Global.{Global}
-use Rattle.std.specs.Map.{keys_of, KeepsOthers}
+use Rattle.std.proofs.Common.{◌≡◌, ℕ, Bool, true, false, cond, ◌&&◌, List, [], ◌∷◌, ◌++◌, length, arith, refl, sym, ap, subst, ◌∙◌, inl, inr, ◌⊎◌, ⊎_elim}
+use Rattle.std.specs.Prelude.{Option, Some, None, Result, Ok, Err, OnOk, OnErr, ◌↔◌, is_some}
+use Rattle.std.specs.Map.{keys_of}
 use Rattle.std.specs.List.{IsDistinct, AllByRecursion}
 use Rattle.std.specs.List.Sorted.{IsStrictlySortedBy}
 use Rattle.std.specs.Option.{option_or}
-use Rattle.std.specs.Ordering.{nat_cmp, eq_by_cmp}
+use Rattle.std.specs.Ordering.{nat_cmp}
 use Rattle.std.specs.Cmp.Lexicographic.{slice_cmp}
 use Rattle.std.proofs.lemmas.Map.Keys.{IsDistinct-from_sorted}
 use Rattle.std.specs.FinMap as map
@@ -73,9 +72,9 @@ none_apart t ((u ∷ path, peer) ∷ rows) none =
 at_rows_of : (s : List ℕ) (q : Path) (children : Children) → at (s ∷ q) (rows_of children) ≡ peer_in q (child_of s children)
 at_rows_of s q [] = refl
 at_rows_of s q (child ∷ children) =
-    at_append (s ∷ q) (below child.0.items (entries child.1.routes)) (apart child.0.items (rows_of children))
-    ∙ (λ i. option_or (at_below s child.0.items q (entries child.1.routes) i) (at_apart s child.0.items q (rows_of children) i))
-    ∙ elim (is_same s child.0.items) as
+    at_append (s ∷ q) (below child.0 (entries child.1.routes)) (apart child.0 (rows_of children))
+    ∙ (λ i. option_or (at_below s child.0 q (entries child.1.routes) i) (at_apart s child.0 q (rows_of children) i))
+    ∙ elim (is_same s child.0) as
     (λ b. option_or (cond b (at q (entries child.1.routes)) None) (cond b None (at (s ∷ q) (rows_of children))) ≡ peer_in q (cond b (Some child.1) (child_of s children))) [
       | true ↦ or_none (at q (entries child.1.routes)) ∙ sym (get_at child.1.routes q)
       | false ↦ at_rows_of s q children
@@ -88,8 +87,8 @@ at_rows_of s q (child ∷ children) =
 none_rows_of : (children : Children) → at [] (rows_of children) ≡ None
 none_rows_of [] = refl
 none_rows_of (child ∷ children) =
-    at_append [] (below child.0.items (entries child.1.routes)) (apart child.0.items (rows_of children))
-    ∙ (λ i. option_or (none_below child.0.items (entries child.1.routes) i) (none_apart child.0.items (rows_of children) (none_rows_of children) i))
+    at_append [] (below child.0 (entries child.1.routes)) (apart child.0 (rows_of children))
+    ∙ (λ i. option_or (none_below child.0 (entries child.1.routes) i) (none_apart child.0 (rows_of children) (none_rows_of children) i))
 
 -- ---- what a node has
 
@@ -142,8 +141,8 @@ from_empty peer children used is = (sym (get_here peer children) ∙ get_none _ 
     nothing : (children : Children) → HasNoEmptyChild children → ((s : List ℕ) (q : Path) → peer_in q (child_of s children) ≡ None) → children ≡ []
     nothing [] used none = refl
     nothing (child ∷ children) used none =
-        let first : child_of child.0.items (child ∷ children) ≡ Some child.1 = ap (λ b. cond b (Some child.1) (child_of child.0.items children)) (same_test child.0.items child.0.items refl) in
-        absurd (used child.0.items child.1 first (same_paths _ _ (λ q. sym (ap (peer_in q) first) ∙ none child.0.items q ∙ sym (get_none _ refl q))))
+        let first : child_of child.0 (child ∷ children) ≡ Some child.1 = ap (λ b. cond b (Some child.1) (child_of child.0 children)) (same_test child.0 child.0 refl) in
+        absurd (used child.0 child.1 first (same_paths _ _ (λ q. sym (ap (peer_in q) first) ∙ none child.0 q ∙ sym (get_none _ refl q))))
 
 some_peer : (b : Branch) (n : ℕ) (children : Children) → routes_from (Some n) children ≡ b.routes → ¬ (b.routes ≡ map.empty)
 some_peer b n children is e = let none : Some n ≡ None = peer_is b (Some n) children is ∙ get_none b.routes e [] in absurd cc
@@ -223,20 +222,7 @@ removed peer old new s child m p differ e was =
     (λ r. e r ∙ get_removed m p r ∙ ap (cond (tied r p) None) (was r)) q
     ∙ sym (get_removed (routes_from peer old) (s ∷ p) q))
 
--- ---- children after a call
-
-abbrev pub vec_cmp : Vec ℕ Global → Vec ℕ Global → Ordering
-vec_cmp x y = slice_cmp nat_cmp x.items y.items
-
-abbrev pub vec_same : Vec ℕ Global → Vec ℕ Global → Bool
-vec_same = eq_by_cmp vec_cmp
-
-pub differs : (old new : Children) (s : List ℕ) (child : Option Branch) → child_of s new ≡ child → KeepsOthers vec_same (λ k. is_same s k.items) old new → Differ old new s child
-unfolding KeepsOthers
-differs old new s child here keeps = record {
-  here = here;
-  others = λ t other. keeps (λ k. is_same t k.items) (λ x y h. ap (λ z. is_same z y.items) (same t x.items h)) (λ k h. ap (is_same t) (sym (same s k.items h)) ∙ other);
-}
+-- ---- children that differ at a segment
 
 pub then : (old mid new : Children) (s : List ℕ) (child other : Option Branch) → Differ old mid s child → Differ mid new s other → Differ old new s other
 then old mid new s child other a b = record { here = b.here; others = λ t e. b.others t e ∙ a.others t e }
@@ -247,9 +233,6 @@ same_routes o a b e f = ap (peer_routes a) (sym e ∙ f)
     peer_routes : Branch → Option Branch → PathMap
     peer_routes d None = d.routes
     peer_routes d (Some x) = x.routes
-
-pub renamed : (old lent new : Children) (s key : List ℕ) (child : Option Branch) → key ≡ s → lent ≡ old → Differ lent new key child → Differ old new s child
-renamed old lent new s key child named is differ = subst (λ x. Differ old new x child) named (subst (λ x. Differ x new key child) is differ)
 
 -- a child that has routes comes in for another, or for none
 pub still_used : (old new : Children) (s : List ℕ) (child : Branch) → HasNoEmptyChild old → Differ old new s (Some child) → ¬ (child.routes ≡ map.empty) → HasNoEmptyChild new
@@ -272,7 +255,7 @@ was_in child s old is q = ap (peer_in q) is
 
 -- ---- one route more
 
-outcome : {A E : Type 0} (r : Result A E) (P Q R : Type 0) → (P → R) → (Q → R) → OnOk r P → OnErr r Q → R
+pub outcome : {A E : Type 0} (r : Result A E) (P Q R : Type 0) → (P → R) → (Q → R) → OnOk r P → OnErr r Q → R
 outcome (Ok x) P Q R f g p q = f p
 outcome (Err e) P Q R f g p q = g q
 
@@ -290,11 +273,6 @@ pub child_used : {A E : Type 0} (r : Result A E) (old new : Children) (s : List 
 child_used r old new s was child p n used is differ added stays =
     still_used old new s child used differ
     (outcome r _ _ (¬ (child.routes ≡ map.empty)) (λ e f. inserted_some was.routes p n (sym e ∙ f)) (λ e f. used s was (sym is) (sym e ∙ f)) added stays)
-
--- a new child that took a route has routes
-pub new_used : (old new : Children) (s : List ℕ) (child fresh : Branch) (p : Path) (n : ℕ) → HasNoEmptyChild old → Differ old new s (Some child)
-    → child.routes ≡ map.insert fresh.routes p n → HasNoEmptyChild new
-new_used old new s child fresh p n used differ e = still_used old new s child used differ (λ f. inserted_some fresh.routes p n (sym e ∙ f))
 
 -- a child written back as it was
 pub kept : (peer : Option ℕ) (old new : Children) (s : List ℕ) (child was : Branch) → Some was ≡ child_of s old → Differ old new s (Some child) → child.routes ≡ was.routes
@@ -359,10 +337,10 @@ abbrev pub SomeChildNames : Wanted → Children → Type 0
 SomeChildNames wanted [] = ⊥
 SomeChildNames wanted (child ∷ children) = Names wanted child.1.routes ⊎ SomeChildNames wanted children
 
-distinct_keys : (children : Children) → IsStrictlySortedBy vec_cmp (keys_of children) → IsDistinct vec_same (keys_of children)
-distinct_keys children sorted = IsDistinct-from_sorted vec_cmp (keys_of children) sorted
+distinct_keys : (children : Children) → IsStrictlySortedBy (slice_cmp nat_cmp) (keys_of children) → IsDistinct is_same (keys_of children)
+distinct_keys children sorted = IsDistinct-from_sorted (slice_cmp nat_cmp) (keys_of children) sorted
 
-none_later : (k : Vec ℕ Global) (children : Children) → AllByRecursion (λ y. vec_same k y ≡ false) (keys_of children) → child_of k.items children ≡ None
+none_later : (k : List ℕ) (children : Children) → AllByRecursion (λ y. is_same k y ≡ false) (keys_of children) → child_of k children ≡ None
 none_later k [] h = refl
 none_later k (child ∷ children) h = rw h.0 (none_later k children h.1)
 
@@ -370,22 +348,22 @@ none_later k (child ∷ children) h = rw h.0 (none_later k children h.1)
 named_child : (wanted : Wanted) (s : List ℕ) (q : Path) (n : ℕ) (children : Children) → peer_in q (child_of s children) ≡ Some n → IsWanted wanted n → SomeChildNames wanted children
 named_child wanted s q n [] e is = absurd cc
 named_child wanted s q n (child ∷ children) e is =
-    elim (cases (is_same s child.0.items)) [
+    elim (cases (is_same s child.0)) [
       | inl here ↦ inl (q, n, rw here at e, is)
       | inr other ↦ inr (named_child wanted s q n children (rw other at e) is)
     ]
 
 -- and the other way: each child is found by its own segment
-child_names : (wanted : Wanted) (children : Children) → IsDistinct vec_same (keys_of children) → SomeChildNames wanted children
+child_names : (wanted : Wanted) (children : Children) → IsDistinct is_same (keys_of children) → SomeChildNames wanted children
     → (s : List ℕ) × (q : Path) × (n : ℕ) × (peer_in q (child_of s children) ≡ Some n) × IsWanted wanted n
 unfolding IsDistinct
 child_names wanted [] distinct some = absurd some
-child_names wanted (child ∷ children) distinct (inl here) = (child.0.items, here.0, here.1, rw (same_test child.0.items child.0.items refl) here.2, here.3)
+child_names wanted (child ∷ children) distinct (inl here) = (child.0, here.0, here.1, rw (same_test child.0 child.0 refl) here.2, here.3)
 child_names wanted (child ∷ children) distinct (inr later) =
     let more = child_names wanted children distinct.1 later in
-    elim (cases (is_same more.0 child.0.items)) [
+    elim (cases (is_same more.0 child.0)) [
       | inl here ↦
-          let none : child_of more.0 children ≡ None = ap (λ x. child_of x children) (same more.0 child.0.items here) ∙ none_later child.0 children distinct.0 in
+          let none : child_of more.0 children ≡ None = ap (λ x. child_of x children) (same more.0 child.0 here) ∙ none_later child.0 children distinct.0 in
           let gone : peer_in more.1 (child_of more.0 children) ≡ None = ap (peer_in more.1) none in
           absurd cc
       | inr other ↦ (more.0, more.1, more.2, rw other more.3, more.4)
@@ -396,7 +374,7 @@ own_names wanted b None children view own = absurd own
 own_names wanted b (Some n) children view own = ([], n, sym (peer_is b (Some n) children view), own)
 
 -- the node's own peer is not looked for, and the children are left
-pub names_start : (wanted : Wanted) (b : Branch) (peer : Option ℕ) (children left : Children) → routes_from peer children ≡ b.routes → left ≡ children → IsStrictlySortedBy vec_cmp (keys_of children)
+pub names_start : (wanted : Wanted) (b : Branch) (peer : Option ℕ) (children left : Children) → routes_from peer children ≡ b.routes → left ≡ children → IsStrictlySortedBy (slice_cmp nat_cmp) (keys_of children)
     → ¬ (HasWanted wanted peer) → Names wanted b.routes ↔ SomeChildNames wanted left
 names_start wanted b peer children left view all sorted other =
     (λ names. subst (SomeChildNames wanted) (sym all) (forth names.0 names.1 names.2 names.3), λ some. back (subst (SomeChildNames wanted) all some))
@@ -414,70 +392,5 @@ names_start wanted b peer children left view all sorted other =
         let child = child_names wanted children (distinct_keys children sorted) some in
         (child.0 ∷ child.1, child.2, sym (child_is b peer children child.0 (child_of child.0 children) view refl child.1) ∙ child.3, child.4)
 
--- ---- a copy
-
--- what is left of the children, or else the new ones, have what the node has
-pub record IsCopied (m : PathMap) (left new : Children) : Type 0 where
-  pub distinct : IsDistinct vec_same (keys_of left)
-  pub used : HasNoEmptyChild left
-  pub copies : HasNoEmptyChild new
-  pub reads : (s : List ℕ) (q : Path) → get m (s ∷ q) ≡ peer_in q (option_or (child_of s left) (child_of s new))
-
-copied_all : (peer : Option ℕ) (children : Children) (m : PathMap) → routes_from peer children ≡ m → IsDistinct vec_same (keys_of children) → HasNoEmptyChild children → IsCopied m children []
-copied_all peer children m view distinct used = record {
-  distinct = distinct;
-  used = used;
-  copies = λ s child e. absurd cc;
-  reads = λ s q. ap (λ x. get x (s ∷ q)) (sym view) ∙ get_below peer children s q ∙ ap (peer_in q) (or_none (child_of s children));
-}
-  where
-    or_none : (o : Option Branch) → o ≡ option_or o None
-    or_none None = refl
-    or_none (Some b) = refl
-
-pub copied_start : (b : Branch) (peer : Option ℕ) (children left new : Children) → routes_from peer children ≡ b.routes → left ≡ children → new ≡ [] → IsStrictlySortedBy vec_cmp (keys_of children)
-    → HasNoEmptyChild children → IsCopied b.routes left new
-copied_start b peer children left new view all none sorted used =
-    subst (λ x. IsCopied b.routes x new) (sym all) (subst (IsCopied b.routes children) (sym none) (copied_all peer children b.routes view (distinct_keys children sorted) used))
-
--- a child of those behind the first is found there among all of them
-found_later : (key : Vec ℕ Global) (child : Branch) (rest : Children) → IsDistinct vec_same (keys_of ((key, child) ∷ rest)) → (s : List ℕ) (other : Branch) → child_of s rest ≡ Some other
-    → child_of s ((key, child) ∷ rest) ≡ Some other
-unfolding IsDistinct
-found_later key child rest distinct s other e =
-    elim (cases (is_same s key.items)) [
-      | inl here ↦
-          let none : child_of s rest ≡ None = ap (λ x. child_of x rest) (same s key.items here) ∙ none_later key rest distinct.0 in
-          absurd cc
-      | inr away ↦ rw away e
-    ]
-
-copied_next : (m : PathMap) (key : Vec ℕ Global) (child : Branch) (rest old new : Children) (named : List ℕ) (copy : Branch) → named ≡ key.items → copy.routes ≡ child.routes
-    → Differ old new named (Some copy) → IsCopied m ((key, child) ∷ rest) old → IsCopied m rest new
-unfolding IsDistinct
-copied_next m key child rest old new named copy is equal differ copied = record {
-  distinct = copied.distinct.1;
-  used = λ s other e. copied.used s other (found_later key child rest copied.distinct s other e);
-  copies = still_used old new named copy copied.copies differ (λ e. copied.used key.items child (rw (same_test key.items key.items refl) refl) (sym equal ∙ e));
-  reads = λ s q. elim (cases (is_same s key.items)) [
-    | inl here ↦
-        let none : child_of s rest ≡ None = ap (λ x. child_of x rest) (same s key.items here) ∙ none_later key rest copied.distinct.0 in
-        let has : child_of s new ≡ Some copy = ap (λ x. child_of x new) (same s key.items here ∙ sym is) ∙ differ.here in
-        rw here at (copied.reads s q) ∙ ap (λ x. get x q) (sym equal) ∙ sym (λ i. peer_in q (option_or (none i) (has i)))
-    | inr away ↦
-        let stays : child_of s new ≡ child_of s old = differ.others s (ap (is_same s) is ∙ away) in
-        rw away at (copied.reads s q) ∙ ap (λ o. peer_in q (option_or (child_of s rest) o)) (sym stays)
-  ];
-}
-
-pub copied_step : (m : PathMap) (left : Children) (first : Vec ℕ Global × Branch) (rest old new : Children) (named : List ℕ) (copy : Branch) → left ≡ first ∷ rest → named ≡ first.0.items
-    → copy.routes ≡ first.1.routes → Differ old new named (Some copy) → IsCopied m left old → IsCopied m rest new
-copied_step m left first rest old new named copy steps is equal differ copied =
-    copied_next m first.0 first.1 rest old new named copy is equal differ (subst (λ x. IsCopied m x old) steps copied)
-
-pub copied_end : (b : Branch) (peer : Option ℕ) (children left new : Children) → routes_from peer children ≡ b.routes → left ≡ [] → IsCopied b.routes left new → routes_from peer new ≡ b.routes
-copied_end b peer children left new view none copied = same_paths _ _ at_each
-  where
-    at_each : (q : Path) → get (routes_from peer new) q ≡ get b.routes q
-    at_each [] = get_here peer new ∙ sym (get_here peer children) ∙ ap (λ x. get x []) view
-    at_each (s ∷ q) = get_below peer new s q ∙ sym (copied.reads s q ∙ ap (λ x. peer_in q (option_or (child_of s x) (child_of s new))) none)
+pub but : {A B C : Type 0} → A ↔ (B ⊎ C) → ¬ B → A ↔ C
+but both none = (λ a. ⊎_elim (λ b. absurd (none b)) (λ c. c) (both.0 a), λ c. both.1 (inr c))

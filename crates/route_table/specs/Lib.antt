@@ -1,4 +1,5 @@
 pub mod Routes
 pub mod Paths
 pub mod Nodes
+pub mod Children
 pub mod Kept

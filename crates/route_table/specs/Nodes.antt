@@ -1,12 +1,13 @@
 -- The routes of a node of the trie, read off the node and its children.
-use Rattle.std.specs.Prelude.{◌≡◌, ◌≢◌, ◌≤◌, refl, ℕ, List, [], ◌∷◌, ◌++◌, ◌+◌, if◌then◌else◌, Option, Some, None, Vec}
-use Rattle.std.specs.declared.alloc.Global.{Global}
+use Rattle.std.specs.Prelude.{◌≡◌, ◌≢◌, ◌≤◌, refl, ℕ, List, [], ◌∷◌, ◌++◌, if◌then◌else◌, Option, Some, None}
 use Rattle.std.specs.FinMap as map
 use Rattle.std.specs.FinMap.{from_entries, entries}
 use Rattle.std.specs.Coded.{Coded, code_by, coded×, coded_ℕ, coded_list}
-use Rattle.std.specs.Map.{lookup, values_of}
+use Rattle.std.specs.Map.{lookup, keys_of}
+use Rattle.std.specs.Ordering.{nat_cmp}
+use Rattle.std.specs.Cmp.Lexicographic.{slice_cmp}
+use Rattle.std.specs.List.Sorted.{IsStrictlySortedBy}
 use Rattle.std.specs.Option.{option_and_then}
-use denote.Param.Weighed.{most}
 use Rattle.route_table.specs.declared.node.Wanted.{Wanted}
 use Rattle.route_table.specs.declared.node.Wanted.TheVariants.{Peer, NotBelow}
 use Rattle.route_table.specs.Paths.{Path, PathMap, is_same}
@@ -24,7 +25,7 @@ branch_code =
 
 -- the branch behind each segment that follows
 abbrev pub Children : Type 0
-Children = List (Vec ℕ Global × Branch)
+Children = List (List ℕ × Branch)
 
 -- a path and the number of its peer
 abbrev pub PathRow : Type 0
@@ -51,19 +52,15 @@ apart s ((t ∷ path, peer) ∷ rows) =
 abbrev pub rows_of : Children → List PathRow
 rows_of [] = []
 rows_of (child ∷ children) =
-    below child.0.items (entries child.1.routes) ++ apart child.0.items (rows_of children)
+    below child.0 (entries child.1.routes) ++ apart child.0 (rows_of children)
 
 -- the routes of a node with a peer of its own, if it has one, and children
 abbrev pub routes_from : Option ℕ → Children → PathMap
 routes_from peer children = from_entries (own_row peer ++ rows_of children)
 
--- one more than the deepest child
-abbrev pub height_of : Children → ℕ
-height_of children = most (λ (b : Branch). b.height + 1) (values_of children)
-
 -- the child behind a segment
 abbrev pub child_of : List ℕ → Children → Option Branch
-child_of s children = lookup (λ (k : Vec ℕ Global). is_same s k.items) children
+child_of s children = lookup (is_same s) children
 
 -- the peer of a path from a branch on, if there is the branch
 abbrev pub peer_in : Path → Option Branch → Option ℕ
@@ -73,6 +70,11 @@ peer_in path branch = option_and_then (λ (b : Branch). map.get b.routes path) b
 abbrev pub HasNoEmptyChild : Children → Type 0
 HasNoEmptyChild children =
     (s : List ℕ) (child : Branch) → child_of s children ≡ Some child → child.routes ≢ map.empty
+
+-- a node's children: each has a route, and they are in the order of their segments
+pub record IsNode (children : Children) : Type 0 where
+  pub used : HasNoEmptyChild children
+  pub ordered : IsStrictlySortedBy (slice_cmp nat_cmp) (keys_of children)
 
 -- the peer is looked for
 abbrev pub IsWanted : Wanted → ℕ → Type 0

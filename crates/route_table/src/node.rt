@@ -1,8 +1,12 @@
 //! The nodes of the trie.
 
-ghost use Rattle.std.specs.Prelude.{◌≡◌, ◌↔◌, ◌∷◌, [], OnOk, OnErr, IfOk, IsTrue};
+ghost use Rattle.std.specs.Prelude.{◌≡◌, ◌↔◌, ◌∷◌, ◌≤◌, [], length, OnOk, OnErr, IfOk, IsTrue};
 ghost use Rattle.std.specs.Option.{option_copied};
+ghost use Rattle.std.specs.Cmp.Lexicographic.{slice_cmp};
 ghost use Rattle.std.specs.FinMap.{empty, get, insert, remove};
+ghost use Rattle.std.specs.List as list;
+ghost use Rattle.std.specs.List.Sorted.{IsBinarySearchResult, IsSearchInRange};
+ghost use Rattle.std.specs.Ordering.{nat_cmp};
 ghost use Rattle.ilp_addr.specs.Segments.{segments_left};
 ghost use Rattle.route_table.specs.Paths.{Path, longest_at};
 ghost use Rattle.route_table.specs.Nodes.{peer_in, Names, HasWanted};
@@ -10,8 +14,8 @@ ghost use Rattle.route_table.specs.Nodes.{peer_in, Names, HasWanted};
 use crate::routes::PeerNo;
 use ilp_addr::Segments;
 use std::alloc::{AllocError, Global};
-use std::collections::BTreeMap;
 use std::marker::Model;
+use std::sync::Arc;
 
 /// Which peers are looked for.
 #[derive(Clone, Copy)]
@@ -23,28 +27,48 @@ pub(crate) enum Wanted {
 }
 
 /// A node: the peer of the prefix that ends here, if that has a route, and a child for each segment
-/// that follows. The children are ordered, so that no choice of segments makes a search slow.
+/// that follows. The children are in the order of their segments, so that no choice of segments
+/// makes a search slow.
 #[derive(Debug, Drop)]
+#[cycle(node)]
 pub(crate) struct Node {
     peer: Option<PeerNo>,
-    children: BTreeMap<Vec<u8>, Node>,
+    children: Vec<Child>,
+}
+
+/// The node behind a segment. Copies of the routes share it until one of them changes it.
+#[derive(Debug, Drop)]
+#[cycle(node)]
+struct Child {
+    segment: Vec<u8>,
+    node: Arc<Node>,
 }
 
 impl Model for Node {
-    ghost use Rattle.route_table.specs.Nodes.{Branch, branch_code, routes_from, height_of, HasNoEmptyChild};
+    ghost use Rattle.route_table.specs.Nodes.{Branch, branch_code, routes_from, IsNode};
 
     ghost Value = { Branch };
 
     ghost coded = { branch_code };
 
+    ghost use Rattle.route_table.specs.Children.{children_of, height_of};
+
     ghost view = { λ n. record {
-      routes = routes_from n.peer n.children.entries;
-      height = height_of n.children.entries;
+      routes = routes_from n.peer (children_of n.children.items);
+      height = height_of n.children.items;
     } };
 
-    ghost invariant = { λ n. HasNoEmptyChild n.children.entries };
+    ghost invariant = { λ n. IsNode (children_of n.children.items) };
 
     ghost size = { λ b. b.height };
+}
+
+impl Clone for Node {
+    ghost is_clone = { λ n c. c ≡ n };
+
+    fn clone(&self) -> Result<Node, AllocError> {
+        self.copy(*self.children.allocator())
+    }
 }
 
 impl Node {
@@ -54,7 +78,7 @@ impl Node {
     {
         Node {
             peer: None,
-            children: BTreeMap::new(alloc),
+            children: Vec::new(alloc),
         }
     }
 
@@ -101,31 +125,41 @@ impl Node {
             self.peer = Some(peer);
             return Ok(());
         };
-        if let Some(child) = self.children.get_mut(segment) {
-            return child.add(alloc, rest, peer);
-        }
-        let key = Vec::from_slice(alloc, segment)?;
-        let mut child = Node::new(alloc);
-        child.add(alloc, rest, peer)?;
-        self.children.insert(key, child)?;
-        Ok(())
+        let at = match search(&self.children, segment) {
+            Ok(at) => {
+                let child = Arc::make_mut(&mut self.children[at].node)?;
+                return child.add(alloc, rest, peer);
+            }
+            Err(at) => at,
+        };
+        let segment = Vec::from_slice(alloc, segment)?;
+        let mut node = Node::new(alloc);
+        node.add(alloc, rest, peer)?;
+        let node = Arc::new(alloc, node)?;
+        insert_child(&mut self.children, at, Child { segment, node })
     }
 
-    /// Takes away the peer of the path, and each child that has no routes left.
-    pub(crate) fn remove(&mut self, path: Segments<'_>)
-        ensures { self.new.routes ≡ remove self.old.routes (segments_left path.entry) }
+    /// Takes away the peer of the path, and each child that has no routes left. An error leaves the
+    /// routes as they were.
+    pub(crate) fn remove(&mut self, path: Segments<'_>) -> Result<(), AllocError>
+        ensures removed { OnOk result
+            (self.new.routes ≡ remove self.old.routes (segments_left path.entry)) }
+        ensures unchanged { OnErr result (self.new.routes ≡ self.old.routes) }
     {
         let mut rest = path;
         let Some(segment) = rest.next() else {
             self.peer = None;
-            return;
+            return Ok(());
         };
-        if let Some(child) = self.children.get_mut(segment) {
-            child.remove(rest);
-            if child.is_empty() {
-                drop(self.children.remove(segment));
-            }
+        let Ok(at) = search(&self.children, segment) else {
+            return Ok(());
+        };
+        let child = Arc::make_mut(&mut self.children[at].node)?;
+        child.remove(rest)?;
+        if child.is_empty() {
+            drop(self.children.remove(at));
         }
+        Ok(())
     }
 
     /// Whether some route's peer is wanted.
@@ -135,26 +169,21 @@ impl Node {
         if is_wanted(self.peer, wanted) {
             return true;
         }
-        for (_, child) in &self.children {
-            if child.names(wanted) {
+        for child in &self.children {
+            if child.node.names(wanted) {
                 return true;
             }
         }
         false
     }
 
-    /// The same routes in memory of their own.
+    /// The same node, whose children are shared.
     pub(crate) fn copy(&self, alloc: Global) -> Result<Node, AllocError>
-        ensures { IfOk result (λ node. node.routes ≡ self.now.routes) }
+        ensures { IfOk result (λ node. node ≡ self.now) }
     {
-        let mut children = BTreeMap::new(alloc);
-        for (segment, child) in &self.children {
-            let key = Vec::from_slice(alloc, segment)?;
-            children.insert(key, child.copy(alloc)?)?;
-        }
         Ok(Node {
             peer: self.peer,
-            children,
+            children: Child::share_all(alloc, &self.children)?,
         })
     }
 
@@ -168,7 +197,10 @@ impl Node {
         ensures { (path : Path)
             → peer_in path (option_copied result) ≡ get self.now.routes (segment.now ∷ path) }
     {
-        self.children.get(segment)
+        match search(&self.children, segment) {
+            Ok(at) => Some(&self.children[at].node),
+            Err(_) => None,
+        }
     }
 
     fn is_empty(&self) -> bool
@@ -176,6 +208,52 @@ impl Node {
     {
         self.peer.is_none() && self.children.is_empty()
     }
+}
+
+impl Child {
+    ghost use Rattle.route_table.specs.Children.{children_of};
+
+    // The same child, which holds the node together with this one.
+    fn share(&self, alloc: Global) -> Result<Child, AllocError>
+        ensures segment { IfOk result (λ child. child.segment.items ≡ self.now.segment.items) }
+        ensures node { IfOk result (λ child. child.node.value ≡ self.now.node.value) }
+    {
+        let segment = Vec::from_slice(alloc, &self.segment)?;
+        let node = Arc::try_clone(&self.node)?;
+        Ok(Child { segment, node })
+    }
+
+    fn share_all(alloc: Global, children: &[Child]) -> Result<Vec<Child>, AllocError>
+        ensures { IfOk result (λ shared. children_of shared.items ≡ children_of children.now) }
+    {
+        let mut shared = Vec::with_capacity(alloc, children.len())?;
+        for child in children {
+            shared.push_reserved(child.share(alloc)?);
+        }
+        Ok(shared)
+    }
+}
+
+// Where the child behind that segment stands, or would stand.
+fn search(children: &[Child], segment: &[u8]) -> Result<usize, usize>
+    ensures range { IsSearchInRange result (length children.now) }
+    ensures position { IsBinarySearchResult (λ c. slice_cmp nat_cmp c.segment.items segment.now)
+        children.now result }
+{
+    children.binary_search_by(|child| child.segment.as_slice().cmp(segment))
+}
+
+// Most nodes have one child, so the first takes no more room than it needs.
+fn insert_child(children: &mut Vec<Child>, at: usize, child: Child) -> Result<(), AllocError>
+    requires { at ≤ length children.old.items }
+    ensures inserted { OnOk result (children.new.items ≡ list.insert children.old.items at child) }
+    ensures unchanged { OnErr result (children.new.items ≡ children.old.items) }
+{
+    if children.is_empty() {
+        children.reserve_exact(1)?;
+    }
+    children.insert(at, child)?;
+    Ok(())
 }
 
 fn is_wanted(peer: Option<PeerNo>, wanted: Wanted) -> bool

@@ -105,18 +105,25 @@ impl Routes {
         Ok(())
     }
 
-    /// Takes away the route of the prefix. The error is `Absent`, where the prefix has none, and
-    /// leaves the routes as they were.
+    /// Takes away the route of the prefix.
+    ///
+    /// The errors are, in the order in which they are looked for: `Absent` where the prefix has no
+    /// route, and `Memory` where nodes are shared with a copy and there is no memory for nodes of
+    /// one's own. An error leaves the routes as they were.
     pub fn remove(&mut self, prefix: &Prefix) -> Result<(), RouteFault>
-        ensures exact { result ≡ (if contains_key self.old prefix.now
-            then Ok tt else Err RouteFault.Absent) }
         ensures removed { OnOk result (self.new ≡ remove self.old prefix.now) }
         ensures unchanged { OnErr result (self.new ≡ self.old) }
+        ensures absent { (result ≡ Err RouteFault.Absent)
+            ↔ (contains_key self.old prefix.now ≡ false) }
+        ensures never_present { result ≢ Err RouteFault.Present }
+        ensures never_full { result ≢ Err RouteFault.Full }
     {
         if self.peer_of(prefix).is_none() {
             return Err(RouteFault::Absent);
         }
-        self.root.remove(prefix.segments());
+        if self.root.remove(prefix.segments()).is_err() {
+            return Err(RouteFault::Memory);
+        }
         self.count -= 1;
         Ok(())
     }
@@ -148,7 +155,9 @@ impl Routes {
         !self.root.names(Wanted::NotBelow(count))
     }
 
-    /// The same routes in memory of their own.
+    /// The same routes, in memory that the two share. What is added or removed later copies the
+    /// nodes on its way that are shared, so neither sees a change of the other. The one error is
+    /// want of memory.
     pub fn copy(&self, alloc: Global) -> Result<Routes, AllocError>
         ensures { IfOk result (λ routes. routes ≡ self.now) }
     {

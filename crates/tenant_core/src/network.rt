@@ -365,13 +365,17 @@ impl Network {
         }
     }
 
-    /// Takes away the route of the prefix. The error is `Absent` where it has none, and leaves the network as it was.
+    /// Takes away the route of the prefix.
+    ///
+    /// The errors are, in the order in which they are looked for: `Absent` where it has none, and `Memory`. An error leaves
+    /// the network as it was.
     pub fn remove_route(&mut self, prefix: &Prefix) -> Result<(), CommandFault>
         ensures { IsChanged result (no_route_refusal self.old prefix.now) self.old self.new
             (without_route self.old prefix.now) }
     {
         match self.routes.remove(prefix) {
             Ok(()) => Ok(()),
+            Err(RouteFault::Memory) => Err(CommandFault::Memory),
             Err(_) => Err(CommandFault::Absent),
         }
     }

@@ -143,6 +143,73 @@ fn deepest_prefix(rt: HostRuntime) -> Result<(), Fail> {
     expect_only_in_copy(&rt, alloc, &mut routes, &copied, &address)
 }
 
+// The routes that the two sides change, each in its own way.
+static BEFORE: [(&[u8], PeerNo); 5] = [
+    (b"g", 1),
+    (b"g.a", 2),
+    (b"g.a.b.c", 3),
+    (b"g.a.d", 4),
+    (b"test", 5),
+];
+
+// A destination, and its peer in the original, in the copy, and in a copy of the copy that nobody changed.
+type Told = (
+    &'static [u8],
+    Option<PeerNo>,
+    Option<PeerNo>,
+    Option<PeerNo>,
+);
+
+static TOLD: [Told; 7] = [
+    (b"g.a.b.c.e.x", Some(6), Some(8), Some(3)),
+    (b"g.a.b.c.x", Some(6), Some(3), Some(3)),
+    (b"g.a.b.x", Some(6), Some(1), Some(2)),
+    (b"g.a.d.x", Some(4), Some(1), Some(4)),
+    (b"g.x", Some(1), Some(1), Some(1)),
+    (b"test.x", Some(7), Some(5), Some(5)),
+    (b"private.x", Some(7), None, None),
+];
+
+fn change_original(rt: &impl Abort, alloc: Global, routes: &mut Routes) -> Result<(), Fail> {
+    assert_eq!(rt; remove(alloc, routes, b"g.a.b.c")?, Ok(()));
+    assert_eq!(rt; add(alloc, routes, b"g.a.b", 6)?, Ok(()));
+    assert_eq!(rt; add(alloc, routes, b"", 7)?, Ok(()));
+    assert_eq!(rt; remove(alloc, routes, b"test")?, Ok(()));
+    assert_eq!(rt; remove(alloc, routes, b"g.a.b.c")?, Err(RouteFault::Absent));
+    assert_eq!(rt; routes.len(), 5);
+    Ok(())
+}
+
+fn change_copy(rt: &impl Abort, alloc: Global, routes: &mut Routes) -> Result<(), Fail> {
+    assert_eq!(rt; remove(alloc, routes, b"g.a")?, Ok(()));
+    assert_eq!(rt; add(alloc, routes, b"g.a.b.c.e", 8)?, Ok(()));
+    assert_eq!(rt; remove(alloc, routes, b"g.a.d")?, Ok(()));
+    assert_eq!(rt;
+        add(alloc, routes, b"g.a.b.c", 9)?,
+        Err(RouteFault::Present)
+    );
+    assert_eq!(rt; routes.len(), 4);
+    Ok(())
+}
+
+#[test]
+fn each_copy_as_it_was_told(rt: HostRuntime) -> Result<(), Fail> {
+    let alloc = rt.alloc();
+    let mut routes = routes_of(alloc, &BEFORE)?;
+    let mut copied = routes.copy(alloc)?;
+    let kept = copied.copy(alloc)?;
+    change_original(&rt, alloc, &mut routes)?;
+    change_copy(&rt, alloc, &mut copied)?;
+    for (destination, here, there, before) in &TOLD {
+        assert_eq!(rt; peer_for(&routes, destination)?, *here);
+        assert_eq!(rt; peer_for(&copied, destination)?, *there);
+        assert_eq!(rt; peer_for(&kept, destination)?, *before);
+    }
+    assert!(rt; routes.names_peer(6) && !copied.names_peer(6) && !kept.names_peer(6));
+    assert!(rt; !routes.names_peer(3) && copied.names_peer(3) && kept.names_peer(3));
+    Ok(())
+}
+
 // Where the prefixes of many routes stand in the trie.
 #[derive(Clone, Copy)]
 enum Shape {

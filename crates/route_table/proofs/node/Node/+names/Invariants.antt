@@ -1,7 +1,8 @@
-use Rattle.std.specs.Prelude.{◌↔◌}
+use Rattle.std.specs.Prelude.{◌↔◌, drop}
 use Rattle.route_table.specs.Nodes.{Names}
+use Rattle.route_table.specs.Children.{children_of}
 use Rattle.route_table.proofs.NodeLemmas.{SomeChildNames}
 use Rattle.route_table.proofs.node.Node.+names.Given as goal
 
 abbrev pub invariant-loop-child : goal.invariant-loop-child
-invariant-loop-child l = Names l.wanted l.self.routes ↔ SomeChildNames l.wanted l.child-iterator
+invariant-loop-child l = Names l.wanted l.self.routes ↔ SomeChildNames l.wanted (children_of (drop l.child-index l.child-items))
