@@ -1,9 +1,13 @@
 //! Lines of a head that is written, in fixed room.
 
-ghost use Rattle.std.specs.Prelude.{◌≡◌, ◌+◌, ◌≤◌, ◌++◌, [], length, decimal};
+ghost use Rattle.std.specs.Prelude.{◌≡◌, ◌≢◌, ◌↔◌, ◌+◌, ◌<◌, ◌≤◌, ◌++◌, [], length, decimal, Err, OnOk};
+ghost use Rattle.std.specs.Io.KnownBytes.{Appends};
 ghost use Rattle.http_link.specs.Answers.{line};
 
+use crate::streams::{LinkFault, write_all};
 use itoa::Buffer;
+use oer_core::Device;
+use std::io::Write;
 use std::marker::Model;
 
 /// The most bytes of a head that is written.
@@ -39,6 +43,13 @@ impl LineBuffer {
         ensures { result.now ≡ self.now }
     {
         &self.bytes[..self.len]
+    }
+
+    // How many bytes more it has room for.
+    fn room(&self) -> usize
+        ensures { length self.now + result ≡ 1024 }
+    {
+        MAX_WRITTEN - self.len
     }
 
     pub(crate) fn push(&mut self, text: &[u8])
@@ -80,4 +91,24 @@ impl LineBuffer {
         self.push_number(number);
         self.push(b"\r\n");
     }
+}
+
+/// Writes a head and the body behind it, in one text where both fit into 1,024 bytes, else one after the other.
+pub(crate) fn write_message<W: Write + Device>(
+    w: &mut W,
+    mut head: LineBuffer,
+    body: &[u8],
+    before: u64,
+) -> Result<(), LinkFault>
+    requires unfailed { W.failure_count w.old ≤ before }
+    ensures whole { OnOk result (Appends (W.contents w.old) (W.contents w.new) (head ++ body.now)) }
+    ensures write { (result ≡ Err LinkFault.Write) ↔ (before < W.failure_count w.new) }
+    ensures read { result ≢ Err LinkFault.Read }
+{
+    if body.len() <= head.room() {
+        head.push(body);
+        return write_all(w, head.as_slice(), before);
+    }
+    write_all(w, head.as_slice(), before)?;
+    write_all(w, body, before)
 }

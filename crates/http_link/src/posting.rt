@@ -10,8 +10,8 @@ ghost use Rattle.http_link.specs.Client.{meaning_of, sized_body, body_to_end};
 
 use crate::fields::{Found, Lines, is_length, value_up_to};
 use crate::head::{MAX_HEAD, MAX_LINES, Offered, read_reply_head};
-use crate::line_buffer::LineBuffer;
-use crate::streams::{LinkFault, MAX_READS, has_ended, read_up_to, write_all};
+use crate::line_buffer::{LineBuffer, write_message};
+use crate::streams::{LinkFault, MAX_READS, has_ended, read_up_to};
 use httparse::spans::{EMPTY_HEADER_SPAN, HeaderSpan, ResponseSpans};
 use ilp_addr::Target;
 use oer_core::Device;
@@ -100,8 +100,7 @@ pub fn post<R: Read + Device, W: Write + Device>(
     ensures write { (result ≡ Err PostFault.Write) ↔ (W.failure_count w.old < W.failure_count w.new) }
 {
     let (reads, writes) = (r.failures(), w.failures());
-    write_all(w, post_head(target, frame.len()).as_slice(), writes)?;
-    write_all(w, frame, writes)?;
+    write_message(w, post_head(target, frame.len()), frame, writes)?;
     let mut turns = MAX_READS;
     read_answer(r, out, reads, &mut turns)
 }

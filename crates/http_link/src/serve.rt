@@ -15,6 +15,7 @@ ghost use Rattle.http_link.specs.Running.{Runs, AsksWanted};
 use crate::answer::{answer_head, told};
 use crate::fields::Lines;
 use crate::head::{MAX_HEAD, MAX_LINES, Offered, read_request_head};
+use crate::line_buffer::write_message;
 use crate::request::{Kind, RequestHead, Wanted, closes, waits, wanted_of};
 use crate::service::Service;
 use crate::streams::{LinkFault, MAX_READS, read_up_to, write_all};
@@ -253,8 +254,7 @@ fn write_answer<W: Write + Device>(
 {
     let shown = told_body(status, body);
     let head = answer_head(kind, told(status), shown.len(), closes);
-    write_all(w, head.as_slice(), before)?;
-    write_all(w, shown, before)
+    write_message(w, head, shown, before)
 }
 
 // The body of an answer; only 200 has one.

@@ -1,6 +1,7 @@
 //! Connections whose reads and writes end in time.
 
 ghost use Rattle.std.specs.Prelude.{◌≡◌, ◌≤◌};
+ghost use Rattle.std.specs.Io.{ReadsAtMost, WritesAtMost};
 
 use oer_core::Device;
 use std::io;
@@ -11,12 +12,18 @@ use std::time::{Clock, Duration, Instant};
 /// How many bytes are read ahead at most.
 const AHEAD: usize = 2048;
 
-/// One side of a connection, whose reads and writes fail once a moment has come. It reads ahead, and counts what failed.
+/// By how many milliseconds more than are left a read may wait.
+const SLACK: u64 = 100;
+
+/// One side of a connection, whose reads and writes fail once a moment has come, a read up to 100 ms later. It reads ahead,
+/// and counts what failed.
 #[derive(Drop)]
 pub struct Timed<'a, H> {
     stream: &'a TcpStream,
     clock: &'a H,
     until: Instant,
+    // How long a read of the stream waits, as it was last set; zero where it was not.
+    wait: Duration,
     failures: u64,
     ahead: [u8; AHEAD],
     from: usize,
@@ -32,6 +39,7 @@ impl<'a, H: Clock> Timed<'a, H> {
             stream,
             clock,
             until,
+            wait: Duration::ZERO,
             failures: 0,
             ahead: [0; AHEAD],
             from: 0,
@@ -53,24 +61,56 @@ impl<'a, H: Clock> Timed<'a, H> {
         }
     }
 
+    // Sets how long a read waits, unless it is set to the time that is left or a little more.
+    fn set_wait(&mut self) -> io::Result<()> {
+        let left = self.left()?;
+        let is_set = match self.wait.checked_sub(left) {
+            Some(longer) => longer <= Duration::from_millis(SLACK),
+            None => false,
+        };
+        if !is_set {
+            let wait = left.saturating_add(Duration::from_millis(SLACK / 2));
+            self.stream.set_read_timeout(Some(wait))?;
+            self.wait = wait;
+        }
+        Ok(())
+    }
+
     fn read_ahead(&mut self) -> io::Result<()> {
-        self.stream.set_read_timeout(Some(self.left()?))?;
+        self.set_wait()?;
         let mut stream = self.stream;
         let n = stream.read(&mut self.ahead)?;
         self.from = 0;
         self.to = n;
         Ok(())
     }
+
+    // Reads what goes past the room for reading ahead.
+    fn read_past(&mut self, buf: &mut [u8]) -> io::Result<usize>
+        ensures { ReadsAtMost result buf.new }
+    {
+        self.set_wait()?;
+        let mut stream = self.stream;
+        stream.read(buf)
+    }
 }
 
 impl<H: Clock> Timed<'_, H> {
-    ghost use Rattle.std.specs.Io.{ReadsAtMost, WritesAtMost};
-
     fn read_some(&mut self, buf: &mut [u8]) -> io::Result<usize>
         ensures { ReadsAtMost result buf.new }
     {
         if self.from == self.to {
+            if buf.len() >= AHEAD {
+                return self.read_past(buf);
+            }
             self.read_ahead()?;
+        }
+        if let [one] = buf
+            && self.from < self.to
+        {
+            *one = self.ahead[self.from];
+            self.from += 1;
+            return Ok(1);
         }
         let held = &self.ahead[self.from..self.to];
         let n = held.len().min(buf.len());

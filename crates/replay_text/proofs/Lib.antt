@@ -6,3 +6,5 @@ pub mod Known
 pub mod Fits
 pub mod Composition
 pub mod OneText
+pub mod Places
+pub mod Decoding

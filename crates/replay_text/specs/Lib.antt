@@ -3,3 +3,4 @@ pub mod Script
 pub mod Printed
 pub mod Streams
 pub mod Replay
+pub mod Hexadecimal

@@ -2,9 +2,11 @@
 //! that are written.
 #![tactic(auto)]
 
+mod hexadecimal;
 pub mod laws;
 mod printed;
 mod replays;
+mod scans;
 mod script;
 mod streams;
 

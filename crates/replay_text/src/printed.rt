@@ -7,6 +7,7 @@ ghost use Rattle.replay_text.specs.Printed.{name_of, word_of, tick_text, line_te
 ghost use Rattle.replay_text.specs.Printed.{refusal_word, row_line, command_text};
 ghost use Rattle.std.specs.List.{flat_map};
 
+use crate::hexadecimal::put_hex;
 use common_types::Name;
 use floor_core::{Malformed, Output};
 use std::alloc::{AllocError, Global};
@@ -41,13 +42,6 @@ fn put_decimal(alloc: Global, out: &mut Vec<u8>, number: u64) -> Result<(), Allo
     out.extend_from_slice(text.as_bytes())
 }
 
-fn put_hex(alloc: Global, out: &mut Vec<u8>, bytes: &[u8]) -> Result<(), AllocError>
-    ensures { OnOk result (out.new.items ≡ out.old.items ++ encode_lower bytes.now) }
-{
-    let text = hex::encode(alloc, bytes)?;
-    out.extend_from_slice(text.as_bytes())
-}
-
 // What is said of a packet that goes on, behind the tenant's name.
 fn put_send(
     alloc: Global,
@@ -64,7 +58,7 @@ fn put_send(
     out.push(b' ')?;
     put_decimal(alloc, out, hold)?;
     out.push(b' ')?;
-    put_hex(alloc, out, frame)
+    put_hex(out, frame)
 }
 
 // What is said of a tick, behind the tenant's name.
@@ -201,7 +195,7 @@ fn put_text(
         Output::Stranger { tenant } => put_named(names, *tenant, out, b" stranger"),
         Output::Reply { tenant, bytes } => {
             put_named(names, *tenant, out, b" reply ")?;
-            put_hex(alloc, out, bytes.as_slice())
+            put_hex(out, bytes.as_slice())
         }
         Output::Ticked { tenant, answer } => {
             out.extend_from_slice(name_of(names, *tenant))?;

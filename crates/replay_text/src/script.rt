@@ -2,11 +2,11 @@
 
 ghost use Rattle.std.specs.Prelude.{◌≡◌, ◌==◌, ◌<◌, ◌≤◌, ◌↔◌, ℕ, List, Ok, Err, ◌∷◌, length, ◌≢◌, [], option_copied};
 ghost use Rattle.std.specs.Prelude.{option_map, option_and_then, min, nat_lt, IfOk, All};
-ghost use Rattle.std.specs.List.{position, list_all};
+ghost use Rattle.std.specs.List.{position};
 ghost use Rattle.std.specs.Result.{result_ok};
 ghost use Rattle.std.specs.Str.{bytes_eq};
 ghost use Rattle.replay_text.specs.Script.{lines_of, number_below};
-ghost use Rattle.common_types.specs.Words.{words_of};
+ghost use Rattle.common_types.specs.Words.{words_of, parts};
 ghost use Rattle.replay_text.specs.Script.{tenant_named, token_of, frame_of, load_of, decide_of, answer_of, tick_of};
 ghost use Rattle.replay_text.specs.Script.{govern_of};
 ghost use Rattle.replay_text.specs.Script.{given_of, moment_spelled, step_behind, step_of_words};
@@ -16,10 +16,11 @@ ghost use Rattle.common_types.specs.Outcomes.{GivesUnlessMemory};
 ghost use Rattle.floor_core.specs.World.{FitsIn};
 ghost use Rattle.replay_text.specs.Words.{two_of, three_of, four_of};
 
+use crate::hexadecimal::decode;
+use crate::scans::{is_ascii, place_of};
 use admin_text::parse_command;
-use common_types::{Bytes, Name, ReadError, first_word, is_numeral, is_token, value_of};
+use common_types::{Bytes, Name, ReadError, is_numeral, is_token, value_of};
 use floor_core::{Given, Step};
-use hex::FromHexError;
 use ilp_addr::Moment;
 use std::alloc::{AllocError, Global};
 use tenant_core::Command;
@@ -51,11 +52,14 @@ enum Meaning {
     Bad,
 }
 
-/// The place of the first byte that is this one.
-fn place_of(byte: u8, bytes: &[u8]) -> Option<usize>
-    ensures { result ≡ position (λ b. b == byte) bytes.now }
+/// The first word of a text, and what follows the space after it.
+fn first_word(text: &[u8]) -> (&[u8], Option<&[u8]>)
+    ensures value { words_of text.now ≡ parts words_of result.0.now (option_copied result.1) }
 {
-    bytes.iter().position(|b| *b == byte)
+    match place_of(b' ', text) {
+        Some(end) => (&text[..end], Some(&text[end + 1..])),
+        None => (text, None),
+    }
 }
 
 /// The first line of a text that is not empty, without its end, and what follows it.
@@ -155,10 +159,9 @@ fn frame_of(alloc: Global, word: &[u8]) -> Result<Option<Bytes>, AllocError>
     if word.is_empty() {
         return Ok(None);
     }
-    match hex::decode(alloc, word) {
-        Ok(bytes) => Ok(Some(Bytes::from_vec(bytes))),
-        Err(FromHexError::OutOfMemory) => Err(AllocError),
-        Err(_) => Ok(None),
+    match decode(alloc, word)? {
+        Some(bytes) => Ok(Some(Bytes::from_vec(bytes))),
+        None => Ok(None),
     }
 }
 
@@ -337,12 +340,6 @@ fn step_of(
         (verb, Some(words)) => step_behind(alloc, names, workers, verb, words),
         (_, None) => Ok(None),
     }
-}
-
-fn is_ascii(line: &[u8]) -> bool
-    ensures { result ≡ list_all (λ b. nat_lt b 128) line.now }
-{
-    line.iter().all(|b| *b < 128)
 }
 
 fn is_skipped(line: &[u8]) -> bool

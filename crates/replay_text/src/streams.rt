@@ -71,7 +71,7 @@ pub fn read_script<R: Read + Device>(alloc: Global, reader: &mut R) -> Result<Ve
 {
     let before = reader.failures();
     let mut text = Vec::new(alloc);
-    let mut chunk = [0u8; 4096];
+    let mut chunk = [0u8; 65536];
     while text.len() <= MAX_SCRIPT {
         if take_some(reader, &mut chunk, &mut text, before)? == 0 {
             return Ok(text);

@@ -7,7 +7,7 @@ invariant-loop-chunk g l =
     record {
       taken : Consumes (g.R.Read.remaining l.fn.reader) (g.R.Read.remaining l.reader) l.text.items;
       bound : length l.text.items ≤ 16_777_217;
-      chunk : length l.chunk ≡ 4096;
+      chunk : length l.chunk ≡ 65536;
       before : l.before ≡ g.R.Device.failure_count l.fn.reader;
       unfailed : g.R.Device.failure_count l.reader ≤ l.before;
     }
