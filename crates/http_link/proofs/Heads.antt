@@ -1,13 +1,15 @@
 -- Heads of requests, of which a front is known.
-use Rattle.std.proofs.Common.{◌≡◌, ◌≢◌, ◌⊎◌, inl, inr, Bool, true, false, ltb, ltb-true, ltb-false, ℕ, ◌<◌, ◌≤◌, List, [], ◌∷◌, ◌++◌, length, take, drop, ◌+◌}
+use Rattle.std.proofs.Common.{◌≡◌, ◌≢◌, ◌⊎◌, inl, inr, Bool, true, false, ◌||◌, eqb, ltb, ltb-true, ltb-false, ℕ, ◌<◌, ◌≤◌, List, [], ◌∷◌, ◌++◌, length, take, drop, ◌+◌, ◌-◌}
 use Rattle.std.proofs.Common.{refl, sym, ap, subst, ◌∙◌, arith, append_assoc, append-nil, length-append, length-take, Option, Some, None}
-use Rattle.std.specs.List.{flat_map}
+use Rattle.std.specs.List.{flat_map, ends_with}
+use Rattle.std.specs.Cmp.Lexicographic.{pointwise}
+use Rattle.std.proofs.Math.Seq.{drop-append_seam}
 use Rattle.std.specs.Io.KnownBytes.{Consumes}
-use Rattle.httparse.specs.Grammar.{LineEnd, crlf, lf, print_end, print_blank, print_version, print_field, RequestHead, IsRequestHead, print_request, HasNoRequest}
+use Rattle.httparse.specs.Grammar.{LineEnd, crlf, lf, print_end, print_blank, print_version, Field, print_field, RequestHead, IsRequestHead, print_request, HasNoRequest}
 use Rattle.httparse.specs.declared.spans.HeaderSpan.{HeaderSpan}
 use Rattle.httparse.specs.declared.spans.RequestSpans.{RequestSpans}
 use Rattle.http_link.proofs.Known.{Consumes-more}
-use Rattle.http_link.specs.Reading.{IsRequest, IsTaken, GoesOn, BeginsNone, HasNoHead}
+use Rattle.http_link.specs.Reading.{ends_empty_line, IsRequest, IsTaken, GoesOn, BeginsNone, HasNoHead}
 
 -- of two fronts of one list the longer one goes on
 pub goes_on : (a m p r : List ℕ) → a ++ m ≡ p ++ r → length a ≤ length p → (q : List ℕ) × (p ≡ a ++ q) × (m ≡ q ++ r)
@@ -60,9 +62,62 @@ request_ends h =
 pub no_line_ends : (text whole : List ℕ) (b : ℕ) → b ≢ 10 → EndsLine whole → text ++ b ∷ [] ≡ whole → ⊥
 no_line_ends text whole b other ends e = other (last_same text ends.0 b 10 (e ∙ ends.1))
 
--- what goes on goes on behind a byte that is no line feed
-pub goes_on_by : (text both : List ℕ) (b room : ℕ) → both ≡ text ++ b ∷ [] → b ≢ 10 → GoesOn text room → GoesOn both room
-goes_on_by text both b room grows other on head more rest reads few = by_length (lt_or_ge (length both) (length (print_request head)))
+-- what a text ends with
+tail_is : (front back : List ℕ) → drop (length (front ++ back) - length back) (front ++ back) ≡ back
+tail_is front back =
+    let long : length (front ++ back) - length back ≡ length front = omega (arith, length-append front back) in
+    rw long (drop-append_seam front back)
+
+or_true : (b : Bool) → b || true ≡ true
+or_true true = refl
+or_true false = refl
+
+-- a line, and behind it an empty one
+line_then_end : (text : List ℕ) (last : LineEnd) → EndsLine text → ends_empty_line (text ++ print_end last) ≡ true
+line_then_end text lf ends =
+    let empty : List ℕ = 10 ∷ 10 ∷ [] in
+    let both : text ++ 10 ∷ [] ≡ ends.0 ++ empty = ap (λ (w : List ℕ). w ++ 10 ∷ []) ends.1 ∙ append_assoc ends.0 (10 ∷ []) (10 ∷ []) in
+    ap ends_empty_line both
+    ∙ ap (λ (w : List ℕ). pointwise eqb empty w || ends_with eqb (ends.0 ++ empty) (10 ∷ 13 ∷ 10 ∷ [])) (tail_is ends.0 empty)
+line_then_end text crlf ends =
+    let empty : List ℕ = 10 ∷ 13 ∷ 10 ∷ [] in
+    let both : text ++ 13 ∷ 10 ∷ [] ≡ ends.0 ++ empty = ap (λ (w : List ℕ). w ++ 13 ∷ 10 ∷ []) ends.1 ∙ append_assoc ends.0 (10 ∷ []) (13 ∷ 10 ∷ []) in
+    ap ends_empty_line both
+    ∙ ap (λ (w : List ℕ). ends_with eqb (ends.0 ++ empty) (10 ∷ 10 ∷ []) || pointwise eqb empty w) (tail_is ends.0 empty)
+    ∙ or_true (ends_with eqb (ends.0 ++ empty) (10 ∷ 10 ∷ []))
+
+field_ends : (f : Field) → EndsLine (print_field f)
+field_ends f = ends_behind (f.name ++ 58 ∷ f.raw) (print_end f.end) (print_end_ends f.end)
+
+-- field lines behind a line
+pub fields_end : (line : List ℕ) (fields : List Field) → EndsLine line → EndsLine (line ++ flat_map print_field fields)
+fields_end line [] ends = (ends.0, append-nil line ∙ ends.1)
+fields_end line (f ∷ fields) ends =
+    let more = fields_end (line ++ print_field f) fields (ends_behind line (print_field f) (field_ends f)) in
+    (more.0, sym (append_assoc line (print_field f) (flat_map print_field fields)) ∙ more.1)
+
+-- a start line, field lines and an empty line
+pub section_ends_empty : (line : List ℕ) (fields : List Field) (last : LineEnd) → EndsLine line
+    → ends_empty_line (line ++ (flat_map print_field fields ++ print_end last)) ≡ true
+section_ends_empty line fields last ends =
+    ap ends_empty_line (sym (append_assoc line (flat_map print_field fields) (print_end last)))
+    ∙ line_then_end (line ++ flat_map print_field fields) last (fields_end line fields ends)
+
+-- each head ends with an empty line
+request_ends_empty : (h : RequestHead) → ends_empty_line (print_request h) ≡ true
+unfolding print_request
+request_ends_empty h =
+    section_ends_empty (print_blank h.blank ++ h.method ++ 32 ∷ h.target ++ 32 ∷ print_version h.minor ++ print_end h.line_end) h.fields h.last
+    (ends_behind (print_blank h.blank ++ h.method ++ 32 ∷ h.target ++ 32 ∷ print_version h.minor) (print_end h.line_end) (print_end_ends h.line_end))
+
+-- a test is not both
+pub not_both : (b : Bool) → b ≡ true → b ≡ false → ⊥
+not_both true t f = absurd cc
+not_both false t f = absurd cc
+
+-- what goes on goes on behind a byte that ends no head
+goes_on_unended : (text both : List ℕ) (b room : ℕ) → both ≡ text ++ b ∷ [] → ((h : RequestHead) → both ≡ print_request h → ⊥) → GoesOn text room → GoesOn both room
+goes_on_unended text both b room grows unended on head more rest reads few = by_length (lt_or_ge (length both) (length (print_request head)))
   where
     by_length : (length both < length (print_request head)) ⊎ (length (print_request head) ≤ length both) → length both < length (print_request head)
     by_length (inl lt) = lt
@@ -73,8 +128,17 @@ goes_on_by text both b room grows other on head more rest reads few = by_length 
         let long = ap length grows in
         let parts = ap length whole.1 in
         let none : whole.0 ≡ [] = nothing_left whole.0 (omega (arith, length-append text (b ∷ []), length-append (print_request head) whole.0)) in
-        absurd (no_line_ends text (print_request head) b other (request_ends head)
-        (sym grows ∙ whole.1 ∙ ap (λ (w : List ℕ). print_request head ++ w) none ∙ append-nil (print_request head)))
+        absurd (unended head (whole.1 ∙ ap (λ (w : List ℕ). print_request head ++ w) none ∙ append-nil (print_request head)))
+
+-- what goes on goes on behind a byte that is no line feed
+pub goes_on_by : (text both : List ℕ) (b room : ℕ) → both ≡ text ++ b ∷ [] → b ≢ 10 → GoesOn text room → GoesOn both room
+goes_on_by text both b room grows other on =
+    goes_on_unended text both b room grows (λ head is. no_line_ends text (print_request head) b other (request_ends head) (sym grows ∙ is)) on
+
+-- what goes on goes on up to an empty line
+pub goes_on_inside : (text both : List ℕ) (b room : ℕ) → both ≡ text ++ b ∷ [] → ends_empty_line both ≡ false → GoesOn text room → GoesOn both room
+goes_on_inside text both b room grows inside on =
+    goes_on_unended text both b room grows (λ head is. not_both (ends_empty_line both) (ap ends_empty_line is ∙ request_ends_empty head) inside) on
 
 -- a text that has no head goes on in each
 pub partial_goes_on : (text : List ℕ) (room : ℕ) → HasNoRequest text → GoesOn text room

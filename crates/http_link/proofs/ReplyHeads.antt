@@ -1,13 +1,14 @@
 -- Heads of answers, of which a front is known.
-use Rattle.std.proofs.Common.{◌≡◌, ◌≢◌, ◌⊎◌, inl, inr, ℕ, ◌<◌, ◌≤◌, List, [], ◌∷◌, ◌++◌, length, take, drop, ◌+◌}
+use Rattle.std.proofs.Common.{◌≡◌, ◌≢◌, ◌⊎◌, inl, inr, true, false, ℕ, ◌<◌, ◌≤◌, List, [], ◌∷◌, ◌++◌, length, take, drop, ◌+◌}
 use Rattle.std.proofs.Common.{sym, ap, subst, ◌∙◌, arith, append_assoc, append-nil, length-append, length-take, Option}
 use Rattle.std.specs.List.{flat_map}
 use Rattle.std.specs.Io.KnownBytes.{Consumes}
 use Rattle.httparse.specs.Grammar.{print_end, print_blank, print_version, print_reason, print_field, ResponseHead, IsResponseHead, print_response, HasNoResponse}
-use Rattle.http_link.proofs.Heads.{goes_on, lt_or_ge, nothing_left, EndsLine, ends_behind, print_end_ends, no_line_ends, begins_with_taken}
+use Rattle.http_link.proofs.Heads.{goes_on, lt_or_ge, nothing_left, EndsLine, ends_behind, print_end_ends, no_line_ends, section_ends_empty, not_both, begins_with_taken}
 use Rattle.httparse.specs.declared.spans.HeaderSpan.{HeaderSpan}
 use Rattle.httparse.specs.declared.spans.ResponseSpans.{ResponseSpans}
 use Rattle.http_link.proofs.Known.{Consumes-more}
+use Rattle.http_link.specs.Reading.{ends_empty_line}
 use Rattle.http_link.specs.ReadingReplies.{IsReply, ReplyIsTaken, ReplyGoesOn, BeginsNoReply, HasNoReply}
 
 -- each head ends with a line feed
@@ -17,9 +18,16 @@ response_ends h =
     ends_behind (print_blank h.blank ++ print_version h.minor ++ 32 ∷ h.digits ++ print_reason h.reason ++ print_end h.line_end) (flat_map print_field h.fields ++ print_end h.last)
     (ends_behind (flat_map print_field h.fields) (print_end h.last) (print_end_ends h.last))
 
--- what goes on goes on behind a byte that is no line feed
-pub goes_on_by : (text both : List ℕ) (b room : ℕ) → both ≡ text ++ b ∷ [] → b ≢ 10 → ReplyGoesOn text room → ReplyGoesOn both room
-goes_on_by text both b room grows other on head more rest reads few = by_length (lt_or_ge (length both) (length (print_response head)))
+-- each head ends with an empty line
+response_ends_empty : (h : ResponseHead) → ends_empty_line (print_response h) ≡ true
+unfolding print_response
+response_ends_empty h =
+    section_ends_empty (print_blank h.blank ++ print_version h.minor ++ 32 ∷ h.digits ++ print_reason h.reason ++ print_end h.line_end) h.fields h.last
+    (ends_behind (print_blank h.blank ++ print_version h.minor ++ 32 ∷ h.digits ++ print_reason h.reason) (print_end h.line_end) (print_end_ends h.line_end))
+
+-- what goes on goes on behind a byte that ends no head
+goes_on_unended : (text both : List ℕ) (b room : ℕ) → both ≡ text ++ b ∷ [] → ((h : ResponseHead) → both ≡ print_response h → ⊥) → ReplyGoesOn text room → ReplyGoesOn both room
+goes_on_unended text both b room grows unended on head more rest reads few = by_length (lt_or_ge (length both) (length (print_response head)))
   where
     by_length : (length both < length (print_response head)) ⊎ (length (print_response head) ≤ length both) → length both < length (print_response head)
     by_length (inl lt) = lt
@@ -30,8 +38,17 @@ goes_on_by text both b room grows other on head more rest reads few = by_length 
         let long = ap length grows in
         let parts = ap length whole.1 in
         let none : whole.0 ≡ [] = nothing_left whole.0 (omega (arith, length-append text (b ∷ []), length-append (print_response head) whole.0)) in
-        absurd (no_line_ends text (print_response head) b other (response_ends head)
-        (sym grows ∙ whole.1 ∙ ap (λ (w : List ℕ). print_response head ++ w) none ∙ append-nil (print_response head)))
+        absurd (unended head (whole.1 ∙ ap (λ (w : List ℕ). print_response head ++ w) none ∙ append-nil (print_response head)))
+
+-- what goes on goes on behind a byte that is no line feed
+pub goes_on_by : (text both : List ℕ) (b room : ℕ) → both ≡ text ++ b ∷ [] → b ≢ 10 → ReplyGoesOn text room → ReplyGoesOn both room
+goes_on_by text both b room grows other on =
+    goes_on_unended text both b room grows (λ head is. no_line_ends text (print_response head) b other (response_ends head) (sym grows ∙ is)) on
+
+-- what goes on goes on up to an empty line
+pub goes_on_inside : (text both : List ℕ) (b room : ℕ) → both ≡ text ++ b ∷ [] → ends_empty_line both ≡ false → ReplyGoesOn text room → ReplyGoesOn both room
+goes_on_inside text both b room grows inside on =
+    goes_on_unended text both b room grows (λ head is. not_both (ends_empty_line both) (ap ends_empty_line is ∙ response_ends_empty head) inside) on
 
 -- a text that has no head goes on in each
 pub partial_goes_on : (text : List ℕ) (room : ℕ) → HasNoResponse text → ReplyGoesOn text room

@@ -1,5 +1,6 @@
 -- Heads as they are read, byte by byte.
-use Rattle.std.specs.Prelude.{◌≡◌, ℕ, ◌<◌, ◌≤◌, List, ◌++◌, length, take, Option, Some}
+use Rattle.std.specs.Prelude.{◌≡◌, ℕ, ◌<◌, ◌≤◌, List, [], ◌∷◌, ◌++◌, length, take, Option, Some, Bool, ◌||◌, ◌==◌}
+use Rattle.std.specs.List.{ends_with}
 use Rattle.std.specs.Io.KnownBytes.{Consumes}
 use Rattle.httparse.specs.declared.spans.RequestSpans.{RequestSpans}
 use Rattle.httparse.specs.declared.spans.HeaderSpan.{HeaderSpan}
@@ -7,6 +8,11 @@ use Rattle.httparse.specs.Grammar.{RequestHead, print_request, ReadsRequest}
 use Rattle.httparse.specs.Spans.{IsRequestAt, IsRequestWithin}
 use Rattle.http_link.specs.declared.head.Offered.{Offered}
 use Rattle.http_link.specs.declared.head.Offered.TheVariants.{Whole, Partial, Malformed}
+
+-- an empty line stands behind another line, and ends the text
+abbrev pub ends_empty_line : List ℕ → Bool
+ends_empty_line text =
+    ends_with (λ a b. a == b) text (10 ∷ 10 ∷ []) || ends_with (λ a b. a == b) text (10 ∷ 13 ∷ 10 ∷ [])
 
 -- the spans are those of a head that the text is
 pub record IsRequest (text : List ℕ) (lines : List HeaderSpan) (spans : RequestSpans) : Type 0 where

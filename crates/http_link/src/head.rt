@@ -1,7 +1,7 @@
 //! Heads of requests and of answers, read one byte at a time, so that no byte behind them is taken.
 
-ghost use Rattle.std.specs.Prelude.{◌≡◌, ◌≢◌, ◌↔◌, ◌+◌, ◌<◌, ◌≤◌, ◌++◌, ◌∷◌, [], length, take, Ok, Err, IfOk};
-ghost use Rattle.http_link.specs.Reading.{Decides, GoesOn, HeadIsRead};
+ghost use Rattle.std.specs.Prelude.{◌≡◌, ◌≢◌, ◌↔◌, ◌+◌, ◌<◌, ◌≤◌, ◌++◌, ◌∷◌, [], length, take, false, Ok, Err, IfOk};
+ghost use Rattle.http_link.specs.Reading.{ends_empty_line, Decides, GoesOn, HeadIsRead};
 ghost use Rattle.http_link.specs.ReadingReplies.{DecidesReply, ReplyGoesOn, ReplyIsRead};
 
 use crate::streams::{LinkFault, Pulled, pull};
@@ -27,11 +27,27 @@ pub(crate) enum Offered<S> {
     Malformed,
 }
 
-// Puts a byte behind the first n, and looks at them where a line ends, since each head ends with a line.
+// Whether an empty line ends the text, as it does each head.
+fn ends_empty_line(text: &[u8]) -> bool
+    ensures { result ≡ ends_empty_line text.now }
+{
+    text.ends_with(b"\n\n") || text.ends_with(b"\n\r\n")
+}
+
+// Whether a text is parsed of which so many bytes were parsed before: where a head can end, and, so that a malformed one
+// is told soon, where the text has doubled.
+fn is_due(text: &[u8], parsed: usize) -> bool
+    ensures { result ≡ false → ends_empty_line text.now ≡ false }
+{
+    text.len() / 2 >= parsed || ends_empty_line(text)
+}
+
+// Puts a byte behind the first n, of which so many were parsed before, and parses them where a line ends and they are due.
 fn offer_request(
     text: &mut [u8],
     n: usize,
     b: u8,
+    parsed: &mut usize,
     lines: &mut [HeaderSpan],
 ) -> Offered<RequestSpans>
     requires room { n < length text.old }
@@ -45,7 +61,12 @@ fn offer_request(
     if b != b'\n' {
         return Offered::Partial;
     }
-    match parse_request(&text[..n + 1], lines) {
+    let size = n + 1;
+    if !is_due(&text[..size], *parsed) {
+        return Offered::Partial;
+    }
+    *parsed = size;
+    match parse_request(&text[..size], lines) {
         Ok(Status::Complete(spans)) => Offered::Whole(spans),
         Ok(Status::Partial) => Offered::Partial,
         Err(_) => Offered::Malformed,
@@ -70,6 +91,7 @@ pub(crate) fn read_request_head<R: Read + Device>(
     ensures spent { result ≡ Err LinkFault.Turns → turns.new ≡ 0 }
 {
     let mut n = 0;
+    let mut parsed = 0;
     while *turns > 0 {
         *turns -= 1;
         if n >= text.len() {
@@ -79,7 +101,7 @@ pub(crate) fn read_request_head<R: Read + Device>(
             Pulled::Nothing => {}
             Pulled::End => return Ok(Offered::Partial),
             Pulled::Byte(b) => {
-                let offered = offer_request(text, n, b, lines);
+                let offered = offer_request(text, n, b, &mut parsed, lines);
                 n += 1;
                 match offered {
                     Offered::Partial => {}
@@ -92,8 +114,14 @@ pub(crate) fn read_request_head<R: Read + Device>(
     Err(LinkFault::Turns)
 }
 
-// Puts a byte behind the first n, and looks at them where a line ends, since each head ends with a line.
-fn offer_reply(text: &mut [u8], n: usize, b: u8, lines: &mut [HeaderSpan]) -> Offered<ResponseSpans>
+// Puts a byte behind the first n, of which so many were parsed before, and parses them where a line ends and they are due.
+fn offer_reply(
+    text: &mut [u8],
+    n: usize,
+    b: u8,
+    parsed: &mut usize,
+    lines: &mut [HeaderSpan],
+) -> Offered<ResponseSpans>
     requires room { n < length text.old }
     requires inside { ReplyGoesOn (take n text.old) (length lines.old) }
     ensures grows { take (n + 1) text.new ≡ take n text.old ++ b ∷ [] }
@@ -105,7 +133,12 @@ fn offer_reply(text: &mut [u8], n: usize, b: u8, lines: &mut [HeaderSpan]) -> Of
     if b != b'\n' {
         return Offered::Partial;
     }
-    match parse_response(&text[..n + 1], lines) {
+    let size = n + 1;
+    if !is_due(&text[..size], *parsed) {
+        return Offered::Partial;
+    }
+    *parsed = size;
+    match parse_response(&text[..size], lines) {
         Ok(Status::Complete(spans)) => Offered::Whole(spans),
         Ok(Status::Partial) => Offered::Partial,
         Err(_) => Offered::Malformed,
@@ -130,6 +163,7 @@ pub(crate) fn read_reply_head<R: Read + Device>(
     ensures spent { result ≡ Err LinkFault.Turns → turns.new ≡ 0 }
 {
     let mut n = 0;
+    let mut parsed = 0;
     while *turns > 0 {
         *turns -= 1;
         if n >= text.len() {
@@ -139,7 +173,7 @@ pub(crate) fn read_reply_head<R: Read + Device>(
             Pulled::Nothing => {}
             Pulled::End => return Ok(Offered::Partial),
             Pulled::Byte(b) => {
-                let offered = offer_reply(text, n, b, lines);
+                let offered = offer_reply(text, n, b, &mut parsed, lines);
                 n += 1;
                 match offered {
                     Offered::Partial => {}

@@ -1,7 +1,7 @@
 use Rattle.std.proofs.Common.{◌≡◌, ◌+◌, ◌++◌, ◌∷◌, [], List, ℕ, take, slice_set, length, arith}
 use Rattle.std.proofs.lemmas.Grind.{common_steps}
 use Rattle.httparse.specs.Grammar.{HasNoRequest}
-use Rattle.http_link.proofs.Heads.{partial_goes_on, goes_on_by}
+use Rattle.http_link.proofs.Heads.{partial_goes_on, goes_on_by, goes_on_inside}
 use Rattle.http_link.proofs.head.offer_request.Goals as goal
 
 pub returns-in-Ok-Partial-clause-decides : goal.returns-in-Ok-Partial-clause-decides
@@ -16,3 +16,10 @@ returns-then-b-ne10-clause-decides c =
     let both : List ℕ = take (c.args.n + 1) (slice_set text c.args.n c.args.b) in
     let grows : both ≡ take c.args.n text ++ c.args.b ∷ [] = grind (arith, common_steps) in
     goes_on_by (take c.args.n text) both c.args.b (length c.args.lines.now) grows c.if-b-ne10.true c.requires.inside
+
+pub returns-then-not-is_due-clause-decides : goal.returns-then-not-is_due-clause-decides
+returns-then-not-is_due-clause-decides c =
+    let text : List ℕ = c.args.text.now in
+    let both : List ℕ = take (c.args.n + 1) (slice_set text c.args.n c.args.b) in
+    let grows : both ≡ take c.args.n text ++ c.args.b ∷ [] = grind (arith, common_steps) in
+    goes_on_inside (take c.args.n text) both c.args.b (length c.args.lines.now) grows (c.is_due.ensures c.if-not-is_due.true) c.requires.inside
