@@ -132,6 +132,9 @@ fn ask_all(
     Ok(answers)
 }
 
+// What comes before a Fulfill of 35 bytes.
+const GOOD_HEAD: &[u8] = b"HTTP/1.1 200 OK\r\nContent-Length: 35\r\n\r\n";
+
 /// What the next peer does with a packet.
 #[derive(Clone, Copy, Debug, PartialEq, Eq)]
 enum Peer {
@@ -140,14 +143,20 @@ enum Peer {
     Drips,
 }
 
-// A byte each 60 milliseconds, for over a second.
-fn drip(rt: &impl Clock, stream: &TcpStream) -> io::Result<()> {
-    for _ in 0..20 {
+// A byte each 20 milliseconds.
+fn drip(rt: &impl Clock, stream: &TcpStream, bytes: &[u8]) -> io::Result<()> {
+    for byte in bytes {
         let mut out = stream;
-        out.write_all(b"H")?;
-        thread::sleep(rt, Duration::from_millis(60));
+        out.write_all(&[*byte])?;
+        thread::sleep(rt, Duration::from_millis(20));
     }
     Ok(())
+}
+
+// The whole answer, within a second and a half.
+fn drip_answer(rt: &impl Clock, stream: &TcpStream, fulfill: &[u8]) -> io::Result<()> {
+    drip(rt, stream, GOOD_HEAD)?;
+    drip(rt, stream, fulfill)
 }
 
 // Takes one packet as such a peer, and says whether it was the one that is wanted.
@@ -167,12 +176,12 @@ fn taken(
     let mut out = &stream;
     match peer {
         Peer::Fulfils => {
-            out.write_all(b"HTTP/1.1 200 OK\r\nContent-Length: 35\r\n\r\n")?;
+            out.write_all(GOOD_HEAD)?;
             out.write_all(fulfill)?;
         }
         Peer::Babbles => out.write_all(b"HTTP/1.1 200 OK\r\nContent-Length: 5\r\n\r\nhello")?,
         Peer::Drips => {
-            let _ = drip(rt, &stream);
+            let _ = drip_answer(rt, &stream, fulfill);
         }
     }
     Ok(came.as_slice() == wanted)
@@ -291,7 +300,7 @@ fn a_peer_babbles(rt: HostRuntime) -> Result<(), Fail> {
 }
 
 #[test]
-fn a_peer_drips_past_the_hold(rt: HostRuntime) -> Result<(), Fail> {
+fn a_peer_drips_a_fulfill_past_the_hold(rt: HostRuntime) -> Result<(), Fail> {
     let came = with_peer(&rt, Peer::Drips)?;
     expect(
         &rt,
