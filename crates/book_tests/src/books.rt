@@ -1,8 +1,9 @@
 //! Books of tenants: the limits of their setups and networks, verdicts at the bounds of what was agreed, what comes back,
-//! closed periods, and copies.
+//! closed periods, copies, and random lists of all of these.
 
 mod limits;
 mod periods;
+mod random_lists;
 mod returns;
 mod rooms;
 mod setups;
