@@ -5,7 +5,7 @@ ghost use Rattle.std.specs.Bool.{OnTrue};
 ghost use Rattle.floor_core.specs.FloorView.{Fits};
 
 use admin_text::read_setup;
-use common_types::Bytes;
+use common_types::{Boxed, Bytes};
 use floor_core::{Floor, Given, Output, Step};
 use ilp_addr::Moment;
 use std::alloc::Global;
@@ -85,7 +85,7 @@ fn step_of(alloc: Global, row: &Row) -> Result<(Step, &'static str), Fail> {
         }
         Row::Tick(tenant, output) => (Step::Tick { tenant, now }, output),
         Row::Balances(tenant, output) => {
-            let command = Command::Balances;
+            let command = Boxed::new(alloc, Command::Balances)?;
             let step = Step::Govern {
                 tenant,
                 now,

@@ -7,7 +7,7 @@ use Rattle.route_table.proofs.node.Node.TheLaws.TheKnot as of_node
 use Rattle.route_table.specs.contracts.routes.Routes as Routes
 use Rattle.tenant_core.specs.contracts.network.Network as Network
 use Rattle.tenant_core.specs.contracts.book.Book as Book
-use Rattle.tenant_core.proofs.journal.Record.TheSendSync as of_record
+use Rattle.tenant_core.proofs.arena.Small.TheSendSync as of_small
 use Rattle.tenant_core.proofs.hold.Hold.TheSendSync as of_hold
 use Rattle.tenant_core.proofs.peer.Peer.TheSendSync as of_peer
 use Rattle.tenant_core.proofs.terms.RateTerms.TheSendSync as of_rate
@@ -21,7 +21,7 @@ network_send : IsSend Network.the_row
 network_send = search (sendable, std.crosses, routes_send, of_peer.the_send, of_rate.the_send) depth 40
 
 book_send : IsSend Book.the_row
-book_send = search (sendable, std.crosses, network_send, of_record.the_send, of_hold.the_send) depth 40
+book_send = search (sendable, std.crosses, network_send, of_small.the_send, of_hold.the_send) depth 40
 
 kept_send : IsSend Kept.the_row
 kept_send = search (sendable, std.crosses, book_send) depth 40

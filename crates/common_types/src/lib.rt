@@ -1,9 +1,10 @@
 //! Small types that the connector's crates share: texts in fixed room, names, tokens and asset codes, numbers within
-//! limits, words and numerals of a text, lists and bytes that contracts see as lists, and the errors of readers that
-//! take memory.
+//! limits, words and numerals of a text, values in a box, lists and bytes that contracts see as lists, and the errors of
+//! readers that take memory.
 #![tactic(auto)]
 
 mod between;
+mod boxed;
 mod bytes;
 mod items;
 pub mod laws;
@@ -15,6 +16,7 @@ mod token;
 mod words;
 
 pub use between::Between;
+pub use boxed::Boxed;
 pub use bytes::Bytes;
 pub use items::Items;
 pub use names::{AssetCode, MAX_ASSET_CODE, MAX_NAME, Name, Token, is_asset_code, is_name};

@@ -338,7 +338,7 @@ impl Parts {
                 tenant,
                 now,
                 command,
-            } => govern_on(alloc, &mut self.books, *tenant, *now, command),
+            } => govern_on(alloc, &mut self.books, *tenant, *now, command.get()),
         }
     }
 }

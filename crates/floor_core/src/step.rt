@@ -1,6 +1,6 @@
 //! Steps, and what each of them puts out.
 
-use common_types::{Bytes, Text};
+use common_types::{Boxed, Bytes, Text};
 use ilp_addr::Moment;
 use tenant_core::{Answered, BookFault, Command, CommandFault};
 
@@ -38,9 +38,11 @@ pub enum Step {
     Govern {
         tenant: usize,
         now: Moment,
-        command: Command,
+        command: Boxed<Command>,
     },
 }
+
+const _: () = prove!(size_of::<Step>() == 72);
 
 /// What came back from the next peer.
 #[derive(Drop)]
@@ -113,3 +115,5 @@ pub enum Output {
         answer: Result<Answered, CommandFault>,
     },
 }
+
+const _: () = prove!(size_of::<Output>() == 88);

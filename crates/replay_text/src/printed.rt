@@ -145,12 +145,13 @@ fn put_governed(
             out.extend_from_slice(b" ok")
         }
         Ok(Answered::Rolled(period)) => {
+            let period = period.get();
             put_rows(alloc, out, name, period.rows.as_slice())?;
             out.extend_from_slice(name)?;
             out.extend_from_slice(b" rolled ")?;
             put_decimal(alloc, out, period.opening.period)?;
             out.push(b' ')?;
-            put_decimal(alloc, out, period.records.as_slice().len() as u64)
+            put_decimal(alloc, out, period.records.len() as u64)
         }
         Err(fault) => {
             out.extend_from_slice(name)?;

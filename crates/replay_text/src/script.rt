@@ -19,7 +19,7 @@ ghost use Rattle.replay_text.specs.Words.{two_of, three_of, four_of};
 use crate::hexadecimal::decode;
 use crate::scans::{is_ascii, place_of};
 use admin_text::parse_command;
-use common_types::{Bytes, Name, ReadError, is_numeral, is_token, value_of};
+use common_types::{Boxed, Bytes, Name, ReadError, is_numeral, is_token, value_of};
 use floor_core::{Given, Step};
 use ilp_addr::Moment;
 use std::alloc::{AllocError, Global};
@@ -296,7 +296,7 @@ fn govern_of(alloc: Global, names: &[Name], words: &[u8]) -> Result<Option<Step>
         Some(command) => Some(Step::Govern {
             tenant,
             now,
-            command,
+            command: Boxed::new(alloc, command)?,
         }),
         None => None,
     })

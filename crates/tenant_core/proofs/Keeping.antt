@@ -1,5 +1,5 @@
 -- A book keeps what its type says, one record more.
-use Rattle.std.proofs.Common.{◌≡◌, ℕ, ◌+◌, ◌≤◌, List, [], ◌∷◌, ◌++◌, length, map, arith, refl, sym, ap, subst, ◌∙◌, vec_capacity, le_of_eq}
+use Rattle.std.proofs.Common.{◌≡◌, ℕ, ◌+◌, ◌≤◌, List, length, map, arith, refl, sym, ap, subst, ◌∙◌, le_of_eq}
 use Rattle.ilp_addr.specs.Timestamp.{last_moment}
 use Rattle.std.specs.Prelude.{Option, Some, None, option_map, find, max, count_by, ◌&&◌, true, false}
 use Rattle.std.proofs.lemmas.List.{length_push, length-map}
@@ -14,6 +14,7 @@ use Rattle.tenant_core.specs.declared.verdict.Verdict.{Verdict}
 use Rattle.tenant_core.specs.Answer.{settle_answer, answer_record, tick_record, tick_count, has_no_place}
 use Rattle.tenant_core.specs.Holds.{holds_of, is_open_under, is_overdue, is_fulfill, is_relay, hold_ended, hold_ticked, begun_by}
 use Rattle.tenant_core.specs.Judge.{decide_entry, decide_record, is_full, verdict_for_sender}
+use Rattle.tenant_core.specs.Journals.{Recorded, with_record}
 use Rattle.tenant_core.specs.Kept.{state_of, IsKept}
 use Rattle.tenant_core.specs.declared.journal.Change.{Change as Changed}
 use Rattle.tenant_core.specs.Orders.{change_record, change_refusal, names_present}
@@ -52,8 +53,7 @@ use Rattle.tenant_core.proofs.Soundness.{decided_sound, answered_sound, ticked_s
 -- what a book keeps of another one, with a record more
 pub record Follows (b c : Inside) (r : Record) : Type 0 where
   pub opening : c.opening ≡ b.opening
-  pub records : c.records.items ≡ b.records.items ++ r ∷ []
-  pub room : vec_capacity c.records ≡ vec_capacity b.records
+  pub journal : c.journal ≡ with_record r b.journal
   pub holds_room : c.holds.room ≡ b.holds.room
   pub clock : c.clock ≡ later b.clock r
   pub network : c.network ≡ net_after (state_of b) b.network (later b.clock r) r.entry
@@ -71,8 +71,8 @@ pub record RunningFollows (b c : Inside) (r : Record) : Type 0 where
 
 state_after : (b c : Inside) (r : Record) → Follows b c r → state_of c ≡ recorded (state_of b) (Some r)
 state_after b c r f =
-    ap (λ (o : Opening). record { opening = o; records = c.records.items }) f.opening
-    ∙ ap (λ (rs : List Record). record { opening = b.opening; records = rs }) f.records
+    ap (λ (o : Opening). record { opening = o; records = c.journal.records }) f.opening
+    ∙ ap (λ (j : Recorded). record { opening = b.opening; records = j.records }) f.journal
 
 network_follows : (b c : Inside) (r : Record) → IsKept b → Follows b c r → c.network ≡ network_of (recorded (state_of b) (Some r))
 network_follows b c r k f =
@@ -85,13 +85,14 @@ kept : (b c : Inside) (r : Record) → IsKept b → Follows b c r → HoldsFollo
 kept b c r k f h run sound =
     let is = state_after b c r f in
     let clock : c.clock ≡ clock_of (recorded (state_of b) (Some r)) =
-    f.clock ∙ (ap (λ n. later n r) k.clock ∙ sym (fold_push later b.opening.clock b.records.items r)) in
+    f.clock ∙ (ap (λ n. later n r) k.clock ∙ sym (fold_push later b.opening.clock b.journal.records r)) in
     let network = network_follows b c r k f in
-    let longer : length c.records.items ≡ length b.records.items + 1 = ap length f.records ∙ length_push b.records.items r in
+    let longer : length c.journal.records ≡ length b.journal.records + 1 =
+    ap (λ (j : Recorded). length j.records) f.journal ∙ length_push b.journal.records r in
+    let places : c.journal.places ≡ b.journal.places = ap (λ (j : Recorded). j.places) f.journal in
     let journal : c.opening.journal ≡ b.opening.journal = ap (λ (o : Opening). o.journal) f.opening in
     let r1 = k.room in
     let r2 = k.holds_room in
-    let r3 = f.room in
     let r4 = f.holds_room in
     let r5 = h.few in
     let r6 = k.few in
@@ -110,29 +111,20 @@ kept b c r k f h run sound =
 
 -- ---- while a call is at work
 
--- the purses, where the records are read behind a reference
-pub purses_here : (b : Inside) → IsKept b → (rs : List Record) → rs ≡ b.records.items
-    → b.purses.items ≡ map (purse_by (record { opening = b.opening; records = rs }) b.holds.holds) b.network.peers
-purses_here b k rs is =
+-- the purses, by the holds and the peers that are kept
+pub purses_here : (b : Inside) → IsKept b → b.purses.items ≡ map (purse_by (state_of b) b.holds.holds) b.network.peers
+purses_here b k =
     let s : State = state_of b in
     k.purses
     ∙ (ap (λ (hs : List Hold). map (purse_by s hs) (network_of s).peers) (sym k.holds)
-    ∙ (ap (λ (n : Net). map (purse_by s b.holds.holds) n.peers) (sym k.network)
-    ∙ ap (λ (xs : List Record). map (purse_by (record { opening = b.opening; records = xs }) b.holds.holds) b.network.peers) (sym is)))
+    ∙ ap (λ (n : Net). map (purse_by s b.holds.holds) n.peers) (sym k.network))
 
--- what a call has made of them
-pub moved_here : (b : Inside) (purses : List Account) (hs : List Hold) (rs : List Record) → rs ≡ b.records.items
-    → purses ≡ map (purse_by (record { opening = b.opening; records = rs }) hs) b.network.peers → purses ≡ map (purse_by (state_of b) hs) b.network.peers
-moved_here b purses hs rs is moved = moved ∙ ap (λ (xs : List Record). map (purse_by (record { opening = b.opening; records = xs }) hs) b.network.peers) is
-
--- what may be held, where the records are read behind a reference
-pub can_hold_here : (b : Inside) → IsKept b → (rs : List Record) → rs ≡ b.records.items → (o : Option Hold)
-    → CanHold (state_of b) (holds_of (state_of b)) (network_of (state_of b)).peers o
-    → CanHold (record { opening = b.opening; records = rs }) b.holds.holds b.network.peers o
-can_hold_here b k rs is o can =
-    subst (λ (xs : List Record). CanHold (record { opening = b.opening; records = xs }) b.holds.holds b.network.peers o) (sym is)
-    (subst (λ (n : Net). CanHold (state_of b) b.holds.holds n.peers o) (sym k.network)
-    (subst (λ (hs : List Hold). CanHold (state_of b) hs (network_of (state_of b)).peers o) (sym k.holds) can))
+-- what may be held, by them
+pub can_hold_here : (b : Inside) → IsKept b → (o : Option Hold)
+    → CanHold (state_of b) (holds_of (state_of b)) (network_of (state_of b)).peers o → CanHold (state_of b) b.holds.holds b.network.peers o
+can_hold_here b k o can =
+    subst (λ (n : Net). CanHold (state_of b) b.holds.holds n.peers o) (sym k.network)
+    (subst (λ (hs : List Hold). CanHold (state_of b) hs (network_of (state_of b)).peers o) (sym k.holds) can)
 
 -- a packet that goes on may be held
 pub can_hold : (s : State) (from : Peer) (place : ℕ) (key : Key) (now : ℕ) (v : Verdict) → IsNetwork (network_of s) → slice_get (network_of s).peers place ≡ Some from
@@ -316,13 +308,13 @@ changed_kept b c change now clock k early at room present allowed is f same run 
 -- a call that found nothing to do
 pub untouched_kept : (b : Inside) (holds : Table) (purses : Vec Account Global) → IsKept b → holds ≡ b.holds
     → purses.items ≡ map (purse_by (state_of b) holds.holds) b.network.peers
-    → IsKept (record { opening = b.opening; network = b.network; records = b.records; clock = b.clock; holds = holds; purses = purses; buckets = b.buckets })
+    → IsKept (record { opening = b.opening; network = b.network; journal = b.journal; clock = b.clock; holds = holds; purses = purses; buckets = b.buckets })
 untouched_kept b holds purses k same moved =
     let s : State = state_of b in
     record {
       room = k.room;
       holds_room = subst (λ (t : Table). b.opening.journal ≤ t.room) (sym same) k.holds_room;
-      few = subst (λ (t : Table). length t.holds ≤ length b.records.items) (sym same) k.few;
+      few = subst (λ (t : Table). length t.holds ≤ length b.journal.records) (sym same) k.few;
       clock = k.clock;
       network = k.network;
       holds = ap (λ (t : Table). t.holds) same ∙ k.holds;

@@ -5,6 +5,7 @@ pub mod Replays
 pub mod Purses
 pub mod Verdicts
 pub mod Soundness
+mod Texts
 pub mod Keeping
 pub mod Rolls
 pub mod Governs

@@ -1,5 +1,5 @@
 -- A book keeps what its type says, a period on.
-use Rattle.std.proofs.Common.{◌≡◌, ℕ, ◌+◌, ◌<◌, ◌≤◌, List, [], length, arith, refl, sym, ap, subst, ◌∙◌, vec_capacity}
+use Rattle.std.proofs.Common.{◌≡◌, ℕ, ◌+◌, ◌<◌, ◌≤◌, List, [], length, arith, refl, sym, ap, subst, ◌∙◌}
 use Rattle.std.specs.Prelude.{count_by}
 use Rattle.ilp_addr.specs.Timestamp.{last_moment}
 use Rattle.tenant_core.specs.declared.book.Book.TheInside.{Inside}
@@ -7,6 +7,7 @@ use Rattle.tenant_core.specs.declared.hold.Hold.{Hold}
 use Rattle.tenant_core.specs.declared.journal.Record.{Record}
 use Rattle.tenant_core.specs.declared.opening.Opening.{Opening}
 use Rattle.tenant_core.specs.Holds.{hold_count, open_holds, next_hold, is_open, AreNumbered}
+use Rattle.tenant_core.specs.Journals.{Recorded}
 use Rattle.tenant_core.specs.Kept.{state_of, IsKept}
 use Rattle.tenant_core.specs.Limits.{max_period}
 use Rattle.tenant_core.specs.Network.{Net, IsNetwork}
@@ -30,9 +31,9 @@ use Rattle.tenant_core.proofs.Replays.{opened_replay}
 
 -- what a book with an empty journal keeps beside its opening
 pub record IsEmpty (c : Inside) : Type 0 where
-  pub room : c.opening.journal + 1 ≤ vec_capacity c.records
+  pub room : c.opening.journal + 1 ≤ c.journal.places
   pub holds_room : c.opening.journal ≤ c.holds.room
-  pub records : c.records.items ≡ []
+  pub records : c.journal.records ≡ []
   pub holds : c.holds.holds ≡ []
   pub network : c.network ≡ c.opening.network
   pub clock : c.clock ≡ c.opening.clock
@@ -95,12 +96,12 @@ empty_kept laws c sound network fresh e =
 
 -- a book with what is fresh is empty
 pub fresh_empty : (o : Opening) (clock : ℕ) (f : Fresh) → o.clock ≡ clock → IsFresh o.network o.journal f
-    → IsEmpty (record { opening = o; network = f.network; records = f.records; clock = clock; holds = f.holds; purses = f.purses; buckets = f.buckets })
+    → IsEmpty (record { opening = o; network = f.network; journal = f.journal; clock = clock; holds = f.holds; purses = f.purses; buckets = f.buckets })
 fresh_empty o clock f at is =
     record {
-      room = is.room;
+      room = let places : o.journal + 1 ≡ f.journal.places = sym (ap (λ (j : Recorded). j.places) is.journal) in omega arith;
       holds_room = let room : o.journal ≡ f.holds.room = sym (ap (λ (t : Table). t.room) is.holds) in omega arith;
-      records = is.records;
+      records = ap (λ (j : Recorded). j.records) is.journal;
       holds = ap (λ (t : Table). t.holds) is.holds;
       network = is.network;
       clock = sym at;
@@ -112,7 +113,7 @@ pub rolled_kept : (laws : RunningLaws) (b c : Inside) (clock : ℕ) → IsKept b
     → IsNetwork c.opening.network → IsEmpty c → IsKept c
 rolled_kept laws b c clock k is before early network e =
     let o : Opening = c.opening in
-    let few : hold_count (state_of b) ≤ length (state_of b).records = subst (λ (hs : List Hold). length hs ≤ length b.records.items) k.holds k.few in
+    let few : hold_count (state_of b) ≤ length (state_of b).records = subst (λ (hs : List Hold). length hs ≤ length b.journal.records) k.holds k.few in
     let peers : o.network.peers ≡ (carried_net (state_of b) clock (network_of (state_of b))).peers = ap (λ (x : Opening). x.network.peers) is in
     let at : o.clock ≡ clock = ap (λ (x : Opening). x.clock) is in
     let fresh : AreFresh o.clock o.network.peers = subst (λ n. AreFresh n o.network.peers) (sym at) (subst (λ ps. AreFresh clock ps) (sym peers) (carried_fresh (state_of b) clock (network_of (state_of b)))) in

@@ -1,5 +1,6 @@
 -- What a book keeps of a period in which nothing has happened.
-use Rattle.std.specs.Prelude.{ℕ, ◌≡◌, ◌≤◌, ◌+◌, [], map, vec_capacity}
+use Rattle.std.specs.Prelude.{ℕ, ◌≡◌, ◌+◌, [], map}
+use Rattle.tenant_core.specs.Journals.{no_records}
 use Rattle.tenant_core.specs.Network.{Net}
 use Rattle.tenant_core.specs.Periods.{carried_net}
 use Rattle.tenant_core.specs.Purse.{row_of}
@@ -10,11 +11,10 @@ use Rattle.tenant_core.specs.declared.fresh.Next.{Next}
 use Rattle.tenant_core.specs.declared.judge.Standing.{Standing}
 
 -- it is of a period that begins with that network, and has room for a journal of so many places
-pub record IsFresh (net : Net) (journal : ℕ) (f : Fresh) : Type 0 where
+pub record IsFresh (net : Net) (places : ℕ) (f : Fresh) : Type 0 where
   pub network : f.network ≡ net
-  pub records : f.records.items ≡ []
-  pub room : journal + 1 ≤ vec_capacity f.records
-  pub holds : f.holds ≡ record { holds = []; room = journal; awaiting = [] }
+  pub journal : f.journal ≡ no_records (places + 1)
+  pub holds : f.holds ≡ record { holds = []; room = places; awaiting = [] }
   pub purses : f.purses.items ≡ map opened_purse net.peers
   pub buckets : f.buckets.items ≡ map opened_level net.peers
 

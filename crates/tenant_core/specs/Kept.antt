@@ -1,5 +1,5 @@
 -- What a book keeps beside its records.
-use Rattle.std.specs.Prelude.{◌≡◌, ◌≤◌, ◌+◌, map, length, vec_capacity}
+use Rattle.std.specs.Prelude.{◌≡◌, ◌≤◌, ◌+◌, map, length}
 use Rattle.tenant_core.specs.declared.book.Book.TheInside.{Inside}
 use Rattle.tenant_core.specs.Holds.{holds_of}
 use Rattle.tenant_core.specs.Present.{network_of}
@@ -9,14 +9,14 @@ use Rattle.tenant_core.specs.State.{State, clock_of}
 
 -- what contracts see of a book
 abbrev pub state_of : Inside → State
-state_of b = record { opening = b.opening; records = b.records.items }
+state_of b = record { opening = b.opening; records = b.journal.records }
 
 -- what is kept of the fields of a book
 pub record IsKept (b : Inside) : Type 0 where
   -- there is room for each entry that the journal may have and for a roll's, and for each hold
-  pub room : b.opening.journal + 1 ≤ vec_capacity b.records
+  pub room : b.opening.journal + 1 ≤ b.journal.places
   pub holds_room : b.opening.journal ≤ b.holds.room
-  pub few : length b.holds.holds ≤ length b.records.items
+  pub few : length b.holds.holds ≤ length b.journal.records
   -- the clock, the network and the holds are what the records say
   pub clock : b.clock ≡ clock_of (state_of b)
   pub network : b.network ≡ network_of (state_of b)

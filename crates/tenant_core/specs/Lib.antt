@@ -8,6 +8,9 @@ pub mod Index
 pub mod Places
 pub mod Indexed
 pub mod State
+pub mod Views
+pub mod Journals
+pub mod Arena
 pub mod Holds
 pub mod Bucket
 pub mod Present

@@ -16,14 +16,14 @@ use Rattle.tenant_core.specs.declared.verdict.Verdict.TheVariants.{Forward}
 
 -- the state that is shown
 abbrev pub state_shown : Standing → State
-state_shown t = record { opening = t.opening.now; records = t.records.now }
+state_shown t = record { opening = t.opening.now; records = t.journal.now.records }
 
 -- what is shown is a state within its limits, and what a book keeps running beside it
 pub record IsShown (t : Standing) : Type 0 where
   pub sound : IsSound (state_shown t)
   pub network : t.network.now ≡ network_of (state_shown t)
   pub holds : t.holds.now.holds ≡ holds_of (state_shown t)
-  pub few : length t.holds.now.holds ≤ length t.records.now
+  pub few : length t.holds.now.holds ≤ length t.journal.now.records
   pub purses : t.purses.now ≡ map (purse_of (state_shown t)) (network_of (state_shown t)).peers
   pub buckets : AreLevels (state_shown t) (network_of (state_shown t)).peers t.buckets.now
 

@@ -1,29 +1,28 @@
 //! Books: an opening and the records since.
 
+use crate::arena::Journal;
 use crate::command::{Answered, Command, Order};
 use crate::faults::{BookFault, CommandFault, HoldFault};
 use crate::fresh::{begin_period, next_period};
 use crate::ground::Ground;
 use crate::hold::begun_by;
 use crate::hold_table::HoldTable;
-use crate::journal::{
-    AnswerEntry, AnswerKey, ChangeEntry, Entry, Outcome, PrepareKey, Record, RollEntry, TickEntry,
-    copied_records, decide_entry,
-};
+use crate::journal::{AnswerEntry, AnswerKey, ChangeEntry, PrepareKey, RollEntry, TickEntry};
 use crate::judge::{Standing, child_of};
 use crate::limits::MAX_PERIOD;
 use crate::moves::{begin_hold, end_hold, mark_overdue};
 use crate::network::Network;
 use crate::opening::Opening;
 use crate::orders::{change_of, place_changed};
-use crate::period::Period;
+use crate::period::{Period, Records};
 use crate::periods::{next_opening, row_of, rows_of};
+use crate::record_view::decide_view;
 use crate::routing::{peer_numbered, peer_with_token};
 use crate::row::Row;
 use crate::running::{charge, copied_purses, follow_buckets, follow_purses};
 use crate::setup::TenantSetup;
 use crate::verdict::Verdict;
-use common_types::Items;
+use common_types::{Boxed, Items};
 use ildcp_core::Child;
 use ilp_addr::{Moment, Target};
 use money_core::Purse;
@@ -40,7 +39,7 @@ pub struct Book {
     opening: Opening,
     // Whom the tenant deals with at present.
     network: Network,
-    records: Vec<Record>,
+    journal: Journal,
     clock: u64,
     holds: HoldTable,
     // For each peer, at its place among them.
@@ -110,7 +109,7 @@ impl Book {
         Ok(Book {
             opening,
             network: fresh.network,
-            records: fresh.records,
+            journal: fresh.journal,
             clock,
             holds: fresh.holds,
             purses: fresh.purses,
@@ -122,17 +121,16 @@ impl Book {
     pub fn copy(&self, alloc: Global) -> Result<Book, AllocError>
         ensures { IfOk result (λ book. book ≡ self.now) }
     {
-        let places = self.opening.journal as usize;
         let opening = self.opening.copy(alloc)?;
         let network = self.network.copy(alloc)?;
-        let records = copied_records(alloc, self.records.as_slice(), places + 1)?;
+        let journal = self.journal.copy(alloc)?;
         let holds = self.holds.copy(alloc)?;
         let purses = copied_purses(alloc, self.purses.as_slice())?;
         let buckets = Vec::from_slice(alloc, self.buckets.as_slice())?;
         Ok(Book {
             opening,
             network,
-            records,
+            journal,
             clock: self.clock,
             holds,
             purses,
@@ -183,7 +181,7 @@ impl Book {
     pub fn entries(&self) -> usize
         ensures { result ≡ length self.now.records }
     {
-        self.records.len()
+        self.journal.len()
     }
 
     /// The number of the running period.
@@ -217,7 +215,7 @@ impl Book {
         Standing {
             opening: &self.opening,
             network: &self.network,
-            records: self.records.as_slice(),
+            journal: &self.journal,
             purses: self.purses.as_slice(),
             buckets: self.buckets.as_slice(),
             holds: &self.holds,
@@ -228,7 +226,7 @@ impl Book {
     fn has_no_place(&self) -> bool
         ensures { result ≡ has_no_place self.now }
     {
-        self.records.len() as u64 + self.holds.awaited() as u64 + 1 > self.opening.journal
+        self.journal.len() as u64 + self.holds.awaited() as u64 + 1 > self.opening.journal
     }
 
     // What the type keeps, for whoever holds a book.
@@ -280,25 +278,22 @@ impl Book {
         }
         let clock = self.clock.max(now.millis());
         let verdict = standing.verdict_for_sender(&from, key, clock);
-        let entry = decide_entry(from.peer.number, key, now);
+        let entry = decide_view(from.peer.number, key, now);
         let place = from.place;
         charge(&mut self.buckets, place, clock);
         let ground = Ground {
             opening: &self.opening,
             network: &self.network,
-            records: self.records.as_slice(),
+            journal: &self.journal,
         };
         begin_hold(
             &ground,
             &mut self.purses,
             &mut self.holds,
-            begun_by(&entry, verdict),
+            begun_by(entry, verdict),
         );
         self.clock = clock;
-        self.records.push_reserved(Record {
-            entry: Entry::Decide(entry),
-            outcome: Outcome::Packet(verdict),
-        });
+        self.journal.push_decide(entry, verdict);
         verdict
     }
 }
@@ -332,7 +327,7 @@ impl Book {
         let ground = Ground {
             opening: &self.opening,
             network: &self.network,
-            records: self.records.as_slice(),
+            journal: &self.journal,
         };
         let Some(verdict) = end_hold(
             &ground,
@@ -345,14 +340,12 @@ impl Book {
             return Err(HoldFault::NoSuchHold);
         };
         self.clock = clock;
-        self.records.push_reserved(Record {
-            entry: Entry::Answer(AnswerEntry {
-                hold,
-                now: now.millis(),
-                key,
-            }),
-            outcome: Outcome::Packet(verdict),
-        });
+        let entry = AnswerEntry {
+            hold,
+            now: now.millis(),
+            key,
+        };
+        self.journal.push_answer(entry, verdict);
         Ok(verdict)
     }
 
@@ -374,21 +367,18 @@ impl Book {
         let clock = self.clock.max(now.millis());
         let level = self.standing().level_left(clock, &change);
         let place = place_changed(&self.network, &change);
+        let now = now.millis();
+        let entry = Boxed::new(alloc, ChangeEntry { change, now })?;
+        let change = &entry.get().change;
         self.purses.reserve(1)?;
         self.buckets.reserve(1)?;
-        self.network.apply(alloc, &change, level)?;
+        self.network.apply(alloc, change, level)?;
         self.network.is_network();
-        follow_purses(&mut self.purses, &change, place);
-        follow_buckets(&mut self.buckets, &change, place, clock);
+        follow_purses(&mut self.purses, change, place);
+        follow_buckets(&mut self.buckets, change, place, clock);
         running();
         self.clock = clock;
-        self.records.push_reserved(Record {
-            entry: Entry::Change(ChangeEntry {
-                change,
-                now: now.millis(),
-            }),
-            outcome: Outcome::Done,
-        });
+        self.journal.push_change(entry);
         Ok(())
     }
 
@@ -408,18 +398,16 @@ impl Book {
         let ground = Ground {
             opening: &self.opening,
             network: &self.network,
-            records: self.records.as_slice(),
+            journal: &self.journal,
         };
         let count = mark_overdue(&ground, &mut self.purses, &mut self.holds, self.clock);
-        self.records.push_reserved(Record {
-            entry: Entry::Tick(TickEntry { now: now.millis() }),
-            outcome: Outcome::Ticked(count),
-        });
+        self.journal
+            .push_tick(TickEntry { now: now.millis() }, count);
         Ok(count)
     }
 
     // Ends the running period and begins the next one with what the book is at present. Gives the closed period.
-    fn roll(&mut self, alloc: Global, now: Moment) -> Result<Period, CommandFault>
+    fn roll(&mut self, alloc: Global, now: Moment) -> Result<Boxed<Period>, CommandFault>
         ensures { IsRolled result self.old self.new now }
     {
         if self.holds.awaited() > 0 {
@@ -433,22 +421,23 @@ impl Book {
         next.network.is_network();
         running();
         let opening = next_opening(&self.opening, clock, self.holds.len() as u64, next.network);
-        let opening = mem::replace(&mut self.opening, opening);
-        let mut closed = mem::replace(&mut self.records, next.fresh.records);
-        closed.push_reserved(Record {
-            entry: Entry::Roll(RollEntry { now: now.millis() }),
-            outcome: Outcome::Rolled,
-        });
+        let period = Period {
+            opening,
+            records: Records::none(alloc),
+            rows: Items::from_vec(next.rows),
+        };
+        let mut closed = Boxed::new(alloc, period)?;
+        let mut journal = mem::replace(&mut self.journal, next.fresh.journal);
+        journal.push_roll(RollEntry { now: now.millis() });
+        let period = closed.get_mut();
+        mem::swap(&mut self.opening, &mut period.opening);
+        period.records = Records::new(journal);
         self.network = next.fresh.network;
         self.clock = clock;
         self.holds = next.fresh.holds;
         self.purses = next.fresh.purses;
         self.buckets = next.fresh.buckets;
-        Ok(Period {
-            opening,
-            records: Items::from_vec(closed),
-            rows: Items::from_vec(next.rows),
-        })
+        Ok(closed)
     }
 
     // What each peer owes, and what is held from it and for it. The one error is want of memory.

@@ -6,8 +6,8 @@ ghost use Rattle.tenant_core.specs.Limits.{max_journal};
 ghost use Rattle.tenant_core.specs.Standing.{state_shown, IsShown};
 ghost use Rattle.tenant_core.specs.State.{clock_of};
 
+use crate::arena::Journal;
 use crate::hold_table::HoldTable;
-use crate::journal::Record;
 use crate::judge::Standing;
 use crate::network::Network;
 use crate::periods::{next_network, rows_of};
@@ -21,25 +21,25 @@ use std::alloc::{AllocError, Global};
 #[derive(Drop)]
 pub struct Fresh {
     pub network: Network,
-    pub records: Vec<Record>,
+    pub journal: Journal,
     pub holds: HoldTable,
     pub purses: Vec<Purse>,
     pub buckets: Vec<Bucket>,
 }
 
 /// That of a period which begins with this network, and whose journal has so many places. The one error is want of memory.
-pub fn begin_period(alloc: Global, network: &Network, journal: u64) -> Result<Fresh, AllocError>
-    requires { journal ≤ max_journal }
-    ensures { IfOk result (IsFresh network.now journal) }
+pub fn begin_period(alloc: Global, network: &Network, places: u64) -> Result<Fresh, AllocError>
+    requires { places ≤ max_journal }
+    ensures { IfOk result (IsFresh network.now places) }
 {
-    let records = Vec::with_capacity(alloc, journal as usize + 1)?;
-    let holds = HoldTable::new(alloc, journal as usize)?;
+    let journal = Journal::new(alloc, places as usize + 1)?;
+    let holds = HoldTable::new(alloc, places as usize)?;
     let purses = opened_purses(alloc, network.peers())?;
     let buckets = opened_buckets(alloc, network.peers())?;
     let network = network.copy(alloc)?;
     Ok(Fresh {
         network,
-        records,
+        journal,
         holds,
         purses,
         buckets,

@@ -1,6 +1,6 @@
 //! What stays as it is while amounts move.
 
-use crate::journal::Record;
+use crate::arena::Journal;
 use crate::network::Network;
 use crate::opening::Opening;
 
@@ -9,5 +9,5 @@ use crate::opening::Opening;
 pub struct Ground<'a> {
     pub opening: &'a Opening,
     pub network: &'a Network,
-    pub records: &'a [Record],
+    pub journal: &'a Journal,
 }

@@ -2,8 +2,9 @@
 
 ghost use Rattle.std.specs.Prelude.{◌≡◌, ◌≤◌, length, IfOk, vec_capacity};
 ghost use Rattle.tenant_core.specs.Holds.{begun_by, is_open, is_overdue, holds_amounts};
+ghost use Rattle.tenant_core.specs.Views.{decide_of};
 
-use crate::journal::DecideEntry;
+use crate::record_view::DecideView;
 use crate::verdict::Verdict;
 use route_table::PeerNo;
 use std::alloc::{AllocError, Global};
@@ -50,8 +51,8 @@ pub fn copied_holds(alloc: Global, holds: &[Hold], room: usize) -> Result<Vec<Ho
 }
 
 /// The hold that a Prepare begins, if it goes on.
-pub fn begun_by(decide: &DecideEntry, verdict: Verdict) -> Option<Hold>
-    ensures { result ≡ begun_by decide.entry.now verdict }
+pub fn begun_by(decide: DecideView<'_>, verdict: Verdict) -> Option<Hold>
+    ensures { result ≡ begun_by (decide_of decide.entry) verdict }
 {
     match verdict {
         Verdict::Forward {
@@ -66,7 +67,7 @@ pub fn begun_by(decide: &DecideEntry, verdict: Verdict) -> Option<Hold>
             amount: decide.amount,
             price: amount,
             expiry,
-            condition: decide.condition,
+            condition: *decide.condition,
             fate: Fate::Held,
         }),
         _ => None,

@@ -1,14 +1,10 @@
 //! What a tenant's journal is made of.
 
-ghost use Rattle.std.specs.Prelude.{◌≡◌, ◌≤◌, length, IfOk, vec_capacity};
-ghost use Rattle.tenant_core.specs.Key.{key_of};
-ghost use Rattle.tenant_core.specs.Judge.{decide_entry};
-
 use crate::command::{Amount, Side};
 use crate::terms::{BucketTerms, PeerLimits, PeerTerms, RateTerms};
 use crate::verdict::Verdict;
-use common_types::Text;
-use ilp_addr::{Address, Moment, Prefix};
+use common_types::Bytes;
+use ilp_addr::{Address, Prefix};
 use route_table::PeerNo;
 use std::alloc::{AllocError, Global};
 
@@ -23,14 +19,15 @@ pub struct PrepareKey<'a> {
     pub destination: &'a Address<'a>,
 }
 
-/// A Prepare that a peer brought, and the moment.
+/// A Prepare that a peer brought, and the moment. Contracts speak of it; a journal keeps it in less room, and lends it as a
+/// [`DecideView`](crate::DecideView).
 #[derive(Drop)]
 pub struct DecideEntry {
     pub peer: PeerNo,
     pub amount: u64,
     pub expiry: u64,
     pub condition: [u8; 32],
-    pub destination: Text<1023>,
+    pub destination: Bytes,
     pub now: u64,
 }
 
@@ -112,7 +109,7 @@ pub struct RollEntry {
     pub now: u64,
 }
 
-/// One event of a tenant.
+/// One event of a tenant, as contracts speak of it.
 #[derive(Drop)]
 pub enum Entry {
     Decide(DecideEntry),
@@ -136,32 +133,32 @@ pub enum Outcome {
     Rolled,
 }
 
-/// An entry with its outcome.
+/// An entry with its outcome, as contracts speak of it.
 #[derive(Drop)]
 pub struct Record {
     pub entry: Entry,
     pub outcome: Outcome,
 }
 
-impl DecideEntry {
-    fn copy(&self) -> DecideEntry
-        ensures { result ≡ self.entry.now }
+impl ChangeEntry {
+    ghost use Rattle.std.specs.Prelude.{◌≡◌, IfOk};
+
+    /// The same entry once more. The one error is want of memory.
+    pub fn copy(&self, alloc: Global) -> Result<ChangeEntry, AllocError>
+        ensures { IfOk result (λ copy. copy ≡ self.entry.now) }
     {
-        DecideEntry {
-            peer: self.peer,
-            amount: self.amount,
-            expiry: self.expiry,
-            condition: self.condition,
-            destination: self.destination.copy(),
+        Ok(ChangeEntry {
+            change: self.change.copy(alloc)?,
             now: self.now,
-        }
+        })
     }
 }
 
 impl Change {
     ghost use Rattle.std.specs.Prelude.{◌≡◌, IfOk};
 
-    fn copy(&self, alloc: Global) -> Result<Change, AllocError>
+    /// The same change once more. The one error is want of memory.
+    pub fn copy(&self, alloc: Global) -> Result<Change, AllocError>
         ensures { IfOk result (λ copy. copy ≡ self.now) }
     {
         Ok(match self {
@@ -188,65 +185,4 @@ impl Change {
             },
         })
     }
-}
-
-impl Record {
-    ghost use Rattle.std.specs.Prelude.{◌≡◌, IfOk};
-
-    /// The same record once more. The one error is want of memory.
-    pub fn copy(&self, alloc: Global) -> Result<Record, AllocError>
-        ensures { IfOk result (λ copy. copy ≡ self.now) }
-    {
-        let entry = match &self.entry {
-            Entry::Decide(entry) => Entry::Decide(entry.copy()),
-            Entry::Answer(entry) => Entry::Answer(*entry),
-            Entry::Tick(entry) => Entry::Tick(*entry),
-            Entry::Change(entry) => Entry::Change(ChangeEntry {
-                change: entry.change.copy(alloc)?,
-                now: entry.now,
-            }),
-            Entry::Roll(entry) => Entry::Roll(*entry),
-        };
-        Ok(Record {
-            entry,
-            outcome: self.outcome,
-        })
-    }
-}
-
-/// The records once more, with room for so many. The one error is want of memory.
-pub fn copied_records(
-    alloc: Global,
-    records: &[Record],
-    room: usize,
-) -> Result<Vec<Record>, AllocError>
-    requires { length records.now ≤ room }
-    ensures items { IfOk result (λ copy. copy.items ≡ records.now) }
-    ensures room { IfOk result (λ copy. room ≤ vec_capacity copy) }
-{
-    let mut copy = Vec::with_capacity(alloc, room)?;
-    for record in records {
-        copy.push_reserved(record.copy(alloc)?);
-    }
-    Ok(copy)
-}
-
-/// The entry of a Prepare of that peer.
-pub fn decide_entry(peer: PeerNo, key: &PrepareKey<'_>, now: Moment) -> DecideEntry
-    ensures { result ≡ decide_entry peer (key_of key.now) now }
-{
-    DecideEntry {
-        peer,
-        amount: key.amount,
-        expiry: key.expiry,
-        condition: *key.condition,
-        destination: stored(key.destination),
-        now: now.millis(),
-    }
-}
-
-fn stored(address: &Address<'_>) -> Text<1023>
-    ensures { result ≡ address.now }
-{
-    Text::from_bytes(address.bytes()).unwrap()
 }

@@ -5,8 +5,9 @@ ghost use Rattle.ildcp_core.specs.Request.{checked_request};
 ghost use Rattle.tenant_core.specs.Judge.{refuse_over, child_of, config_verdict};
 ghost use Rattle.tenant_core.specs.Holds.{open_holds};
 
+use crate::arena::Journal;
 use crate::hold_table::HoldTable;
-use crate::journal::{PrepareKey, Record};
+use crate::journal::PrepareKey;
 use crate::limits::MAX_HOLDS;
 use crate::network::Network;
 use crate::opening::Opening;
@@ -25,7 +26,7 @@ use route_table::PeerNo;
 pub struct Standing<'a> {
     pub opening: &'a Opening,
     pub network: &'a Network,
-    pub records: &'a [Record],
+    pub journal: &'a Journal,
     pub purses: &'a [Purse],
     pub buckets: &'a [Bucket],
     pub holds: &'a HoldTable,
@@ -130,7 +131,7 @@ impl Standing<'_> {
         requires { IsShown self.now }
         ensures { result ≡ is_full (state_shown self.now) }
     {
-        self.records.len() as u64 + self.awaited() + 2 > self.opening.journal
+        self.journal.len() as u64 + self.awaited() + 2 > self.opening.journal
     }
 
     /// The verdict at that clock on a packet of that peer, for which the journal has room.

@@ -1,6 +1,7 @@
 //! Tenants: a setup within its limits, and a book, which is an opening and the records since.
 #![tactic(auto)]
 
+mod arena;
 mod book;
 mod command;
 mod faults;
@@ -21,6 +22,7 @@ mod period;
 mod periods;
 mod places;
 mod purse;
+mod record_view;
 mod refusals;
 mod routing;
 mod row;
@@ -35,13 +37,15 @@ pub use command::{Amount, Answered, Command, Order, Pair, Side};
 pub use faults::{BookFault, CommandFault, HoldFault};
 pub use ildcp_core::Role;
 pub use journal::{
-    AnswerEntry, AnswerKey, DecideEntry, Entry, Outcome, PrepareKey, Record, TickEntry,
+    AnswerEntry, AnswerKey, Change, ChangeEntry, DecideEntry, Entry, Outcome, PrepareKey, Record,
+    RollEntry, TickEntry,
 };
 pub use network::Network;
 pub use opening::Opening;
 pub use orders::number_named;
 pub use peer::{Level, Peer};
-pub use period::Period;
+pub use period::{Period, Records};
+pub use record_view::{DecideView, EntryView, RecordView};
 pub use route_table::PeerNo;
 pub use row::Row;
 pub use setup::TenantSetup;

@@ -134,7 +134,7 @@ impl Standing<'_> {
         Level {
             credit: self.credit_left(clock, change),
             clock,
-            entries: self.records.len() as u64 + 1,
+            entries: self.journal.len() as u64 + 1,
         }
     }
 }

@@ -21,7 +21,7 @@ fn fault_of_roll(alloc: Global, book: &mut Book) -> Result<Option<CommandFault>,
 
 fn closed(alloc: Global, book: &mut Book) -> Result<Period, Fail> {
     match roll(alloc, book)?? {
-        Answered::Rolled(period) => Ok(period),
+        Answered::Rolled(period) => Ok(period.into_inner()),
         Answered::Done | Answered::Balances(_) => Err(Fail::from("a period")),
     }
 }
@@ -43,7 +43,7 @@ fn rows_of(alloc: Global, period: &Period) -> Result<Vec<(i64, u64, u64)>, Fail>
 
 fn expect_period(rt: &impl Abort, alloc: Global, period: &Period) -> Result<(), Fail> {
     assert!(rt; is_first(period));
-    assert!(rt; period.records.as_slice().len() == 3);
+    assert!(rt; period.records.len() == 3);
     let rows = rows_of(alloc, period)?;
     assert!(rt; rows.as_slice() == [(1_000, 0, 0), (-1_500, 0, 0)].as_slice());
     Ok(())

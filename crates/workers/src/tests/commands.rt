@@ -75,7 +75,7 @@ fn rolled<R: Wait>(
     share: &mut Share,
 ) -> Result<Option<usize>, Fail> {
     match governed(rt, alloc, books, share, &Command::Roll)?.0 {
-        Ok(Answered::Rolled(period)) => Ok(Some(period.records.as_slice().len())),
+        Ok(Answered::Rolled(period)) => Ok(Some(period.get().records.len())),
         _ => Ok(None),
     }
 }

@@ -1,11 +1,15 @@
-use Rattle.std.proofs.Common.{◌≡◌, ℕ, ◌≤◌, ◌++◌, ◌∷◌, [], List, arith, refl, ◌∙◌, sym, ap, subst, true}
+use Rattle.std.proofs.Common.{◌≡◌, ℕ, ◌≤◌, List, arith, refl, ◌∙◌, sym, ap, subst, true}
 use Rattle.std.specs.Prelude.{Option, Some, None, IfSome, max, slice_get}
 use Rattle.ilp_addr.specs.Timestamp.{last_moment}
 use Rattle.money_core.specs.Account.{Account}
 use Rattle.tenant_core.specs.declared.book.Book.TheInside.{Inside}
+use Rattle.tenant_core.specs.Journals.{with_record}
 use Rattle.tenant_core.specs.declared.command.Order.{Order}
 use Rattle.tenant_core.specs.declared.faults.CommandFault.TheVariants.{Absent}
 use Rattle.tenant_core.specs.declared.journal.Change.{Change as Changed}
+use Rattle.tenant_core.specs.declared.journal.ChangeEntry.{ChangeEntry}
+use Rattle.tenant_core.specs.declared.journal.Entry.TheVariants.{Change}
+use Rattle.tenant_core.specs.declared.journal.Outcome.TheVariants.{Done}
 use Rattle.tenant_core.specs.declared.peer.Level.{Level as PeerLevel}
 use Rattle.rate_bucket.specs.Running.{Level}
 use Rattle.tenant_core.specs.Answer.{has_no_place}
@@ -38,8 +42,10 @@ follow_purses-requires-clause-can c =
     let shown : state_shown c.standing.result ≡ state_of b = c.standing.ensures.state ∙ sym c.self.view_is in
     let found : change_of b.network c.args.order.now ≡ Some change = sym c.in_ok-change.ensures.exact ∙ c.in-Some-2.is in
     let allowed = allowed_by b c.args.order.now change (state_shown c.standing.result) c.standing.result.network.now c.self.invariant shown c.standing.ensures.shown.network c.in_default.ensures.exact found in
-    subst (λ (xs : List Account). CanFollow change c.place_changed-place.result xs) (sym c.reserve.ensures.items)
-    (can_follow_kept b change c.place_changed-place.result c.self.invariant c.place_changed-place.ensures.inside c.place_changed-place.ensures.value allowed)
+    let same : c.get.result.now.change ≡ change = ap (λ (e : ChangeEntry). e.change) (c.get.ensures ∙ c.in_ok-entry.ensures) in
+    subst (λ (x : Changed). CanFollow x c.place_changed-place.result c.reserve.new.self.items) (sym same)
+    (subst (λ (xs : List Account). CanFollow change c.place_changed-place.result xs) (sym c.reserve.ensures.items)
+    (can_follow_kept b change c.place_changed-place.result c.self.invariant c.place_changed-place.ensures.inside c.place_changed-place.ensures.value allowed))
 
 pub follow_buckets-requires-clause-later : goal.follow_buckets-requires-clause-later
 follow_buckets-requires-clause-later c =
@@ -55,7 +61,7 @@ invariant_of-self-2 c =
     let change : Changed = c.in-Some-2.change in
     let place : Option ℕ = c.place_changed-place.result in
     let clock : ℕ = c.max-clock.result in
-    let after : Inside = record { opening = b.opening; network = c.apply.new.self; records = c.push_reserved.new.self; clock = clock; holds = b.holds; purses = c.follow_purses.new.purses; buckets = c.follow_buckets.new.buckets } in
+    let after : Inside = record { opening = b.opening; network = c.apply.new.self; journal = c.push_change.new.self; clock = clock; holds = b.holds; purses = c.follow_purses.new.purses; buckets = c.follow_buckets.new.buckets } in
     let early = subst (λ n. n ≤ last_moment) c.millis.ensures.value c.millis.ensures.bound in
     let at = c.max-clock.ensures ∙ ap (λ n. max b.clock n) c.millis.ensures.value in
     let room = ap has_no_place c.self.view_is ∙ (sym c.has_no_place.ensures ∙ c.if-has_no_place.false) in
@@ -70,15 +76,23 @@ invariant_of-self-2 c =
     c.level_left-level.ensures
     ∙ (ap (λ (x : State). level_left x c.standing-2.result.network.now clock change) shown2
     ∙ (ap (λ (n : Net). level_left s n clock change) net2 ∙ ap (λ k. level_left s b.network k change) at)) in
-    let purses : c.follow_purses.new.purses.items ≡ purses_after change place b.purses.items = c.follow_purses.ensures ∙ ap (purses_after change place) c.reserve.ensures.items in
-    let buckets : c.follow_buckets.new.buckets.items ≡ levels_after change place clock b.buckets.items = c.follow_buckets.ensures ∙ ap (levels_after change place clock) c.reserve-2.ensures.items in
+    let is = c.in_ok-entry.ensures in
+    let same : c.get.result.now.change ≡ change = ap (λ (e : ChangeEntry). e.change) (c.get.ensures ∙ is) in
+    let purses : c.follow_purses.new.purses.items ≡ purses_after change place b.purses.items =
+    c.follow_purses.ensures
+    ∙ (ap (λ (x : Changed). purses_after x place c.reserve.new.self.items) same ∙ ap (purses_after change place) c.reserve.ensures.items) in
+    let buckets : c.follow_buckets.new.buckets.items ≡ levels_after change place clock b.buckets.items =
+    c.follow_buckets.ensures
+    ∙ (ap (λ (x : Changed). levels_after x place clock c.reserve-2.new.self.items) same ∙ ap (levels_after change place clock) c.reserve-2.ensures.items) in
     changed_kept b after change c.args.now clock c.self.invariant early at room present allowed c.is_network.ensures
     (record {
       opening = refl;
-      records = c.push_reserved.ensures.items ∙ ap (λ (n : ℕ). b.records.items ++ change_record change n ∷ []) c.millis-2.ensures.value;
-      room = c.push_reserved.ensures.capacity;
+      journal = c.push_change.ensures
+          ∙ (ap (λ (e : ChangeEntry). with_record (record { entry = Change e; outcome = Done }) b.journal) is
+          ∙ ap (λ (n : ℕ). with_record (change_record change n) b.journal) c.millis-now.ensures.value);
       holds_room = refl;
       clock = at;
-      network = c.in_ok-apply.ensures.1 ∙ ap (λ (l : PeerLevel). changed b.network change l) level;
+      network = c.in_ok-apply.ensures.1
+          ∙ (ap (λ (x : Changed). changed b.network x c.level_left-level.result) same ∙ ap (λ (l : PeerLevel). changed b.network change l) level);
     }) refl
     (changed_follows c.running.ensures b after change c.args.now clock place c.self.invariant at present c.place_changed-place.ensures.inside c.place_changed-place.ensures.value purses buckets)

@@ -1,10 +1,18 @@
-use Rattle.std.proofs.Common.{rules, ◌≡◌, ◌<◌, ◌≤◌}
+use Rattle.std.proofs.Common.{rules, arith, ◌≡◌, ◌<◌, ◌≤◌, ◌∙◌, false, Result, Err, None, refl, sym, ap, subst}
+use Rattle.std.specs.Prelude.{count_by, nat_lt, nat_le}
 use Rattle.ilp_addr.specs.Timestamp.{last_moment}
 use Rattle.tenant_core.specs.declared.book.Book.TheInside.{Inside}
+use Rattle.tenant_core.specs.declared.faults.CommandFault.{CommandFault}
+use Rattle.tenant_core.specs.declared.faults.CommandFault.TheVariants.{Memory}
+use Rattle.tenant_core.specs.declared.period.Period.{Period}
+use Rattle.std.proofs.lemmas.Bool.{le-ltb}
+use Rattle.std.proofs.lemmas.Bool.Decides.{nat_tests}
+use Rattle.tenant_core.specs.Holds.{is_open, open_holds}
 use Rattle.tenant_core.specs.Kept.{state_of}
+use Rattle.tenant_core.specs.State.{State}
 use Rattle.tenant_core.specs.Limits.{max_period}
 use Rattle.tenant_core.specs.Network.{IsNetwork}
-use Rattle.tenant_core.specs.Periods.{next_opening}
+use Rattle.tenant_core.specs.Periods.{next_opening, roll_refusal, IsRolled}
 use Rattle.tenant_core.proofs.Rolls.{IsEmpty, rolled_kept}
 use Rattle.tenant_core.proofs.book.Book.roll.Goals as goal
 
@@ -13,9 +21,9 @@ invariant_of-self c =
     let b : Inside = c.self.inside in
     let d : Inside =
     record {
-      opening = c.replace-opening.new.dest;
+      opening = c.swap.new.x;
       network = c.in_ok-next.next.fresh.network;
-      records = c.replace-closed.new.dest;
+      journal = c.replace-journal.new.dest;
       clock = c.max-clock.result;
       holds = c.in_ok-next.next.fresh.holds;
       purses = c.in_ok-next.next.fresh.purses;
@@ -38,3 +46,14 @@ invariant_of-self c =
       buckets = search rules;
     } in
     rolled_kept c.running.ensures b d d.clock c.self.invariant opening period clock network empty
+
+pub returns-in_err-closed : goal.returns-in_err-closed
+returns-in_err-closed c =
+    let s : State = c.args.self.now in
+    let count : c.awaited.result ≡ open_holds s = c.awaited.ensures.count ∙ (ap (count_by is_open) c.self.invariant.holds ∙ ap open_holds c.self.view_is) in
+    let free : nat_lt 0 (open_holds s) ≡ false = le-ltb 0 (open_holds s) (subst (λ n. n ≤ 0) count c.if-awaited-gt0.false) in
+    let before : s.opening.period < max_period = subst (λ (t : State). t.opening.period < max_period) c.self.view_is (omega (arith, c.if-self-ge-MAX_PERIOD.false)) in
+    let early : nat_le max_period s.opening.period ≡ false = grind (arith, nat_tests) in
+    let none : roll_refusal s ≡ None = rw (free, early) refl in
+    let memory : c.from_residual-in_err-closed.result ≡ Err Memory = search rules in
+    subst (λ (r : Result Period CommandFault). IsRolled r c.args.self.now c.args.self.now c.args.now) (sym memory) (none, refl)

@@ -1,0 +1,33 @@
+-- What a journal lends, without where it lies in memory.
+use Rattle.tenant_core.specs.declared.journal.DecideEntry.{DecideEntry}
+use Rattle.tenant_core.specs.declared.journal.Entry.{Entry}
+use Rattle.tenant_core.specs.declared.journal.Entry.TheVariants as entries
+use Rattle.tenant_core.specs.declared.journal.Record.{Record}
+use Rattle.tenant_core.specs.declared.record_view.DecideView.{DecideView}
+use Rattle.tenant_core.specs.declared.record_view.EntryView.{EntryView}
+use Rattle.tenant_core.specs.declared.record_view.EntryView.TheVariants.{Decide, Answer, Tick, Change, Roll}
+use Rattle.tenant_core.specs.declared.record_view.RecordView.{RecordView}
+
+-- the Prepare that is lent
+abbrev pub decide_of : DecideView → DecideEntry
+decide_of v =
+    record {
+      peer = v.peer;
+      amount = v.amount;
+      expiry = v.expiry;
+      condition = v.condition.now;
+      destination = v.destination.now;
+      now = v.now;
+    }
+
+-- the event that is lent
+abbrev pub entry_of : EntryView → Entry
+entry_of (Decide v) = entries.Decide (decide_of v)
+entry_of (Answer a) = entries.Answer a.now
+entry_of (Tick t) = entries.Tick t
+entry_of (Change c) = entries.Change c.now
+entry_of (Roll r) = entries.Roll r
+
+-- the record that is lent
+abbrev pub record_of : RecordView → Record
+record_of v = record { entry = entry_of v.entry; outcome = v.outcome }

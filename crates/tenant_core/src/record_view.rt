@@ -1,0 +1,58 @@
+//! Records as a journal lends them.
+
+ghost use Rattle.std.specs.Prelude.{◌≡◌, ◌≤◌, length};
+ghost use Rattle.tenant_core.specs.Judge.{decide_entry};
+ghost use Rattle.tenant_core.specs.Key.{key_of};
+ghost use Rattle.tenant_core.specs.Views.{decide_of};
+
+use crate::journal::{AnswerEntry, ChangeEntry, Outcome, PrepareKey, RollEntry, TickEntry};
+use ilp_addr::Moment;
+use route_table::PeerNo;
+
+/// A Prepare that a peer brought, and the moment; its bytes lie elsewhere.
+#[derive(Clone, Copy)]
+pub struct DecideView<'a> {
+    pub peer: PeerNo,
+    /// In the sender's units.
+    pub amount: u64,
+    /// Milliseconds since 1970-01-01.
+    pub expiry: u64,
+    pub condition: &'a [u8; 32],
+    /// An address of at most 1,023 bytes.
+    pub destination: &'a [u8],
+    /// Milliseconds since 1970-01-01.
+    pub now: u64,
+}
+
+/// One event of a tenant.
+#[derive(Clone, Copy)]
+pub enum EntryView<'a> {
+    Decide(DecideView<'a>),
+    Answer(&'a AnswerEntry),
+    Tick(TickEntry),
+    Change(&'a ChangeEntry),
+    /// The last of its period.
+    Roll(RollEntry),
+}
+
+/// An event and what it led to.
+#[derive(Clone, Copy)]
+pub struct RecordView<'a> {
+    pub entry: EntryView<'a>,
+    pub outcome: Outcome,
+}
+
+/// The entry of a Prepare of that peer.
+pub fn decide_view<'a>(peer: PeerNo, key: &PrepareKey<'a>, now: Moment) -> DecideView<'a>
+    ensures value { decide_of result ≡ decide_entry peer (key_of key.now) now }
+    ensures short { length result.destination.now ≤ 1023 }
+{
+    DecideView {
+        peer,
+        amount: key.amount,
+        expiry: key.expiry,
+        condition: key.condition,
+        destination: key.destination.bytes(),
+        now: now.millis(),
+    }
+}
