@@ -288,7 +288,7 @@ fn rolled(
     now: u64,
 ) -> Result<Result<Vec<Row>, CommandFault>, Fail> {
     match command(alloc, book, &Command::Roll, now)? {
-        Ok(Answered::Rolled(period)) => Ok(Ok(period.rows.into_vec())),
+        Ok(Answered::Rolled(period)) => Ok(Ok(period.into_inner().rows.into_vec())),
         Ok(_) => Err("a period".into()),
         Err(fault) => Ok(Err(fault)),
     }
