@@ -5,8 +5,8 @@ ghost use Rattle.std.specs.Bool.{OnTrue};
 ghost use Rattle.floor_core.specs.FloorView.{Fits};
 
 use admin_text::read_setup;
-use common_types::{Boxed, Bytes};
-use floor_core::{Floor, Given, Output, Step};
+use common_types::Boxed;
+use floor_core::{Floor, Given, Octets, Output, Step};
 use ilp_addr::Moment;
 use std::alloc::Global;
 use std::process::Abort;
@@ -42,41 +42,47 @@ enum Row {
     Balances(usize, &'static str),
 }
 
-fn bytes(alloc: Global, text: &str) -> Result<Bytes, Fail> {
+// The bytes that digits spell, with names in braces.
+fn bytes(alloc: Global, text: &str) -> Result<Vec<u8>, Fail> {
     let digits = filled(alloc, text)?;
-    Ok(Bytes::from_vec(hex::decode(alloc, digits.as_str())?))
+    Ok(hex::decode(alloc, digits.as_str())?)
+}
+
+// The bytes of a row's packet or answer, none for a row that has none.
+fn bytes_of(alloc: Global, row: &Row) -> Result<Vec<u8>, Fail> {
+    match *row {
+        Row::Load(_, _, text, _) | Row::Answer(_, text, _) => bytes(alloc, text),
+        Row::Show(_, _) => bytes(alloc, "{base}"),
+        _ => Ok(Vec::new(alloc)),
+    }
 }
 
 fn moment(millis: u64) -> Result<Moment, Fail> {
     Ok(Moment::new(millis).ok_or("a moment")?)
 }
 
-fn load(
-    alloc: Global,
-    worker: usize,
-    tenant: usize,
-    token: &[u8],
-    text: &str,
-) -> Result<Step, Fail> {
-    Ok(Step::Load {
+fn load<'a>(worker: usize, tenant: usize, token: &'a [u8], bytes: &'a [u8]) -> Step<'a> {
+    Step::Load {
         worker,
         tenant,
-        token: Bytes::from_vec(Vec::from_slice(alloc, token)?),
-        bytes: bytes(alloc, text)?,
-    })
+        token: Octets::of(token),
+        bytes: Octets::of(bytes),
+    }
 }
 
-// The step of a row, and the text of its output.
-fn step_of(alloc: Global, row: &Row) -> Result<(Step, &'static str), Fail> {
+// The step of a row, which has these bytes, and the text of its output.
+fn step_of<'a>(
+    alloc: Global,
+    row: &Row,
+    bytes: &'a [u8],
+) -> Result<(Step<'a>, &'static str), Fail> {
     let now = moment(START)?;
     Ok(match *row {
-        Row::Load(worker, tenant, text, output) => {
-            (load(alloc, worker, tenant, b"tok-alice", text)?, output)
-        }
-        Row::Show(token, output) => (load(alloc, 0, 0, token, "{base}")?, output),
+        Row::Load(worker, tenant, _, output) => (load(worker, tenant, b"tok-alice", bytes), output),
+        Row::Show(token, output) => (load(0, 0, token, bytes), output),
         Row::Decide(worker, output) => (Step::Decide { worker, now }, output),
-        Row::Answer(worker, text, output) => {
-            let given = Given::Bytes(bytes(alloc, text)?);
+        Row::Answer(worker, _, output) => {
+            let given = Given::Bytes(Octets::of(bytes));
             (Step::Answer { worker, now, given }, output)
         }
         Row::Lost(worker, output) => {
@@ -184,10 +190,14 @@ fn expect_rows(
     floor: &mut Floor,
     rows: &[Row],
 ) -> Result<(), Fail> {
+    let mut parts = Vec::new(alloc);
+    for row in rows {
+        parts.push(bytes_of(alloc, row)?)?;
+    }
     let mut steps = Vec::new(alloc);
     let mut texts = Vec::new(alloc);
-    for row in rows {
-        let (step, text) = step_of(alloc, row)?;
+    for (row, bytes) in rows.iter().zip(parts.iter()) {
+        let (step, text) = step_of(alloc, row, bytes.as_slice())?;
         steps.push(step)?;
         texts.push(filled(alloc, text)?)?;
     }

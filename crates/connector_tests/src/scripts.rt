@@ -1,8 +1,8 @@
-//! Scripts and printed lines: the first bad line of each script, the steps of a good one, and a line for each output.
+//! Scripts and printed lines: the first bad line of each script, the parts of good lines, and a line for each output.
 
 use common_types::{Bytes, Name, ReadError, Text};
 use floor_core::{Malformed, Output, Step};
-use replay_text::{ScriptFault, parse_script, print_lines};
+use replay_text::{Meaning, ScriptFault, check_script, meaning_of, print_lines};
 use std::alloc::Global;
 use std::test::Fail;
 
@@ -65,7 +65,7 @@ fn fault_of(
     workers: usize,
     script: &str,
 ) -> Option<ReadError<ScriptFault>> {
-    parse_script(alloc, names, workers, script.as_bytes()).err()
+    check_script(alloc, names, workers, script.as_bytes()).err()
 }
 
 #[test]
@@ -80,27 +80,57 @@ fn scripts_name_their_first_bad_line(rt: HostRuntime) -> Result<(), Fail> {
     Ok(())
 }
 
-#[test]
-fn a_good_script_has_its_steps(rt: HostRuntime) -> Result<(), Fail> {
-    let alloc = rt.alloc();
-    let names = acme(alloc)?;
-    let text = b"load 1 acme tok 0cFf\ndecide 1 77\n";
-    match parse_script(alloc, names.as_slice(), 2, text)?.as_slice() {
-        [
+// Whether it says that this worker takes in these bytes, which came with the token for the first tenant.
+fn is_load(meaning: &Meaning<'_>, loader: usize, shown: &[u8], frame: &[u8]) -> bool {
+    match meaning {
+        Meaning::Runs(
             Step::Load {
                 worker,
                 tenant,
                 token,
                 bytes,
             },
-            Step::Decide { worker: same, now },
-        ] => {
-            assert!(rt; (*worker, *tenant, *same, now.millis()) == (1, 0, 1, 77));
-            assert!(rt; token.as_slice() == b"tok".as_slice());
-            assert!(rt; bytes.as_slice() == [12u8, 255].as_slice());
+        ) => {
+            *worker == loader
+                && *tenant == 0
+                && token.as_slice() == shown
+                && bytes.as_slice() == frame
         }
-        _ => panic!(rt; "two steps"),
+        _ => false,
     }
+}
+
+#[test]
+fn a_load_has_its_parts(rt: HostRuntime) -> Result<(), Fail> {
+    let alloc = rt.alloc();
+    let names = acme(alloc)?;
+    let mut room = Vec::new(alloc);
+    let meaning = meaning_of(
+        alloc,
+        names.as_slice(),
+        2,
+        b"load 1 acme tok 0cFf",
+        &mut room,
+    )?;
+    assert!(rt; is_load(&meaning, 1, b"tok", &[12, 255]));
+    Ok(())
+}
+
+// Whether it says that this worker decides at that moment.
+fn is_decide(meaning: &Meaning<'_>, decider: usize, millis: u64) -> bool {
+    match meaning {
+        Meaning::Runs(Step::Decide { worker, now }) => *worker == decider && now.millis() == millis,
+        _ => false,
+    }
+}
+
+#[test]
+fn a_decide_has_its_parts(rt: HostRuntime) -> Result<(), Fail> {
+    let alloc = rt.alloc();
+    let names = acme(alloc)?;
+    let mut room = Vec::new(alloc);
+    let meaning = meaning_of(alloc, names.as_slice(), 2, b"decide 1 77", &mut room)?;
+    assert!(rt; is_decide(&meaning, 1, 77));
     Ok(())
 }
 

@@ -64,14 +64,14 @@ hands_run : (w : World) (steps : List Step) → (after_all w steps).hands ≡ ha
 hands_run w [] = refl
 hands_run w (s ∷ ss) = hands_run (after w s) ss
 
-are_replies : (w : World) (steps : List Step) → AreOutputs w steps (replies w steps)
+pub are_replies : (w : World) (steps : List Step) → AreOutputs w steps (replies w steps)
 are_replies w steps = record {
   each_step = length-replies w steps;
   alone = λ t. (sees_its_own t w steps).told;
   nobodys = nobodys_are_right w steps;
 }
 
-is_after : (w : World) (steps : List Step) → IsLeft w steps (replies w steps) (after_all w steps)
+pub is_after : (w : World) (steps : List Step) → IsLeft w steps (replies w steps) (after_all w steps)
 is_after w steps = record { alone = λ t. (sees_its_own t w steps).left; hands = hands_run w steps }
 
 -- ---- a run goes on by one step
@@ -172,3 +172,43 @@ only_replies w (st ∷ sts) (x ∷ xs) l s n =
 
 pub one_list : (w : World) (steps : List Step) (xs ys : List Output) → AreOutputs w steps xs → AreOutputs w steps ys → xs ≡ ys
 one_list w steps xs ys a b = only_replies w steps xs a.each_step a.alone a.nobodys ∙ sym (only_replies w steps ys b.each_step b.alone b.nobodys)
+
+-- ---- a run in two pieces
+
+replies-append : (w : World) (ss more : List Step) → replies w (ss ++ more) ≡ replies w ss ++ replies (after_all w ss) more
+replies-append w [] more = refl
+replies-append w (s ∷ ss) more = ap (λ (ys : List Output). reply w s ∷ ys) (replies-append (after w s) ss more)
+
+after_all-append : (w : World) (ss more : List Step) → after_all w (ss ++ more) ≡ after_all (after_all w ss) more
+after_all-append w [] more = refl
+after_all-append w (s ∷ ss) more = after_all-append (after w s) ss more
+
+are_the_replies : (w : World) (steps : List Step) (xs : List Output) → AreOutputs w steps xs → xs ≡ replies w steps
+are_the_replies w steps xs a = only_replies w steps xs a.each_step a.alone a.nobodys
+
+-- outputs leave one world
+one_world : (w x y : World) (steps : List Step) (xs : List Output) → IsLeft w steps xs x → IsLeft w steps xs y → x ≡ y
+one_world w x y steps xs a b =
+    let tenants : x.tenants ≡ y.tenants = λ i t. (sym (a.alone t) ∙ b.alone t) i in
+    let hands : x.hands ≡ y.hands = a.hands ∙ sym b.hands in
+    λ i. record { tenants = tenants i; hands = hands i }
+
+-- and it is that after all the steps
+is_the_world : (w m : World) (steps : List Step) (xs : List Output) → AreOutputs w steps xs → IsLeft w steps xs m → m ≡ after_all w steps
+is_the_world w m steps xs a l =
+    one_world w m (after_all w steps) steps (replies w steps) (subst (λ (ys : List Output). IsLeft w steps ys m) (are_the_replies w steps xs a) l) (is_after w steps)
+
+both_replies : (w m : World) (ss more : List Step) (xs ys : List Output) → AreOutputs w ss xs → IsLeft w ss xs m → AreOutputs m more ys → xs ++ ys ≡ replies w (ss ++ more)
+both_replies w m ss more xs ys a l b =
+    ap (λ (os : List Output). os ++ ys) (are_the_replies w ss xs a)
+    ∙ (ap (λ (os : List Output). replies w ss ++ os) (are_the_replies m more ys b ∙ ap (λ (x : World). replies x more) (is_the_world w m ss xs a l))
+    ∙ sym (replies-append w ss more))
+
+pub outputs_of_both : (w m : World) (ss more : List Step) (xs ys : List Output) → AreOutputs w ss xs → IsLeft w ss xs m → AreOutputs m more ys → AreOutputs w (ss ++ more) (xs ++ ys)
+outputs_of_both w m ss more xs ys a l b = ran w (ss ++ more) (xs ++ ys) (both_replies w m ss more xs ys a l b)
+
+pub left_by_both : (w m last : World) (ss more : List Step) (xs ys : List Output) → AreOutputs w ss xs → IsLeft w ss xs m → AreOutputs m more ys → IsLeft m more ys last
+    → IsLeft w (ss ++ more) (xs ++ ys) last
+left_by_both w m last ss more xs ys a l b k =
+    ended w last (ss ++ more) (xs ++ ys) (both_replies w m ss more xs ys a l b)
+    (is_the_world m last more ys b k ∙ (ap (λ (x : World). after_all x more) (is_the_world w m ss xs a l) ∙ sym (after_all-append w ss more)))

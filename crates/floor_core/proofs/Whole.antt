@@ -11,7 +11,8 @@ use Rattle.floor_core.specs.Work.{Job, tenant_in}
 use Rattle.floor_core.specs.World.{World, Owner, owner, load_owner, decide_owner, answer_owner}
 use Rattle.floor_core.specs.Worlds.{tenants_after, reply, after}
 use Rattle.floor_core.specs.declared.step.Given.{Given}
-use Rattle.floor_core.specs.declared.step.Output.{Output}
+use Rattle.floor_core.specs.Told.{shown}
+use Rattle.floor_core.specs.declared.step.Told.{Told}
 use Rattle.floor_core.specs.declared.step.Step.{Step}
 use Rattle.floor_core.specs.declared.step.Step.TheVariants.{Load, Decide, Answer, Tick, Govern}
 use Rattle.floor_core.proofs.Keeping.{IsAskedOf, after_kept}
@@ -80,14 +81,14 @@ pub met : (f : FloorState) → IsWhole f → (w : ℕ) → IsMet (get_or f.seats
 met f i w = met_by f w i (get_or f.seats w no_seat).slot.job refl
 
 -- what a step of a floor is, or nothing where memory is refused
-pub record Stepped {E : Type 0} (f g : FloorState) (step : Step) (r : Result Output E) : Type 0 where
+pub record Stepped {E : Type 0} (f g : FloorState) (step : Step) (r : Result Told E) : Type 0 where
   pub whole : IsWhole g
-  pub output : IfOk r (λ output. output ≡ reply (world_of f) step)
+  pub told : IfOk r (λ told. shown g.seats told ≡ reply (world_of f) step)
   pub world : OnOk r (world_of g ≡ after (world_of f) step)
 
-pub stepped : {E : Type 0} → OpenHoldLaws → CallLaws → (f g : FloorState) (step : Step) (r : Result Output E) → IsWhole f → Fits f step → OnOk r (AsksSound f step)
-    → IfOk r (λ output. output ≡ output_of f step) → OnOk r (g ≡ moved f step) → OnErr r (g ≡ f) → Stepped f g step r
+pub stepped : {E : Type 0} → OpenHoldLaws → CallLaws → (f g : FloorState) (step : Step) (r : Result Told E) → IsWhole f → Fits f step → OnOk r (AsksSound f step)
+    → IfOk r (λ told. shown g.seats told ≡ output_of f step) → OnOk r (g ≡ moved f step) → OnErr r (g ≡ f) → Stepped f g step r
 stepped laws calls f g step (Ok o) i h asked out move same =
     let s = steps laws calls f step i h asked in
-    record { whole = subst IsWhole (sym move) s.whole; output = out ∙ s.output; world = ap world_of move ∙ s.world }
-stepped laws calls f g step (Err e) i h asked out move same = record { whole = subst IsWhole (sym same) i; output = tt; world = tt }
+    record { whole = subst IsWhole (sym move) s.whole; told = out ∙ s.output; world = ap world_of move ∙ s.world }
+stepped laws calls f g step (Err e) i h asked out move same = record { whole = subst IsWhole (sym same) i; told = tt; world = tt }

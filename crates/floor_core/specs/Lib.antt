@@ -8,5 +8,6 @@ pub mod Kept
 pub mod FloorView
 pub mod Moves
 pub mod Worlds
+pub mod Told
 pub mod Parts
 pub mod FloorKept

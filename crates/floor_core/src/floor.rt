@@ -1,7 +1,8 @@
 //! The floor: workers that carry packets for tenants, one step after the other.
 
 ghost use Rattle.std.specs.Prelude.{◌≡◌, ◌≤◌, ◌<◌, ◌+◌, ◌^◌, ℕ, [], length, slice_index, vec_capacity};
-ghost use Rattle.std.specs.Prelude.{IfOk, OnOk, OnErr, IsTrue, ◌↔◌};
+ghost use Rattle.std.specs.Prelude.{IfOk, OnOk, OnErr, IsTrue, ◌↔◌, vec_len};
+ghost use Rattle.ilp_view.specs.Packet.{max_frame};
 ghost use Rattle.tenant_core.specs.Governed.{command_answer, commanded};
 ghost use Rattle.tenant_core.specs.Network.{peer_numbered};
 ghost use Rattle.tenant_core.specs.Present.{network_of};
@@ -9,12 +10,13 @@ ghost use Rattle.floor_core.specs.FloorView.{IsMet, seat_at, seat_in};
 ghost use Rattle.floor_core.specs.Moves.{parts, output_of, moved, IsAsked, got_of, filled};
 ghost use Rattle.floor_core.specs.Work.{tenant_in, IsWaiting};
 ghost use Rattle.floor_core.specs.Work.Job.{NoJob};
+ghost use Rattle.floor_core.specs.Told.{shown};
 ghost use Rattle.floor_core.specs.World.{peer_name, malformed_by};
 ghost use Rattle.floor_core.specs.declared.step.Step.TheVariants.{Load, Decide, Answer, Tick, Govern};
 
 use crate::parts::{Got, LoadFault, Turn};
 use crate::slot::Slot;
-use crate::step::{Given, Malformed, Output, Step};
+use crate::step::{Given, Malformed, Output, Step, Told};
 use common_types::{Bytes, Items, Text};
 use ilp_addr::Moment;
 use ilp_view::{MAX_FRAME, ViewFault};
@@ -104,6 +106,16 @@ fn copied(mut room: Vec<u8>, bytes: &[u8]) -> Bytes
     Bytes::from_vec(room)
 }
 
+// Room for one output more, and for the bytes that it has.
+fn room_for_one(alloc: Global, outputs: &mut Vec<Output>) -> Result<Vec<u8>, AllocError>
+    ensures bytes { IfOk result (λ room. (room.items ≡ []) × (max_frame ≤ vec_capacity room)) }
+    ensures place { OnOk result (vec_len outputs.new < vec_capacity outputs.new) }
+    ensures items { outputs.new.items ≡ outputs.old.items }
+{
+    outputs.reserve(1)?;
+    Vec::with_capacity(alloc, MAX_FRAME)
+}
+
 fn peer_name(book: &Book, peer: PeerNo) -> Text<32>
     ensures { result ≡ peer_name (peer_numbered peer (network_of book.now).peers) }
 {
@@ -150,47 +162,34 @@ fn load_on(
     }
 }
 
-// Where memory is refused, nothing has changed.
-fn decide_on(
-    alloc: Global,
-    seats: &mut [Seat],
-    books: &mut [Book],
-    worker: usize,
-    now: Moment,
-) -> Result<Output, AllocError>
+fn decide_on(seats: &mut [Seat], books: &mut [Book], worker: usize, now: Moment) -> Told
     requires worker { worker < length seats.old }
     requires met { IsMet (seat_at (parts seats.old books.old []) worker).slot.job books.old }
-    ensures output { IfOk result (λ output. output ≡ output_of (parts seats.old books.old []) (Decide worker now)) }
-    ensures seats { OnOk result (seats.new ≡ (moved (parts seats.old books.old []) (Decide worker now)).seats) }
-    ensures books { OnOk result (books.new ≡ (moved (parts seats.old books.old []) (Decide worker now)).books) }
+    ensures told { shown seats.new result ≡ output_of (parts seats.old books.old []) (Decide worker now) }
+    ensures seats { seats.new ≡ (moved (parts seats.old books.old []) (Decide worker now)).seats }
+    ensures books { books.new ≡ (moved (parts seats.old books.old []) (Decide worker now)).books }
     ensures asked { IsAsked (parts seats.old books.old [])
         (tenant_in (seat_at (parts seats.old books.old []) worker).slot.job) }
-    ensures same_seats { OnErr result (seats.new ≡ seats.old) }
-    ensures same_books { OnErr result (books.new ≡ books.old) }
 {
     what_stays();
     let seat = &mut seats[worker];
     let Some(tenant) = seat.slot.tenant() else {
-        return Ok(Output::Idle);
+        return Told::Whole(Output::Idle);
     };
     let book = &mut books[tenant];
     book_is_sound(book);
-    let room = Vec::with_capacity(alloc, MAX_FRAME)?;
-    Ok(match seat.slot.decide(book, now) {
-        Turn::Idle => Output::Idle,
+    match seat.slot.decide(book, now) {
+        Turn::Idle => Told::Whole(Output::Idle),
         Turn::Stray => unreachable!(),
-        Turn::Stranger => Output::Stranger { tenant },
-        Turn::Reply => Output::Reply {
-            tenant,
-            bytes: copied(room, seat.slot.reply()),
-        },
-        Turn::Send { peer, hold } => Output::Send {
+        Turn::Stranger => Told::Whole(Output::Stranger { tenant }),
+        Turn::Reply => Told::Reply { worker, tenant },
+        Turn::Send { peer, hold } => Told::Send {
+            worker,
             tenant,
             peer: peer_name(book, peer),
             hold,
-            frame: copied(room, seat.slot.frame()),
         },
-    })
+    }
 }
 
 // What came back for the packet of a slot, taken in by it.
@@ -205,40 +204,29 @@ fn taken_in(slot: &mut Slot, given: &Given) -> Got
     }
 }
 
-// Where memory is refused, nothing has changed.
 fn answer_on(
-    alloc: Global,
     seats: &mut [Seat],
     books: &mut [Book],
     worker: usize,
     now: Moment,
     given: &Given,
-) -> Result<Output, AllocError>
+) -> Told
     requires worker { worker < length seats.old }
     requires met { IsMet (seat_at (parts seats.old books.old []) worker).slot.job books.old }
-    ensures output { IfOk result (λ output.
-        output ≡ output_of (parts seats.old books.old []) (Answer worker now given.now)) }
-    ensures seats { OnOk result
-        (seats.new ≡ (moved (parts seats.old books.old []) (Answer worker now given.now)).seats) }
-    ensures books { OnOk result
-        (books.new ≡ (moved (parts seats.old books.old []) (Answer worker now given.now)).books) }
-    ensures same_seats { OnErr result (seats.new ≡ seats.old) }
-    ensures same_books { OnErr result (books.new ≡ books.old) }
+    ensures told { shown seats.new result ≡ output_of (parts seats.old books.old []) (Answer worker now given.now) }
+    ensures seats { seats.new ≡ (moved (parts seats.old books.old []) (Answer worker now given.now)).seats }
+    ensures books { books.new ≡ (moved (parts seats.old books.old []) (Answer worker now given.now)).books }
 {
     calls();
     let seat = &mut seats[worker];
     let Some(tenant) = seat.slot.waiting() else {
-        return Ok(Output::Idle);
+        return Told::Whole(Output::Idle);
     };
-    let room = Vec::with_capacity(alloc, MAX_FRAME)?;
     let got = taken_in(&mut seat.slot, given);
-    Ok(match seat.slot.answer(&mut books[tenant], now, got) {
-        Turn::Reply => Output::Reply {
-            tenant,
-            bytes: copied(room, seat.slot.reply()),
-        },
+    match seat.slot.answer(&mut books[tenant], now, got) {
+        Turn::Reply => Told::Reply { worker, tenant },
         _ => unreachable!(),
-    })
+    }
 }
 
 fn tick_on(books: &mut [Book], tenant: usize, now: Moment) -> Output
@@ -292,14 +280,15 @@ impl Parts {
     ghost use Rattle.std.specs.Prelude.{◌≡◌, ℕ, length, IfOk, OnOk, OnErr};
     ghost use Rattle.floor_core.specs.FloorView.{Fits, HasRoom, IsMet, seat_at};
     ghost use Rattle.floor_core.specs.Moves.{output_of, moved, AsksSound};
+    ghost use Rattle.floor_core.specs.Told.{shown};
 
-    // One step, or nothing where memory is refused.
-    fn step(&mut self, alloc: Global, step: &Step) -> Result<Output, AllocError>
+    // One step, or nothing where a command is refused memory.
+    fn step(&mut self, alloc: Global, step: &Step) -> Result<Told, AllocError>
         requires fits { Fits self.old step.now }
         requires met { (w : ℕ) → IsMet (seat_at self.old w).slot.job self.old.books }
         requires as_many { length self.old.next_calls ≡ length self.old.books }
         requires room { HasRoom self.old 1 }
-        ensures output { IfOk result (λ output. output ≡ output_of self.old step.now) }
+        ensures told { IfOk result (λ told. shown self.new.seats told ≡ output_of self.old step.now) }
         ensures moved { OnOk result (self.new ≡ moved self.old step.now) }
         ensures asked { OnOk result (AsksSound self.old step.now) }
         ensures same { OnErr result (self.new ≡ self.old) }
@@ -310,50 +299,55 @@ impl Parts {
                 tenant,
                 token,
                 bytes,
-            } => Ok(load_on(
+            } => Ok(Told::Whole(load_on(
                 &mut self.seats,
                 &mut self.next_calls,
                 *worker,
                 *tenant,
                 token.as_slice(),
                 bytes.as_slice(),
-            )),
-            Step::Decide { worker, now } => decide_on(
-                alloc,
+            ))),
+            Step::Decide { worker, now } => Ok(decide_on(
                 &mut self.seats,
                 &mut self.books,
                 *worker,
                 *now,
-            ),
-            Step::Answer { worker, now, given } => answer_on(
-                alloc,
+            )),
+            Step::Answer { worker, now, given } => Ok(answer_on(
                 &mut self.seats,
                 &mut self.books,
                 *worker,
                 *now,
                 given,
-            ),
-            Step::Tick { tenant, now } => Ok(tick_on(&mut self.books, *tenant, *now)),
+            )),
+            Step::Tick { tenant, now } => Ok(Told::Whole(tick_on(&mut self.books, *tenant, *now))),
             Step::Govern {
                 tenant,
                 now,
                 command,
-            } => govern_on(alloc, &mut self.books, *tenant, *now, command.get()),
+            } => Ok(Told::Whole(govern_on(alloc, &mut self.books, *tenant, *now, command.get())?)),
         }
     }
 }
 
 impl Floor {
-    ghost use Rattle.std.specs.Prelude.{◌≡◌, ◌≤◌, ◌+◌, ℕ, length, slice_index, take, All, IfOk, OnOk, IfErr, OnErr};
-    ghost use Rattle.floor_core.specs.FloorView.{world_of, Fits, HasRoom};
+    ghost use Rattle.std.specs.Prelude.{◌≡◌, ◌≤◌, ◌+◌, ℕ, [], length, slice_index, take, All, IfOk, OnOk, IfErr, OnErr};
+    ghost use Rattle.std.specs.Prelude.{vec_capacity};
+    ghost use Rattle.ilp_view.specs.Packet.{max_frame};
+    ghost use Rattle.floor_core.specs.FloorView.{world_of, seat_in, Fits, HasRoom};
+    ghost use Rattle.floor_core.specs.Told.{shown};
+    ghost use Rattle.floor_core.specs.Work.{frame_of};
     ghost use Rattle.floor_core.specs.World.{AreOutputs, IsLeft};
     ghost use Rattle.floor_core.specs.Worlds.{reply, after};
 
-    // One step of the floor is one step of the world that it shows; or nothing, where memory is refused.
-    fn step(&mut self, alloc: Global, step: &Step) -> Result<Output, AllocError>
+    /// Does a step, and tells what it puts out: to each tenant that is what the one-tenant connector says to the event, if
+    /// the step is the tenant's own, and there the tenant stands afterwards.
+    ///
+    /// The one error is want of memory, for a command alone. Nothing has changed then.
+    pub fn step(&mut self, alloc: Global, step: &Step) -> Result<Told, AllocError>
         requires fits { Fits self.old step.now }
         requires room { HasRoom self.old 1 }
-        ensures output { IfOk result (λ output. output ≡ reply (world_of self.old) step.now) }
+        ensures told { IfOk result (λ told. shown self.new.seats told ≡ reply (world_of self.old) step.now) }
         ensures world { OnOk result (world_of self.new ≡ after (world_of self.old) step.now) }
         ensures same { OnErr result (self.new ≡ self.old) }
         ensures workers { length self.new.seats ≡ length self.old.seats }
@@ -363,6 +357,54 @@ impl Floor {
         open_holds();
         calls();
         self.parts.step(alloc, step)
+    }
+
+    /// What the sender is told of the last frame that the worker took in, if its call has ended.
+    pub fn reply(&self, worker: usize) -> &[u8]
+        ensures value { result.now ≡ (seat_in self.now.seats worker).slot.reply }
+        ensures short { length result.now ≤ max_frame }
+    {
+        match self.parts.seats.get(worker) {
+            Some(seat) => seat.slot.reply(),
+            None => &[],
+        }
+    }
+
+    /// The frame that the worker carries: the one that came, or the one that was sent on.
+    pub fn frame(&self, worker: usize) -> &[u8]
+        ensures value { result.now ≡ frame_of (seat_in self.now.seats worker).slot.job }
+        ensures short { length result.now ≤ max_frame }
+    {
+        match self.parts.seats.get(worker) {
+            Some(seat) => seat.slot.frame(),
+            None => &[],
+        }
+    }
+
+    // The output that a step told, whose bytes are copied into room that was taken for them.
+    fn output(&self, told: Told, room: Vec<u8>) -> Output
+        requires empty { room.items ≡ [] }
+        requires fits { max_frame ≤ vec_capacity room }
+        ensures { result ≡ shown self.now.seats told }
+    {
+        match told {
+            Told::Whole(output) => output,
+            Told::Reply { worker, tenant } => Output::Reply {
+                tenant,
+                bytes: copied(room, self.reply(worker)),
+            },
+            Told::Send {
+                worker,
+                tenant,
+                peer,
+                hold,
+            } => Output::Send {
+                tenant,
+                peer,
+                hold,
+                frame: copied(room, self.frame(worker)),
+            },
+        }
     }
 
     /// Does the steps in order, and gives their outputs. To each tenant they are those of the one-tenant connector on
@@ -383,20 +425,21 @@ impl Floor {
             IsLeft (world_of self.old) (take (length fault.outputs) steps.now) fault.outputs (world_of self.new)) }
         ensures workers { length self.new.seats ≡ length self.old.seats }
         ensures tenants { length self.new.books ≡ length self.old.books }
+        ensures room { (n : ℕ) → HasRoom self.old (length steps.now + n) → HasRoom self.new n }
     {
         let mut outputs: Vec<Output> = Vec::new(alloc);
         for step in steps {
-            let Ok(()) = outputs.reserve(1) else {
+            let Ok(room) = room_for_one(alloc, &mut outputs) else {
                 return Err(RunFault {
                     outputs: Items::from_vec(outputs),
                 });
             };
-            let Ok(output) = self.step(alloc, step) else {
+            let Ok(told) = self.step(alloc, step) else {
                 return Err(RunFault {
                     outputs: Items::from_vec(outputs),
                 });
             };
-            outputs.push_reserved(output);
+            outputs.push_reserved(self.output(told, room));
         }
         Ok(outputs)
     }

@@ -1,7 +1,8 @@
 //! Laws of the definitions, each the contract of a function that does nothing.
 
-ghost use Rattle.std.specs.Prelude.{◌≡◌, ℕ, List};
+ghost use Rattle.std.specs.Prelude.{◌≡◌, ◌++◌, ℕ, List};
 ghost use Rattle.floor_core.specs.World.{World, owners, own_steps, seen_by, AreOutputs, IsLeft};
+ghost use Rattle.floor_core.specs.Worlds.{replies, after_all};
 ghost use Rattle.floor_core.specs.declared.step.Step.{Step};
 ghost use Rattle.floor_core.specs.declared.step.Output.{Output};
 
@@ -9,6 +10,24 @@ ghost use Rattle.floor_core.specs.declared.step.Output.{Output};
 pub fn one_list_of_outputs()
     ensures { (world : World) (steps : List Step) (xs ys : List Output)
         → AreOutputs world steps xs → AreOutputs world steps ys → xs ≡ ys }
+{}
+
+/// A list of steps has outputs in every world, and leaves a world.
+pub fn outputs_are_there()
+    ensures outputs { (world : World) (steps : List Step) → AreOutputs world steps (replies world steps) }
+    ensures left { (world : World) (steps : List Step)
+        → IsLeft world steps (replies world steps) (after_all world steps) }
+{}
+
+/// Steps may be done in pieces: the outputs of a list, and behind them those of another in the world that the first one
+/// leaves, are those of both lists as one, and so is the world that they leave.
+pub fn one_after_the_other()
+    ensures outputs { (world between : World) (steps more : List Step) (xs ys : List Output)
+        → AreOutputs world steps xs → IsLeft world steps xs between → AreOutputs between more ys
+        → AreOutputs world (steps ++ more) (xs ++ ys) }
+    ensures left { (world between last : World) (steps more : List Step) (xs ys : List Output)
+        → AreOutputs world steps xs → IsLeft world steps xs between → AreOutputs between more ys
+        → IsLeft between more ys last → IsLeft world (steps ++ more) (xs ++ ys) last }
 {}
 
 /// Two worlds, with any other tenants and any numbers of workers, in which a tenant stands alike, and two lists of

@@ -3,6 +3,7 @@
 
 mod floor;
 pub mod laws;
+mod octets;
 mod parts;
 mod replies;
 mod room;
@@ -10,6 +11,7 @@ mod slot;
 mod step;
 
 pub use floor::{Floor, RunFault};
+pub use octets::Octets;
 pub use parts::{Got, LoadFault, Turn};
 pub use slot::Slot;
-pub use step::{Given, Malformed, Output, Step};
+pub use step::{Given, Malformed, Output, Step, Told};

@@ -1,12 +1,13 @@
 //! Steps, and what each of them puts out.
 
+use crate::octets::Octets;
 use common_types::{Boxed, Bytes, Text};
 use ilp_addr::Moment;
 use tenant_core::{Answered, BookFault, Command, CommandFault};
 
-/// What a worker is to do.
+/// What a worker is to do. Frames and tokens lie where they came in.
 #[derive(Drop)]
-pub enum Step {
+pub enum Step<'a> {
     /// A worker with nothing in hand takes a frame that came for a tenant, with the token that the sender showed.
     Load {
         /// The worker's number, from 0.
@@ -14,9 +15,9 @@ pub enum Step {
         /// The tenant's number, from 0 in the order of the setup.
         tenant: usize,
         /// The token's bytes as they came.
-        token: Bytes,
+        token: Octets<'a>,
         /// The frame's bytes as they came.
-        bytes: Bytes,
+        bytes: Octets<'a>,
     },
     /// The tenant whose packet a worker has in hand decides, at this moment, what becomes of it.
     Decide {
@@ -27,7 +28,7 @@ pub enum Step {
     Answer {
         worker: usize,
         now: Moment,
-        given: Given,
+        given: Given<'a>,
     },
     /// A tenant is told the moment, and gives up what is overdue.
     Tick {
@@ -42,13 +43,13 @@ pub enum Step {
     },
 }
 
-const _: () = prove!(size_of::<Step>() == 72);
+const _: () = prove!(size_of::<Step<'static>>() == 56);
 
 /// What came back from the next peer.
 #[derive(Drop)]
-pub enum Given {
+pub enum Given<'a> {
     /// Bytes as they came, of whatever kind.
-    Bytes(Bytes),
+    Bytes(Octets<'a>),
     /// No answer.
     Fault,
 }
@@ -117,3 +118,23 @@ pub enum Output {
 }
 
 const _: () = prove!(size_of::<Output>() == 88);
+
+/// What a step put out, where the bytes of a reply or of a frame are still the worker's, until its next step.
+#[derive(Drop)]
+pub enum Told {
+    /// All of it.
+    Whole(Output),
+    /// An answer to the sender of the frame: `Floor::reply` of the worker.
+    Reply {
+        worker: usize,
+        tenant: usize,
+    },
+    /// A frame for the next peer, by its name, under the number of the hold that awaits its answer: `Floor::frame` of the
+    /// worker.
+    Send {
+        worker: usize,
+        tenant: usize,
+        peer: Text<32>,
+        hold: u64,
+    },
+}

@@ -1,26 +1,21 @@
--- The steps of a script name workers and tenants that are there.
+-- The step of a line names a worker and a tenant that are there.
 use Rattle.std.proofs.Common.{◌≡◌, ◌<◌, ◌+◌, ℕ, List, [], ◌∷◌, length, Bool, true, false, cond, Option, Some, None, Result, Ok, Err, refl, subst}
-use Rattle.std.specs.Prelude.{IfOk, IfSome, codes, ◌&&◌, nat_lt}
-use Rattle.std.specs.List.{All, AllByRecursion, position}
+use Rattle.std.specs.Prelude.{IfSome, codes, ◌&&◌, nat_lt}
+use Rattle.std.specs.List.{position}
 use Rattle.std.specs.Result.{result_ok}
 use Rattle.std.specs.Str.{bytes_eq}
 use Rattle.admin_text.specs.Commands.{command_among}
 use Rattle.std.proofs.lemmas.Bool.{ltb-true, lt-ltb, and_parts}
 use Rattle.std.proofs.lemmas.Option.{cond_some, option_and_then_some}
-use Rattle.std.proofs.lemmas.List.Elements.{All-from_recursion}
 use Rattle.std.proofs.lemmas.List.Quantifiers.{position-Some}
 use Rattle.replay_text.specs.Script.{moment_spelled, given_of, answer_of, tick_of, govern_of, step_behind, number_below, tenant_named, token_of, frame_of, load_of, decide_of, step_of_words, meaning_of}
 use Rattle.common_types.specs.Words.{words_of}
 use Rattle.common_types.specs.Numerals.{is_numeral, value_of}
-use Rattle.replay_text.specs.Script.{is_empty, is_skipped, then_steps}
-use Rattle.replay_text.specs.Script.{step_or_bad, steps_from, steps_of_script, lines_of}
+use Rattle.replay_text.specs.Script.{is_empty, is_skipped, step_or_bad, steps_of_script}
 use Rattle.replay_text.specs.declared.script.Meaning.{Meaning}
 use Rattle.replay_text.specs.declared.script.Meaning.TheVariants.{Skipped, Runs, Bad}
 use Rattle.replay_text.specs.declared.script.ScriptFault.{ScriptFault}
-use Rattle.std.specs.Global.{Vec}
-use Rattle.common_types.specs.Outcomes.{GivesUnlessMemory}
 use Rattle.floor_core.specs.World.{FitsIn}
-use Rattle.common_types.specs.declared.read_error.ReadError.{ReadError}
 use Rattle.replay_text.specs.Words.{two_of, three_of, four_of}
 use Rattle.floor_core.specs.declared.step.Step.{Step}
 use Rattle.floor_core.specs.declared.step.Step.TheVariants.{Load, Decide, Answer, Tick, Govern}
@@ -114,34 +109,9 @@ meaning_fits names workers line = by _ (is_skipped line) (meant names workers (s
     by false true h = tt
     by false false h = h
 
-then_fit : (number workers tenants : ℕ) (m : Meaning) (rest : Result (List Step) ScriptFault) → MeaningFits workers tenants m → IfOk rest (AllByRecursion (FitsIn workers tenants)) → IfOk (then_steps number m rest) (AllByRecursion (FitsIn workers tenants))
-then_fit number workers tenants Skipped rest h k = k
-then_fit number workers tenants (Runs s) (Ok steps) h k = (h, k)
-then_fit number workers tenants (Runs s) (Err fault) h k = tt
-then_fit number workers tenants Bad rest h k = tt
-
-lines_fit : (names : List (List ℕ)) (workers number : ℕ) (lines : List (List ℕ)) → IfOk (steps_from names workers number lines) (AllByRecursion (FitsIn workers (length names)))
-unfolding steps_from
-lines_fit names workers number [] = tt
-lines_fit names workers number (line ∷ lines) =
-    then_fit number workers (length names) (meaning_of names workers line) (steps_from names workers (number + 1) lines) (meaning_fits names workers line) (lines_fit names workers (number + 1) lines)
-
--- the steps of a script fit
-pub script_fits : (names : List (List ℕ)) (workers : ℕ) (text : List ℕ) → IfOk (steps_of_script names workers text) (AllByRecursion (FitsIn workers (length names)))
-unfolding steps_of_script
-script_fits names workers text = by _ (lines_fit names workers 1 (lines_of text))
-  where
-    by : (b : Bool) → IfOk (steps_from names workers 1 (lines_of text)) (AllByRecursion (FitsIn workers (length names))) → IfOk (cond b (Err ScriptFault.Size) (steps_from names workers 1 (lines_of text))) (AllByRecursion (FitsIn workers (length names)))
-    by true h = tt
-    by false h = h
-
--- and so do those that were read
-pub read_fits : (names : List (List ℕ)) (workers : ℕ) (text : List ℕ) (steps : List Step) → steps_of_script names workers text ≡ Ok steps → All (FitsIn workers (length names)) steps
-read_fits names workers text steps e = All-from_recursion (FitsIn workers (length names)) steps (rw e at (script_fits names workers text))
-
-pub if_read_fit : (names : List (List ℕ)) (workers : ℕ) (text : List ℕ) (r : Result (Vec Step) (ReadError ScriptFault)) → GivesUnlessMemory (λ steps. steps.items) r (steps_of_script names workers text) → IfOk r (λ steps. All (FitsIn workers (length names)) steps.items)
-if_read_fit names workers text (Ok steps) given = read_fits names workers text steps.items given
-if_read_fit names workers text (Err e) given = tt
+-- the step of a line fits
+pub step_of_line_fits : (names : List (List ℕ)) (workers : ℕ) (line : List ℕ) (step : Step) → meaning_of names workers line ≡ Runs step → FitsIn workers (length names) step
+step_of_line_fits names workers line step e = subst (MeaningFits workers (length names)) e (meaning_fits names workers line)
 
 -- a script that is too long is refused for that
 pub too_long : (names : List (List ℕ)) (workers : ℕ) (known : Option (List ℕ)) → IfSome known (λ script. 16_777_216 < length script) → IfSome known (λ script. steps_of_script names workers script ≡ Err ScriptFault.Size)

@@ -1,7 +1,7 @@
 -- What the steps of numbered lines are, and which line is named.
 use Rattle.std.proofs.Common.{◌≡◌, ◌⊎◌, ℕ, ◌+◌, List, [], ◌∷◌, ◌++◌, length, Result, Ok, Err, refl, sym, ap, ◌∙◌, inl, inr, arith}
-use Rattle.std.specs.Prelude.{IfOk}
-use Rattle.std.specs.Global.{Vec}
+use Rattle.std.specs.Prelude.{◌≤◌, OnOk}
+use Rattle.std.proofs.lemmas.List.Elements.{filter_map-append}
 use Rattle.std.specs.List.{filter_map, cons_option, AllByRecursion}
 use Rattle.floor_core.specs.declared.step.Step.{Step}
 use Rattle.replay_text.specs.declared.script.ScriptFault.{ScriptFault}
@@ -10,8 +10,8 @@ use Rattle.common_types.specs.declared.read_error.ReadError.{ReadError}
 use Rattle.common_types.specs.declared.read_error.ReadError.TheVariants as errors
 use Rattle.replay_text.specs.declared.script.Meaning.{Meaning}
 use Rattle.replay_text.specs.declared.script.Meaning.TheVariants.{Skipped, Runs, Bad}
-use Rattle.replay_text.specs.Script.{then_steps, meaning_of, steps_from, step_in, IsBad, AreSteps, IsFirstBad}
-use Rattle.common_types.specs.Outcomes.{GivesUnlessMemory}
+use Rattle.replay_text.specs.Script.{then_steps, meaning_of, steps_from, steps_in, steps_of_script, lines_of, step_in, IsBad, IsCheckedAs, AreSteps, IsFirstBad}
+use Rattle.replay_text.proofs.Fronts.{reads_lines}
 
 -- ---- one line before the others
 
@@ -91,13 +91,24 @@ never_size names workers number [] h = cc
 never_size names workers number (line ∷ lines) h =
     size_last number (meaning_of names workers line) (steps_from names workers (number + 1) lines) (never_size names workers (number + 1) lines) h
 
--- ---- what reading gave
+-- ---- what a check gave
 
-pub gives_ok : (result : Result (Vec Step) (ReadError ScriptFault)) (read : Result (List Step) ScriptFault) (P : List Step → Type 0) → GivesUnlessMemory (λ v. v.items) result read → ((steps : List Step) → read ≡ Ok steps → P steps) → IfOk result (λ v. P v.items)
-gives_ok (Ok v) read P given then = then v.items given
-gives_ok (Err e) read P given then = tt
+pub checked_ok : (result : Result (Unit {0}) (ReadError ScriptFault)) (names : List (List ℕ)) (workers number : ℕ) (lines : List (List ℕ)) → IsCheckedAs result (steps_from names workers number lines) → OnOk result ((steps : List Step) × AreSteps names workers lines steps)
+checked_ok (Ok done) names workers number lines given = (given.0, steps_are names workers number lines given.0 given.1)
+checked_ok (Err e) names workers number lines given = tt
 
-pub gives_err : (result : Result (Vec Step) (ReadError ScriptFault)) (read : Result (List Step) ScriptFault) (fault : ScriptFault) → GivesUnlessMemory (λ v. v.items) result read → result ≡ Err (errors.Fault fault) → read ≡ Err fault
-gives_err (Ok v) read fault given is = absurd cc
-gives_err (Err errors.Memory) read fault given is = absurd cc
-gives_err (Err (errors.Fault f)) read fault given is = cc
+pub checked_err : (result : Result (Unit {0}) (ReadError ScriptFault)) (read : Result (List Step) ScriptFault) (fault : ScriptFault) → IsCheckedAs result read → result ≡ Err (errors.Fault fault) → read ≡ Err fault
+checked_err (Ok done) read fault given is = absurd cc
+checked_err (Err errors.Memory) read fault given is = absurd cc
+checked_err (Err (errors.Fault f)) read fault given is = cc
+
+-- ---- the steps of lines that are good
+
+-- a good line's step, and those of the lines behind it
+pub steps_behind : (names : List (List ℕ)) (workers : ℕ) (line : List ℕ) (lines : List (List ℕ)) → steps_in names workers (line ∷ []) ++ steps_in names workers lines ≡ steps_in names workers (line ∷ lines)
+steps_behind names workers line lines = sym (filter_map-append (λ (l : List ℕ). step_in (meaning_of names workers l)) (line ∷ []) lines)
+
+-- the steps of a script that was found good
+pub good_steps : (names : List (List ℕ)) (workers : ℕ) (text : List ℕ) → length text ≤ 16_777_216 → (steps : List Step) × AreSteps names workers (lines_of text) steps → steps_of_script names workers text ≡ Ok (steps_in names workers (lines_of text))
+good_steps names workers text short found =
+    reads_lines names workers text short ∙ (steps_again names workers 1 (lines_of text) found.0 found.1 ∙ ap (λ (ss : List Step). Ok ss) found.1.in_order)

@@ -1,8 +1,8 @@
 -- What a replay of a script for a setup writes, and what refuses it.
-use Rattle.std.specs.Prelude.{ℕ, ◌≡◌, List, map, ◌⊎◌, Option, Some, option_map, Result, Ok, Err, IfSome}
+use Rattle.std.specs.Prelude.{ℕ, ◌≡◌, List, map, ◌++◌, ◌⊎◌, Option, Some, option_map, Result, Ok, Err, IfSome}
 use Rattle.std.specs.Result.{result_err}
 use Rattle.std.specs.Io.KnownBytes.{Keeps, Appends}
-use Rattle.floor_core.specs.World.{World, world_at_start, AreOutputs}
+use Rattle.floor_core.specs.World.{World, world_at_start, AreOutputs, IsLeft}
 use Rattle.floor_core.specs.declared.step.Output.{Output}
 use Rattle.floor_core.specs.declared.step.Step.{Step}
 use Rattle.admin_text.specs.Setup.{setup_of}
@@ -71,13 +71,39 @@ LeavesWritten (fault.Script f) setup_text workers known old new = Keeps old new
 LeavesWritten _ setup_text workers known old new =
     Keeps old new ⊎ IfSome known (λ script. WritesFront setup_text workers script old new)
 
+-- the lines of the outputs of these steps, from that world on
+abbrev pub ArePrinted : List (List ℕ) → World → List Step → List ℕ → Type 0
+ArePrinted names world steps text =
+    (outputs : List Output) × AreOutputs world steps outputs × (text ≡ printed_lines names outputs)
+
 -- the lines of the outputs of these steps, for the tenants of a setup
 abbrev pub IsAnswered : Setup → List Step → List ℕ → Type 0
-IsAnswered setup steps written =
-    (outputs : List Output) × AreOutputs (world_of_setup setup) steps outputs
-    × (written ≡ printed_lines (names_in setup) outputs)
+IsAnswered setup steps written = ArePrinted (names_in setup) (world_of_setup setup) steps written
+
+-- the steps lead from one world to another, and the lines of their outputs are put behind a text
+abbrev pub Prints : List (List ℕ) → List Step → World → World → List ℕ → List ℕ → Type 0
+Prints names steps before after old new =
+    (outputs : List Output) × AreOutputs before steps outputs × IsLeft before steps outputs after
+    × (new ≡ old ++ printed_lines names outputs)
+
+-- those lines were written
+abbrev pub WritesLines : List (List ℕ) → World → List Step → Option (List ℕ) → Option (List ℕ) → Type 0
+WritesLines names world steps old new = (text : List ℕ) × ArePrinted names world steps text × Appends old new text
+
+-- or a front of them
+abbrev pub WritesSome : List (List ℕ) → World → List Step → Option (List ℕ) → Option (List ℕ) → Type 0
+WritesSome names world steps old new = (text : List ℕ) × ArePrinted names world steps text × AppendsFront text old new
 
 -- what is written for a setup that was read, and a script
 abbrev pub IsReplayedFor : Setup → ℕ → List ℕ → List ℕ → Type 0
 IsReplayedFor setup workers script written =
     (steps : List Step) × (steps_of_script (names_in setup) workers script ≡ Ok steps) × IsAnswered setup steps written
+
+-- After a fault of the setup or the script nothing was written, and after any other a front at most, for a setup that was
+-- read.
+abbrev pub LeavesWrittenFor : ReplayFault → Setup → ℕ → Option (List ℕ) → Option (List ℕ) → Option (List ℕ) → Type 0
+LeavesWrittenFor (fault.Setup f) setup workers known old new = Keeps old new
+LeavesWrittenFor (fault.Script f) setup workers known old new = Keeps old new
+LeavesWrittenFor _ setup workers known old new =
+    Keeps old new
+    ⊎ IfSome known (λ script. (text : List ℕ) × IsReplayedFor setup workers script text × AppendsFront text old new)

@@ -11,7 +11,9 @@ use Rattle.ilp_addr.specs.Timestamp.{last_moment}
 use Rattle.common_types.specs.OptionChain.{◌>>=◌}
 use Rattle.common_types.specs.Numerals.{is_numeral, value_of}
 use Rattle.common_types.specs.Token.{is_token}
+use Rattle.common_types.specs.Outcomes.{Fails}
 use Rattle.common_types.specs.Words.{words_of}
+use Rattle.common_types.specs.declared.read_error.ReadError.{ReadError}
 use Rattle.admin_text.specs.Commands.{command_among}
 use Rattle.floor_core.specs.declared.step.Given.{Given}
 use Rattle.floor_core.specs.declared.step.Given.TheVariants.{Bytes, Fault}
@@ -155,6 +157,11 @@ steps_of_script names workers text =
     if nat_lt 16_777_216 (length text) then Err Size
     else steps_from names workers 1 (lines_of text)
 
+-- a text is a script, unless memory was refused; or this is its fault
+abbrev pub IsCheckedAs : Result (Unit {0}) (ReadError ScriptFault) → Result (List Step) ScriptFault → Type 0
+IsCheckedAs (Ok done) read = (steps : List Step) × (read ≡ Ok steps)
+IsCheckedAs (Err error) read = Fails error read
+
 -- a line that says nothing of a script's
 abbrev pub IsBad : List (List ℕ) → ℕ → List ℕ → Type 0
 IsBad names workers line = meaning_of names workers line ≡ Bad
@@ -165,10 +172,18 @@ step_in Skipped = None
 step_in (Runs step) = Some step
 step_in Bad = None
 
--- no line is bad, and these are the steps of those that have one, in order
+-- no line is bad
+abbrev pub NoneIsBad : List (List ℕ) → ℕ → List (List ℕ) → Type 0
+NoneIsBad names workers lines = AllByRecursion (λ line. ¬ (IsBad names workers line)) lines
+
+-- the steps of those lines that have one, in order
+abbrev pub steps_in : List (List ℕ) → ℕ → List (List ℕ) → List Step
+steps_in names workers lines = filter_map (λ line. step_in (meaning_of names workers line)) lines
+
+-- no line is bad, and these are their steps
 pub record AreSteps (names : List (List ℕ)) (workers : ℕ) (lines : List (List ℕ)) (steps : List Step) : Type 0 where
-  pub no_bad : AllByRecursion (λ line. ¬ (IsBad names workers line)) lines
-  pub in_order : steps ≡ filter_map (λ line. step_in (meaning_of names workers line)) lines
+  pub no_bad : NoneIsBad names workers lines
+  pub in_order : steps ≡ steps_in names workers lines
 
 -- the line of that number, from 1, is bad, and none before it
 pub record IsFirstBad (names : List (List ℕ)) (workers : ℕ) (lines : List (List ℕ)) (number : ℕ) : Type 0 where

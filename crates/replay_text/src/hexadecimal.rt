@@ -5,7 +5,7 @@ ghost use Rattle.std.specs.Result.{result_ok};
 ghost use Rattle.hex.specs.Hex.{decode_pairs, decode_of, encode_lower};
 ghost use Rattle.replay_text.specs.Hexadecimal.{digit_or_255};
 
-use std::alloc::{AllocError, Global};
+use std::alloc::AllocError;
 
 // The value of a digit in either case, and 255 of any other byte.
 fn digit_or_255(byte: u8) -> u8
@@ -34,16 +34,23 @@ fn decode_into(text: &[u8], out: &mut [u8]) -> bool
     worst < 16
 }
 
-/// The bytes that digits in either case spell; `None` where they are odd in number or some are no digits.
-pub(crate) fn decode(alloc: Global, text: &[u8]) -> Result<Option<Vec<u8>>, AllocError>
-    ensures { IfOk result (λ bytes. option_map (λ v. v.items) bytes ≡ result_ok (decode_of text.now)) }
+/// The bytes that digits in either case spell, in a room of their own; `None` where the digits are odd in number or some
+/// are none.
+pub(crate) fn decode<'a>(text: &[u8], room: &'a mut Vec<u8>) -> Result<Option<&'a [u8]>, AllocError>
+    ensures { IfOk result (λ bytes. option_map (λ b. b.now) bytes ≡ result_ok (decode_of text.now)) }
 {
     if text.len() % 2 != 0 {
         return Ok(None);
     }
-    let mut bytes = vec![in alloc; 0u8; text.len() / 2]?;
-    let are_digits = decode_into(text, bytes.as_mut_slice());
-    Ok(if are_digits { Some(bytes) } else { None })
+    let size = text.len() / 2;
+    if room.len() < size {
+        room.resize(size, 0)?;
+    }
+    let bytes = &mut room.as_mut_slice()[..size];
+    if !decode_into(text, bytes) {
+        return Ok(None);
+    }
+    Ok(Some(bytes))
 }
 
 fn digit_of(value: u8) -> u8

@@ -12,4 +12,4 @@ mod streams;
 
 pub use printed::print_lines;
 pub use replays::{ReplayFault, replay};
-pub use script::{ScriptFault, parse_script};
+pub use script::{Meaning, ScriptFault, check_script, meaning_of};

@@ -6,10 +6,12 @@ ghost use Rattle.hex.specs.Hex.{encode_lower};
 ghost use Rattle.replay_text.specs.Printed.{name_of, word_of, tick_text, line_text, line_of, printed_lines};
 ghost use Rattle.replay_text.specs.Printed.{refusal_word, row_line, command_text};
 ghost use Rattle.std.specs.List.{flat_map};
+ghost use Rattle.floor_core.specs.Told.{shown};
 
 use crate::hexadecimal::put_hex;
 use common_types::Name;
-use floor_core::{Malformed, Output};
+use floor_core::{Floor, Malformed, Output, Told};
+use itoa::Buffer;
 use std::alloc::{AllocError, Global};
 use tenant_core::{Answered, BookFault, CommandFault, Row};
 
@@ -35,44 +37,34 @@ fn word_of(kind: Malformed) -> &'static [u8]
     }
 }
 
-fn put_decimal(alloc: Global, out: &mut Vec<u8>, number: u64) -> Result<(), AllocError>
+fn put_decimal(out: &mut Vec<u8>, number: u64) -> Result<(), AllocError>
     ensures { OnOk result (out.new.items ≡ out.old.items ++ decimal number) }
 {
-    let text = number.to_string(alloc)?;
-    out.extend_from_slice(text.as_bytes())
+    let mut digits = Buffer::new();
+    out.extend_from_slice(digits.format(number).as_bytes())
 }
 
 // What is said of a packet that goes on, behind the tenant's name.
-fn put_send(
-    alloc: Global,
-    out: &mut Vec<u8>,
-    peer: &[u8],
-    hold: u64,
-    frame: &[u8],
-) -> Result<(), AllocError>
+fn put_send(out: &mut Vec<u8>, peer: &[u8], hold: u64, frame: &[u8]) -> Result<(), AllocError>
     ensures { OnOk result (out.new.items ≡ out.old.items
         ++ codes " send " ++ peer.now ++ codes " " ++ decimal hold ++ codes " " ++ encode_lower frame.now) }
 {
     out.extend_from_slice(b" send ")?;
     out.extend_from_slice(peer)?;
     out.push(b' ')?;
-    put_decimal(alloc, out, hold)?;
+    put_decimal(out, hold)?;
     out.push(b' ')?;
     put_hex(out, frame)
 }
 
 // What is said of a tick, behind the tenant's name.
-fn put_ticked(
-    alloc: Global,
-    out: &mut Vec<u8>,
-    answer: Result<u32, BookFault>,
-) -> Result<(), AllocError>
+fn put_ticked(out: &mut Vec<u8>, answer: Result<u32, BookFault>) -> Result<(), AllocError>
     ensures { OnOk result (out.new.items ≡ out.old.items ++ tick_text answer) }
 {
     match answer {
         Ok(count) => {
             out.extend_from_slice(b" ticked ")?;
-            put_decimal(alloc, out, count as u64)
+            put_decimal(out, count as u64)
         }
         Err(BookFault::Full) => out.extend_from_slice(b" refused full"),
     }
@@ -91,43 +83,42 @@ fn refusal_word(fault: CommandFault) -> &'static [u8]
     }
 }
 
-fn put_signed(alloc: Global, out: &mut Vec<u8>, number: i64) -> Result<(), AllocError>
+fn put_signed(out: &mut Vec<u8>, number: i64) -> Result<(), AllocError>
     ensures { OnOk result (out.new.items ≡ out.old.items ++ signed_decimal number) }
 {
-    let text = number.to_string(alloc)?;
-    out.extend_from_slice(text.as_bytes())
+    let mut digits = Buffer::new();
+    out.extend_from_slice(digits.format(number).as_bytes())
 }
 
 // What a peer owes, and what is held from it and for it.
 #[tactic(auto, unfolding(crate::specs::Printed::row_line))]
-fn put_row(alloc: Global, out: &mut Vec<u8>, name: &[u8], row: &Row) -> Result<(), AllocError>
+fn put_row(out: &mut Vec<u8>, name: &[u8], row: &Row) -> Result<(), AllocError>
     ensures { OnOk result (out.new.items ≡ out.old.items ++ row_line name.now row.now) }
 {
     out.extend_from_slice(name)?;
     out.extend_from_slice(b" balance ")?;
     out.extend_from_slice(row.name.as_bytes())?;
     out.push(b' ')?;
-    put_signed(alloc, out, row.balance)?;
+    put_signed(out, row.balance)?;
     out.push(b' ')?;
-    put_decimal(alloc, out, row.held_in)?;
+    put_decimal(out, row.held_in)?;
     out.push(b' ')?;
-    put_decimal(alloc, out, row.held_out)?;
+    put_decimal(out, row.held_out)?;
     out.push(b'\n')?;
     Ok(())
 }
 
-fn put_rows(alloc: Global, out: &mut Vec<u8>, name: &[u8], rows: &[Row]) -> Result<(), AllocError>
+fn put_rows(out: &mut Vec<u8>, name: &[u8], rows: &[Row]) -> Result<(), AllocError>
     ensures { OnOk result (out.new.items ≡ out.old.items ++ flat_map (row_line name.now) rows.now) }
 {
     for row in rows {
-        put_row(alloc, out, name, row)?;
+        put_row(out, name, row)?;
     }
     Ok(())
 }
 
 // What a command was answered with.
 fn put_governed(
-    alloc: Global,
     out: &mut Vec<u8>,
     name: &[u8],
     answer: &Result<Answered, CommandFault>,
@@ -140,18 +131,18 @@ fn put_governed(
             out.extend_from_slice(b" ok")
         }
         Ok(Answered::Balances(rows)) => {
-            put_rows(alloc, out, name, rows.as_slice())?;
+            put_rows(out, name, rows.as_slice())?;
             out.extend_from_slice(name)?;
             out.extend_from_slice(b" ok")
         }
         Ok(Answered::Rolled(period)) => {
             let period = period.get();
-            put_rows(alloc, out, name, period.rows.as_slice())?;
+            put_rows(out, name, period.rows.as_slice())?;
             out.extend_from_slice(name)?;
             out.extend_from_slice(b" rolled ")?;
-            put_decimal(alloc, out, period.opening.period)?;
+            put_decimal(out, period.opening.period)?;
             out.push(b' ')?;
-            put_decimal(alloc, out, period.records.len() as u64)
+            put_decimal(out, period.records.len() as u64)
         }
         Err(fault) => {
             out.extend_from_slice(name)?;
@@ -174,12 +165,21 @@ fn put_named(
     out.extend_from_slice(words)
 }
 
-fn put_text(
-    alloc: Global,
+// What the sender of a packet is told.
+fn put_reply(
     names: &[Name],
+    tenant: usize,
     out: &mut Vec<u8>,
-    output: &Output,
+    reply: &[u8],
 ) -> Result<(), AllocError>
+    ensures { OnOk result (out.new.items ≡ out.old.items
+        ++ name_of names.now tenant ++ codes " reply " ++ encode_lower reply.now) }
+{
+    put_named(names, tenant, out, b" reply ")?;
+    put_hex(out, reply)
+}
+
+fn put_text(names: &[Name], out: &mut Vec<u8>, output: &Output) -> Result<(), AllocError>
     ensures { OnOk result (out.new.items ≡ out.old.items ++ line_text names.now output.now) }
 {
     match output {
@@ -187,23 +187,20 @@ fn put_text(
         Output::Idle => out.extend_from_slice(b"- idle"),
         Output::Loaded { tenant, call } => {
             put_named(names, *tenant, out, b" loaded ")?;
-            put_decimal(alloc, out, *call)
+            put_decimal(out, *call)
         }
         Output::Bad { tenant, kind } => {
             put_named(names, *tenant, out, b" bad ")?;
             out.extend_from_slice(word_of(*kind))
         }
         Output::Stranger { tenant } => put_named(names, *tenant, out, b" stranger"),
-        Output::Reply { tenant, bytes } => {
-            put_named(names, *tenant, out, b" reply ")?;
-            put_hex(out, bytes.as_slice())
-        }
+        Output::Reply { tenant, bytes } => put_reply(names, *tenant, out, bytes.as_slice()),
         Output::Ticked { tenant, answer } => {
             out.extend_from_slice(name_of(names, *tenant))?;
-            put_ticked(alloc, out, *answer)
+            put_ticked(out, *answer)
         }
         Output::Governed { tenant, answer } => {
-            put_governed(alloc, out, name_of(names, *tenant), answer)
+            put_governed(out, name_of(names, *tenant), answer)
         }
         Output::Send {
             tenant,
@@ -212,22 +209,67 @@ fn put_text(
             frame,
         } => {
             out.extend_from_slice(name_of(names, *tenant))?;
-            put_send(alloc, out, peer.as_bytes(), *hold, frame.as_slice())
+            put_send(out, peer.as_bytes(), *hold, frame.as_slice())
         }
     }
 }
 
 #[tactic(auto, unfolding(crate::specs::Printed::line_of))]
-fn put_line(
-    alloc: Global,
-    names: &[Name],
-    out: &mut Vec<u8>,
-    output: &Output,
-) -> Result<(), AllocError>
+fn put_line(names: &[Name], out: &mut Vec<u8>, output: &Output) -> Result<(), AllocError>
     ensures { OnOk result (out.new.items ≡ out.old.items ++ line_of names.now output.now) }
 {
-    put_text(alloc, names, out, output)?;
+    put_text(names, out, output)?;
     out.push(b'\n')?;
+    Ok(())
+}
+
+// What a step told, in words.
+fn put_told_text(
+    names: &[Name],
+    out: &mut Vec<u8>,
+    floor: &Floor,
+    told: &Told,
+) -> Result<(), AllocError>
+    ensures { OnOk result (out.new.items ≡ out.old.items ++ line_text names.now (shown floor.now.seats told.now)) }
+{
+    match told {
+        Told::Whole(output) => put_text(names, out, output),
+        Told::Reply { worker, tenant } => put_reply(names, *tenant, out, floor.reply(*worker)),
+        Told::Send {
+            worker,
+            tenant,
+            peer,
+            hold,
+        } => {
+            out.extend_from_slice(name_of(names, *tenant))?;
+            put_send(out, peer.as_bytes(), *hold, floor.frame(*worker))
+        }
+    }
+}
+
+/// Puts the lines of what a step of the floor told behind a text, for the tenants of these names. It fails only where
+/// memory does.
+#[tactic(auto, unfolding(crate::specs::Printed::line_of))]
+pub(crate) fn put_told(
+    names: &[Name],
+    out: &mut Vec<u8>,
+    floor: &Floor,
+    told: &Told,
+) -> Result<(), AllocError>
+    ensures { OnOk result (out.new.items ≡ out.old.items ++ line_of names.now (shown floor.now.seats told.now)) }
+{
+    put_told_text(names, out, floor, told)?;
+    out.push(b'\n')?;
+    Ok(())
+}
+
+// The lines of some outputs.
+fn put_lines(names: &[Name], out: &mut Vec<u8>, outputs: &[Output]) -> Result<(), AllocError>
+    ensures { OnOk result (out.new.items ≡ out.old.items ++ printed_lines names.now outputs.now) }
+{
+    for output in outputs {
+        put_line(names, out, output)?;
+    }
     Ok(())
 }
 
@@ -237,8 +279,6 @@ pub fn print_lines(alloc: Global, names: &[Name], outputs: &[Output]) -> Result<
     ensures { IfOk result (λ text. text.items ≡ printed_lines names.now outputs.now) }
 {
     let mut out = Vec::new(alloc);
-    for output in outputs {
-        put_line(alloc, names, &mut out, output)?;
-    }
+    put_lines(names, &mut out, outputs)?;
     Ok(out)
 }

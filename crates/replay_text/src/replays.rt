@@ -1,28 +1,31 @@
 //! Replays of scripts.
 
-ghost use Rattle.std.specs.Prelude.{◌≡◌, ◌≤◌, ◌<◌, ◌⊎◌, ◌↔◌, OnOk, IfOk, IfErr, IfSome, IsOk, None, Ok, Err, map, length};
-ghost use Rattle.replay_text.specs.Printed.{printed_lines};
-ghost use Rattle.replay_text.specs.Replay.{names_in, IsReplayed, refusal_of, IsRefusedBy, WritesAll, LeavesWritten};
-ghost use Rattle.replay_text.specs.Replay.{IsAnswered, IsReplayedFor};
+ghost use Rattle.std.specs.Prelude.{◌≡◌, ◌≢◌, ◌≤◌, ◌<◌, ◌⊎◌, ◌↔◌, ◌+◌, ◌∷◌, [], ℕ, List, OnOk, OnErr, IfOk, IfErr, IfSome, IsOk, None, Ok, Err, map, length};
+ghost use Rattle.std.specs.Io.KnownBytes.{Keeps, Appends};
+ghost use Rattle.replay_text.specs.Replay.{names_in, refusal_of, IsRefusedBy, Prints, WritesAll, LeavesWritten};
+ghost use Rattle.replay_text.specs.Replay.{IsReplayedFor, LeavesWrittenFor, WritesLines, WritesSome, world_of_setup};
 ghost use Rattle.admin_text.specs.Setup.{setup_of};
-ghost use Rattle.floor_core.specs.World.{FitsIn};
+ghost use Rattle.floor_core.specs.FloorView.{Fits, HasRoom, world_of};
 ghost use Rattle.tenant_core.specs.Limits.{max_tenants};
-ghost use Rattle.std.specs.Prelude.{All};
-ghost use Rattle.replay_text.specs.Script.{steps_of_script};
-ghost use Rattle.replay_text.specs.Streams.{ConsumesAtMost};
+ghost use Rattle.replay_text.specs.Script.{lines_of, steps_in, steps_of_script, IsBad, NoneIsBad};
+ghost use Rattle.replay_text.specs.Streams.{AppendsFront, ConsumesAtMost, WritesUpTo};
 
-use crate::printed::print_lines;
-use crate::script::{ScriptFault, parse_script};
+use crate::printed::put_told;
+use crate::script::{Meaning, ScriptFault, check_script, first_line, meaning_of};
 use crate::streams::{StreamFault, read_script, write_text};
 use admin_text::laws::setups;
 use admin_text::{Setup, SetupFault, read_setup};
 use common_types::{Name, ReadError};
+use floor_core::laws::{one_after_the_other, outputs_are_there};
 use floor_core::{Floor, Step};
 use oer_core::Device;
 use std::alloc::{AllocError, Global};
 use std::io::{Read, Write};
 use tenant_core::TenantSetup;
 use thiserror::Error;
+
+/// How many bytes of lines are written as soon as there are so many.
+const LONG: usize = 65_536;
 
 /// Why a replay ended early.
 #[derive(Clone, Copy, Debug, PartialEq, Eq, Error)]
@@ -67,39 +70,129 @@ fn names_of(alloc: Global, tenants: &[TenantSetup]) -> Result<Vec<Name>, AllocEr
     Ok(names)
 }
 
-// What the steps are answered, as lines.
-fn answered(
+// Does a step, and puts the lines of its output behind a text.
+fn run_step(
     alloc: Global,
-    setup: &Setup,
+    floor: &mut Floor,
+    names: &[Name],
+    step: &Step,
+    text: &mut Vec<u8>,
+) -> Result<(), AllocError>
+    requires fits { Fits floor.old step.now }
+    requires room { HasRoom floor.old 1 }
+    ensures printed { OnOk result (Prints names.now (step.now ∷ []) (world_of floor.old) (world_of floor.new)
+        text.old.items text.new.items) }
+    ensures workers { length floor.new.seats ≡ length floor.old.seats }
+    ensures tenants { length floor.new.books ≡ length floor.old.books }
+    ensures room { (n : ℕ) → HasRoom floor.old (1 + n) → HasRoom floor.new n }
+{
+    outputs_are_there();
+    let told = floor.step(alloc, step)?;
+    put_told(names, text, floor, &told)
+}
+
+// Does what a line says that is not bad, and puts the lines of its output behind a text.
+fn run_line(
+    alloc: Global,
+    floor: &mut Floor,
     names: &[Name],
     workers: usize,
-    steps: &[Step],
-) -> Result<Vec<u8>, AllocError>
-    requires tenants { (1 ≤ length setup.now.tenants) × (length setup.now.tenants ≤ max_tenants) }
-    requires workers { (1 ≤ workers) × (workers ≤ 64) }
-    requires names { names.now ≡ names_in setup.now }
-    requires fit { All (FitsIn workers (length setup.now.tenants)) steps.now }
-    ensures { IfOk result (λ text. IsAnswered setup.now steps.now text.items) }
+    line: &[u8],
+    room: &mut Vec<u8>,
+    text: &mut Vec<u8>,
+) -> Result<(), AllocError>
+    requires good { ¬ (IsBad names.now workers line.now) }
+    requires workers { length floor.old.seats ≡ workers }
+    requires tenants { length floor.old.books ≡ length names.now }
+    requires room { HasRoom floor.old 1 }
+    ensures printed { OnOk result (Prints names.now (steps_in names.now workers (line.now ∷ []))
+        (world_of floor.old) (world_of floor.new) text.old.items text.new.items) }
+    ensures workers { length floor.new.seats ≡ length floor.old.seats }
+    ensures tenants { length floor.new.books ≡ length floor.old.books }
+    ensures room { (n : ℕ) → HasRoom floor.old (1 + n) → HasRoom floor.new n }
 {
-    let mut floor = Floor::new(alloc, setup.tenants.as_slice(), setup.start, workers)?;
-    match floor.run(alloc, steps) {
-        Ok(outputs) => print_lines(alloc, names, outputs.as_slice()),
-        Err(_) => Err(AllocError),
+    outputs_are_there();
+    match meaning_of(alloc, names, workers, line, room)? {
+        Meaning::Skipped => Ok(()),
+        Meaning::Runs(step) => run_step(alloc, floor, names, &step, text),
+        Meaning::Bad => unreachable!(),
     }
 }
 
-// The steps of the script that the reader has left, for the setup's tenants.
-fn read_steps<R: Read + Device>(
+// Writes the text and empties it, if it is long.
+fn write_if_long<W: Write + Device>(
+    writer: &mut W,
+    text: &mut Vec<u8>,
+    before: u64,
+) -> Result<(), StreamFault>
+    requires unfailed { W.failure_count writer.old ≤ before }
+    ensures written { OnOk result (WritesUpTo text.old.items text.new.items
+        (W.contents writer.old) (W.contents writer.new)) }
+    ensures front { AppendsFront text.old.items (W.contents writer.old) (W.contents writer.new) }
+    ensures size { result ≢ Err StreamFault.Size }
+    ensures device { (result ≡ Err StreamFault.Device) ↔ (before < W.failure_count writer.new) }
+{
+    if text.len() < LONG {
+        return Ok(());
+    }
+    write_text(writer, text.as_slice(), before)?;
+    text.clear();
+    Ok(())
+}
+
+// Does what the lines of a script say, none of which is bad, and writes the lines of the outputs, as soon as there are
+// many.
+fn run_lines<W: Write + Device>(
+    alloc: Global,
+    floor: &mut Floor,
+    names: &[Name],
+    workers: usize,
+    script: &[u8],
+    writer: &mut W,
+    before: u64,
+) -> Result<(), StreamFault>
+    requires good { NoneIsBad names.now workers (lines_of script.now) }
+    requires workers { length floor.old.seats ≡ workers }
+    requires tenants { length floor.old.books ≡ length names.now }
+    requires room { HasRoom floor.old (length script.now) }
+    requires unfailed { W.failure_count writer.old ≤ before }
+    ensures written { OnOk result (WritesLines names.now (world_of floor.old)
+        (steps_in names.now workers (lines_of script.now)) (W.contents writer.old) (W.contents writer.new)) }
+    ensures front { WritesSome names.now (world_of floor.old)
+        (steps_in names.now workers (lines_of script.now)) (W.contents writer.old) (W.contents writer.new) }
+    ensures size { result ≢ Err StreamFault.Size }
+    ensures device { (result ≡ Err StreamFault.Device) ↔ (before < W.failure_count writer.new) }
+{
+    one_after_the_other();
+    outputs_are_there();
+    let mut room = Vec::new(alloc);
+    let mut text = Vec::new(alloc);
+    let mut rest = script;
+    while !rest.is_empty() {
+        let (line, after) = first_line(rest);
+        let Ok(()) = run_line(alloc, floor, names, workers, line, &mut room, &mut text) else {
+            return Err(StreamFault::Memory);
+        };
+        write_if_long(writer, &mut text, before)?;
+        rest = after;
+    }
+    write_text(writer, text.as_slice(), before)
+}
+
+// The script that the reader has left, for the setup's tenants.
+fn good_script<R: Read + Device>(
     alloc: Global,
     setup: &Setup,
     names: &[Name],
     workers: usize,
     reader: &mut R,
-) -> Result<Vec<Step>, ReplayFault>
+) -> Result<Vec<u8>, ReplayFault>
     requires names { names.now ≡ names_in setup.now }
-    ensures steps { IfOk result (λ steps. IfSome (R.remaining reader.old)
-        (λ script. steps_of_script (names_in setup.now) workers script ≡ Ok steps.items)) }
-    ensures fit { IfOk result (λ steps. All (FitsIn workers (length names.now)) steps.items) }
+    ensures whole { IfOk result (λ script. IfSome (R.remaining reader.old) (λ bytes. script.items ≡ bytes)) }
+    ensures short { IfOk result (λ script. length script.items ≤ 16_777_216) }
+    ensures good { IfOk result (λ script. NoneIsBad names.now workers (lines_of script.items)) }
+    ensures steps { IfOk result (λ script. steps_of_script names.now workers script.items
+        ≡ Ok (steps_in names.now workers (lines_of script.items))) }
     ensures refused { IfErr result (λ fault. IsRefusedBy fault (Ok setup.now) workers (R.remaining reader.old)) }
     ensures device { (result ≡ Err ReplayFault.Device) ↔ (R.failure_count reader.old < R.failure_count reader.new) }
     ensures taken { ConsumesAtMost 16_777_217 (R.remaining reader.old) (R.remaining reader.new) }
@@ -110,60 +203,82 @@ fn read_steps<R: Read + Device>(
         Err(StreamFault::Device) => return Err(ReplayFault::Device),
         Err(StreamFault::Size) => return Err(ReplayFault::Script(ScriptFault::Size)),
     };
-    match parse_script(alloc, names, workers, script.as_slice()) {
-        Ok(steps) => Ok(steps),
+    match check_script(alloc, names, workers, script.as_slice()) {
+        Ok(()) => Ok(script),
         Err(ReadError::Memory) => Err(ReplayFault::Memory),
         Err(ReadError::Fault(fault)) => Err(ReplayFault::Script(fault)),
     }
 }
 
-// What is to be written for a setup that was read and the script that the reader has left.
-fn text_of_setup<R: Read + Device>(
+// Runs a good script for the tenants of a setup, who begin anew.
+fn run_script<W: Write + Device>(
+    alloc: Global,
+    setup: &Setup,
+    names: &[Name],
+    workers: usize,
+    script: &[u8],
+    writer: &mut W,
+) -> Result<(), ReplayFault>
+    requires tenants { (1 ≤ length setup.now.tenants) × (length setup.now.tenants ≤ max_tenants) }
+    requires workers { (1 ≤ workers) × (workers ≤ 64) }
+    requires names { names.now ≡ names_in setup.now }
+    requires good { NoneIsBad names.now workers (lines_of script.now) }
+    requires short { length script.now ≤ 16_777_216 }
+    ensures written { OnOk result (WritesLines names.now (world_of_setup setup.now)
+        (steps_in names.now workers (lines_of script.now)) (W.contents writer.old) (W.contents writer.new)) }
+    ensures left { OnErr result (Keeps (W.contents writer.old) (W.contents writer.new)
+        ⊎ WritesSome names.now (world_of_setup setup.now)
+        (steps_in names.now workers (lines_of script.now)) (W.contents writer.old) (W.contents writer.new)) }
+    ensures fault { IfErr result (λ fault. (fault ≡ ReplayFault.Device) ⊎ (fault ≡ ReplayFault.Memory)) }
+    ensures device { (result ≡ Err ReplayFault.Device) ↔ (W.failure_count writer.old < W.failure_count writer.new) }
+{
+    let before = writer.failures();
+    let Ok(mut floor) = Floor::new(alloc, setup.tenants.as_slice(), setup.start, workers) else {
+        return Err(ReplayFault::Memory);
+    };
+    match run_lines(alloc, &mut floor, names, workers, script, writer, before) {
+        Ok(()) => Ok(()),
+        Err(StreamFault::Device) => Err(ReplayFault::Device),
+        Err(_) => Err(ReplayFault::Memory),
+    }
+}
+
+// Replays the script that the reader has left for a setup that was read.
+fn replay_for<R: Read + Device, W: Write + Device>(
     alloc: Global,
     setup: &Setup,
     workers: usize,
     reader: &mut R,
-) -> Result<Vec<u8>, ReplayFault>
+    writer: &mut W,
+) -> Result<(), ReplayFault>
     requires tenants { (1 ≤ length setup.now.tenants) × (length setup.now.tenants ≤ max_tenants) }
     requires workers { (1 ≤ workers) × (workers ≤ 64) }
-    ensures text { IfOk result (λ text. IfSome (R.remaining reader.old)
-        (λ script. IsReplayedFor setup.now workers script text.items)) }
+    ensures written { OnOk result (IfSome (R.remaining reader.old) (λ script.
+        (text : List ℕ) × IsReplayedFor setup.now workers script text
+        × Appends (W.contents writer.old) (W.contents writer.new) text)) }
     ensures refused { IfErr result (λ fault. IsRefusedBy fault (Ok setup.now) workers (R.remaining reader.old)) }
-    ensures device { (result ≡ Err ReplayFault.Device) ↔ (R.failure_count reader.old < R.failure_count reader.new) }
+    ensures left { IfErr result (λ fault. LeavesWrittenFor fault setup.now workers (R.remaining reader.old)
+        (W.contents writer.old) (W.contents writer.new)) }
+    ensures device { (result ≡ Err ReplayFault.Device)
+        ↔ ((R.failure_count reader.old < R.failure_count reader.new)
+        ⊎ (W.failure_count writer.old < W.failure_count writer.new)) }
+    ensures script_order { result ≡ Err ReplayFault.Device
+        → R.failure_count reader.new ≤ R.failure_count reader.old
+        → IfSome (R.remaining reader.old) (λ script. refusal_of (Ok setup.now) workers script ≡ None) }
     ensures taken { ConsumesAtMost 16_777_217 (R.remaining reader.old) (R.remaining reader.new) }
 {
     let Ok(names) = names_of(alloc, setup.tenants.as_slice()) else {
         return Err(ReplayFault::Memory);
     };
-    let steps = read_steps(alloc, setup, names.as_slice(), workers, reader)?;
-    match answered(alloc, setup, names.as_slice(), workers, steps.as_slice()) {
-        Ok(text) => Ok(text),
-        Err(_) => Err(ReplayFault::Memory),
-    }
-}
-
-// What is to be written for a setup and the script that the reader has left.
-fn text_to_write<R: Read + Device>(
-    alloc: Global,
-    setup: &[u8],
-    workers: usize,
-    reader: &mut R,
-) -> Result<Vec<u8>, ReplayFault>
-    requires { (1 ≤ workers) × (workers ≤ 64) }
-    ensures text { IfOk result (λ text. IfSome (R.remaining reader.old)
-        (λ script. IsReplayed setup.now workers script text.items)) }
-    ensures read { OnOk result (IsOk (setup_of setup.now)) }
-    ensures refused { IfErr result (λ fault. IsRefusedBy fault (setup_of setup.now) workers (R.remaining reader.old)) }
-    ensures order { result ≡ Err ReplayFault.Device → IsOk (setup_of setup.now) }
-    ensures device { (result ≡ Err ReplayFault.Device) ↔ (R.failure_count reader.old < R.failure_count reader.new) }
-    ensures taken { ConsumesAtMost 16_777_217 (R.remaining reader.old) (R.remaining reader.new) }
-{
-    setups();
-    match read_setup(alloc, setup) {
-        Ok(setup) => text_of_setup(alloc, &setup, workers, reader),
-        Err(ReadError::Memory) => Err(ReplayFault::Memory),
-        Err(ReadError::Fault(fault)) => Err(ReplayFault::Setup(fault)),
-    }
+    let script = good_script(alloc, setup, names.as_slice(), workers, reader)?;
+    run_script(
+        alloc,
+        setup,
+        names.as_slice(),
+        workers,
+        script.as_slice(),
+        writer,
+    )
 }
 
 /// Replays the script that the reader has left, for the setup, and writes a line or more for each of its steps.
@@ -198,10 +313,10 @@ pub fn replay<R: Read + Device, W: Write + Device>(
         → IfSome (R.remaining reader.old) (λ script. refusal_of (setup_of setup.now) workers script ≡ None) }
     ensures taken { ConsumesAtMost 16_777_217 (R.remaining reader.old) (R.remaining reader.new) }
 {
-    let text = text_to_write(alloc, setup, workers, reader)?;
-    match write_text(writer, text.as_slice()) {
-        Ok(()) => Ok(()),
-        Err(StreamFault::Device) => Err(ReplayFault::Device),
-        Err(_) => Err(ReplayFault::Memory),
+    setups();
+    match read_setup(alloc, setup) {
+        Ok(setup) => replay_for(alloc, &setup, workers, reader, writer),
+        Err(ReadError::Memory) => Err(ReplayFault::Memory),
+        Err(ReadError::Fault(fault)) => Err(ReplayFault::Setup(fault)),
     }
 }

@@ -1,7 +1,7 @@
 //! Replay scripts: what each line has a worker do.
 
 ghost use Rattle.std.specs.Prelude.{◌≡◌, ◌==◌, ◌<◌, ◌≤◌, ◌↔◌, ℕ, List, Ok, Err, ◌∷◌, length, ◌≢◌, [], option_copied};
-ghost use Rattle.std.specs.Prelude.{option_map, option_and_then, min, nat_lt, IfOk, All};
+ghost use Rattle.std.specs.Prelude.{option_map, option_and_then, min, nat_lt, IfOk, OnOk};
 ghost use Rattle.std.specs.List.{position};
 ghost use Rattle.std.specs.Result.{result_ok};
 ghost use Rattle.std.specs.Str.{bytes_eq};
@@ -12,15 +12,15 @@ ghost use Rattle.replay_text.specs.Script.{govern_of};
 ghost use Rattle.replay_text.specs.Script.{given_of, moment_spelled, step_behind, step_of_words};
 ghost use Rattle.replay_text.specs.Script.{is_skipped, meaning_of, steps_from, steps_of_script, AreSteps, IsFirstBad};
 ghost use Rattle.admin_text.specs.Commands.{command_in};
-ghost use Rattle.common_types.specs.Outcomes.{GivesUnlessMemory};
-ghost use Rattle.floor_core.specs.World.{FitsIn};
+ghost use Rattle.replay_text.specs.Script.{IsCheckedAs};
+ghost use Rattle.floor_core.specs.declared.step.Step.{Step};
 ghost use Rattle.replay_text.specs.Words.{two_of, three_of, four_of};
 
 use crate::hexadecimal::decode;
 use crate::scans::{is_ascii, place_of};
 use admin_text::parse_command;
-use common_types::{Boxed, Bytes, Name, ReadError, is_numeral, is_token, value_of};
-use floor_core::{Given, Step};
+use common_types::{Boxed, Name, ReadError, is_numeral, is_token, value_of};
+use floor_core::{Given, Octets, Step};
 use ilp_addr::Moment;
 use std::alloc::{AllocError, Global};
 use tenant_core::Command;
@@ -45,10 +45,12 @@ pub enum ScriptFault {
 
 /// What a line of a script says.
 #[derive(Drop)]
-enum Meaning {
+pub enum Meaning<'a> {
     /// It is empty or a comment.
     Skipped,
-    Runs(Step),
+    /// A step.
+    Runs(Step<'a>),
+    /// Nothing that a script may say.
     Bad,
 }
 
@@ -63,7 +65,7 @@ fn first_word(text: &[u8]) -> (&[u8], Option<&[u8]>)
 }
 
 /// The first line of a text that is not empty, without its end, and what follows it.
-fn first_line(text: &[u8]) -> (&[u8], &[u8])
+pub(crate) fn first_line(text: &[u8]) -> (&[u8], &[u8])
     requires { text.now ≢ [] }
     ensures value { lines_of text.now ≡ result.0.now ∷ lines_of result.1.now }
     ensures shorter { length result.1.now < length text.now }
@@ -140,27 +142,28 @@ fn tenant_named(names: &[Name], word: &[u8]) -> Option<usize>
 }
 
 /// A word as a token.
-fn token_of(alloc: Global, word: &[u8]) -> Result<Option<Bytes>, AllocError>
-    ensures { IfOk result (λ token. token ≡ token_of word.now) }
+fn token_of(word: &[u8]) -> Option<Octets<'_>>
+    ensures { result ≡ token_of word.now }
 {
-    if !is_token(word) {
-        return Ok(None);
+    if is_token(word) {
+        Some(Octets::of(word))
+    } else {
+        None
     }
-    Ok(Some(Bytes::from_vec(Vec::from_slice(alloc, word)?)))
 }
 
-/// The bytes that a word spells.
-fn frame_of(alloc: Global, word: &[u8]) -> Result<Option<Bytes>, AllocError>
+/// The bytes that a word spells, in the room.
+fn frame_of<'a>(word: &[u8], room: &'a mut Vec<u8>) -> Result<Option<Octets<'a>>, AllocError>
     ensures { IfOk result (λ frame. frame ≡ frame_of word.now) }
 {
     if word == b"-".as_slice() {
-        return Ok(Some(Bytes::from_vec(Vec::new(alloc))));
+        return Ok(Some(Octets::of(&[])));
     }
     if word.is_empty() {
         return Ok(None);
     }
-    match decode(alloc, word)? {
-        Some(bytes) => Ok(Some(Bytes::from_vec(bytes))),
+    match decode(word, room)? {
+        Some(bytes) => Ok(Some(Octets::of(bytes))),
         None => Ok(None),
     }
 }
@@ -173,25 +176,25 @@ fn moment_spelled(word: &[u8]) -> Option<Moment>
 }
 
 /// What came back, as a word says it.
-fn given_of(alloc: Global, word: &[u8]) -> Result<Option<Given>, AllocError>
+fn given_of<'a>(word: &[u8], room: &'a mut Vec<u8>) -> Result<Option<Given<'a>>, AllocError>
     ensures { IfOk result (λ given. given ≡ given_of word.now) }
 {
     if word == b"fault".as_slice() {
         return Ok(Some(Given::Fault));
     }
-    match frame_of(alloc, word)? {
+    match frame_of(word, room)? {
         Some(bytes) => Ok(Some(Given::Bytes(bytes))),
         None => Ok(None),
     }
 }
 
 /// The step that the words behind `load` spell: W TENANT TOKEN HEX.
-fn load_of(
-    alloc: Global,
+fn load_of<'a>(
     names: &[Name],
     workers: usize,
-    words: &[u8],
-) -> Result<Option<Step>, AllocError>
+    words: &'a [u8],
+    room: &'a mut Vec<u8>,
+) -> Result<Option<Step<'a>>, AllocError>
     ensures { IfOk result (λ step. step ≡ option_and_then (load_of names.now workers) (four_of (words_of words.now))) }
 {
     let Some((worker, tenant, token, frame)) = four_words(words) else {
@@ -203,10 +206,10 @@ fn load_of(
     let Some(tenant) = tenant_named(names, tenant) else {
         return Ok(None);
     };
-    let Some(token) = token_of(alloc, token)? else {
+    let Some(token) = token_of(token) else {
         return Ok(None);
     };
-    let Some(bytes) = frame_of(alloc, frame)? else {
+    let Some(bytes) = frame_of(frame, room)? else {
         return Ok(None);
     };
     Ok(Some(Step::Load {
@@ -218,7 +221,7 @@ fn load_of(
 }
 
 /// The step that the words behind `decide` spell: W NOW.
-fn decide_of(workers: usize, words: &[u8]) -> Option<Step>
+fn decide_of(workers: usize, words: &[u8]) -> Option<Step<'static>>
     ensures { result ≡ option_and_then (decide_of workers) (two_of (words_of words.now)) }
 {
     let (worker, now) = two_words(words)?;
@@ -231,7 +234,11 @@ fn decide_of(workers: usize, words: &[u8]) -> Option<Step>
 }
 
 /// The step that the words behind `answer` spell: W NOW HEX, or W NOW fault.
-fn answer_of(alloc: Global, workers: usize, words: &[u8]) -> Result<Option<Step>, AllocError>
+fn answer_of<'a>(
+    workers: usize,
+    words: &[u8],
+    room: &'a mut Vec<u8>,
+) -> Result<Option<Step<'a>>, AllocError>
     ensures { IfOk result (λ step. step ≡ option_and_then (answer_of workers) (three_of (words_of words.now))) }
 {
     let Some((worker, now, given)) = three_words(words) else {
@@ -243,7 +250,7 @@ fn answer_of(alloc: Global, workers: usize, words: &[u8]) -> Result<Option<Step>
     let Some(now) = moment_spelled(now) else {
         return Ok(None);
     };
-    let Some(given) = given_of(alloc, given)? else {
+    let Some(given) = given_of(given, room)? else {
         return Ok(None);
     };
     Ok(Some(Step::Answer {
@@ -254,7 +261,7 @@ fn answer_of(alloc: Global, workers: usize, words: &[u8]) -> Result<Option<Step>
 }
 
 /// The step that the words behind `tick` spell: TENANT NOW.
-fn tick_of(names: &[Name], words: &[u8]) -> Option<Step>
+fn tick_of(names: &[Name], words: &[u8]) -> Option<Step<'static>>
     ensures { result ≡ option_and_then (tick_of names.now) (two_of (words_of words.now)) }
 {
     let (tenant, now) = two_words(words)?;
@@ -275,7 +282,11 @@ fn command_in(alloc: Global, text: &[u8]) -> Result<Option<Command>, AllocError>
 }
 
 /// The step that the words behind `do` spell: TENANT NOW, and those of a command.
-fn govern_of(alloc: Global, names: &[Name], words: &[u8]) -> Result<Option<Step>, AllocError>
+fn govern_of(
+    alloc: Global,
+    names: &[Name],
+    words: &[u8],
+) -> Result<Option<Step<'static>>, AllocError>
     ensures { IfOk result (λ step. step ≡ govern_of names.now (words_of words.now)) }
 {
     let (tenant, rest) = first_word(words);
@@ -303,21 +314,22 @@ fn govern_of(alloc: Global, names: &[Name], words: &[u8]) -> Result<Option<Step>
 }
 
 /// The step that a verb and the words behind it spell.
-fn step_behind(
+fn step_behind<'a>(
     alloc: Global,
     names: &[Name],
     workers: usize,
     verb: &[u8],
-    words: &[u8],
-) -> Result<Option<Step>, AllocError>
+    words: &'a [u8],
+    room: &'a mut Vec<u8>,
+) -> Result<Option<Step<'a>>, AllocError>
     ensures { IfOk result (λ step. step ≡ step_behind names.now workers verb.now (words_of words.now)) }
 {
     if verb == b"load".as_slice() {
-        load_of(alloc, names, workers, words)
+        load_of(names, workers, words, room)
     } else if verb == b"decide".as_slice() {
         Ok(decide_of(workers, words))
     } else if verb == b"answer".as_slice() {
-        answer_of(alloc, workers, words)
+        answer_of(workers, words, room)
     } else if verb == b"tick".as_slice() {
         Ok(tick_of(names, words))
     } else if verb == b"do".as_slice() {
@@ -328,16 +340,17 @@ fn step_behind(
 }
 
 /// The step that a line spells.
-fn step_of(
+fn step_of<'a>(
     alloc: Global,
     names: &[Name],
     workers: usize,
-    line: &[u8],
-) -> Result<Option<Step>, AllocError>
+    line: &'a [u8],
+    room: &'a mut Vec<u8>,
+) -> Result<Option<Step<'a>>, AllocError>
     ensures { IfOk result (λ step. step ≡ step_of_words names.now workers (words_of line.now)) }
 {
     match first_word(line) {
-        (verb, Some(words)) => step_behind(alloc, names, workers, verb, words),
+        (verb, Some(words)) => step_behind(alloc, names, workers, verb, words, room),
         (_, None) => Ok(None),
     }
 }
@@ -351,14 +364,16 @@ fn is_skipped(line: &[u8]) -> bool
     }
 }
 
-/// What a line says.
+/// What a line of a script says, for the tenants of these names, numbered from 0, and so many workers. A frame's bytes are
+/// put into the room. It fails only where memory does.
 #[tactic(auto, unfolding(crate::specs::Script::meaning_of))]
-fn meaning_of(
+pub fn meaning_of<'a>(
     alloc: Global,
     names: &[Name],
     workers: usize,
-    line: &[u8],
-) -> Result<Meaning, AllocError>
+    line: &'a [u8],
+    room: &'a mut Vec<u8>,
+) -> Result<Meaning<'a>, AllocError>
     ensures { IfOk result (λ meaning. meaning ≡ meaning_of names.now workers line.now) }
 {
     if line.len() > MOST_LINE || !is_ascii(line) {
@@ -367,67 +382,65 @@ fn meaning_of(
     if is_skipped(line) {
         return Ok(Meaning::Skipped);
     }
-    Ok(match step_of(alloc, names, workers, line)? {
+    Ok(match step_of(alloc, names, workers, line, room)? {
         Some(step) => Meaning::Runs(step),
         None => Meaning::Bad,
     })
 }
 
-fn numbered_steps(
+// Whether no line of a text is bad.
+fn check_lines(
     alloc: Global,
     names: &[Name],
     workers: usize,
     text: &[u8],
-) -> Result<Vec<Step>, ReadError<ScriptFault>>
+) -> Result<(), ReadError<ScriptFault>>
     requires { length text.now ≤ MOST_BYTES }
-    ensures { GivesUnlessMemory (λ steps. steps.items) result (steps_from names.now workers 1 (lines_of text.now)) }
+    ensures { IsCheckedAs result (steps_from names.now workers 1 (lines_of text.now)) }
 {
-    let mut steps = Vec::new(alloc);
+    let mut room = Vec::new(alloc);
     let mut rest = text;
     let mut number: usize = 1;
     while !rest.is_empty() {
         let (line, after) = first_line(rest);
-        match meaning_of(alloc, names, workers, line)? {
+        match meaning_of(alloc, names, workers, line, &mut room)? {
             Meaning::Skipped => {}
-            Meaning::Runs(step) => steps.push(step)?,
+            Meaning::Runs(_) => {}
             Meaning::Bad => return Err(ReadError::Fault(ScriptFault::Line(number))),
         }
         rest = after;
         number += 1;
     }
-    Ok(steps)
+    Ok(())
 }
 
-/// The steps of a script, for the tenants of these names, numbered from 0, and so many workers.
+/// Whether a text is a script, for the tenants of these names, numbered from 0, and so many workers.
 ///
 /// A script has at most [`MOST_BYTES`] bytes, else the fault is `Size`. Its lines end with a line
 /// feed each, which the last may lack, and are ASCII, of at most [`MOST_LINE`] bytes without it.
 /// Empty lines and those that begin with `#` are skipped. Any other is `load W TENANT TOKEN HEX`,
 /// `decide W NOW`, `answer W NOW HEX`, `answer W NOW fault`, `tick TENANT NOW` or `do TENANT NOW COMMAND`, with one space
 /// between two words; the fault `Line` has the number, from 1, of the first that is none of these.
-pub fn parse_script(
+pub fn check_script(
     alloc: Global,
     names: &[Name],
     workers: usize,
     text: &[u8],
-) -> Result<Vec<Step>, ReadError<ScriptFault>>
-    // What is read is what the lines say.
-    ensures found { IfOk result (λ steps. AreSteps names.now workers (lines_of text.now) steps.items) }
-    // What the lines say is read, unless memory runs out.
+) -> Result<(), ReadError<ScriptFault>>
+    // What is good has steps.
+    ensures found { OnOk result ((steps : List Step) × AreSteps names.now workers (lines_of text.now) steps) }
+    // What has steps is good, unless memory runs out.
     ensures only { (steps : List Step) → length text.now ≤ MOST_BYTES
-        → AreSteps names.now workers (lines_of text.now) steps
-        → GivesUnlessMemory (λ v. v.items) result (Ok steps) }
+        → AreSteps names.now workers (lines_of text.now) steps → IsCheckedAs result (Ok steps) }
     // A line that is named is the first bad one.
     ensures first_bad { (number : ℕ) → result ≡ Err (ReadError.Fault (ScriptFault.Line number))
         → IsFirstBad names.now workers (lines_of text.now) number }
     // A text is too long for a script before anything else is wrong with it.
     ensures size { (result ≡ Err (ReadError.Fault ScriptFault.Size)) ↔ (MOST_BYTES < length text.now) }
-    // Its steps name workers and tenants that are there.
-    ensures fit { IfOk result (λ steps. All (FitsIn workers (length names.now)) steps.items) }
-    ensures exact { GivesUnlessMemory (λ v. v.items) result (steps_of_script names.now workers text.now) }
+    ensures exact { IsCheckedAs result (steps_of_script names.now workers text.now) }
 {
     if text.len() > MOST_BYTES {
         return Err(ReadError::Fault(ScriptFault::Size));
     }
-    numbered_steps(alloc, names, workers, text)
+    check_lines(alloc, names, workers, text)
 }

@@ -105,13 +105,18 @@ fn write_some<W: Write + Device>(
 }
 
 /// Writes the text, all of it where no fault comes and a front of it in any case. A write that failed ends the writing.
-pub fn write_text<W: Write + Device>(writer: &mut W, text: &[u8]) -> Result<(), StreamFault>
+/// Before, the writer had failed that often at most.
+pub fn write_text<W: Write + Device>(
+    writer: &mut W,
+    text: &[u8],
+    before: u64,
+) -> Result<(), StreamFault>
+    requires unfailed { W.failure_count writer.old ≤ before }
     ensures whole { OnOk result (Appends (W.contents writer.old) (W.contents writer.new) text.now) }
     ensures front { AppendsFront text.now (W.contents writer.old) (W.contents writer.new) }
     ensures size { result ≢ Err StreamFault.Size }
-    ensures device { (result ≡ Err StreamFault.Device) ↔ (W.failure_count writer.old < W.failure_count writer.new) }
+    ensures device { (result ≡ Err StreamFault.Device) ↔ (before < W.failure_count writer.new) }
 {
-    let before = writer.failures();
     let mut done = 0;
     while done < text.len() {
         let (_, rest) = text.split_at(done);

@@ -12,6 +12,5 @@ loop-done-preserved g c =
     record {
       written = Appends-more _ _ _ c.args.text.now c.loop-done.done c.in_ok-done.field-0 c.loop-done.invariant.written (rw c.split_at.ensures.back at c.in_ok-done.ensures.taken);
       bound = search rules;
-      before = c.loop-done.invariant.before;
       unfailed = search rules;
     }

@@ -7,7 +7,6 @@ invariant-loop-done g l =
     record {
       written : Appends (g.W.Write.contents l.fn.writer) (g.W.Write.contents l.writer) (take l.done l.text);
       bound : l.done ≤ length l.text;
-      before : l.before ≡ g.W.Device.failure_count l.fn.writer;
       unfailed : g.W.Device.failure_count l.writer ≤ l.before;
     }
 

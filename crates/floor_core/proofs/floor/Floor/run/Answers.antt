@@ -8,7 +8,7 @@ pub loop-step-preserved : goal.loop-step-preserved
 loop-step-preserved c =
     let more = run_more (world_of c.args.self.now) (world_of c.loop-step.self) c.args.steps.now c.loop-step.step-index c.step-item.result c.loop-step.outputs.items c.loop-step-test.true c.step-item.is c.loop-step.invariant.told c.loop-step.invariant.world in
     record {
-      told = rw (c.push_reserved.ensures.items, c.in-Ok.ensures.items, c.in-Ok-step.ensures.output) more.0;
+      told = rw (c.push_reserved.ensures.items, c.in-Ok.ensures.items, c.output.ensures ∙ c.in-Ok-step.ensures.told) more.0;
       world = c.in-Ok-step.ensures.world ∙ more.1;
       count = grind (arith, common_steps);
       workers = c.step.ensures.workers ∙ c.loop-step.invariant.workers;

@@ -7,16 +7,16 @@ step-requires-clause-met c = met c.self.inside.parts c.self.invariant
 pub invariant_of-self : goal.invariant_of-self
 invariant_of-self c =
     (stepped c.open_holds.ensures c.calls.ensures c.self.inside.parts c.step.new.self c.args.step.now c.step.result c.self.invariant
-    (rw c.self.view_is c.requires.fits) c.step.ensures.asked c.step.ensures.output c.step.ensures.moved c.step.ensures.same).whole
+    (rw c.self.view_is c.requires.fits) c.step.ensures.asked c.step.ensures.told c.step.ensures.moved c.step.ensures.same).whole
 
-pub returns-clause-output : goal.returns-clause-output
-returns-clause-output c =
+pub returns-clause-told : goal.returns-clause-told
+returns-clause-told c =
     rw (← c.self.view_is)
     (stepped c.open_holds.ensures c.calls.ensures c.self.inside.parts c.step.new.self c.args.step.now c.step.result c.self.invariant
-    (rw c.self.view_is c.requires.fits) c.step.ensures.asked c.step.ensures.output c.step.ensures.moved c.step.ensures.same).output
+    (rw c.self.view_is c.requires.fits) c.step.ensures.asked c.step.ensures.told c.step.ensures.moved c.step.ensures.same).told
 
 pub returns-clause-world : goal.returns-clause-world
 returns-clause-world c =
     rw (← c.self.view_is)
     (stepped c.open_holds.ensures c.calls.ensures c.self.inside.parts c.step.new.self c.args.step.now c.step.result c.self.invariant
-    (rw c.self.view_is c.requires.fits) c.step.ensures.asked c.step.ensures.output c.step.ensures.moved c.step.ensures.same).world
+    (rw c.self.view_is c.requires.fits) c.step.ensures.asked c.step.ensures.told c.step.ensures.moved c.step.ensures.same).world

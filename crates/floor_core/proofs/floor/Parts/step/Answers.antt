@@ -4,8 +4,8 @@ use Rattle.tenant_core.specs.State.{State}
 use Rattle.floor_core.specs.Moves.{parts}
 use Rattle.floor_core.proofs.floor.Parts.step.Goals as goal
 
-pub returns-in-Tick-clause-output : goal.returns-in-Tick-clause-output
-returns-in-Tick-clause-output c = rw (← c.self.view_is, c.in-Tick.is, ← c.deref_mut-in-Tick.ensures.value) c.tick_on.ensures.output
+pub returns-in-Tick-clause-told : goal.returns-in-Tick-clause-told
+returns-in-Tick-clause-told c = rw (← c.self.view_is, c.in-Tick.is, ← c.deref_mut-in-Tick.ensures.value) c.tick_on.ensures.output
 
 pub returns-in-Tick-clause-moved : goal.returns-in-Tick-clause-moved
 returns-in-Tick-clause-moved c =

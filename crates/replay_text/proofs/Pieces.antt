@@ -1,0 +1,202 @@
+-- Lines of steps that are done and written one after the other.
+use Rattle.std.proofs.Common.{◌≡◌, ◌+◌, ◌≤◌, ◌^◌, ◌⊎◌, ℕ, List, [], ◌∷◌, ◌++◌, length, take, drop, Option, Some, None, Result, Ok, Err, refl, sym, ap, subst, ◌∙◌, append-nil, arith}
+use Rattle.std.specs.Prelude.{slice_index, OnOk}
+use Rattle.std.specs.Io.KnownBytes.{Appends}
+use Rattle.std.proofs.Math.Seq.{take-append_seam}
+use Rattle.std.proofs.lemmas.Grind.{flat_map-append}
+use Rattle.std.proofs.lemmas.List.{append_assoc, take-append-drop}
+use Rattle.floor_core.specs.FloorView.{FloorState, HasRoom}
+use Rattle.floor_core.specs.World.{World, AreOutputs, IsLeft}
+use Rattle.floor_core.specs.Worlds.{reply, after, replies, after_all}
+use Rattle.floor_core.specs.declared.step.Output.{Output}
+use Rattle.floor_core.specs.declared.step.Step.{Step}
+use Rattle.replay_text.specs.Printed.{line_of, printed_lines}
+use Rattle.replay_text.specs.Replay.{ArePrinted, Prints, WritesLines, WritesSome}
+use Rattle.replay_text.specs.Script.{meaning_of, steps_in}
+use Rattle.replay_text.specs.Streams.{AppendsFront, WritesUpTo}
+use Rattle.replay_text.specs.declared.script.Meaning.TheVariants.{Skipped, Runs}
+
+-- ---- the laws of the floor
+
+abbrev pub OutputsLaw : Type 0
+OutputsLaw = (world between : World) (steps more : List Step) (xs ys : List Output) → AreOutputs world steps xs → IsLeft world steps xs between → AreOutputs between more ys
+    → AreOutputs world (steps ++ more) (xs ++ ys)
+
+abbrev pub LeftLaw : Type 0
+LeftLaw = (world between last : World) (steps more : List Step) (xs ys : List Output) → AreOutputs world steps xs → IsLeft world steps xs between → AreOutputs between more ys
+    → IsLeft between more ys last → IsLeft world (steps ++ more) (xs ++ ys) last
+
+abbrev pub RepliesLaw : Type 0
+RepliesLaw = (world : World) (steps : List Step) → AreOutputs world steps (replies world steps)
+
+abbrev pub AfterLaw : Type 0
+AfterLaw = (world : World) (steps : List Step) → IsLeft world steps (replies world steps) (after_all world steps)
+
+-- both pairs
+pub record Laws : Type 0 where
+  pub outputs : OutputsLaw
+  pub left : LeftLaw
+  pub replies : RepliesLaw
+  pub after : AfterLaw
+
+-- ---- what is printed
+
+-- no step, and no line
+pub prints_none : Laws → (names : List (List ℕ)) (w : World) (text : List ℕ) → Prints names [] w w text text
+prints_none laws names w text = ([], laws.replies w [], laws.after w [], sym (append-nil text))
+
+-- one step
+pub prints_one : RepliesLaw → AfterLaw → (names : List (List ℕ)) (step : Step) (w m : World) (output : Output) (a b : List ℕ) → output ≡ reply w step → m ≡ after w step → b ≡ a ++ line_of names output
+    → Prints names (step ∷ []) w m a b
+prints_one outputs left names step w m output a b is world printed = (
+  reply w step ∷ [],
+  outputs w (step ∷ []),
+  subst (λ (x : World). IsLeft w (step ∷ []) (reply w step ∷ []) x) (sym world) (left w (step ∷ [])),
+  printed ∙ ap (λ (o : Output). a ++ line_of names o) is ∙ ap (λ t. a ++ t) (sym (append-nil (line_of names (reply w step)))),
+)
+
+-- lines behind lines
+pub prints_more : Laws → (names : List (List ℕ)) (steps more : List Step) (w m n : World) (a b c : List ℕ) → Prints names steps w m a b → Prints names more m n b c
+    → Prints names (steps ++ more) w n a c
+prints_more laws names steps more w m n a b c p q =
+    let lines : c ≡ a ++ printed_lines names (p.0 ++ q.0) =
+    q.3 ∙ (ap (λ t. t ++ printed_lines names q.0) p.3
+    ∙ (append_assoc a (printed_lines names p.0) (printed_lines names q.0)
+    ∙ ap (λ t. a ++ t) (sym (flat_map-append (line_of names) p.0 q.0)))) in
+    (p.0 ++ q.0, laws.outputs w m steps more p.0 q.0 p.1 p.2 q.1, laws.left w m n steps more p.0 q.0 p.1 p.2 q.1 q.2, lines)
+
+-- a text may stand before both
+pub prints_behind : (names : List (List ℕ)) (steps : List Step) (w m : World) (front a b : List ℕ) → Prints names steps w m a b → Prints names steps w m (front ++ a) (front ++ b)
+prints_behind names steps w m front a b p = (p.0, p.1, p.2, ap (λ t. front ++ t) p.3 ∙ sym (append_assoc front a (printed_lines names p.0)))
+
+-- steps have lines in every world
+pub prints_all : Laws → (names : List (List ℕ)) (steps : List Step) (w : World) (text : List ℕ) → Prints names steps w (after_all w steps) text (text ++ printed_lines names (replies w steps))
+prints_all laws names steps w text = (replies w steps, laws.replies w steps, laws.after w steps, refl)
+
+-- ---- how far the steps of a list are done
+
+-- steps of a list that are done, and lines of them
+abbrev pub AreSoFar : List (List ℕ) → World → World → List Step → List Step → List ℕ → Type 0
+AreSoFar names before now steps rest text = (done : List Step) × (done ++ rest ≡ steps) × Prints names done before now [] text
+
+-- none is done
+pub none_so_far : Laws → (names : List (List ℕ)) (w : World) (steps : List Step) → AreSoFar names w w steps steps []
+none_so_far laws names w steps = ([], refl, prints_none laws names w [])
+
+-- some more are
+pub more_so_far : Laws → (names : List (List ℕ)) (steps rest piece behind : List Step) (w m n : World) (text longer : List ℕ) → piece ++ behind ≡ rest
+    → AreSoFar names w m steps rest text → Prints names piece m n text longer → AreSoFar names w n steps behind longer
+more_so_far laws names steps rest piece behind w m n text longer split far more = (
+  far.0 ++ piece,
+  append_assoc far.0 piece behind ∙ (ap (λ ss. far.0 ++ ss) split ∙ far.1),
+  prints_more laws names far.0 piece w m n [] text longer far.2 more,
+)
+
+-- the lines so far are the front of all lines
+pub all_printed : Laws → (names : List (List ℕ)) (w m : World) (steps rest : List Step) (text : List ℕ) → AreSoFar names w m steps rest text
+    → (more : List ℕ) × ArePrinted names w steps (text ++ more)
+all_printed laws names w m steps rest text far =
+    let all = prints_more laws names far.0 rest w m (after_all m rest) [] text _ far.2 (prints_all laws names rest m text) in
+    (printed_lines names (replies m rest), subst (λ (ss : List Step). ArePrinted names w ss (text ++ printed_lines names (replies m rest))) far.1 (all.0, all.1, all.3))
+
+-- where none is left, they are all
+pub none_left : (names : List (List ℕ)) (w m : World) (steps : List Step) (text : List ℕ) → AreSoFar names w m steps [] text → ArePrinted names w steps text
+none_left names w m steps text far =
+    subst (λ (ss : List Step). ArePrinted names w ss text) (sym (append-nil far.0) ∙ far.1) (far.2.0, far.2.1, far.2.3)
+
+-- ---- what is written
+
+Appends-both : (old between new : Option (List ℕ)) (xs ys : List ℕ) → Appends old between xs → Appends between new ys → Appends old new (xs ++ ys)
+Appends-both None between new xs ys a b = tt
+Appends-both (Some os) None new xs ys a b = absurd a
+Appends-both (Some os) (Some bs) None xs ys a b = absurd b
+Appends-both (Some os) (Some bs) (Some ns) xs ys a b = b ∙ ap (λ t. t ++ ys) a ∙ append_assoc os xs ys
+
+-- a text of which a front was written
+front_of : (old new : Option (List ℕ)) (text front rest : List ℕ) → text ≡ front ++ rest → Appends old new front → AppendsFront text old new
+front_of old new text front rest is done =
+    (length front, subst (Appends old new) (sym (ap (take (length front)) is ∙ take-append_seam front rest)) done)
+
+-- some lines were written, and others are to be
+abbrev pub Far : List (List ℕ) → World → World → List Step → List Step → List ℕ → Option (List ℕ) → Option (List ℕ) → Type 0
+Far names before now steps rest text old new = (written : List ℕ) × Appends old new written × AreSoFar names before now steps rest (written ++ text)
+
+-- more lines are to be written
+pub farther : Laws → (names : List (List ℕ)) (steps rest piece behind : List Step) (w m n : World) (text longer : List ℕ) (old new : Option (List ℕ)) → piece ++ behind ≡ rest
+    → Far names w m steps rest text old new → Prints names piece m n text longer → Far names w n steps behind longer old new
+farther laws names steps rest piece behind w m n text longer old new split far more =
+    (far.0, far.1, more_so_far laws names steps rest piece behind w m n (far.0 ++ text) (far.0 ++ longer) split far.2 (prints_behind names piece m n far.0 text longer more))
+
+-- some of those that were to be written were
+pub written_farther : (names : List (List ℕ)) (w m : World) (steps rest : List Step) (text left : List ℕ) (old between new : Option (List ℕ)) → Far names w m steps rest text old between → WritesUpTo text left between new
+    → Far names w m steps rest left old new
+written_farther names w m steps rest text left old between new far more = (
+  far.0 ++ more.0,
+  Appends-both old between new far.0 more.0 far.1 more.2,
+  subst (AreSoFar names w m steps rest) (ap (λ t. far.0 ++ t) more.1 ∙ sym (append_assoc far.0 more.0 left)) far.2,
+)
+
+-- nothing was done
+pub not_far : Laws → (names : List (List ℕ)) (w : World) (steps : List Step) (old : Option (List ℕ)) → Far names w w steps steps [] old old
+not_far laws names w steps old = ([], by old, none_so_far laws names w steps)
+  where
+    by : (known : Option (List ℕ)) → Appends known known []
+    by None = tt
+    by (Some xs) = sym (append-nil xs)
+
+-- a front of all lines was written, however little of the last text
+pub some_written : Laws → (names : List (List ℕ)) (w m : World) (steps rest : List Step) (text : List ℕ) (old between new : Option (List ℕ)) → Far names w m steps rest text old between → AppendsFront text between new
+    → WritesSome names w steps old new
+some_written laws names w m steps rest text old between new far front =
+    let all = all_printed laws names w m steps rest (far.0 ++ text) far.2 in
+    let here : List ℕ = take front.0 text in
+    let behind : List ℕ = drop front.0 text ++ all.0 in
+    let split : (far.0 ++ text) ++ all.0 ≡ (far.0 ++ here) ++ behind =
+    ap (λ t. (far.0 ++ t) ++ all.0) (sym (take-append-drop front.0 text))
+    ∙ (ap (λ t. t ++ all.0) (sym (append_assoc far.0 here (drop front.0 text)))
+    ∙ append_assoc (far.0 ++ here) (drop front.0 text) all.0) in
+    ((far.0 ++ text) ++ all.0, all.1, front_of old new _ (far.0 ++ here) behind split (Appends-both old between new far.0 here far.1 front.1))
+
+-- and what was written stays written
+pub written_before : Laws → (names : List (List ℕ)) (w m : World) (steps rest : List Step) (text : List ℕ) (old new : Option (List ℕ)) → Far names w m steps rest text old new → WritesSome names w steps old new
+written_before laws names w m steps rest text old new far =
+    let all = all_printed laws names w m steps rest (far.0 ++ text) far.2 in
+    ((far.0 ++ text) ++ all.0, all.1, front_of old new _ far.0 (text ++ all.0) (append_assoc far.0 text all.0) far.1)
+
+-- all lines were written
+pub all_written : (names : List (List ℕ)) (w m : World) (steps : List Step) (text : List ℕ) (old between new : Option (List ℕ)) → Far names w m steps [] text old between → Appends between new text
+    → WritesLines names w steps old new
+all_written names w m steps text old between new far last =
+    (far.0 ++ text, none_left names w m steps (far.0 ++ text) far.2, Appends-both old between new far.0 text far.1 last)
+
+-- unless a write failed
+pub all_written_unless : {E : Type 0} → (names : List (List ℕ)) (w m : World) (steps : List Step) (text : List ℕ) (old between new : Option (List ℕ)) (r : Result (Unit {0}) E) → Far names w m steps [] text old between → OnOk r (Appends between new text)
+    → OnOk r (WritesLines names w steps old new)
+all_written_unless names w m steps text old between new (Ok done) far last = all_written names w m steps text old between new far last
+all_written_unless names w m steps text old between new (Err e) far last = tt
+
+-- ---- numbers of calls
+
+-- a floor with room for more calls has room for fewer
+pub room_for_fewer : (f : FloorState) (few many : ℕ) → few ≤ many → HasRoom f many → HasRoom f few
+room_for_fewer f few many less room = λ t within. omega (arith, room t within)
+
+-- a step takes one number at most
+pub room_behind : (f g : FloorState) → length g.books ≡ length f.books → ((t : ℕ) → slice_index g.next_calls t ≤ slice_index f.next_calls t + 1) → (n : ℕ) → HasRoom f (1 + n) → HasRoom g n
+room_behind f g same counted n room = λ t within. omega (arith, counted t, room t (omega (arith, same)))
+
+-- one step was told and printed, unless memory was refused
+pub prints_told : {E : Type 0} → RepliesLaw → AfterLaw → (names : List (List ℕ)) (step : Step) (w m : World) (output : Output) (r : Result (Unit {0}) E) (a b : List ℕ) → output ≡ reply w step → m ≡ after w step
+    → OnOk r (b ≡ a ++ line_of names output) → OnOk r (Prints names (step ∷ []) w m a b)
+prints_told outputs left names step w m output (Ok done) a b is world printed = prints_one outputs left names step w m output a b is world printed
+prints_told outputs left names step w m output (Err e) a b is world printed = tt
+
+-- the step of a line
+pub prints_line : (names : List (List ℕ)) (workers : ℕ) (line : List ℕ) (step : Step) (w m : World) (a b : List ℕ) → meaning_of names workers line ≡ Runs step → Prints names (step ∷ []) w m a b
+    → Prints names (steps_in names workers (line ∷ [])) w m a b
+prints_line names workers line step w m a b e p = rw e p
+
+-- a line that is skipped has none
+pub prints_skipped : RepliesLaw → AfterLaw → (names : List (List ℕ)) (workers : ℕ) (line : List ℕ) (w : World) (a : List ℕ) → meaning_of names workers line ≡ Skipped
+    → Prints names (steps_in names workers (line ∷ [])) w w a a
+prints_skipped outputs left names workers line w a e = rw e ([], outputs w [], left w [], sym (append-nil a))

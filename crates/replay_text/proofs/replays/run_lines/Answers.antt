@@ -1,0 +1,90 @@
+use Rattle.std.proofs.Common.{◌≡◌, ◌≤◌, ◌+◌, List, [], ◌∷◌, ◌++◌, length, refl, sym, ap, subst, ◌∙◌, arith, Result}
+use Rattle.std.proofs.lemmas.List.{nil_from_length}
+use Rattle.std.proofs.lemmas.Bool.{eqb-true}
+use Rattle.floor_core.specs.FloorView.{world_of}
+use Rattle.floor_core.specs.declared.step.Step.{Step}
+use Rattle.replay_text.specs.Script.{lines_of, steps_in, NoneIsBad}
+use Rattle.replay_text.proofs.Pieces.{Laws, Far, not_far, farther, written_farther, some_written, written_before, all_written_unless, room_for_fewer}
+use Rattle.replay_text.proofs.Scripts.{steps_behind}
+use Rattle.replay_text.proofs.replays.run_lines.Goals as goal
+
+pub loop-rest-init : goal.loop-rest-init
+loop-rest-init g c =
+    let laws : Laws = record { outputs = c.one_after_the_other.ensures.outputs; left = c.one_after_the_other.ensures.left; replies = c.outputs_are_there.ensures.outputs; after = c.outputs_are_there.ensures.left } in
+    let steps : List Step = steps_in c.args.names.now c.args.workers (lines_of c.args.script.now) in
+    record {
+      far = subst (λ t. Far c.args.names.now (world_of c.args.floor.now) (world_of c.args.floor.now) steps steps t (g.W.Write.contents c.args.writer.now) (g.W.Write.contents c.args.writer.now)) (sym c.new-text.ensures.items)
+          (not_far laws c.args.names.now (world_of c.args.floor.now) steps (g.W.Write.contents c.args.writer.now));
+      good = c.requires.good;
+      workers = c.requires.workers;
+      tenants = c.requires.tenants;
+      room = c.requires.room;
+      unfailed = c.requires.unfailed;
+    }
+
+pub run_line-requires-clause-good : goal.run_line-requires-clause-good
+run_line-requires-clause-good g c = (subst (NoneIsBad c.args.names.now c.args.workers) c.first_line.ensures.value c.loop-rest.invariant.good).0
+
+pub run_line-requires-clause-room : goal.run_line-requires-clause-room
+run_line-requires-clause-room g c = room_for_fewer c.loop-rest.floor 1 (length c.loop-rest.rest.now) (omega (arith, c.first_line.ensures.shorter)) c.loop-rest.invariant.room
+
+pub returns-in_default-clause-front : goal.returns-in_default-clause-front
+returns-in_default-clause-front g c =
+    let laws : Laws = record { outputs = c.one_after_the_other.ensures.outputs; left = c.one_after_the_other.ensures.left; replies = c.outputs_are_there.ensures.outputs; after = c.outputs_are_there.ensures.left } in
+    written_before laws c.args.names.now (world_of c.args.floor.now) (world_of c.loop-rest.floor) (steps_in c.args.names.now c.args.workers (lines_of c.args.script.now)) (steps_in c.args.names.now c.args.workers (lines_of c.loop-rest.rest.now)) c.loop-rest.text.items
+    (g.W.Write.contents c.args.writer.now) (g.W.Write.contents c.loop-rest.writer) c.loop-rest.invariant.far
+
+pub returns-in_err-write_if_long-clause-front : goal.returns-in_err-write_if_long-clause-front
+returns-in_err-write_if_long-clause-front g c =
+    let laws : Laws = record { outputs = c.one_after_the_other.ensures.outputs; left = c.one_after_the_other.ensures.left; replies = c.outputs_are_there.ensures.outputs; after = c.outputs_are_there.ensures.left } in
+    let names = c.args.names.now in
+    let workers = c.args.workers in
+    let old = g.W.Write.contents c.args.writer.now in
+    let between = g.W.Write.contents c.loop-rest.writer in
+    let steps : List Step = steps_in names workers (lines_of c.args.script.now) in
+    let rest : List Step = steps_in names workers (lines_of c.loop-rest.rest.now) in
+    let piece : List Step = steps_in names workers (c.first_line.result.0.now ∷ []) in
+    let behind : List Step = steps_in names workers (lines_of c.first_line.result.1.now) in
+    let split : piece ++ behind ≡ rest = steps_behind names workers c.first_line.result.0.now (lines_of c.first_line.result.1.now) ∙ ap (steps_in names workers) (sym c.first_line.ensures.value) in
+    let far : Far names (world_of c.args.floor.now) (world_of c.run_line.new.floor) steps behind c.run_line.new.text.items old between =
+    farther laws names steps rest piece behind (world_of c.args.floor.now) (world_of c.loop-rest.floor) (world_of c.run_line.new.floor) c.loop-rest.text.items c.run_line.new.text.items old between split c.loop-rest.invariant.far c.in-Ok.ensures.printed in
+    some_written laws names (world_of c.args.floor.now) (world_of c.run_line.new.floor) steps behind c.run_line.new.text.items old between (g.W.Write.contents c.write_if_long.new.writer) far c.write_if_long.ensures.front
+
+pub loop-rest-preserved : goal.loop-rest-preserved
+loop-rest-preserved g c =
+    let laws : Laws = record { outputs = c.one_after_the_other.ensures.outputs; left = c.one_after_the_other.ensures.left; replies = c.outputs_are_there.ensures.outputs; after = c.outputs_are_there.ensures.left } in
+    let names = c.args.names.now in
+    let workers = c.args.workers in
+    let old = g.W.Write.contents c.args.writer.now in
+    let between = g.W.Write.contents c.loop-rest.writer in
+    let steps : List Step = steps_in names workers (lines_of c.args.script.now) in
+    let rest : List Step = steps_in names workers (lines_of c.loop-rest.rest.now) in
+    let piece : List Step = steps_in names workers (c.first_line.result.0.now ∷ []) in
+    let behind : List Step = steps_in names workers (lines_of c.first_line.result.1.now) in
+    let split : piece ++ behind ≡ rest = steps_behind names workers c.first_line.result.0.now (lines_of c.first_line.result.1.now) ∙ ap (steps_in names workers) (sym c.first_line.ensures.value) in
+    let far : Far names (world_of c.args.floor.now) (world_of c.run_line.new.floor) steps behind c.run_line.new.text.items old between =
+    farther laws names steps rest piece behind (world_of c.args.floor.now) (world_of c.loop-rest.floor) (world_of c.run_line.new.floor) c.loop-rest.text.items c.run_line.new.text.items old between split c.loop-rest.invariant.far c.in-Ok.ensures.printed in
+    record {
+      far = written_farther names (world_of c.args.floor.now) (world_of c.run_line.new.floor) steps behind c.run_line.new.text.items c.write_if_long.new.text.items old between (g.W.Write.contents c.write_if_long.new.writer) far c.in_ok-write_if_long.ensures.written;
+      good = (subst (NoneIsBad names workers) c.first_line.ensures.value c.loop-rest.invariant.good).1;
+      workers = c.run_line.ensures.workers ∙ c.loop-rest.invariant.workers;
+      tenants = c.run_line.ensures.tenants ∙ c.loop-rest.invariant.tenants;
+      room = c.run_line.ensures.room (length c.first_line.result.1.now) (room_for_fewer c.loop-rest.floor (1 + length c.first_line.result.1.now) (length c.loop-rest.rest.now) (omega (arith, c.first_line.ensures.shorter)) c.loop-rest.invariant.room);
+      unfailed = grind arith;
+    }
+
+pub returns-clause-written : goal.returns-clause-written
+returns-clause-written g c =
+    let names = c.args.names.now in
+    let workers = c.args.workers in
+    let none : c.loop-rest.rest.now ≡ [] = nil_from_length _ (eqb-true _ _ (sym c.loop-rest-test.ensures)) in
+    let steps : List Step = steps_in names workers (lines_of c.args.script.now) in
+    let far = subst (λ t. Far names (world_of c.args.floor.now) (world_of c.loop-rest.floor) steps (steps_in names workers (lines_of t)) c.loop-rest.text.items (g.W.Write.contents c.args.writer.now) (g.W.Write.contents c.loop-rest.writer)) none c.loop-rest.invariant.far in
+    all_written_unless names (world_of c.args.floor.now) (world_of c.loop-rest.floor) steps c.loop-rest.text.items (g.W.Write.contents c.args.writer.now) (g.W.Write.contents c.loop-rest.writer) (g.W.Write.contents c.write_text.new.writer) c.write_text.result far
+    (rw c.as_slice.ensures.value at c.write_text.ensures.whole)
+
+pub returns-clause-front : goal.returns-clause-front
+returns-clause-front g c =
+    let laws : Laws = record { outputs = c.one_after_the_other.ensures.outputs; left = c.one_after_the_other.ensures.left; replies = c.outputs_are_there.ensures.outputs; after = c.outputs_are_there.ensures.left } in
+    some_written laws c.args.names.now (world_of c.args.floor.now) (world_of c.loop-rest.floor) (steps_in c.args.names.now c.args.workers (lines_of c.args.script.now)) (steps_in c.args.names.now c.args.workers (lines_of c.loop-rest.rest.now)) c.loop-rest.text.items
+    (g.W.Write.contents c.args.writer.now) (g.W.Write.contents c.loop-rest.writer) (g.W.Write.contents c.write_text.new.writer) c.loop-rest.invariant.far (rw c.as_slice.ensures.value at c.write_text.ensures.front)
