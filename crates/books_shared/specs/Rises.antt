@@ -1,14 +1,11 @@
 -- By how much a call raises the counts of a worker and the number of a book.
 use Rattle.std.specs.Prelude.{ℕ, ◌+◌, ◌≤◌, Option, Some, None, Result, Ok, Err, ◌==◌, if◌then◌else◌}
-use Rattle.ilp_view.specs.Reading.{prepare_at}
-use Rattle.tenant_core.specs.State.{State}
 use Rattle.tenant_core.specs.declared.command.Answered.{Answered}
 use Rattle.tenant_core.specs.declared.command.Answered.TheVariants.{Done, Balances, Rolled}
 use Rattle.tenant_core.specs.declared.faults.BookFault.{BookFault}
 use Rattle.tenant_core.specs.declared.faults.CommandFault.{CommandFault}
-use Rattle.tenant_core.specs.declared.verdict.Verdict.{Verdict}
-use Rattle.tenant_core.specs.declared.verdict.Verdict.TheVariants.{Unknown, NoRoom}
-use Rattle.floor_core.specs.Work.{Job, packet_verdict}
+use Rattle.tenant_core.specs.declared.journal.Record.{Record}
+use Rattle.floor_core.specs.Work.{Called}
 use Rattle.floor_core.specs.declared.parts.Turn.{Turn}
 use Rattle.floor_core.specs.declared.parts.Turn.TheVariants.{Stranger, Reply}
 use Rattle.books_shared.specs.declared.rise.Rise.{Rise}
@@ -35,37 +32,25 @@ pub record IsSmall (rise : Rise) : Type 0 where
   pub strangers : rise.strangers ≤ 1
   pub full : rise.full ≤ 1
 
--- ---- a decide
+-- ---- a decide, and an answer
 
--- the rise that a verdict brings, if there was one
-abbrev pub rise_of_verdict : Option Verdict → Rise
-rise_of_verdict None = nothing
-rise_of_verdict (Some Unknown) = a_stranger
-rise_of_verdict (Some NoRoom) = a_full_journal
-rise_of_verdict (Some v) = an_entry
+-- how many entries a record is that was made, if one was
+abbrev pub entries_of : Option Record → ℕ
+entries_of None = 0
+entries_of (Some r) = 1
 
--- the verdict of a decide of that call, if the book gives one
-abbrev pub decide_verdict : Job → State → ℕ → Option Verdict
-decide_verdict (Job.Carries tenant token frame) s now =
-    if s.opening.tenant == tenant then packet_verdict s token (prepare_at frame) now else None
-decide_verdict _ s now = None
-
--- the rise that a decide brings
-abbrev pub decide_rise : Job → State → ℕ → Rise
-decide_rise job s now = rise_of_verdict (decide_verdict job s now)
-
--- the same, by the turn and the number of entries
+-- the rise that a turn brings, with so many entries: a token that is no peer's, and a packet whose sender is told though no
+-- entry was made of it, are counted where they come
 abbrev pub rise_of_turn : Turn → ℕ → Rise
 rise_of_turn Stranger entries = record { entries = entries; strangers = 1; full = 0 }
 rise_of_turn Reply entries = record { entries = entries; strangers = 0; full = if entries == 0 then 1 else 0 }
 rise_of_turn _ entries = record { entries = entries; strangers = 0; full = 0 }
 
--- ---- other calls
+-- the rise that a call of a slot brings
+abbrev pub rise_of : Called → Rise
+rise_of c = rise_of_turn c.turn (entries_of c.made)
 
--- the rise that an answer brings: an entry where it settled a packet
-abbrev pub answer_rise : Turn → Rise
-answer_rise Reply = an_entry
-answer_rise _ = nothing
+-- ---- other calls
 
 -- the rise that a tick brings: an entry unless it is refused
 abbrev pub tick_rise : Result ℕ BookFault → Rise

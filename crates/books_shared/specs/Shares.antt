@@ -47,10 +47,6 @@ raised rise tenant s =
       room = s.room - 1;
     }
 
--- the share after a call that counts nothing
-abbrev pub used_up : ShareView → ShareView
-used_up s = record s { room = s.room - 1 }
-
 -- ---- room
 
 -- a count that is full

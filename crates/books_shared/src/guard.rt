@@ -44,15 +44,15 @@ impl<'a> Guard<'a> {
 
 impl Guard<'_> {
     ghost use Rattle.std.specs.Prelude.{◌≡◌, ◌+◌, ◌<◌, ◌^◌, length};
-    ghost use Rattle.floor_core.specs.Work.{decide_turn, decide_work, decide_book, answer_turn, answer_work, answer_book};
-    ghost use Rattle.floor_core.specs.Work.{tenant_in};
+    ghost use Rattle.floor_core.specs.Work.{decide_call, answer_call};
+    ghost use Rattle.tenant_core.specs.State.{recorded};
     ghost use Rattle.tenant_core.specs.Answer.{tick_result, ticked};
     ghost use Rattle.tenant_core.specs.Governed.{IsGoverned};
     ghost use Rattle.tenant_core.specs.Sound.{IsSound};
     ghost use Rattle.books_shared.specs.Kept.{IsKept, number_of};
-    ghost use Rattle.books_shared.specs.Rises.{answer_rise, command_rise, decide_rise, entries_closed, tick_rise};
+    ghost use Rattle.books_shared.specs.Rises.{command_rise, entries_closed, rise_of, tick_rise};
     ghost use Rattle.books_shared.specs.Shares.{raised};
-    ghost use Rattle.books_shared.specs.Turns.{IsCounted, IsSettled, IsLeft, IsEnded};
+    ghost use Rattle.books_shared.specs.Turns.{IsLeft, IsEnded};
 
     // What the type keeps.
     pub(crate) fn is_kept(&self)
@@ -86,17 +86,15 @@ impl Guard<'_> {
     /// The share has room for a call, which this one uses up.
     pub fn decide(&mut self, share: &mut Share, slot: &mut Slot, now: Moment) -> Turn
         requires room { 0 < share.old.room }
-        ensures turn { result ≡ decide_turn slot.old.job self.old.state now }
-        ensures slot { slot.new ≡ decide_work slot.old self.old.state now }
-        ensures book { self.new.state ≡ decide_book slot.old.job self.old.state now }
+        ensures turn { result ≡ (decide_call slot.old self.old.state now).turn }
+        ensures slot { slot.new ≡ (decide_call slot.old self.old.state now).work }
+        ensures book { self.new.state ≡ recorded self.old.state (decide_call slot.old self.old.state now).made }
         ensures closed { self.new.closed ≡ self.old.closed }
         ensures share { share.new
-            ≡ raised (decide_rise slot.old.job self.old.state now) self.old.state.opening.tenant share.old }
+            ≡ raised (rise_of (decide_call slot.old self.old.state now)) self.old.state.opening.tenant share.old }
         ensures number { number_of self.new
-            ≡ number_of self.old + (decide_rise slot.old.job self.old.state now).entries }
-
-        // What is known from the turn alone.
-        ensures counted { IsCounted result (tenant_in slot.old.job) share.old share.new }
+            ≡ number_of self.old + (rise_of (decide_call slot.old self.old.state now)).entries }
+        // What is known of the slot from the turn alone.
         ensures left { IsLeft result slot.old slot.new }
     {
         self.kept.is_kept();
@@ -112,15 +110,15 @@ impl Guard<'_> {
     /// The share has room for a call, which this one uses up.
     pub fn answer(&mut self, share: &mut Share, slot: &mut Slot, now: Moment, got: Got) -> Turn
         requires room { 0 < share.old.room }
-        ensures turn { result ≡ answer_turn slot.old self.old.state now got }
-        ensures slot { slot.new ≡ answer_work slot.old self.old.state now got }
-        ensures book { self.new.state ≡ answer_book slot.old self.old.state now got }
+        ensures turn { result ≡ (answer_call slot.old self.old.state now got).turn }
+        ensures slot { slot.new ≡ (answer_call slot.old self.old.state now got).work }
+        ensures book { self.new.state ≡ recorded self.old.state (answer_call slot.old self.old.state now got).made }
         ensures closed { self.new.closed ≡ self.old.closed }
-        ensures share { share.new ≡ raised (answer_rise result) self.old.state.opening.tenant share.old }
-        ensures number { number_of self.new ≡ number_of self.old + (answer_rise result).entries }
-
-        // What is known from the turn alone.
-        ensures counted { IsSettled result (tenant_in slot.old.job) share.old share.new }
+        ensures share { share.new
+            ≡ raised (rise_of (answer_call slot.old self.old.state now got)) self.old.state.opening.tenant share.old }
+        ensures number { number_of self.new
+            ≡ number_of self.old + (rise_of (answer_call slot.old self.old.state now got)).entries }
+        // What is known of the slot from the turn alone.
         ensures left { IsEnded result slot.old slot.new }
     {
         self.kept.is_kept();

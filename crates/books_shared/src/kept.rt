@@ -1,13 +1,14 @@
 //! What lies under a tenant's lock.
 
 ghost use Rattle.std.specs.Prelude.{◌≡◌, ◌+◌, ◌≤◌, length};
-ghost use Rattle.floor_core.specs.Work.{decide_turn, decide_work, decide_book, answer_turn, answer_work, answer_book};
+ghost use Rattle.floor_core.specs.Work.{decide_call, answer_call};
 ghost use Rattle.tenant_core.specs.Answer.{tick_result, ticked};
 ghost use Rattle.tenant_core.specs.Governed.{IsGoverned};
-ghost use Rattle.books_shared.specs.Rises.{answer_rise, command_rise, decide_rise, entries_closed, tick_rise};
+ghost use Rattle.tenant_core.specs.State.{recorded};
+ghost use Rattle.books_shared.specs.Rises.{command_rise, entries_closed, rise_of, tick_rise};
 ghost use Rattle.books_shared.specs.Kept.{most_entries};
 
-use crate::rise::{Rise, answer_rise, command_rise, entries_closed, rise_of_turn, tick_rise};
+use crate::rise::{Rise, command_rise, entries_closed, rise_of_turn, tick_rise};
 use floor_core::{Got, Slot, Turn};
 use ilp_addr::Moment;
 use std::alloc::Global;
@@ -39,11 +40,12 @@ impl Model for Kept {
 
 impl Kept {
     ghost use Rattle.std.specs.Prelude.{◌≡◌, ◌+◌, ◌<◌, ◌^◌, length};
-    ghost use Rattle.floor_core.specs.Work.{decide_turn, decide_work, decide_book, answer_turn, answer_work, answer_book};
+    ghost use Rattle.floor_core.specs.Work.{decide_call, answer_call};
     ghost use Rattle.tenant_core.specs.Answer.{tick_result, ticked};
     ghost use Rattle.tenant_core.specs.Governed.{IsGoverned};
+    ghost use Rattle.tenant_core.specs.State.{recorded};
     ghost use Rattle.books_shared.specs.Kept.{IsKept, number_of};
-    ghost use Rattle.books_shared.specs.Rises.{answer_rise, command_rise, decide_rise, entries_closed, tick_rise};
+    ghost use Rattle.books_shared.specs.Rises.{command_rise, entries_closed, rise_of, tick_rise};
 
     /// A book in which nothing has happened.
     pub fn new(book: Book) -> Kept
@@ -87,11 +89,11 @@ impl Kept {
 
     /// What `Slot::decide` does, and what it adds.
     pub fn decide(&mut self, slot: &mut Slot, now: Moment) -> (Turn, Rise)
-        ensures turn { result.0 ≡ decide_turn slot.old.job self.old.state now }
-        ensures slot { slot.new ≡ decide_work slot.old self.old.state now }
-        ensures book { self.new.state ≡ decide_book slot.old.job self.old.state now }
+        ensures turn { result.0 ≡ (decide_call slot.old self.old.state now).turn }
+        ensures slot { slot.new ≡ (decide_call slot.old self.old.state now).work }
+        ensures book { self.new.state ≡ recorded self.old.state (decide_call slot.old self.old.state now).made }
         ensures closed { self.new.closed ≡ self.old.closed }
-        ensures rise { result.1 ≡ decide_rise slot.old.job self.old.state now }
+        ensures rise { result.1 ≡ rise_of (decide_call slot.old self.old.state now) }
         ensures number { number_of self.new ≡ number_of self.old + result.1.entries }
     {
         decide_in(&mut self.book, slot, now)
@@ -99,11 +101,11 @@ impl Kept {
 
     /// What `Slot::answer` does, and what it adds.
     pub fn answer(&mut self, slot: &mut Slot, now: Moment, got: Got) -> (Turn, Rise)
-        ensures turn { result.0 ≡ answer_turn slot.old self.old.state now got }
-        ensures slot { slot.new ≡ answer_work slot.old self.old.state now got }
-        ensures book { self.new.state ≡ answer_book slot.old self.old.state now got }
+        ensures turn { result.0 ≡ (answer_call slot.old self.old.state now got).turn }
+        ensures slot { slot.new ≡ (answer_call slot.old self.old.state now got).work }
+        ensures book { self.new.state ≡ recorded self.old.state (answer_call slot.old self.old.state now got).made }
         ensures closed { self.new.closed ≡ self.old.closed }
-        ensures rise { result.1 ≡ answer_rise result.0 }
+        ensures rise { result.1 ≡ rise_of (answer_call slot.old self.old.state now got) }
         ensures number { number_of self.new ≡ number_of self.old + result.1.entries }
     {
         answer_in(&mut self.book, slot, now, got)
@@ -142,10 +144,10 @@ impl Kept {
 }
 
 fn decide_in(book: &mut Book, slot: &mut Slot, now: Moment) -> (Turn, Rise)
-    ensures turn { result.0 ≡ decide_turn slot.old.job book.old now }
-    ensures slot { slot.new ≡ decide_work slot.old book.old now }
-    ensures book { book.new ≡ decide_book slot.old.job book.old now }
-    ensures rise { result.1 ≡ decide_rise slot.old.job book.old now }
+    ensures turn { result.0 ≡ (decide_call slot.old book.old now).turn }
+    ensures slot { slot.new ≡ (decide_call slot.old book.old now).work }
+    ensures book { book.new ≡ recorded book.old (decide_call slot.old book.old now).made }
+    ensures rise { result.1 ≡ rise_of (decide_call slot.old book.old now) }
     ensures entries { length book.new.records ≡ length book.old.records + result.1.entries }
     ensures opening { book.new.opening ≡ book.old.opening }
 {
@@ -156,15 +158,17 @@ fn decide_in(book: &mut Book, slot: &mut Slot, now: Moment) -> (Turn, Rise)
 }
 
 fn answer_in(book: &mut Book, slot: &mut Slot, now: Moment, got: Got) -> (Turn, Rise)
-    ensures turn { result.0 ≡ answer_turn slot.old book.old now got }
-    ensures slot { slot.new ≡ answer_work slot.old book.old now got }
-    ensures book { book.new ≡ answer_book slot.old book.old now got }
-    ensures rise { result.1 ≡ answer_rise result.0 }
+    ensures turn { result.0 ≡ (answer_call slot.old book.old now got).turn }
+    ensures slot { slot.new ≡ (answer_call slot.old book.old now got).work }
+    ensures book { book.new ≡ recorded book.old (answer_call slot.old book.old now got).made }
+    ensures rise { result.1 ≡ rise_of (answer_call slot.old book.old now got) }
     ensures entries { length book.new.records ≡ length book.old.records + result.1.entries }
     ensures opening { book.new.opening ≡ book.old.opening }
 {
+    let before = book.entries();
     let turn = slot.answer(book, now, got);
-    (turn, answer_rise(turn))
+    let entries = book.entries() - before;
+    (turn, rise_of_turn(turn, entries as u64))
 }
 
 fn tick_in(book: &mut Book, now: Moment) -> (Result<u32, BookFault>, Rise)

@@ -1,7 +1,7 @@
 //! By how much calls raise what is counted.
 
 ghost use Rattle.std.specs.Prelude.{◌≡◌, ◌<◌, ◌^◌};
-ghost use Rattle.books_shared.specs.Rises.{answer_rise, command_rise, entries_closed, rise_of_turn, tick_rise};
+ghost use Rattle.books_shared.specs.Rises.{command_rise, entries_closed, rise_of_turn, tick_rise};
 
 use floor_core::Turn;
 use tenant_core::{Answered, BookFault, CommandFault};
@@ -29,7 +29,7 @@ const AN_ENTRY: Rise = Rise {
     full: 0,
 };
 
-/// What a decide with that turn adds, which appended so many entries.
+/// What a call of a slot with that turn adds, which appended so many entries.
 pub fn rise_of_turn(turn: Turn, entries: u64) -> Rise
     ensures { result ≡ rise_of_turn turn entries }
 {
@@ -49,16 +49,6 @@ pub fn rise_of_turn(turn: Turn, entries: u64) -> Rise
             strangers: 0,
             full: 0,
         },
-    }
-}
-
-/// What an answer with that turn adds.
-pub fn answer_rise(turn: Turn) -> Rise
-    ensures { result ≡ answer_rise turn }
-{
-    match turn {
-        Turn::Reply => AN_ENTRY,
-        Turn::Idle | Turn::Stray | Turn::Stranger | Turn::Send { .. } => NOTHING,
     }
 }
 

@@ -1,6 +1,6 @@
 -- What a decide leads to, by its verdict.
 use Rattle.std.proofs.Common.{◌≡◌, ℕ, ◌+◌, Bool, true, false, cond, eqb, List, [], ◌∷◌, ◌++◌, length, take, drop, refl, sym, ap, subst, ◌∙◌, eq-eqb, arith}
-use Rattle.std.specs.Prelude.{Result, Ok, Err, Option, Some, None, IsSome, nat_le, nat_lt, not, option_and_then, option_map, find, max, IfOk}
+use Rattle.std.specs.Prelude.{Result, Ok, Err, Option, Some, None, IsSome, IsOk, nat_le, nat_lt, not, option_and_then, option_map, find, max, IfOk}
 use Rattle.std.proofs.Math.Seq.{take-append_seam}
 use Rattle.ilp_addr.specs.Target.{Parts as TargetParts}
 use Rattle.ilp_addr.specs.Timestamp.{timestamp_of}
@@ -18,14 +18,15 @@ use Rattle.oer_core.specs.Writing.{Writes}
 use Rattle.tenant_core.specs.Bucket.{stretch_of}
 use Rattle.tenant_core.specs.Checks.{◌otherwise◌}
 use Rattle.tenant_core.specs.Holds.{open_holds}
-use Rattle.tenant_core.specs.Judge.{judge, is_full, verdict_for_sender, verdict_at_rate, config_verdict, refuse, child_of}
+use Rattle.tenant_core.specs.Judge.{judge, decided, decide_made, is_full, verdict_for_sender, verdict_at_rate, config_verdict, refuse, child_of}
 use Rattle.tenant_core.specs.Key.{Key}
 use Rattle.tenant_core.specs.Limits.{max_holds}
 use Rattle.tenant_core.specs.Network.{Net, peer_numbered, peer_with_token}
 use Rattle.tenant_core.specs.Present.{network_of}
 use Rattle.tenant_core.specs.Purse.{is_over_ceiling, is_over_credit}
 use Rattle.tenant_core.specs.Routing.{another, onward, stays_here, rate_between, outgoing_expiry}
-use Rattle.tenant_core.specs.State.{State, clock_of}
+use Rattle.tenant_core.specs.State.{State, clock_of, recorded}
+use Rattle.tenant_core.specs.declared.journal.Record.{Record}
 use Rattle.tenant_core.specs.declared.opening.Opening.{Opening}
 use Rattle.tenant_core.specs.declared.peer.Peer.{Peer}
 use Rattle.tenant_core.specs.declared.verdict.RejectCode.TheVariants.{Unreachable}
@@ -33,14 +34,13 @@ use Rattle.tenant_core.specs.declared.verdict.Verdict.{Verdict}
 use Rattle.tenant_core.specs.declared.verdict.Verdict.TheVariants.{Unknown, NoRoom, Refuse, Fulfil, Forward, Relay}
 use Rattle.floor_core.specs.Replies.{decision_reply, busy_reply, refusal_reply, config_reply}
 use Rattle.floor_core.specs.Rooms.{refilled}
-use Rattle.floor_core.specs.Work.{Job, Work, decide_turn, decide_work, decide_book, packet_turn, packet_work, packet_book, packet_verdict, job_decided}
-use Rattle.floor_core.specs.Work.{turn_of, work_after, telling, target_of}
+use Rattle.floor_core.specs.Work.{Job, Work, Called, decide_call, frame_call, verdict_call, job_decided, only, replied, telling, target_of}
 use Rattle.floor_core.specs.World.{key_in}
 use Rattle.floor_core.specs.SlotView.{job_of, work_of}
 use Rattle.floor_core.specs.declared.slot.Slot.TheInside.{Inside}
 use Rattle.floor_core.specs.declared.slot.Stage.{Stage}
 use Rattle.floor_core.specs.declared.slot.Stage.TheVariants.{Loaded}
-use Rattle.floor_core.specs.declared.parts.Turn.TheVariants.{Stray, Reply}
+use Rattle.floor_core.specs.declared.parts.Turn.TheVariants.{Stray, Reply, Send}
 
 -- ---- a packet that goes on goes to a peer
 
@@ -112,64 +112,75 @@ goes s token key now =
     found s (peer_with_token token (network_of s).peers) Unknown _ tt (λ from _.
     passed s (is_full s) _ _ tt (sender_goes s from key (max (clock_of s) now)))
 
--- ---- what a decide of a frame leads to
+-- ---- what a decide of a frame comes to
 
--- a verdict is that on the packet that the frame is
-pub packet_of : (s : State) (token : List ℕ) (r : Result Prepare ViewFault) (now : ℕ) (v : Verdict) → Some v ≡ packet_verdict s token r now
-    → (p : Prepare) × (r ≡ Ok p) × (judge s token (key_in p) now ≡ v)
-packet_of s token (Ok p) now v e = (p, refl, cc)
-packet_of s token (Err f) now v e = absurd cc
+if_ok_at : (r : Result Prepare ViewFault) (P : Prepare → Type 0) (p : Prepare) → IfOk r P → r ≡ Ok p → P p
+if_ok_at (Ok q) P p holds e = let same : q ≡ p = cc in subst P same holds
+if_ok_at (Err f) P p holds e = absurd cc
 
-turn_by : (s : State) (token : List ℕ) (r : Result Prepare ViewFault) (now : ℕ) (v : Verdict) (b : Bool) → b ≡ true → Some v ≡ packet_verdict s token r now
-    → cond b (packet_turn s token r now) Stray ≡ turn_of v
-turn_by s token (Ok p) now v true is e = let same : judge s token (key_in p) now ≡ v = cc in ap turn_of same
-turn_by s token (Ok p) now v false is e = absurd cc
-turn_by s token (Err f) now v b is e = absurd cc
+prepare_in : (r : Result Prepare ViewFault) → IsOk r → (p : Prepare) × (r ≡ Ok p)
+prepare_in (Ok p) is = (p, refl)
+prepare_in (Err f) is = absurd cc
 
-pub turn_loaded : (s : State) (tenant : ℕ) (token frame : List ℕ) (now : ℕ) (v : Verdict) (job : Job) → job ≡ Job.Carries tenant token frame
-    → s.opening.tenant ≡ tenant → Some v ≡ packet_verdict s token (prepare_at frame) now → decide_turn job s now ≡ turn_of v
-turn_loaded s tenant token frame now v job is same e =
-    ap (λ (j : Job). decide_turn j s now) is ∙ turn_by s token (prepare_at frame) now v (eqb s.opening.tenant tenant) (eq-eqb s.opening.tenant tenant same) e
+-- the packet of a slot, and what its verdict comes to
+pub record IsDecided (w : Work) (s t : State) (tenant : ℕ) (token frame : List ℕ) (now : ℕ) (v : Verdict) : Type 0 where
+  pub packet : Prepare
+  pub reading : prepare_at frame ≡ Ok packet
+  pub judged : v ≡ judge s token (key_in packet) now
+  pub call : decide_call w s now ≡ verdict_call s tenant token packet w.room (decide_made s token (key_in packet) now) v
+  pub book : t ≡ recorded s (decide_made s token (key_in packet) now)
 
-work_by : (w : Work) (s : State) (tenant : ℕ) (token : List ℕ) (r : Result Prepare ViewFault) (p : Prepare) (now : ℕ) (v : Verdict) (b : Bool) → b ≡ true
-    → r ≡ Ok p → judge s token (key_in p) now ≡ v → cond b (packet_work w s tenant token r now) w ≡ work_after s tenant token p w.room v
-work_by w s tenant token r p now v true is e same =
-    ap (λ (x : Result Prepare ViewFault). packet_work w s tenant token x now) e ∙ ap (λ (x : Verdict). work_after s tenant token p w.room x) same
-work_by w s tenant token r p now v false is e same = absurd cc
+own_by : (tenant : ℕ) (s : State) (w : Work) (c : Called) (b : Bool) → b ≡ true → cond b c (only Stray w) ≡ c
+own_by tenant s w c true e = refl
+own_by tenant s w c false e = absurd cc
 
-pub work_loaded : (w : Work) (s : State) (tenant : ℕ) (token frame : List ℕ) (p : Prepare) (now : ℕ) (v : Verdict) → w.job ≡ Job.Carries tenant token frame
-    → s.opening.tenant ≡ tenant → prepare_at frame ≡ Ok p → judge s token (key_in p) now ≡ v → decide_work w s now ≡ work_after s tenant token p w.room v
-work_loaded w s tenant token frame p now v is same e verdict =
-    ap (λ (j : Job). job_decided j w s now) is
-    ∙ work_by w s tenant token (prepare_at frame) p now v (eqb s.opening.tenant tenant) (eq-eqb s.opening.tenant tenant same) e verdict
+pub decided_by : (w : Work) (s t : State) (tenant : ℕ) (token frame : List ℕ) (now : ℕ) (v : Verdict) → w.job ≡ Job.Carries tenant token frame
+    → s.opening.tenant ≡ tenant → IsOk (prepare_at frame) → IfOk (prepare_at frame) (λ p. v ≡ judge s token (key_in p) now)
+    → IfOk (prepare_at frame) (λ p. t ≡ decided s token (key_in p) now) → IsDecided w s t tenant token frame now v
+decided_by w s t tenant token frame now v job same is verdict book =
+    let p = prepare_in (prepare_at frame) is in
+    let judged : v ≡ judge s token (key_in p.0) now = if_ok_at (prepare_at frame) (λ p. v ≡ judge s token (key_in p) now) p.0 verdict p.1 in
+    record {
+      packet = p.0;
+      reading = p.1;
+      judged = judged;
+      call =
+          ap (λ (j : Job). job_decided j w s now) job
+          ∙ own_by tenant s w (frame_call w s tenant token (prepare_at frame) now) (eqb s.opening.tenant tenant) (eq-eqb s.opening.tenant tenant same)
+          ∙ ap (λ (r : Result Prepare ViewFault). frame_call w s tenant token r now) p.1
+          ∙ ap (λ (u : Verdict). verdict_call s tenant token p.0 w.room (decide_made s token (key_in p.0) now) u) (sym judged);
+      book = if_ok_at (prepare_at frame) (λ p. t ≡ decided s token (key_in p) now) p.0 book p.1;
+    }
 
-book_by : (s : State) (token : List ℕ) (r : Result Prepare ViewFault) (now : ℕ) (b : Bool) → b ≡ true
-    → cond b (packet_book s token r now) s ≡ packet_book s token r now
-book_by s token r now true is = refl
-book_by s token r now false is = absurd cc
+made_is : (s : State) (tenant : ℕ) (token : List ℕ) (p : Prepare) (room : List ℕ) (made : Option Record) (v : Verdict) → (verdict_call s tenant token p room made v).made ≡ made
+made_is s tenant token p room made Unknown = refl
+made_is s tenant token p room made NoRoom = refl
+made_is s tenant token p room made (Refuse code amounts) = refl
+made_is s tenant token p room made Fulfil = refl
+made_is s tenant token p room made (Forward hold peer amount expiry) = refl
+made_is s tenant token p room made Relay = refl
 
-pub book_loaded : (s : State) (tenant : ℕ) (token frame : List ℕ) (now : ℕ) (job : Job) → job ≡ Job.Carries tenant token frame
-    → s.opening.tenant ≡ tenant → decide_book job s now ≡ packet_book s token (prepare_at frame) now
-book_loaded s tenant token frame now job is same =
-    ap (λ (j : Job). decide_book j s now) is ∙ book_by s token (prepare_at frame) now (eqb s.opening.tenant tenant) (eq-eqb s.opening.tenant tenant same)
+-- the book has what the call makes
+pub book_called : (w : Work) (s t : State) (tenant : ℕ) (token frame : List ℕ) (now : ℕ) (v : Verdict) → IsDecided w s t tenant token frame now v
+    → t ≡ recorded s (decide_call w s now).made
+book_called w s t tenant token frame now v d =
+    let made = decide_made s token (key_in d.packet) now in
+    d.book ∙ ap (recorded s) (sym (made_is s tenant token d.packet w.room made v)) ∙ ap (λ (c : Called). recorded s c.made) (sym d.call)
 
 -- every verdict but two is told to the sender
-pub told_after : (s : State) (tenant : ℕ) (token : List ℕ) (p : Prepare) (room : List ℕ) (v : Verdict) → (v ≡ Unknown → ⊥)
-    → ((hold peer amount expiry : ℕ) → v ≡ Forward hold peer amount expiry → ⊥) → work_after s tenant token p room v ≡ telling (decision_reply s token v) room
-told_after s tenant token p room Unknown n m = absurd (n refl)
-told_after s tenant token p room NoRoom n m = refl
-told_after s tenant token p room (Refuse code amounts) n m = refl
-told_after s tenant token p room Fulfil n m = refl
-told_after s tenant token p room (Forward hold peer amount expiry) n m = absurd (m hold peer amount expiry refl)
-told_after s tenant token p room Relay n m = refl
+pub told_after : (s : State) (tenant : ℕ) (token : List ℕ) (p : Prepare) (room : List ℕ) (made : Option Record) (v : Verdict) → (v ≡ Unknown → ⊥)
+    → ((hold peer amount expiry : ℕ) → v ≡ Forward hold peer amount expiry → ⊥) → verdict_call s tenant token p room made v ≡ replied (decision_reply s token v) room made
+told_after s tenant token p room made Unknown n m = absurd (n refl)
+told_after s tenant token p room made NoRoom n m = refl
+told_after s tenant token p room made (Refuse code amounts) n m = refl
+told_after s tenant token p room made Fulfil n m = refl
+told_after s tenant token p room made (Forward hold peer amount expiry) n m = absurd (m hold peer amount expiry refl)
+told_after s tenant token p room made Relay n m = refl
 
-pub told_turn : (v : Verdict) → (v ≡ Unknown → ⊥) → ((hold peer amount expiry : ℕ) → v ≡ Forward hold peer amount expiry → ⊥) → turn_of v ≡ Reply
-told_turn Unknown n m = absurd (n refl)
-told_turn NoRoom n m = refl
-told_turn (Refuse code amounts) n m = refl
-told_turn Fulfil n m = refl
-told_turn (Forward hold peer amount expiry) n m = absurd (m hold peer amount expiry refl)
-told_turn Relay n m = refl
+pub call_told : {w : Work} {s t : State} {tenant : ℕ} {token frame : List ℕ} {now : ℕ} {v : Verdict} (d : IsDecided w s t tenant token frame now v) → (v ≡ Unknown → ⊥)
+    → ((hold peer amount expiry : ℕ) → v ≡ Forward hold peer amount expiry → ⊥)
+    → decide_call w s now ≡ replied (decision_reply s token v) w.room (decide_made s token (key_in d.packet) now)
+call_told {w} {s} {t} {tenant} {token} {frame} {now} {v} d n m = d.call ∙ told_after s tenant token d.packet w.room (decide_made s token (key_in d.packet) now) v n m
 
 -- what a state tells is by its opening and its network
 pub told_alike : (s t : State) (token : List ℕ) (v : Verdict) → t.opening ≡ s.opening → network_of t ≡ network_of s
@@ -209,50 +220,43 @@ abbrev pub waiting : ℕ → ℕ → List ℕ → Option TargetParts → List �
 waiting tenant hold frame target reply room = record { job = Job.Waits tenant hold frame; target = target; reply = reply; room = room }
 
 -- the sender is told, and the slot is idle
-pub told : (w : Work) (s t : State) (tenant : ℕ) (token frame out : List ℕ) (now len : ℕ) (v : Verdict) → w.job ≡ Job.Carries tenant token frame
-    → s.opening.tenant ≡ tenant → Some v ≡ packet_verdict s token (prepare_at frame) now
+pub told : (w : Work) (s t : State) (tenant : ℕ) (token frame out : List ℕ) (now len : ℕ) (v : Verdict) → IsDecided w s t tenant token frame now v
     → (v ≡ Unknown → ⊥) → ((hold peer amount expiry : ℕ) → v ≡ Forward hold peer amount expiry → ⊥)
     → t.opening ≡ s.opening → network_of t ≡ network_of s → Writes w.room 0 (decision_reply t token v) out len
-    → ended (take len out) out ≡ decide_work w s now
-told w s t tenant token frame out now len v is same e n m o net written =
-    let p = packet_of s token (prepare_at frame) now v e in
+    → record { turn = Reply; work = ended (take len out) out; made = (decide_call w s now).made } ≡ decide_call w s now
+told w s t tenant token frame out now len v d n m o net written =
     let reply : List ℕ = decision_reply t token v in
+    let made = decide_made s token (key_in d.packet) now in
+    let call : decide_call w s now ≡ replied (decision_reply s token v) w.room made = call_told d n m in
+    let work : ended (take len out) out ≡ telling (decision_reply s token v) w.room =
     ap (λ (r : List ℕ). ended r out) (written_front w.room reply out len written)
     ∙ ap (λ (x : List ℕ). ended reply x) written.1
-    ∙ ap (λ (r : List ℕ). telling r w.room) (told_alike s t token v o net)
-    ∙ sym (told_after s tenant token p.0 w.room v n m)
-    ∙ sym (work_loaded w s tenant token frame p.0 now v is same p.1 p.2)
+    ∙ ap (λ (r : List ℕ). telling r w.room) (told_alike s t token v o net) in
+    (λ i. record { turn = Reply; work = work i; made = (call i).made }) ∙ sym call
 
 target_alike : (s t : State) (peer : ℕ) → network_of t ≡ network_of s → target_of t peer ≡ target_of s peer
 target_alike s t peer net = ap (λ (x : Net). option_map (λ p. p.terms.target) (peer_numbered peer x.peers)) net
 
 -- the peer of a packet that goes on is there
 pub target_is_there : (s t : State) (token : List ℕ) (r : Result Prepare ViewFault) (now hold peer amount expiry : ℕ)
-    → Some (Forward hold peer amount expiry) ≡ packet_verdict s token r now → network_of t ≡ network_of s → IsSome (target_of t peer)
-target_is_there s t token r now hold peer amount expiry e net =
-    let p = packet_of s token r now (Forward hold peer amount expiry) e in
-    let there = subst (λ (v : Verdict). GoesSomewhere s v) p.2 (goes s token (key_in p.0) now) in
+    → IsOk r → IfOk r (λ p. Forward hold peer amount expiry ≡ judge s token (key_in p) now) → network_of t ≡ network_of s → IsSome (target_of t peer)
+target_is_there s t token r now hold peer amount expiry is verdict net =
+    let p = prepare_in r is in
+    let judged = if_ok_at r (λ p. Forward hold peer amount expiry ≡ judge s token (key_in p) now) p.0 verdict p.1 in
+    let there = subst (λ (v : Verdict). GoesSomewhere s v) (sym judged) (goes s token (key_in p.0) now) in
     subst (λ (o : Option TargetParts). IsSome o) (sym (target_alike s t peer net)) there
-
-if_ok_at : (r : Result Prepare ViewFault) (P : Prepare → Type 0) (p : Prepare) → IfOk r P → r ≡ Ok p → P p
-if_ok_at (Ok q) P p holds e = let same : q ≡ p = cc in subst P same holds
-if_ok_at (Err f) P p holds e = absurd cc
 
 -- the frame went on, and the slot awaits its answer
 pub sent : (w : Work) (s t : State) (tenant : ℕ) (token frame after reply : List ℕ) (target : TargetParts) (now hold peer amount expiry : ℕ)
-    → w.job ≡ Job.Carries tenant token frame → s.opening.tenant ≡ tenant
-    → Some (Forward hold peer amount expiry) ≡ packet_verdict s token (prepare_at frame) now
+    → IsDecided w s t tenant token frame now (Forward hold peer amount expiry)
     → IfOk (prepare_at frame) (λ p. after ≡ with_amount_and_expiry p amount (timestamp_of expiry))
     → network_of t ≡ network_of s → Some target ≡ target_of t peer → reply ≡ []
-    → waiting tenant hold after (Some target) reply w.room ≡ decide_work w s now
-sent w s t tenant token frame after reply target now hold peer amount expiry is same e written net there quiet =
-    let p = packet_of s token (prepare_at frame) now (Forward hold peer amount expiry) e in
-    let frame_is : after ≡ with_amount_and_expiry p.0 amount (timestamp_of expiry) =
-    if_ok_at (prepare_at frame) (λ p. after ≡ with_amount_and_expiry p amount (timestamp_of expiry)) p.0 written p.1 in
-    ap (λ (f : List ℕ). waiting tenant hold f (Some target) reply w.room) frame_is
-    ∙ ap (λ (o : Option TargetParts). waiting tenant hold (with_amount_and_expiry p.0 amount (timestamp_of expiry)) o reply w.room) (there ∙ target_alike s t peer net)
-    ∙ ap (λ (r : List ℕ). waiting tenant hold (with_amount_and_expiry p.0 amount (timestamp_of expiry)) (target_of s peer) r w.room) quiet
-    ∙ sym (work_loaded w s tenant token frame p.0 now (Forward hold peer amount expiry) is same p.1 p.2)
+    → record { turn = Send peer hold; work = waiting tenant hold after (Some target) reply w.room; made = (decide_call w s now).made } ≡ decide_call w s now
+sent w s t tenant token frame after reply target now hold peer amount expiry d written net there quiet =
+    let frame_is : after ≡ with_amount_and_expiry d.packet amount (timestamp_of expiry) =
+    if_ok_at (prepare_at frame) (λ p. after ≡ with_amount_and_expiry p amount (timestamp_of expiry)) d.packet written d.reading in
+    let target_is : Some target ≡ target_of s peer = there ∙ target_alike s t peer net in
+    (λ i. record { turn = Send peer hold; work = waiting tenant hold (frame_is i) (target_is i) (quiet i) w.room; made = (d.call i).made }) ∙ sym d.call
 
 -- ---- what a slot shows of it
 
@@ -261,13 +265,9 @@ pub carried : (x : Inside) (w : Work) (tenant : ℕ) (token : List ℕ) → work
     → w.job ≡ Job.Carries tenant token (take x.frame_len x.frame)
 carried x w tenant token view is = sym (ap (λ (v : Work). v.job) view) ∙ ap (λ (y : Stage). job_of y (take x.frame_len x.frame)) is
 
--- the verdict on what was shown is that on the frame
-pub read_verdict : (s : State) (now len : ℕ) (v : Verdict) (shown token bytes room : List ℕ)
-    → Some v ≡ packet_verdict s shown (prepare_at (take len bytes)) now → shown ≡ token → bytes ≡ room
-    → Some v ≡ packet_verdict s token (prepare_at (take len room)) now
-read_verdict s now len v shown token bytes room e t r =
-    e ∙ ap (λ (x : List ℕ). packet_verdict s x (prepare_at (take len bytes)) now) t
-    ∙ ap (λ (x : List ℕ). packet_verdict s token (prepare_at (take len x)) now) r
+-- what a token and a frame are shown as
+pub shown_as : (P : List ℕ → List ℕ → Type 0) {shown token bytes room : List ℕ} → shown ≡ token → bytes ≡ room → P shown bytes → P token room
+shown_as P {shown} {token} {bytes} {room} t r p = subst (λ (b : List ℕ). P token b) r (subst (λ (k : List ℕ). P k bytes) t p)
 
 -- what was written into the room that was lent stands in it
 pub written_back : (room lent out reply : List ℕ) (len : ℕ) → lent ≡ room → length out ≡ length lent → Writes lent 0 reply out len

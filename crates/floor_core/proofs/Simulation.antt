@@ -13,8 +13,9 @@ use Rattle.ilp_view.specs.Reading.{prepare_at}
 use Rattle.tenant_core.specs.Answer.{answer_to, answered, ticked}
 use Rattle.tenant_core.specs.Calls.{CallLaws}
 use Rattle.tenant_core.specs.Governed.{commanded}
-use Rattle.tenant_core.specs.Judge.{judge, decided}
+use Rattle.tenant_core.specs.Judge.{judge, decided, decide_made}
 use Rattle.tenant_core.specs.State.{State}
+use Rattle.tenant_core.specs.declared.journal.Record.{Record}
 use Rattle.tenant_core.specs.declared.command.Command.{Command}
 use Rattle.tenant_core.specs.declared.faults.HoldFault.{HoldFault}
 use Rattle.tenant_core.specs.declared.verdict.Verdict.{Verdict}
@@ -22,7 +23,7 @@ use Rattle.tenant_core.specs.declared.verdict.Verdict.TheVariants.{Unknown, NoRo
 use Rattle.floor_core.specs.FloorView.{FloorState, hand_by, hands_of, carried_by, stage_in, stage_of_frame, calls_of, no_seat, tenant_of, carried_at, world_of, IsSound, Fits}
 use Rattle.floor_core.specs.Kept.{IsKept}
 use Rattle.floor_core.specs.Moves.{put_both, output_of, moved, turn_output, got_of, filled}
-use Rattle.floor_core.specs.Work.{Job, Work, IsReadable, turn_of, work_after, given_by, settled_work}
+use Rattle.floor_core.specs.Work.{Job, Work, IsReadable, verdict_call, given_by, settled_call}
 use Rattle.floor_core.specs.World.{Stage, Tenant, Hand, World, put, said, heard, answer_key, key_in, stage_after, told, no_book}
 use Rattle.floor_core.specs.Worlds.{reply, after}
 use Rattle.floor_core.specs.declared.floor.Seat.{Seat}
@@ -118,29 +119,38 @@ settles f w t old new l stage lt i e b g placed =
 
 -- ---- a decide
 
-told_by : (s : State) (t k : ℕ) (token : List ℕ) (p : Prepare) (room : List ℕ) (v : Verdict) → hand_by (work_after s t token p room v).job k ≡ told (Hand.Has t k) (said s token p v)
-told_by s t k token p room Unknown = refl
-told_by s t k token p room NoRoom = refl
-told_by s t k token p room (Refuse code amounts) = refl
-told_by s t k token p room Fulfil = refl
-told_by s t k token p room (Forward hold peer amount expiry) = refl
-told_by s t k token p room Relay = refl
+told_by : (s : State) (t k : ℕ) (token : List ℕ) (p : Prepare) (room : List ℕ) (made : Option Record) (v : Verdict) → hand_by (verdict_call s t token p room made v).work.job k ≡ told (Hand.Has t k) (said s token p v)
+told_by s t k token p room made Unknown = refl
+told_by s t k token p room made NoRoom = refl
+told_by s t k token p room made (Refuse code amounts) = refl
+told_by s t k token p room made Fulfil = refl
+told_by s t k token p room made (Forward hold peer amount expiry) = refl
+told_by s t k token p room made Relay = refl
 
-goes_by_verdict : (s : State) (t k : ℕ) (token : List ℕ) (p : Prepare) (room : List ℕ) (v : Verdict) → Goes t k (work_after s t token p room v).job (stage_after v)
-goes_by_verdict s t k token p room Unknown = record { stage_is = refl; ends = inl refl; readable = tt }
-goes_by_verdict s t k token p room NoRoom = record { stage_is = refl; ends = inl refl; readable = tt }
-goes_by_verdict s t k token p room (Refuse code amounts) = record { stage_is = refl; ends = inl refl; readable = tt }
-goes_by_verdict s t k token p room Fulfil = record { stage_is = refl; ends = inl refl; readable = tt }
-goes_by_verdict s t k token p room (Forward hold peer amount expiry) = record { stage_is = refl; ends = inr refl; readable = tt }
-goes_by_verdict s t k token p room Relay = record { stage_is = refl; ends = inl refl; readable = tt }
+goes_by_verdict : (s : State) (t k : ℕ) (token : List ℕ) (p : Prepare) (room : List ℕ) (made : Option Record) (v : Verdict) → Goes t k (verdict_call s t token p room made v).work.job (stage_after v)
+goes_by_verdict s t k token p room made Unknown = record { stage_is = refl; ends = inl refl; readable = tt }
+goes_by_verdict s t k token p room made NoRoom = record { stage_is = refl; ends = inl refl; readable = tt }
+goes_by_verdict s t k token p room made (Refuse code amounts) = record { stage_is = refl; ends = inl refl; readable = tt }
+goes_by_verdict s t k token p room made Fulfil = record { stage_is = refl; ends = inl refl; readable = tt }
+goes_by_verdict s t k token p room made (Forward hold peer amount expiry) = record { stage_is = refl; ends = inr refl; readable = tt }
+goes_by_verdict s t k token p room made Relay = record { stage_is = refl; ends = inl refl; readable = tt }
 
-said_by : (s : State) (t : ℕ) (token : List ℕ) (p : Prepare) (room : List ℕ) (v : Verdict) → s.opening.tenant ≡ t → turn_output t s (work_after s t token p room v) (turn_of v) ≡ said s token p v
-said_by s t token p room Unknown e = rw e refl
-said_by s t token p room NoRoom e = rw e refl
-said_by s t token p room (Refuse code amounts) e = rw e refl
-said_by s t token p room Fulfil e = rw e refl
-said_by s t token p room (Forward hold peer amount expiry) e = rw e refl
-said_by s t token p room Relay e = rw e refl
+made_by : (s : State) (t : ℕ) (token : List ℕ) (p : Prepare) (room : List ℕ) (made : Option Record) (v : Verdict) → (verdict_call s t token p room made v).made ≡ made
+made_by s t token p room made Unknown = refl
+made_by s t token p room made NoRoom = refl
+made_by s t token p room made (Refuse code amounts) = refl
+made_by s t token p room made Fulfil = refl
+made_by s t token p room made (Forward hold peer amount expiry) = refl
+made_by s t token p room made Relay = refl
+
+said_by : (s : State) (t : ℕ) (token : List ℕ) (p : Prepare) (room : List ℕ) (made : Option Record) (v : Verdict) → s.opening.tenant ≡ t
+    → turn_output t s (verdict_call s t token p room made v).work (verdict_call s t token p room made v).turn ≡ said s token p v
+said_by s t token p room made Unknown e = rw e refl
+said_by s t token p room made NoRoom e = rw e refl
+said_by s t token p room made (Refuse code amounts) e = rw e refl
+said_by s t token p room made Fulfil e = rw e refl
+said_by s t token p room made (Forward hold peer amount expiry) e = rw e refl
+said_by s t token p room made Relay e = rw e refl
 
 decides_packet : CallLaws → (f : FloorState) (w now t : ℕ) (token frame : List ℕ) (p : Prepare) → w < length f.seats → IsSound f → (get_or f.seats w no_seat).slot.job ≡ Job.Carries t token frame
     → prepare_at frame ≡ Ok p → Simulates f (Decide w now)
@@ -155,11 +165,13 @@ decides_packet laws f w now t token frame p lt i e r =
     let q : eqb book.opening.tenant t ≡ true = eq-eqb book.opening.tenant t here in
     let v = judge book token (key_in p) now in
     let l = decided book token (key_in p) now in
-    let s = settles f w t (Job.Carries t token frame) (work_after book t token p room v) l (stage_after v) lt i e refl (goes_by_verdict book t k token p room v) ((laws.same_decided book token (key_in p) now).number ∙ here) in
+    let made = decide_made book token (key_in p) now in
+    let s = settles f w t (Job.Carries t token frame) (verdict_call book t token p room made v).work l (stage_after v) lt i e refl (goes_by_verdict book t k token p room made v) ((laws.same_decided book token (key_in p) now).number ∙ here) in
+    let m = made_by book t token p room made v in
     record {
-      output = rw (e, e, q, r) (rw stage (said_by book t token p room v here));
-      world = rw (e, e, q, r) (rw stage (s.world ∙ same_hand _ _ w _ _ (told_by book t k token p room v)));
-      sound = rw (e, e, q, r) s.sound;
+      output = rw (e, e, q, r) (rw stage (said_by book t token p room made v here));
+      world = rw (e, e, q, r, m) (rw stage (s.world ∙ same_hand _ _ w _ _ (told_by book t k token p room made v)));
+      sound = rw (e, e, q, r, m) s.sound;
     }
 
 decides_ready : CallLaws → (f : FloorState) (w now t : ℕ) (token frame : List ℕ) → w < length f.seats → IsSound f → (get_or f.seats w no_seat).slot.job ≡ Job.Carries t token frame
@@ -214,7 +226,7 @@ answers_settled laws f w now g t hold frame v lt i e r =
     let j : slot.job ≡ Job.Waits t hold frame = filled_job (get_or f.seats w no_seat).slot g ∙ e in
     let h : given_by slot.room (got_of g) ≡ heard g = heard_by (get_or f.seats w no_seat).slot g in
     let l = answered book hold now (answer_key (heard g)) in
-    let s = settles f w t (Job.Waits t hold frame) (settled_work slot book (heard g) (Ok v)) l None lt i e refl (record { stage_is = refl; ends = inl refl; readable = tt }) ((laws.same_answered book hold now (answer_key (heard g))).number ∙ here) in
+    let s = settles f w t (Job.Waits t hold frame) (settled_call slot book (heard g) None (Ok v)).work l None lt i e refl (record { stage_is = refl; ends = inl refl; readable = tt }) ((laws.same_answered book hold now (answer_key (heard g))).number ∙ here) in
     record {
       output = rw (e, j, h, q, r) (rw c.1 (rw (r, here) refl));
       world = rw (e, j, h, q, r) (rw c.1 (rw r s.world));

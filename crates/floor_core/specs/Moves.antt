@@ -5,10 +5,10 @@ use Rattle.tenant_core.specs.Governed.{command_answer, commanded}
 use Rattle.tenant_core.specs.Network.{peer_numbered}
 use Rattle.tenant_core.specs.Present.{network_of}
 use Rattle.tenant_core.specs.Sound.{IsSound}
-use Rattle.tenant_core.specs.State.{State}
+use Rattle.tenant_core.specs.State.{State, recorded}
 use Rattle.floor_core.specs.FloorView.{FloorState, seat_at, book_at}
-use Rattle.floor_core.specs.Work.{Work, frame_of, tenant_in, load_result, loaded, decide_turn, decide_work, decide_book}
-use Rattle.floor_core.specs.Work.{waiting_in, filled_as, filled_room, answer_turn, answer_work, answer_book}
+use Rattle.floor_core.specs.Work.{Work, Called, frame_of, tenant_in, load_result, loaded, decide_call}
+use Rattle.floor_core.specs.Work.{waiting_in, filled_as, filled_room, answer_call}
 use Rattle.floor_core.specs.World.{malformed_by, peer_name}
 use Rattle.floor_core.specs.declared.floor.Seat.{Seat}
 use Rattle.floor_core.specs.declared.parts.Got.{Got}
@@ -72,19 +72,17 @@ put_both f w t work book =
       next_calls = f.next_calls;
     }
 
--- what a decide puts out, by the tenant whose call the worker carries
-abbrev pub decide_output : FloorState → ℕ → ℕ → Option ℕ → Output
-decide_output f w now None = Idle
-decide_output f w now (Some t) =
-    turn_output t (book_at f t) (decide_work (seat_at f w).slot (book_at f t) now)
-    (decide_turn (seat_at f w).slot.job (book_at f t) now)
+-- what a call of the worker's slot with a tenant's book puts out, if there is a tenant
+abbrev pub call_output : FloorState → Option ℕ → (State → Called) → Output
+call_output f None call = Idle
+call_output f (Some t) call =
+    turn_output t (book_at f t) (call (book_at f t)).work (call (book_at f t)).turn
 
 -- what it leaves
-abbrev pub decide_moved : FloorState → ℕ → ℕ → Option ℕ → FloorState
-decide_moved f w now None = f
-decide_moved f w now (Some t) =
-    put_both f w t (decide_work (seat_at f w).slot (book_at f t) now)
-    (decide_book (seat_at f w).slot.job (book_at f t) now)
+abbrev pub call_moved : FloorState → ℕ → Option ℕ → (State → Called) → FloorState
+call_moved f w None call = f
+call_moved f w (Some t) call =
+    put_both f w t (call (book_at f t)).work (recorded (book_at f t) (call (book_at f t)).made)
 
 -- what came back, as a slot takes it
 abbrev pub got_of : Given → Got
@@ -96,21 +94,13 @@ abbrev pub filled : Work → Given → Work
 filled w (given.Bytes bytes) = record w { room = filled_room w.room bytes }
 filled w given.Fault = w
 
--- what an answer puts out, by the tenant whose answer the worker awaits
-abbrev pub answer_output : FloorState → ℕ → ℕ → Given → Option ℕ → Output
-answer_output f w now given None = Idle
-answer_output f w now given (Some t) =
-    let slot = filled (seat_at f w).slot given
-    in turn_output t (book_at f t) (answer_work slot (book_at f t) now (got_of given))
-    (answer_turn slot (book_at f t) now (got_of given))
+-- a decide by the worker's slot
+abbrev pub decide_by : FloorState → ℕ → ℕ → State → Called
+decide_by f w now book = decide_call (seat_at f w).slot book now
 
--- what it leaves
-abbrev pub answer_moved : FloorState → ℕ → ℕ → Given → Option ℕ → FloorState
-answer_moved f w now given None = f
-answer_moved f w now given (Some t) =
-    let slot = filled (seat_at f w).slot given
-    in put_both f w t (answer_work slot (book_at f t) now (got_of given))
-    (answer_book slot (book_at f t) now (got_of given))
+-- an answer to it
+abbrev pub answer_by : FloorState → ℕ → ℕ → Given → State → Called
+answer_by f w now given book = answer_call (filled (seat_at f w).slot given) book now (got_of given)
 
 -- ---- every step
 
@@ -118,8 +108,8 @@ answer_moved f w now given (Some t) =
 abbrev pub output_of : FloorState → Step → Output
 output_of f (Load w t token bytes) =
     load_output t (slice_index f.next_calls t) (load_result (seat_at f w).slot.job token bytes)
-output_of f (Decide w now) = decide_output f w now (tenant_in (seat_at f w).slot.job)
-output_of f (Answer w now given) = answer_output f w now given (waiting_in (seat_at f w).slot.job)
+output_of f (Decide w now) = call_output f (tenant_in (seat_at f w).slot.job) (decide_by f w now)
+output_of f (Answer w now given) = call_output f (waiting_in (seat_at f w).slot.job) (answer_by f w now given)
 output_of f (Tick t now) = Ticked t (tick_result (book_at f t) now)
 output_of f (Govern t now command) = Governed t (command_answer (book_at f t) command now)
 
@@ -133,8 +123,8 @@ moved f (Load w t token bytes) =
           if_good (load_result (seat_at f w).slot.job token bytes)
           (slice_set f.next_calls t (slice_index f.next_calls t + 1)) f.next_calls;
     }
-moved f (Decide w now) = decide_moved f w now (tenant_in (seat_at f w).slot.job)
-moved f (Answer w now given) = answer_moved f w now given (waiting_in (seat_at f w).slot.job)
+moved f (Decide w now) = call_moved f w (tenant_in (seat_at f w).slot.job) (decide_by f w now)
+moved f (Answer w now given) = call_moved f w (waiting_in (seat_at f w).slot.job) (answer_by f w now given)
 moved f (Tick t now) = record f { books = slice_set f.books t (ticked (book_at f t) now) }
 moved f (Govern t now command) = record f { books = slice_set f.books t (commanded (book_at f t) command now) }
 

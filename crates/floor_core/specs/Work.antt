@@ -8,14 +8,15 @@ use Rattle.ilp_view.specs.Packet.{Prepare, max_frame, with_amount_and_expiry}
 use Rattle.ilp_view.specs.Reading.{prepare_at}
 use Rattle.ilp_view.specs.declared.fault.ViewFault.{ViewFault}
 use Rattle.oer_core.specs.Writing.{overwritten}
-use Rattle.tenant_core.specs.Answer.{answer_to, answered}
-use Rattle.tenant_core.specs.Judge.{judge, decided}
+use Rattle.tenant_core.specs.Answer.{answer_to, answer_made}
+use Rattle.tenant_core.specs.Judge.{judge, decide_made}
 use Rattle.tenant_core.specs.Network.{peer_numbered}
 use Rattle.tenant_core.specs.Present.{network_of}
 use Rattle.tenant_core.specs.State.{State}
 use Rattle.tenant_core.specs.declared.faults.HoldFault.{HoldFault}
+use Rattle.tenant_core.specs.declared.journal.Record.{Record}
 use Rattle.tenant_core.specs.declared.verdict.Verdict.{Verdict}
-use Rattle.tenant_core.specs.declared.verdict.Verdict.TheVariants.{Unknown, NoRoom, Refuse, Fulfil, Forward, Relay}
+use Rattle.tenant_core.specs.declared.verdict.Verdict.TheVariants.{Unknown, Forward}
 use Rattle.floor_core.specs.Replies.{decision_reply}
 use Rattle.floor_core.specs.World.{key_in, answer_key, bytes_given, settled_reply}
 use Rattle.floor_core.specs.declared.parts.Got.{Got}
@@ -90,32 +91,28 @@ loaded_as w tenant token bytes (Err fault) = w
 abbrev pub loaded : Work → (tenant : ℕ) → (token bytes : List ℕ) → Work
 loaded w tenant token bytes = loaded_as w tenant token bytes (load_result w.job token bytes)
 
+-- ---- what a call comes to
+
+-- what a call of a slot with a tenant's book is answered with, what it leaves of the slot, and the record that it makes in
+-- the book, if it makes one: nothing else of the book changes
+pub record Called : Type 0 where
+  pub turn : Turn
+  pub work : Work
+  pub made : Option Record
+
+-- nothing but that answer
+abbrev pub only : Turn → Work → Called
+only turn w = record { turn = turn; work = w; made = None }
+
+-- the sender is told these bytes, and the call has ended
+abbrev pub replied : List ℕ → List ℕ → Option Record → Called
+replied reply room made = record { turn = Reply; work = telling reply room; made = made }
+
+-- what it comes to where the book is that of the call's tenant
+abbrev pub if_own : ℕ → State → Work → Called → Called
+if_own tenant s w called = if s.opening.tenant == tenant then called else only Stray w
+
 -- ---- a decide
-
--- what a verdict on a packet is to its slot
-abbrev pub turn_of : Verdict → Turn
-turn_of Unknown = Stranger
-turn_of NoRoom = Reply
-turn_of (Refuse code amounts) = Reply
-turn_of Fulfil = Reply
-turn_of (Forward hold peer amount expiry) = Send peer hold
-turn_of Relay = Reply
-
--- the verdict on a frame, which is a Prepare
-abbrev pub packet_verdict : State → List ℕ → Result Prepare ViewFault → ℕ → Option Verdict
-packet_verdict s token (Ok p) now = Some (judge s token (key_in p) now)
-packet_verdict s token (Err fault) now = None
-
--- what a decide of a frame leads to
-abbrev pub packet_turn : State → List ℕ → Result Prepare ViewFault → ℕ → Turn
-packet_turn s token (Ok p) now = turn_of (judge s token (key_in p) now)
-packet_turn s token (Err fault) now = Idle
-
--- what a decide leads to
-abbrev pub decide_turn : Job → State → (now : ℕ) → Turn
-decide_turn (Job.Carries tenant token frame) s now =
-    if s.opening.tenant == tenant then packet_turn s token (prepare_at frame) now else Stray
-decide_turn _ s now = Idle
 
 -- the target of the peer of that number
 abbrev pub target_of : State → ℕ → Option TargetParts
@@ -131,37 +128,33 @@ sent_on s tenant p hold peer amount expiry room =
       room = room;
     }
 
--- what a verdict on a packet leaves of its slot
-abbrev pub work_after : State → ℕ → List ℕ → Prepare → List ℕ → Verdict → Work
-work_after s tenant token p room Unknown = carrying Job.NoJob room
-work_after s tenant token p room (Forward hold peer amount expiry) = sent_on s tenant p hold peer amount expiry room
-work_after s tenant token p room v = telling (decision_reply s token v) room
+-- what a verdict on a packet comes to, which makes that record
+abbrev pub verdict_call : State → ℕ → List ℕ → Prepare → List ℕ → Option Record → Verdict → Called
+verdict_call s tenant token p room made Unknown =
+    record { turn = Stranger; work = carrying Job.NoJob room; made = made }
+verdict_call s tenant token p room made (Forward hold peer amount expiry) =
+    record { turn = Send peer hold; work = sent_on s tenant p hold peer amount expiry room; made = made }
+verdict_call s tenant token p room made v = replied (decision_reply s token v) room made
 
--- what a decide of a frame leaves
-abbrev pub packet_work : Work → State → ℕ → List ℕ → Result Prepare ViewFault → ℕ → Work
-packet_work w s tenant token (Ok p) now = work_after s tenant token p w.room (judge s token (key_in p) now)
-packet_work w s tenant token (Err fault) now = w
+-- what a decide of a packet comes to
+abbrev pub packet_call : State → ℕ → List ℕ → Prepare → List ℕ → ℕ → Called
+packet_call s tenant token p room now =
+    verdict_call s tenant token p room (decide_made s token (key_in p) now) (judge s token (key_in p) now)
 
--- what a decide leaves of a slot with that call
-abbrev pub job_decided : Job → Work → State → ℕ → Work
+-- what a decide of a frame comes to
+abbrev pub frame_call : Work → State → ℕ → List ℕ → Result Prepare ViewFault → ℕ → Called
+frame_call w s tenant token (Ok p) now = packet_call s tenant token p w.room now
+frame_call w s tenant token (Err fault) now = only Idle w
+
+-- what a decide of a slot with that call comes to
+abbrev pub job_decided : Job → Work → State → ℕ → Called
 job_decided (Job.Carries tenant token frame) w s now =
-    if s.opening.tenant == tenant then packet_work w s tenant token (prepare_at frame) now else w
-job_decided _ w s now = w
+    if_own tenant s w (frame_call w s tenant token (prepare_at frame) now)
+job_decided _ w s now = only Idle w
 
--- what a decide leaves of the slot
-abbrev pub decide_work : Work → State → ℕ → Work
-decide_work w s now = job_decided w.job w s now
-
--- what a decide of a frame leaves of the book
-abbrev pub packet_book : State → List ℕ → Result Prepare ViewFault → ℕ → State
-packet_book s token (Ok p) now = decided s token (key_in p) now
-packet_book s token (Err fault) now = s
-
--- what a decide leaves of the book
-abbrev pub decide_book : Job → State → ℕ → State
-decide_book (Job.Carries tenant token frame) s now =
-    if s.opening.tenant == tenant then packet_book s token (prepare_at frame) now else s
-decide_book _ s now = s
+-- what a decide comes to
+abbrev pub decide_call : Work → State → ℕ → Called
+decide_call w s now = job_decided w.job w s now
 
 -- ---- an answer
 
@@ -183,45 +176,21 @@ abbrev pub given_by : (room : List ℕ) → Got → Given
 given_by room (got.Filled n) = if nat_lt max_frame n then given.Fault else given.Bytes (take n room)
 given_by room got.Fault = given.Fault
 
--- what an answer to a hold leads to
-abbrev pub settled_turn : Result Verdict HoldFault → Turn
-settled_turn (Ok v) = Reply
-settled_turn (Err fault) = Stray
+-- what an answer to a hold comes to, which makes that record
+abbrev pub settled_call : Work → State → Given → Option Record → Result Verdict HoldFault → Called
+settled_call w s given made (Ok v) = replied (settled_reply s.opening.address (bytes_given given) v) w.room made
+settled_call w s given made (Err fault) = only Stray w
 
--- what an answer to a call leads to
-abbrev pub job_answer_turn : Job → State → ℕ → Given → Turn
-job_answer_turn (Job.Waits tenant hold frame) s now given =
-    if s.opening.tenant == tenant then settled_turn (answer_to s hold now (answer_key given)) else Stray
-job_answer_turn _ s now given = Idle
-
--- what an answer leads to
-abbrev pub answer_turn : Work → State → ℕ → Got → Turn
-answer_turn w s now got = job_answer_turn w.job s now (given_by w.room got)
-
--- what an answer to a hold leaves of its slot
-abbrev pub settled_work : Work → State → Given → Result Verdict HoldFault → Work
-settled_work w s given (Ok v) = telling (settled_reply s.opening.address (bytes_given given) v) w.room
-settled_work w s given (Err fault) = w
-
--- what an answer leaves of a slot with that call
-abbrev pub job_answered : Job → Work → State → ℕ → Given → Work
+-- what an answer to a slot with that call comes to
+abbrev pub job_answered : Job → Work → State → ℕ → Given → Called
 job_answered (Job.Waits tenant hold frame) w s now given =
-    if s.opening.tenant == tenant then settled_work w s given (answer_to s hold now (answer_key given)) else w
-job_answered _ w s now given = w
+    if_own tenant s w
+    (settled_call w s given (answer_made s hold now (answer_key given)) (answer_to s hold now (answer_key given)))
+job_answered _ w s now given = only Idle w
 
--- what an answer leaves of the slot
-abbrev pub answer_work : Work → State → ℕ → Got → Work
-answer_work w s now got = job_answered w.job w s now (given_by w.room got)
-
--- what an answer to a call leaves of the book
-abbrev pub job_answer_book : Job → State → ℕ → Given → State
-job_answer_book (Job.Waits tenant hold frame) s now given =
-    if s.opening.tenant == tenant then answered s hold now (answer_key given) else s
-job_answer_book _ s now given = s
-
--- what an answer leaves of the book
-abbrev pub answer_book : Work → State → ℕ → Got → State
-answer_book w s now got = job_answer_book w.job s now (given_by w.room got)
+-- what an answer comes to
+abbrev pub answer_call : Work → State → ℕ → Got → Called
+answer_call w s now got = job_answered w.job w s now (given_by w.room got)
 
 -- ---- what a slot keeps
 

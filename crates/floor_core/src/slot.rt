@@ -4,10 +4,10 @@ ghost use Rattle.std.specs.Prelude.{◌≡◌, ◌≤◌, IfOk, IsOk, IsSome, So
 ghost use Rattle.ilp_addr.specs.Timestamp.{latest_expiry, timestamp_of};
 ghost use Rattle.ilp_view.specs.Packet.{max_frame, with_amount_and_expiry};
 ghost use Rattle.ilp_view.specs.Reading.{prepare_at, fulfill_at, reject_at};
-ghost use Rattle.tenant_core.specs.Judge.{IsSooner};
-ghost use Rattle.floor_core.specs.World.{answer_key, bytes_given, key_read};
+ghost use Rattle.tenant_core.specs.Judge.{IsSooner, decided, judge};
+ghost use Rattle.floor_core.specs.World.{answer_key, bytes_given, key_in, key_read};
 ghost use Rattle.floor_core.specs.SlotView.{target_at};
-ghost use Rattle.floor_core.specs.Work.{given_by, packet_book, packet_verdict, target_of};
+ghost use Rattle.floor_core.specs.Work.{given_by, target_of};
 ghost use Rattle.tenant_core.specs.Present.{network_of};
 
 use crate::parts::{Got, LoadFault, Turn};
@@ -66,8 +66,8 @@ impl Model for Slot {
 impl Slot {
     ghost use Rattle.std.specs.Prelude.{◌≡◌, ◌≤◌, ◌↔◌, IfOk, IsSome, Some, length};
     ghost use Rattle.ilp_view.specs.Packet.{max_frame};
-    ghost use Rattle.floor_core.specs.Work.{Job, Work, load_result, loaded, decide_turn, decide_work, decide_book};
-    ghost use Rattle.floor_core.specs.Work.{answer_turn, answer_work, answer_book, frame_of, tenant_in, carrying};
+    ghost use Rattle.tenant_core.specs.State.{recorded};
+    ghost use Rattle.floor_core.specs.Work.{Job, Work, load_result, loaded, decide_call, answer_call, frame_of, tenant_in, carrying};
     ghost use Rattle.floor_core.specs.Work.{IsWaiting, waiting_in, filled_as, filled_room, IsWork};
     ghost use Rattle.std.specs.Borrow.{sem};
     ghost use Rattle.floor_core.specs.Lending.{LendsRoom};
@@ -176,9 +176,9 @@ impl Slot {
     /// peer's; `Send` where the packet goes on, with the amount and the expiry of the verdict in place of its own and
     /// every other byte as it came; `Reply` for every other verdict. (RFC 0027; RFC 0031)
     pub fn decide(&mut self, book: &mut Book, now: Moment) -> Turn
-        ensures turn { result ≡ decide_turn self.old.job book.old now }
-        ensures slot { self.new ≡ decide_work self.old book.old now }
-        ensures book { book.new ≡ decide_book self.old.job book.old now }
+        ensures turn { result ≡ (decide_call self.old book.old now).turn }
+        ensures slot { self.new ≡ (decide_call self.old book.old now).work }
+        ensures book { book.new ≡ recorded book.old (decide_call self.old book.old now).made }
     {
         let Stage::Loaded { tenant, token } = &self.stage else {
             return Turn::Idle;
@@ -259,9 +259,9 @@ impl Slot {
     /// nothing has changed then. Else `Reply`: what came back, where the book relays it, or the refusal of its verdict.
     /// (RFC 0027)
     pub fn answer(&mut self, book: &mut Book, now: Moment, got: Got) -> Turn
-        ensures turn { result ≡ answer_turn self.old book.old now got }
-        ensures slot { self.new ≡ answer_work self.old book.old now got }
-        ensures book { book.new ≡ answer_book self.old book.old now got }
+        ensures turn { result ≡ (answer_call self.old book.old now got).turn }
+        ensures slot { self.new ≡ (answer_call self.old book.old now got).work }
+        ensures book { book.new ≡ recorded book.old (answer_call self.old book.old now got).made }
     {
         let Stage::Waiting { tenant, hold, .. } = &self.stage else {
             return Turn::Idle;
@@ -299,8 +299,8 @@ fn target_in(stage: &Stage) -> &Target
 fn decided(book: &mut Book, token: &[u8], room: &[u8], len: usize, now: Moment) -> Verdict
     requires len { len ≤ length room.now }
     requires prepare { IsOk (prepare_at (take len room.now)) }
-    ensures book { book.new ≡ packet_book book.old token.now (prepare_at (take len room.now)) now }
-    ensures verdict { Some result ≡ packet_verdict book.old token.now (prepare_at (take len room.now)) now }
+    ensures book { IfOk (prepare_at (take len room.now)) (λ p. book.new ≡ decided book.old token.now (key_in p) now) }
+    ensures verdict { IfOk (prepare_at (take len room.now)) (λ p. result ≡ judge book.old token.now (key_in p) now) }
     ensures sooner { IsSooner result latest_expiry }
     ensures opening { book.new.opening ≡ book.old.opening }
     ensures network { network_of book.new ≡ network_of book.old }

@@ -70,11 +70,14 @@ abbrev pub answer_record : ℕ → ℕ → AnswerKey → Verdict → Record
 answer_record hold now key v =
     record { entry = Answer (record { hold = hold; now = now; key = key }); outcome = Packet v }
 
+-- the record that an answer makes, if it makes one
+abbrev pub answer_made : State → ℕ → ℕ → AnswerKey → Option Record
+answer_made s hold now key =
+    option_map (λ h. answer_record hold now key (settle_answer h (max (clock_of s) now) key)) (open_hold s hold)
+
 -- the state after an answer
 abbrev pub answered : State → ℕ → ℕ → AnswerKey → State
-answered s hold now key =
-    recorded s (option_map
-    (λ h. answer_record hold now key (settle_answer h (max (clock_of s) now) key)) (open_hold s hold))
+answered s hold now key = recorded s (answer_made s hold now key)
 
 -- ---- ticks
 
@@ -94,7 +97,10 @@ tick_result s now = if has_no_place s then Err Full else Ok (tick_count s (max (
 abbrev pub tick_record : ℕ → ℕ → Record
 tick_record now count = record { entry = Tick (record { now = now }); outcome = Ticked count }
 
+-- the record that a tick makes, if it makes one
+abbrev pub tick_made : State → ℕ → Option Record
+tick_made s now = if has_no_place s then None else Some (tick_record now (tick_count s (max (clock_of s) now)))
+
 -- the state after a tick
 abbrev pub ticked : State → ℕ → State
-ticked s now =
-    recorded s (if has_no_place s then None else Some (tick_record now (tick_count s (max (clock_of s) now))))
+ticked s now = recorded s (tick_made s now)

@@ -124,10 +124,14 @@ abbrev pub record_left : Option Peer → Key → ℕ → Verdict → Option Reco
 record_left None key now v = None
 record_left (Some from) key now v = if is_recorded v then Some (decide_record from.number key now v) else None
 
+-- the record that the decide of a Prepare makes, if it makes one
+abbrev pub decide_made : State → List ℕ → Key → ℕ → Option Record
+decide_made s token key now =
+    record_left (peer_with_token token (network_of s).peers) key now (judge s token key now)
+
 -- the state after a Prepare was decided
 abbrev pub decided : State → List ℕ → Key → ℕ → State
-decided s token key now =
-    recorded s (record_left (peer_with_token token (network_of s).peers) key now (judge s token key now))
+decided s token key now = recorded s (decide_made s token key now)
 
 -- a packet that goes on expires no later than it did
 abbrev pub IsSooner : Verdict → ℕ → Type 0

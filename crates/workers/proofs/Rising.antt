@@ -1,22 +1,31 @@
 -- What a worker's share rises by, from what its books have counted.
-use Rattle.std.proofs.Common.{◌≡◌, ℕ, zero, suc, ◌+◌, Bool, true, false, cond, eqb, List, [], ◌∷◌, Option, Some, None, add-zero, get_or, refl, sym, ap, inl, inr, subst, arith}
+use Rattle.std.proofs.Common.{◌≡◌, ℕ, zero, suc, ◌+◌, Bool, true, false, cond, eqb, List, [], ◌∷◌, Option, Some, None, add-zero, get_or, refl, sym, ap, inl, inr, subst, arith, ◌∙◌}
 use Rattle.std.proofs.lemmas.Bool.{eqb-true}
 use Rattle.std.proofs.lemmas.List.{set-get_or}
-use Rattle.std.specs.Prelude.{Result, Ok, Err}
+use Rattle.std.specs.Prelude.{Result, Ok, Err, max, option_map}
 use Rattle.ilp_view.specs.Packet.{Prepare}
 use Rattle.ilp_view.specs.Reading.{prepare_at}
 use Rattle.ilp_view.specs.declared.fault.ViewFault.{ViewFault}
-use Rattle.tenant_core.specs.Judge.{judge}
-use Rattle.tenant_core.specs.State.{State}
+use Rattle.tenant_core.specs.Answer.{answer_made, answer_record, answer_to, settle_answer, settled}
+use Rattle.tenant_core.specs.Holds.{open_hold}
+use Rattle.tenant_core.specs.Judge.{judge, record_left}
+use Rattle.tenant_core.specs.Key.{Key}
+use Rattle.tenant_core.specs.Network.{peer_with_token}
+use Rattle.tenant_core.specs.Present.{network_of}
+use Rattle.tenant_core.specs.State.{State, clock_of}
+use Rattle.tenant_core.specs.declared.hold.Hold.{Hold}
+use Rattle.tenant_core.specs.declared.journal.AnswerKey.{AnswerKey}
+use Rattle.tenant_core.specs.declared.peer.Peer.{Peer}
 use Rattle.tenant_core.specs.declared.verdict.Verdict.{Verdict}
 use Rattle.tenant_core.specs.declared.verdict.Verdict.TheVariants.{Unknown, NoRoom, Refuse, Fulfil, Forward, Relay}
-use Rattle.floor_core.specs.Work.{Job, Work, decide_turn, job_decided, packet_turn, packet_verdict, packet_work, tenant_in, turn_of, work_after}
-use Rattle.floor_core.specs.World.{key_in}
+use Rattle.floor_core.specs.Work.{Job, Work, Called, answer_call, decide_call, frame_call, given_by, job_answered, job_decided, only, settled_call, tenant_in, verdict_call}
+use Rattle.floor_core.specs.World.{answer_key, key_in}
+use Rattle.floor_core.specs.declared.parts.Got.{Got}
+use Rattle.floor_core.specs.declared.step.Given.{Given}
 use Rattle.floor_core.specs.declared.parts.Turn.{Turn}
 use Rattle.floor_core.specs.declared.parts.Turn.TheVariants as turns
-use Rattle.books_shared.specs.Rises.{a_full_journal, an_entry, decide_rise, nothing, rise_of_verdict}
-use Rattle.books_shared.specs.Shares.{ShareView, added, is_spent, raised, used_up, with_room}
-use Rattle.books_shared.specs.Turns.{IsCounted, IsSettled}
+use Rattle.books_shared.specs.Rises.{a_full_journal, a_stranger, an_entry, nothing, rise_of}
+use Rattle.books_shared.specs.Shares.{ShareView, added, is_spent, raised, with_room}
 use Rattle.books_shared.specs.declared.rise.Rise.{Rise}
 use Rattle.workers.specs.Counting.{HasDecided, HasSettled, IsEntered, Rises, two_entries}
 
@@ -43,21 +52,6 @@ rises_same t s =
       strangers = sym (added_zero s.strangers t);
       full = sym (added_zero s.full t);
     }
-
-rises_used_up : (t : ℕ) (s : ShareView) → Rises nothing t s (used_up s)
-rises_used_up t s =
-    record {
-      worker = refl;
-      counts = sym (added_zero s.counts t);
-      strangers = sym (added_zero s.strangers t);
-      full = sym (added_zero s.full t);
-    }
-
-rises_raised : (rise : Rise) (t : ℕ) (before after : ShareView) → after ≡ raised rise t before → Rises rise t before after
-rises_raised rise t before after is = subst (λ (a : ShareView). Rises rise t before a) (sym is) (rises_by rise t before)
-
-rises_nothing : (t : ℕ) (before after : ShareView) → after ≡ used_up before → Rises nothing t before after
-rises_nothing t before after is = subst (λ (a : ShareView). Rises nothing t before a) (sym is) (rises_used_up t before)
 
 -- one rise after another
 both_rise : (one other both : Rise) (t : ℕ) (x y z : ShareView) → both.entries ≡ one.entries + other.entries
@@ -115,77 +109,89 @@ spends_nothing t s roomy is = subst (λ (r : ShareView). Rises nothing t s r) (s
 
 -- ---- a decide
 
-verdict_entered : (v : Verdict) (s : State) (t : ℕ) (token : List ℕ) (p : Prepare) (room : List ℕ) (b : ShareView) → turn_of v ≡ turns.Reply
-    → IsEntered t (work_after s t token p room v).reply b (raised (rise_of_verdict (Some v)) t b)
-verdict_entered Unknown s t token p room b is = absurd cc
-verdict_entered NoRoom s t token p room b is = inr (rises_by a_full_journal t b, record { address = s.opening.address; same = refl })
-verdict_entered (Refuse code amounts) s t token p room b is = inl (rises_by an_entry t b)
-verdict_entered Fulfil s t token p room b is = inl (rises_by an_entry t b)
-verdict_entered (Forward hold peer amount expiry) s t token p room b is = absurd cc
-verdict_entered Relay s t token p room b is = inl (rises_by an_entry t b)
+-- nothing is counted, for whichever tenant
+rises_none : (t u : ℕ) (s : ShareView) → Rises nothing t s (raised nothing u s)
+rises_none t u s =
+    record {
+      worker = refl;
+      counts = added_zero s.counts u ∙ sym (added_zero s.counts t);
+      strangers = added_zero s.strangers u ∙ sym (added_zero s.strangers t);
+      full = added_zero s.full u ∙ sym (added_zero s.full t);
+    }
 
-packet_entered : (r : Result Prepare ViewFault) (w : Work) (s : State) (t : ℕ) (token : List ℕ) (now : ℕ) (b : ShareView)
-    → packet_turn s token r now ≡ turns.Reply
-    → IsEntered t (packet_work w s t token r now).reply b (raised (rise_of_verdict (packet_verdict s token r now)) t b)
-packet_entered (Ok p) w s t token now b is = verdict_entered (judge s token (key_in p) now) s t token p w.room b is
-packet_entered (Err f) w s t token now b is = absurd cc
+abbrev DecidesSo : Called → (t u : ℕ) → ShareView → Type 0
+DecidesSo c t u b = HasDecided c.turn t c.work.reply b (raised (rise_of c) u b)
 
-carried_entered : (t : ℕ) (token frame : List ℕ) (w : Work) (s : State) (now : ℕ) (b : ShareView)
-    → decide_turn (Job.Carries t token frame) s now ≡ turns.Reply
-    → IsEntered t (job_decided (Job.Carries t token frame) w s now).reply b (raised (decide_rise (Job.Carries t token frame) s now) s.opening.tenant b)
-carried_entered t token frame w s now b = by (eqb s.opening.tenant t) refl
-  where
-    by : (e : Bool) → eqb s.opening.tenant t ≡ e → cond e (packet_turn s token (prepare_at frame) now) turns.Stray ≡ turns.Reply
-        → IsEntered t (cond e (packet_work w s t token (prepare_at frame) now) w).reply b
-        (raised (rise_of_verdict (cond e (packet_verdict s token (prepare_at frame) now) None)) s.opening.tenant b)
-    by true is told =
-        subst (λ (u : ℕ). IsEntered t (packet_work w s t token (prepare_at frame) now).reply b
-        (raised (rise_of_verdict (packet_verdict s token (prepare_at frame) now)) u b))
-        (sym (eqb-true s.opening.tenant t is)) (packet_entered (prepare_at frame) w s t token now b told)
-    by false is told = absurd cc
+verdict_rises : (o : Option Peer) (v : Verdict) → (o ≡ None → v ≡ Unknown) → (s : State) (t : ℕ) (token : List ℕ) (p : Prepare) (room : List ℕ) (key : Key) (now : ℕ)
+    (b : ShareView) → DecidesSo (verdict_call s t token p room (record_left o key now v) v) t t b
+verdict_rises None v unknown s t token p room key now b =
+    subst (λ (x : Verdict). DecidesSo (verdict_call s t token p room None x) t t b) (sym (unknown refl)) (rises_by a_stranger t b)
+verdict_rises (Some from) Unknown unknown s t token p room key now b = rises_by a_stranger t b
+verdict_rises (Some from) NoRoom unknown s t token p room key now b = inr (rises_by a_full_journal t b, record { address = s.opening.address; same = refl })
+verdict_rises (Some from) (Refuse code amounts) unknown s t token p room key now b = inl (rises_by an_entry t b)
+verdict_rises (Some from) Fulfil unknown s t token p room key now b = inl (rises_by an_entry t b)
+verdict_rises (Some from) (Forward hold peer amount expiry) unknown s t token p room key now b = rises_by an_entry t b
+verdict_rises (Some from) Relay unknown s t token p room key now b = inl (rises_by an_entry t b)
 
-job_entered : (job : Job) (t : ℕ) (w : Work) (s : State) (now : ℕ) (b : ShareView) → tenant_in job ≡ Some t
-    → decide_turn job s now ≡ turns.Reply
-    → IsEntered t (job_decided job w s now).reply b (raised (decide_rise job s now) s.opening.tenant b)
-job_entered Job.NoJob t w s now b of told = absurd cc
-job_entered (Job.Waits tenant hold frame) t w s now b of told = absurd cc
-job_entered (Job.Carries tenant token frame) t w s now b of told =
+judge_none : (s : State) (token : List ℕ) (key : Key) (now : ℕ) → peer_with_token token (network_of s).peers ≡ None → judge s token key now ≡ Unknown
+judge_none s token key now e = rw e refl
+
+frame_rises : (r : Result Prepare ViewFault) (w : Work) (s : State) (t : ℕ) (token : List ℕ) (now : ℕ) (b : ShareView) → DecidesSo (frame_call w s t token r now) t t b
+frame_rises (Ok p) w s t token now b =
+    verdict_rises (peer_with_token token (network_of s).peers) (judge s token (key_in p) now) (judge_none s token (key_in p) now) s t token p w.room (key_in p) now b
+frame_rises (Err f) w s t token now b = rises_none t t b
+
+decide_rises : (job : Job) (w : Work) (s : State) (now t : ℕ) (b : ShareView) → tenant_in job ≡ Some t → DecidesSo (job_decided job w s now) t s.opening.tenant b
+decide_rises Job.NoJob w s now t b of = absurd cc
+decide_rises (Job.Waits tenant hold frame) w s now t b of = rises_none t s.opening.tenant b
+decide_rises (Job.Carries tenant token frame) w s now t b of =
     let same : tenant ≡ t = cc in
-    subst (λ (u : ℕ). IsEntered u (job_decided (Job.Carries tenant token frame) w s now).reply b
-    (raised (decide_rise (Job.Carries tenant token frame) s now) s.opening.tenant b))
-    same (carried_entered tenant token frame w s now b told)
-
-decided_counts : (turn : Turn) (t : ℕ) (reply : List ℕ) (before after : ShareView) → (turn ≡ turns.Reply → IsEntered t reply before after)
-    → IsCounted turn (Some t) before after → HasDecided turn t reply before after
-decided_counts turns.Idle t reply before after told h = rises_nothing t before after h
-decided_counts turns.Stray t reply before after told h = rises_nothing t before after h
-decided_counts turns.Stranger t reply before after told h = rises_raised _ t before after h
-decided_counts turns.Reply t reply before after told h = told refl
-decided_counts (turns.Send peer hold) t reply before after told h = rises_raised _ t before after h
+    subst (λ (u : ℕ). DecidesSo (job_decided (Job.Carries tenant token frame) w s now) u s.opening.tenant b) same (by (eqb s.opening.tenant tenant) refl)
+  where
+    by : (e : Bool) → eqb s.opening.tenant tenant ≡ e
+        → DecidesSo (cond e (frame_call w s tenant token (prepare_at frame) now) (only turns.Stray w)) tenant s.opening.tenant b
+    by true is =
+        subst (λ (u : ℕ). DecidesSo (frame_call w s tenant token (prepare_at frame) now) tenant u b)
+        (sym (eqb-true s.opening.tenant tenant is)) (frame_rises (prepare_at frame) w s tenant token now b)
+    by false is = rises_none tenant s.opening.tenant b
 
 -- what a decide counts, and tells where the journal is full
 pub has_decided : (turn : Turn) (t : ℕ) (w left : Work) (s : State) (now : ℕ) (before after : ShareView) → tenant_in w.job ≡ Some t
-    → turn ≡ decide_turn w.job s now → left ≡ job_decided w.job w s now → after ≡ raised (decide_rise w.job s now) s.opening.tenant before
-    → IsCounted turn (tenant_in w.job) before after → HasDecided turn t left.reply before after
-has_decided turn t w left s now before after of turned worked counted h =
-    decided_counts turn t left.reply before after
-    (λ is. rw (worked, counted) (job_entered w.job t w s now before of (rw (sym turned) is)))
-    (subst (λ (o : Option ℕ). IsCounted turn o before after) of h)
+    → turn ≡ (decide_call w s now).turn → left ≡ (decide_call w s now).work → after ≡ raised (rise_of (decide_call w s now)) s.opening.tenant before
+    → HasDecided turn t left.reply before after
+has_decided turn t w left s now before after of turned worked counted = rw (turned, worked, counted) (decide_rises w.job w s now t before of)
 
 -- ---- an answer
 
-settled_counts : (turn : Turn) (t : ℕ) (before after : ShareView) → IsSettled turn (Some t) before after → HasSettled turn t before after
-settled_counts turns.Idle t before after h = rises_nothing t before after h
-settled_counts turns.Stray t before after h = rises_nothing t before after h
-settled_counts turns.Stranger t before after h = rises_nothing t before after h
-settled_counts turns.Reply t before after h = rises_raised _ t before after h
-settled_counts (turns.Send peer hold) t before after h = rises_nothing t before after h
+abbrev SettlesSo : Called → (t u : ℕ) → ShareView → Type 0
+SettlesSo c t u b = HasSettled c.turn t b (raised (rise_of c) u b)
+
+hold_rises : (o : Option Hold) (hold clock now : ℕ) (key : AnswerKey) (given : Given) (w : Work) (s : State) (t : ℕ) (b : ShareView)
+    → SettlesSo (settled_call w s given (option_map (λ h. answer_record hold now key (settle_answer h clock key)) o) (settled o clock key)) t t b
+hold_rises None hold clock now key given w s t b = rises_none t t b
+hold_rises (Some h) hold clock now key given w s t b = rises_by an_entry t b
+
+answer_rises : (job : Job) (w : Work) (s : State) (now : ℕ) (given : Given) (t : ℕ) (b : ShareView) → tenant_in job ≡ Some t
+    → SettlesSo (job_answered job w s now given) t s.opening.tenant b
+answer_rises Job.NoJob w s now given t b of = absurd cc
+answer_rises (Job.Carries tenant token frame) w s now given t b of = rises_none t s.opening.tenant b
+answer_rises (Job.Waits tenant hold frame) w s now given t b of =
+    let same : tenant ≡ t = cc in
+    subst (λ (u : ℕ). SettlesSo (job_answered (Job.Waits tenant hold frame) w s now given) u s.opening.tenant b) same (by (eqb s.opening.tenant tenant) refl)
+  where
+    call : Called
+    call = settled_call w s given (answer_made s hold now (answer_key given)) (answer_to s hold now (answer_key given))
+
+    by : (e : Bool) → eqb s.opening.tenant tenant ≡ e → SettlesSo (cond e call (only turns.Stray w)) tenant s.opening.tenant b
+    by true is =
+        subst (λ (u : ℕ). SettlesSo call tenant u b) (sym (eqb-true s.opening.tenant tenant is))
+        (hold_rises (open_hold s hold) hold (max (clock_of s) now) now (answer_key given) given w s tenant b)
+    by false is = rises_none tenant s.opening.tenant b
 
 -- what an answer counts
-pub has_settled : (turn : Turn) (t : ℕ) (job : Job) (before after : ShareView) → tenant_in job ≡ Some t
-    → IsSettled turn (tenant_in job) before after → HasSettled turn t before after
-has_settled turn t job before after of h =
-    settled_counts turn t before after (subst (λ (o : Option ℕ). IsSettled turn o before after) of h)
+pub has_settled : (turn : Turn) (t : ℕ) (w : Work) (s : State) (now : ℕ) (got : Got) (before after : ShareView) → tenant_in w.job ≡ Some t
+    → turn ≡ (answer_call w s now got).turn → after ≡ raised (rise_of (answer_call w s now got)) s.opening.tenant before → HasSettled turn t before after
+has_settled turn t w s now got before after of turned counted = rw (turned, counted) (answer_rises w.job w s now (given_by w.room got) t before of)
 
 -- where an answer settled nothing, nothing was counted
 pub unsettled : (turn : Turn) (t : ℕ) (before after : ShareView) → (turn ≡ turns.Reply → ⊥) → HasSettled turn t before after → Rises nothing t before after

@@ -4,8 +4,8 @@ use Rattle.workers.proofs.carrying.answer.Goals as goal
 
 pub returns-clause-counted : goal.returns-clause-counted
 returns-clause-counted g c =
-    has_settled c.answer.result c.args.tenant c.args.slot.now.job c.args.share.now c.answer.new.share
-    c.requires.tenant c.answer.ensures.counted
+    has_settled c.answer.result c.args.tenant c.args.slot.now c.enter-guard.result.state c.now.result c.args.got c.args.share.now c.answer.new.share
+    c.requires.tenant c.answer.ensures.turn c.answer.ensures.share
 
 pub returns-clause-answered : goal.returns-clause-answered
 returns-clause-answered g c =

@@ -35,7 +35,7 @@ returns-in_default g c =
             answered = c.send-got.new.slot;
             went = record {
               waiting = c.decide-turn.new.slot;
-              forwarded = c.in-Send.ensures.decided;
+              forwarded = record { peer = c.in-Send.peer; hold = c.in-Send.hold; decided = c.in-Send.ensures.decided };
               sent = c.send-got.ensures.exchanged;
             };
             missed = missed.0;

@@ -1,8 +1,8 @@
-use Rattle.std.proofs.Common.{rules}
-use Rattle.books_shared.proofs.Turned.{counts-answer}
+use Rattle.floor_core.specs.Work.{answer_call}
+use Rattle.books_shared.proofs.Entries.{small}
 use Rattle.books_shared.proofs.guard.Guard.answer.Goals as goal
 
-pub returns-clause-counted : goal.returns-clause-counted
-returns-clause-counted c =
-    counts-answer c.args.slot.now c.args.self.now.state c.args.now c.args.got c.args.share.now c.answer-turn.result.0 c.raise.new.self
-    (search rules) (search rules)
+pub raise-requires-clause-small : goal.raise-requires-clause-small
+raise-requires-clause-small c =
+    let call = answer_call c.args.slot.now c.deref_mut.result.now.state c.args.now c.args.got in
+    rw c.answer-turn.ensures.rise (small call.turn call.made)
