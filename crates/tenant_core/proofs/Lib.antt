@@ -2,6 +2,7 @@ pub mod Courses
 pub mod Ticking
 pub mod Slots
 pub mod Replays
+pub mod Making
 pub mod Purses
 pub mod Verdicts
 pub mod Soundness

@@ -1,7 +1,7 @@
 -- Commands of an operator: what each is answered with, and the state after it.
 use Rattle.std.specs.Prelude.{ℕ, ◌≡◌, map, max, Option, Some, None, Result, Ok, Err}
 use Rattle.tenant_core.specs.Orders.{ordered, change_record}
-use Rattle.tenant_core.specs.Periods.{roll_refusal, closed, next_opening}
+use Rattle.tenant_core.specs.Periods.{roll_refusal, roll_record, closed, next_opening}
 use Rattle.tenant_core.specs.Present.{network_of}
 use Rattle.tenant_core.specs.Purse.{row_of}
 use Rattle.tenant_core.specs.State.{State, opened, clock_of, recorded}
@@ -12,6 +12,7 @@ use Rattle.tenant_core.specs.declared.command.Command.TheVariants as command
 use Rattle.tenant_core.specs.declared.faults.CommandFault.{CommandFault}
 use Rattle.tenant_core.specs.declared.faults.CommandFault.TheVariants.{Memory}
 use Rattle.tenant_core.specs.declared.journal.Change.{Change as Changed}
+use Rattle.tenant_core.specs.declared.journal.Record.{Record}
 
 -- what an order is answered with: the change that it makes, or what it is refused for
 abbrev pub order_answer : Result Changed CommandFault → Result Answered CommandFault
@@ -23,6 +24,11 @@ abbrev pub order_left : State → Result Changed CommandFault → ℕ → State
 order_left s (Ok change) now = recorded s (Some (change_record change now))
 order_left s (Err fault) now = s
 
+-- the record that it makes, if it makes one
+abbrev pub order_made : Result Changed CommandFault → ℕ → Option Record
+order_made (Ok change) now = Some (change_record change now)
+order_made (Err fault) now = None
+
 -- what a roll is answered with, by what it is refused for
 abbrev pub roll_answer : State → Option CommandFault → ℕ → Result Answered CommandFault
 roll_answer s None now = Ok (Rolled (closed s now))
@@ -32,6 +38,11 @@ roll_answer s (Some fault) now = Err fault
 abbrev pub roll_left : State → Option CommandFault → ℕ → State
 roll_left s None now = opened (next_opening s (max (clock_of s) now))
 roll_left s (Some fault) now = s
+
+-- the record that it makes, if it makes one: the last of the period that it closes
+abbrev pub roll_made : Option CommandFault → ℕ → Option Record
+roll_made None now = Some (roll_record now)
+roll_made (Some fault) now = None
 
 -- what a command is answered with at that moment
 abbrev pub command_answer : State → Command → ℕ → Result Answered CommandFault
@@ -44,6 +55,17 @@ abbrev pub commanded : State → Command → ℕ → State
 commanded s (command.Order order) now = order_left s (ordered s order) now
 commanded s command.Balances now = s
 commanded s command.Roll now = roll_left s (roll_refusal s) now
+
+-- the record that it makes, if it makes one
+abbrev pub command_made : State → Command → ℕ → Option Record
+command_made s (command.Order order) now = order_made (ordered s order) now
+command_made s command.Balances now = None
+command_made s command.Roll now = roll_made (roll_refusal s) now
+
+-- the record that a command made which was answered so: none where it was refused, or for want of memory
+abbrev pub made_by : Result Answered CommandFault → State → Command → ℕ → Option Record
+made_by (Ok answered) s c now = command_made s c now
+made_by (Err fault) s c now = None
 
 -- a fault is what was to come, or want of memory where nothing is refused
 abbrev pub IsRefusal : CommandFault → Result Answered CommandFault → Type 0

@@ -31,6 +31,7 @@ pub mod Orders
 pub mod Periods
 pub mod Governed
 pub mod Replay
+pub mod Made
 pub mod Setup
 pub mod Sound
 pub mod OpenHolds

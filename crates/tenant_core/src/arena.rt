@@ -147,7 +147,7 @@ impl Journal {
     ghost use Rattle.tenant_core.specs.declared.journal.Outcome.TheVariants.{Packet, Ticked, Done, Rolled};
 
     /// No record, and room for so many. The one error is want of memory.
-    pub fn new(alloc: Global, places: usize) -> Result<Journal, AllocError>
+    pub(crate) fn new(alloc: Global, places: usize) -> Result<Journal, AllocError>
         requires { places ≤ max_places }
         ensures { IfOk result (λ journal. journal ≡ no_records places) }
     {
@@ -161,7 +161,7 @@ impl Journal {
     }
 
     /// No record, and no room. It takes no memory.
-    pub fn without_room(alloc: Global) -> Journal
+    pub(crate) fn without_room(alloc: Global) -> Journal
         ensures { result ≡ no_records 0 }
     {
         Journal {
@@ -172,7 +172,7 @@ impl Journal {
     }
 
     /// The same records once more, with as much room. The one error is want of memory.
-    pub fn copy(&self, alloc: Global) -> Result<Journal, AllocError>
+    pub(crate) fn copy(&self, alloc: Global) -> Result<Journal, AllocError>
         ensures { IfOk result (λ copy. copy ≡ self.now) }
     {
         let records = copied_records(alloc, &self.records, self.places)?;
@@ -204,7 +204,7 @@ impl Journal {
     }
 
     /// The verdict of a Prepare more.
-    pub fn push_decide(&mut self, decide: DecideView<'_>, verdict: Verdict)
+    pub(crate) fn push_decide(&mut self, decide: DecideView<'_>, verdict: Verdict)
         requires room { length self.old.records < self.old.places }
         requires short { length decide.destination.now ≤ 1023 }
         ensures { self.new ≡ with_record (record { entry = Decide (decide_of decide.entry); outcome = Packet verdict }) self.old }
@@ -227,7 +227,7 @@ impl Journal {
     }
 
     /// The verdict of an answer more.
-    pub fn push_answer(&mut self, answer: AnswerEntry, verdict: Verdict)
+    pub(crate) fn push_answer(&mut self, answer: AnswerEntry, verdict: Verdict)
         requires { length self.old.records < self.old.places }
         ensures { self.new ≡ with_record (record { entry = Answer answer; outcome = Packet verdict }) self.old }
     {
@@ -238,7 +238,7 @@ impl Journal {
     }
 
     /// A tick more, which marked so many packets overdue.
-    pub fn push_tick(&mut self, tick: TickEntry, count: u32)
+    pub(crate) fn push_tick(&mut self, tick: TickEntry, count: u32)
         requires { length self.old.records < self.old.places }
         ensures { self.new ≡ with_record (record { entry = Tick tick; outcome = Ticked count }) self.old }
     {
@@ -249,7 +249,7 @@ impl Journal {
     }
 
     /// An accepted order more, which was put into a place of its own before.
-    pub fn push_change(&mut self, change: Boxed<ChangeEntry>)
+    pub(crate) fn push_change(&mut self, change: Boxed<ChangeEntry>)
         requires { length self.old.records < self.old.places }
         ensures { self.new ≡ with_record (record { entry = Change change; outcome = Done }) self.old }
     {
@@ -260,7 +260,7 @@ impl Journal {
     }
 
     /// The end of the period.
-    pub fn push_roll(&mut self, roll: RollEntry)
+    pub(crate) fn push_roll(&mut self, roll: RollEntry)
         requires { length self.old.records < self.old.places }
         ensures { self.new ≡ with_record (record { entry = Roll roll; outcome = Rolled }) self.old }
     {

@@ -145,6 +145,13 @@ impl Book {
         self.opening.tenant
     }
 
+    /// The journal of the period.
+    pub fn journal(&self) -> &Journal
+        ensures { result.now.records ≡ self.now.records }
+    {
+        &self.journal
+    }
+
     /// The name of the peer of that number.
     pub fn peer_name(&self, peer: PeerNo) -> Option<&[u8]>
         ensures value { option_copied result

@@ -1,6 +1,7 @@
 //! Laws of books and their states, each the contract of a function that does nothing.
 
 ghost use Rattle.tenant_core.specs.Calls.{CallLaws};
+ghost use Rattle.tenant_core.specs.Made.{MadeLaws};
 ghost use Rattle.tenant_core.specs.OpenHolds.{OpenHoldLaws};
 ghost use Rattle.tenant_core.specs.Sound.{IsSound};
 ghost use Rattle.tenant_core.specs.Staying.{StayingLaws};
@@ -29,4 +30,9 @@ pub fn what_stays()
 /// No call makes a book another tenant's, and an answer settles a packet exactly where one is awaited.
 pub fn calls()
     ensures { CallLaws }
+{}
+
+/// Each record has the outcome that its entry led to in the state before it.
+pub fn records_are_made()
+    ensures { MadeLaws }
 {}

@@ -32,6 +32,7 @@ mod setup;
 mod terms;
 mod verdict;
 
+pub use arena::Journal;
 pub use book::Book;
 pub use command::{Amount, Answered, Command, Order, Pair, Side};
 pub use faults::{BookFault, CommandFault, HoldFault};

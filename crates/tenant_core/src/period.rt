@@ -44,6 +44,13 @@ impl Records {
         Records { journal }
     }
 
+    /// The journal that they came from.
+    pub fn journal(&self) -> &Journal
+        ensures { result.now.records ≡ self.now }
+    {
+        &self.journal
+    }
+
     /// How many there are.
     pub fn len(&self) -> usize
         ensures { result ≡ length self.now }

@@ -1,0 +1,17 @@
+-- Records that say what was to come: each has the outcome that its entry leads to in the state before it.
+use Rattle.std.specs.Prelude.{ℕ, ◌≡◌, Option, Some, None}
+use Rattle.tenant_core.specs.Periods.{roll_record, roll_refusal}
+use Rattle.tenant_core.specs.Replay.{IsReplay, outcome_of}
+use Rattle.tenant_core.specs.State.{State, recorded}
+use Rattle.tenant_core.specs.declared.journal.Record.{Record}
+
+-- the record has the outcome that its entry leads to in the state
+abbrev pub IsMade : State → Record → Type 0
+IsMade s r = outcome_of s r.entry ≡ Some r.outcome
+
+-- which records do
+pub record MadeLaws : Type 0 where
+  -- the last one of a replay, in the state before it
+  pub last : (s : State) (r : Record) → IsReplay (recorded s (Some r)) → IsMade s r
+  -- a roll's, where nothing refuses the roll
+  pub roll : (s : State) (now : ℕ) → roll_refusal s ≡ None → IsMade s (roll_record now)
