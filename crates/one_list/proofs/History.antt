@@ -1,0 +1,27 @@
+-- Histories.
+use Rattle.std.proofs.Common.{◌≡◌, List, [], ◌∷◌, ◌++◌, refl, sym, ap, subst}
+use Rattle.std.specs.Prelude.{Some, None}
+use Rattle.std.proofs.lemmas.List.Sums.{fold-append}
+use Rattle.tenant_core.specs.Made.{IsMade}
+use Rattle.tenant_core.specs.State.{State, opened}
+use Rattle.tenant_core.specs.declared.journal.Record.{Record}
+use Rattle.one_list.specs.declared.step.Done.{Done}
+use Rattle.one_list.specs.Steps.{last_of}
+use Rattle.one_list.specs.History.{HistoryLaws, LeadTo, after_record}
+
+-- steps lead on by one step more
+pub lead_on : (from s : State) (steps : List Done) (e : Done) → LeadTo from steps s → IsMade s e.made → LeadTo from (steps ++ e ∷ []) (after_record s e.made)
+lead_on from s [] e is made = (subst (λ z. IsMade z e.made) (sym is) made, ap (λ z. after_record z e.made) is)
+lead_on from s (x ∷ xs) e led made = (led.0, lead_on (after_record from x.made) s xs e led.1 made)
+
+-- the last record of a list that ends with it
+pub last_pushed : (records : List Record) (r : Record) → last_of (records ++ r ∷ []) ≡ Some r
+last_pushed records r = fold-append (λ o x. Some x) None records (r ∷ [])
+
+pub laws : HistoryLaws
+laws =
+    record {
+      begins = λ o. refl;
+      goes_on = λ o steps s e led made. lead_on (opened o) s steps e led made;
+      last = last_pushed;
+    }

@@ -1,0 +1,4 @@
+pub mod Moves
+pub mod Gathered
+pub mod History
+pub mod Crossing

@@ -1,0 +1,37 @@
+use Rattle.std.proofs.Common.{sym, ap, ◌∙◌, [], ◌∷◌, List}
+use Rattle.atomic_table.specs.Table.{Me}
+use Rattle.tenant_core.specs.Journals.{Recorded}
+use Rattle.one_list.specs.declared.rule.Claim.{Claim}
+use Rattle.one_list.specs.Parts.{steps_in}
+use Rattle.one_list.proofs.Gathered.{seated, claimed}
+use Rattle.one_list.proofs.chronicle.Chronicle.record.Goals as goal
+
+pub add-mine-requires-clause-mine : goal.add-mine-requires-clause-mine
+add-mine-requires-clause-mine g c =
+    let s = c.into_seat-mine.ensures in
+    (steps_in c.tenant.inside.pass.views, seated (sym s.2 ∙ (ap (λ b. b.views) c.replace.ensures.value ∙ c.tenant.invariant.claims)) s.3)
+
+pub add-mine-requires-clause-theirs : goal.add-mine-requires-clause-theirs
+add-mine-requires-clause-theirs g c =
+    let s = c.into_seat-theirs.ensures in
+    (steps_in c.worker.inside.pass.views, seated (sym s.2 ∙ (ap (λ b. b.views) c.replace-2.ensures.value ∙ c.worker.invariant.claims)) s.3)
+
+pub invariant_of-tenant : goal.invariant_of-tenant
+invariant_of-tenant g c =
+    let i = c.tenant.invariant in
+    let s = c.into_seat-mine.ensures in
+    let me = seated (sym s.2 ∙ (ap (λ b. b.views) c.replace.ensures.value ∙ i.claims)) s.3 in
+    let p = c.add-mine.ensures.mine (steps_in c.tenant.inside.pass.views) me in
+    let b = c.into_badge.ensures in
+    let now = b.2 ∙ ap (λ (m : Me Recorded (List Claim)). m.0 ∷ []) p in
+    record { below = i.below; same_table = b.0 ∙ c.add-mine.ensures.tables.0; claims = claimed now }
+
+pub invariant_of-worker : goal.invariant_of-worker
+invariant_of-worker g c =
+    let i = c.worker.invariant in
+    let s = c.into_seat-theirs.ensures in
+    let me = seated (sym s.2 ∙ (ap (λ b. b.views) c.replace-2.ensures.value ∙ i.claims)) s.3 in
+    let p = c.add-mine.ensures.theirs (steps_in c.worker.inside.pass.views) me in
+    let b = c.into_badge-2.ensures in
+    let now = b.2 ∙ ap (λ (m : Me Recorded (List Claim)). m.0 ∷ []) p in
+    record { below = i.below; same_table = b.0 ∙ c.add-mine.ensures.tables.1; claims = claimed now }

@@ -1,0 +1,4 @@
+pub mod Steps
+pub mod Rules
+pub mod Parts
+pub mod History

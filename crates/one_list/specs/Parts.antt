@@ -1,0 +1,81 @@
+-- What the types are seen as, and what they keep.
+use Rattle.std.specs.Prelude.{ℕ, Bool, true, false, ◌≡◌, ◌≤◌, ◌<◌, ◌-◌, ◌^◌, List, [], ◌∷◌, map}
+use Rattle.atomic_table.specs.Seated.{TableId}
+use Rattle.atomic_table.specs.Table.{Me}
+use Rattle.tenant_core.specs.Journals.{Recorded}
+use Rattle.tenant_core.specs.Limits.{max_tenants}
+use Rattle.one_list.specs.declared.step.Done.{Done}
+use Rattle.one_list.specs.declared.step.Size.{Size}
+use Rattle.one_list.specs.declared.rule.Claim.{Claim}
+use Rattle.one_list.specs.Steps.{PartView}
+use Rattle.one_list.specs.Rules.{claim, claims_of, first_view, new_claims, table_words}
+
+-- a list of which no run has been picked: which table stands behind it, and how many tenants and workers there are
+pub record OpenedView : Type 0 where
+  pub table : TableId
+  pub size : Size
+
+-- how many tenants' parts were handed out, and how many workers'
+pub record UnclaimedView : Type 0 where
+  pub tenants : ℕ
+  pub workers : ℕ
+
+-- the parts that were put together
+pub record GatheringView : Type 0 where
+  pub tenants : List PartView
+  pub workers : List PartView
+
+-- ---- what the types keep
+
+-- a table has words for that many tenants
+pub record IsRoomy (table : TableId) (size : Size) : Type 0 where
+  pub words : table.words ≡ table_words
+  pub few : size.tenants ≤ max_tenants
+
+-- the table of an opened list, and its first pass
+pub record IsOpened (table : TableId) (size : Size) (at : TableId) (me : Me Recorded (List Claim)) : Type 0 where
+  pub roomy : IsRoomy table size
+  pub countable : size.workers < 2 ^ 64
+  pub same_table : at ≡ table
+  pub claims : me ≡ (first_view size, [])
+
+-- the table of a run's list
+pub record IsChronicle (table : TableId) (size : Size) (at : TableId) (key : Size) : Type 0 where
+  pub roomy : IsRoomy table size
+  pub same_table : at ≡ table
+  pub same_size : key ≡ size
+
+-- a pass that claims no step of so many workers, or tenants, from that number on
+pub record IsUnclaimed (table : TableId) (of_worker : Bool) (from most : ℕ) (at : TableId) (me : Me Recorded (List Claim)) : Type 0 where
+  pub few : from ≤ most
+  pub countable : most < 2 ^ 64
+  pub same_table : at ≡ table
+  pub claims : me ≡ (new_claims of_worker from (most - from), [])
+
+-- the steps that a part's pass claims
+abbrev pub steps_in : List (List Claim) → List Done
+steps_in ((c ∷ cs) ∷ vs) = c.steps
+steps_in _ = []
+
+-- what a part is seen as
+abbrev pub part_of : ℕ → List (List Claim) → PartView
+part_of number views = record { number = number; steps = steps_in views }
+
+-- the pass of the part of that worker, or of that tenant
+pub record IsPart (table : TableId) (of_worker : Bool) (number most : ℕ) (at : TableId) (views : List (List Claim)) : Type 0 where
+  pub below : number < most
+  pub same_table : at ≡ table
+  pub claims : views ≡ (claim of_worker number (steps_in views) ∷ []) ∷ []
+
+-- the workers', or the tenants', parts of which the claims speak
+abbrev pub parts_of : Bool → List Claim → List PartView
+parts_of of_worker v = map (λ c. record { number = c.number; steps = c.steps }) (claims_of of_worker v)
+
+-- what parts that were put together are seen as
+abbrev pub gathered : List Claim → GatheringView
+gathered v = record { tenants = parts_of false v; workers = parts_of true v }
+
+-- the pass of the parts that were put together
+pub record IsGathering (table at : TableId) (me : Me Recorded (List Claim)) : Type 0 where
+  pub same_table : at ≡ table
+  pub free : me.1 ≡ []

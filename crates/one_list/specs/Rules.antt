@@ -1,0 +1,127 @@
+-- What passes know of the one list, and how steps change it.
+use Rattle.std.specs.Prelude.{ℕ, zero, suc, ◌≡◌, ◌≤◌, ◌<◌, ◌+◌, ◌*◌, ◌==◌, ◌&&◌, cond, not, Bool, true, false, List, [], ◌∷◌, ◌++◌, filter, map, count_by, sum_by, All}
+use mathlib.Core.Option.{Option, none, some}
+use lib.ListN.{get_elem?}
+use Rattle.atomic_table.specs.Table.{Step, Me}
+use Rattle.atomic_table.specs.Seated.{TableId}
+use Rattle.tenant_core.specs.Journals.{Recorded}
+use Rattle.tenant_core.specs.Limits.{max_tenants}
+use Rattle.tenant_core.specs.declared.journal.Record.{Record}
+use Rattle.one_list.specs.declared.step.Done.{Done}
+use Rattle.one_list.specs.declared.step.Size.{Size}
+use Rattle.one_list.specs.declared.rule.Claim.{Claim}
+use Rattle.one_list.specs.Steps.{done_last}
+
+-- the name of no table
+abbrev pub no_table : TableId
+no_table = record { words = 0; slots = 0; views_name = 0; atom = 0; block = 0; offset = 0; slot_names = [] }
+
+-- no tenant and no worker
+abbrev pub no_size : Size
+no_size = record { tenants = 0; workers = 0 }
+
+-- the words of a table: a cache line of eight for each tenant that there may be, and one before them
+abbrev pub table_words : ℕ
+table_words = (max_tenants + 1) * 8
+
+-- ---- claims
+
+-- the claim that these are all steps of that worker, or of that tenant, in their order
+abbrev pub claim : Bool → ℕ → List Done → Claim
+claim of_worker number steps = record { of_worker = of_worker; number = number; steps = steps }
+
+-- the step is one of those that the claim speaks of
+abbrev pub concerns : Claim → Done → Bool
+concerns c e = cond c.of_worker (e.worker == c.number) (e.tenant == c.number)
+
+-- the claim is right: these are all such steps of the list, in its order
+abbrev pub Fits : List Done → Claim → Type 0
+Fits log c = filter (concerns c) log ≡ c.steps
+
+-- all claims are right
+abbrev pub AllFit : List Done → List Claim → Type 0
+AllFit log [] = Unit {0}
+AllFit log (c ∷ cs) = Fits log c × AllFit log cs
+
+-- the claim speaks of a worker, or else of a tenant, as is asked
+abbrev pub is_kind : Bool → Claim → Bool
+is_kind of_worker c = cond of_worker c.of_worker (not c.of_worker)
+
+-- the claim speaks of that worker, or of that tenant
+abbrev pub is_of : Bool → ℕ → Claim → Bool
+is_of of_worker number c = is_kind of_worker c && (c.number == number)
+
+-- how many of the claims speak of that worker, or of that tenant
+abbrev pub count_of : Bool → ℕ → List Claim → ℕ
+count_of of_worker number claims = count_by (is_of of_worker number) claims
+
+-- each step is of one of the tenants by one of the workers
+abbrev pub AreBelow : Size → List Done → Type 0
+AreBelow size log = All (λ e. (e.tenant < size.tenants) × (e.worker < size.workers)) log
+
+-- the rule: there is one list by which the claims of all passes are right, and each worker and each tenant is claimed once at
+-- most
+pub record IsKept (size : Size) (views : List (List Claim)) : Type 0 where
+  pub log : List Done
+  pub fits : (by : ℕ) (v : List Claim) → get_elem? views by ≡ some v → AllFit log v
+  pub once : (of_worker : Bool) (number : ℕ) → sum_by (count_of of_worker number) views ≤ 1
+  pub below : AreBelow size log
+
+-- ---- the start
+
+-- claims of no step, of so many workers or tenants from that number on
+abbrev pub new_claims : Bool → ℕ → ℕ → List Claim
+new_claims of_worker from zero = []
+new_claims of_worker from (suc n) = claim of_worker from [] ∷ new_claims of_worker (suc from) n
+
+-- what the first pass claims: no step of each tenant and each worker
+abbrev pub first_view : Size → List Claim
+first_view size = new_claims false 0 size.tenants ++ new_claims true 0 size.workers
+
+-- ---- a step
+
+-- the claim after these steps
+abbrev pub claim_after : List Done → Claim → Claim
+claim_after es c = claim c.of_worker c.number (c.steps ++ filter (concerns c) es)
+
+-- the step of the last of these records, by the worker and for the tenant that are claimed
+abbrev pub steps_by : List Claim → List Record → List Done
+steps_by (w ∷ t ∷ cs) records = done_last w.number t.number records
+steps_by _ records = []
+
+-- the claims after the journal's last record was told
+abbrev pub claims_after : Option Recorded → List Claim → List Claim
+claims_after none v = v
+claims_after (some j) v = map (claim_after (steps_by v j.records)) v
+
+-- the step was added to the list
+abbrev pub Adds : Step Recorded → Me Recorded (List Claim) → ℕ → Me Recorded (List Claim) → Type 0
+Adds st me n me' = me' ≡ (claims_after st.said me.0, me.1)
+
+-- none speaks of a worker or a tenant of which another does
+abbrev pub AreOnce : List Claim → Type 0
+AreOnce v = (of_worker : Bool) (number : ℕ) → count_of of_worker number v ≤ 1
+
+-- there is one list by which the claims are right
+abbrev pub IsTold : Size → List Claim → Type 0
+IsTold size v = (log : List Done) × AllFit log v × AreBelow size log × AreOnce v
+
+-- what a look tells
+abbrev pub Looks : Size → Step Recorded → Me Recorded (List Claim) → ℕ → Me Recorded (List Claim) → Type 0
+Looks size st me n me' = IsTold size me.0
+
+-- ---- cut in two
+
+-- the first of the claims
+abbrev pub first_claim : List Claim → List Claim
+first_claim [] = []
+first_claim (c ∷ cs) = c ∷ []
+
+-- all claims but the first
+abbrev pub other_claims : List Claim → List Claim
+other_claims [] = []
+other_claims (c ∷ cs) = cs
+
+-- the claims that speak of workers, or those that speak of tenants
+abbrev pub claims_of : Bool → List Claim → List Claim
+claims_of of_worker v = filter (is_kind of_worker) v

@@ -1,0 +1,200 @@
+//! The list of a run, and the parts of it that are still to be handed out.
+
+ghost use Rattle.std.specs.Prelude.{◌≡◌, ◌+◌, ◌^◌, ◌<◌, ◌≤◌, true, false, List, [], ◌∷◌, ◌++◌};
+ghost use Rattle.one_list.specs.declared.step.Done.{Done};
+ghost use Rattle.one_list.specs.Rules.{IsTold, claim, claims_of, first_claim, first_view, new_claims, other_claims, table_words};
+ghost use Rattle.one_list.specs.Steps.{done_last, grown};
+ghost use Rattle.tenant_core.specs.Limits.{max_tenants};
+
+use crate::opened::LINE_WORDS;
+use crate::parts::{TenantPart, WorkerPart};
+use crate::rule::{Add, Blank, Both, First, Look, Pass, Words, Workers};
+use crate::run::Run;
+use atomic_table::Badge;
+use std::marker::{Model, PhantomData};
+use std::mem;
+use tenant_core::Journal;
+
+/// The list of a run. Threads share it, and add their steps to it.
+#[derive(Drop)]
+pub struct Chronicle<J: Run> {
+    words: Words,
+    run: PhantomData<J>,
+}
+
+impl<J: Run> Model for Chronicle<J> {
+    ghost use Rattle.one_list.specs.Parts.{IsChronicle};
+
+    ghost Value = { Unit {0} };
+
+    ghost view = { λ c. tt };
+
+    ghost invariant = { λ c. IsChronicle J.table J.size c.words.shared.table_id c.words.shared.key };
+}
+
+/// The parts of a run's list that have not been handed out. Contracts see how many tenants' and how many workers' have.
+#[derive(Drop)]
+pub struct Unclaimed<J: Run> {
+    tenants: u64,
+    workers: u64,
+    tenants_pass: Pass,
+    workers_pass: Pass,
+    run: PhantomData<J>,
+}
+
+impl<J: Run> Model for Unclaimed<J> {
+    ghost use Rattle.std.specs.Prelude.{true, false};
+    ghost use Rattle.one_list.specs.Parts.{UnclaimedView, IsUnclaimed};
+
+    ghost Value = { UnclaimedView };
+
+    ghost view = { λ u. record { tenants = u.tenants; workers = u.workers } };
+
+    ghost invariant = { λ u. IsUnclaimed J.table false u.tenants J.size.tenants u.tenants_pass.table_id u.tenants_pass.me
+        × IsUnclaimed J.table true u.workers J.size.workers u.workers_pass.table_id u.workers_pass.me };
+}
+
+impl<J: Run> Unclaimed<J> {
+    // All parts, of which these passes claim no step.
+    pub(crate) fn new(tenants_pass: Pass, workers_pass: Pass) -> Unclaimed<J>
+        requires countable { (J.size.tenants < 2 ^ 64) × (J.size.workers < 2 ^ 64) }
+        requires tables { (tenants_pass.table_id ≡ J.table) × (workers_pass.table_id ≡ J.table) }
+        requires tenants { tenants_pass.me ≡ (new_claims false 0 J.size.tenants, []) }
+        requires workers { workers_pass.me ≡ (new_claims true 0 J.size.workers, []) }
+        ensures { result ≡ record { tenants = 0; workers = 0 } }
+    {
+        Unclaimed {
+            tenants: 0,
+            workers: 0,
+            tenants_pass,
+            workers_pass,
+            run: PhantomData,
+        }
+    }
+}
+
+impl<J: Run> Chronicle<J> {
+    // The list that is added to by these words.
+    pub(crate) fn new(words: Words) -> Chronicle<J>
+        requires table { words.shared.table_id ≡ J.table }
+        requires size { words.shared.key ≡ J.size }
+        requires words { J.table.words ≡ table_words }
+        requires few { J.size.tenants ≤ max_tenants }
+    {
+        Chronicle {
+            words,
+            run: PhantomData,
+        }
+    }
+
+    /// Hands out the part of the next tenant. They come in the order of their numbers.
+    pub fn tenant_part(&self, unclaimed: &mut Unclaimed<J>) -> TenantPart<J>
+        requires { unclaimed.old.tenants < J.size.tenants }
+        ensures part { result ≡ record { number = unclaimed.old.tenants; steps = [] } }
+        ensures rest { unclaimed.new ≡ record unclaimed.old { tenants = unclaimed.old.tenants + 1 } }
+    {
+        let number = unclaimed.tenants;
+        let pass = self.first(&mut unclaimed.tenants_pass);
+        unclaimed.tenants = number + 1;
+        TenantPart::new(number, pass)
+    }
+
+    /// Hands out the part of the next worker. They come in the order of their numbers.
+    pub fn worker_part(&self, unclaimed: &mut Unclaimed<J>) -> WorkerPart<J>
+        requires { unclaimed.old.workers < J.size.workers }
+        ensures part { result ≡ record { number = unclaimed.old.workers; steps = [] } }
+        ensures rest { unclaimed.new ≡ record unclaimed.old { workers = unclaimed.old.workers + 1 } }
+    {
+        let number = unclaimed.workers;
+        let pass = self.first(&mut unclaimed.workers_pass);
+        unclaimed.workers = number + 1;
+        WorkerPart::new(number, pass)
+    }
+
+    /// Adds the journal's last record to the list, as a step of this tenant by this worker. It can't fail and takes no
+    /// memory.
+    pub fn record(&self, tenant: &mut TenantPart<J>, worker: &mut WorkerPart<J>, journal: &Journal)
+        ensures tenant { tenant.new ≡ grown tenant.old (done_last worker.old.number tenant.old.number journal.now.records) }
+        ensures worker { worker.new ≡ grown worker.old (done_last worker.old.number tenant.old.number journal.now.records) }
+    {
+        let mine = mem::replace(&mut tenant.pass, Badge::blank()).into_seat();
+        let theirs = mem::replace(&mut worker.pass, Badge::blank()).into_seat();
+        let (mine, theirs) = self.add(worker.number, tenant.number, mine, theirs, journal);
+        tenant.pass = mine.into_badge();
+        worker.pass = theirs.into_badge();
+    }
+
+    // Adds the journal's last record to the list, for the tenant and the worker whose passes these are.
+    fn add(
+        &self,
+        worker: u64,
+        tenant: u64,
+        mine: Pass,
+        theirs: Pass,
+        journal: &Journal,
+    ) -> (Pass, Pass)
+        requires tables { (mine.table_id ≡ J.table) × (theirs.table_id ≡ J.table) }
+        requires below { (tenant < J.size.tenants) × (worker < J.size.workers) }
+        requires mine { (steps : List Done) × (mine.me ≡ (claim false tenant steps ∷ [], [])) }
+        requires theirs { (steps : List Done) × (theirs.me ≡ (claim true worker steps ∷ [], [])) }
+        ensures tables { (result.0.table_id ≡ J.table) × (result.1.table_id ≡ J.table) }
+        ensures free { (result.0.me.1 ≡ []) × (result.1.me.1 ≡ []) }
+        ensures mine { (steps : List Done) → mine.me ≡ (claim false tenant steps ∷ [], [])
+            → result.0.me ≡ (claim false tenant (steps ++ done_last worker tenant journal.now.records) ∷ [], []) }
+        ensures theirs { (steps : List Done) → theirs.me ≡ (claim true worker steps ∷ [], [])
+            → result.1.me ≡ (claim true worker (steps ++ done_last worker tenant journal.now.records) ∷ [], []) }
+    {
+        let words = &self.words.shared;
+        let mut both = theirs;
+        words.join_seat::<Both>(&mut both, mine);
+        let word = (tenant as usize + 1) * LINE_WORDS;
+        words.compare_exchange_with::<Add>(&mut both, word, 0, 0, journal);
+        let theirs = words.split_seat::<First>(&mut both);
+        (both, theirs)
+    }
+
+    // A pass with no claim.
+    pub(crate) fn blank(&self) -> Pass
+        ensures { (result.table_id ≡ J.table) × (result.me ≡ ([], [])) }
+    {
+        self.words.shared.load_new_seat::<Blank>(0).1
+    }
+
+    // Puts two passes together.
+    pub(crate) fn join(&self, pass: &mut Pass, other: Pass)
+        requires tables { (pass.old.table_id ≡ J.table) × (other.table_id ≡ J.table) }
+        requires other { other.me.1 ≡ [] }
+        ensures table { pass.new.table_id ≡ J.table }
+        ensures me { pass.new.me ≡ (pass.old.me.0 ++ other.me.0, pass.old.me.1) }
+    {
+        self.words.shared.join_seat::<Both>(pass, other);
+    }
+
+    // Takes the first claim of a pass.
+    fn first(&self, pass: &mut Pass) -> Pass
+        requires { pass.old.table_id ≡ J.table }
+        ensures tables { (pass.new.table_id ≡ J.table) × (result.table_id ≡ J.table) }
+        ensures rest { pass.new.me ≡ (other_claims pass.old.me.0, pass.old.me.1) }
+        ensures first { result.me ≡ (first_claim pass.old.me.0, []) }
+    {
+        self.words.shared.split_seat::<First>(pass)
+    }
+
+    // Takes the workers' claims of a pass, and leaves the tenants'.
+    pub(crate) fn workers(&self, pass: &mut Pass) -> Pass
+        requires { pass.old.table_id ≡ J.table }
+        ensures tables { (pass.new.table_id ≡ J.table) × (result.table_id ≡ J.table) }
+        ensures rest { pass.new.me ≡ (claims_of false pass.old.me.0, pass.old.me.1) }
+        ensures workers { result.me ≡ (claims_of true pass.old.me.0, []) }
+    {
+        self.words.shared.split_seat::<Workers>(pass)
+    }
+
+    // There is one list by which the claims of the pass are right.
+    pub(crate) fn look(&self, pass: &mut Pass)
+        requires { pass.old.table_id ≡ J.table }
+        ensures { IsTold J.size pass.old.me.0 }
+    {
+        self.words.shared.load::<Look<J>>(pass, 0);
+    }
+}

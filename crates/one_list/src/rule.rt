@@ -1,0 +1,100 @@
+//! The rule of the table that stands behind the list, and the kinds of atomic step. No value of these types is made, but
+//! for the table and its passes.
+
+use crate::run::Run;
+use crate::step::{Done, Size};
+use atomic_table::{Join, Play, Seat, Split, Table, TableRule};
+use std::alloc::Global;
+use std::collections::LinkedList;
+use std::marker::PhantomData;
+use tenant_core::Journal;
+
+/// What a pass knows of a worker, or of a tenant: all steps of it, in their order.
+pub struct Claim {
+    pub of_worker: bool,
+    pub number: u64,
+    pub steps: LinkedList<Done>,
+}
+
+/// All that a pass knows.
+pub type View = LinkedList<Claim>;
+
+/// Leave to add the steps of those that it claims. It has no bytes.
+pub type Pass = Seat<Journal, View>;
+
+/// The words that the steps are added by. Their values never change.
+pub type Words = Table<Journal, View, Size, OneList, Global>;
+
+/// There is one list by which all claims are right.
+pub struct OneList;
+
+impl TableRule<Journal, View, Size> for OneList {
+    ghost use Rattle.one_list.specs.Rules.{IsKept, first_view};
+
+    ghost holds = { λ size s. IsKept size s.views };
+
+    ghost first = { first_view };
+}
+
+/// A journal's last record is told, as a step of the worker and the tenant that are claimed.
+pub struct Add;
+
+impl Play<Journal, View> for Add {
+    ghost use Rattle.one_list.specs.Rules.{Adds};
+
+    ghost then = { Adds };
+}
+
+/// The claims are right.
+pub struct Look<J: Run> {
+    run: PhantomData<J>,
+}
+
+impl<J: Run> Play<Journal, View> for Look<J> {
+    ghost use Rattle.one_list.specs.Rules.{Looks};
+
+    ghost then = { Looks J.size };
+}
+
+/// A pass begins with no claim.
+pub struct Blank;
+
+impl Play<Journal, View> for Blank {
+    ghost use Rattle.std.specs.Prelude.{◌≡◌, []};
+
+    ghost then = { λ st me n after. after.0 ≡ [] };
+}
+
+/// A pass gives its first claim away.
+pub struct First;
+
+impl Split<View> for First {
+    ghost use Rattle.one_list.specs.Rules.{first_claim, other_claims};
+
+    ghost left = { other_claims };
+
+    ghost right = { first_claim };
+}
+
+/// A pass gives away what it claims of workers, and keeps what it claims of tenants.
+pub struct Workers;
+
+impl Split<View> for Workers {
+    ghost use Rattle.std.specs.Prelude.{true, false};
+    ghost use Rattle.one_list.specs.Rules.{claims_of};
+
+    ghost left = { claims_of false };
+
+    ghost right = { claims_of true };
+}
+
+/// A pass takes in the claims of another.
+pub struct Both;
+
+impl Join<View> for Both {
+    ghost use Rattle.std.specs.Prelude.{◌++◌, []};
+
+    ghost both = { λ v w. v ++ w };
+
+    ghost spent = { [] };
+}

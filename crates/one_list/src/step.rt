@@ -1,0 +1,17 @@
+//! What the list is made of.
+
+use tenant_core::Record;
+
+/// A step of the list: a record of a tenant's book, and the worker that made it. No value of it is made at run time.
+pub struct Done {
+    pub worker: u64,
+    pub tenant: u64,
+    pub made: Record,
+}
+
+/// How many tenants and workers there are.
+#[derive(Clone, Copy)]
+pub struct Size {
+    pub tenants: u64,
+    pub workers: u64,
+}
