@@ -11,6 +11,12 @@ use Rattle.tenant_core.proofs.arena.Small.TheSendSync as of_small
 use Rattle.tenant_core.proofs.hold.Hold.TheSendSync as of_hold
 use Rattle.tenant_core.proofs.peer.Peer.TheSendSync as of_peer
 use Rattle.tenant_core.proofs.terms.RateTerms.TheSendSync as of_rate
+use denote.RattleType.{RattleType}
+use Rattle.one_list.specs.declared.run.Run as Run
+use Rattle.one_list.specs.contracts.parts.TenantPart as TenantPart
+use Rattle.one_list.specs.contracts.chronicle.Chronicle as Chronicle
+use Rattle.one_list.proofs.parts.TenantPart.TheSendSync as of_part
+use Rattle.one_list.proofs.chronicle.Chronicle.TheSendSync as of_chronicle
 use Rattle.books_shared.specs.contracts.kept.Kept as Kept
 use Rattle.books_shared.specs.contracts.books.Books as Books
 
@@ -23,8 +29,14 @@ network_send = search (sendable, std.crosses, routes_send, of_peer.the_send, of_
 book_send : IsSend Book.the_row
 book_send = search (sendable, std.crosses, network_send, of_small.the_send, of_hold.the_send) depth 40
 
-kept_send : IsSend Kept.the_row
-kept_send = search (sendable, std.crosses, book_send) depth 40
+part_send : (J : RattleType) (r : Run.Ghosts J.Denot) → IsSend (TenantPart.the_row J r)
+part_send J r = search (sendable, std.crosses, of_part.the_send) depth 40
 
-pub books_sync : IsSync Books.the_row
-books_sync = search (sendable, std.crosses, kept_send) depth 40
+kept_send : (J : RattleType) (r : Run.Ghosts J.Denot) → IsSend (Kept.the_row J r)
+kept_send J r = search (sendable, std.crosses, book_send, part_send) depth 40
+
+chronicle_sync : (J : RattleType) (r : Run.Ghosts J.Denot) → IsSync (Chronicle.the_row J r)
+chronicle_sync J r = search (sendable, std.crosses, of_chronicle.the_sync) depth 40
+
+pub books_sync : (J : RattleType) (r : Run.Ghosts J.Denot) → IsSync (Books.the_row J r)
+books_sync J r = search (sendable, std.crosses, kept_send, chronicle_sync) depth 40

@@ -1,4 +1,5 @@
 pub mod Entries
+pub mod Tracing
 pub mod Commanded
 pub mod Counted
 pub mod Crossing

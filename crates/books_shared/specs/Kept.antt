@@ -1,13 +1,15 @@
 -- What lies under a tenant's lock, as contracts see it.
-use Rattle.std.specs.Prelude.{ℕ, ◌+◌, ◌*◌, ◌≤◌, length}
+use Rattle.std.specs.Prelude.{ℕ, ◌+◌, ◌*◌, ◌≤◌, List, length}
 use Rattle.tenant_core.specs.Limits.{max_journal}
 use Rattle.tenant_core.specs.Sound.{IsSound}
 use Rattle.tenant_core.specs.State.{State}
+use Rattle.one_list.specs.declared.step.Done.{Done}
 
--- a tenant's book, and how many entries its closed periods had
+-- a tenant's book, how many entries its closed periods had, and the tenant's steps in the one list
 pub record Kept : Type 0 where
   pub state : State
   pub closed : ℕ
+  pub steps : List Done
 
 -- how many entries were appended since the books were made
 abbrev pub number_of : Kept → ℕ

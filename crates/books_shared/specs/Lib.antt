@@ -3,6 +3,8 @@ pub mod Shares
 pub mod Rises
 pub mod Turns
 pub mod Gathers
+pub mod Traced
+pub mod Tracing
 pub mod Faults
 pub mod ShareKept
 pub mod BooksKept

@@ -3,17 +3,19 @@ use Rattle.std.specs.Prelude.{ℕ, ◌+◌, ◌-◌, ◌^◌, Bool, ◌||◌, Li
 use Rattle.std.specs.Prelude.{Result, Ok, Err, if◌then◌else◌}
 use Rattle.std.specs.List.{list_any}
 use Rattle.tenant_core.specs.Limits.{max_tenants}
+use Rattle.one_list.specs.declared.step.Done.{Done}
 use Rattle.books_shared.specs.declared.rise.Rise.{Rise}
 use Rattle.books_shared.specs.declared.share.Spent.{Spent}
 
 -- a worker's number; of each tenant, how many entries it appended, how many tokens were no peer's, and how many packets
--- found the journal full; and for how many calls there is room
+-- found the journal full; for how many calls there is room; and the worker's steps in the one list
 pub record ShareView : Type 0 where
   pub worker : ℕ
   pub counts : List ℕ
   pub strangers : List ℕ
   pub full : List ℕ
   pub room : ℕ
+  pub steps : List Done
 
 -- ---- new shares
 
@@ -23,7 +25,8 @@ no_counts = replicate max_tenants 0
 
 -- the share of a worker that has counted nothing
 abbrev pub fresh : ℕ → ShareView
-fresh worker = record { worker = worker; counts = no_counts; strangers = no_counts; full = no_counts; room = 0 }
+fresh worker =
+    record { worker = worker; counts = no_counts; strangers = no_counts; full = no_counts; room = 0; steps = [] }
 
 -- the shares of so many workers, in order
 abbrev pub fresh_shares : ℕ → List ShareView
@@ -45,7 +48,12 @@ raised rise tenant s =
       strangers = added s.strangers tenant rise.strangers;
       full = added s.full tenant rise.full;
       room = s.room - 1;
+      steps = s.steps;
     }
+
+-- the share with these steps more
+abbrev pub with_steps : List Done → ShareView → ShareView
+with_steps more s = record s { steps = s.steps ++ more }
 
 -- ---- room
 

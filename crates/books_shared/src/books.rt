@@ -3,11 +3,13 @@
 ghost use Rattle.std.specs.Prelude.{◌≡◌, ◌≤◌, length, vec_len, IfOk};
 ghost use Rattle.tenant_core.specs.Limits.{max_tenants};
 ghost use Rattle.books_shared.specs.Shares.{fresh_shares};
+ghost use Rattle.books_shared.specs.Traced.{openings_of};
 
 use crate::guard::Guard;
 use crate::kept::Kept;
 use crate::share::Share;
 use ilp_addr::Moment;
+use one_list::{Chronicle, Opened, Run, Unclaimed};
 use std::alloc::{AllocError, Global};
 use std::marker::Model;
 use std::sync::{Mutex, Wait};
@@ -19,48 +21,65 @@ use tenant_core::{Book, TenantSetup};
 /// A `Book` is the replay of its journal whatever is done with it, and nothing but the calls of a `Guard` changes one. So
 /// whenever a lock is free, the book behind it is the replay of its journal, and within its limits
 /// (`laws::guard_is_sound`).
+///
+/// There is one list of all that is done to them (`Chronicle`), which the proofs alone know. `J` says which list it is: the
+/// program that makes the books picks it, once.
 #[derive(Drop)]
-pub struct Books {
-    pub(crate) locks: Vec<Mutex<Kept>>,
+pub struct Books<J: Run> {
+    pub(crate) chronicle: Chronicle<J>,
+    pub(crate) locks: Vec<Mutex<Kept<J>>>,
     pub(crate) workers: usize,
 }
 
-impl Model for Books {
+impl<J: Run> Model for Books<J> {
+    ghost use Rattle.std.specs.Prelude.{vec_len};
     ghost use Rattle.books_shared.specs.Gathers.{BooksView};
 
     ghost Value = { BooksView };
 
-    ghost use Rattle.books_shared.specs.BooksKept.{books_of, AreFew};
+    ghost use Rattle.books_shared.specs.BooksKept.{AreFew};
 
-    ghost view = { books_of };
+    ghost view = { λ b. record { tenants = vec_len b.locks; workers = b.workers } };
 
-    ghost invariant = { AreFew };
+    ghost invariant = { λ b. AreFew J.size (vec_len b.locks) b.workers };
 }
 
-impl Books {
+impl<J: Run> Books<J> {
     ghost use Rattle.std.specs.Prelude.{◌≡◌, ◌<◌, ◌≤◌, length, IfOk, IfSome};
     ghost use Rattle.tenant_core.specs.Limits.{max_tenants};
     ghost use Rattle.books_shared.specs.Gathers.{max_workers};
     ghost use Rattle.books_shared.specs.Kept.{IsKept};
     ghost use Rattle.books_shared.specs.Shares.{fresh_shares};
+    ghost use Rattle.books_shared.specs.Traced.{IsLedTo, openings_of};
 
     /// The books of these tenants, in which nothing has happened and whose first periods begin at `start`, and the shares
     /// of so many workers, in order: their numbers are 0, 1 and so on, all counts are 0, and there is no room for a
-    /// call. There are 1 to 64 tenants and 1 to 64 workers. The one error is want of memory.
+    /// call. There are 1 to 64 tenants and 1 to 64 workers. The list of what is done to them has just been opened, for so many
+    /// tenants and workers. The one error is want of memory.
     pub fn new(
         alloc: Global,
+        opened: Opened,
         setups: &[TenantSetup],
         start: Moment,
         workers: usize,
-    ) -> Result<(Books, Vec<Share>), AllocError>
+    ) -> Result<(Books<J>, Vec<Share<J>>), AllocError>
+        requires list { (opened.table ≡ J.table) × (opened.size ≡ J.size) }
+        requires size { J.size ≡ record { tenants = length setups.now; workers = workers } }
+        requires openings { J.openings ≡ openings_of setups.now start }
         requires tenants { (1 ≤ length setups.now) × (length setups.now ≤ max_tenants) }
         requires workers { (1 ≤ workers) × (workers ≤ max_workers) }
         ensures books { IfOk result (λ made. made.0 ≡ record { tenants = length setups.now; workers = workers }) }
         ensures shares { IfOk result (λ made. made.1.items ≡ fresh_shares workers) }
     {
-        let locks = locks_of(alloc, setups, start)?;
-        let shares = fresh_shares(alloc, workers)?;
-        Ok((Books { locks, workers }, shares))
+        let (chronicle, mut unclaimed) = opened.named::<J>();
+        let locks = locks_of(alloc, &chronicle, &mut unclaimed, setups, start)?;
+        let shares = fresh_shares(alloc, &chronicle, &mut unclaimed, workers)?;
+        let books = Books {
+            chronicle,
+            locks,
+            workers,
+        };
+        Ok((books, shares))
     }
 
     /// How many tenants there are: their numbers are those below.
@@ -79,56 +98,77 @@ impl Books {
         self.workers
     }
 
-    /// The book of that tenant, one of the books, once no other guard of it is held: until then the call waits. What is
-    /// known of the book is what holds whenever its lock is free. Whose it is `Book::tenant` tells: no contract says what
-    /// lies behind which lock. `Guard::decide` and `Guard::answer` leave another tenant's book alone (`Stray`).
-    pub fn enter(&self, rt: &impl Wait, tenant: usize) -> Guard<'_>
+    /// The book of that tenant, one of the books, once no other guard of it is held: until then the call waits. (If another
+    /// tenant's book lay behind the lock, it would wait for ever: books never move.) What is known of the book is what
+    /// holds whenever its lock is free.
+    pub fn enter(&self, rt: &impl Wait, tenant: usize) -> Guard<'_, J>
         requires { tenant < self.now.tenants }
-        ensures { IsKept result }
+        ensures own { result.state.opening.tenant ≡ tenant }
+        ensures kept { IsKept result }
+        ensures led { IsLedTo J.openings result.state result.steps }
     {
-        let guard = Guard::new(self.locks[tenant].lock(rt));
-        guard.is_kept();
-        guard
+        for _ in rt.forever() {
+            let guard = Guard::new(self.locks[tenant].lock(rt), &self.chronicle);
+            if guard.book().tenant() == tenant {
+                guard.is_kept();
+                return guard;
+            }
+        }
+        unreachable!()
     }
 
-    /// The same, or `None` where another guard may be held. It waits for nobody.
-    pub fn try_enter(&self, tenant: usize) -> Option<Guard<'_>>
+    /// The same, or `None` where another guard may be held, or the book is another tenant's. It waits for nobody.
+    pub fn try_enter(&self, tenant: usize) -> Option<Guard<'_, J>>
         requires { tenant < self.now.tenants }
-        ensures { IfSome result (λ guard. IsKept guard) }
+        ensures own { IfSome result (λ guard. guard.state.opening.tenant ≡ tenant) }
+        ensures kept { IfSome result (λ guard. IsKept guard) }
+        ensures led { IfSome result (λ guard. IsLedTo J.openings guard.state guard.steps) }
     {
-        match self.locks[tenant].try_lock() {
-            Some(kept) => {
-                let guard = Guard::new(kept);
-                guard.is_kept();
-                Some(guard)
-            }
-            None => None,
+        let guard = Guard::new(self.locks[tenant].try_lock()?, &self.chronicle);
+        if guard.book().tenant() != tenant {
+            return None;
         }
+        guard.is_kept();
+        Some(guard)
     }
 }
 
-fn locks_of(
+fn locks_of<J: Run>(
     alloc: Global,
+    chronicle: &Chronicle<J>,
+    unclaimed: &mut Unclaimed<J>,
     setups: &[TenantSetup],
     start: Moment,
-) -> Result<Vec<Mutex<Kept>>, AllocError>
-    requires { length setups.now ≤ max_tenants }
-    ensures { IfOk result (λ locks. vec_len locks ≡ length setups.now) }
+) -> Result<Vec<Mutex<Kept<J>>>, AllocError>
+    requires few { length setups.now ≤ max_tenants }
+    requires none { unclaimed.old.tenants ≡ 0 }
+    requires many { J.size.tenants ≡ length setups.now }
+    requires openings { J.openings ≡ openings_of setups.now start }
+    ensures locks { IfOk result (λ locks. vec_len locks ≡ length setups.now) }
+    ensures workers { unclaimed.new.workers ≡ unclaimed.old.workers }
 {
-    let mut locks: Vec<Mutex<Kept>> = Vec::with_capacity(alloc, setups.len())?;
+    let mut locks: Vec<Mutex<Kept<J>>> = Vec::with_capacity(alloc, setups.len())?;
     for (tenant, setup) in setups.iter().enumerate() {
         let book = Book::new(alloc, tenant, setup, start)?;
-        locks.push_reserved(Mutex::new(Kept::new(book)));
+        let part = chronicle.tenant_part(unclaimed);
+        locks.push_reserved(Mutex::new(Kept::new(book, part)));
     }
     Ok(locks)
 }
 
-fn fresh_shares(alloc: Global, workers: usize) -> Result<Vec<Share>, AllocError>
+fn fresh_shares<J: Run>(
+    alloc: Global,
+    chronicle: &Chronicle<J>,
+    unclaimed: &mut Unclaimed<J>,
+    workers: usize,
+) -> Result<Vec<Share<J>>, AllocError>
+    requires none { unclaimed.old.workers ≡ 0 }
+    requires many { J.size.workers ≡ workers }
     ensures { IfOk result (λ shares. shares.items ≡ fresh_shares workers) }
 {
-    let mut shares: Vec<Share> = Vec::with_capacity(alloc, workers)?;
-    for worker in 0..workers {
-        shares.push_reserved(Share::fresh(worker));
+    let mut shares: Vec<Share<J>> = Vec::with_capacity(alloc, workers)?;
+    for _worker in 0..workers {
+        shares.push_reserved(Share::fresh(chronicle.worker_part(unclaimed)));
     }
     Ok(shares)
 }

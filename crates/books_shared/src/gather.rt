@@ -1,12 +1,14 @@
 //! Books and shares, compared once all is done.
 
-ghost use Rattle.std.specs.Prelude.{◌≡◌, ◌<◌, ◌≤◌, length, vec_len, IfOk, IfErr};
+ghost use Rattle.std.specs.Prelude.{◌≡◌, ◌<◌, ◌≤◌, [], ◌++◌, length, map, vec_len, IfOk, IfErr};
 ghost use Rattle.tenant_core.specs.Limits.{max_tenants};
 ghost use Rattle.books_shared.specs.Gathers.{agree, are_all_there, each_has_one, max_workers, shares_of, total_at};
+ghost use Rattle.books_shared.specs.Traced.{AreTraced, part_of};
 
 use crate::books::Books;
 use crate::kept::Kept;
 use crate::share::Share;
+use one_list::{Chronicle, Gathering, Run};
 use std::alloc::Global;
 use std::sync::Mutex;
 use tenant_core::Book;
@@ -14,53 +16,75 @@ use tenant_core::laws::book_is_sound;
 
 /// Why books were not gathered, in the order in which it is looked for. All is handed back.
 #[derive(Drop)]
-pub enum GatherFault {
+pub enum GatherFault<J: Run> {
     /// The shares are not those of all workers, each once.
-    Missing(Books, Vec<Share>),
+    Missing(Books<J>, Vec<Share<J>>),
     /// Some book's number is not what the shares add up to for its tenant. Each book comes with its number.
-    Differs(Vec<(Book, u64)>, Vec<Share>),
+    Differs(Vec<(Book, u64)>, Vec<Share<J>>),
     /// Memory was refused.
-    Memory(Books, Vec<Share>),
+    Memory(Books<J>, Vec<Share<J>>),
 }
 
-impl Books {
+impl<J: Run> Books<J> {
     ghost use Rattle.std.specs.Prelude.{IfOk, IfErr};
     ghost use Rattle.books_shared.specs.Gathers.{AreGathered};
+    ghost use Rattle.books_shared.specs.Traced.{HaveListOf};
     ghost use Rattle.books_shared.specs.Faults.{IsFault};
 
     /// Opens all locks, and gives each book with its number: how many entries were appended to it since `Books::new`,
     /// which is the sum of what the shares count for its tenant.
     ///
+    /// There is one list of all that was done, whatever the threads did: of each tenant it has what led to its book from the
+    /// opening of the tenant's setup, over all its periods, in the order of its journals and with the outcomes of the replay; of
+    /// each worker what it did, in its order; and nothing else.
+    ///
     /// The errors are, in the order in which they are looked for, with all handed back: `Missing` exactly where the
     /// shares' numbers are not those below the number of workers, each once, in any order; `Memory`; and `Differs`
     /// exactly where some book's number is not that sum.
-    pub fn gather(self, alloc: Global, shares: Vec<Share>) -> Result<Vec<(Book, u64)>, GatherFault>
+    pub fn gather(
+        self,
+        alloc: Global,
+        shares: Vec<Share<J>>,
+    ) -> Result<Vec<(Book, u64)>, GatherFault<J>>
+        ensures one_list { IfOk result (λ gathered. HaveListOf J.size J.openings gathered.items shares.items) }
         ensures ok { IfOk result (λ gathered. AreGathered gathered.items self shares.items) }
         ensures err { IfErr result (λ fault. IsFault fault self shares.items) }
     {
         if !are_all_there(self.workers(), shares.as_slice()) {
             return Err(GatherFault::Missing(self, shares));
         }
-        let Books { locks, workers } = self;
-        let gathered = match opened(alloc, locks) {
-            Ok(gathered) => gathered,
-            Err(locks) => return Err(GatherFault::Memory(Books { locks, workers }, shares)),
+        let Books {
+            chronicle,
+            locks,
+            workers,
+        } = self;
+        let (gathered, mut parts) = match open_all(&chronicle, alloc, locks) {
+            Ok(opened) => opened,
+            Err(locks) => {
+                let books = Books {
+                    chronicle,
+                    locks,
+                    workers,
+                };
+                return Err(GatherFault::Memory(books, shares));
+            }
         };
-        if agree(gathered.as_slice(), shares.as_slice()) {
-            Ok(gathered)
-        } else {
-            Err(GatherFault::Differs(gathered, shares))
+        if !agree(gathered.as_slice(), shares.as_slice()) {
+            return Err(GatherFault::Differs(gathered, shares));
         }
+        add_all(&chronicle, &mut parts, shares);
+        parts.close(&chronicle);
+        Ok(gathered)
     }
 }
 
-fn are_all_there(workers: usize, shares: &[Share]) -> bool
+fn are_all_there<J: Run>(workers: usize, shares: &[Share<J>]) -> bool
     ensures { result ≡ are_all_there workers shares.now }
 {
     shares.len() == workers && each_has_one(workers, shares)
 }
 
-fn each_has_one(workers: usize, shares: &[Share]) -> bool
+fn each_has_one<J: Run>(workers: usize, shares: &[Share<J>]) -> bool
     ensures { result ≡ each_has_one workers shares.now }
 {
     let mut all = true;
@@ -70,7 +94,7 @@ fn each_has_one(workers: usize, shares: &[Share]) -> bool
     all
 }
 
-fn shares_of(worker: usize, shares: &[Share]) -> usize
+fn shares_of<J: Run>(worker: usize, shares: &[Share<J>]) -> usize
     ensures { result ≡ shares_of worker shares.now }
 {
     let mut count = 0;
@@ -83,7 +107,7 @@ fn shares_of(worker: usize, shares: &[Share]) -> usize
 }
 
 // How many entries the shares count for that tenant.
-fn total_at(tenant: usize, shares: &[Share]) -> u64
+fn total_at<J: Run>(tenant: usize, shares: &[Share<J>]) -> u64
     requires tenant { tenant < max_tenants }
     requires few { length shares.now ≤ max_workers }
     ensures { result ≡ total_at tenant shares.now }
@@ -95,7 +119,7 @@ fn total_at(tenant: usize, shares: &[Share]) -> u64
     total
 }
 
-fn agree(books: &[(Book, u64)], shares: &[Share]) -> bool
+fn agree<J: Run>(books: &[(Book, u64)], shares: &[Share<J>]) -> bool
     requires { length shares.now ≤ max_workers }
     ensures { result ≡ agree books.now shares.now }
 {
@@ -108,18 +132,36 @@ fn agree(books: &[(Book, u64)], shares: &[Share]) -> bool
     true
 }
 
-// Each book with its number, in the order of the locks; or the locks, where memory is refused.
-fn opened(alloc: Global, mut locks: Vec<Mutex<Kept>>) -> Result<Vec<(Book, u64)>, Vec<Mutex<Kept>>>
-    ensures ok { IfOk result (λ books. vec_len books ≡ vec_len locks) }
+// Each book with its number, and its part of the one list, in one order; or the locks, where memory is refused.
+fn open_all<J: Run>(
+    chronicle: &Chronicle<J>,
+    alloc: Global,
+    mut locks: Vec<Mutex<Kept<J>>>,
+) -> Result<(Vec<(Book, u64)>, Gathering<J>), Vec<Mutex<Kept<J>>>>
+    ensures books { IfOk result (λ opened. vec_len opened.0 ≡ vec_len locks) }
+    ensures parts { IfOk result (λ opened. AreTraced J.openings opened.0.items opened.1.tenants) }
+    ensures none { IfOk result (λ opened. opened.1.workers ≡ []) }
     ensures err { IfErr result (λ same. vec_len same ≡ vec_len locks) }
 {
     let mut books: Vec<(Book, u64)> = Vec::new(alloc);
     if books.reserve(locks.len()).is_err() {
         return Err(locks);
     }
-    while let Some(lock) = locks.pop() {
-        books.push_reserved(lock.into_inner().into_parts());
+    let mut parts = Gathering::new(chronicle);
+    for lock in locks {
+        let (book, part) = lock.into_inner().into_parts();
+        books.push_reserved(book);
+        parts.add_tenant(chronicle, part);
     }
-    books.reverse();
-    Ok(books)
+    Ok((books, parts))
+}
+
+// Adds the workers' parts of the one list.
+fn add_all<J: Run>(chronicle: &Chronicle<J>, parts: &mut Gathering<J>, shares: Vec<Share<J>>)
+    ensures tenants { parts.new.tenants ≡ parts.old.tenants }
+    ensures workers { parts.new.workers ≡ parts.old.workers ++ map part_of shares.items }
+{
+    for share in shares {
+        parts.add_worker(chronicle, share.into_part());
+    }
 }

@@ -4,20 +4,23 @@ use crate::kept::Kept;
 use crate::share::Share;
 use floor_core::{Got, Slot, Turn};
 use ilp_addr::Moment;
+use one_list::{Chronicle, Run};
 use std::alloc::Global;
 use std::marker::Model;
 use std::sync::MutexGuard;
 use tenant_core::laws::book_is_sound;
 use tenant_core::{Answered, Book, BookFault, Command, CommandFault};
 
-/// A tenant's book whose lock is held, until the guard is dropped. Contracts see it as a `Kept`: the book's state, and how
-/// many entries its closed periods had.
+/// A tenant's book whose lock is held, until the guard is dropped. Contracts see it as a `Kept`: the book's state, how many
+/// entries its closed periods had, and all that was done to the book since `Books::new`, in order: the tenant's steps in the
+/// one list of what is done to all books.
 #[derive(Drop)]
-pub struct Guard<'a> {
-    kept: MutexGuard<'a, Kept>,
+pub struct Guard<'a, J: Run> {
+    kept: MutexGuard<'a, Kept<J>>,
+    chronicle: &'a Chronicle<J>,
 }
 
-impl<'a> Model for Guard<'a> {
+impl<'a, J: Run> Model for Guard<'a, J> {
     ghost use Rattle.std.specs.Sync.Mutex.{mutex_guard_value};
     ghost use Rattle.books_shared.specs.Kept.{Kept};
     ghost use Rattle.std.specs.Coded.{codes};
@@ -30,41 +33,45 @@ impl<'a> Model for Guard<'a> {
     ghost view = { λ g. mutex_guard_value g.kept };
 }
 
-impl<'a> Guard<'a> {
+impl<'a, J: Run> Guard<'a, J> {
     ghost use Rattle.std.specs.Prelude.{◌≡◌};
     ghost use Rattle.std.specs.Sync.Mutex.{mutex_guard_value};
 
     // The book whose lock was taken.
-    pub(crate) fn new(kept: MutexGuard<'a, Kept>) -> Guard<'a>
+    pub(crate) fn new(kept: MutexGuard<'a, Kept<J>>, chronicle: &'a Chronicle<J>) -> Guard<'a, J>
         ensures { result ≡ mutex_guard_value kept.entry }
     {
-        Guard { kept }
+        Guard { kept, chronicle }
     }
 }
 
-impl Guard<'_> {
-    ghost use Rattle.std.specs.Prelude.{◌≡◌, ◌+◌, ◌<◌, ◌^◌, length};
+impl<J: Run> Guard<'_, J> {
+    ghost use Rattle.std.specs.Prelude.{◌≡◌, ◌+◌, ◌++◌, ◌<◌, ◌^◌, length};
     ghost use Rattle.floor_core.specs.Work.{decide_call, answer_call};
     ghost use Rattle.tenant_core.specs.State.{recorded};
-    ghost use Rattle.tenant_core.specs.Answer.{tick_result, ticked};
-    ghost use Rattle.tenant_core.specs.Governed.{IsGoverned};
+    ghost use Rattle.tenant_core.specs.Answer.{tick_made, tick_result, ticked};
+    ghost use Rattle.tenant_core.specs.Governed.{IsGoverned, made_by};
     ghost use Rattle.tenant_core.specs.Sound.{IsSound};
     ghost use Rattle.books_shared.specs.Kept.{IsKept, number_of};
     ghost use Rattle.books_shared.specs.Rises.{command_rise, entries_closed, rise_of, tick_rise};
-    ghost use Rattle.books_shared.specs.Shares.{raised};
+    ghost use Rattle.books_shared.specs.Traced.{IsLedTo, counted};
+    ghost use Rattle.one_list.specs.Steps.{done_by};
     ghost use Rattle.books_shared.specs.Turns.{IsLeft, IsEnded};
 
     // What the type keeps.
     pub(crate) fn is_kept(&self)
-        ensures { IsKept self.now }
+        ensures kept { IsKept self.now }
+        ensures led { IsLedTo J.openings self.now.state self.now.steps }
     {
         self.kept.is_kept();
     }
 
-    /// The book. It is the replay of its journal, and within its limits.
+    /// The book. It is the replay of its journal, and within its limits; and all its steps since `Books::new`, over all its
+    /// periods, lead to it from the tenant's first opening.
     pub fn book(&self) -> &Book
         ensures book { result.now ≡ self.now.state }
         ensures sound { IsSound self.now.state }
+        ensures led { IsLedTo J.openings self.now.state self.now.steps }
     {
         self.kept.is_kept();
         self.kept.book()
@@ -84,14 +91,16 @@ impl Guard<'_> {
     /// `Reply`). After `Idle` and `Stray` nothing has changed but that the call was used up.
     ///
     /// The share has room for a call, which this one uses up.
-    pub fn decide(&mut self, share: &mut Share, slot: &mut Slot, now: Moment) -> Turn
+    pub fn decide(&mut self, share: &mut Share<J>, slot: &mut Slot, now: Moment) -> Turn
         requires room { 0 < share.old.room }
         ensures turn { result ≡ (decide_call slot.old self.old.state now).turn }
         ensures slot { slot.new ≡ (decide_call slot.old self.old.state now).work }
         ensures book { self.new.state ≡ recorded self.old.state (decide_call slot.old self.old.state now).made }
         ensures closed { self.new.closed ≡ self.old.closed }
-        ensures share { share.new
-            ≡ raised (rise_of (decide_call slot.old self.old.state now)) self.old.state.opening.tenant share.old }
+        ensures steps { self.new.steps ≡ self.old.steps
+            ++ done_by share.old.worker self.old.state.opening.tenant (decide_call slot.old self.old.state now).made }
+        ensures share { share.new ≡ counted (rise_of (decide_call slot.old self.old.state now)) self.old.state.opening.tenant
+            (decide_call slot.old self.old.state now).made share.old }
         ensures number { number_of self.new
             ≡ number_of self.old + (rise_of (decide_call slot.old self.old.state now)).entries }
         // What is known of the slot from the turn alone.
@@ -99,7 +108,7 @@ impl Guard<'_> {
     {
         self.kept.is_kept();
         let tenant = self.kept.book().tenant();
-        let (turn, rise) = self.kept.decide(slot, now);
+        let (turn, rise) = self.kept.decide(self.chronicle, share, slot, now);
         share.raise(tenant, rise);
         turn
     }
@@ -108,14 +117,16 @@ impl Guard<'_> {
     /// `Reply` appends. After `Idle` and `Stray` nothing has changed but that the call was used up.
     ///
     /// The share has room for a call, which this one uses up.
-    pub fn answer(&mut self, share: &mut Share, slot: &mut Slot, now: Moment, got: Got) -> Turn
+    pub fn answer(&mut self, share: &mut Share<J>, slot: &mut Slot, now: Moment, got: Got) -> Turn
         requires room { 0 < share.old.room }
         ensures turn { result ≡ (answer_call slot.old self.old.state now got).turn }
         ensures slot { slot.new ≡ (answer_call slot.old self.old.state now got).work }
         ensures book { self.new.state ≡ recorded self.old.state (answer_call slot.old self.old.state now got).made }
         ensures closed { self.new.closed ≡ self.old.closed }
-        ensures share { share.new
-            ≡ raised (rise_of (answer_call slot.old self.old.state now got)) self.old.state.opening.tenant share.old }
+        ensures steps { self.new.steps ≡ self.old.steps
+            ++ done_by share.old.worker self.old.state.opening.tenant (answer_call slot.old self.old.state now got).made }
+        ensures share { share.new ≡ counted (rise_of (answer_call slot.old self.old.state now got)) self.old.state.opening.tenant
+            (answer_call slot.old self.old.state now got).made share.old }
         ensures number { number_of self.new
             ≡ number_of self.old + (rise_of (answer_call slot.old self.old.state now got)).entries }
         // What is known of the slot from the turn alone.
@@ -123,7 +134,7 @@ impl Guard<'_> {
     {
         self.kept.is_kept();
         let tenant = self.kept.book().tenant();
-        let (turn, rise) = self.kept.answer(slot, now, got);
+        let (turn, rise) = self.kept.answer(self.chronicle, share, slot, now, got);
         share.raise(tenant, rise);
         turn
     }
@@ -132,17 +143,20 @@ impl Guard<'_> {
     /// that the call was used up.
     ///
     /// The share has room for a call, which this one uses up.
-    pub fn tick(&mut self, share: &mut Share, now: Moment) -> Result<u32, BookFault>
+    pub fn tick(&mut self, share: &mut Share<J>, now: Moment) -> Result<u32, BookFault>
         requires room { 0 < share.old.room }
         ensures count { result ≡ tick_result self.old.state now }
         ensures book { self.new.state ≡ ticked self.old.state now }
         ensures closed { self.new.closed ≡ self.old.closed }
-        ensures share { share.new ≡ raised (tick_rise result) self.old.state.opening.tenant share.old }
+        ensures steps { self.new.steps ≡ self.old.steps
+            ++ done_by share.old.worker self.old.state.opening.tenant (tick_made self.old.state now) }
+        ensures share { share.new ≡ counted (tick_rise result) self.old.state.opening.tenant
+            (tick_made self.old.state now) share.old }
         ensures number { number_of self.new ≡ number_of self.old + (tick_rise result).entries }
     {
         self.kept.is_kept();
         let tenant = self.kept.book().tenant();
-        let (count, rise) = self.kept.tick(now);
+        let (count, rise) = self.kept.tick(self.chronicle, share, now);
         share.raise(tenant, rise);
         count
     }
@@ -155,7 +169,7 @@ impl Guard<'_> {
     pub fn command(
         &mut self,
         alloc: Global,
-        share: &mut Share,
+        share: &mut Share<J>,
         command: &Command,
         now: Moment,
     ) -> Result<Answered, CommandFault>
@@ -163,12 +177,17 @@ impl Guard<'_> {
         ensures answer { IsGoverned result command.now self.old.state self.new.state now }
         ensures closed { self.new.closed
             ≡ self.old.closed + entries_closed result (length self.old.state.records) }
-        ensures share { share.new ≡ raised (command_rise result) self.old.state.opening.tenant share.old }
+        ensures steps { self.new.steps ≡ self.old.steps
+            ++ done_by share.old.worker self.old.state.opening.tenant (made_by result self.old.state command.now now) }
+        ensures share { share.new ≡ counted (command_rise result) self.old.state.opening.tenant
+            (made_by result self.old.state command.now now) share.old }
         ensures number { number_of self.new ≡ number_of self.old + (command_rise result).entries }
     {
         self.kept.is_kept();
         let tenant = self.kept.book().tenant();
-        let (answer, rise) = self.kept.command(alloc, command, now);
+        let (answer, rise) = self
+            .kept
+            .command(alloc, self.chronicle, share, command, now);
         share.raise(tenant, rise);
         answer
     }

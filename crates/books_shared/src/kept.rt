@@ -2,29 +2,37 @@
 
 ghost use Rattle.std.specs.Prelude.{◌≡◌, ◌+◌, ◌≤◌, length};
 ghost use Rattle.floor_core.specs.Work.{decide_call, answer_call};
+ghost use Rattle.one_list.specs.Steps.{grown};
 ghost use Rattle.tenant_core.specs.Answer.{tick_result, ticked};
 ghost use Rattle.tenant_core.specs.Governed.{IsGoverned};
 ghost use Rattle.tenant_core.specs.State.{recorded};
 ghost use Rattle.books_shared.specs.Rises.{command_rise, entries_closed, rise_of, tick_rise};
 ghost use Rattle.books_shared.specs.Kept.{most_entries};
+ghost use Rattle.books_shared.specs.Shares.{with_steps};
+ghost use Rattle.books_shared.specs.Tracing.{told_by, told_of};
 
 use crate::rise::{Rise, command_rise, entries_closed, rise_of_turn, tick_rise};
+use crate::share::Share;
 use floor_core::{Got, Slot, Turn};
 use ilp_addr::Moment;
+use one_list::{Chronicle, Run, TenantPart};
 use std::alloc::Global;
 use std::marker::Model;
 use tenant_core::laws::book_is_sound;
 use tenant_core::{Answered, Book, BookFault, Command, CommandFault};
 
-/// A tenant's book, and how many entries its closed periods had. Contracts see it as a `Kept`.
+/// A tenant's book, how many entries its closed periods had, and the tenant's part of the one list. Contracts see it as a
+/// `Kept`.
 #[derive(Drop)]
-pub struct Kept {
+pub struct Kept<J: Run> {
     book: Book,
     closed: u64,
+    part: TenantPart<J>,
 }
 
-impl Model for Kept {
+impl<J: Run> Model for Kept<J> {
     ghost use Rattle.books_shared.specs.Kept.{Kept, most_entries};
+    ghost use Rattle.books_shared.specs.Traced.{IsTraced};
     ghost use Rattle.std.specs.Coded.{codes};
     ghost use Rattle.route_table.specs.contracts.routes.Routes as routes;
     ghost use Rattle.std.specs.Prelude.{◌≤◌};
@@ -33,25 +41,33 @@ impl Model for Kept {
 
     ghost coded = { Prim.hlevel (codes, routes.the_row.coded) };
 
-    ghost view = { λ k. record { state = k.book; closed = k.closed } };
+    ghost view = { λ k. record { state = k.book; closed = k.closed; steps = k.part.steps } };
 
-    ghost invariant = { λ k. k.closed ≤ most_entries k.book.opening.period };
+    ghost invariant = { λ k. (k.closed ≤ most_entries k.book.opening.period) × IsTraced J.openings k.book k.part };
 }
 
-impl Kept {
-    ghost use Rattle.std.specs.Prelude.{◌≡◌, ◌+◌, ◌<◌, ◌^◌, length};
+impl<J: Run> Kept<J> {
+    ghost use Rattle.std.specs.Prelude.{◌≡◌, ◌+◌, ◌<◌, ◌^◌, [], ◌++◌, length};
     ghost use Rattle.floor_core.specs.Work.{decide_call, answer_call};
-    ghost use Rattle.tenant_core.specs.Answer.{tick_result, ticked};
-    ghost use Rattle.tenant_core.specs.Governed.{IsGoverned};
-    ghost use Rattle.tenant_core.specs.State.{recorded};
+    ghost use Rattle.tenant_core.specs.Answer.{tick_made, tick_result, ticked};
+    ghost use Rattle.tenant_core.specs.Governed.{IsGoverned, made_by};
+    ghost use Rattle.tenant_core.specs.State.{opened, recorded};
     ghost use Rattle.books_shared.specs.Kept.{IsKept, number_of};
     ghost use Rattle.books_shared.specs.Rises.{command_rise, entries_closed, rise_of, tick_rise};
+    ghost use Rattle.books_shared.specs.Shares.{with_steps};
+    ghost use Rattle.books_shared.specs.Traced.{IsLedTo, IsTraced};
+    ghost use Rattle.one_list.specs.Steps.{done_by};
 
-    /// A book in which nothing has happened.
-    pub fn new(book: Book) -> Kept
-        ensures { result ≡ record { state = book; closed = 0 } }
+    /// A book in which nothing has happened, and the part of the one list of its tenant.
+    pub fn new(book: Book, part: TenantPart<J>) -> Kept<J>
+        requires { IsTraced J.openings book part }
+        ensures { result ≡ record { state = book; closed = 0; steps = part.steps } }
     {
-        Kept { book, closed: 0 }
+        Kept {
+            book,
+            closed: 0,
+            part,
+        }
     }
 
     /// The book.
@@ -63,7 +79,8 @@ impl Kept {
 
     /// What the type keeps.
     pub fn is_kept(&self)
-        ensures { IsKept self.now }
+        ensures kept { IsKept self.now }
+        ensures led { IsLedTo J.openings self.now.state self.now.steps }
     {
         book_is_sound(&self.book);
         let _closed = self.closed;
@@ -78,68 +95,151 @@ impl Kept {
         self.closed + self.book.entries() as u64
     }
 
-    /// The book, and how many entries were appended.
-    pub fn into_parts(self) -> (Book, u64)
-        ensures { result ≡ (self.state, number_of self) }
+    /// The book and how many entries were appended, and its part of the one list.
+    pub fn into_parts(self) -> ((Book, u64), TenantPart<J>)
+        ensures book { result.0 ≡ (self.state, number_of self) }
+        ensures traced { IsTraced J.openings self.state result.1 }
     {
         let number = self.number();
-        let Kept { book, .. } = self;
-        (book, number)
+        let Kept { book, part, .. } = self;
+        ((book, number), part)
     }
 
     /// What `Slot::decide` does, and what it adds.
-    pub fn decide(&mut self, slot: &mut Slot, now: Moment) -> (Turn, Rise)
+    pub fn decide(
+        &mut self,
+        chronicle: &Chronicle<J>,
+        share: &mut Share<J>,
+        slot: &mut Slot,
+        now: Moment,
+    ) -> (Turn, Rise)
         ensures turn { result.0 ≡ (decide_call slot.old self.old.state now).turn }
         ensures slot { slot.new ≡ (decide_call slot.old self.old.state now).work }
         ensures book { self.new.state ≡ recorded self.old.state (decide_call slot.old self.old.state now).made }
         ensures closed { self.new.closed ≡ self.old.closed }
+        ensures steps { self.new.steps ≡ self.old.steps
+            ++ done_by share.old.worker self.old.state.opening.tenant (decide_call slot.old self.old.state now).made }
+        ensures share { share.new ≡ with_steps
+            (done_by share.old.worker self.old.state.opening.tenant (decide_call slot.old self.old.state now).made) share.old }
         ensures rise { result.1 ≡ rise_of (decide_call slot.old self.old.state now) }
         ensures number { number_of self.new ≡ number_of self.old + result.1.entries }
     {
-        decide_in(&mut self.book, slot, now)
+        let (turn, rise) = decide_in(&mut self.book, slot, now);
+        book_is_sound(&self.book);
+        trace(chronicle, &mut self.part, share, &self.book, rise.entries);
+        (turn, rise)
     }
 
     /// What `Slot::answer` does, and what it adds.
-    pub fn answer(&mut self, slot: &mut Slot, now: Moment, got: Got) -> (Turn, Rise)
+    pub fn answer(
+        &mut self,
+        chronicle: &Chronicle<J>,
+        share: &mut Share<J>,
+        slot: &mut Slot,
+        now: Moment,
+        got: Got,
+    ) -> (Turn, Rise)
         ensures turn { result.0 ≡ (answer_call slot.old self.old.state now got).turn }
         ensures slot { slot.new ≡ (answer_call slot.old self.old.state now got).work }
         ensures book { self.new.state ≡ recorded self.old.state (answer_call slot.old self.old.state now got).made }
         ensures closed { self.new.closed ≡ self.old.closed }
+        ensures steps { self.new.steps ≡ self.old.steps
+            ++ done_by share.old.worker self.old.state.opening.tenant (answer_call slot.old self.old.state now got).made }
+        ensures share { share.new ≡ with_steps
+            (done_by share.old.worker self.old.state.opening.tenant (answer_call slot.old self.old.state now got).made) share.old }
         ensures rise { result.1 ≡ rise_of (answer_call slot.old self.old.state now got) }
         ensures number { number_of self.new ≡ number_of self.old + result.1.entries }
     {
-        answer_in(&mut self.book, slot, now, got)
+        let (turn, rise) = answer_in(&mut self.book, slot, now, got);
+        book_is_sound(&self.book);
+        trace(chronicle, &mut self.part, share, &self.book, rise.entries);
+        (turn, rise)
     }
 
     /// What `Book::tick` does, and what it adds.
-    pub fn tick(&mut self, now: Moment) -> (Result<u32, BookFault>, Rise)
+    pub fn tick(
+        &mut self,
+        chronicle: &Chronicle<J>,
+        share: &mut Share<J>,
+        now: Moment,
+    ) -> (Result<u32, BookFault>, Rise)
         ensures count { result.0 ≡ tick_result self.old.state now }
         ensures book { self.new.state ≡ ticked self.old.state now }
         ensures closed { self.new.closed ≡ self.old.closed }
+        ensures steps { self.new.steps ≡ self.old.steps
+            ++ done_by share.old.worker self.old.state.opening.tenant (tick_made self.old.state now) }
+        ensures share { share.new ≡ with_steps
+            (done_by share.old.worker self.old.state.opening.tenant (tick_made self.old.state now)) share.old }
         ensures rise { result.1 ≡ tick_rise result.0 }
         ensures number { number_of self.new ≡ number_of self.old + result.1.entries }
     {
-        tick_in(&mut self.book, now)
+        let (count, rise) = tick_in(&mut self.book, now);
+        book_is_sound(&self.book);
+        trace(chronicle, &mut self.part, share, &self.book, rise.entries);
+        (count, rise)
     }
 
     /// What `Book::command` does, and what it adds.
     pub fn command(
         &mut self,
         alloc: Global,
+        chronicle: &Chronicle<J>,
+        share: &mut Share<J>,
         command: &Command,
         now: Moment,
     ) -> (Result<Answered, CommandFault>, Rise)
         ensures answer { IsGoverned result.0 command.now self.old.state self.new.state now }
         ensures closed { self.new.closed
             ≡ self.old.closed + entries_closed result.0 (length self.old.state.records) }
+        ensures steps { self.new.steps ≡ self.old.steps
+            ++ done_by share.old.worker self.old.state.opening.tenant (made_by result.0 self.old.state command.now now) }
+        ensures share { share.new ≡ with_steps
+            (done_by share.old.worker self.old.state.opening.tenant (made_by result.0 self.old.state command.now now)) share.old }
         ensures rise { result.1 ≡ command_rise result.0 }
         ensures number { number_of self.new ≡ number_of self.old + result.1.entries }
     {
         let (answer, closed) = command_in(&mut self.book, alloc, command, now);
         book_is_sound(&self.book);
         self.closed += closed;
+        trace_command(chronicle, &mut self.part, share, &self.book, &answer);
         let rise = command_rise(&answer);
         (answer, rise)
+    }
+}
+
+// Adds the record that a call made to the one list, which appended so many entries: one or none.
+fn trace<J: Run>(
+    chronicle: &Chronicle<J>,
+    part: &mut TenantPart<J>,
+    share: &mut Share<J>,
+    book: &Book,
+    entries: u64,
+)
+    ensures part { part.new ≡ grown part.old (told_by entries share.old.worker part.old.number book.now.records) }
+    ensures share { share.new ≡ with_steps (told_by entries share.old.worker part.old.number book.now.records) share.old }
+{
+    if entries != 0 {
+        share.record(chronicle, part, book.journal());
+    }
+}
+
+// Adds the record that a command made to the one list: a roll's is the last one of the period that it closed.
+fn trace_command<J: Run>(
+    chronicle: &Chronicle<J>,
+    part: &mut TenantPart<J>,
+    share: &mut Share<J>,
+    book: &Book,
+    answer: &Result<Answered, CommandFault>,
+)
+    ensures part { part.new ≡ grown part.old (told_of answer.now share.old.worker part.old.number book.now.records) }
+    ensures share { share.new ≡ with_steps (told_of answer.now share.old.worker part.old.number book.now.records) share.old }
+{
+    match answer {
+        Ok(Answered::Done) => share.record(chronicle, part, book.journal()),
+        Ok(Answered::Rolled(period)) => {
+            share.record(chronicle, part, period.get().records.journal());
+        }
+        Ok(Answered::Balances(_)) | Err(_) => {}
     }
 }
 

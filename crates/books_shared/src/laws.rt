@@ -9,9 +9,10 @@ ghost use denote.Param.Send.{IsSync};
 ghost use Rattle.books_shared.specs.contracts.books.Books as Books;
 
 use crate::guard::Guard;
+use one_list::Run;
 
 /// Whenever a lock is held, and so whenever it is free, the book is the replay of its journal, and within its limits.
-pub fn guard_is_sound(guard: &Guard<'_>)
+pub fn guard_is_sound<J: Run>(guard: &Guard<'_, J>)
     ensures { IsSound guard.now.state }
 {
     guard.is_kept();
@@ -30,6 +31,6 @@ pub fn fresh_shares_are_all_there()
 {}
 
 /// Threads may share books. Call it ahead of a call that hands them to threads: what that call requires is proved by it.
-pub fn books_are_shared()
-    ensures { IsSync Books.the_row }
+pub fn books_are_shared<J: Run>()
+    ensures { IsSync (Books.the_row J.row J.Run) }
 {}

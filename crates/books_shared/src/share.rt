@@ -4,8 +4,9 @@ ghost use Rattle.std.specs.Prelude.{◌≡◌};
 ghost use Rattle.books_shared.specs.Shares.{has_full};
 
 use crate::rise::Rise;
+use one_list::{Chronicle, Run, TenantPart, WorkerPart};
 use std::marker::Model;
-use tenant_core::Command;
+use tenant_core::{Command, Journal};
 use thiserror::Error;
 
 // A count that is full.
@@ -17,43 +18,54 @@ const MAX_COUNT: u64 = 1 << 47;
 pub struct Spent;
 
 /// What one worker has counted for each of 64 tenants: the entries that it appended to the tenant's book, the tokens that
-/// were no peer's, and the packets that found the journal full. Contracts see it as a `ShareView`.
+/// were no peer's, and the packets that found the journal full; and, for the proofs alone, its steps in the one list of all
+/// that is done to the books. Contracts see it as a `ShareView`.
 ///
 /// It has room for a number of calls of a `Guard`, each of which uses one up; `make_room` makes room for two. So no
 /// count passes 2^47 + 1.
 #[derive(Drop)]
-pub struct Share {
-    worker: usize,
+pub struct Share<J: Run> {
+    part: WorkerPart<J>,
     counts: [u64; 64],
     strangers: [u64; 64],
     full: [u64; 64],
     room: u64,
 }
 
-impl Model for Share {
+impl<J: Run> Model for Share<J> {
     ghost use Rattle.books_shared.specs.Shares.{ShareView};
 
     ghost Value = { ShareView };
 
-    ghost use Rattle.books_shared.specs.ShareKept.{share_of, IsRoomy};
+    ghost use Rattle.books_shared.specs.ShareKept.{IsRoomy};
 
-    ghost view = { share_of };
+    ghost view = { λ s. record {
+      worker = s.part.number;
+      counts = s.counts;
+      strangers = s.strangers;
+      full = s.full;
+      room = s.room;
+      steps = s.part.steps;
+    } };
 
-    ghost invariant = { IsRoomy };
+    ghost invariant = { λ s. IsRoomy s.counts s.strangers s.full s.room };
 }
 
-impl Share {
-    ghost use Rattle.std.specs.Prelude.{◌≡◌, ◌+◌, ◌<◌, ◌≤◌, slice_index};
+impl<J: Run> Share<J> {
+    ghost use Rattle.std.specs.Prelude.{◌≡◌, ◌+◌, ◌<◌, ◌≤◌, [], slice_index};
     ghost use Rattle.tenant_core.specs.Limits.{max_tenants};
     ghost use Rattle.books_shared.specs.Rises.{IsSmall};
-    ghost use Rattle.books_shared.specs.Shares.{fresh, max_count, raised, room_result, with_room};
+    ghost use Rattle.books_shared.specs.Shares.{fresh, max_count, raised, room_result, with_room, with_steps};
+    ghost use Rattle.books_shared.specs.Traced.{part_of};
+    ghost use Rattle.one_list.specs.Steps.{done_last, grown};
 
     // The share of a worker that has counted nothing.
-    pub(crate) fn fresh(worker: usize) -> Share
-        ensures { result ≡ fresh worker }
+    pub(crate) fn fresh(part: WorkerPart<J>) -> Share<J>
+        requires { part ≡ record { number = part.number; steps = [] } }
+        ensures { result ≡ fresh part.number }
     {
         Share {
-            worker,
+            part,
             counts: [0; 64],
             strangers: [0; 64],
             full: [0; 64],
@@ -65,7 +77,7 @@ impl Share {
     pub fn worker(&self) -> usize
         ensures { result ≡ self.now.worker }
     {
-        self.worker
+        self.part.number() as usize
     }
 
     /// How many entries the worker appended to the book of that tenant, below 64: at most 2^47 + 1.
@@ -121,6 +133,27 @@ impl Share {
         self.strangers[tenant] += rise.strangers;
         self.full[tenant] += rise.full;
         self.room -= 1;
+    }
+
+    // Adds the journal's last record to the one list.
+    pub(crate) fn record(
+        &mut self,
+        chronicle: &Chronicle<J>,
+        tenant: &mut TenantPart<J>,
+        journal: &Journal,
+    )
+        ensures tenant { tenant.new ≡ grown tenant.old (done_last self.old.worker tenant.old.number journal.now.records) }
+        ensures share { self.new ≡ with_steps (done_last self.old.worker tenant.old.number journal.now.records) self.old }
+    {
+        chronicle.record(tenant, &mut self.part, journal);
+    }
+
+    // The worker's part of the one list.
+    pub(crate) fn into_part(self) -> WorkerPart<J>
+        ensures { result ≡ part_of self }
+    {
+        let Share { part, .. } = self;
+        part
     }
 }
 

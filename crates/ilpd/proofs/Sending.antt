@@ -3,6 +3,8 @@ use denote.Struct.Declared.{shape}
 use denote.Param.Send.{IsSend, IsSync, struct_send, struct_sync, recorded_send, recorded_sync, sendable}
 use Rattle.std.proofs.Crossing as std
 use Rattle.floor_core.specs.contracts.slot.Slot as Slot
+use Rattle.one_list.specs.declared.run.Run as Run
+use Rattle.one_list.proofs.parts.WorkerPart.TheSendSync as of_part
 use Rattle.books_shared.specs.contracts.books.Books as Books
 use Rattle.books_shared.specs.contracts.share.Share as Share
 use Rattle.meters.specs.contracts.meters.Meters as Meters
@@ -15,8 +17,8 @@ use Rattle.ilpd.specs.contracts.desk.Desk as Desk
 use Rattle.ilpd.specs.contracts.office.Office as Office
 use Rattle.ilpd.specs.contracts.office.Terms as Terms
 
-pub share_send : IsSend Share.the_row
-share_send = search (sendable, std.crosses) depth 40
+pub share_send : (J : RattleType) (r : Run.Ghosts J.Denot) → IsSend (Share.the_row J r)
+share_send J r = search (sendable, std.crosses, of_part.the_send) depth 40
 
 pub slot_send : IsSend Slot.the_row
 slot_send = search (sendable, std.crosses) depth 40
@@ -27,20 +29,21 @@ name_sync = search (sendable, std.crosses) depth 40
 pub terms_sync : IsSync Terms.the_row
 terms_sync = search (sendable, std.crosses) depth 40
 
-pub office_sync : IsSync Books.the_row → IsSync Meters.the_row → IsSync Office.the_row
-office_sync books meters =
-    let fields = struct_sync (shape Office.the_type) (
+pub office_sync : (J : RattleType) (r : Run.Ghosts J.Denot) → IsSync (Books.the_row J r) → IsSync Meters.the_row
+    → IsSync (Office.the_row J r)
+office_sync J r books meters =
+    let fields = struct_sync (shape (Office.the_type J r)) (
       search (sendable, std.crosses, name_sync) depth 40,
       (search (sendable, std.crosses, terms_sync) depth 40, (books, (meters, tt))),
     ) in
     search (recorded_sync, fields) depth 10
 
-pub desk_send : IsSend MeterSeat.the_row → IsSend (Desk.the_field).row
-desk_send seat = struct_send (shape Desk.the_type)
-    (share_send, (seat, (slot_send, (search (sendable, std.crosses) depth 40, (search (sendable, std.crosses) depth 40, (search (sendable, std.crosses) depth 40, tt))))))
+pub desk_send : (J : RattleType) (r : Run.Ghosts J.Denot) → IsSend MeterSeat.the_row → IsSend (Desk.the_field J r).row
+desk_send J r seat = struct_send (shape (Desk.the_type J r))
+    (share_send J r, (seat, (slot_send, (search (sendable, std.crosses) depth 40, (search (sendable, std.crosses) depth 40, (search (sendable, std.crosses) depth 40, tt))))))
 
-pub worker_send : (κ : NamedLft) (H C : RattleType) → IsSync H → IsSync C → IsSync Office.the_row → IsSend MeterSeat.the_row
-    → IsSend (Worker.the_row κ H C)
-worker_send κ H C h c office seat =
-    recorded_send _ _ _ (Worker.the_type κ H C).to_one (struct_send (shape (Worker.the_type κ H C))
-    (search (sendable, std.crosses, h) depth 40, (search (sendable, std.crosses) depth 40, (search (sendable, std.crosses, office) depth 40, (search (sendable, std.crosses, c) depth 40, (search (sendable, std.crosses) depth 40, (search (sendable, std.crosses) depth 40, (search (sendable, std.crosses) depth 40, (desk_send seat, tt)))))))))
+pub worker_send : (κ : NamedLft) (H C J : RattleType) (r : Run.Ghosts J.Denot) → IsSync H → IsSync C
+    → IsSync (Office.the_row J r) → IsSend MeterSeat.the_row → IsSend (Worker.the_row κ H C J r)
+worker_send κ H C J r h c office seat =
+    recorded_send _ _ _ (Worker.the_type κ H C J r).to_one (struct_send (shape (Worker.the_type κ H C J r))
+    (search (sendable, std.crosses, h) depth 40, (search (sendable, std.crosses) depth 40, (search (sendable, std.crosses, office) depth 40, (search (sendable, std.crosses, c) depth 40, (search (sendable, std.crosses) depth 40, (search (sendable, std.crosses) depth 40, (search (sendable, std.crosses) depth 40, (desk_send J r seat, tt)))))))))

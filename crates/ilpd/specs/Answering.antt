@@ -5,6 +5,7 @@ use Rattle.std.specs.List.{sum_by}
 use Rattle.std.specs.Prelude.{All}
 use Rattle.std.specs.Str.{bytes_eq}
 use Rattle.std.specs.Io.KnownBytes.{Appends}
+use Rattle.std.specs.declared.marker.Brand.{Brand}
 use Rattle.common_types.specs.Token.{is_token}
 use Rattle.ilp_view.specs.Reading.{prepare_at}
 use Rattle.tenant_core.specs.declared.command.Answered.{Answered}
@@ -13,10 +14,13 @@ use Rattle.tenant_core.specs.declared.faults.CommandFault.{CommandFault}
 use Rattle.tenant_core.specs.declared.faults.CommandFault.TheVariants.{Memory}
 use Rattle.meters.specs.Seats.{TotalsState, count_of, total_of}
 use Rattle.meters.specs.declared.kind.Kind as meter
+use Rattle.atomic_table.specs.Seated.{TableId}
+use Rattle.one_list.specs.declared.run.Run.{Ghosts}
 use Rattle.books_shared.specs.Shares.{ShareView, fresh}
+use Rattle.books_shared.specs.Traced.{openings_of}
 use Rattle.floor_core.specs.Work.{loaded}
 use Rattle.floor_core.specs.declared.step.Output.TheVariants.{Governed}
-use Rattle.workers.specs.Carrying.{IsCarried, IsDone}
+use Rattle.workers.specs.Carrying.{IsCarried, IsDone, growth}
 use Rattle.workers.specs.Counting.{HasCounted, Rises, command_kind, command_rise, reply_tallied, tallied}
 use Rattle.workers.specs.Replies.{code_of, status_of}
 use Rattle.workers.specs.declared.governing.GovernFault.{GovernFault}
@@ -37,21 +41,24 @@ use Rattle.ilpd.specs.declared.office.Office.{Office}
 use Rattle.ilpd.specs.Served.{lines_upto}
 
 -- nothing is counted or carried
-pub record IsUntouched (before after : Desk) : Type 0 where
+pub record IsUntouched {J : Type 0} {r : Ghosts J} (before after : Desk J r) : Type 0 where
   pub share : after.share ≡ before.share
   pub seat : after.seat ≡ before.seat
   pub slot : after.slot ≡ before.slot
 
 -- ---- a packet
 
--- A packet was carried, by a book of its tenant, counted in the books' share and at the meters, and answered with the
--- status of its reply. A token that is none and a frame that is no Prepare get no further.
-pub record WasCarried (before : Desk) (tenant : ℕ) (token frame : List ℕ) (told : Status) (after : Desk) : Type 0 where
+-- A packet was carried, by the book of its tenant, counted in the books' share and at the meters, and answered with the
+-- status of its reply. Each record that the book made with it is the next step of the worker's part of the one list, and no
+-- other step came to that part. A token that is none and a frame that is no Prepare get no further.
+pub record WasCarried {J : Type 0} {r : Ghosts J} (before : Desk J r) (tenant : ℕ) (token frame : List ℕ) (told : Status)
+    (after : Desk J r) : Type 0 where
   pub reply : Reply
   pub status : told ≡ status_of reply
   pub nameless : reply ≡ Nameless ↔ is_token token ≡ false
   pub malformed : reply ≡ Malformed ↔ (is_token token ≡ true) × (is_ok (prepare_at frame) ≡ false)
-  pub carried : IsCarried reply tenant (loaded before.slot tenant token frame) after.slot (λ sending. Unit {0})
+  pub carried : IsCarried reply (growth tenant before.share after.share) (loaded before.slot tenant token frame) after.slot
+      (λ sending. Unit {0})
   pub counted : HasCounted reply tenant after.slot.reply before.share after.share
   pub metered : after.seat ≡ reply_tallied tenant reply before.seat
 
@@ -62,31 +69,32 @@ abbrev pub command_line : List ℕ → List ℕ
 command_line body = if slice_index_or body (length body - 1) 0 == 10 then take (length body - 1) body else body
 
 -- a command's answer is printed in its lines (200), unless there is no memory for them (503)
-abbrev pub IsPrinted : Office → ℕ → Result Answered CommandFault → Status → List ℕ → Type 0
+abbrev pub IsPrinted : {J : Type 0} {r : Ghosts J} → Office J r → ℕ → Result Answered CommandFault → Status → List ℕ → Type 0
 IsPrinted office tenant answer told printed =
     ((told ≡ status.Answered) × (printed ≡ printed_lines office.names.items (Governed tenant answer ∷ [])))
     ⊎ (told ≡ status.Unavailable)
 
 -- what the tenant's book answers or refuses is printed; for want of anything else nothing is (503)
-abbrev pub IsTold : Office → ℕ → Result Answered GovernFault → Status → List ℕ → Type 0
+abbrev pub IsTold : {J : Type 0} {r : Ghosts J} → Office J r → ℕ → Result Answered GovernFault → Status → List ℕ → Type 0
 IsTold office tenant (Ok answered) told printed = IsPrinted office tenant (Ok answered) told printed
 IsTold office tenant (Err Spent) told printed = told ≡ status.Unavailable
 IsTold office tenant (Err Stray) told printed = told ≡ status.Unavailable
 IsTold office tenant (Err (Refused Memory)) told printed = told ≡ status.Unavailable
 IsTold office tenant (Err (Refused fault)) told printed = IsPrinted office tenant (Err fault) told printed
 
--- a command was done, or refused, by a book of the tenant, counted in the books' share and at the meters, and told
-pub record WasGoverned (office : Office) (before : Desk) (tenant : ℕ) (given : Command) (told : Status)
-    (after : Desk) : Type 0 where
+-- A command was done, or refused, by the book of the tenant, counted in the books' share and at the meters, and told. The
+-- record that the book made is the next step of the worker's part of the one list, and no other step came to that part.
+pub record WasGoverned {J : Type 0} {r : Ghosts J} (office : Office J r) (before : Desk J r) (tenant : ℕ) (given : Command) (told : Status)
+    (after : Desk J r) : Type 0 where
   pub answer : Result Answered GovernFault
-  pub done : IsDone answer tenant given
+  pub done : IsDone answer (growth tenant before.share after.share) given
   pub counted : Rises (command_rise answer) tenant before.share after.share
   pub metered : after.seat ≡ tallied tenant (command_kind answer) before.seat
   pub slot : after.slot ≡ before.slot
   pub told_so : IsTold office tenant answer told after.printed.items
 
 -- A text that spells a command is done; one that spells none is malformed (400). Where there is no memory to read it nothing happens (503).
-abbrev pub WasObeyed : Result Command TextFault → Office → Desk → ℕ → Status → Desk → Type 0
+abbrev pub WasObeyed : {J : Type 0} {r : Ghosts J} → Result Command TextFault → Office J r → Desk J r → ℕ → Status → Desk J r → Type 0
 WasObeyed (Ok given) office before tenant told after =
     WasGoverned office before tenant given told after ⊎ ((told ≡ status.Unavailable) × IsUntouched before after)
 WasObeyed (Err fault) office before tenant told after =
@@ -95,35 +103,35 @@ WasObeyed (Err fault) office before tenant told after =
 -- ---- a question
 
 -- the token of a tenant's operator
-abbrev pub operator_token : Office → ℕ → List ℕ
+abbrev pub operator_token : {J : Type 0} {r : Ghosts J} → Office J r → ℕ → List ℕ
 operator_token office tenant = (slice_index_or office.terms.items tenant (record { admin = []; hold = 0 })).admin
 
 -- a packet of a tenant that is there is carried
-abbrev pub WasAskedPacket : Bool → Asked → Desk → Status → Desk → Type 0
+abbrev pub WasAskedPacket : {J : Type 0} {r : Ghosts J} → Bool → Asked → Desk J r → Status → Desk J r → Type 0
 WasAskedPacket true asked before told after = WasCarried before asked.tenant asked.token asked.body told after
 WasAskedPacket false asked before told after = (told ≡ status.Unavailable) × IsUntouched before after
 
 -- a command under the operator's token is obeyed, one under another is not (401)
-abbrev pub WasAskedCommand : Bool → Office → Asked → Desk → Status → Desk → Type 0
+abbrev pub WasAskedCommand : {J : Type 0} {r : Ghosts J} → Bool → Office J r → Asked → Desk J r → Status → Desk J r → Type 0
 WasAskedCommand true office asked before told after =
     WasObeyed (command_in (command_line asked.body)) office before asked.tenant told after
 WasAskedCommand false office asked before told after = (told ≡ status.Unauthorized) × IsUntouched before after
 
 -- a command for a tenant that is there
-abbrev pub WasOrdered : Bool → Office → Asked → Desk → Status → Desk → Type 0
+abbrev pub WasOrdered : {J : Type 0} {r : Ghosts J} → Bool → Office J r → Asked → Desk J r → Status → Desk J r → Type 0
 WasOrdered true office asked before told after =
     WasAskedCommand (bytes_eq (operator_token office asked.tenant) asked.token) office asked before told after
 WasOrdered false office asked before told after = (told ≡ status.Unavailable) × IsUntouched before after
 
 -- what is asked, by its kind
-abbrev pub WasAsked : Kind → Office → Asked → Desk → Status → Desk → Type 0
+abbrev pub WasAsked : {J : Type 0} {r : Ghosts J} → Kind → Office J r → Asked → Desk J r → Status → Desk J r → Type 0
 WasAsked Ilp office asked before told after =
     WasAskedPacket (nat_lt asked.tenant office.books.tenants) asked before told after
 WasAsked Admin office asked before told after =
     WasOrdered (nat_lt asked.tenant office.books.tenants) office asked before told after
 
 -- a question was answered with that status, and what is told at 200 is of its kind
-pub record HasAnswered (office : Office) (before : Desk) (asked : Asked) (after : Desk) : Type 0 where
+pub record HasAnswered {J : Type 0} {r : Ghosts J} (office : Office J r) (before : Desk J r) (asked : Asked) (after : Desk J r) : Type 0 where
   pub told : Status
   pub code : asked.status ≡ code_of told
   pub kind : after.told ≡ asked.kind
@@ -132,13 +140,13 @@ pub record HasAnswered (office : Office) (before : Desk) (asked : Asked) (after 
 -- ---- many questions
 
 -- what questions leave of a desk, the latest first
-abbrev pub HasAnsweredAll : Office → Desk → List Asked → Desk → Type 0
+abbrev pub HasAnsweredAll : {J : Type 0} {r : Ghosts J} → Office J r → Desk J r → List Asked → Desk J r → Type 0
 HasAnsweredAll office before [] after = after ≡ before
-HasAnsweredAll office before (asked ∷ earlier) after =
-    (desk : Desk) × HasAnsweredAll office before earlier desk × HasAnswered office desk asked after
+HasAnsweredAll {J} {r} office before (asked ∷ earlier) after =
+    (desk : Desk J r) × HasAnsweredAll office before earlier desk × HasAnswered office desk asked after
 
 -- a desk after some questions
-pub record HasServed (office : Office) (before after : Desk) : Type 0 where
+pub record HasServed {J : Type 0} {r : Ghosts J} (office : Office J r) (before after : Desk J r) : Type 0 where
   pub questions : List Asked
   pub left : HasAnsweredAll office before questions after
 
@@ -149,35 +157,48 @@ abbrev pub IsFresh : ShareView → Type 0
 IsFresh share = (worker : ℕ) × (share ≡ fresh worker)
 
 -- a desk at which nothing was asked: its worker has counted nothing
-pub record IsNew (desk : Desk) : Type 0 where
+pub record IsNew {J : Type 0} {r : Ghosts J} (desk : Desk J r) : Type 0 where
   pub share : IsFresh desk.share
   pub seat : (tenant : ℕ) (kind : meter.Kind) → count_of tenant kind desk.seat ≡ 0
 
 -- a desk that its questions left
-pub record HasWorked (office : Office) (desk : Desk) : Type 0 where
-  pub new : Desk
+pub record HasWorked {J : Type 0} {r : Ghosts J} (office : Office J r) (desk : Desk J r) : Type 0 where
+  pub new : Desk J r
   pub is_new : IsNew new
   pub served : HasServed office new desk
 
 -- the desks of so many workers, as their questions left them, and what they have counted in all
-pub record HaveCounted (office : Office) (workers : ℕ) (counts : ℕ → meter.Kind → ℕ) : Type 0 where
-  pub desks : List Desk
+pub record HaveCounted {J : Type 0} {r : Ghosts J} (office : Office J r) (workers : ℕ) (counts : ℕ → meter.Kind → ℕ) : Type 0 where
+  pub desks : List (Desk J r)
   pub each : length desks ≡ workers
   pub worked : All (HasWorked office) desks
   pub sums : (tenant : ℕ) (kind : meter.Kind) → tenant < office.books.tenants
       → counts tenant kind ≡ sum_by (λ desk. count_of tenant kind desk.seat) desks
 
 -- what a service knows of the tenants of a setup: their names, the tokens of their operators, and that each has a book
-pub record IsOfficeOf (setup : Setup) (office : Office) : Type 0 where
+pub record IsOfficeOf {J : Type 0} {r : Ghosts J} (setup : Setup) (office : Office J r) : Type 0 where
   pub names : office.names.items ≡ map (λ t. t.name) setup.tenants
   pub operators : map (λ terms. terms.admin) office.terms.items ≡ map (λ t. t.admin) setup.tenants
   pub books : office.books.tenants ≡ length setup.tenants
 
--- A service of a setup has written a line for each tenant, of what so many workers have counted, as the questions that
--- they were asked left them.
-pub record HasToldCounts (setup : Setup) (workers : ℕ) (old new : Option (List ℕ)) : Type 0 where
-  pub office : Office
+-- A service of a setup, of which that is the run, has written a line for each tenant, of what so many workers have counted, as the
+-- questions that they were asked left them.
+pub record HasToldCountsIn {J : Type 0} (run : Ghosts J) (setup : Setup) (workers : ℕ) (old new : Option (List ℕ)) : Type 0 where
+  pub office : Office J run
   pub known : IsOfficeOf setup office
   pub totals : TotalsState
   pub counted : HaveCounted office workers (λ tenant kind. total_of tenant kind totals)
   pub told : Appends old new (lines_upto (length setup.tenants) office.names.items totals)
+
+-- the run of a service of a setup, whose list stands behind that table
+abbrev pub run_of : TableId → Setup → (workers : ℕ) → Ghosts Brand
+run_of table setup workers = record {
+  table = table;
+  size = record { tenants = length setup.tenants; workers = workers };
+  openings = openings_of setup.tenants setup.start;
+}
+
+-- A service of a setup has written a line for each tenant, of what so many workers have counted, as the questions that they
+-- were asked left them.
+abbrev pub HasToldCounts : Setup → (workers : ℕ) → (old new : Option (List ℕ)) → Type 0
+HasToldCounts setup workers old new = (table : TableId) × HasToldCountsIn (run_of table setup workers) setup workers old new

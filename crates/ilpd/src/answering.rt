@@ -10,6 +10,7 @@ use crate::office::Office;
 use admin_text::parse_command;
 use common_types::ReadError;
 use floor_core::Output;
+use one_list::Run;
 use replay_text::print_lines;
 use std::alloc::Global;
 use std::net::{Net, TcpStream};
@@ -24,12 +25,12 @@ impl Gate for NoGate {
     fn pass(&self, _worker: usize, _point: Point) {}
 }
 
-impl Desk {
+impl<J: Run> Desk<J> {
     /// Carries a packet of a tenant of the office, through a link to its next peers, and gives the status of the answer.
     pub fn carry<H: Wait + Net<Stream = TcpStream> + std::time::Clock, C: Clock>(
         &mut self,
         handle: &H,
-        office: &Office,
+        office: &Office<J>,
         clock: &C,
         tenant: usize,
         token: &[u8],
@@ -68,7 +69,7 @@ impl Desk {
         &mut self,
         handle: &H,
         alloc: Global,
-        office: &Office,
+        office: &Office<J>,
         clock: &C,
         tenant: usize,
         body: &[u8],
@@ -91,7 +92,7 @@ impl Desk {
         &mut self,
         handle: &H,
         alloc: Global,
-        office: &Office,
+        office: &Office<J>,
         clock: &C,
         tenant: usize,
         command: &Command,
@@ -129,9 +130,9 @@ impl Desk {
 }
 
 // Keeps what is printed of a command's answer, and gives the status.
-fn print(
+fn print<J: Run>(
     alloc: Global,
-    office: &Office,
+    office: &Office<J>,
     tenant: usize,
     answer: Result<Answered, CommandFault>,
     printed: &mut Vec<u8>,

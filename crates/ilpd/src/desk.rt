@@ -8,12 +8,13 @@ use books_shared::Share;
 use floor_core::Slot;
 use http_link::Kind;
 use meters::MeterSeat;
+use one_list::Run;
 use std::alloc::Global;
 
 /// What a worker counts, the slot that it carries packets in, and what it answered last.
 #[derive(Drop)]
-pub struct Desk {
-    pub share: Share,
+pub struct Desk<J: Run> {
+    pub share: Share<J>,
     pub seat: MeterSeat,
     pub slot: Slot,
     /// How many packets it has sent to next peers.
@@ -26,9 +27,9 @@ pub struct Desk {
     ghost idle: { slot.job ≡ NoJob },
 }
 
-impl Desk {
+impl<J: Run> Desk<J> {
     /// A desk at which nothing was answered.
-    pub fn new(alloc: Global, share: Share, seat: MeterSeat, slot: Slot) -> Desk
+    pub fn new(alloc: Global, share: Share<J>, seat: MeterSeat, slot: Slot) -> Desk<J>
         requires plain { seat.first ≡ false }
         requires idle { slot.job ≡ NoJob }
         ensures share { result.share ≡ share }

@@ -6,6 +6,7 @@ ghost use Rattle.ilpd.specs.Served.{tenant_named};
 use books_shared::Books;
 use common_types::{Name, Token};
 use meters::Meters;
+use one_list::Run;
 
 /// What a service knows of a tenant beside its book.
 #[derive(Drop)]
@@ -16,18 +17,19 @@ pub struct Terms {
     pub hold: u64,
 }
 
-/// What all workers share: the tenants by their numbers, their books, and the meters.
+/// What all workers share: the tenants by their numbers, their books, and the meters. `J` says which list it is that tells,
+/// to the proofs alone, what is done to the books.
 #[derive(Drop)]
-pub struct Office {
+pub struct Office<J: Run> {
     pub names: Vec<Name>,
     pub terms: Vec<Terms>,
-    pub books: Books,
+    pub books: Books<J>,
     pub meters: Meters,
     ghost known: { vec_len terms ≡ books.tenants },
     ghost metered: { meters.tenants ≡ books.tenants },
 }
 
-impl Office {
+impl<J: Run> Office<J> {
     /// The number of the tenant of that name.
     pub fn tenant_named(&self, name: &[u8]) -> Option<usize>
         ensures { result ≡ tenant_named self.now.names.items name.now }

@@ -5,6 +5,7 @@ ghost use Rattle.tenant_core.specs.Limits.{max_tenants};
 ghost use Rattle.meters.specs.Seats.{count_of, empty_seat};
 ghost use Rattle.meters.specs.declared.kind.Kind as meter;
 ghost use Rattle.books_shared.specs.Gathers.{max_workers};
+ghost use Rattle.books_shared.specs.Traced.{openings_of};
 ghost use Rattle.ilpd.specs.Answering.{IsFresh, IsOfficeOf};
 
 use crate::office::{Office, Terms};
@@ -12,31 +13,41 @@ use admin_text::Setup;
 use books_shared::{Books, Share};
 use common_types::Name;
 use meters::{MeterSeat, Meters};
+use one_list::{Opened, Run};
 use std::alloc::{AllocError, Global};
 use tenant_core::TenantSetup;
 
 /// What a service begins with.
 #[derive(Drop)]
-pub struct Opened {
-    pub office: Office,
+pub struct Begun<J: Run> {
+    pub office: Office<J>,
     /// The first seat at the meters.
     pub first: MeterSeat,
     /// What each worker counts in the books.
-    pub shares: Vec<Share>,
+    pub shares: Vec<Share<J>>,
 }
 
-/// The office of the tenants of a setup, to whom nothing has happened, for so many workers.
-pub fn open_office(alloc: Global, setup: &Setup, workers: usize) -> Result<Opened, AllocError>
+/// The office of the tenants of a setup, to whom nothing has happened, for so many workers. The list of what is done to their
+/// books has just been opened, for so many tenants and workers.
+pub fn open_office<J: Run>(
+    alloc: Global,
+    opened: Opened,
+    setup: &Setup,
+    workers: usize,
+) -> Result<Begun<J>, AllocError>
+    requires list { (opened.table ≡ J.table) × (opened.size ≡ J.size) }
+    requires size { J.size ≡ record { tenants = length setup.now.tenants; workers = workers } }
+    requires openings { J.openings ≡ openings_of setup.now.tenants setup.now.start }
     requires tenants { (1 ≤ length setup.now.tenants) × (length setup.now.tenants ≤ max_tenants) }
     requires workers { (1 ≤ workers) × (workers ≤ max_workers) }
-    ensures known { IfOk result (λ opened. IsOfficeOf setup.now opened.office) }
-    ensures first { IfOk result (λ opened. opened.first ≡ empty_seat opened.office.meters.id true) }
-    ensures zero { IfOk result (λ opened. (tenant : ℕ) (kind : meter.Kind) → count_of tenant kind opened.first ≡ 0) }
-    ensures each { IfOk result (λ opened. vec_len opened.shares ≡ workers) }
-    ensures fresh { IfOk result (λ opened. All IsFresh opened.shares.items) }
+    ensures known { IfOk result (λ begun. IsOfficeOf setup.now begun.office) }
+    ensures first { IfOk result (λ begun. begun.first ≡ empty_seat begun.office.meters.id true) }
+    ensures zero { IfOk result (λ begun. (tenant : ℕ) (kind : meter.Kind) → count_of tenant kind begun.first ≡ 0) }
+    ensures each { IfOk result (λ begun. vec_len begun.shares ≡ workers) }
+    ensures fresh { IfOk result (λ begun. All IsFresh begun.shares.items) }
 {
     let tenants = setup.tenants.as_slice();
-    let (books, shares) = Books::new(alloc, tenants, setup.start, workers)?;
+    let (books, shares) = Books::new(alloc, opened, tenants, setup.start, workers)?;
     let (meters, first) = Meters::new(alloc, tenants.len())?;
     let office = Office {
         names: names_of(alloc, tenants)?,
@@ -44,7 +55,7 @@ pub fn open_office(alloc: Global, setup: &Setup, workers: usize) -> Result<Opene
         books,
         meters,
     };
-    Ok(Opened {
+    Ok(Begun {
         office,
         first,
         shares,

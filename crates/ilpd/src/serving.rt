@@ -4,27 +4,29 @@ ghost use Rattle.std.specs.Prelude.{ℕ, ◌≡◌, ◌+◌, ◌≤◌, ◌<◌,
 ghost use Rattle.std.specs.Io.KnownBytes.{Appends};
 ghost use Rattle.std.specs.List.{sum_by};
 ghost use Rattle.books_shared.specs.Gathers.{max_workers};
+ghost use Rattle.books_shared.specs.Traced.{openings_of};
 ghost use Rattle.tenant_core.specs.Limits.{max_tenants};
 ghost use Rattle.std.specs.Fmt.{decimal};
 ghost use Rattle.meters.specs.Seats.{count_of};
 ghost use Rattle.meters.specs.declared.kind.Kind as meter;
-ghost use Rattle.ilpd.specs.Answering.{HasToldCounts, HasWorked, HaveCounted, IsFresh, IsNew};
+ghost use Rattle.ilpd.specs.Answering.{HasToldCounts, HasToldCountsIn, HasWorked, HaveCounted, IsFresh, IsNew};
 ghost use Rattle.ilpd.specs.Served.{line_of, lines_upto};
 
 use crate::desk::Desk;
 use crate::office::Office;
-use crate::opening::{Opened, open_office};
+use crate::opening::{Begun, open_office};
 use crate::worker::Worker;
 use admin_text::Setup;
 use books_shared::Share;
-use books_shared::laws::books_are_shared;
 use common_types::Name;
 use floor_core::Slot;
 use meters::laws::meters_are_shared;
 use meters::{Kind, MeterSeat, Totals};
+use one_list::{Opened, Run};
 use std::alloc::{AllocError, Global};
 use std::io;
 use std::io::{ErrorKind, Write};
+use std::marker::Brand;
 use std::net::{Net, TcpListener, TcpStream};
 use std::sync::Wait;
 use std::thread::Threads;
@@ -50,8 +52,8 @@ impl From<AllocError> for ServeFault {
 
 /// What workers leave: what each has counted in books, and whether one of them could not accept a connection.
 #[derive(Drop)]
-pub struct Done {
-    pub shares: Vec<Share>,
+pub struct Done<J: Run> {
+    pub shares: Vec<Share<J>>,
     pub failed: bool,
 }
 
@@ -60,16 +62,17 @@ fn hired<
     'a,
     H: Wait + Net<Listener = TcpListener, Stream = TcpStream> + std::time::Clock,
     C: workers::Clock,
+    J: Run,
 >(
     handle: &'a H,
     alloc: Global,
-    office: &'a Office,
+    office: &'a Office<J>,
     first: &mut MeterSeat,
-    mut shares: Vec<Share>,
+    mut shares: Vec<Share<J>>,
     rounds: u32,
     listener: &'a TcpListener,
     clock: &'a C,
-) -> Result<Vec<Worker<'a, H, C>>, AllocError>
+) -> Result<Vec<Worker<'a, H, C, J>>, AllocError>
     requires here { first.old.meters ≡ office.now.meters.id }
     requires first { first.old.first ≡ true }
     requires whole { first.old.splits ≡ 0 }
@@ -94,12 +97,12 @@ fn hired<
 }
 
 // What the workers leave: what their seats have counted is the first one's from then on.
-fn dismissed<H, C>(
+fn dismissed<H, C, J: Run>(
     alloc: Global,
-    office: &Office,
+    office: &Office<J>,
     first: &mut MeterSeat,
-    mut lanes: Vec<Worker<'_, H, C>>,
-) -> Result<Done, AllocError>
+    mut lanes: Vec<Worker<'_, H, C, J>>,
+) -> Result<Done<J>, AllocError>
     requires here { first.old.meters ≡ office.now.meters.id }
     requires same { All (λ lane. lane.office.now ≡ office.now) lanes.items }
     ensures here { first.new.meters ≡ office.now.meters.id }
@@ -128,13 +131,13 @@ fn work_all<
     'a,
     H: Threads + Wait + Net<Listener = TcpListener, Stream = TcpStream> + std::time::Clock + Sync,
     C: workers::Clock + Sync,
->(handle: &'a H, office: &'a Office, lanes: &mut [Worker<'a, H, C>]) -> Result<(), ServeFault>
+    J: Run + Send + Sync,
+>(handle: &'a H, office: &'a Office<J>, lanes: &mut [Worker<'a, H, C, J>]) -> Result<(), ServeFault>
     requires new { All (λ lane. IsNew lane.desk) lanes.old }
     requires office { All (λ lane. lane.office.now ≡ office.now) lanes.old }
     ensures office { All (λ lane. lane.office.now ≡ office.now) lanes.new }
     ensures worked { OnOk result (All (λ lane. HasWorked office.now lane.desk) lanes.new) }
 {
-    books_are_shared();
     meters_are_shared();
     match run_workers(handle, lanes) {
         Ok(()) => Ok(()),
@@ -147,16 +150,17 @@ pub fn run_all<
     'a,
     H: Threads + Wait + Net<Listener = TcpListener, Stream = TcpStream> + std::time::Clock + Sync,
     C: workers::Clock + Sync,
+    J: Run + Send + Sync,
 >(
     handle: &'a H,
     alloc: Global,
-    office: &'a Office,
+    office: &'a Office<J>,
     first: &mut MeterSeat,
-    shares: Vec<Share>,
+    shares: Vec<Share<J>>,
     rounds: u32,
     listener: &'a TcpListener,
     clock: &'a C,
-) -> Result<Done, ServeFault>
+) -> Result<Done<J>, ServeFault>
     requires here { first.old.meters ≡ office.now.meters.id }
     requires first { first.old.first ≡ true }
     requires whole { first.old.splits ≡ 0 }
@@ -270,11 +274,41 @@ pub fn serve<
     requires workers { (1 ≤ workers) × (workers ≤ max_workers) }
     ensures { OnOk result (HasToldCounts setup.now workers (W.contents writer.old) (W.contents writer.new)) }
 {
-    let Opened {
+    let opened = Opened::new(alloc, setup.tenants.as_slice().len(), workers)?;
+    serve_run::<Brand, _, _, _>(
+        handle, alloc, opened, setup, workers, rounds, listener, clock, writer,
+    )
+}
+
+// Serves, with one list of all that is done to the books, which has just been opened.
+fn serve_run<
+    J: Run + Send + Sync,
+    H: Threads + Wait + Net<Listener = TcpListener, Stream = TcpStream> + std::time::Clock + Sync,
+    C: workers::Clock + Sync,
+    W: Write,
+>(
+    handle: &H,
+    alloc: Global,
+    opened: Opened,
+    setup: &Setup,
+    workers: usize,
+    rounds: u32,
+    listener: &TcpListener,
+    clock: &C,
+    writer: &mut W,
+) -> Result<(), ServeFault>
+    requires list { (opened.table ≡ J.table) × (opened.size ≡ J.size) }
+    requires size { J.size ≡ record { tenants = length setup.now.tenants; workers = workers } }
+    requires openings { J.openings ≡ openings_of setup.now.tenants setup.now.start }
+    requires tenants { (1 ≤ length setup.now.tenants) × (length setup.now.tenants ≤ max_tenants) }
+    requires workers { (1 ≤ workers) × (workers ≤ max_workers) }
+    ensures { OnOk result (HasToldCountsIn J.Run setup.now workers (W.contents writer.old) (W.contents writer.new)) }
+{
+    let Begun {
         office,
         mut first,
         shares,
-    } = open_office(alloc, setup, workers)?;
+    } = open_office::<J>(alloc, opened, setup, workers)?;
     let done = run_all(
         handle, alloc, &office, &mut first, shares, rounds, listener, clock,
     )?;

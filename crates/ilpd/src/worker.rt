@@ -9,6 +9,7 @@ use crate::office::Office;
 use crate::timed::Timed;
 use http_link::{Kind, MAX_BODY, Served, Service, serve_one};
 use oer_core::Counted;
+use one_list::Run;
 use std::alloc::Global;
 use std::io;
 use std::io::ErrorKind;
@@ -21,28 +22,28 @@ use workers::{Clock, Lane, Status};
 /// A worker that serves so many connections, one after another. It carries packets to the next peers, and does the commands
 /// of those who show the tenant's token for them.
 #[derive(Drop)]
-pub struct Worker<'a, H, C> {
+pub struct Worker<'a, H, C, J: Run> {
     handle: &'a H,
     alloc: Global,
-    office: &'a Office,
+    office: &'a Office<J>,
     clock: &'a C,
     listener: &'a TcpListener,
     rounds: u32,
     failed: bool,
-    desk: Desk,
+    desk: Desk<J>,
     ghost seated: { desk.seat.meters ≡ office.now.meters.id },
 }
 
-impl<'a, H, C> Worker<'a, H, C> {
+impl<'a, H, C, J: Run> Worker<'a, H, C, J> {
     pub fn new(
         handle: &'a H,
         alloc: Global,
-        office: &'a Office,
+        office: &'a Office<J>,
         clock: &'a C,
         listener: &'a TcpListener,
         rounds: u32,
-        desk: Desk,
-    ) -> Worker<'a, H, C>
+        desk: Desk<J>,
+    ) -> Worker<'a, H, C, J>
         requires { desk.seat.meters ≡ office.now.meters.id }
         ensures desk { result.desk ≡ desk }
         ensures office { result.office.now ≡ office.now }
@@ -60,7 +61,7 @@ impl<'a, H, C> Worker<'a, H, C> {
     }
 
     /// What is left on its desk, and whether a connection could not be accepted.
-    pub fn into_desk(self) -> (Desk, bool)
+    pub fn into_desk(self) -> (Desk<J>, bool)
         ensures { result.0 ≡ self.entry.desk }
     {
         let Worker { desk, failed, .. } = self;
@@ -68,7 +69,8 @@ impl<'a, H, C> Worker<'a, H, C> {
     }
 }
 
-impl<H: Wait + Net<Stream = TcpStream> + std::time::Clock, C: Clock> Service for Worker<'_, H, C> {
+impl<H: Wait + Net<Stream = TcpStream> + std::time::Clock, C: Clock, J: Run> Service
+    for Worker<'_, H, C, J> {
     ghost asks = { λ before asked after. (after.office ≡ before.office)
         × HasAnswered before.office.now before.desk asked after.desk };
 
@@ -123,7 +125,7 @@ fn end_of_patience<H: std::time::Clock>(handle: &H) -> io::Result<Instant> {
     }
 }
 
-impl<H: Wait + Net<Stream = TcpStream> + std::time::Clock, C: Clock> Worker<'_, H, C> {
+impl<H: Wait + Net<Stream = TcpStream> + std::time::Clock, C: Clock, J: Run> Worker<'_, H, C, J> {
     // Serves one request, and says whether another may follow on the connection.
     fn serve_request(
         &mut self,
@@ -162,8 +164,11 @@ impl<H: Wait + Net<Stream = TcpStream> + std::time::Clock, C: Clock> Worker<'_, 
     }
 }
 
-impl<H: Wait + Net<Stream = TcpStream> + std::time::Clock + Sync, C: Clock + Sync> Lane
-    for Worker<'_, H, C> {
+impl<
+    H: Wait + Net<Stream = TcpStream> + std::time::Clock + Sync,
+    C: Clock + Sync,
+    J: Run + Send + Sync,
+> Lane for Worker<'_, H, C, J> {
     ghost works = { λ before after. (after.office ≡ before.office)
         × HasServed before.office.now before.desk after.desk };
 

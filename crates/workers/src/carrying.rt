@@ -6,7 +6,7 @@ ghost use Rattle.ilp_view.specs.Reading.{prepare_at};
 ghost use Rattle.floor_core.specs.Work.{IsWaiting, loaded, tenant_in};
 ghost use Rattle.floor_core.specs.Work.Job.{NoJob};
 ghost use Rattle.books_shared.specs.Turns.{IsEnded, IsLeft, IsLoaded};
-ghost use Rattle.workers.specs.Carrying.{IsAnswered, IsCarried, IsDecided, WasExchanged, closed};
+ghost use Rattle.workers.specs.Carrying.{IsAnswered, IsCarried, IsDecided, WasExchanged, closed, growth};
 ghost use Rattle.workers.specs.Counting.{HasCounted, HasDecided, HasSettled, reply_tallied, tallied};
 ghost use Rattle.workers.specs.Replies.{IsOfPrepare, IsOver, IsSentSo, WasSent, sends_of};
 ghost use Rattle.workers.specs.declared.reply.Reply.TheVariants as reply;
@@ -16,6 +16,7 @@ use crate::traits::{Clock, Gate, Link, Point};
 use books_shared::{Books, Share};
 use floor_core::{Got, LoadFault, Slot, Turn};
 use meters::{Kind, MeterSeat, Meters};
+use one_list::Run;
 use std::sync::Wait;
 
 /// A link that has sent so many packets sends no more.
@@ -35,19 +36,20 @@ pub struct Job<'a> {
 /// the link sends it; and the book settles what came back, under its lock again. No lock is held while the gate is passed,
 /// after each of these steps, or while the link sends. The slot is idle in the end.
 ///
-/// By the reply (`IsCarried`), the packet was judged by a book of the tenant that was sound at that moment; where the verdict
-/// was to send it on, what was sent is the packet with the verdict's amount and expiry, to the target of the verdict's peer;
-/// and the sender is told what the book made of it, or of what came back.
+/// By the reply (`IsCarried`), the packet was judged by the tenant's book, sound at that moment; where the verdict was to send
+/// it on, what was sent is the packet with the verdict's amount and expiry, to the target of the verdict's peer; and the
+/// sender is told what the book made of it, or of what came back. Each record that the book made with that is the next
+/// step of the worker's part of the one list, as a step of this tenant; no other step came to it.
 ///
 /// The reply's status is counted for the tenant, and a fault of the link too, unless the seat's count of it is full. What
 /// the sender is told is the slot's reply where the status is 200, and nothing where it is 503.
-pub fn carry<R: Wait, L: Link, G: Gate, C: Clock>(
+pub fn carry<J: Run, R: Wait, L: Link, G: Gate, C: Clock>(
     rt: &R,
-    books: &Books,
+    books: &Books<J>,
     meters: &Meters,
     seat: &mut MeterSeat,
     slot: &mut Slot,
-    share: &mut Share,
+    share: &mut Share<J>,
     link: &mut L,
     gate: &G,
     clock: &C,
@@ -64,7 +66,7 @@ pub fn carry<R: Wait, L: Link, G: Gate, C: Clock>(
     ensures sends { L.sent link.new ≡ L.sent link.old + sends_of result }
     ensures sent { IsSentSo result job.entry.tenant
         (λ sending. L.sends_so link.old sending link.new) (link.new ≡ link.old) }
-    ensures carried { IsCarried result job.entry.tenant
+    ensures carried { IsCarried result (growth job.entry.tenant share.old share.new)
         (loaded slot.old job.entry.tenant job.entry.token.now job.entry.frame.now) slot.new
         (λ sending. L.sends_so link.old sending link.new) }
     ensures seat { seat.new ≡ reply_tallied job.entry.tenant result seat.old }
@@ -100,11 +102,11 @@ pub(crate) fn tally(meters: &Meters, seat: &mut MeterSeat, tenant: usize, kind: 
 }
 
 // Carries a packet, and leaves the call in the slot where the answer is that nothing was to be had.
-fn carried<R: Wait, L: Link, G: Gate, C: Clock>(
+fn carried<J: Run, R: Wait, L: Link, G: Gate, C: Clock>(
     rt: &R,
-    books: &Books,
+    books: &Books<J>,
     slot: &mut Slot,
-    share: &mut Share,
+    share: &mut Share<J>,
     link: &mut L,
     gate: &G,
     clock: &C,
@@ -119,7 +121,7 @@ fn carried<R: Wait, L: Link, G: Gate, C: Clock>(
     ensures sends { L.sent link.new ≡ L.sent link.old + sends_of result }
     ensures sent { IsSentSo result job.entry.tenant
         (λ sending. L.sends_so link.old sending link.new) (link.new ≡ link.old) }
-    ensures carried { IsCarried result job.entry.tenant
+    ensures carried { IsCarried result (growth job.entry.tenant share.old share.new)
         (loaded slot.old job.entry.tenant job.entry.token.now job.entry.frame.now) (closed result slot.new)
         (λ sending. L.sends_so link.old sending link.new) }
     ensures over { IsOver result slot.new.job }
@@ -135,11 +137,11 @@ fn carried<R: Wait, L: Link, G: Gate, C: Clock>(
 }
 
 // Lets the tenant decide the packet of the slot, sends it on, and lets the tenant settle what comes back.
-fn exchanged<R: Wait, L: Link, G: Gate, C: Clock>(
+fn exchanged<J: Run, R: Wait, L: Link, G: Gate, C: Clock>(
     rt: &R,
-    books: &Books,
+    books: &Books<J>,
     slot: &mut Slot,
-    share: &mut Share,
+    share: &mut Share<J>,
     link: &mut L,
     gate: &G,
     clock: &C,
@@ -153,7 +155,7 @@ fn exchanged<R: Wait, L: Link, G: Gate, C: Clock>(
     ensures sends { L.sent link.new ≡ L.sent link.old + sends_of result }
     ensures sent { IsSentSo result tenant
         (λ sending. L.sends_so link.old sending link.new) (link.new ≡ link.old) }
-    ensures carried { IsCarried result tenant slot.old (closed result slot.new)
+    ensures carried { IsCarried result (growth tenant share.old share.new) slot.old (closed result slot.new)
         (λ sending. L.sends_so link.old sending link.new) }
     ensures over { IsOver result slot.new.job }
 {
@@ -163,7 +165,7 @@ fn exchanged<R: Wait, L: Link, G: Gate, C: Clock>(
     let turn = decide(rt, books, slot, share, clock, tenant);
     gate.pass(share.worker(), Point::Decided);
     match turn {
-        Turn::Idle | Turn::Stray => Reply::Stray,
+        Turn::Idle | Turn::Stray => unreachable!(),
         Turn::Stranger => Reply::Stranger,
         Turn::Reply => Reply::Decided,
         Turn::Send { .. } => {
@@ -180,11 +182,11 @@ fn exchanged<R: Wait, L: Link, G: Gate, C: Clock>(
 }
 
 // Lets the tenant decide, by its book, under its lock.
-fn decide<R: Wait, C: Clock>(
+fn decide<J: Run, R: Wait, C: Clock>(
     rt: &R,
-    books: &Books,
+    books: &Books<J>,
     slot: &mut Slot,
-    share: &mut Share,
+    share: &mut Share<J>,
     clock: &C,
     tenant: usize,
 ) -> Turn
@@ -193,7 +195,7 @@ fn decide<R: Wait, C: Clock>(
     requires tenant { tenant_in slot.old.job ≡ Some tenant }
     requires room { 1 < share.old.room }
     ensures counted { HasDecided result tenant slot.new.reply share.old share.new }
-    ensures decided { IsDecided result tenant slot.old slot.new }
+    ensures decided { IsDecided result (growth tenant share.old share.new) slot.old slot.new }
     ensures left { IsLeft result slot.old slot.new }
     ensures room { 0 < share.new.room }
 {
@@ -217,11 +219,11 @@ fn send<L: Link>(slot: &mut Slot, link: &mut L, tenant: usize) -> Got
 }
 
 // Lets the tenant settle what came back, by its book, under its lock.
-fn answer<R: Wait, C: Clock>(
+fn answer<J: Run, R: Wait, C: Clock>(
     rt: &R,
-    books: &Books,
+    books: &Books<J>,
     slot: &mut Slot,
-    share: &mut Share,
+    share: &mut Share<J>,
     clock: &C,
     tenant: usize,
     got: Got,
@@ -231,7 +233,7 @@ fn answer<R: Wait, C: Clock>(
     requires tenant { tenant_in slot.old.job ≡ Some tenant }
     requires room { 0 < share.old.room }
     ensures counted { HasSettled result tenant share.old share.new }
-    ensures answered { IsAnswered result tenant got slot.old slot.new }
+    ensures answered { IsAnswered result (growth tenant share.old share.new) got slot.old slot.new }
     ensures ended { IsEnded result slot.old slot.new }
 {
     let mut guard = books.enter(rt, tenant);

@@ -1,13 +1,14 @@
 //! One command of an operator, done.
 
 ghost use Rattle.std.specs.Prelude.{◌≡◌, ◌<◌};
-ghost use Rattle.workers.specs.Carrying.{IsDone};
+ghost use Rattle.workers.specs.Carrying.{IsDone, growth};
 ghost use Rattle.workers.specs.Counting.{Rises, command_kind, command_rise, tallied};
 
 use crate::carrying::tally;
 use crate::traits::Clock;
 use books_shared::{Books, Share};
 use meters::{Kind, MeterSeat, Meters};
+use one_list::Run;
 use std::alloc::Global;
 use std::sync::Wait;
 use tenant_core::{Answered, Command, CommandFault};
@@ -19,7 +20,7 @@ pub enum GovernFault {
     /// One of the worker's counts is full.
     #[error("a worker's count is full")]
     Spent,
-    /// The book under the lock is another tenant's.
+    /// The book under the lock is another tenant's. It is never answered: a lock is entered for its own tenant alone.
     #[error("the book is another tenant's")]
     Stray,
     /// The book refuses it, or memory was refused.
@@ -29,19 +30,20 @@ pub enum GovernFault {
 
 /// Does what the operator of a tenant of the books and of the meters commands, under the lock of the tenant's book, and
 /// counts it through a seat of these meters, unless the seat's count is full: as answered, also where the book refuses it;
-/// or as unavailable where the fault is `Spent`, `Stray` or want of memory.
+/// or as unavailable where the fault is `Spent` or want of memory.
 ///
-/// What is answered, or refused, is what a book of the tenant that was sound answers to this command (`IsDone`).
+/// What is answered, or refused, is what the tenant's book, sound at that moment, answers to this command (`IsDone`). The
+/// record that it made is the next step of the worker's part of the one list; no other step came to it.
 ///
-/// The errors are, in the order in which they are looked for: `Spent`, `Stray`, and what `Book::command` refuses. Nothing
-/// has changed then in the book and in the share's counts.
-pub fn govern<R: Wait, C: Clock>(
+/// The errors are, in the order in which they are looked for: `Spent`, and what `Book::command` refuses. Nothing has changed
+/// then in the book and in the share's counts.
+pub fn govern<J: Run, R: Wait, C: Clock>(
     rt: &R,
     alloc: Global,
-    books: &Books,
+    books: &Books<J>,
     meters: &Meters,
     seat: &mut MeterSeat,
-    share: &mut Share,
+    share: &mut Share<J>,
     clock: &C,
     tenant: usize,
     command: &Command,
@@ -49,7 +51,7 @@ pub fn govern<R: Wait, C: Clock>(
     requires seat { seat.old.meters ≡ meters.now.id }
     requires books { tenant < books.now.tenants }
     requires meters { tenant < meters.now.tenants }
-    ensures done { IsDone result tenant command.now }
+    ensures done { IsDone result (growth tenant share.old share.new) command.now }
     ensures counted { Rises (command_rise result) tenant share.old share.new }
     ensures seat { seat.new ≡ tallied tenant (command_kind result) seat.old }
     ensures same_meters { seat.new.meters ≡ seat.old.meters }
@@ -70,26 +72,23 @@ fn kind_of(answer: &Result<Answered, GovernFault>) -> Kind
     }
 }
 
-fn commanded<R: Wait, C: Clock>(
+fn commanded<J: Run, R: Wait, C: Clock>(
     rt: &R,
     alloc: Global,
-    books: &Books,
-    share: &mut Share,
+    books: &Books<J>,
+    share: &mut Share<J>,
     clock: &C,
     tenant: usize,
     command: &Command,
 ) -> Result<Answered, GovernFault>
     requires { tenant < books.now.tenants }
-    ensures done { IsDone result tenant command.now }
+    ensures done { IsDone result (growth tenant share.old share.new) command.now }
     ensures counted { Rises (command_rise result) tenant share.old share.new }
 {
     if share.make_room(Some(command)).is_err() {
         return Err(GovernFault::Spent);
     }
     let mut guard = books.enter(rt, tenant);
-    if guard.book().tenant() != tenant {
-        return Err(GovernFault::Stray);
-    }
     let answer = guard.command(alloc, share, command, clock.now());
     answer.map_err(GovernFault::Refused)
 }

@@ -55,7 +55,7 @@ pub enum Reply {
     Stranger,
     /// One of the worker's counts is full, or its link has sent 2^62 packets (503). Nothing was decided.
     Spent,
-    /// The book under the lock is another tenant's (503). Nothing was decided.
+    /// The book under the lock is another tenant's (503). It is never answered: a lock is entered for its own tenant alone.
     Stray,
     /// The tenant has decided, and its book has the answer (200).
     Decided,

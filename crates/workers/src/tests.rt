@@ -1,6 +1,7 @@
 //! Packets carried: by one worker, and by two on threads of their own.
 
 ghost use Rattle.std.specs.Prelude.{◌≡◌, ◌<◌, ◌≤◌, false, length};
+ghost use Rattle.books_shared.specs.Traced.{openings_of};
 
 mod commands;
 
@@ -12,7 +13,10 @@ use floor_core::{Got, Slot};
 use ilp_addr::{Moment, OwnAddress, Prefix, Target};
 use meters::{Kind, MeterSeat, Meters, Totals};
 use money_core::Rate;
+use one_list::{Opened, Run};
 use std::alloc::Global;
+use std::marker::Brand;
+use std::process::Abort;
 use std::sync::Wait;
 use std::sync::atomic::{AtomicU64, Ordering};
 use std::test::Fail;
@@ -135,16 +139,69 @@ fn start() -> Result<Moment, Fail> {
     Ok(Moment::new(START).ok_or("a moment")?)
 }
 
-// The books of acme and beta, with so many places in each journal, and the shares of two workers.
-fn two_books(alloc: Global, journal: u64) -> Result<(Books, Share, Share), Fail> {
-    let setups = [
+// The setups of acme and beta, with so many places in each journal.
+fn two_setups(alloc: Global, journal: u64) -> Result<[TenantSetup; 2], Fail> {
+    Ok([
         tenant(b"acme", b"g.acme", journal, network(alloc, b"g.acme.bob")?)?,
         tenant(b"beta", b"g.beta", journal, network(alloc, b"g.beta.bob")?)?,
-    ];
-    let (books, mut shares) = Books::new(alloc, &setups, start()?, 2)?;
+    ])
+}
+
+// The books of these two tenants, of which `J` is the list, and the shares of two workers.
+fn two_books<J: Run>(
+    alloc: Global,
+    opened: Opened,
+    setups: &[TenantSetup; 2],
+    start: Moment,
+) -> Result<(Books<J>, Share<J>, Share<J>), Fail>
+    requires list { (opened.table ≡ J.table) × (opened.size ≡ J.size) }
+    requires size { J.size ≡ record { tenants = 2; workers = 2 } }
+    requires openings { J.openings ≡ openings_of setups.now start }
+{
+    let (books, mut shares) = Books::<J>::new(alloc, opened, setups, start, 2)?;
     let second = shares.pop().ok_or("the second share")?;
     let first = shares.pop().ok_or("the first share")?;
     Ok((books, first, second))
+}
+
+/// What a test does with the books of acme and beta, and with the shares of two workers.
+trait Trial {
+    fn act<J: Run, R: Wait + Abort>(
+        &self,
+        rt: &R,
+        alloc: Global,
+        books: Books<J>,
+        first: Share<J>,
+        second: Share<J>,
+    ) -> Result<(), Fail>;
+}
+
+// Does it, with so many places in each journal.
+fn on_two_books<R: Wait + Abort, T: Trial>(
+    rt: &R,
+    alloc: Global,
+    journal: u64,
+    trial: &T,
+) -> Result<(), Fail> {
+    let setups = two_setups(alloc, journal)?;
+    let opened = Opened::new(alloc, 2, 2)?;
+    on_books::<Brand, R, T>(rt, alloc, opened, &setups, start()?, trial)
+}
+
+fn on_books<J: Run, R: Wait + Abort, T: Trial>(
+    rt: &R,
+    alloc: Global,
+    opened: Opened,
+    setups: &[TenantSetup; 2],
+    start: Moment,
+    trial: &T,
+) -> Result<(), Fail>
+    requires list { (opened.table ≡ J.table) × (opened.size ≡ J.size) }
+    requires size { J.size ≡ record { tenants = 2; workers = 2 } }
+    requires openings { J.openings ≡ openings_of setups.now start }
+{
+    let (books, first, second) = two_books::<J>(alloc, opened, setups, start)?;
+    trial.act(rt, alloc, books, first, second)
 }
 
 // ---- a worker alone
@@ -240,11 +297,11 @@ fn counts_of(totals: &Totals) -> Tally
 
 // Carries a packet for acme, with meters of its own, in a slot of its own: the reply, what the sender is told, and what
 // the meters have counted.
-fn carried<R: Wait, L: Link>(
+fn carried<J: Run, R: Wait, L: Link>(
     rt: &R,
     alloc: Global,
-    books: &Books,
-    share: &mut Share,
+    books: &Books<J>,
+    share: &mut Share<J>,
     link: &mut L,
     token: &[u8],
     frame: &[u8],
@@ -268,11 +325,11 @@ fn carried<R: Wait, L: Link>(
 }
 
 // Carries BASE for alice, which bob fulfills.
-fn fulfilled<R: Wait>(
+fn fulfilled<J: Run, R: Wait>(
     rt: &R,
     alloc: Global,
-    books: &Books,
-    share: &mut Share,
+    books: &Books<J>,
+    share: &mut Share<J>,
 ) -> Result<bool, Fail> {
     let mut link = new_link(true);
     let (reply, told, tally) = carried(rt, alloc, books, share, &mut link, b"tok-alice", BASE)?;
@@ -287,7 +344,7 @@ fn fulfilled<R: Wait>(
 }
 
 // What the share counts for acme, and that it counts nothing for others.
-fn entries_of(share: &Share) -> Option<u64> {
+fn entries_of<J: Run>(share: &Share<J>) -> Option<u64> {
     for tenant in 1..64 {
         if share.count(tenant) != 0 {
             return None;
@@ -304,10 +361,10 @@ fn owed(book: &Book) -> Option<(i64, i64, u64, u64)> {
 }
 
 // The balances of acme's book and its number, where the shares are all there and add up.
-fn gathered(
+fn gathered<J: Run>(
     alloc: Global,
-    books: Books,
-    shares: Vec<Share>,
+    books: Books<J>,
+    shares: Vec<Share<J>>,
 ) -> Result<Option<(i64, i64, u64, u64, u64)>, Fail> {
     let Ok(books) = books.gather(alloc, shares) else {
         return Err("the books differ".into());
@@ -318,69 +375,111 @@ fn gathered(
     Ok(owed(book).map(|(alice, bob, held_in, held_out)| (alice, bob, held_in, held_out, *number)))
 }
 
+/// A packet is sent on, and fulfilled.
+struct Settled;
+
+impl Trial for Settled {
+    fn act<J: Run, R: Wait + Abort>(
+        &self,
+        rt: &R,
+        alloc: Global,
+        books: Books<J>,
+        mut first: Share<J>,
+        second: Share<J>,
+    ) -> Result<(), Fail> {
+        assert!(rt; fulfilled(rt, alloc, &books, &mut first)?);
+        assert!(rt; entries_of(&first) == Some(2));
+        let shares = vec![in alloc; first, second]?;
+        assert!(rt; gathered(alloc, books, shares)? == Some((1_000, -1_500, 0, 0, 2)));
+        Ok(())
+    }
+}
+
 #[test]
 fn a_packet_is_settled(rt: HostRuntime) -> Result<(), Fail> {
-    let alloc = rt.alloc();
-    let (books, mut first, second) = two_books(alloc, 64)?;
-    assert!(rt; fulfilled(&rt, alloc, &books, &mut first)?);
-    assert!(rt; entries_of(&first) == Some(2));
-    let shares = vec![in alloc; first, second]?;
-    assert!(rt; gathered(alloc, books, shares)? == Some((1_000, -1_500, 0, 0, 2)));
-    Ok(())
+    on_two_books(&rt, rt.alloc(), 64, &Settled)
+}
+
+/// Books are gathered without the share of a worker that has done nothing, and then with both shares.
+struct MissingShare;
+
+impl Trial for MissingShare {
+    fn act<J: Run, R: Wait + Abort>(
+        &self,
+        rt: &R,
+        alloc: Global,
+        books: Books<J>,
+        mut first: Share<J>,
+        second: Share<J>,
+    ) -> Result<(), Fail> {
+        assert!(rt; fulfilled(rt, alloc, &books, &mut first)?);
+        let Err(GatherFault::Missing(books, mut shares)) = books.gather(
+            alloc,
+            vec![in alloc; first]?,
+        ) else {
+            panic!(rt; "a share is missing");
+        };
+        assert!(rt; shares.len() == 1);
+        shares.push(second)?;
+        let Ok(books) = books.gather(alloc, shares) else {
+            panic!(rt; "the shares are all there");
+        };
+        let mut numbers = Vec::new(alloc);
+        for book in books.as_slice() {
+            numbers.push(book.1)?;
+        }
+        assert!(rt; numbers.as_slice() == [2, 0].as_slice());
+        Ok(())
+    }
 }
 
 #[test]
 fn books_are_gathered_with_their_shares(rt: HostRuntime) -> Result<(), Fail> {
-    let alloc = rt.alloc();
-    let (books, mut first, second) = two_books(alloc, 64)?;
-    assert!(rt; fulfilled(&rt, alloc, &books, &mut first)?);
-    let Err(GatherFault::Missing(books, shares)) = books.gather(alloc, vec![in alloc; first]?)
-    else {
-        panic!(rt; "a share is missing");
-    };
-    assert!(rt; shares.len() == 1);
-    let (_others, unused, _) = two_books(alloc, 64)?;
-    let shares = vec![in alloc; second, unused]?;
-    let Err(GatherFault::Differs(gathered, shares)) = books.gather(alloc, shares) else {
-        panic!(rt; "a share is another's");
-    };
-    assert!(rt; shares.len() == 2);
-    let mut numbers = Vec::new(alloc);
-    for book in gathered.as_slice() {
-        numbers.push(book.1)?;
+    on_two_books(&rt, rt.alloc(), 64, &MissingShare)
+}
+
+/// A packet is sent on, and nothing comes back.
+struct Unanswered;
+
+impl Trial for Unanswered {
+    fn act<J: Run, R: Wait + Abort>(
+        &self,
+        rt: &R,
+        alloc: Global,
+        books: Books<J>,
+        mut first: Share<J>,
+        second: Share<J>,
+    ) -> Result<(), Fail> {
+        let mut link = new_link(false);
+        let (reply, told, tally) = carried(
+            rt,
+            alloc,
+            &books,
+            &mut first,
+            &mut link,
+            b"tok-alice",
+            BASE,
+        )?;
+        assert!(rt; reply == Reply::Settled(Got::Fault) && reply.status().code() == 200);
+        assert!(rt; told.as_slice() == UNREACHABLE.as_slice());
+        assert!(rt;
+            tally
+                == Tally {
+                    faults: 1,
+                    ..ONE_ANSWERED
+                }
+        );
+        assert!(rt; link.sends == 1 && link.is_right);
+        assert!(rt; entries_of(&first) == Some(2));
+        let shares = vec![in alloc; first, second]?;
+        assert!(rt; gathered(alloc, books, shares)? == Some((0, 0, 0, 0, 2)));
+        Ok(())
     }
-    assert!(rt; numbers.as_slice() == [2, 0].as_slice());
-    Ok(())
 }
 
 #[test]
 fn a_packet_that_nobody_answers_is_refused(rt: HostRuntime) -> Result<(), Fail> {
-    let alloc = rt.alloc();
-    let (books, mut first, second) = two_books(alloc, 64)?;
-    let mut link = new_link(false);
-    let (reply, told, tally) = carried(
-        &rt,
-        alloc,
-        &books,
-        &mut first,
-        &mut link,
-        b"tok-alice",
-        BASE,
-    )?;
-    assert!(rt; reply == Reply::Settled(Got::Fault) && reply.status().code() == 200);
-    assert!(rt; told.as_slice() == UNREACHABLE.as_slice());
-    assert!(rt;
-        tally
-            == Tally {
-                faults: 1,
-                ..ONE_ANSWERED
-            }
-    );
-    assert!(rt; link.sends == 1 && link.is_right);
-    assert!(rt; entries_of(&first) == Some(2));
-    let shares = vec![in alloc; first, second]?;
-    assert!(rt; gathered(alloc, books, shares)? == Some((0, 0, 0, 0, 2)));
-    Ok(())
+    on_two_books(&rt, rt.alloc(), 64, &Unanswered)
 }
 
 /// A packet that is refused before anything is decided: its token and its frame, what is answered, and how many tokens
@@ -421,40 +520,56 @@ static REFUSED: [Refused; 3] = [
     },
 ];
 
-// Whether the packet is refused so.
-fn is_refused<R: Wait>(rt: &R, alloc: Global, row: &Refused) -> Result<bool, Fail> {
-    let (books, mut first, _second) = two_books(alloc, 64)?;
-    let mut link = new_link(true);
-    let (reply, told, tally) = carried(
-        rt, alloc, &books, &mut first, &mut link, row.token, row.frame,
-    )?;
-    let wanted = Tally {
-        answered: 0,
-        refused: 1,
-        ..ONE_ANSWERED
-    };
-    Ok(
-        reply == row.reply
-            && reply.status().code() == row.code
-            && told.is_empty()
-            && tally == wanted
-            && link.sends == 0
-            && entries_of(&first) == Some(0)
-            && first.strangers(0) == row.strangers,
-    )
+impl Trial for Refused {
+    fn act<J: Run, R: Wait + Abort>(
+        &self,
+        rt: &R,
+        alloc: Global,
+        books: Books<J>,
+        mut first: Share<J>,
+        _second: Share<J>,
+    ) -> Result<(), Fail> {
+        let title = self.title;
+        let mut link = new_link(true);
+        let (reply, told, tally) = carried(
+            rt, alloc, &books, &mut first, &mut link, self.token, self.frame,
+        )?;
+        let wanted = Tally {
+            answered: 0,
+            refused: 1,
+            ..ONE_ANSWERED
+        };
+        assert!(rt;
+            reply == self.reply && reply.status().code() == self.code,
+            "{title}"
+        );
+        assert!(rt;
+            told.is_empty() && tally == wanted && link.sends == 0,
+            "{title}"
+        );
+        assert!(rt;
+            entries_of(&first) == Some(0) && first.strangers(0) == self.strangers,
+            "{title}"
+        );
+        Ok(())
+    }
 }
 
 #[test]
 fn packets_are_refused(rt: HostRuntime) -> Result<(), Fail> {
     for row in &REFUSED {
-        let title = row.title;
-        assert!(rt; is_refused(&rt, rt.alloc(), row)?, "{title}");
+        on_two_books(&rt, rt.alloc(), 64, row)?;
     }
     Ok(())
 }
 
 // Whether BASE is told that the journal is full, and nothing is counted but that.
-fn is_busy<R: Wait>(rt: &R, alloc: Global, books: &Books, share: &mut Share) -> Result<bool, Fail> {
+fn is_busy<J: Run, R: Wait>(
+    rt: &R,
+    alloc: Global,
+    books: &Books<J>,
+    share: &mut Share<J>,
+) -> Result<bool, Fail> {
     let mut link = new_link(true);
     let (reply, told, tally) = carried(rt, alloc, books, share, &mut link, b"tok-alice", BASE)?;
     Ok(
@@ -466,15 +581,29 @@ fn is_busy<R: Wait>(rt: &R, alloc: Global, books: &Books, share: &mut Share) -> 
     )
 }
 
+/// A packet fills a journal of two places, and the next finds it full.
+struct FullJournal;
+
+impl Trial for FullJournal {
+    fn act<J: Run, R: Wait + Abort>(
+        &self,
+        rt: &R,
+        alloc: Global,
+        books: Books<J>,
+        mut first: Share<J>,
+        _second: Share<J>,
+    ) -> Result<(), Fail> {
+        assert!(rt; fulfilled(rt, alloc, &books, &mut first)?);
+        assert!(rt; entries_of(&first) == Some(2) && first.full_journals(0) == 0);
+        assert!(rt; is_busy(rt, alloc, &books, &mut first)?);
+        assert!(rt; entries_of(&first) == Some(2) && first.full_journals(0) == 1);
+        Ok(())
+    }
+}
+
 #[test]
 fn a_journal_of_two_places_is_full(rt: HostRuntime) -> Result<(), Fail> {
-    let alloc = rt.alloc();
-    let (books, mut first, _second) = two_books(alloc, 2)?;
-    assert!(rt; fulfilled(&rt, alloc, &books, &mut first)?);
-    assert!(rt; entries_of(&first) == Some(2) && first.full_journals(0) == 0);
-    assert!(rt; is_busy(&rt, alloc, &books, &mut first)?);
-    assert!(rt; entries_of(&first) == Some(2) && first.full_journals(0) == 1);
-    Ok(())
+    on_two_books(&rt, rt.alloc(), 2, &FullJournal)
 }
 
 // ---- meters of two threads
@@ -582,23 +711,23 @@ impl Link for Fulfilling<'_> {
 
 /// A worker that carries one packet of alice's: BASE, or the same for beta.
 #[derive(Drop)]
-struct Carrier<'a> {
+struct Carrier<'a, J: Run> {
     alloc: Global,
-    books: &'a Books,
+    books: &'a Books<J>,
     meeting: &'a Meeting,
-    share: Share,
+    share: Share<J>,
     tenant: usize,
     // The status of its reply, or 0.
     code: u16,
 }
 
 // Carries the packet, with meters and in a slot of the worker's own.
-fn carried_by<R: Wait>(
+fn carried_by<J: Run, R: Wait>(
     rt: &R,
     alloc: Global,
-    books: &Books,
+    books: &Books<J>,
     meeting: &Meeting,
-    share: &mut Share,
+    share: &mut Share<J>,
     tenant: usize,
 ) -> Option<Reply> {
     if tenant >= books.tenants() || tenant >= 2 {
@@ -622,7 +751,7 @@ fn carried_by<R: Wait>(
     ))
 }
 
-impl Lane for Carrier<'_> {
+impl<J: Run + Send + Sync> Lane for Carrier<'_, J> {
     ghost works = { λ before after. Unit {0} };
 
     fn work<R: Threads + Wait + Sync>(&mut self, rt: &R) {
@@ -641,13 +770,13 @@ impl Lane for Carrier<'_> {
     }
 }
 
-fn new_carrier<'a>(
+fn new_carrier<'a, J: Run>(
     alloc: Global,
-    books: &'a Books,
+    books: &'a Books<J>,
     meeting: &'a Meeting,
-    share: Share,
+    share: Share<J>,
     tenant: usize,
-) -> Carrier<'a> {
+) -> Carrier<'a, J> {
     Carrier {
         alloc,
         books,
@@ -658,23 +787,23 @@ fn new_carrier<'a>(
     }
 }
 
-fn work_all<'a, R: Threads + Wait + Sync>(
+fn work_all<'a, J: Run + Send + Sync, R: Threads + Wait + Sync>(
     rt: &R,
-    lanes: &mut [Carrier<'a>],
+    lanes: &mut [Carrier<'a, J>],
 ) -> Result<(), StartFault> {
-    books_are_shared();
+    books_are_shared::<J>();
     run_workers(rt, lanes)
 }
 
 // Lets worker 0 carry BASE for acme, and worker 1 the same for that tenant: the statuses of their replies, and their shares.
-fn both_carried<'a, R: Threads + Wait + Sync>(
+fn both_carried<'a, J: Run + Send + Sync, R: Threads + Wait + Sync>(
     rt: &R,
     alloc: Global,
-    books: &'a Books,
+    books: &'a Books<J>,
     meeting: &'a Meeting,
-    workers: (Share, Share),
+    workers: (Share<J>, Share<J>),
     tenant: usize,
-) -> Result<(Vec<u16>, Vec<Share>), Fail> {
+) -> Result<(Vec<u16>, Vec<Share<J>>), Fail> {
     let mut lanes = Vec::new(alloc);
     lanes.push(new_carrier(alloc, books, meeting, workers.0, 0))?;
     lanes.push(new_carrier(alloc, books, meeting, workers.1, tenant))?;
@@ -696,36 +825,73 @@ fn new_meeting(place: Place) -> Meeting {
     }
 }
 
-#[test]
-fn a_tenant_does_not_wait_for_another(rt: HostRuntime) -> Result<(), Fail> {
-    let alloc = rt.alloc();
-    let (books, first, second) = two_books(alloc, 64)?;
-    let meeting = new_meeting(Place::Gate);
+/// Worker 1 carries its packet for that tenant while worker 0 is kept there, and then acme's balances and its book's number
+/// are these.
+#[derive(Drop)]
+struct Together {
+    place: Place,
+    tenant: usize,
+    gathered: (i64, i64, u64, u64, u64),
+}
+
+// Lets both carry, on the books of acme and beta. This is no `Trial`: nothing is proved of a method that starts threads with
+// what its own bounds give it.
+fn carry_together<R: Threads + Wait + Abort + Sync>(
+    rt: &R,
+    alloc: Global,
+    together: &Together,
+) -> Result<(), Fail> {
+    let setups = two_setups(alloc, 64)?;
+    let opened = Opened::new(alloc, 2, 2)?;
+    carry_on_books::<Brand, R>(rt, alloc, opened, &setups, start()?, together)
+}
+
+fn carry_on_books<J: Run + Send + Sync, R: Threads + Wait + Abort + Sync>(
+    rt: &R,
+    alloc: Global,
+    opened: Opened,
+    setups: &[TenantSetup; 2],
+    start: Moment,
+    together: &Together,
+) -> Result<(), Fail>
+    requires list { (opened.table ≡ J.table) × (opened.size ≡ J.size) }
+    requires size { J.size ≡ record { tenants = 2; workers = 2 } }
+    requires openings { J.openings ≡ openings_of setups.now start }
+{
+    let (books, first, second) = two_books::<J>(alloc, opened, setups, start)?;
+    let meeting = new_meeting(together.place);
     let workers = (first, second);
-    let (codes, shares) = both_carried(&rt, alloc, &books, &meeting, workers, 1)?;
+    let (codes, shares) = both_carried(rt, alloc, &books, &meeting, workers, together.tenant)?;
     assert!(rt; codes.as_slice() == [200, 200].as_slice());
     assert!(rt; meeting.given_up.load(Ordering::SeqCst) == 0);
-    assert!(rt; gathered(alloc, books, shares)? == Some((1_000, -1_500, 0, 0, 2)));
+    assert!(rt; gathered(alloc, books, shares)? == Some(together.gathered));
     Ok(())
 }
 
 #[test]
+fn a_tenant_does_not_wait_for_another(rt: HostRuntime) -> Result<(), Fail> {
+    let together = Together {
+        place: Place::Gate,
+        tenant: 1,
+        gathered: (1_000, -1_500, 0, 0, 2),
+    };
+    carry_together(&rt, rt.alloc(), &together)
+}
+
+#[test]
 fn no_lock_is_held_over_a_send(rt: HostRuntime) -> Result<(), Fail> {
-    let alloc = rt.alloc();
-    let (books, first, second) = two_books(alloc, 64)?;
-    let meeting = new_meeting(Place::Link);
-    let workers = (first, second);
-    let (codes, shares) = both_carried(&rt, alloc, &books, &meeting, workers, 0)?;
-    assert!(rt; codes.as_slice() == [200, 200].as_slice());
-    assert!(rt; meeting.given_up.load(Ordering::SeqCst) == 0);
-    assert!(rt; gathered(alloc, books, shares)? == Some((2_000, -3_000, 0, 0, 4)));
-    Ok(())
+    let together = Together {
+        place: Place::Link,
+        tenant: 0,
+        gathered: (2_000, -3_000, 0, 0, 4),
+    };
+    carry_together(&rt, rt.alloc(), &together)
 }
 
 // ---- locks
 
 // Ticks acme's book. Whether its lock was held over that, and beta's was free.
-fn ticked<R: Wait>(rt: &R, books: &Books, share: &mut Share) -> Result<bool, Fail> {
+fn ticked<J: Run, R: Wait>(rt: &R, books: &Books<J>, share: &mut Share<J>) -> Result<bool, Fail> {
     if books.tenants() < 2 {
         return Err("two tenants".into());
     }
@@ -736,7 +902,7 @@ fn ticked<R: Wait>(rt: &R, books: &Books, share: &mut Share) -> Result<bool, Fai
 }
 
 // How many entries acme's book has.
-fn entries<R: Wait>(rt: &R, books: &Books) -> Option<usize> {
+fn entries<J: Run, R: Wait>(rt: &R, books: &Books<J>) -> Option<usize> {
     if books.tenants() == 0 {
         return None;
     }
@@ -744,7 +910,7 @@ fn entries<R: Wait>(rt: &R, books: &Books) -> Option<usize> {
 }
 
 // The same, where the lock is free.
-fn entries_at_once(books: &Books) -> Option<usize> {
+fn entries_at_once<J: Run>(books: &Books<J>) -> Option<usize> {
     if books.tenants() == 0 {
         return None;
     }
@@ -752,11 +918,26 @@ fn entries_at_once(books: &Books) -> Option<usize> {
     Some(guard.book().entries())
 }
 
+/// Acme's book is ticked under its lock, which is free again afterwards.
+struct OwnLock;
+
+impl Trial for OwnLock {
+    fn act<J: Run, R: Wait + Abort>(
+        &self,
+        rt: &R,
+        _alloc: Global,
+        books: Books<J>,
+        mut first: Share<J>,
+        _second: Share<J>,
+    ) -> Result<(), Fail> {
+        assert!(rt; ticked(rt, &books, &mut first)?);
+        assert!(rt; entries(rt, &books) == Some(1));
+        assert!(rt; entries_at_once(&books) == Some(1));
+        Ok(())
+    }
+}
+
 #[test]
 fn a_lock_is_a_tenants_own(rt: HostRuntime) -> Result<(), Fail> {
-    let (books, mut first, _second) = two_books(rt.alloc(), 64)?;
-    assert!(rt; ticked(&rt, &books, &mut first)?);
-    assert!(rt; entries(&rt, &books) == Some(1));
-    assert!(rt; entries_at_once(&books) == Some(1));
-    Ok(())
+    on_two_books(&rt, rt.alloc(), 64, &OwnLock)
 }

@@ -1,13 +1,19 @@
 //! Eight clients of four workers at once, in ten waves, each followed by a roll of both tenants.
 
+ghost use Rattle.std.specs.Prelude.{◌≡◌, ◌≤◌, length};
+ghost use Rattle.tenant_core.specs.Limits.{max_tenants};
+ghost use Rattle.books_shared.specs.Traced.{openings_of};
+
 use super::wire::{FULFILL, Standing, Terms, bytes, good, posted, request, tenant_text};
 use crate::office::Office;
-use crate::opening::{Opened, open_office};
+use crate::opening::{Begun, open_office};
 use crate::serving::{ServeFault, run_all};
 use admin_text::laws::setups;
-use admin_text::read_setup;
+use admin_text::{Setup, read_setup};
+use one_list::{Opened, Run};
 use std::alloc::Global;
 use std::io::{Read, Write};
+use std::marker::Brand;
 use std::net::{Net, OpenListener, SocketAddr, TcpListener, TcpStream};
 use std::sync::Wait;
 use std::test::Fail;
@@ -79,11 +85,31 @@ fn served<
     let Ok(setup) = read_setup(alloc, text.as_bytes()) else {
         return Err(ServeFault::Device);
     };
-    let Opened {
+    let opened = Opened::new(alloc, setup.tenants.as_slice().len(), WORKERS)?;
+    sums_after::<Brand, _>(rt, alloc, opened, &setup, listener)
+}
+
+// The same, with the list of a run that has just been opened.
+fn sums_after<
+    J: Run + Send + Sync,
+    R: Threads + Wait + Net<Listener = TcpListener, Stream = TcpStream> + Clock + Sync,
+>(
+    rt: &R,
+    alloc: Global,
+    opened: Opened,
+    setup: &Setup,
+    listener: &TcpListener,
+) -> Result<[Sum; 2], ServeFault>
+    requires list { (opened.table ≡ J.table) × (opened.size ≡ J.size) }
+    requires size { J.size ≡ record { tenants = length setup.now.tenants; workers = 4 } }
+    requires openings { J.openings ≡ openings_of setup.now.tenants setup.now.start }
+    requires tenants { (1 ≤ length setup.now.tenants) × (length setup.now.tenants ≤ max_tenants) }
+{
+    let Begun {
         office,
         mut first,
         shares,
-    } = open_office(alloc, &setup, WORKERS)?;
+    } = open_office::<J>(alloc, opened, setup, WORKERS)?;
     let done = run_all(
         rt, alloc, &office, &mut first, shares, ROUNDS, listener, &Standing,
     )?;

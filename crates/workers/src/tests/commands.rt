@@ -1,21 +1,23 @@
 //! Commands done and refused.
 
-use super::{ONE_ANSWERED, Standing, Tally, counts_of, entries_of, start, two_books};
+use super::{ONE_ANSWERED, Standing, Tally, Trial, counts_of, entries_of, on_two_books, start};
 use crate::{GovernFault, govern};
 use books_shared::{Books, Share};
 use ilp_addr::Prefix;
 use meters::Meters;
+use one_list::Run;
 use std::alloc::Global;
+use std::process::Abort;
 use std::sync::Wait;
 use std::test::Fail;
 use tenant_core::{Answered, Command, CommandFault, Order};
 
 // Does a command of acme's operator, with meters of its own: its answer, and what the meters have counted.
-fn governed<R: Wait>(
+fn governed<J: Run, R: Wait>(
     rt: &R,
     alloc: Global,
-    books: &Books,
-    share: &mut Share,
+    books: &Books<J>,
+    share: &mut Share<J>,
     command: &Command,
 ) -> Result<(Result<Answered, GovernFault>, Tally), Fail> {
     if books.tenants() == 0 {
@@ -30,11 +32,11 @@ fn governed<R: Wait>(
 }
 
 // Whether the command is done, and that is counted.
-fn is_done<R: Wait>(
+fn is_done<J: Run, R: Wait>(
     rt: &R,
     alloc: Global,
-    books: &Books,
-    share: &mut Share,
+    books: &Books<J>,
+    share: &mut Share<J>,
     command: &Command,
 ) -> Result<bool, Fail> {
     let (answer, tally) = governed(rt, alloc, books, share, command)?;
@@ -42,11 +44,11 @@ fn is_done<R: Wait>(
 }
 
 // Whether the command is refused as absent, and that is counted.
-fn is_absent<R: Wait>(
+fn is_absent<J: Run, R: Wait>(
     rt: &R,
     alloc: Global,
-    books: &Books,
-    share: &mut Share,
+    books: &Books<J>,
+    share: &mut Share<J>,
     command: &Command,
 ) -> Result<bool, Fail> {
     let (answer, tally) = governed(rt, alloc, books, share, command)?;
@@ -55,11 +57,11 @@ fn is_absent<R: Wait>(
 }
 
 // How many rows the balances have.
-fn balances<R: Wait>(
+fn balances<J: Run, R: Wait>(
     rt: &R,
     alloc: Global,
-    books: &Books,
-    share: &mut Share,
+    books: &Books<J>,
+    share: &mut Share<J>,
 ) -> Result<Option<usize>, Fail> {
     match governed(rt, alloc, books, share, &Command::Balances)?.0 {
         Ok(Answered::Balances(rows)) => Ok(Some(rows.as_slice().len())),
@@ -68,11 +70,11 @@ fn balances<R: Wait>(
 }
 
 // How many records the period has that a roll closes.
-fn rolled<R: Wait>(
+fn rolled<J: Run, R: Wait>(
     rt: &R,
     alloc: Global,
-    books: &Books,
-    share: &mut Share,
+    books: &Books<J>,
+    share: &mut Share<J>,
 ) -> Result<Option<usize>, Fail> {
     match governed(rt, alloc, books, share, &Command::Roll)?.0 {
         Ok(Answered::Rolled(period)) => Ok(Some(period.get().records.len())),
@@ -80,17 +82,31 @@ fn rolled<R: Wait>(
     }
 }
 
+/// A route is removed once, balances are asked for, and a period is closed.
+struct Commands;
+
+impl Trial for Commands {
+    fn act<J: Run, R: Wait + Abort>(
+        &self,
+        rt: &R,
+        alloc: Global,
+        books: Books<J>,
+        mut first: Share<J>,
+        _second: Share<J>,
+    ) -> Result<(), Fail> {
+        let command = Command::Order(Order::RemoveRoute(Prefix::parse(alloc, b"g.acme.bob")?));
+        assert!(rt; is_done(rt, alloc, &books, &mut first, &command)?);
+        assert!(rt; entries_of(&first) == Some(1));
+        assert!(rt; is_absent(rt, alloc, &books, &mut first, &command)?);
+        assert!(rt; balances(rt, alloc, &books, &mut first)? == Some(2));
+        assert!(rt; entries_of(&first) == Some(1));
+        assert!(rt; rolled(rt, alloc, &books, &mut first)? == Some(2));
+        assert!(rt; entries_of(&first) == Some(2));
+        Ok(())
+    }
+}
+
 #[test]
 fn commands_are_done_and_refused(rt: HostRuntime) -> Result<(), Fail> {
-    let alloc = rt.alloc();
-    let (books, mut first, _second) = two_books(alloc, 64)?;
-    let command = Command::Order(Order::RemoveRoute(Prefix::parse(alloc, b"g.acme.bob")?));
-    assert!(rt; is_done(&rt, alloc, &books, &mut first, &command)?);
-    assert!(rt; entries_of(&first) == Some(1));
-    assert!(rt; is_absent(&rt, alloc, &books, &mut first, &command)?);
-    assert!(rt; balances(&rt, alloc, &books, &mut first)? == Some(2));
-    assert!(rt; entries_of(&first) == Some(1));
-    assert!(rt; rolled(&rt, alloc, &books, &mut first)? == Some(2));
-    assert!(rt; entries_of(&first) == Some(2));
-    Ok(())
+    on_two_books(&rt, rt.alloc(), 64, &Commands)
 }

@@ -1,29 +1,6 @@
-use Rattle.std.proofs.Common.{◌≡◌, length, rules, ap, subst, ◌∙◌}
-use Rattle.std.specs.Io.KnownBytes.{Appends}
-use Rattle.ilpd.specs.Served.{lines_upto}
-use Rattle.ilpd.proofs.Sums.{length_map}
+use Rattle.std.proofs.lemmas.Result.{on_ok_weaker}
 use Rattle.ilpd.proofs.serving.serve.Goals as goal
 
 pub returns : goal.returns
 returns g c =
-    let office = c.in_ok-office.field-0.office in
-    let known = c.in_ok-office.ensures.known in
-    let counted = c.in_ok-done.ensures.counted in
-    let exact = c.close-totals.ensures.exact (search rules) (search rules) in
-    let names : length office.names.items ≡ length c.args.setup.now.tenants
-    = ap length known.names ∙ length_map _ c.args.setup.now.tenants in
-    let told : Appends (g.W.Write.contents c.args.writer.now) (g.W.Write.contents c.tell.new.writer)
-    (lines_upto (length office.names.items) office.names.items c.close-totals.result) = search rules in
-    record {
-      office = office;
-      known = known;
-      totals = c.close-totals.result;
-      counted = record {
-        desks = counted.desks;
-        each = search (rules, counted.each);
-        worked = counted.worked;
-        sums = λ tenant kind below. exact tenant kind (search rules) ∙ counted.sums tenant kind below;
-      };
-      told = subst (λ n. Appends (g.W.Write.contents c.args.writer.now) (g.W.Write.contents c.tell.new.writer)
-          (lines_upto n office.names.items c.close-totals.result)) names told;
-    }
+    on_ok_weaker c.serve_run.result (λ told. (c.in_ok-opened.opened.table, told)) c.serve_run.ensures

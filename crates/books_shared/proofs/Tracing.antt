@@ -1,0 +1,362 @@
+-- The one list goes on with each call: what the call appended is what its entry led to, and leads to the state after it.
+use Rattle.std.proofs.Common.{◌≡◌, ◌==◌, ◌≤◌, ℕ, ◌+◌, cond, zero, suc, Bool, true, false, List, [], ◌∷◌, ◌++◌, map, refl, sym, ap, subst, ◌∙◌}
+use Rattle.std.proofs.Common.{arith, append-nil, add-zero}
+use Rattle.std.specs.Prelude.{max, Option, Some, None, IfSome, Result, Ok, Err, All, slice_get, option_map, if◌then◌else◌}
+use Rattle.ilp_view.specs.Packet.{Prepare}
+use Rattle.ilp_view.specs.Reading.{prepare_at}
+use Rattle.ilp_view.specs.declared.fault.ViewFault.{ViewFault}
+use Rattle.tenant_core.proofs.Making.{made_laws}
+use Rattle.tenant_core.proofs.Steady.{call_laws}
+use Rattle.tenant_core.specs.Answer.{answer_made, tick_count, tick_made, tick_record, tick_result, has_no_place, answer_to}
+use Rattle.tenant_core.specs.Governed.{IsGoverned, command_answer, command_made, commanded, made_by, order_answer, order_left, order_made, roll_answer, roll_left, roll_made}
+use Rattle.tenant_core.specs.Holds.{open_hold}
+use Rattle.tenant_core.specs.Judge.{decide_made, decide_record, is_recorded, judge, record_left}
+use Rattle.tenant_core.specs.Key.{Key}
+use Rattle.tenant_core.specs.Made.{IsMade}
+use Rattle.tenant_core.specs.Network.{peer_with_token}
+use Rattle.tenant_core.specs.Orders.{ordered}
+use Rattle.tenant_core.specs.Periods.{roll_refusal, roll_record}
+use Rattle.tenant_core.specs.Present.{network_of}
+use Rattle.tenant_core.specs.Replay.{IsReplay}
+use Rattle.tenant_core.specs.State.{State, clock_of, recorded, opening_of}
+use Rattle.tenant_core.specs.declared.command.Answered.{Answered}
+use Rattle.tenant_core.specs.declared.command.Command.{Command}
+use Rattle.tenant_core.specs.declared.command.Command.TheVariants as command
+use Rattle.tenant_core.specs.declared.faults.BookFault.{BookFault}
+use Rattle.tenant_core.specs.declared.faults.BookFault.TheVariants.{Full}
+use Rattle.tenant_core.specs.declared.faults.CommandFault.{CommandFault}
+use Rattle.tenant_core.specs.declared.faults.HoldFault.{HoldFault}
+use Rattle.tenant_core.specs.declared.hold.Hold.{Hold}
+use Rattle.tenant_core.specs.declared.journal.Change.{Change as Changed}
+use Rattle.tenant_core.specs.declared.journal.Record.{Record}
+use Rattle.tenant_core.specs.declared.opening.Opening.{Opening}
+use Rattle.tenant_core.specs.declared.peer.Peer.{Peer}
+use Rattle.tenant_core.specs.declared.terms.TenantTerms.{TenantTerms}
+use Rattle.tenant_core.specs.declared.verdict.Verdict.{Verdict}
+use Rattle.tenant_core.specs.declared.verdict.Verdict.TheVariants.{Unknown, NoRoom, Refuse, Fulfil, Forward, Relay}
+use Rattle.floor_core.specs.Work.{Job, Work, Called, answer_call, decide_call, frame_call, given_by, job_answered, job_decided, settled_call, verdict_call}
+use Rattle.floor_core.specs.World.{answer_key, key_in}
+use Rattle.floor_core.specs.declared.parts.Got.{Got}
+use Rattle.floor_core.specs.declared.step.Given.{Given}
+use Rattle.std.specs.List.{enumerate_from}
+use Rattle.std.proofs.lemmas.List.Sums.{sum_by-cons}
+use Rattle.std.proofs.lemmas.List.Elements.{All-cons, All-head, All-nil, All-tail}
+use Rattle.one_list.proofs.History.{laws}
+use Rattle.one_list.specs.Steps.{HaveOneList, PartView, done, done_by, done_last, grown, of_tenant, of_worker, parts_numbered}
+use Rattle.one_list.specs.declared.step.Done.{Done}
+use Rattle.one_list.specs.declared.step.Size.{Size}
+use Rattle.books_shared.specs.Rises.{entries_of, tick_rise}
+use Rattle.books_shared.specs.declared.rise.Rise.{Rise}
+use Rattle.books_shared.specs.Shares.{ShareView, with_steps}
+use Rattle.books_shared.specs.Traced.{AreTraced, HaveListOf, IsLedTo, IsTraced, after_made, books_of, openings_of, part_of}
+use Rattle.books_shared.specs.Tracing.{told_by, told_of}
+
+-- ---- which records a call appends: none is a roll's
+
+abbrev pub Stays : Option Record → Type 0
+Stays made = (s : State) → after_made s made ≡ recorded s made
+
+stays_none : Stays None
+stays_none s = refl
+
+either_stays : (b : Bool) (r : Record) → Stays (Some r) → Stays (if b then Some r else None)
+either_stays true r h = h
+either_stays false r h = stays_none
+
+record_stays : (o : Option Peer) (key : Key) (now : ℕ) (v : Verdict) → Stays (record_left o key now v)
+record_stays None key now v = stays_none
+record_stays (Some from) key now v = either_stays (is_recorded v) (decide_record from.number key now v) (λ s. refl)
+
+verdict_stays : (s : State) (t : ℕ) (token : List ℕ) (p : Prepare) (room : List ℕ) (made : Option Record) (v : Verdict)
+    → Stays made → Stays (verdict_call s t token p room made v).made
+verdict_stays s t token p room made Unknown h = h
+verdict_stays s t token p room made NoRoom h = h
+verdict_stays s t token p room made (Refuse code amounts) h = h
+verdict_stays s t token p room made Fulfil h = h
+verdict_stays s t token p room made (Forward hold peer amount expiry) h = h
+verdict_stays s t token p room made Relay h = h
+
+frame_stays : (w : Work) (s : State) (t : ℕ) (token : List ℕ) (r : Result Prepare ViewFault) (now : ℕ)
+    → Stays (frame_call w s t token r now).made
+frame_stays w s t token (Ok p) now =
+    verdict_stays s t token p w.room (decide_made s token (key_in p) now) (judge s token (key_in p) now)
+    (record_stays (peer_with_token token (network_of s).peers) (key_in p) now (judge s token (key_in p) now))
+frame_stays w s t token (Err fault) now = stays_none
+
+own_stays : (b : Bool) (one other : Called) → Stays one.made → Stays other.made → Stays (if b then one else other).made
+own_stays true one other h k = h
+own_stays false one other h k = k
+
+decided_stays : (j : Job) (w : Work) (s : State) (now : ℕ) → Stays (job_decided j w s now).made
+decided_stays Job.NoJob w s now = stays_none
+decided_stays (Job.Carries t token frame) w s now =
+    own_stays (s.opening.tenant == t) _ _ (frame_stays w s t token (prepare_at frame) now) stays_none
+decided_stays (Job.Waits t hold frame) w s now = stays_none
+
+pub decide_stays : (w : Work) (s : State) (now : ℕ) → Stays (decide_call w s now).made
+decide_stays w s now = decided_stays w.job w s now
+
+held_stays : (o : Option Hold) (f : Hold → Record) → ((h : Hold) → Stays (Some (f h))) → Stays (option_map f o)
+held_stays None f each = stays_none
+held_stays (Some h) f each = each h
+
+settled_stays : (w : Work) (s : State) (given : Given) (made : Option Record) (r : Result Verdict HoldFault)
+    → Stays made → Stays (settled_call w s given made r).made
+settled_stays w s given made (Ok v) h = h
+settled_stays w s given made (Err fault) h = stays_none
+
+answered_stays : (j : Job) (w : Work) (s : State) (now : ℕ) (given : Given) → Stays (job_answered j w s now given).made
+answered_stays Job.NoJob w s now given = stays_none
+answered_stays (Job.Carries t token frame) w s now given = stays_none
+answered_stays (Job.Waits t hold frame) w s now given =
+    own_stays (s.opening.tenant == t) _ _
+    (settled_stays w s given (answer_made s hold now (answer_key given)) (answer_to s hold now (answer_key given))
+    (held_stays (open_hold s hold) _ (λ h x. refl))) stays_none
+
+pub answer_stays : (w : Work) (s : State) (now : ℕ) (got : Got) → Stays (answer_call w s now got).made
+answer_stays w s now got = answered_stays w.job w s now (given_by w.room got)
+
+neither_stays : (b : Bool) (r : Record) → Stays (Some r) → Stays (if b then None else Some r)
+neither_stays true r h = stays_none
+neither_stays false r h = h
+
+pub tick_stays : (s : State) (now : ℕ) → Stays (tick_made s now)
+tick_stays s now = neither_stays (has_no_place s) (tick_record now (tick_count s (max (clock_of s) now))) (λ x. refl)
+
+-- a tick counts the entry that it appends
+pub tick_entries : (s : State) (now : ℕ) (count : Result ℕ BookFault) (rise : Rise) → count ≡ tick_result s now → rise ≡ tick_rise count
+    → rise.entries ≡ entries_of (tick_made s now)
+tick_entries s now count rise told e =
+    ap (λ (r : Rise). r.entries) (e ∙ ap tick_rise told) ∙ by (has_no_place s) (tick_count s (max (clock_of s) now))
+  where
+    by : (b : Bool) (n : ℕ) → (tick_rise (if b then Err Full else Ok n)).entries ≡ entries_of (if b then None else Some (tick_record now n))
+    by true n = refl
+    by false n = refl
+
+-- the record that was appended is what its entry led to
+pub made_of : (s : State) (made : Option Record) → IsReplay (recorded s made) → IfSome made (λ r. IsMade s r)
+made_of s None replay = tt
+made_of s (Some r) replay = made_laws.last s r replay
+
+-- ---- the same of commands
+
+order_is_made : (s : State) (r : Result Changed CommandFault) (now : ℕ) → IsReplay (order_left s r now)
+    → IfSome (order_made r now) (λ x. IsMade s x)
+order_is_made s (Ok change) now replay = made_laws.last s _ replay
+order_is_made s (Err fault) now replay = tt
+
+roll_is_made : (s : State) (o : Option CommandFault) (now : ℕ) → roll_refusal s ≡ o → IfSome (roll_made o now) (λ x. IsMade s x)
+roll_is_made s None now free = made_laws.roll s now free
+roll_is_made s (Some fault) now free = tt
+
+command_is_made : (s : State) (c : Command) (now : ℕ) → IsReplay (commanded s c now) → IfSome (command_made s c now) (λ x. IsMade s x)
+command_is_made s (command.Order order) now replay = order_is_made s (ordered s order) now replay
+command_is_made s command.Balances now replay = tt
+command_is_made s command.Roll now replay = roll_is_made s (roll_refusal s) now refl
+
+order_leaves : (s : State) (r : Result Changed CommandFault) (now : ℕ) → order_left s r now ≡ after_made s (order_made r now)
+order_leaves s (Ok change) now = refl
+order_leaves s (Err fault) now = refl
+
+roll_leaves : (s : State) (o : Option CommandFault) (now : ℕ) → roll_left s o now ≡ after_made s (roll_made o now)
+roll_leaves s None now = refl
+roll_leaves s (Some fault) now = refl
+
+command_leaves : (s : State) (c : Command) (now : ℕ) → commanded s c now ≡ after_made s (command_made s c now)
+command_leaves s (command.Order order) now = order_leaves s (ordered s order) now
+command_leaves s command.Balances now = refl
+command_leaves s command.Roll now = roll_leaves s (roll_refusal s) now
+
+pub governed_leaves : (r : Result Answered CommandFault) (c : Command) (before after : State) (now : ℕ)
+    → IsGoverned r c before after now → after ≡ after_made before (made_by r before c now)
+governed_leaves (Ok answered) c before after now governed = governed.1 ∙ command_leaves before c now
+governed_leaves (Err fault) c before after now governed = governed.1
+
+pub governed_made : (r : Result Answered CommandFault) (c : Command) (before after : State) (now : ℕ)
+    → IsGoverned r c before after now → IsReplay after → IfSome (made_by r before c now) (λ x. IsMade before x)
+governed_made (Ok answered) c before after now governed replay =
+    command_is_made before c now (subst IsReplay governed.1 replay)
+governed_made (Err fault) c before after now governed replay = tt
+
+governed_tenant : (r : Result Answered CommandFault) (c : Command) (before after : State) (now : ℕ)
+    → IsGoverned r c before after now → after.opening.tenant ≡ before.opening.tenant
+governed_tenant (Ok answered) c before after now governed =
+    ap (λ (x : State). x.opening.tenant) governed.1 ∙ (call_laws.same_commanded before c now).number
+governed_tenant (Err fault) c before after now governed = ap (λ (x : State). x.opening.tenant) governed.1
+
+-- ---- what the list is told
+
+one_told : (s : State) (r : Record) (worker tenant : ℕ) → done_last worker tenant (recorded s (Some r)).records ≡ done worker tenant r ∷ []
+one_told s r worker tenant = rw (laws.last s.records r) refl
+
+pub told_did : (s : State) (made : Option Record) (n worker tenant : ℕ) → n ≡ entries_of made
+    → told_by n worker tenant (recorded s made).records ≡ done_by worker tenant made
+told_did s None n worker tenant e = rw e refl
+told_did s (Some r) n worker tenant e = rw e (one_told s r worker tenant)
+
+order_told : (s : State) (r : Result Changed CommandFault) (now worker tenant : ℕ)
+    → told_of (order_answer r) worker tenant (order_left s r now).records ≡ done_by worker tenant (order_made r now)
+order_told s (Ok change) now worker tenant = one_told s _ worker tenant
+order_told s (Err fault) now worker tenant = refl
+
+roll_told : (s : State) (o : Option CommandFault) (now worker tenant : ℕ)
+    → told_of (roll_answer s o now) worker tenant (roll_left s o now).records ≡ done_by worker tenant (roll_made o now)
+roll_told s None now worker tenant = one_told s (roll_record now) worker tenant
+roll_told s (Some fault) now worker tenant = refl
+
+command_told : (s : State) (c : Command) (now worker tenant : ℕ)
+    → told_of (command_answer s c now) worker tenant (commanded s c now).records ≡ done_by worker tenant (command_made s c now)
+command_told s (command.Order order) now worker tenant = order_told s (ordered s order) now worker tenant
+command_told s command.Balances now worker tenant = refl
+command_told s command.Roll now worker tenant = roll_told s (roll_refusal s) now worker tenant
+
+pub governed_told : (r : Result Answered CommandFault) (c : Command) (before after : State) (now worker tenant : ℕ)
+    → IsGoverned r c before after now → told_of r worker tenant after.records ≡ done_by worker tenant (made_by r before c now)
+governed_told (Ok answered) c before after now worker tenant governed =
+    (λ k. told_of (governed.0 k) worker tenant (governed.1 k).records) ∙ command_told before c now worker tenant
+governed_told (Err fault) c before after now worker tenant governed = refl
+
+-- ---- the book's part of it
+
+led_on : (openings : List Opening) (s : State) (steps : List Done) (worker : ℕ) (made : Option Record) → IsLedTo openings s steps
+    → (after_made s made).opening.tenant ≡ s.opening.tenant → IfSome made (λ r. IsMade s r)
+    → IsLedTo openings (after_made s made) (steps ++ done_by worker s.opening.tenant made)
+led_on openings s steps worker None led same is = subst (λ x. IsLedTo openings s x) (sym (append-nil steps)) led
+led_on openings s steps worker (Some r) led same is =
+    record {
+      first = led.first;
+      opens = rw same led.opens;
+      history = laws.goes_on led.first steps s (done worker s.opening.tenant r) led.history is;
+    }
+
+-- a book after a call, whose part has the record that the call made
+pub traced_on : (openings : List Opening) (s after : State) (part left : PartView) (worker : ℕ) (made : Option Record)
+    → IsTraced openings s part → after ≡ after_made s made → after.opening.tenant ≡ s.opening.tenant → IfSome made (λ r. IsMade s r)
+    → left ≡ grown part (done_by worker part.number made) → IsTraced openings after left
+traced_on openings s after part left worker made traced e same is grew =
+    record {
+      number = ap (λ (p : PartView). p.number) grew ∙ (traced.number ∙ sym same);
+      led = subst (λ (x : List Done). IsLedTo openings after x)
+          (ap (λ (n : ℕ). part.steps ++ done_by worker n made) (sym traced.number) ∙ sym (ap (λ (p : PartView). p.steps) grew))
+          (subst (λ (x : State). IsLedTo openings x (part.steps ++ done_by worker s.opening.tenant made)) (sym e)
+          (led_on openings s part.steps worker made traced.led (ap (λ (x : State). x.opening.tenant) (sym e) ∙ same) is));
+    }
+
+-- what the list is told of a call that made that record, if it made one
+pub told_call : (s after : State) (made : Option Record) (n worker tenant : ℕ) → after ≡ recorded s made → n ≡ entries_of made
+    → told_by n worker tenant after.records ≡ done_by worker tenant made
+told_call s after made n worker tenant e is =
+    ap (λ (x : State). told_by n worker tenant x.records) e ∙ told_did s made n worker tenant is
+
+-- a book after a call of a slot, or a tick
+pub traced_call : (openings : List Opening) (s after : State) (part left : PartView) (worker : ℕ) (made : Option Record) (n : ℕ)
+    → IsTraced openings s part → Stays made → after ≡ recorded s made → IsReplay after → n ≡ entries_of made
+    → left ≡ grown part (told_by n worker part.number after.records) → IsTraced openings after left
+traced_call openings s after part left worker made n traced stays e replay is grew =
+    traced_on openings s after part left worker made traced (e ∙ sym (stays s)) (ap (λ (x : State). x.opening.tenant) e)
+    (made_of s made (subst IsReplay e replay))
+    (grew ∙ ap (λ (ds : List Done). grown part ds) (told_call s after made n worker part.number e is))
+
+-- a book after a command
+pub traced_command : (openings : List Opening) (s after : State) (part left : PartView) (worker : ℕ) (r : Result Answered CommandFault) (c : Command) (now : ℕ)
+    → IsTraced openings s part → IsGoverned r c s after now → IsReplay after
+    → left ≡ grown part (told_of r worker part.number after.records) → IsTraced openings after left
+traced_command openings s after part left worker r c now traced governed replay grew =
+    traced_on openings s after part left worker (made_by r s c now) traced (governed_leaves r c s after now governed)
+    (governed_tenant r c s after now governed) (governed_made r c s after now governed replay)
+    (grew ∙ ap (λ (ds : List Done). grown part ds) (governed_told r c s after now worker part.number governed))
+
+-- the steps of a part after a call, and of a share
+pub steps_told : (part left : PartView) (worker tenant : ℕ) (made : Option Record) (ds : List Done) → left ≡ grown part ds
+    → ds ≡ done_by worker part.number made → part.number ≡ tenant → left.steps ≡ part.steps ++ done_by worker tenant made
+steps_told part left worker tenant made ds grew told own =
+    ap (λ (p : PartView). p.steps) grew
+    ∙ ap (λ (es : List Done). part.steps ++ es) (told ∙ ap (λ (n : ℕ). done_by worker n made) own)
+
+pub share_told : (share left : ShareView) (number tenant : ℕ) (made : Option Record) (ds : List Done) → left ≡ with_steps ds share
+    → ds ≡ done_by share.worker number made → number ≡ tenant → left ≡ with_steps (done_by share.worker tenant made) share
+share_told share left number tenant made ds grew told own =
+    grew ∙ ap (λ (es : List Done). with_steps es share) (told ∙ ap (λ (n : ℕ). done_by share.worker n made) own)
+
+-- a book in which nothing has happened, at its place among the openings
+pub traced_first : (openings : List Opening) (o : Opening) (part : PartView) → part ≡ record { number = o.tenant; steps = [] }
+    → slice_get openings o.tenant ≡ Some o → IsTraced openings (record { opening = o; records = [] }) part
+traced_first openings o part e at =
+    record {
+      number = ap (λ (p : PartView). p.number) e;
+      led = record { first = o; opens = at; history = rw e (laws.begins o) };
+    }
+
+-- ---- openings
+
+opening_from : (f : ℕ × TenantTerms → Opening) (n : ℕ) (xs : List TenantTerms) (i : ℕ)
+    → slice_get (map f (enumerate_from n xs)) i ≡ option_map (λ t. f (n + i, t)) (slice_get xs i)
+opening_from f n [] i = refl
+opening_from f n (x ∷ xs) zero = rw (add-zero n) refl
+opening_from f n (x ∷ xs) (suc i) = opening_from f (n + 1) xs i ∙ ap (λ (m : ℕ). option_map (λ t. f (m, t)) (slice_get xs i)) (next_more n i)
+  where
+    next_more : (n i : ℕ) → (n + 1) + i ≡ n + suc i
+    next_more n i = omega arith
+
+pub opening_at : (setups : List TenantTerms) (start i : ℕ) (t : TenantTerms) → slice_get setups i ≡ Some t
+    → slice_get (openings_of setups start) i ≡ Some (opening_of i t start)
+opening_at setups start i t at =
+    let zero_more : 0 + i ≡ i = omega arith in
+    opening_from (λ p. opening_of p.0 p.1 start) 0 setups i
+    ∙ (ap (λ (n : ℕ). option_map (λ x. opening_of n x start) (slice_get setups i)) zero_more
+    ∙ ap (λ o. option_map (λ x. opening_of i x start) o) at)
+
+-- ---- all books, and all shares
+
+pub traced_push : (openings : List Opening) (books : List (State × ℕ)) (parts : List PartView) (b : State × ℕ) (p : PartView)
+    → AreTraced openings books parts → IsTraced openings b.0 p → AreTraced openings (books ++ b ∷ []) (parts ++ p ∷ [])
+traced_push openings [] [] b p all one = (one, tt)
+traced_push openings [] (q ∷ qs) b p all one = absurd all
+traced_push openings (c ∷ cs) [] b p all one = absurd all
+traced_push openings (c ∷ cs) (q ∷ qs) b p all one = (all.0, traced_push openings cs qs b p all.1 one)
+
+of_books : (openings : List Opening) (log : List Done) (books : List (State × ℕ)) (parts : List PartView) → AreTraced openings books parts
+    → All (λ p. of_tenant p.number log ≡ p.steps) parts → All (λ b. IsLedTo openings b.0 (of_tenant b.0.opening.tenant log)) books
+of_books openings log [] parts traced own = All-nil _
+of_books openings log (b ∷ bs) [] traced own = absurd traced
+of_books openings log (b ∷ bs) (p ∷ ps) traced own =
+    All-cons (λ x. IsLedTo openings x.0 (of_tenant x.0.opening.tenant log)) b bs
+    (subst (λ (x : List Done). IsLedTo openings b.0 x)
+    (sym (All-head (λ x. of_tenant x.number log ≡ x.steps) p ps own) ∙ ap (λ (n : ℕ). of_tenant n log) traced.0.number) traced.0.led)
+    (of_books openings log bs ps traced.1 (All-tail (λ x. of_tenant x.number log ≡ x.steps) p ps own))
+
+of_shares : (log : List Done) (shares : List ShareView) → All (λ p. of_worker p.number log ≡ p.steps) (map part_of shares)
+    → All (λ s. of_worker s.worker log ≡ s.steps) shares
+of_shares log [] own = All-nil _
+of_shares log (s ∷ ss) own =
+    All-cons (λ x. of_worker x.worker log ≡ x.steps) s ss (All-head (λ p. of_worker p.number log ≡ p.steps) (part_of s) (map part_of ss) own)
+    (of_shares log ss (All-tail (λ p. of_worker p.number log ≡ p.steps) (part_of s) (map part_of ss) own))
+
+books_by : (tenant : ℕ) (openings : List Opening) (books : List (State × ℕ)) (parts : List PartView) → AreTraced openings books parts
+    → books_of tenant books ≡ parts_numbered tenant parts
+books_by tenant openings [] [] traced = refl
+books_by tenant openings [] (p ∷ ps) traced = absurd traced
+books_by tenant openings (b ∷ bs) [] traced = absurd traced
+books_by tenant openings (b ∷ bs) (p ∷ ps) traced =
+    let own : ℕ = cond (b.0.opening.tenant == tenant) 1 0 in
+    let its : ℕ = cond (p.number == tenant) 1 0 in
+    let here : its ≡ own = ap (λ (n : ℕ). cond (n == tenant) 1 0) traced.0.number in
+    omega (
+      arith,
+      here,
+      sum_by-cons (λ (x : State × ℕ). cond (x.0.opening.tenant == tenant) 1 0) b bs,
+      sum_by-cons (λ (x : PartView). cond (x.number == tenant) 1 0) p ps,
+      books_by tenant openings bs ps traced.1,
+    )
+
+pub list_of : (size : Size) (openings : List Opening) (books : List (State × ℕ)) (shares : List ShareView) (parts : List PartView)
+    → AreTraced openings books parts → HaveOneList size parts (map part_of shares) → HaveListOf size openings books shares
+list_of size openings books shares parts traced (log, one) = (
+  log,
+  record {
+    tenants = of_books openings log books parts traced one.tenants;
+    workers = of_shares log shares one.workers;
+    others = one.others;
+    once = λ n. subst (λ (m : ℕ). m ≤ 1) (sym (books_by n openings books parts traced)) (one.once n);
+  },
+)

@@ -1,0 +1,40 @@
+use Rattle.std.proofs.Common.{◌≡◌, ◌++◌, arith, subst}
+use Rattle.tenant_core.specs.Governed.{made_by}
+use Rattle.one_list.specs.Steps.{done_by}
+use Rattle.books_shared.specs.Kept.{Kept}
+use Rattle.books_shared.specs.Shares.{with_steps}
+use Rattle.books_shared.specs.Tracing.{told_of}
+use Rattle.books_shared.proofs.Tracing.{governed_told, share_told, steps_told, traced_command}
+use Rattle.books_shared.proofs.kept.Kept.command.Goals as goal
+use Rattle.books_shared.proofs.kept.Kept.command.Given.{Over}
+
+told : (g : Over) (c : goal.After-command_rise-rise g)
+    → told_of c.command_in-answer.result.0 c.args.share.now.worker c.self.inside.part.number c.command_in-answer.new.book.records
+    ≡ done_by c.args.share.now.worker c.self.inside.part.number (made_by c.command_in-answer.result.0 c.self.inside.book c.args.command.now c.args.now)
+told g c =
+    governed_told c.command_in-answer.result.0 c.args.command.now c.self.inside.book c.command_in-answer.new.book c.args.now c.args.share.now.worker c.self.inside.part.number
+    c.command_in-answer.ensures.answer
+
+pub invariant_of-self : goal.invariant_of-self
+invariant_of-self g c = (
+  (let kept = c.self.invariant.0 in let most = c.command_in-answer.ensures.most in omega arith),
+  traced_command g.J.Run.openings c.self.inside.book c.command_in-answer.new.book c.self.inside.part c.trace_command.new.part c.args.share.now.worker
+      c.command_in-answer.result.0 c.args.command.now c.args.now c.self.invariant.1 c.command_in-answer.ensures.answer
+      c.book_is_sound.ensures.replay c.trace_command.ensures.part,
+)
+
+pub returns-clause-steps : goal.returns-clause-steps
+returns-clause-steps g c =
+    subst (λ (k : Kept). c.trace_command.new.part.steps ≡ k.steps ++ done_by c.args.share.now.worker k.state.opening.tenant (made_by c.command_in-answer.result.0 k.state c.args.command.now c.args.now))
+    c.self.view_is
+    (steps_told c.self.inside.part c.trace_command.new.part c.args.share.now.worker c.self.inside.book.opening.tenant
+    (made_by c.command_in-answer.result.0 c.self.inside.book c.args.command.now c.args.now) _ c.trace_command.ensures.part
+    (told g c) c.self.invariant.1.number)
+
+pub returns-clause-share : goal.returns-clause-share
+returns-clause-share g c =
+    subst (λ (k : Kept). c.trace_command.new.share ≡ with_steps (done_by c.args.share.now.worker k.state.opening.tenant (made_by c.command_in-answer.result.0 k.state c.args.command.now c.args.now)) c.args.share.now)
+    c.self.view_is
+    (share_told c.args.share.now c.trace_command.new.share c.self.inside.part.number c.self.inside.book.opening.tenant
+    (made_by c.command_in-answer.result.0 c.self.inside.book c.args.command.now c.args.now) _ c.trace_command.ensures.share
+    (told g c) c.self.invariant.1.number)

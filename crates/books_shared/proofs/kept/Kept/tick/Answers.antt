@@ -1,0 +1,44 @@
+use Rattle.std.proofs.Common.{◌≡◌, ◌≤◌, ◌++◌, subst, sym}
+use Rattle.tenant_core.specs.Answer.{tick_made}
+use Rattle.tenant_core.specs.declared.opening.Opening.{Opening}
+use Rattle.one_list.specs.Steps.{done_by}
+use Rattle.books_shared.specs.Kept.{Kept, most_entries}
+use Rattle.books_shared.specs.Rises.{entries_of}
+use Rattle.books_shared.specs.Shares.{with_steps}
+use Rattle.books_shared.specs.Tracing.{told_by}
+use Rattle.books_shared.proofs.Tracing.{share_told, steps_told, tick_entries, tick_stays, told_call, traced_call}
+use Rattle.books_shared.proofs.kept.Kept.tick.Goals as goal
+use Rattle.books_shared.proofs.kept.Kept.tick.Given.{Over}
+
+many : (g : Over) (c : goal.After-trace g) → c.tick_in-count.result.1.entries ≡ entries_of (tick_made c.self.inside.book c.args.now)
+many g c =
+    tick_entries c.self.inside.book c.args.now c.tick_in-count.result.0 c.tick_in-count.result.1 c.tick_in-count.ensures.count c.tick_in-count.ensures.rise
+
+told : (g : Over) (c : goal.After-trace g)
+    → told_by c.tick_in-count.result.1.entries c.args.share.now.worker c.self.inside.part.number c.tick_in-count.new.book.records
+    ≡ done_by c.args.share.now.worker c.self.inside.part.number (tick_made c.self.inside.book c.args.now)
+told g c =
+    told_call c.self.inside.book c.tick_in-count.new.book (tick_made c.self.inside.book c.args.now) c.tick_in-count.result.1.entries c.args.share.now.worker c.self.inside.part.number
+    c.tick_in-count.ensures.book (many g c)
+
+pub invariant_of-self : goal.invariant_of-self
+invariant_of-self g c = (
+  subst (λ (o : Opening). c.self.inside.closed ≤ most_entries o.period) (sym c.tick_in-count.ensures.opening) c.self.invariant.0,
+  traced_call g.J.Run.openings c.self.inside.book c.tick_in-count.new.book c.self.inside.part c.trace.new.part c.args.share.now.worker (tick_made c.self.inside.book c.args.now)
+      c.tick_in-count.result.1.entries c.self.invariant.1 (tick_stays c.self.inside.book c.args.now) c.tick_in-count.ensures.book
+      c.book_is_sound.ensures.replay (many g c) c.trace.ensures.part,
+)
+
+pub returns-clause-steps : goal.returns-clause-steps
+returns-clause-steps g c =
+    subst (λ (k : Kept). c.trace.new.part.steps ≡ k.steps ++ done_by c.args.share.now.worker k.state.opening.tenant (tick_made k.state c.args.now))
+    c.self.view_is
+    (steps_told c.self.inside.part c.trace.new.part c.args.share.now.worker c.self.inside.book.opening.tenant (tick_made c.self.inside.book c.args.now) _ c.trace.ensures.part
+    (told g c) c.self.invariant.1.number)
+
+pub returns-clause-share : goal.returns-clause-share
+returns-clause-share g c =
+    subst (λ (k : Kept). c.trace.new.share ≡ with_steps (done_by c.args.share.now.worker k.state.opening.tenant (tick_made k.state c.args.now)) c.args.share.now)
+    c.self.view_is
+    (share_told c.args.share.now c.trace.new.share c.self.inside.part.number c.self.inside.book.opening.tenant (tick_made c.self.inside.book c.args.now) _ c.trace.ensures.share
+    (told g c) c.self.invariant.1.number)
