@@ -7,3 +7,4 @@ pub mod Whole
 pub mod Governs
 pub mod Opened
 pub mod Decides
+pub mod Causing

@@ -179,7 +179,7 @@ replies-append : (w : World) (ss more : List Step) → replies w (ss ++ more) �
 replies-append w [] more = refl
 replies-append w (s ∷ ss) more = ap (λ (ys : List Output). reply w s ∷ ys) (replies-append (after w s) ss more)
 
-after_all-append : (w : World) (ss more : List Step) → after_all w (ss ++ more) ≡ after_all (after_all w ss) more
+pub after_all-append : (w : World) (ss more : List Step) → after_all w (ss ++ more) ≡ after_all (after_all w ss) more
 after_all-append w [] more = refl
 after_all-append w (s ∷ ss) more = after_all-append (after w s) ss more
 

@@ -8,6 +8,7 @@ pub mod Kept
 pub mod FloorView
 pub mod Moves
 pub mod Worlds
+pub mod Causes
 pub mod Told
 pub mod Parts
 pub mod FloorKept

@@ -204,9 +204,15 @@ abbrev pub IsSomewhere : Job → Option TargetParts → Type 0
 IsSomewhere (Job.Waits tenant hold frame) target = IsSome target
 IsSomewhere _ target = Unit {0}
 
+-- and came with a token
+abbrev pub IsNamed : Job → Type 0
+IsNamed (Job.Carries tenant token frame) = is_token token ≡ true
+IsNamed _ = Unit {0}
+
 -- what holds of a slot, whatever it was told
 pub record IsWork (w : Work) : Type 0 where
   pub readable : IsReadable w.job
+  pub named : IsNamed w.job
   pub somewhere : IsSomewhere w.job w.target
   pub frame : length (frame_of w.job) ≤ max_frame
   pub reply : length w.reply ≤ max_frame

@@ -1,6 +1,9 @@
 //! Laws of the definitions, each the contract of a function that does nothing.
 
-ghost use Rattle.std.specs.Prelude.{◌≡◌, ◌++◌, ℕ, List};
+ghost use Rattle.std.specs.Prelude.{◌≡◌, ◌<◌, ◌++◌, ℕ, List, All, slice_get};
+ghost use Rattle.tenant_core.specs.State.{State};
+ghost use Rattle.tenant_core.specs.declared.opening.Opening.{Opening};
+ghost use Rattle.floor_core.specs.Causes.{AreCaused, ArePlaced, AreRun, Entered, book_opened};
 ghost use Rattle.floor_core.specs.World.{World, owners, own_steps, seen_by, AreOutputs, IsLeft};
 ghost use Rattle.floor_core.specs.Worlds.{replies, after_all};
 ghost use Rattle.floor_core.specs.declared.step.Step.{Step};
@@ -42,3 +45,15 @@ pub fn two_worlds()
         → own_steps t (owners v.hands xs os) ≡ own_steps t (owners w.hands ys ps)
         → x.tenants t ≡ y.tenants t }
 {}
+
+/// Records of many tenants in one order, each of which something made in its tenant's book as the records before it left
+/// the book, are those of a list of steps: run from the tenants' openings on, by as many workers as there are packets, the
+/// steps make just these records, in this order, and leave the books that the records leave.
+pub fn records_are_a_run()
+    ensures { (openings : List Opening) (tenants : ℕ) (entries : List Entered) (left : ℕ → State)
+        → ArePlaced openings tenants → All (λ e. e.tenant < tenants) entries
+        → AreCaused (λ t. book_opened (slice_get openings t)) entries left → AreRun openings entries left }
+{
+    tenant_core::laws::open_holds();
+    tenant_core::laws::calls();
+}

@@ -134,6 +134,9 @@ impl Slot {
     {
         let _frame = self.frame.as_slice();
         let _reply = self.reply.as_slice();
+        if let Stage::Loaded { token, .. } = &self.stage {
+            let _token = token.as_bytes();
+        }
     }
 
     /// Drops the call that is carried, and what is told of the last one.

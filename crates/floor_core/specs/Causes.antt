@@ -1,0 +1,117 @@
+-- What records of tenants' books came from, and which records the steps of a list make.
+use Rattle.std.specs.Prelude.{ℕ, ◌≡◌, ◌<◌, List, [], ◌∷◌, ◌++◌, Option, Some, None, Result, Ok, Err, slice_get}
+use Rattle.ilp_view.specs.Packet.{Prepare}
+use Rattle.tenant_core.specs.Answer.{answer_made, tick_made}
+use Rattle.tenant_core.specs.Governed.{command_made, commanded}
+use Rattle.tenant_core.specs.Judge.{decide_made}
+use Rattle.tenant_core.specs.State.{State, opened, recorded}
+use Rattle.tenant_core.specs.declared.command.Command.{Command}
+use Rattle.tenant_core.specs.declared.journal.Record.{Record}
+use Rattle.tenant_core.specs.declared.opening.Opening.{Opening}
+use Rattle.floor_core.specs.World.{Stage, Tenant, Event, Owner, World, put, new_tenant, no_book, arrival, key_in, answer_key, heard}
+use Rattle.floor_core.specs.World.{all_free, owner}
+use Rattle.floor_core.specs.World.Event.{Arrives, Decides, Answers, Ticks, Governs}
+use Rattle.floor_core.specs.Worlds.{after, after_all}
+use Rattle.floor_core.specs.declared.step.Given.{Given}
+use Rattle.floor_core.specs.declared.step.Malformed.{Malformed}
+use Rattle.floor_core.specs.declared.step.Step.{Step}
+
+-- ---- what a record came from
+
+-- a frame that came with a token and was decided; what came back for a hold; a moment that was handed in; a command
+pub data Cause : Type 0 where
+  Packet : (token frame : List ℕ) (now : ℕ) → Cause
+  Return : (hold now : ℕ) (given : Given) → Cause
+  Moment : (now : ℕ) → Cause
+  Order : (now : ℕ) (command : Command) → Cause
+
+-- the record of what arrived, if it was a packet
+abbrev pub packet_made : State → List ℕ → Result Prepare Malformed → ℕ → Option Record
+packet_made s token (Ok p) now = decide_made s token (key_in p) now
+packet_made s token (Err wrong) now = None
+
+-- the record that a cause makes in a book of that state, if it makes one
+abbrev pub made_from : State → Cause → Option Record
+made_from s (Cause.Packet token frame now) = packet_made s token (arrival token frame) now
+made_from s (Cause.Return hold now given) = answer_made s hold now (answer_key (heard given))
+made_from s (Cause.Moment now) = tick_made s now
+made_from s (Cause.Order now command) = command_made s command now
+
+-- the state that it leaves
+abbrev pub left_from : State → Cause → State
+left_from s (Cause.Order now command) = commanded s command now
+left_from s cause = recorded s (made_from s cause)
+
+-- something makes that record in a book of that state
+abbrev pub HasCause : State → Record → Type 0
+HasCause s r = (cause : Cause) × (made_from s cause ≡ Some r)
+
+-- ---- records of many tenants
+
+-- a record, and the tenant in whose book it stands
+pub record Entered : Type 0 where
+  pub tenant : ℕ
+  pub made : Record
+
+-- that record, if there is one
+abbrev pub entered : ℕ → Option Record → List Entered
+entered tenant None = []
+entered tenant (Some r) = record { tenant = tenant; made = r } ∷ []
+
+-- the records are made one after another, each by a cause in its tenant's book as those before it left it; and leave those books
+abbrev pub AreCaused : (books : ℕ → State) → List Entered → (left : ℕ → State) → Type 0
+AreCaused books [] left = (t : ℕ) → books t ≡ left t
+AreCaused books (e ∷ es) left =
+    (cause : Cause) × (made_from (books e.tenant) cause ≡ Some e.made)
+    × AreCaused (put books e.tenant (left_from (books e.tenant) cause)) es left
+
+-- ---- records of steps
+
+-- the record that the decide of a call makes
+abbrev pub made_by_decide : State → Option Stage → ℕ → Option Record
+made_by_decide s (Some (Stage.Ready token p)) now = decide_made s token (key_in p) now
+made_by_decide s _ now = None
+
+-- the record that the answer to a call makes
+abbrev pub made_by_answer : State → Option Stage → ℕ → Given → Option Record
+made_by_answer s (Some (Stage.Sent hold)) now given = answer_made s hold now (answer_key (heard given))
+made_by_answer s _ now given = None
+
+-- the record that an event makes in the book of the one-tenant connector
+abbrev pub made_alone : Tenant → Event → Option Record
+made_alone s (Arrives token bytes) = None
+made_alone s (Decides call now) = made_by_decide s.book (s.calls call) now
+made_alone s (Answers call now given) = made_by_answer s.book (s.calls call) now given
+made_alone s (Ticks now) = tick_made s.book now
+made_alone s (Governs now command) = command_made s.book command now
+
+-- the record that a step makes, by its owner
+abbrev pub made_in : World → Owner → List Entered
+made_in w (Owner.Own t event) = entered t (made_alone (w.tenants t) event)
+made_in w (Owner.Nobody output) = []
+
+-- the records that steps make, one after another
+abbrev pub all_made : World → List Step → List Entered
+all_made w [] = []
+all_made w (s ∷ ss) = made_in w (owner w.hands s) ++ all_made (after w s) ss
+
+-- ---- from openings on
+
+-- the book of an opening, if there is one
+abbrev pub book_opened : Option Opening → State
+book_opened None = no_book
+book_opened (Some o) = opened o
+
+-- the world of tenants with these openings: nothing has happened to any of them, and the workers have nothing in hand
+abbrev pub world_opened : List Opening → World
+world_opened openings = record { tenants = λ t. new_tenant (book_opened (slice_get openings t)); hands = all_free }
+
+-- the openings of so many tenants stand at their tenants' numbers
+abbrev pub ArePlaced : List Opening → (tenants : ℕ) → Type 0
+ArePlaced openings tenants = (t : ℕ) → t < tenants → (book_opened (slice_get openings t)).opening.tenant ≡ t
+
+-- there are steps that, run from the openings on, make just these records, in this order, and leave those books
+pub record AreRun (openings : List Opening) (entries : List Entered) (left : ℕ → State) : Type 0 where
+  pub steps : List Step
+  pub made : all_made (world_opened openings) steps ≡ entries
+  pub books : (t : ℕ) → ((after_all (world_opened openings) steps).tenants t).book ≡ left t
