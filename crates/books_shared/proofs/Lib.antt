@@ -3,3 +3,5 @@ pub mod Tracing
 pub mod Commanded
 pub mod Counted
 pub mod Crossing
+pub mod Causes
+pub mod Gathering

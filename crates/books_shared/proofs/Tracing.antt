@@ -1,7 +1,7 @@
 -- The one list goes on with each call: what the call appended is what its entry led to, and leads to the state after it.
-use Rattle.std.proofs.Common.{◌≡◌, ◌==◌, ◌≤◌, ℕ, ◌+◌, cond, zero, suc, Bool, true, false, List, [], ◌∷◌, ◌++◌, map, refl, sym, ap, subst, ◌∙◌}
+use Rattle.std.proofs.Common.{◌≡◌, ◌==◌, ℕ, ◌+◌, zero, suc, Bool, true, false, List, [], ◌∷◌, ◌++◌, length, map, refl, sym, ap, subst, ◌∙◌}
 use Rattle.std.proofs.Common.{arith, append-nil, add-zero}
-use Rattle.std.specs.Prelude.{max, Option, Some, None, IfSome, Result, Ok, Err, All, slice_get, option_map, if◌then◌else◌}
+use Rattle.std.specs.Prelude.{max, Option, Some, None, IfSome, Result, Ok, Err, slice_get, option_map, if◌then◌else◌}
 use Rattle.ilp_view.specs.Packet.{Prepare}
 use Rattle.ilp_view.specs.Reading.{prepare_at}
 use Rattle.ilp_view.specs.declared.fault.ViewFault.{ViewFault}
@@ -39,16 +39,17 @@ use Rattle.floor_core.specs.World.{answer_key, key_in}
 use Rattle.floor_core.specs.declared.parts.Got.{Got}
 use Rattle.floor_core.specs.declared.step.Given.{Given}
 use Rattle.std.specs.List.{enumerate_from}
-use Rattle.std.proofs.lemmas.List.Sums.{sum_by-cons}
-use Rattle.std.proofs.lemmas.List.Elements.{All-cons, All-head, All-nil, All-tail}
+use Rattle.std.proofs.lemmas.List.{length-map}
+use Rattle.std.proofs.lemmas.List.FromFn.{length-enumerate_from}
 use Rattle.one_list.proofs.History.{laws}
-use Rattle.one_list.specs.Steps.{HaveOneList, PartView, done, done_by, done_last, grown, of_tenant, of_worker, parts_numbered}
+use Rattle.one_list.specs.Steps.{PartView, done, done_by, done_last, grown}
 use Rattle.one_list.specs.declared.step.Done.{Done}
-use Rattle.one_list.specs.declared.step.Size.{Size}
 use Rattle.books_shared.specs.Rises.{entries_of, tick_rise}
 use Rattle.books_shared.specs.declared.rise.Rise.{Rise}
 use Rattle.books_shared.specs.Shares.{ShareView, with_steps}
-use Rattle.books_shared.specs.Traced.{AreTraced, HaveListOf, IsLedTo, IsTraced, after_made, books_of, openings_of, part_of}
+use Rattle.floor_core.specs.Causes.{HasCause}
+use Rattle.books_shared.specs.Traced.{IsLedTo, IsTraced, after_made, openings_of}
+use Rattle.books_shared.proofs.Causes.{causes_on, governed_cause}
 use Rattle.books_shared.specs.Tracing.{told_by, told_of}
 
 -- ---- which records a call appends: none is a roll's
@@ -56,14 +57,14 @@ use Rattle.books_shared.specs.Tracing.{told_by, told_of}
 abbrev pub Stays : Option Record → Type 0
 Stays made = (s : State) → after_made s made ≡ recorded s made
 
-stays_none : Stays None
+pub stays_none : Stays None
 stays_none s = refl
 
 either_stays : (b : Bool) (r : Record) → Stays (Some r) → Stays (if b then Some r else None)
 either_stays true r h = h
 either_stays false r h = stays_none
 
-record_stays : (o : Option Peer) (key : Key) (now : ℕ) (v : Verdict) → Stays (record_left o key now v)
+pub record_stays : (o : Option Peer) (key : Key) (now : ℕ) (v : Verdict) → Stays (record_left o key now v)
 record_stays None key now v = stays_none
 record_stays (Some from) key now v = either_stays (is_recorded v) (decide_record from.number key now v) (λ s. refl)
 
@@ -96,7 +97,7 @@ decided_stays (Job.Waits t hold frame) w s now = stays_none
 pub decide_stays : (w : Work) (s : State) (now : ℕ) → Stays (decide_call w s now).made
 decide_stays w s now = decided_stays w.job w s now
 
-held_stays : (o : Option Hold) (f : Hold → Record) → ((h : Hold) → Stays (Some (f h))) → Stays (option_map f o)
+pub held_stays : (o : Option Hold) (f : Hold → Record) → ((h : Hold) → Stays (Some (f h))) → Stays (option_map f o)
 held_stays None f each = stays_none
 held_stays (Some h) f each = each h
 
@@ -162,7 +163,7 @@ roll_leaves : (s : State) (o : Option CommandFault) (now : ℕ) → roll_left s 
 roll_leaves s None now = refl
 roll_leaves s (Some fault) now = refl
 
-command_leaves : (s : State) (c : Command) (now : ℕ) → commanded s c now ≡ after_made s (command_made s c now)
+pub command_leaves : (s : State) (c : Command) (now : ℕ) → commanded s c now ≡ after_made s (command_made s c now)
 command_leaves s (command.Order order) now = order_leaves s (ordered s order) now
 command_leaves s command.Balances now = refl
 command_leaves s command.Roll now = roll_leaves s (roll_refusal s) now
@@ -219,27 +220,28 @@ governed_told (Err fault) c before after now worker tenant governed = refl
 -- ---- the book's part of it
 
 led_on : (openings : List Opening) (s : State) (steps : List Done) (worker : ℕ) (made : Option Record) → IsLedTo openings s steps
-    → (after_made s made).opening.tenant ≡ s.opening.tenant → IfSome made (λ r. IsMade s r)
+    → (after_made s made).opening.tenant ≡ s.opening.tenant → IfSome made (λ r. IsMade s r) → IfSome made (λ r. HasCause s r)
     → IsLedTo openings (after_made s made) (steps ++ done_by worker s.opening.tenant made)
-led_on openings s steps worker None led same is = subst (λ x. IsLedTo openings s x) (sym (append-nil steps)) led
-led_on openings s steps worker (Some r) led same is =
+led_on openings s steps worker None led same is caused = subst (λ x. IsLedTo openings s x) (sym (append-nil steps)) led
+led_on openings s steps worker (Some r) led same is caused =
     record {
       first = led.first;
       opens = rw same led.opens;
       history = laws.goes_on led.first steps s (done worker s.opening.tenant r) led.history is;
+      causes = causes_on _ s steps (done worker s.opening.tenant r) led.history led.causes caused;
     }
 
 -- a book after a call, whose part has the record that the call made
 pub traced_on : (openings : List Opening) (s after : State) (part left : PartView) (worker : ℕ) (made : Option Record)
     → IsTraced openings s part → after ≡ after_made s made → after.opening.tenant ≡ s.opening.tenant → IfSome made (λ r. IsMade s r)
-    → left ≡ grown part (done_by worker part.number made) → IsTraced openings after left
-traced_on openings s after part left worker made traced e same is grew =
+    → IfSome made (λ r. HasCause s r) → left ≡ grown part (done_by worker part.number made) → IsTraced openings after left
+traced_on openings s after part left worker made traced e same is caused grew =
     record {
       number = ap (λ (p : PartView). p.number) grew ∙ (traced.number ∙ sym same);
       led = subst (λ (x : List Done). IsLedTo openings after x)
           (ap (λ (n : ℕ). part.steps ++ done_by worker n made) (sym traced.number) ∙ sym (ap (λ (p : PartView). p.steps) grew))
           (subst (λ (x : State). IsLedTo openings x (part.steps ++ done_by worker s.opening.tenant made)) (sym e)
-          (led_on openings s part.steps worker made traced.led (ap (λ (x : State). x.opening.tenant) (sym e) ∙ same) is));
+          (led_on openings s part.steps worker made traced.led (ap (λ (x : State). x.opening.tenant) (sym e) ∙ same) is caused));
     }
 
 -- what the list is told of a call that made that record, if it made one
@@ -250,11 +252,11 @@ told_call s after made n worker tenant e is =
 
 -- a book after a call of a slot, or a tick
 pub traced_call : (openings : List Opening) (s after : State) (part left : PartView) (worker : ℕ) (made : Option Record) (n : ℕ)
-    → IsTraced openings s part → Stays made → after ≡ recorded s made → IsReplay after → n ≡ entries_of made
+    → IsTraced openings s part → Stays made → IfSome made (λ r. HasCause s r) → after ≡ recorded s made → IsReplay after → n ≡ entries_of made
     → left ≡ grown part (told_by n worker part.number after.records) → IsTraced openings after left
-traced_call openings s after part left worker made n traced stays e replay is grew =
+traced_call openings s after part left worker made n traced stays caused e replay is grew =
     traced_on openings s after part left worker made traced (e ∙ sym (stays s)) (ap (λ (x : State). x.opening.tenant) e)
-    (made_of s made (subst IsReplay e replay))
+    (made_of s made (subst IsReplay e replay)) caused
     (grew ∙ ap (λ (ds : List Done). grown part ds) (told_call s after made n worker part.number e is))
 
 -- a book after a command
@@ -263,7 +265,7 @@ pub traced_command : (openings : List Opening) (s after : State) (part left : Pa
     → left ≡ grown part (told_of r worker part.number after.records) → IsTraced openings after left
 traced_command openings s after part left worker r c now traced governed replay grew =
     traced_on openings s after part left worker (made_by r s c now) traced (governed_leaves r c s after now governed)
-    (governed_tenant r c s after now governed) (governed_made r c s after now governed replay)
+    (governed_tenant r c s after now governed) (governed_made r c s after now governed replay) (governed_cause r s c now)
     (grew ∙ ap (λ (ds : List Done). grown part ds) (governed_told r c s after now worker part.number governed))
 
 -- the steps of a part after a call, and of a share
@@ -284,7 +286,7 @@ pub traced_first : (openings : List Opening) (o : Opening) (part : PartView) →
 traced_first openings o part e at =
     record {
       number = ap (λ (p : PartView). p.number) e;
-      led = record { first = o; opens = at; history = rw e (laws.begins o) };
+      led = record { first = o; opens = at; history = rw e (laws.begins o); causes = rw e tt };
     }
 
 -- ---- openings
@@ -306,57 +308,5 @@ opening_at setups start i t at =
     ∙ (ap (λ (n : ℕ). option_map (λ x. opening_of n x start) (slice_get setups i)) zero_more
     ∙ ap (λ o. option_map (λ x. opening_of i x start) o) at)
 
--- ---- all books, and all shares
-
-pub traced_push : (openings : List Opening) (books : List (State × ℕ)) (parts : List PartView) (b : State × ℕ) (p : PartView)
-    → AreTraced openings books parts → IsTraced openings b.0 p → AreTraced openings (books ++ b ∷ []) (parts ++ p ∷ [])
-traced_push openings [] [] b p all one = (one, tt)
-traced_push openings [] (q ∷ qs) b p all one = absurd all
-traced_push openings (c ∷ cs) [] b p all one = absurd all
-traced_push openings (c ∷ cs) (q ∷ qs) b p all one = (all.0, traced_push openings cs qs b p all.1 one)
-
-of_books : (openings : List Opening) (log : List Done) (books : List (State × ℕ)) (parts : List PartView) → AreTraced openings books parts
-    → All (λ p. of_tenant p.number log ≡ p.steps) parts → All (λ b. IsLedTo openings b.0 (of_tenant b.0.opening.tenant log)) books
-of_books openings log [] parts traced own = All-nil _
-of_books openings log (b ∷ bs) [] traced own = absurd traced
-of_books openings log (b ∷ bs) (p ∷ ps) traced own =
-    All-cons (λ x. IsLedTo openings x.0 (of_tenant x.0.opening.tenant log)) b bs
-    (subst (λ (x : List Done). IsLedTo openings b.0 x)
-    (sym (All-head (λ x. of_tenant x.number log ≡ x.steps) p ps own) ∙ ap (λ (n : ℕ). of_tenant n log) traced.0.number) traced.0.led)
-    (of_books openings log bs ps traced.1 (All-tail (λ x. of_tenant x.number log ≡ x.steps) p ps own))
-
-of_shares : (log : List Done) (shares : List ShareView) → All (λ p. of_worker p.number log ≡ p.steps) (map part_of shares)
-    → All (λ s. of_worker s.worker log ≡ s.steps) shares
-of_shares log [] own = All-nil _
-of_shares log (s ∷ ss) own =
-    All-cons (λ x. of_worker x.worker log ≡ x.steps) s ss (All-head (λ p. of_worker p.number log ≡ p.steps) (part_of s) (map part_of ss) own)
-    (of_shares log ss (All-tail (λ p. of_worker p.number log ≡ p.steps) (part_of s) (map part_of ss) own))
-
-books_by : (tenant : ℕ) (openings : List Opening) (books : List (State × ℕ)) (parts : List PartView) → AreTraced openings books parts
-    → books_of tenant books ≡ parts_numbered tenant parts
-books_by tenant openings [] [] traced = refl
-books_by tenant openings [] (p ∷ ps) traced = absurd traced
-books_by tenant openings (b ∷ bs) [] traced = absurd traced
-books_by tenant openings (b ∷ bs) (p ∷ ps) traced =
-    let own : ℕ = cond (b.0.opening.tenant == tenant) 1 0 in
-    let its : ℕ = cond (p.number == tenant) 1 0 in
-    let here : its ≡ own = ap (λ (n : ℕ). cond (n == tenant) 1 0) traced.0.number in
-    omega (
-      arith,
-      here,
-      sum_by-cons (λ (x : State × ℕ). cond (x.0.opening.tenant == tenant) 1 0) b bs,
-      sum_by-cons (λ (x : PartView). cond (x.number == tenant) 1 0) p ps,
-      books_by tenant openings bs ps traced.1,
-    )
-
-pub list_of : (size : Size) (openings : List Opening) (books : List (State × ℕ)) (shares : List ShareView) (parts : List PartView)
-    → AreTraced openings books parts → HaveOneList size parts (map part_of shares) → HaveListOf size openings books shares
-list_of size openings books shares parts traced (log, one) = (
-  log,
-  record {
-    tenants = of_books openings log books parts traced one.tenants;
-    workers = of_shares log shares one.workers;
-    others = one.others;
-    once = λ n. subst (λ (m : ℕ). m ≤ 1) (sym (books_by n openings books parts traced)) (one.once n);
-  },
-)
+pub openings_many : (setups : List TenantTerms) (start : ℕ) → length (openings_of setups start) ≡ length setups
+openings_many setups start = length-map (enumerate_from 0 setups) _ ∙ length-enumerate_from 0 setups

@@ -1,7 +1,7 @@
 -- What the one list says of a tenant's book, and of all books and shares in the end.
-use Rattle.std.specs.Prelude.{ℕ, ◌≡◌, ◌==◌, ◌<◌, ◌≤◌, count_by, List, [], ◌∷◌, map, Option, Some, None, All, slice_get}
+use Rattle.std.specs.Prelude.{ℕ, ◌≡◌, ◌<◌, ◌+◌, List, [], ◌∷◌, map, Option, Some, None, All, slice_get, slice_index_or}
 use Rattle.std.specs.List.{enumerate_from}
-use Rattle.tenant_core.specs.State.{State, opening_of}
+use Rattle.tenant_core.specs.State.{State, opened, opening_of}
 use Rattle.tenant_core.specs.declared.journal.Record.{Record}
 use Rattle.tenant_core.specs.declared.opening.Opening.{Opening}
 use Rattle.tenant_core.specs.declared.terms.TenantTerms.{TenantTerms}
@@ -9,6 +9,8 @@ use Rattle.one_list.specs.History.{IsHistory, after_record}
 use Rattle.one_list.specs.Steps.{PartView, done_by, of_tenant, of_worker}
 use Rattle.one_list.specs.declared.step.Done.{Done}
 use Rattle.one_list.specs.declared.step.Size.{Size}
+use Rattle.floor_core.specs.Causes.{AreRun, Entered, HasCause}
+use Rattle.floor_core.specs.World.{no_book}
 use Rattle.books_shared.specs.Shares.{ShareView, raised, with_steps}
 use Rattle.books_shared.specs.declared.rise.Rise.{Rise}
 
@@ -29,12 +31,19 @@ after_made s (Some r) = after_record s r
 abbrev pub openings_of : List TenantTerms → (start : ℕ) → List Opening
 openings_of setups start = map (λ t. opening_of t.0 t.1 start) (enumerate_from 0 setups)
 
+-- something made each of the records in the book, as the steps before it left it: a packet, what came back, a moment, or a
+-- command
+abbrev pub HaveCauses : State → List Done → Type 0
+HaveCauses s [] = Unit {0}
+HaveCauses s (e ∷ es) = HasCause s e.made × HaveCauses (after_record s e.made) es
+
 -- the tenant's steps, over all its periods, each with the outcome of the replay, lead from the tenant's first opening to
 -- the state
 pub record IsLedTo (openings : List Opening) (s : State) (steps : List Done) : Type 0 where
   pub first : Opening
   pub opens : slice_get openings s.opening.tenant ≡ Some first
   pub history : IsHistory first steps s
+  pub causes : HaveCauses (opened first) steps
 
 -- so do those of the part of the list that lies beside the book
 pub record IsTraced (openings : List Opening) (s : State) (part : PartView) : Type 0 where
@@ -43,18 +52,29 @@ pub record IsTraced (openings : List Opening) (s : State) (part : PartView) : Ty
 
 -- ---- the one list
 
--- how many of the books are that tenant's
-abbrev pub books_of : ℕ → List (State × ℕ) → ℕ
-books_of tenant books = count_by (λ b. b.0.opening.tenant == tenant) books
+-- the books are those of the tenants from that number on, in the order of their numbers
+abbrev pub AreInOrder : ℕ → List (State × ℕ) → Type 0
+AreInOrder tenant [] = Unit {0}
+AreInOrder tenant (b ∷ bs) = (b.0.opening.tenant ≡ tenant) × AreInOrder (tenant + 1) bs
+
+-- the book of each tenant, by its number
+abbrev pub book_among : List (State × ℕ) → ℕ → State
+book_among books tenant = (slice_index_or books tenant (no_book, 0)).0
+
+-- the step's record, in its tenant's book
+abbrev pub entry_of : Done → Entered
+entry_of e = record { tenant = e.tenant; made = e.made }
 
 -- It is the list of all that was done: of each tenant it has what led to the tenant's book, in the order of its journals, with
--- the outcomes of the replay; of each worker what its share knows that it did, in its order; and nothing else. No tenant has
--- two of the books
+-- the outcomes of the replay; of each worker what its share knows that it did, in its order; and nothing else. The books are
+-- those of all tenants, in order. And the list is a run: there are steps of a floor that, from the openings on, make just its
+-- records, in its order, and leave these books
 pub record IsListOf (size : Size) (openings : List Opening) (books : List (State × ℕ)) (shares : List ShareView) (log : List Done) : Type 0 where
   pub tenants : All (λ b. IsLedTo openings b.0 (of_tenant b.0.opening.tenant log)) books
   pub workers : All (λ s. of_worker s.worker log ≡ s.steps) shares
   pub others : All (λ e. (e.tenant < size.tenants) × (e.worker < size.workers)) log
-  pub once : (tenant : ℕ) → books_of tenant books ≤ 1
+  pub in_order : AreInOrder 0 books
+  pub run : AreRun openings (map entry_of log) (book_among books)
 
 -- there is one
 abbrev pub HaveListOf : Size → List Opening → List (State × ℕ) → List ShareView → Type 0

@@ -41,7 +41,7 @@ impl<J: Run> Model for Books<J> {
 
     ghost view = { λ b. record { tenants = vec_len b.locks; workers = b.workers } };
 
-    ghost invariant = { λ b. AreFew J.size (vec_len b.locks) b.workers };
+    ghost invariant = { λ b. AreFew J.size J.openings (vec_len b.locks) b.workers };
 }
 
 impl<J: Run> Books<J> {

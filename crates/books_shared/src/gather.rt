@@ -1,6 +1,7 @@
 //! Books and shares, compared once all is done.
 
 ghost use Rattle.std.specs.Prelude.{◌≡◌, ◌<◌, ◌≤◌, [], ◌++◌, length, map, vec_len, IfOk, IfErr};
+ghost use Rattle.std.specs.List.Sorted.{IsNonDecreasingBy, IsPermutation};
 ghost use Rattle.tenant_core.specs.Limits.{max_tenants};
 ghost use Rattle.books_shared.specs.Gathers.{agree, are_all_there, each_has_one, max_workers, shares_of, total_at};
 ghost use Rattle.books_shared.specs.Traced.{AreTraced, part_of};
@@ -8,6 +9,7 @@ ghost use Rattle.books_shared.specs.Traced.{AreTraced, part_of};
 use crate::books::Books;
 use crate::kept::Kept;
 use crate::share::Share;
+use floor_core::laws::records_are_a_run;
 use one_list::{Chronicle, Gathering, Run};
 use std::alloc::Global;
 use std::sync::Mutex;
@@ -31,12 +33,14 @@ impl<J: Run> Books<J> {
     ghost use Rattle.books_shared.specs.Traced.{HaveListOf};
     ghost use Rattle.books_shared.specs.Faults.{IsFault};
 
-    /// Opens all locks, and gives each book with its number: how many entries were appended to it since `Books::new`,
-    /// which is the sum of what the shares count for its tenant.
+    /// Opens all locks, and gives the book of each tenant, in the order of their numbers, with its own number: how many entries
+    /// were appended to it since `Books::new`, which is the sum of what the shares count for its tenant.
     ///
     /// There is one list of all that was done, whatever the threads did: of each tenant it has what led to its book from the
     /// opening of the tenant's setup, over all its periods, in the order of its journals and with the outcomes of the replay; of
-    /// each worker what it did, in its order; and nothing else.
+    /// each worker what it did, in its order; and nothing else. And the list is a run of a `Floor`: there are steps that, from
+    /// those openings on, make just its records, in its order, and leave these books. So what the threads did to the books is
+    /// what some list of steps does, of which `Floor::run` says that each tenant's part of it is the tenant's own.
     ///
     /// The errors are, in the order in which they are looked for, with all handed back: `Missing` exactly where the
     /// shares' numbers are not those below the number of workers, each once, in any order; `Memory`; and `Differs`
@@ -58,7 +62,7 @@ impl<J: Run> Books<J> {
             locks,
             workers,
         } = self;
-        let (gathered, mut parts) = match open_all(&chronicle, alloc, locks) {
+        let (mut gathered, mut parts) = match open_all(&chronicle, alloc, locks) {
             Ok(opened) => opened,
             Err(locks) => {
                 let books = Books {
@@ -69,11 +73,13 @@ impl<J: Run> Books<J> {
                 return Err(GatherFault::Memory(books, shares));
             }
         };
+        sort(&mut gathered);
         if !agree(gathered.as_slice(), shares.as_slice()) {
             return Err(GatherFault::Differs(gathered, shares));
         }
         add_all(&chronicle, &mut parts, shares);
         parts.close(&chronicle);
+        records_are_a_run();
         Ok(gathered)
     }
 }
@@ -154,6 +160,21 @@ fn open_all<J: Run>(
         parts.add_tenant(chronicle, part);
     }
     Ok((books, parts))
+}
+
+// Puts the books into the order of their tenants' numbers.
+fn sort(books: &mut Vec<(Book, u64)>)
+    ensures moved { IsPermutation books.old.items books.new.items }
+    ensures sorted { IsNonDecreasingBy (λ b. b.0.opening.tenant) books.new.items }
+    ensures many { vec_len books.new ≡ vec_len books.old }
+{
+    books.sort_unstable_by_key(tenant_of);
+}
+
+fn tenant_of(book: &(Book, u64)) -> usize
+    ensures { result ≡ book.now.0.opening.tenant }
+{
+    book.0.tenant()
 }
 
 // Adds the workers' parts of the one list.

@@ -124,6 +124,7 @@ impl<J: Run> Kept<J> {
         ensures rise { result.1 ≡ rise_of (decide_call slot.old self.old.state now) }
         ensures number { number_of self.new ≡ number_of self.old + result.1.entries }
     {
+        slot.is_work();
         let (turn, rise) = decide_in(&mut self.book, slot, now);
         book_is_sound(&self.book);
         trace(chronicle, &mut self.part, share, &self.book, rise.entries);

@@ -5,6 +5,9 @@ ghost use Rattle.tenant_core.specs.Sound.{IsSound};
 ghost use Rattle.books_shared.specs.Gathers.{are_all_there, shares_of};
 ghost use Rattle.books_shared.specs.Shares.{ShareView, fresh_shares, raised};
 ghost use Rattle.books_shared.specs.declared.rise.Rise.{Rise};
+ghost use Rattle.books_shared.specs.Traced.{after_made};
+ghost use Rattle.floor_core.specs.Causes.{made_alone};
+ghost use Rattle.floor_core.specs.World.{Event, Tenant, after_alone};
 ghost use denote.Param.Send.{IsSync};
 ghost use Rattle.books_shared.specs.contracts.books.Books as Books;
 
@@ -28,6 +31,12 @@ pub fn all_there()
 pub fn fresh_shares_are_all_there()
     ensures fresh { (workers : ℕ) → IsTrue (are_all_there workers (fresh_shares workers)) }
     ensures same { (rise : Rise) (tenant : ℕ) (share : ShareView) → (raised rise tenant share).worker ≡ share.worker }
+{}
+
+/// The record that an event makes is what the book of the one-tenant connector grows by: after a roll's, the next period
+/// begins.
+pub fn events_make_records()
+    ensures { (s : Tenant) (event : Event) → (after_alone s event).book ≡ after_made s.book (made_alone s event) }
 {}
 
 /// Threads may share books. Call it ahead of a call that hands them to threads: what that call requires is proved by it.

@@ -2,7 +2,7 @@ use Rattle.std.proofs.Common.{ℕ, ◌∷◌, ◌++◌, [], length-append, rules
 use Rattle.tenant_core.specs.State.{State}
 use Rattle.one_list.specs.Parts.{GatheringView}
 use Rattle.books_shared.specs.Traced.{AreTraced, IsTraced}
-use Rattle.books_shared.proofs.Tracing.{traced_push}
+use Rattle.books_shared.proofs.Gathering.{traced_push}
 use Rattle.books_shared.proofs.gather.open_all.Goals as goal
 
 pub loop-lock-preserved : goal.loop-lock-preserved

@@ -8,6 +8,7 @@ use Rattle.books_shared.specs.Shares.{with_steps}
 use Rattle.books_shared.specs.Tracing.{told_by}
 use Rattle.books_shared.specs.declared.rise.Rise.{Rise}
 use Rattle.books_shared.proofs.Entries.{entries_told}
+use Rattle.books_shared.proofs.Causes.{answer_cause}
 use Rattle.books_shared.proofs.Tracing.{answer_stays, share_told, steps_told, told_call, traced_call}
 use Rattle.books_shared.proofs.kept.Kept.answer.Goals as goal
 use Rattle.books_shared.proofs.kept.Kept.answer.Given.{Over}
@@ -29,7 +30,8 @@ pub invariant_of-self : goal.invariant_of-self
 invariant_of-self g c = (
   subst (λ (o : Opening). c.self.inside.closed ≤ most_entries o.period) (sym c.answer_in-turn.ensures.opening) c.self.invariant.0,
   traced_call g.J.Run.openings c.self.inside.book c.answer_in-turn.new.book c.self.inside.part c.trace.new.part c.args.share.now.worker (call g c).made
-      c.answer_in-turn.result.1.entries c.self.invariant.1 (answer_stays c.args.slot.now c.self.inside.book c.args.now c.args.got) c.answer_in-turn.ensures.book
+      c.answer_in-turn.result.1.entries c.self.invariant.1 (answer_stays c.args.slot.now c.self.inside.book c.args.now c.args.got)
+      (answer_cause c.args.slot.now c.self.inside.book c.args.now c.args.got) c.answer_in-turn.ensures.book
       c.book_is_sound.ensures.replay (many g c) c.trace.ensures.part,
 )
 

@@ -6,6 +6,7 @@ use Rattle.books_shared.specs.Kept.{Kept, most_entries}
 use Rattle.books_shared.specs.Rises.{entries_of}
 use Rattle.books_shared.specs.Shares.{with_steps}
 use Rattle.books_shared.specs.Tracing.{told_by}
+use Rattle.books_shared.proofs.Causes.{tick_cause}
 use Rattle.books_shared.proofs.Tracing.{share_told, steps_told, tick_entries, tick_stays, told_call, traced_call}
 use Rattle.books_shared.proofs.kept.Kept.tick.Goals as goal
 use Rattle.books_shared.proofs.kept.Kept.tick.Given.{Over}
@@ -25,7 +26,8 @@ pub invariant_of-self : goal.invariant_of-self
 invariant_of-self g c = (
   subst (λ (o : Opening). c.self.inside.closed ≤ most_entries o.period) (sym c.tick_in-count.ensures.opening) c.self.invariant.0,
   traced_call g.J.Run.openings c.self.inside.book c.tick_in-count.new.book c.self.inside.part c.trace.new.part c.args.share.now.worker (tick_made c.self.inside.book c.args.now)
-      c.tick_in-count.result.1.entries c.self.invariant.1 (tick_stays c.self.inside.book c.args.now) c.tick_in-count.ensures.book
+      c.tick_in-count.result.1.entries c.self.invariant.1 (tick_stays c.self.inside.book c.args.now)
+      (tick_cause c.self.inside.book c.args.now) c.tick_in-count.ensures.book
       c.book_is_sound.ensures.replay (many g c) c.trace.ensures.part,
 )
 
