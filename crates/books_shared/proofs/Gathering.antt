@@ -1,7 +1,7 @@
 -- What is gathered: the books of all tenants in order, and of all that was done one list, which is a run of a floor.
 use Rattle.std.proofs.Common.{◌≡◌, ◌≢◌, ◌==◌, ◌≤◌, ◌<◌, ℕ, ◌+◌, cond, zero, suc, Bool, true, false, ltb, List, [], ◌∷◌, ◌++◌, length, map, get_or, refl, inl, inr, sym, ap, subst, ◌∙◌}
 use Rattle.std.proofs.Common.{arith}
-use Rattle.std.specs.Prelude.{Option, Some, None, Result, Ok, Err, All, slice_get, count_by}
+use Rattle.std.specs.Prelude.{Option, Some, None, Result, Ok, Err, All, slice_get, count_by, option_map}
 use Rattle.std.specs.List.Sorted.{IsNonDecreasingBy, IsPermutation}
 use Rattle.std.proofs.Math.ListN.{get_or-eq_default}
 use Rattle.std.proofs.lemmas.Bool.{eq-eqb, ltb-false, ltb-true, ne_eqb}
@@ -14,14 +14,16 @@ use Rattle.tenant_core.specs.Holds.{open_hold}
 use Rattle.tenant_core.specs.Judge.{judge}
 use Rattle.tenant_core.specs.Network.{peer_with_token}
 use Rattle.tenant_core.specs.Present.{network_of}
-use Rattle.tenant_core.specs.State.{State, opened, recorded}
+use Rattle.tenant_core.specs.State.{State, opened, opening_of, recorded}
 use Rattle.tenant_core.specs.declared.journal.Entry.{Entry}
 use Rattle.tenant_core.specs.declared.journal.Entry.TheVariants.{Decide, Answer, Tick, Change, Roll}
 use Rattle.tenant_core.specs.declared.journal.Record.{Record}
 use Rattle.tenant_core.specs.declared.opening.Opening.{Opening}
-use Rattle.floor_core.specs.Causes.{AreCaused, ArePlaced, AreRun, Cause, Entered, book_opened, left_from, made_alone, made_by_answer, made_by_decide, made_from, packet_made}
+use Rattle.tenant_core.specs.declared.terms.TenantTerms.{TenantTerms}
+use Rattle.floor_core.specs.Causes.{AreCaused, ArePlaced, AreRun, Cause, Entered, book_opened, left_from, made_alone, made_by_answer, made_by_decide, made_from, packet_made, world_opened}
 use Rattle.ilp_view.specs.Packet.{Prepare}
-use Rattle.floor_core.specs.World.{Event, Stage, Tenant, after_alone, answer_after, arrival, arrive_after, decide_after, key_in, no_book, put}
+use Rattle.floor_core.specs.World.{Event, Stage, Tenant, after_alone, all_free, answer_after, arrival, arrive_after, decide_after, key_in, new_tenant, no_book, put}
+use Rattle.floor_core.specs.World.{tenant_at_start, world_at_start}
 use Rattle.floor_core.specs.declared.step.Given.{Given}
 use Rattle.floor_core.specs.declared.step.Malformed.{Malformed}
 use Rattle.one_list.specs.History.{LeadTo, after_entry, after_record}
@@ -29,8 +31,8 @@ use Rattle.one_list.specs.Steps.{HaveOneList, PartView, of_tenant, of_worker, pa
 use Rattle.one_list.specs.declared.step.Done.{Done}
 use Rattle.one_list.specs.declared.step.Size.{Size}
 use Rattle.books_shared.specs.Shares.{ShareView}
-use Rattle.books_shared.specs.Traced.{AreInOrder, AreTraced, HaveCauses, HaveListOf, IsLedTo, IsTraced, after_made, book_among, entry_of, part_of}
-use Rattle.books_shared.proofs.Tracing.{command_leaves, held_stays, record_stays, tick_stays}
+use Rattle.books_shared.specs.Traced.{AreInOrder, AreTraced, HaveCauses, HaveListOf, IsLedTo, IsTraced, after_made, book_among, entry_of, openings_of, part_of}
+use Rattle.books_shared.proofs.Tracing.{command_leaves, held_stays, opening_from, record_stays, tick_stays}
 
 -- ---- parts of the list and the books that they lie beside
 
@@ -342,3 +344,17 @@ events_make s (Event.Decides call now) = event_decides s call now (s.calls call)
 events_make s (Event.Answers call now given) = event_answers s call now given (s.calls call)
 events_make s (Event.Ticks now) = sym (tick_stays s.book now s.book)
 events_make s (Event.Governs now command) = command_leaves s.book command now
+
+-- ---- the world of the openings is that of the setups
+
+opens_so : (start t : ℕ) (o : Option TenantTerms) → new_tenant (book_opened (option_map (λ x. opening_of (0 + t) x start) o)) ≡ tenant_at_start start t o
+opens_so start t None = refl
+opens_so start t (Some terms) =
+    let same : 0 + t ≡ t = omega arith in
+    ap (λ n. new_tenant (opened (opening_of n terms start))) same
+
+pub begins_so : (setups : List TenantTerms) (start : ℕ) → world_opened (openings_of setups start) ≡ world_at_start setups start
+begins_so setups start =
+    let each : (t : ℕ) → new_tenant (book_opened (slice_get (openings_of setups start) t)) ≡ tenant_at_start start t (slice_get setups t) =
+    λ t. ap (λ o. new_tenant (book_opened o)) (opening_from (λ p. opening_of p.0 p.1 start) 0 setups t) ∙ opens_so start t (slice_get setups t) in
+    λ i. record { tenants = λ t. each t i; hands = all_free }

@@ -291,7 +291,7 @@ traced_first openings o part e at =
 
 -- ---- openings
 
-opening_from : (f : ℕ × TenantTerms → Opening) (n : ℕ) (xs : List TenantTerms) (i : ℕ)
+pub opening_from : (f : ℕ × TenantTerms → Opening) (n : ℕ) (xs : List TenantTerms) (i : ℕ)
     → slice_get (map f (enumerate_from n xs)) i ≡ option_map (λ t. f (n + i, t)) (slice_get xs i)
 opening_from f n [] i = refl
 opening_from f n (x ∷ xs) zero = rw (add-zero n) refl

@@ -5,9 +5,10 @@ ghost use Rattle.tenant_core.specs.Sound.{IsSound};
 ghost use Rattle.books_shared.specs.Gathers.{are_all_there, shares_of};
 ghost use Rattle.books_shared.specs.Shares.{ShareView, fresh_shares, raised};
 ghost use Rattle.books_shared.specs.declared.rise.Rise.{Rise};
-ghost use Rattle.books_shared.specs.Traced.{after_made};
-ghost use Rattle.floor_core.specs.Causes.{made_alone};
-ghost use Rattle.floor_core.specs.World.{Event, Tenant, after_alone};
+ghost use Rattle.books_shared.specs.Traced.{after_made, openings_of};
+ghost use Rattle.floor_core.specs.Causes.{made_alone, world_opened};
+ghost use Rattle.floor_core.specs.World.{Event, Tenant, after_alone, world_at_start};
+ghost use Rattle.tenant_core.specs.declared.terms.TenantTerms.{TenantTerms};
 ghost use denote.Param.Send.{IsSync};
 ghost use Rattle.books_shared.specs.contracts.books.Books as Books;
 
@@ -37,6 +38,12 @@ pub fn fresh_shares_are_all_there()
 /// begins.
 pub fn events_make_records()
     ensures { (s : Tenant) (event : Event) → (after_alone s event).book ≡ after_made s.book (made_alone s event) }
+{}
+
+/// The openings of the tenants are where a floor of theirs begins.
+pub fn floors_begin_so()
+    ensures { (setups : List TenantTerms) (start : ℕ)
+        → world_opened (openings_of setups start) ≡ world_at_start setups start }
 {}
 
 /// Threads may share books. Call it ahead of a call that hands them to threads: what that call requires is proved by it.
