@@ -2,6 +2,7 @@
 //! that are written.
 #![tactic(auto)]
 
+mod checks;
 mod hexadecimal;
 pub mod laws;
 mod printed;

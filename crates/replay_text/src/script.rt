@@ -16,6 +16,7 @@ ghost use Rattle.replay_text.specs.Script.{IsCheckedAs};
 ghost use Rattle.floor_core.specs.declared.step.Step.{Step};
 ghost use Rattle.replay_text.specs.Words.{two_of, three_of, four_of};
 
+use crate::checks::is_bad;
 use crate::hexadecimal::decode;
 use crate::scans::{is_ascii, place_of};
 use admin_text::parse_command;
@@ -55,7 +56,7 @@ pub enum Meaning<'a> {
 }
 
 /// The first word of a text, and what follows the space after it.
-fn first_word(text: &[u8]) -> (&[u8], Option<&[u8]>)
+pub(crate) fn first_word(text: &[u8]) -> (&[u8], Option<&[u8]>)
     ensures value { words_of text.now ≡ parts words_of result.0.now (option_copied result.1) }
 {
     match place_of(b' ', text) {
@@ -89,7 +90,7 @@ fn two_words(text: &[u8]) -> Option<(&[u8], &[u8])>
 }
 
 /// The words of a text, where they are three.
-fn three_words(text: &[u8]) -> Option<(&[u8], &[u8], &[u8])>
+pub(crate) fn three_words(text: &[u8]) -> Option<(&[u8], &[u8], &[u8])>
     ensures { option_map (λ w. (w.0.now, w.1.now, w.2.now)) result ≡ three_of (words_of text.now) }
 {
     let (first, rest) = first_word(text);
@@ -98,7 +99,7 @@ fn three_words(text: &[u8]) -> Option<(&[u8], &[u8], &[u8])>
 }
 
 /// The words of a text, where they are four.
-fn four_words(text: &[u8]) -> Option<(&[u8], &[u8], &[u8], &[u8])>
+pub(crate) fn four_words(text: &[u8]) -> Option<(&[u8], &[u8], &[u8], &[u8])>
     ensures { option_map (λ w. (w.0.now, w.1.now, w.2.now, w.3.now)) result ≡ four_of (words_of text.now) }
 {
     let (first, rest) = first_word(text);
@@ -107,7 +108,7 @@ fn four_words(text: &[u8]) -> Option<(&[u8], &[u8], &[u8], &[u8])>
 }
 
 /// The number that a word spells, if it does and the number is below the bound.
-fn number_below(bound: u64, word: &[u8]) -> Option<u64>
+pub(crate) fn number_below(bound: u64, word: &[u8]) -> Option<u64>
     ensures { result ≡ number_below bound word.now }
 {
     if !is_numeral(word) {
@@ -132,7 +133,7 @@ fn place_of_name(names: &[Name], word: &[u8]) -> Option<usize>
 }
 
 /// The number of the first tenant of that name.
-fn tenant_named(names: &[Name], word: &[u8]) -> Option<usize>
+pub(crate) fn tenant_named(names: &[Name], word: &[u8]) -> Option<usize>
     ensures { result ≡ tenant_named names.now word.now }
 {
     if word.is_empty() {
@@ -169,7 +170,7 @@ fn frame_of<'a>(word: &[u8], room: &'a mut Vec<u8>) -> Result<Option<Octets<'a>>
 }
 
 /// The moment that a word spells.
-fn moment_spelled(word: &[u8]) -> Option<Moment>
+pub(crate) fn moment_spelled(word: &[u8]) -> Option<Moment>
     ensures { result ≡ moment_spelled word.now }
 {
     Moment::new(number_below(Moment::MAX_MILLIS + 1, word)?)
@@ -221,7 +222,7 @@ fn load_of<'a>(
 }
 
 /// The step that the words behind `decide` spell: W NOW.
-fn decide_of(workers: usize, words: &[u8]) -> Option<Step<'static>>
+pub(crate) fn decide_of(workers: usize, words: &[u8]) -> Option<Step<'static>>
     ensures { result ≡ option_and_then (decide_of workers) (two_of (words_of words.now)) }
 {
     let (worker, now) = two_words(words)?;
@@ -261,7 +262,7 @@ fn answer_of<'a>(
 }
 
 /// The step that the words behind `tick` spell: TENANT NOW.
-fn tick_of(names: &[Name], words: &[u8]) -> Option<Step<'static>>
+pub(crate) fn tick_of(names: &[Name], words: &[u8]) -> Option<Step<'static>>
     ensures { result ≡ option_and_then (tick_of names.now) (two_of (words_of words.now)) }
 {
     let (tenant, now) = two_words(words)?;
@@ -282,7 +283,7 @@ fn command_in(alloc: Global, text: &[u8]) -> Result<Option<Command>, AllocError>
 }
 
 /// The step that the words behind `do` spell: TENANT NOW, and those of a command.
-fn govern_of(
+pub(crate) fn govern_of(
     alloc: Global,
     names: &[Name],
     words: &[u8],
@@ -355,7 +356,7 @@ fn step_of<'a>(
     }
 }
 
-fn is_skipped(line: &[u8]) -> bool
+pub(crate) fn is_skipped(line: &[u8]) -> bool
     ensures { result ≡ is_skipped line.now }
 {
     match line {
@@ -398,15 +399,12 @@ fn check_lines(
     requires { length text.now ≤ MOST_BYTES }
     ensures { IsCheckedAs result (steps_from names.now workers 1 (lines_of text.now)) }
 {
-    let mut room = Vec::new(alloc);
     let mut rest = text;
     let mut number: usize = 1;
     while !rest.is_empty() {
         let (line, after) = first_line(rest);
-        match meaning_of(alloc, names, workers, line, &mut room)? {
-            Meaning::Skipped => {}
-            Meaning::Runs(_) => {}
-            Meaning::Bad => return Err(ReadError::Fault(ScriptFault::Line(number))),
+        if is_bad(alloc, names, workers, line)? {
+            return Err(ReadError::Fault(ScriptFault::Line(number)));
         }
         rest = after;
         number += 1;
