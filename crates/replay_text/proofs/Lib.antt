@@ -9,3 +9,4 @@ pub mod Composition
 pub mod OneText
 pub mod Places
 pub mod Decoding
+mod Values

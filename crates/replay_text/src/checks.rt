@@ -6,10 +6,11 @@ ghost use Rattle.replay_text.specs.Script.{frame_of, given_of, load_of, answer_o
 ghost use Rattle.replay_text.specs.Words.{three_of, four_of};
 
 use crate::hexadecimal::spells_bytes;
+use crate::numbers::number_below;
 use crate::scans::is_ascii;
 use crate::script::{
     MOST_LINE, decide_of, first_word, four_words, govern_of, is_skipped, moment_spelled,
-    number_below, tenant_named, three_words, tick_of,
+    tenant_named, three_words, tick_of,
 };
 use common_types::{Name, is_token};
 use std::alloc::{AllocError, Global};

@@ -5,6 +5,7 @@
 mod checks;
 mod hexadecimal;
 pub mod laws;
+mod numbers;
 mod printed;
 mod replays;
 mod scans;

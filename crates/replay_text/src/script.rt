@@ -5,7 +5,7 @@ ghost use Rattle.std.specs.Prelude.{option_map, option_and_then, min, nat_lt, If
 ghost use Rattle.std.specs.List.{position};
 ghost use Rattle.std.specs.Result.{result_ok};
 ghost use Rattle.std.specs.Str.{bytes_eq};
-ghost use Rattle.replay_text.specs.Script.{lines_of, number_below};
+ghost use Rattle.replay_text.specs.Script.{lines_of};
 ghost use Rattle.common_types.specs.Words.{words_of, parts};
 ghost use Rattle.replay_text.specs.Script.{tenant_named, token_of, frame_of, load_of, decide_of, answer_of, tick_of};
 ghost use Rattle.replay_text.specs.Script.{govern_of};
@@ -18,9 +18,10 @@ ghost use Rattle.replay_text.specs.Words.{two_of, three_of, four_of};
 
 use crate::checks::is_bad;
 use crate::hexadecimal::decode;
+use crate::numbers::number_below;
 use crate::scans::{is_ascii, place_of};
 use admin_text::parse_command;
-use common_types::{Boxed, Name, ReadError, is_numeral, is_token, value_of};
+use common_types::{Boxed, Name, ReadError, is_token};
 use floor_core::{Given, Octets, Step};
 use ilp_addr::Moment;
 use std::alloc::{AllocError, Global};
@@ -105,19 +106,6 @@ pub(crate) fn four_words(text: &[u8]) -> Option<(&[u8], &[u8], &[u8], &[u8])>
     let (first, rest) = first_word(text);
     let (second, third, fourth) = three_words(rest?)?;
     Some((first, second, third, fourth))
-}
-
-/// The number that a word spells, if it does and the number is below the bound.
-pub(crate) fn number_below(bound: u64, word: &[u8]) -> Option<u64>
-    ensures { result ≡ number_below bound word.now }
-{
-    if !is_numeral(word) {
-        return None;
-    }
-    match u64::try_from(value_of(word)) {
-        Ok(value) if value < bound => Some(value),
-        _ => None,
-    }
 }
 
 fn is_name(name: &Name, word: &[u8]) -> bool
