@@ -9,4 +9,5 @@ pub mod Composition
 pub mod OneText
 pub mod Places
 pub mod Decoding
-mod Values
+pub mod Values
+pub mod LastWords

@@ -1,5 +1,5 @@
 -- Values of digits.
-use Rattle.std.proofs.Common.{arith, sym, refl, ◌∙◌, ◌≡◌, ◌+◌, ◌-◌, ◌*◌, ◌^◌, ◌&&◌, ◌==◌, ◌<◌, ◌≤◌, ℕ, suc, List, [], ◌∷◌, true, not, length, fold}
+use Rattle.std.proofs.Common.{arith, sym, refl, ◌≡◌, ◌+◌, ◌-◌, ◌*◌, ◌^◌, ◌==◌, ◌<◌, ◌≤◌, ℕ, suc, List, [], ◌∷◌, true, not, length, fold}
 use Rattle.std.specs.List.{list_all}
 use Rattle.std.proofs.Math.Nat.{mul-le-mul_right, mul_assoc, pow-succ', pow-le-pow_right}
 use Rattle.std.proofs.lemmas.Bool.{and_parts}
@@ -21,7 +21,7 @@ below n (d ∷ digits) h =
     omega (arith, rest, wider, whole)
 
 -- a numeral has digits only
-are_digits : (word : List ℕ) → is_numeral word ≡ true → list_all is_digit word ≡ true
+pub are_digits : (word : List ℕ) → is_numeral word ≡ true → list_all is_digit word ≡ true
 are_digits [] h = absurd cc
 are_digits (digit ∷ []) h = rw h refl
 are_digits (first ∷ next ∷ others) h = (and_parts (not (first == 48)) (list_all is_digit (first ∷ next ∷ others)) h).1

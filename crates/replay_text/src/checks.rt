@@ -9,8 +9,8 @@ use crate::hexadecimal::spells_bytes;
 use crate::numbers::number_below;
 use crate::scans::is_ascii;
 use crate::script::{
-    MOST_LINE, decide_of, first_word, four_words, govern_of, is_skipped, moment_spelled,
-    tenant_named, three_words, tick_of,
+    MOST_LINE, decide_of, first_word, govern_of, is_skipped, moment_spelled, tenant_named,
+    three_words, tick_of, two_words,
 };
 use common_types::{Name, is_token};
 use std::alloc::{AllocError, Global};
@@ -27,29 +27,50 @@ fn is_given(word: &[u8]) -> bool
     word == b"fault".as_slice() || is_frame(word)
 }
 
-/// Whether the words behind `load` spell a step.
-fn is_load(names: &[Name], workers: usize, words: &[u8]) -> bool
-    ensures { result ≡ is_some (option_and_then (load_of names.now workers) (four_of (words_of words.now))) }
+fn is_load_spelled(
+    names: &[Name],
+    workers: usize,
+    worker: &[u8],
+    tenant: &[u8],
+    token: &[u8],
+    frame: &[u8],
+) -> bool
+    ensures { result ≡ is_some (load_of names.now workers (worker.now, tenant.now, token.now, frame.now)) }
 {
-    let Some((worker, tenant, token, frame)) = four_words(words) else {
-        return false;
-    };
     number_below(workers as u64, worker).is_some()
         && tenant_named(names, tenant).is_some()
         && is_token(token)
         && is_frame(frame)
 }
 
+/// Whether the words behind `load` spell a step.
+fn is_load(names: &[Name], workers: usize, words: &[u8]) -> bool
+    ensures { result ≡ is_some (option_and_then (load_of names.now workers) (four_of (words_of words.now))) }
+{
+    match three_words(words) {
+        Some((worker, tenant, token, frame)) => {
+            is_load_spelled(names, workers, worker, tenant, token, frame)
+        }
+        None => false,
+    }
+}
+
+fn is_answer_spelled(workers: usize, worker: &[u8], now: &[u8], given: &[u8]) -> bool
+    ensures { result ≡ is_some (answer_of workers (worker.now, now.now, given.now)) }
+{
+    number_below(workers as u64, worker).is_some()
+        && moment_spelled(now).is_some()
+        && is_given(given)
+}
+
 /// Whether the words behind `answer` spell a step.
 fn is_answer(workers: usize, words: &[u8]) -> bool
     ensures { result ≡ is_some (option_and_then (answer_of workers) (three_of (words_of words.now))) }
 {
-    let Some((worker, now, given)) = three_words(words) else {
-        return false;
-    };
-    number_below(workers as u64, worker).is_some()
-        && moment_spelled(now).is_some()
-        && is_given(given)
+    match two_words(words) {
+        Some((worker, now, given)) => is_answer_spelled(workers, worker, now, given),
+        None => false,
+    }
 }
 
 /// Whether a verb and the words behind it spell a step.
