@@ -7,7 +7,7 @@ ghost use Rattle.hex.specs.Hex.{decode_pairs, decode_of, encode_lower, hex_digit
 
 use std::alloc::AllocError;
 
-// How far a byte is past the nearest digits in either case that it could be: 0 of a digit.
+// 0 of a digit in either case, and more of any other byte.
 fn past_digits(byte: u8) -> u8
     ensures { (result == 0) ≡ is_hex_digit byte }
 {
@@ -35,6 +35,7 @@ pub(crate) fn spells_bytes(text: &[u8]) -> bool
     text.len() % 2 == 0 && are_digits(text)
 }
 
+// The value of a digit: the low four bits of `0` to `9`, and 9 more than those of a letter.
 fn value_of(digit: u16) -> u16
     requires { IsTrue (is_hex_digit digit) }
     ensures value { hex_digit_value digit ≡ Some result }
@@ -43,7 +44,7 @@ fn value_of(digit: u16) -> u16
     digit % 16 + digit / 64 * 9
 }
 
-// The byte of two digits, which are looked at as one number: so many pairs are read at a time.
+// The byte of two digits, which are read as one number of 16 bits: so the compiler reads many pairs at a time.
 fn byte_of(pair: [u8; 2]) -> u8
     requires high { IsTrue (is_hex_digit (slice_index pair 0)) }
     requires low { IsTrue (is_hex_digit (slice_index pair 1)) }
