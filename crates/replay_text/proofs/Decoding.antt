@@ -1,50 +1,49 @@
--- Steps of decoding seen without their errors.
-use Rattle.std.proofs.Common.{rules, arith, ap, sym, refl, ◌∙◌, ◌≡◌, ◌+◌, ◌*◌, ◌<◌, ◌≤◌, ◌⊎◌, inl, inr, ℕ, List, length, take, drop, slice_index, slice_set, Result, Ok, Err, Option, Some, None}
+-- Texts that spell bytes, pair by pair.
+use Rattle.std.proofs.Common.{arith, refl, sym, ◌∙◌, ◌≡◌, ◌+◌, ◌*◌, ◌%◌, ◌<◌, ◌≤◌, ℕ, zero, suc, List, [], ◌∷◌, Bool, true, false, is_some, length, slice_index, slice_index_or, Result, Ok, Err, Option, Some, None}
+use Rattle.std.specs.List.{AllPass, list_all}
 use Rattle.std.specs.Result.{result_ok}
-use Rattle.hex.specs.Hex.{decode_pairs, pair_value, hex_digit_value, digit_or_error, ◌>>=◌}
+use Rattle.std.specs.Simd.{first_chunks}
+use Rattle.std.proofs.lemmas.List.Sums.{AllPass-from_list_all, list_all-from_AllPass}
+use Rattle.hex.specs.Hex.{decode_of, is_hex_digit}
 use Rattle.hex.specs.declared.error.FromHexError.{FromHexError}
-use Rattle.hex.proofs.Pairs.{prepend, decode_err, decode_step}
-use Rattle.replay_text.specs.Hexadecimal.{digit_or_255, or_255}
+use Rattle.hex.proofs.HexLemmas.{decode_of-ok, decode_of-digits}
 
--- both digits are read
-both_read : (o p : Option ℕ) (high low i : ℕ) → or_255 o < 16 → or_255 p < 16
-    → (digit_or_error high i o >>= (λ h. digit_or_error low (i + 1) p >>= (λ l. Ok (h * 16 + l)))) ≡ Ok (or_255 o * 16 + or_255 p)
-both_read (Some h) (Some l) high low i a b = refl
-both_read None p high low i a b = absurd (omega arith)
-both_read (Some h) None high low i a b = absurd (omega arith)
+ok_of : (r : Result (List ℕ) FromHexError) → is_some (result_ok r) ≡ true → (bytes : List ℕ) × (r ≡ Ok bytes)
+ok_of (Ok bytes) h = (bytes, refl)
+ok_of (Err e) h = absurd cc
 
--- one of them isn't
-not_read : (o p : Option ℕ) (high low i : ℕ) → (16 ≤ or_255 o) ⊎ (16 ≤ or_255 p) → ((v : ℕ) → o ≡ Some v → v < 16) → ((v : ℕ) → p ≡ Some v → v < 16)
-    → result_ok (digit_or_error high i o >>= (λ h. digit_or_error low (i + 1) p >>= (λ l. Ok (h * 16 + l)))) ≡ None
-not_read None p high low i some small_o small_p = refl
-not_read (Some h) None high low i some small_o small_p = refl
-not_read (Some h) (Some l) high low i (inl big) small_o small_p = absurd (omega (arith, small_o h refl))
-not_read (Some h) (Some l) high low i (inr big) small_o small_p = absurd (omega (arith, small_p l refl))
+-- what spells bytes is digits, and an even number of them
+pub digits_of : (s : List ℕ) → is_some (result_ok (decode_of s)) ≡ true → (length s % 2 ≡ 0) × AllPass is_hex_digit s
+digits_of s h =
+    let found = ok_of (decode_of s) h in
+    let all = decode_of-ok s found.0 found.1 in
+    (all.0, all.1)
 
-pub none_from : (s out : List ℕ) (i : ℕ) (r : Result ℕ FromHexError) → 2 * i + 1 < length s
-    → pair_value (slice_index s (2 * i)) (slice_index s (2 * i + 1)) (2 * i) ≡ r
-    → result_ok r ≡ None
-    → decode_pairs 0 s ≡ prepend (take i out) (decode_pairs (2 * i) (drop (2 * i) s))
-    → result_ok (decode_pairs 0 s) ≡ None
-none_from s out i (Ok v) fits was none h = search rules
-none_from s out i (Err e) fits was none h = ap result_ok (decode_err s out i e fits was h)
+none_unless : (o : Option (List ℕ)) → (is_some o ≡ true → ⊥) → is_some o ≡ false
+none_unless None h = refl
+none_unless (Some bytes) h = absurd (h refl)
 
--- a digit's value is small
-small : (c v : ℕ) → hex_digit_value c ≡ Some v → v < 16
-small c v h = grind (arith)
+-- an even number of digits spells bytes
+pub spells : (s : List ℕ) (b : Bool) → length s % 2 ≡ 0 → b ≡ list_all is_hex_digit s → b ≡ is_some (result_ok (decode_of s))
+spells s true even h =
+    let found = decode_of-digits s even (AllPass-from_list_all is_hex_digit s (sym h)) in
+    rw found.1 refl
+spells s false even h = sym (none_unless (result_ok (decode_of s)) (λ some. absurd (differ (h ∙ list_all-from_AllPass is_hex_digit s (digits_of s some).1))))
+  where
+    differ : false ≡ true → ⊥
+    differ e = cc
 
--- a byte more, where the digits are good
-pub good_step : (s out : List ℕ) (i v : ℕ) → 2 * i + 1 < length s → i < length out
-    → digit_or_255 (slice_index s (2 * i)) < 16 → digit_or_255 (slice_index s (2 * i + 1)) < 16
-    → v ≡ digit_or_255 (slice_index s (2 * i)) * 16 + digit_or_255 (slice_index s (2 * i + 1))
-    → decode_pairs 0 s ≡ prepend (take i out) (decode_pairs (2 * i) (drop (2 * i) s))
-    → decode_pairs 0 s ≡ prepend (take (i + 1) (slice_set out i v)) (decode_pairs (2 * (i + 1)) (drop (2 * (i + 1)) s))
-good_step s out i v fits room high low is h =
-    decode_step s out i v fits room (both_read (hex_digit_value (slice_index s (2 * i))) (hex_digit_value (slice_index s (2 * i + 1))) (slice_index s (2 * i)) (slice_index s (2 * i + 1)) (2 * i) high low ∙ ap Ok (sym is)) h
+-- an odd number spells none
+pub odd_spells_none : (s : List ℕ) → (length s % 2 ≡ 0 → ⊥) → is_some (result_ok (decode_of s)) ≡ false
+odd_spells_none s odd = none_unless (result_ok (decode_of s)) (λ some. odd (digits_of s some).0)
 
-pub bad_step : (s out : List ℕ) (i : ℕ) → 2 * i + 1 < length s
-    → (16 ≤ digit_or_255 (slice_index s (2 * i))) ⊎ (16 ≤ digit_or_255 (slice_index s (2 * i + 1)))
-    → decode_pairs 0 s ≡ prepend (take i out) (decode_pairs (2 * i) (drop (2 * i) s))
-    → result_ok (decode_pairs 0 s) ≡ None
-bad_step s out i fits some h =
-    none_from s out i _ fits refl (not_read (hex_digit_value (slice_index s (2 * i))) (hex_digit_value (slice_index s (2 * i + 1))) (slice_index s (2 * i)) (slice_index s (2 * i + 1)) (2 * i) some (small (slice_index s (2 * i))) (small (slice_index s (2 * i + 1)))) h
+-- a pair of a text that is cut in pairs
+pub pair_at : (n : ℕ) (s : List ℕ) (i : ℕ) → i < n → 2 * n ≤ length s → slice_index_or (first_chunks 2 n s) i [] ≡ slice_index s (2 * i) ∷ slice_index s (2 * i + 1) ∷ []
+pair_at zero s i lt fits = absurd (omega arith)
+pair_at (suc n) [] i lt fits = absurd (omega arith)
+pair_at (suc n) (a ∷ []) i lt fits = absurd (omega arith)
+pair_at (suc n) (a ∷ b ∷ s) zero lt fits = refl
+pair_at (suc n) (a ∷ b ∷ s) (suc i) lt fits =
+    let three : 2 * suc i + 1 ≡ suc (suc (2 * i + 1)) = omega arith in
+    let two : 2 * suc i ≡ suc (suc (2 * i)) = omega arith in
+    rw (three, two) (pair_at n s i (omega arith) (omega arith))

@@ -1,5 +1,5 @@
 -- The step of a line names a worker and a tenant that are there.
-use Rattle.std.proofs.Common.{◌≡◌, ◌<◌, ◌+◌, ℕ, List, [], ◌∷◌, length, Bool, true, false, cond, Option, Some, None, Result, Ok, Err, refl, subst}
+use Rattle.std.proofs.Common.{◌≡◌, ◌<◌, ℕ, List, [], ◌∷◌, length, Bool, true, false, cond, Option, Some, None, Err, refl, subst}
 use Rattle.std.specs.Prelude.{IfSome, codes, ◌&&◌, nat_lt}
 use Rattle.std.specs.List.{position}
 use Rattle.std.specs.Result.{result_ok}

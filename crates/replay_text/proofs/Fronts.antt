@@ -1,5 +1,5 @@
 -- Reading a script line by line, as a loop does.
-use Rattle.std.proofs.Common.{◌≡◌, ℕ, ◌+◌, ◌≤◌, List, [], ◌∷◌, ◌++◌, length, Result, Ok, Err, refl, sym, ap, ◌∙◌, append_assoc}
+use Rattle.std.proofs.Common.{◌≡◌, ℕ, ◌+◌, ◌≤◌, true, false, List, [], ◌∷◌, ◌++◌, length, Result, Ok, Err, refl, sym, ap, ◌∙◌, append_assoc}
 use Rattle.std.proofs.lemmas.List.{append-nil}
 use Rattle.std.proofs.lemmas.Bool.{le-ltb}
 use Rattle.floor_core.specs.declared.step.Step.{Step}
@@ -7,7 +7,7 @@ use Rattle.replay_text.specs.declared.script.ScriptFault.{ScriptFault}
 use Rattle.replay_text.specs.declared.script.ScriptFault.TheVariants.{Line}
 use Rattle.replay_text.specs.declared.script.Meaning.{Meaning}
 use Rattle.replay_text.specs.declared.script.Meaning.TheVariants.{Skipped, Runs, Bad}
-use Rattle.replay_text.specs.Script.{then_steps, meaning_of, steps_from, steps_of_script, lines_of}
+use Rattle.replay_text.specs.Script.{is_bad, then_steps, meaning_of, steps_from, steps_of_script, lines_of}
 
 -- the steps so far before those that are left
 abbrev pub with_front : List Step → Result (List Step) ScriptFault → Result (List Step) ScriptFault
@@ -24,22 +24,38 @@ one_line : (names : List (List ℕ)) (workers number : ℕ) (text line after : L
 unfolding steps_from
 one_line names workers number text line after meaning h m = rw (h, m) refl
 
-pub skips : (front : List Step) (names : List (List ℕ)) (workers number : ℕ) (text line after : List ℕ) (meaning : Meaning) (total : Result (List Step) ScriptFault) → lines_of text ≡ line ∷ lines_of after → meaning ≡ meaning_of names workers line → meaning ≡ Skipped
+skips : (front : List Step) (names : List (List ℕ)) (workers number : ℕ) (text line after : List ℕ) (meaning : Meaning) (total : Result (List Step) ScriptFault) → lines_of text ≡ line ∷ lines_of after → meaning ≡ meaning_of names workers line → meaning ≡ Skipped
     → with_front front (steps_from names workers number (lines_of text)) ≡ total → with_front front (steps_from names workers (number + 1) (lines_of after)) ≡ total
 skips front names workers number text line after meaning total h m is so_far =
     let one = one_line names workers number text line after Skipped h (sym is ∙ m) in
     ap (with_front front) (sym one) ∙ so_far
 
-pub adds : (front : List Step) (names : List (List ℕ)) (workers number : ℕ) (text line after : List ℕ) (meaning : Meaning) (step : Step) (total : Result (List Step) ScriptFault) → lines_of text ≡ line ∷ lines_of after → meaning ≡ meaning_of names workers line → meaning ≡ Runs step
+adds : (front : List Step) (names : List (List ℕ)) (workers number : ℕ) (text line after : List ℕ) (meaning : Meaning) (step : Step) (total : Result (List Step) ScriptFault) → lines_of text ≡ line ∷ lines_of after → meaning ≡ meaning_of names workers line → meaning ≡ Runs step
     → with_front front (steps_from names workers number (lines_of text)) ≡ total → with_front (front ++ step ∷ []) (steps_from names workers (number + 1) (lines_of after)) ≡ total
 adds front names workers number text line after meaning step total h m is so_far =
     let one = one_line names workers number text line after (Runs step) h (sym is ∙ m) in
     sym (regroup front number step (steps_from names workers (number + 1) (lines_of after))) ∙ ap (with_front front) (sym one) ∙ so_far
 
-pub fails : (front : List Step) (names : List (List ℕ)) (workers number : ℕ) (text line after : List ℕ) (meaning : Meaning) (total : Result (List Step) ScriptFault) → lines_of text ≡ line ∷ lines_of after → meaning ≡ meaning_of names workers line → meaning ≡ Bad
+-- a line that is not bad adds its step, if it has one
+pub passes : (front : List Step) (names : List (List ℕ)) (workers number : ℕ) (text line after : List ℕ) (total : Result (List Step) ScriptFault) → lines_of text ≡ line ∷ lines_of after → is_bad (meaning_of names workers line) ≡ false
+    → with_front front (steps_from names workers number (lines_of text)) ≡ total → (more : List Step) × (with_front more (steps_from names workers (number + 1) (lines_of after)) ≡ total)
+passes front names workers number text line after total h good so_far = by (meaning_of names workers line) refl good
+  where
+    by : (m : Meaning) → m ≡ meaning_of names workers line → is_bad m ≡ false → (more : List Step) × (with_front more (steps_from names workers (number + 1) (lines_of after)) ≡ total)
+    by Skipped is g = (front, skips front names workers number text line after Skipped total h is refl so_far)
+    by (Runs step) is g = (front ++ step ∷ [], adds front names workers number text line after (Runs step) step total h is refl so_far)
+    by Bad is g = absurd cc
+
+-- what is found bad is
+is_Bad : (m : Meaning) → is_bad m ≡ true → m ≡ Bad
+is_Bad Skipped h = absurd cc
+is_Bad (Runs step) h = absurd cc
+is_Bad Bad h = refl
+
+pub fails : (front : List Step) (names : List (List ℕ)) (workers number : ℕ) (text line after : List ℕ) (total : Result (List Step) ScriptFault) → lines_of text ≡ line ∷ lines_of after → is_bad (meaning_of names workers line) ≡ true
     → with_front front (steps_from names workers number (lines_of text)) ≡ total → total ≡ Err (Line number)
-fails front names workers number text line after meaning total h m is so_far =
-    let one = one_line names workers number text line after Bad h (sym is ∙ m) in
+fails front names workers number text line after total h bad so_far =
+    let one = one_line names workers number text line after Bad h (sym (is_Bad (meaning_of names workers line) bad)) in
     sym so_far ∙ ap (with_front front) one
 
 pub ends : (front : List Step) (names : List (List ℕ)) (workers number : ℕ) (text : List ℕ) (total : Result (List Step) ScriptFault) → text ≡ []

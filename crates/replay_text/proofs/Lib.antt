@@ -9,3 +9,5 @@ pub mod Composition
 pub mod OneText
 pub mod Places
 pub mod Decoding
+pub mod Values
+pub mod LastWords

@@ -5,8 +5,6 @@ use Rattle.std.proofs.lemmas.Bool.{ltb-true, ltb-false}
 use Rattle.std.proofs.lemmas.List.{take_rest}
 use Rattle.std.proofs.lemmas.List.Sums.{fails_before_first}
 use Rattle.std.proofs.lemmas.List.Splits.{slice_split_first, slice_split_none, length-slice_split}
-use Rattle.std.specs.Prelude.{option_map}
-use Rattle.replay_text.specs.Words.{two_of, three_of, four_of}
 use Rattle.replay_text.specs.Script.{without_empty_end, lines_of}
 
 -- a choice that gave a value, and one that gave none
@@ -48,22 +46,3 @@ lines_none text some h = ap without_empty_end (split_none (λ b. eqb b 10) text 
 -- what a range to the end leaves
 pub rest_is : (text : List ℕ) (i : ℕ) → take (length text - i) (drop i text) ≡ drop i text
 rest_is text i = take_rest text i
-
--- more words than two
-pub two_of-more : (a b : List ℕ) (others : List (List ℕ)) → 0 < length others → two_of (a ∷ b ∷ others) ≡ None
-two_of-more a b [] h = absurd (omega arith)
-two_of-more a b (c ∷ others) h = refl
-
--- one word before others
-pub three_of-two : (a : List ℕ) (others : List (List ℕ)) → three_of (a ∷ others) ≡ option_map (λ w. (a, w.0, w.1)) (two_of others)
-three_of-two a [] = refl
-three_of-two a (b ∷ []) = refl
-three_of-two a (b ∷ c ∷ []) = refl
-three_of-two a (b ∷ c ∷ d ∷ others) = refl
-
-pub four_of-three : (a : List ℕ) (others : List (List ℕ)) → four_of (a ∷ others) ≡ option_map (λ w. (a, w.0, w.1, w.2)) (three_of others)
-four_of-three a [] = refl
-four_of-three a (b ∷ []) = refl
-four_of-three a (b ∷ c ∷ []) = refl
-four_of-three a (b ∷ c ∷ d ∷ []) = refl
-four_of-three a (b ∷ c ∷ d ∷ e ∷ others) = refl

@@ -3,4 +3,3 @@ pub mod Script
 pub mod Printed
 pub mod Streams
 pub mod Replay
-pub mod Hexadecimal

@@ -131,6 +131,12 @@ abbrev pub step_or_bad : Option Step → Meaning
 step_or_bad None = Bad
 step_or_bad (Some step) = Runs step
 
+-- it is nothing that a script may say
+abbrev pub is_bad : Meaning → Bool
+is_bad Skipped = false
+is_bad (Runs step) = false
+is_bad Bad = true
+
 -- what a line says: each is ASCII, of at most 70,000 bytes
 unfoldable pub meaning_of : List (List ℕ) → ℕ → List ℕ → Meaning
 meaning_of names workers line =

@@ -1,37 +1,71 @@
 //! Hexadecimal text. No branch hangs on a digit, so that the compiler works on many at a time.
 
-ghost use Rattle.std.specs.Prelude.{◌≡◌, ◌*◌, ◌<◌, ◌++◌, length, Some, None, OnOk, IfOk, if◌then◌else◌, option_map, slice_index, codes};
+ghost use Rattle.std.specs.Prelude.{◌≡◌, ◌*◌, ◌<◌, ◌++◌, ◌==◌, length, Ok, Some, OnOk, IfOk, if◌then◌else◌, option_map, slice_index, codes, IsTrue, ℕ, is_some};
+ghost use Rattle.std.specs.List.{list_all};
 ghost use Rattle.std.specs.Result.{result_ok};
-ghost use Rattle.hex.specs.Hex.{decode_pairs, decode_of, encode_lower};
-ghost use Rattle.replay_text.specs.Hexadecimal.{digit_or_255};
+ghost use Rattle.hex.specs.Hex.{decode_pairs, decode_of, encode_lower, hex_digit_value, is_hex_digit, pair_value};
 
 use std::alloc::AllocError;
 
-// The value of a digit in either case, and 255 of any other byte.
-fn digit_or_255(byte: u8) -> u8
-    ensures { result ≡ digit_or_255 byte }
+// 0 of a digit in either case, and more of any other byte.
+fn past_digits(byte: u8) -> u8
+    ensures { (result == 0) ≡ is_hex_digit byte }
 {
-    let decimal = byte.wrapping_sub(b'0');
-    let capital = byte.wrapping_sub(b'A');
-    let small = byte.wrapping_sub(b'a');
-    let letter = if small < 6 { small + 10 } else { 255 };
-    let letter = if capital < 6 { capital + 10 } else { letter };
-    if decimal < 10 { decimal } else { letter }
+    let decimal = byte.wrapping_sub(b'0').saturating_sub(9);
+    let capital = byte.wrapping_sub(b'A').saturating_sub(5);
+    let small = byte.wrapping_sub(b'a').saturating_sub(5);
+    decimal.min(capital).min(small)
 }
 
-// Decodes pairs of digits, and says whether all are digits. It goes on behind one that is none.
-fn decode_into(text: &[u8], out: &mut [u8]) -> bool
-    requires { length text.now ≡ 2 * length out.old }
-    ensures { result_ok (decode_pairs 0 text.now) ≡ (if result then Some out.new else None) }
+// Whether all bytes are digits. It goes on behind one that is none.
+fn are_digits(text: &[u8]) -> bool
+    ensures { result ≡ list_all is_hex_digit text.now }
 {
     let mut worst: u8 = 0;
-    for i in 0..out.len() {
-        let high = digit_or_255(text[2 * i]);
-        let low = digit_or_255(text[2 * i + 1]);
-        out[i] = high.wrapping_mul(16).wrapping_add(low);
-        worst = worst.max(high).max(low);
+    for byte in text {
+        worst = worst.max(past_digits(*byte));
     }
-    worst < 16
+    worst == 0
+}
+
+/// Whether a text spells bytes: an even number of digits in either case.
+pub(crate) fn spells_bytes(text: &[u8]) -> bool
+    ensures { result ≡ is_some (result_ok (decode_of text.now)) }
+{
+    text.len() % 2 == 0 && are_digits(text)
+}
+
+// The value of a digit: the low four bits of `0` to `9`, and 9 more than those of a letter.
+fn value_of(digit: u16) -> u16
+    requires { IsTrue (is_hex_digit digit) }
+    ensures value { hex_digit_value digit ≡ Some result }
+    ensures small { result < 16 }
+{
+    digit % 16 + digit / 64 * 9
+}
+
+// The byte of two digits, which are read as one number of 16 bits: so the compiler reads many pairs at a time.
+fn byte_of(pair: [u8; 2]) -> u8
+    requires high { IsTrue (is_hex_digit (slice_index pair 0)) }
+    requires low { IsTrue (is_hex_digit (slice_index pair 1)) }
+    ensures { (i : ℕ) → pair_value (slice_index pair 0) (slice_index pair 1) i ≡ Ok result }
+{
+    let both = u16::from_le_bytes(pair);
+    let high = value_of(both % 256);
+    let low = value_of(both / 256);
+    (high * 16 + low) as u8
+}
+
+// Puts the bytes that digits spell into room for them.
+fn decode_into(text: &[u8], out: &mut [u8])
+    requires digits { IsTrue (is_some (result_ok (decode_of text.now))) }
+    requires room { length text.now ≡ 2 * length out.old }
+    ensures { decode_of text.now ≡ Ok out.new }
+{
+    let (pairs, _) = text.as_chunks::<2>();
+    for i in 0..out.len() {
+        out[i] = byte_of(pairs[i]);
+    }
 }
 
 /// The bytes that digits in either case spell, in a room of their own; `None` where the digits are odd in number or some
@@ -39,7 +73,7 @@ fn decode_into(text: &[u8], out: &mut [u8]) -> bool
 pub(crate) fn decode<'a>(text: &[u8], room: &'a mut Vec<u8>) -> Result<Option<&'a [u8]>, AllocError>
     ensures { IfOk result (λ bytes. option_map (λ b. b.now) bytes ≡ result_ok (decode_of text.now)) }
 {
-    if text.len() % 2 != 0 {
+    if !spells_bytes(text) {
         return Ok(None);
     }
     let size = text.len() / 2;
@@ -47,9 +81,7 @@ pub(crate) fn decode<'a>(text: &[u8], room: &'a mut Vec<u8>) -> Result<Option<&'
         room.resize(size, 0)?;
     }
     let bytes = &mut room.as_mut_slice()[..size];
-    if !decode_into(text, bytes) {
-        return Ok(None);
-    }
+    decode_into(text, bytes);
     Ok(Some(bytes))
 }
 

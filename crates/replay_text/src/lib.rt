@@ -2,8 +2,10 @@
 //! that are written.
 #![tactic(auto)]
 
+mod checks;
 mod hexadecimal;
 pub mod laws;
+mod numbers;
 mod printed;
 mod replays;
 mod scans;

@@ -1,11 +1,11 @@
 //! Replay scripts: what each line has a worker do.
 
 ghost use Rattle.std.specs.Prelude.{◌≡◌, ◌==◌, ◌<◌, ◌≤◌, ◌↔◌, ℕ, List, Ok, Err, ◌∷◌, length, ◌≢◌, [], option_copied};
-ghost use Rattle.std.specs.Prelude.{option_map, option_and_then, min, nat_lt, IfOk, OnOk};
+ghost use Rattle.std.specs.Prelude.{option_and_then, IfOk, OnOk, MatchOption, None};
 ghost use Rattle.std.specs.List.{position};
 ghost use Rattle.std.specs.Result.{result_ok};
 ghost use Rattle.std.specs.Str.{bytes_eq};
-ghost use Rattle.replay_text.specs.Script.{lines_of, number_below};
+ghost use Rattle.replay_text.specs.Script.{lines_of};
 ghost use Rattle.common_types.specs.Words.{words_of, parts};
 ghost use Rattle.replay_text.specs.Script.{tenant_named, token_of, frame_of, load_of, decide_of, answer_of, tick_of};
 ghost use Rattle.replay_text.specs.Script.{govern_of};
@@ -16,10 +16,12 @@ ghost use Rattle.replay_text.specs.Script.{IsCheckedAs};
 ghost use Rattle.floor_core.specs.declared.step.Step.{Step};
 ghost use Rattle.replay_text.specs.Words.{two_of, three_of, four_of};
 
+use crate::checks::is_bad;
 use crate::hexadecimal::decode;
+use crate::numbers::number_below;
 use crate::scans::{is_ascii, place_of};
 use admin_text::parse_command;
-use common_types::{Boxed, Name, ReadError, is_numeral, is_token, value_of};
+use common_types::{Boxed, Name, ReadError, is_token};
 use floor_core::{Given, Octets, Step};
 use ilp_addr::Moment;
 use std::alloc::{AllocError, Global};
@@ -55,7 +57,7 @@ pub enum Meaning<'a> {
 }
 
 /// The first word of a text, and what follows the space after it.
-fn first_word(text: &[u8]) -> (&[u8], Option<&[u8]>)
+pub(crate) fn first_word(text: &[u8]) -> (&[u8], Option<&[u8]>)
     ensures value { words_of text.now ≡ parts words_of result.0.now (option_copied result.1) }
 {
     match place_of(b' ', text) {
@@ -76,47 +78,24 @@ pub(crate) fn first_line(text: &[u8]) -> (&[u8], &[u8])
     }
 }
 
-/// The words of a text, where they are two.
-fn two_words(text: &[u8]) -> Option<(&[u8], &[u8])>
-    ensures { option_map (λ w. (w.0.now, w.1.now)) result ≡ two_of (words_of text.now) }
+/// The first two words of a text, and what follows the space after them.
+pub(crate) fn two_words(text: &[u8]) -> Option<(&[u8], &[u8], &[u8])>
+    ensures { MatchOption result (three_of (words_of text.now) ≡ None)
+        (λ w. words_of text.now ≡ w.0.now ∷ w.1.now ∷ words_of w.2.now) }
 {
     let (first, rest) = first_word(text);
     let (second, rest) = first_word(rest?);
-    match rest {
-        None => Some((first, second)),
-        Some(_) => None,
-    }
+    Some((first, second, rest?))
 }
 
-/// The words of a text, where they are three.
-fn three_words(text: &[u8]) -> Option<(&[u8], &[u8], &[u8])>
-    ensures { option_map (λ w. (w.0.now, w.1.now, w.2.now)) result ≡ three_of (words_of text.now) }
+/// The first three words of a text, and what follows the space after them.
+pub(crate) fn three_words(text: &[u8]) -> Option<(&[u8], &[u8], &[u8], &[u8])>
+    ensures { MatchOption result (four_of (words_of text.now) ≡ None)
+        (λ w. words_of text.now ≡ w.0.now ∷ w.1.now ∷ w.2.now ∷ words_of w.3.now) }
 {
     let (first, rest) = first_word(text);
-    let (second, third) = two_words(rest?)?;
-    Some((first, second, third))
-}
-
-/// The words of a text, where they are four.
-fn four_words(text: &[u8]) -> Option<(&[u8], &[u8], &[u8], &[u8])>
-    ensures { option_map (λ w. (w.0.now, w.1.now, w.2.now, w.3.now)) result ≡ four_of (words_of text.now) }
-{
-    let (first, rest) = first_word(text);
-    let (second, third, fourth) = three_words(rest?)?;
-    Some((first, second, third, fourth))
-}
-
-/// The number that a word spells, if it does and the number is below the bound.
-fn number_below(bound: u64, word: &[u8]) -> Option<u64>
-    ensures { result ≡ number_below bound word.now }
-{
-    if !is_numeral(word) {
-        return None;
-    }
-    match u64::try_from(value_of(word)) {
-        Ok(value) if value < bound => Some(value),
-        _ => None,
-    }
+    let (second, third, rest) = two_words(rest?)?;
+    Some((first, second, third, rest))
 }
 
 fn is_name(name: &Name, word: &[u8]) -> bool
@@ -132,7 +111,7 @@ fn place_of_name(names: &[Name], word: &[u8]) -> Option<usize>
 }
 
 /// The number of the first tenant of that name.
-fn tenant_named(names: &[Name], word: &[u8]) -> Option<usize>
+pub(crate) fn tenant_named(names: &[Name], word: &[u8]) -> Option<usize>
     ensures { result ≡ tenant_named names.now word.now }
 {
     if word.is_empty() {
@@ -169,7 +148,7 @@ fn frame_of<'a>(word: &[u8], room: &'a mut Vec<u8>) -> Result<Option<Octets<'a>>
 }
 
 /// The moment that a word spells.
-fn moment_spelled(word: &[u8]) -> Option<Moment>
+pub(crate) fn moment_spelled(word: &[u8]) -> Option<Moment>
     ensures { result ≡ moment_spelled word.now }
 {
     Moment::new(number_below(Moment::MAX_MILLIS + 1, word)?)
@@ -188,18 +167,17 @@ fn given_of<'a>(word: &[u8], room: &'a mut Vec<u8>) -> Result<Option<Given<'a>>,
     }
 }
 
-/// The step that the words behind `load` spell: W TENANT TOKEN HEX.
-fn load_of<'a>(
+fn load_spelled<'a>(
     names: &[Name],
     workers: usize,
-    words: &'a [u8],
+    worker: &[u8],
+    tenant: &[u8],
+    token: &'a [u8],
+    frame: &[u8],
     room: &'a mut Vec<u8>,
 ) -> Result<Option<Step<'a>>, AllocError>
-    ensures { IfOk result (λ step. step ≡ option_and_then (load_of names.now workers) (four_of (words_of words.now))) }
+    ensures { IfOk result (λ step. step ≡ load_of names.now workers (worker.now, tenant.now, token.now, frame.now)) }
 {
-    let Some((worker, tenant, token, frame)) = four_words(words) else {
-        return Ok(None);
-    };
     let Some(worker) = number_below(workers as u64, worker) else {
         return Ok(None);
     };
@@ -220,11 +198,27 @@ fn load_of<'a>(
     }))
 }
 
-/// The step that the words behind `decide` spell: W NOW.
-fn decide_of(workers: usize, words: &[u8]) -> Option<Step<'static>>
-    ensures { result ≡ option_and_then (decide_of workers) (two_of (words_of words.now)) }
+/// The step that the words behind `load` spell: W TENANT TOKEN HEX. What stands behind TOKEN is looked at as one word:
+/// where it has a space it spells no bytes.
+fn load_of<'a>(
+    names: &[Name],
+    workers: usize,
+    words: &'a [u8],
+    room: &'a mut Vec<u8>,
+) -> Result<Option<Step<'a>>, AllocError>
+    ensures { IfOk result (λ step. step ≡ option_and_then (load_of names.now workers) (four_of (words_of words.now))) }
 {
-    let (worker, now) = two_words(words)?;
+    match three_words(words) {
+        Some((worker, tenant, token, frame)) => {
+            load_spelled(names, workers, worker, tenant, token, frame, room)
+        }
+        None => Ok(None),
+    }
+}
+
+fn decide_spelled(workers: usize, worker: &[u8], now: &[u8]) -> Option<Step<'static>>
+    ensures { result ≡ decide_of workers (worker.now, now.now) }
+{
     let worker = number_below(workers as u64, worker)?;
     let now = moment_spelled(now)?;
     Some(Step::Decide {
@@ -233,17 +227,24 @@ fn decide_of(workers: usize, words: &[u8]) -> Option<Step<'static>>
     })
 }
 
-/// The step that the words behind `answer` spell: W NOW HEX, or W NOW fault.
-fn answer_of<'a>(
+/// The step that the words behind `decide` spell: W NOW. What stands behind W is looked at as one word: where it has a
+/// space it is no number.
+pub(crate) fn decide_of(workers: usize, words: &[u8]) -> Option<Step<'static>>
+    ensures { result ≡ option_and_then (decide_of workers) (two_of (words_of words.now)) }
+{
+    let (worker, now) = first_word(words);
+    decide_spelled(workers, worker, now?)
+}
+
+fn answer_spelled<'a>(
     workers: usize,
-    words: &[u8],
+    worker: &[u8],
+    now: &[u8],
+    given: &[u8],
     room: &'a mut Vec<u8>,
 ) -> Result<Option<Step<'a>>, AllocError>
-    ensures { IfOk result (λ step. step ≡ option_and_then (answer_of workers) (three_of (words_of words.now))) }
+    ensures { IfOk result (λ step. step ≡ answer_of workers (worker.now, now.now, given.now)) }
 {
-    let Some((worker, now, given)) = three_words(words) else {
-        return Ok(None);
-    };
     let Some(worker) = number_below(workers as u64, worker) else {
         return Ok(None);
     };
@@ -260,14 +261,36 @@ fn answer_of<'a>(
     }))
 }
 
-/// The step that the words behind `tick` spell: TENANT NOW.
-fn tick_of(names: &[Name], words: &[u8]) -> Option<Step<'static>>
-    ensures { result ≡ option_and_then (tick_of names.now) (two_of (words_of words.now)) }
+/// The step that the words behind `answer` spell: W NOW HEX, or W NOW fault. What stands behind NOW is looked at as one
+/// word: where it has a space it is neither.
+fn answer_of<'a>(
+    workers: usize,
+    words: &[u8],
+    room: &'a mut Vec<u8>,
+) -> Result<Option<Step<'a>>, AllocError>
+    ensures { IfOk result (λ step. step ≡ option_and_then (answer_of workers) (three_of (words_of words.now))) }
 {
-    let (tenant, now) = two_words(words)?;
+    match two_words(words) {
+        Some((worker, now, given)) => answer_spelled(workers, worker, now, given, room),
+        None => Ok(None),
+    }
+}
+
+fn tick_spelled(names: &[Name], tenant: &[u8], now: &[u8]) -> Option<Step<'static>>
+    ensures { result ≡ tick_of names.now (tenant.now, now.now) }
+{
     let tenant = tenant_named(names, tenant)?;
     let now = moment_spelled(now)?;
     Some(Step::Tick { tenant, now })
+}
+
+/// The step that the words behind `tick` spell: TENANT NOW. What stands behind TENANT is looked at as one word: where it
+/// has a space it is no number.
+pub(crate) fn tick_of(names: &[Name], words: &[u8]) -> Option<Step<'static>>
+    ensures { result ≡ option_and_then (tick_of names.now) (two_of (words_of words.now)) }
+{
+    let (tenant, now) = first_word(words);
+    tick_spelled(names, tenant, now?)
 }
 
 // The command that a text spells.
@@ -282,7 +305,7 @@ fn command_in(alloc: Global, text: &[u8]) -> Result<Option<Command>, AllocError>
 }
 
 /// The step that the words behind `do` spell: TENANT NOW, and those of a command.
-fn govern_of(
+pub(crate) fn govern_of(
     alloc: Global,
     names: &[Name],
     words: &[u8],
@@ -355,7 +378,7 @@ fn step_of<'a>(
     }
 }
 
-fn is_skipped(line: &[u8]) -> bool
+pub(crate) fn is_skipped(line: &[u8]) -> bool
     ensures { result ≡ is_skipped line.now }
 {
     match line {
@@ -398,15 +421,12 @@ fn check_lines(
     requires { length text.now ≤ MOST_BYTES }
     ensures { IsCheckedAs result (steps_from names.now workers 1 (lines_of text.now)) }
 {
-    let mut room = Vec::new(alloc);
     let mut rest = text;
     let mut number: usize = 1;
     while !rest.is_empty() {
         let (line, after) = first_line(rest);
-        match meaning_of(alloc, names, workers, line, &mut room)? {
-            Meaning::Skipped => {}
-            Meaning::Runs(_) => {}
-            Meaning::Bad => return Err(ReadError::Fault(ScriptFault::Line(number))),
+        if is_bad(alloc, names, workers, line)? {
+            return Err(ReadError::Fault(ScriptFault::Line(number)));
         }
         rest = after;
         number += 1;

@@ -1,8 +1,7 @@
-use Rattle.std.proofs.Common.{sym, subst, ◌∙◌, length}
+use Rattle.std.proofs.Common.{sym, ◌∙◌}
 use Rattle.floor_core.specs.FloorView.{world_of}
-use Rattle.floor_core.specs.World.{FitsIn}
 use Rattle.replay_text.proofs.Fits.{step_of_line_fits}
-use Rattle.replay_text.proofs.Pieces.{prints_line, prints_skipped}
+use Rattle.replay_text.proofs.Pieces.{prints_skipped}
 use Rattle.replay_text.proofs.replays.run_line.Goals as goal
 
 pub run_step-requires-clause-fits : goal.run_step-requires-clause-fits

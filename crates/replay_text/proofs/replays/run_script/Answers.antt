@@ -1,7 +1,4 @@
-use Rattle.std.proofs.Common.{◌≡◌, ◌≤◌, ◌^◌, ap, ◌∙◌, arith, length}
-use Rattle.floor_core.specs.FloorView.{world_of}
-use Rattle.floor_core.specs.World.{world_at_start}
-use Rattle.replay_text.specs.Replay.{world_of_setup}
+use Rattle.std.proofs.Common.{arith, length}
 use Rattle.replay_text.proofs.Composition.{has_room}
 use Rattle.replay_text.proofs.replays.run_script.Goals as goal
 

@@ -1,5 +1,5 @@
 use Rattle.floor_core.specs.FloorView.{world_of}
-use Rattle.replay_text.proofs.Pieces.{prints_told, room_behind}
+use Rattle.replay_text.proofs.Pieces.{prints_told}
 use Rattle.replay_text.proofs.replays.run_step.Goals as goal
 
 pub returns-clause-printed : goal.returns-clause-printed

@@ -1,4 +1,4 @@
-use Rattle.std.proofs.Common.{◌≡◌, ◌+◌, ◌≤◌, List, [], length}
+use Rattle.std.proofs.Common.{◌≡◌, ◌+◌, ◌≤◌, List, length}
 use Rattle.floor_core.specs.declared.step.Step.{Step}
 use Rattle.replay_text.specs.Script.{lines_of, steps_from}
 use Rattle.replay_text.proofs.Fronts.{with_front}

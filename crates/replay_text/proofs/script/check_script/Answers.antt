@@ -1,11 +1,11 @@
 use Rattle.std.proofs.Common.{Result, subst, rules, arith}
 use Rattle.std.proofs.Common.{List}
 use Rattle.floor_core.specs.declared.step.Step.{Step}
-use Rattle.replay_text.specs.Script.{lines_of, steps_from, steps_of_script, AreSteps, IsCheckedAs}
+use Rattle.replay_text.specs.Script.{lines_of, steps_from, steps_of_script, IsCheckedAs}
 use Rattle.replay_text.specs.declared.script.ScriptFault.{ScriptFault}
 use Rattle.replay_text.specs.declared.script.ScriptFault.TheVariants.{Size, Line}
 use Rattle.replay_text.proofs.Fronts.{reads_lines}
-use Rattle.replay_text.proofs.Scripts.{checked_ok, checked_err, steps_are, steps_again, first_bad, never_size}
+use Rattle.replay_text.proofs.Scripts.{checked_ok, checked_err, steps_again, first_bad, never_size}
 use Rattle.replay_text.proofs.script.check_script.Goals as goal
 
 pub returns-then-text-gt-MOST_BYTES-clause-exact : goal.returns-then-text-gt-MOST_BYTES-clause-exact
