@@ -1,3 +1,4 @@
 pub mod Served
 pub mod CommandLine
 pub mod Answering
+pub mod Exchanges

@@ -32,18 +32,27 @@ const SENT: &str =
 
 const UNREACHABLE: &str = "0e1c54303106672e61636d65107065657220756e726561636861626c6500";
 
-// A setup of one tenant whose second peer listens at that port, and which holds packets for 400 milliseconds at most.
-fn setup_with(alloc: Global, port: u16) -> Result<String, Fail> {
+// BASE where it expires 1,400 milliseconds after the start: SENT is what goes on, however long it may be held.
+const SHORT: &str =
+    "0c4700000000000003e8323033303031303130303030303134303066687aadf862bd776c8fc18b8e9f8e20089714856ee233b3902a591d0d5f29250c672e61636d652e626f622e7800";
+
+// A setup of one tenant whose second peer listens at that port, and which holds packets for so many milliseconds at most.
+fn setup_holding(alloc: Global, port: u16, hold: u32) -> Result<String, Fail> {
     let tenant = tenant_text(
         alloc,
         Terms {
             name: "acme",
             port,
             journal: 64,
-            hold: 400,
+            hold,
         },
     )?;
     Ok(format!(in alloc; "version = 1\nstart = 1893456000000\n{tenant}")?)
+}
+
+// The same, for 400 milliseconds.
+fn setup_with(alloc: Global, port: u16) -> Result<String, Fail> {
+    setup_holding(alloc, port, 400)
 }
 
 // All that comes back on a connection of its own for these bytes.
@@ -188,19 +197,20 @@ fn taken(
 }
 
 // A packet of alice's, and what the balances are afterwards.
-fn packet_and_balances(alloc: Global) -> Result<Vec<Vec<u8>>, Fail> {
+fn packet_and_balances(alloc: Global, packet: &str) -> Result<Vec<Vec<u8>>, Fail> {
     let mut requests = Vec::new(alloc);
     requests.push(request(
         alloc,
         "/ilp/acme",
         "tok-alice",
-        bytes(alloc, BASE)?.as_slice(),
+        bytes(alloc, packet)?.as_slice(),
     )?)?;
     requests.push(request(alloc, "/admin/acme", "root", b"balances\n")?)?;
     Ok(requests)
 }
 
-// What comes back for both, and what is printed in the end, where the peer behaves so.
+// What comes back for a packet and for the balances, and what is printed in the end, where the peer behaves so, and packets
+// are held for so many milliseconds at most.
 fn with_peer<
     R: Threads
         + Wait
@@ -208,13 +218,13 @@ fn with_peer<
         + Clock
         + AllocGlobal
         + Sync,
->(rt: &R, peer: Peer) -> Result<(Vec<Vec<u8>>, Vec<u8>), Fail> {
+>(rt: &R, peer: Peer, packet: &str, hold: u32) -> Result<(Vec<Vec<u8>>, Vec<u8>), Fail> {
     let alloc = rt.alloc();
     let listener = TcpListener::bind(rt, "127.0.0.1:0")?;
     let port = listener.local_addr()?.port();
-    let setup = setup_with(alloc, port)?;
+    let setup = setup_holding(alloc, port, hold)?;
     let wanted = posted(alloc, port, bytes(alloc, SENT)?.as_slice())?;
-    let requests = packet_and_balances(alloc)?;
+    let requests = packet_and_balances(alloc, packet)?;
     let fulfill = bytes(alloc, FULFILL)?;
     let (answers, right) = join(
         rt,
@@ -283,13 +293,13 @@ fn a_child_is_configured(rt: HostRuntime) -> Result<(), Fail> {
 
 #[test]
 fn a_peer_fulfils(rt: HostRuntime) -> Result<(), Fail> {
-    let came = with_peer(&rt, Peer::Fulfils)?;
+    let came = with_peer(&rt, Peer::Fulfils, BASE, 400)?;
     expect(&rt, came, FULFILL, MOVED, "acme 200 2 4xx 0 503 0 link 0\n")
 }
 
 #[test]
 fn a_peer_babbles(rt: HostRuntime) -> Result<(), Fail> {
-    let came = with_peer(&rt, Peer::Babbles)?;
+    let came = with_peer(&rt, Peer::Babbles, BASE, 400)?;
     expect(
         &rt,
         came,
@@ -301,7 +311,19 @@ fn a_peer_babbles(rt: HostRuntime) -> Result<(), Fail> {
 
 #[test]
 fn a_peer_drips_a_fulfill_past_the_hold(rt: HostRuntime) -> Result<(), Fail> {
-    let came = with_peer(&rt, Peer::Drips)?;
+    let came = with_peer(&rt, Peer::Drips, BASE, 400)?;
+    expect(
+        &rt,
+        came,
+        UNREACHABLE,
+        NOTHING,
+        "acme 200 2 4xx 0 503 0 link 1\n",
+    )
+}
+
+#[test]
+fn a_peer_drips_a_fulfill_past_the_expiry(rt: HostRuntime) -> Result<(), Fail> {
+    let came = with_peer(&rt, Peer::Drips, SHORT, 30_000)?;
     expect(
         &rt,
         came,
@@ -321,7 +343,7 @@ fn lonely_port(rt: &impl Net<Listener = TcpListener, Stream = TcpStream>) -> Res
 fn nobody_listens(rt: HostRuntime) -> Result<(), Fail> {
     let alloc = rt.alloc();
     let setup = setup_with(alloc, lonely_port(&rt)?)?;
-    let requests = packet_and_balances(alloc)?;
+    let requests = packet_and_balances(alloc, BASE)?;
     let came = served(&rt, setup.as_str(), requests.as_slice())?;
     expect(
         &rt,

@@ -71,8 +71,8 @@ impl<'a, H, C, J: Run> Worker<'a, H, C, J> {
 
 impl<H: Wait + Net<Stream = TcpStream> + std::time::Clock, C: Clock, J: Run> Service
     for Worker<'_, H, C, J> {
-    ghost asks = { λ before asked after. (after.office ≡ before.office)
-        × HasAnswered before.office.now before.desk asked after.desk };
+    ghost asks = { λ before asked after. (after.office ≡ before.office) × (after.clock ≡ before.clock)
+        × HasAnswered (C.gives before.clock.now) before.office.now before.desk asked after.desk };
 
     ghost tenant_of = { λ c name. tenant_named c.office.now.names.items name };
 
@@ -136,7 +136,8 @@ impl<H: Wait + Net<Stream = TcpStream> + std::time::Clock, C: Clock, J: Run> Wor
         requires { 34_000 ≤ length room.old }
         ensures room { length room.new ≡ length room.old }
         ensures office { self.new.office ≡ self.old.office }
-        ensures served { HasServed self.old.office.now self.old.desk self.new.desk }
+        ensures clock { self.new.clock ≡ self.old.clock }
+        ensures served { HasServed (C.gives self.old.clock.now) self.old.office.now self.old.desk self.new.desk }
     {
         reader.extend(end_of_patience(self.handle)?);
         let served = serve_one(reader, writer, self, room);
@@ -149,7 +150,8 @@ impl<H: Wait + Net<Stream = TcpStream> + std::time::Clock, C: Clock, J: Run> Wor
         requires { 34_000 ≤ length room.old }
         ensures room { length room.new ≡ length room.old }
         ensures office { self.new.office ≡ self.old.office }
-        ensures served { HasServed self.old.office.now self.old.desk self.new.desk }
+        ensures clock { self.new.clock ≡ self.old.clock }
+        ensures served { HasServed (C.gives self.old.clock.now) self.old.office.now self.old.desk self.new.desk }
     {
         stream.set_nodelay(true)?;
         stream.set_write_timeout(Some(Duration::from_secs(PATIENCE)))?;
@@ -170,7 +172,7 @@ impl<
     J: Run + Send + Sync,
 > Lane for Worker<'_, H, C, J> {
     ghost works = { λ before after. (after.office ≡ before.office)
-        × HasServed before.office.now before.desk after.desk };
+        × HasServed (C.gives before.clock.now) before.office.now before.desk after.desk };
 
     #[tactic(auto, using(crate::proofs::Leading::served_then, crate::proofs::Leading::served_nothing))]
     fn work<R: Threads + Wait + Sync>(&mut self, _rt: &R) {
