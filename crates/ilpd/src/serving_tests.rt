@@ -391,3 +391,81 @@ fn operators_are_answered(rt: HostRuntime) -> Result<(), Fail> {
     );
     Ok(())
 }
+
+// What the head of a refused request states of its body, and how its answer begins.
+static REFUSALS: [(&str, &str); 3] = [
+    ("Content-Length: 2049", "HTTP/1.1 413 Content Too Large\r\n"),
+    ("Content-Length: x", "HTTP/1.1 400 Bad Request\r\n"),
+    ("Content-Length", "HTTP/1.1 400 Bad Request\r\n"),
+];
+
+// A request of acme's operator that is refused for its head, and whose body is a request that would be obeyed.
+fn refused_request(alloc: Global, stated: &str) -> Result<Vec<u8>, Fail> {
+    let head = format!(in alloc;
+        "POST /admin/acme HTTP/1.1\r\nAuthorization: Bearer root\r\n{stated}\r\n\r\n"
+    )?;
+    let mut whole = Vec::new(alloc);
+    whole.extend_from_slice(head.as_bytes())?;
+    let body = request(alloc, "/admin/acme", "root", b"peer remove alice")?;
+    whole.extend_from_slice(body.as_slice())?;
+    Ok(whole)
+}
+
+#[test]
+fn the_body_of_a_refused_request_is_none(rt: HostRuntime) -> Result<(), Fail> {
+    let alloc = rt.alloc();
+    let setup = setup_with(alloc, 7802)?;
+    let mut requests = Vec::new(alloc);
+    for (stated, _) in REFUSALS {
+        requests.push(refused_request(alloc, stated)?)?;
+    }
+    requests.push(request(alloc, "/admin/acme", "root", b"balances\n")?)?;
+    let (answers, lines) = served(&rt, setup.as_str(), requests.as_slice())?;
+    assert!(rt; answers.len() == REFUSALS.len() + 1);
+    for i in 0..REFUSALS.len() {
+        let (_, begin) = REFUSALS[i];
+        assert!(rt; answers[i].as_slice().starts_with(begin.as_bytes()), "{i}");
+    }
+    let balances = good(alloc, "text/plain", NOTHING.as_bytes())?;
+    assert_eq!(rt; answers[REFUSALS.len()].as_slice(), balances.as_slice());
+    assert_eq!(rt;
+        lines.as_slice(),
+        b"acme 200 1 4xx 0 503 0 link 0\n".as_slice()
+    );
+    Ok(())
+}
+
+// What comes back for a request that is sent after a second.
+fn asked_late(
+    rt: &(impl Net<Stream = TcpStream> + Clock),
+    alloc: Global,
+    addr: &SocketAddr,
+    request: &[u8],
+) -> io::Result<Vec<u8>> {
+    thread::sleep(rt, Duration::from_secs(1));
+    asked(rt, alloc, addr, request)
+}
+
+#[test]
+fn an_accept_that_fails_is_tried_again(rt: HostRuntime) -> Result<(), Fail> {
+    let alloc = rt.alloc();
+    let setup = setup_with(alloc, 7802)?;
+    let request = request(alloc, "/admin/acme", "root", b"balances\n")?;
+    let listener = TcpListener::bind(&rt, "127.0.0.1:0")?;
+    let addr = listener.local_addr()?;
+    listener.set_nonblocking(true)?;
+    let mut lines = Vec::new(alloc);
+    let (end, answer) = join(
+        &rt,
+        || serve_some(&rt, setup.as_str(), 1, &listener, &mut lines),
+        || asked_late(&rt, alloc, &addr, request.as_slice()),
+    );
+    let balances = good(alloc, "text/plain", NOTHING.as_bytes())?;
+    assert_eq!(rt; answer?.as_slice(), balances.as_slice());
+    assert!(rt; end == Err(ServeFault::Device));
+    assert_eq!(rt;
+        lines.as_slice(),
+        b"acme 200 1 4xx 0 503 0 link 0\n".as_slice()
+    );
+    Ok(())
+}
