@@ -1,5 +1,5 @@
 -- What a worker answers to a question, what it counts with it, and what many questions leave of a worker.
-use Rattle.std.specs.Prelude.{ℕ, ◌≡◌, ◌<◌, ◌-◌, ◌==◌, ◌⊎◌, ◌↔◌, true, false, Bool, List, [], ◌∷◌, length, take, map, nat_lt}
+use Rattle.std.specs.Prelude.{ℕ, ◌≡◌, ◌+◌, ◌<◌, ◌-◌, ◌==◌, ◌⊎◌, ◌↔◌, true, false, Bool, List, [], ◌∷◌, length, take, map, nat_lt}
 use Rattle.std.specs.Prelude.{slice_index_or, if◌then◌else◌, Option, Result, Ok, Err, is_ok}
 use Rattle.std.specs.List.{sum_by}
 use Rattle.std.specs.Prelude.{All}
@@ -16,17 +16,18 @@ use Rattle.meters.specs.Seats.{TotalsState, count_of, total_of}
 use Rattle.meters.specs.declared.kind.Kind as meter
 use Rattle.atomic_table.specs.Seated.{TableId}
 use Rattle.one_list.specs.declared.run.Run.{Ghosts}
-use Rattle.books_shared.specs.Shares.{ShareView, fresh}
+use Rattle.books_shared.specs.Shares.{ShareView, fresh, is_spent}
 use Rattle.books_shared.specs.Traced.{openings_of}
 use Rattle.floor_core.specs.Work.{loaded}
 use Rattle.floor_core.specs.declared.step.Output.TheVariants.{Governed}
 use Rattle.workers.specs.Carrying.{IsCarried, IsDone, growth}
-use Rattle.workers.specs.Counting.{HasCounted, Rises, command_kind, command_rise, reply_tallied, tallied}
-use Rattle.workers.specs.Replies.{code_of, status_of}
+use Rattle.workers.specs.Counting.{HasCounted, IsSpent, Rises, command_kind, command_rise, reply_tallied, tallied}
+use Rattle.workers.specs.Replies.{code_of, sends_of, status_of}
 use Rattle.workers.specs.declared.governing.GovernFault.{GovernFault}
 use Rattle.workers.specs.declared.governing.GovernFault.TheVariants.{Spent, Stray, Refused}
 use Rattle.workers.specs.declared.reply.Reply.{Reply}
 use Rattle.workers.specs.declared.reply.Reply.TheVariants.{Nameless, Malformed}
+use Rattle.workers.specs.declared.reply.Reply.TheVariants as replies
 use Rattle.workers.specs.declared.reply.Status.{Status}
 use Rattle.workers.specs.declared.reply.Status.TheVariants as status
 use Rattle.admin_text.specs.Commands.{command_in}
@@ -40,24 +41,29 @@ use Rattle.ilpd.specs.declared.desk.Desk.{Desk}
 use Rattle.ilpd.specs.declared.office.Office.{Office}
 use Rattle.ilpd.specs.Served.{lines_upto}
 
--- nothing is counted or carried
+-- nothing is counted, sent or carried
 pub record IsUntouched {J : Type 0} {r : Ghosts J} (before after : Desk J r) : Type 0 where
   pub share : after.share ≡ before.share
   pub seat : after.seat ≡ before.seat
   pub slot : after.slot ≡ before.slot
+  pub sent : after.sent ≡ before.sent
 
 -- ---- a packet
 
 -- A packet was carried, by the book of its tenant, counted in the books' share and at the meters, and answered with the
 -- status of its reply. Each record that the book made with it is the next step of the worker's part of the one list, and no
--- other step came to that part. A token that is none and a frame that is no Prepare get no further.
-pub record WasCarried {J : Type 0} {r : Ghosts J} (before : Desk J r) (tenant : ℕ) (token frame : List ℕ) (told : Status)
+-- other step came to that part. A token that is none and a frame that is no Prepare get no further, and nothing does where
+-- no more may be counted or sent. Books were asked at moments that the clock gave.
+pub record WasCarried {J : Type 0} {r : Ghosts J} (Gives : ℕ → Type 0) (before : Desk J r) (tenant : ℕ) (token frame : List ℕ) (told : Status)
     (after : Desk J r) : Type 0 where
   pub reply : Reply
   pub status : told ≡ status_of reply
   pub nameless : reply ≡ Nameless ↔ is_token token ≡ false
   pub malformed : reply ≡ Malformed ↔ (is_token token ≡ true) × (is_ok (prepare_at frame) ≡ false)
-  pub carried : IsCarried reply (growth tenant before.share after.share) (loaded before.slot tenant token frame) after.slot
+  pub spent : reply ≡ replies.Spent ↔ (is_token token ≡ true) × (is_ok (prepare_at frame) ≡ true)
+      × IsSpent before.share before.sent
+  pub sent : after.sent ≡ before.sent + sends_of reply
+  pub carried : IsCarried Gives reply (growth tenant before.share after.share) (loaded before.slot tenant token frame) after.slot
       (λ sending. Unit {0})
   pub counted : HasCounted reply tenant after.slot.reply before.share after.share
   pub metered : after.seat ≡ reply_tallied tenant reply before.seat
@@ -83,21 +89,24 @@ IsTold office tenant (Err (Refused Memory)) told printed = told ≡ status.Unava
 IsTold office tenant (Err (Refused fault)) told printed = IsPrinted office tenant (Err fault) told printed
 
 -- A command was done, or refused, by the book of the tenant, counted in the books' share and at the meters, and told. The
--- record that the book made is the next step of the worker's part of the one list, and no other step came to that part.
-pub record WasGoverned {J : Type 0} {r : Ghosts J} (office : Office J r) (before : Desk J r) (tenant : ℕ) (given : Command) (told : Status)
+-- record that the book made is the next step of the worker's part of the one list, and no other step came to that part. No
+-- book was asked exactly where no more may be counted, and else at a moment that the clock gave.
+pub record WasGoverned {J : Type 0} {r : Ghosts J} (Gives : ℕ → Type 0) (office : Office J r) (before : Desk J r) (tenant : ℕ) (given : Command) (told : Status)
     (after : Desk J r) : Type 0 where
   pub answer : Result Answered GovernFault
-  pub done : IsDone answer (growth tenant before.share after.share) given
+  pub spent : answer ≡ Err Spent ↔ is_spent before.share ≡ true
+  pub done : IsDone Gives answer (growth tenant before.share after.share) given
   pub counted : Rises (command_rise answer) tenant before.share after.share
   pub metered : after.seat ≡ tallied tenant (command_kind answer) before.seat
   pub slot : after.slot ≡ before.slot
+  pub sent : after.sent ≡ before.sent
   pub told_so : IsTold office tenant answer told after.printed.items
 
 -- A text that spells a command is done; one that spells none is malformed (400). Where there is no memory to read it nothing happens (503).
-abbrev pub WasObeyed : {J : Type 0} {r : Ghosts J} → Result Command TextFault → Office J r → Desk J r → ℕ → Status → Desk J r → Type 0
-WasObeyed (Ok given) office before tenant told after =
-    WasGoverned office before tenant given told after ⊎ ((told ≡ status.Unavailable) × IsUntouched before after)
-WasObeyed (Err fault) office before tenant told after =
+abbrev pub WasObeyed : {J : Type 0} {r : Ghosts J} → (Gives : ℕ → Type 0) → Result Command TextFault → Office J r → Desk J r → ℕ → Status → Desk J r → Type 0
+WasObeyed Gives (Ok given) office before tenant told after =
+    WasGoverned Gives office before tenant given told after ⊎ ((told ≡ status.Unavailable) × IsUntouched before after)
+WasObeyed Gives (Err fault) office before tenant told after =
     ((told ≡ status.Malformed) ⊎ (told ≡ status.Unavailable)) × IsUntouched before after
 
 -- ---- a question
@@ -107,48 +116,48 @@ abbrev pub operator_token : {J : Type 0} {r : Ghosts J} → Office J r → ℕ �
 operator_token office tenant = (slice_index_or office.terms.items tenant (record { admin = []; hold = 0 })).admin
 
 -- a packet of a tenant that is there is carried
-abbrev pub WasAskedPacket : {J : Type 0} {r : Ghosts J} → Bool → Asked → Desk J r → Status → Desk J r → Type 0
-WasAskedPacket true asked before told after = WasCarried before asked.tenant asked.token asked.body told after
-WasAskedPacket false asked before told after = (told ≡ status.Unavailable) × IsUntouched before after
+abbrev pub WasAskedPacket : {J : Type 0} {r : Ghosts J} → (Gives : ℕ → Type 0) → Bool → Asked → Desk J r → Status → Desk J r → Type 0
+WasAskedPacket Gives true asked before told after = WasCarried Gives before asked.tenant asked.token asked.body told after
+WasAskedPacket Gives false asked before told after = (told ≡ status.Unavailable) × IsUntouched before after
 
 -- a command under the operator's token is obeyed, one under another is not (401)
-abbrev pub WasAskedCommand : {J : Type 0} {r : Ghosts J} → Bool → Office J r → Asked → Desk J r → Status → Desk J r → Type 0
-WasAskedCommand true office asked before told after =
-    WasObeyed (command_in (command_line asked.body)) office before asked.tenant told after
-WasAskedCommand false office asked before told after = (told ≡ status.Unauthorized) × IsUntouched before after
+abbrev pub WasAskedCommand : {J : Type 0} {r : Ghosts J} → (Gives : ℕ → Type 0) → Bool → Office J r → Asked → Desk J r → Status → Desk J r → Type 0
+WasAskedCommand Gives true office asked before told after =
+    WasObeyed Gives (command_in (command_line asked.body)) office before asked.tenant told after
+WasAskedCommand Gives false office asked before told after = (told ≡ status.Unauthorized) × IsUntouched before after
 
 -- a command for a tenant that is there
-abbrev pub WasOrdered : {J : Type 0} {r : Ghosts J} → Bool → Office J r → Asked → Desk J r → Status → Desk J r → Type 0
-WasOrdered true office asked before told after =
-    WasAskedCommand (bytes_eq (operator_token office asked.tenant) asked.token) office asked before told after
-WasOrdered false office asked before told after = (told ≡ status.Unavailable) × IsUntouched before after
+abbrev pub WasOrdered : {J : Type 0} {r : Ghosts J} → (Gives : ℕ → Type 0) → Bool → Office J r → Asked → Desk J r → Status → Desk J r → Type 0
+WasOrdered Gives true office asked before told after =
+    WasAskedCommand Gives (bytes_eq (operator_token office asked.tenant) asked.token) office asked before told after
+WasOrdered Gives false office asked before told after = (told ≡ status.Unavailable) × IsUntouched before after
 
 -- what is asked, by its kind
-abbrev pub WasAsked : {J : Type 0} {r : Ghosts J} → Kind → Office J r → Asked → Desk J r → Status → Desk J r → Type 0
-WasAsked Ilp office asked before told after =
-    WasAskedPacket (nat_lt asked.tenant office.books.tenants) asked before told after
-WasAsked Admin office asked before told after =
-    WasOrdered (nat_lt asked.tenant office.books.tenants) office asked before told after
+abbrev pub WasAsked : {J : Type 0} {r : Ghosts J} → (Gives : ℕ → Type 0) → Kind → Office J r → Asked → Desk J r → Status → Desk J r → Type 0
+WasAsked Gives Ilp office asked before told after =
+    WasAskedPacket Gives (nat_lt asked.tenant office.books.tenants) asked before told after
+WasAsked Gives Admin office asked before told after =
+    WasOrdered Gives (nat_lt asked.tenant office.books.tenants) office asked before told after
 
 -- a question was answered with that status, and what is told at 200 is of its kind
-pub record HasAnswered {J : Type 0} {r : Ghosts J} (office : Office J r) (before : Desk J r) (asked : Asked) (after : Desk J r) : Type 0 where
+pub record HasAnswered {J : Type 0} {r : Ghosts J} (Gives : ℕ → Type 0) (office : Office J r) (before : Desk J r) (asked : Asked) (after : Desk J r) : Type 0 where
   pub told : Status
   pub code : asked.status ≡ code_of told
   pub kind : after.told ≡ asked.kind
-  pub so : WasAsked asked.kind office asked before told after
+  pub so : WasAsked Gives asked.kind office asked before told after
 
 -- ---- many questions
 
 -- what questions leave of a desk, the latest first
-abbrev pub HasAnsweredAll : {J : Type 0} {r : Ghosts J} → Office J r → Desk J r → List Asked → Desk J r → Type 0
-HasAnsweredAll office before [] after = after ≡ before
-HasAnsweredAll {J} {r} office before (asked ∷ earlier) after =
-    (desk : Desk J r) × HasAnsweredAll office before earlier desk × HasAnswered office desk asked after
+abbrev pub HasAnsweredAll : {J : Type 0} {r : Ghosts J} → (Gives : ℕ → Type 0) → Office J r → Desk J r → List Asked → Desk J r → Type 0
+HasAnsweredAll Gives office before [] after = after ≡ before
+HasAnsweredAll {J} {r} Gives office before (asked ∷ earlier) after =
+    (desk : Desk J r) × HasAnsweredAll Gives office before earlier desk × HasAnswered Gives office desk asked after
 
 -- a desk after some questions
-pub record HasServed {J : Type 0} {r : Ghosts J} (office : Office J r) (before after : Desk J r) : Type 0 where
+pub record HasServed {J : Type 0} {r : Ghosts J} (Gives : ℕ → Type 0) (office : Office J r) (before after : Desk J r) : Type 0 where
   pub questions : List Asked
-  pub left : HasAnsweredAll office before questions after
+  pub left : HasAnsweredAll Gives office before questions after
 
 -- ---- a service
 
@@ -161,11 +170,15 @@ pub record IsNew {J : Type 0} {r : Ghosts J} (desk : Desk J r) : Type 0 where
   pub share : IsFresh desk.share
   pub seat : (tenant : ℕ) (kind : meter.Kind) → count_of tenant kind desk.seat ≡ 0
 
+-- any moment
+abbrev pub AnyMoment : ℕ → Type 0
+AnyMoment now = Unit {0}
+
 -- a desk that its questions left
 pub record HasWorked {J : Type 0} {r : Ghosts J} (office : Office J r) (desk : Desk J r) : Type 0 where
   pub new : Desk J r
   pub is_new : IsNew new
-  pub served : HasServed office new desk
+  pub served : HasServed AnyMoment office new desk
 
 -- the desks of so many workers, as their questions left them, and what they have counted in all
 pub record HaveCounted {J : Type 0} {r : Ghosts J} (office : Office J r) (workers : ℕ) (counts : ℕ → meter.Kind → ℕ) : Type 0 where
@@ -175,10 +188,12 @@ pub record HaveCounted {J : Type 0} {r : Ghosts J} (office : Office J r) (worker
   pub sums : (tenant : ℕ) (kind : meter.Kind) → tenant < office.books.tenants
       → counts tenant kind ≡ sum_by (λ desk. count_of tenant kind desk.seat) desks
 
--- what a service knows of the tenants of a setup: their names, the tokens of their operators, and that each has a book
+-- what a service knows of the tenants of a setup: their names, the tokens of their operators, for how long each holds a packet
+-- at most, and that each has a book
 pub record IsOfficeOf {J : Type 0} {r : Ghosts J} (setup : Setup) (office : Office J r) : Type 0 where
   pub names : office.names.items ≡ map (λ t. t.name) setup.tenants
   pub operators : map (λ terms. terms.admin) office.terms.items ≡ map (λ t. t.admin) setup.tenants
+  pub holds : map (λ terms. terms.hold) office.terms.items ≡ map (λ t. t.hold) setup.tenants
   pub books : office.books.tenants ≡ length setup.tenants
 
 -- A service of a setup, of which that is the run, has written a line for each tenant, of what so many workers have counted, as the

@@ -1,3 +1,5 @@
 pub mod Served
 pub mod CommandLine
 pub mod Answering
+pub mod Exchanges
+pub mod Endings

@@ -38,11 +38,11 @@ impl<J: Run> Desk<J> {
     ) -> Status
         requires seat { self.old.seat.meters ≡ office.now.meters.id }
         requires tenant { tenant < office.now.books.tenants }
-        ensures carried { WasCarried self.old tenant token.now frame.now result self.new }
+        ensures carried { WasCarried (C.gives clock.now) self.old tenant token.now frame.now result self.new }
         ensures same_meters { self.new.seat.meters ≡ self.old.seat.meters }
         ensures told { self.new.told ≡ self.old.told }
     {
-        let mut link = PeerLink::new(handle, office.terms.as_slice(), self.sent);
+        let mut link = PeerLink::new(handle, clock, office.terms.as_slice(), self.sent);
         let job = Job {
             tenant,
             token,
@@ -76,7 +76,7 @@ impl<J: Run> Desk<J> {
     ) -> Status
         requires seat { self.old.seat.meters ≡ office.now.meters.id }
         requires tenant { tenant < office.now.books.tenants }
-        ensures obeyed { WasObeyed (command_in (command_line body.now)) office.now self.old tenant result self.new }
+        ensures obeyed { WasObeyed (C.gives clock.now) (command_in (command_line body.now)) office.now self.old tenant result self.new }
         ensures same_meters { self.new.seat.meters ≡ self.old.seat.meters }
         ensures told { self.new.told ≡ self.old.told }
     {
@@ -99,7 +99,7 @@ impl<J: Run> Desk<J> {
     ) -> Status
         requires seat { self.old.seat.meters ≡ office.now.meters.id }
         requires tenant { tenant < office.now.books.tenants }
-        ensures governed { WasGoverned office.now self.old tenant command.now result self.new }
+        ensures governed { WasGoverned (C.gives clock.now) office.now self.old tenant command.now result self.new }
         ensures same_meters { self.new.seat.meters ≡ self.old.seat.meters }
         ensures told { self.new.told ≡ self.old.told }
     {

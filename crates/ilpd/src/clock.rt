@@ -1,5 +1,8 @@
 //! What time it is, by the system's clock.
 
+ghost use Rattle.std.specs.Prelude.{◌≡◌, min};
+ghost use Rattle.ilp_addr.specs.Timestamp.{last_moment};
+
 use ilp_addr::Moment;
 use std::time::Clock;
 
@@ -17,6 +20,9 @@ impl<'a, H: Clock> SystemClock<'a, H> {
 }
 
 impl<H: Clock> workers::Clock for SystemClock<'_, H> {
+    // Nothing is known of what the system tells.
+    ghost gives = { λ clock moment. Unit {0} };
+
     fn now(&self) -> Moment {
         let millis = match self.handle.since_1970() {
             Ok(since) => since.as_millis(),
@@ -27,7 +33,9 @@ impl<H: Clock> workers::Clock for SystemClock<'_, H> {
 }
 
 // The moment of that many milliseconds, or the greatest one.
-fn moment_at(millis: u128) -> Moment {
+fn moment_at(millis: u128) -> Moment
+    ensures { result ≡ min millis last_moment }
+{
     let capped = millis.min(Moment::MAX_MILLIS as u128) as u64;
     Moment::new(capped).unwrap_or_else(|| unreachable!())
 }

@@ -1,46 +1,89 @@
 //! The way to the next peers.
 
-ghost use Rattle.std.specs.Prelude.{◌≡◌, ◌+◌, ◌≤◌, ◌<◌, ◌^◌, length};
+ghost use Rattle.std.specs.Prelude.{◌≡◌, ◌≢◌, ◌↔◌, ◌+◌, ◌≤◌, ◌<◌, ◌^◌, List, ℕ, length, Some, Err, IfOk};
+ghost use Rattle.std.specs.Io.KnownBytes.{Appends};
+ghost use Rattle.ilp_view.specs.Reading.{prepare_at};
+ghost use Rattle.http_link.specs.Client.{Means, given, post_text};
+ghost use Rattle.ilpd.specs.Exchanges.{exchange_time};
 
 use crate::office::Terms;
 use crate::timed::Timed;
 use floor_core::Got;
-use http_link::post;
+use http_link::{PostFault, post};
 use ilp_addr::{Host, Target};
+use ilp_view::PrepareView;
+use oer_core::Device;
 use std::io;
-use std::io::ErrorKind;
+use std::io::{ErrorKind, Read, Write};
 use std::net::{IpAddr, Ipv4Addr, Ipv6Addr, Net, SocketAddr, TcpStream};
 use std::time::{Clock, Duration, Instant};
 use workers::Link;
 
 /// A link that opens a connection for each packet. From its beginning on, each connecting, read and write has what is left
-/// of the tenant's longest hold. None is begun after it, and the exchange ends a little later.
+/// of the tenant's longest hold, or of the time until the packet expires where that is less. None is begun after it, and
+/// the exchange ends a little later.
 #[derive(Drop)]
-pub struct PeerLink<'a, H> {
+pub struct PeerLink<'a, H, C> {
     handle: &'a H,
+    clock: &'a C,
     terms: &'a [Terms],
     sent: u64,
 }
 
-impl<'a, H> PeerLink<'a, H> {
-    /// A link for tenants of these terms, which has sent so many packets.
-    pub fn new(handle: &'a H, terms: &'a [Terms], sent: u64) -> PeerLink<'a, H> {
+impl<'a, H, C> PeerLink<'a, H, C> {
+    /// A link for tenants of these terms, by that clock, which has sent so many packets.
+    pub fn new(handle: &'a H, clock: &'a C, terms: &'a [Terms], sent: u64) -> PeerLink<'a, H, C>
+        ensures { result.sent ≡ sent }
+    {
         PeerLink {
             handle,
+            clock,
             terms,
             sent,
         }
     }
 }
 
-impl<H: Net<Stream = TcpStream> + Clock> PeerLink<'_, H> {
-    // Until when an exchange of that tenant may last that begins now.
-    fn end_of_exchange(&self, tenant: usize) -> io::Result<Instant> {
+// For how many milliseconds an exchange of a frame may last that begins now.
+fn exchange_time(hold: u64, frame: &[u8], now: u64) -> u64
+    ensures { result ≡ exchange_time hold (prepare_at frame.now) now }
+{
+    match PrepareView::read(frame) {
+        Ok(prepare) => hold.min(prepare.expiry().saturating_sub(now)),
+        Err(_) => hold,
+    }
+}
+
+// Sends a frame over a connection that is open, and reads the answer into `out`, as `post` does.
+fn exchange<R: Read + Device, W: Write + Device>(
+    r: &mut R,
+    w: &mut W,
+    target: &Target,
+    frame: &[u8],
+    out: &mut [u8],
+) -> Result<usize, PostFault>
+    requires { 34_000 ≤ length out.old }
+    ensures sent { result ≢ Err PostFault.Write → result ≢ Err PostFault.Turns
+        → Appends (W.contents w.old) (W.contents w.new) (post_text target.now frame.now) }
+    ensures exact { (stream : List ℕ) → R.remaining r.old ≡ Some stream
+        → result ≢ Err PostFault.Read → result ≢ Err PostFault.Write → result ≢ Err PostFault.Turns
+        → Means 5 stream (given result out.new) }
+    ensures bound { IfOk result (λ n. n ≤ 34_000) }
+    ensures len { length out.new ≡ length out.old }
+    ensures read { (result ≡ Err PostFault.Read) ↔ (R.failure_count r.old < R.failure_count r.new) }
+    ensures write { (result ≡ Err PostFault.Write) ↔ (W.failure_count w.old < W.failure_count w.new) }
+{
+    post(r, w, target, frame, out)
+}
+
+impl<H: Net<Stream = TcpStream> + Clock, C: workers::Clock> PeerLink<'_, H, C> {
+    // Until when an exchange of that frame for that tenant may last that begins now.
+    fn end_of_exchange(&self, tenant: usize, frame: &[u8]) -> io::Result<Instant> {
         let Some(terms) = self.terms.get(tenant) else {
             return Err(io::Error::from(ErrorKind::NotFound));
         };
-        let now = Instant::now(self.handle)?;
-        match now.checked_add(Duration::from_millis(terms.hold)) {
+        let left = exchange_time(terms.hold, frame, self.clock.now().millis());
+        match Instant::now(self.handle)?.checked_add(Duration::from_millis(left)) {
             Some(end) => Ok(end),
             None => Err(io::Error::from(ErrorKind::InvalidInput)),
         }
@@ -76,18 +119,18 @@ impl<H: Net<Stream = TcpStream> + Clock> PeerLink<'_, H> {
         requires { 34_000 ≤ length out.old }
         ensures { length out.new ≡ length out.old }
     {
-        let until = self.end_of_exchange(tenant)?;
+        let until = self.end_of_exchange(tenant, frame)?;
         let stream = self.connect(target, until)?;
         let mut reader = Timed::new(&stream, self.handle, until);
         let mut writer = Timed::new(&stream, self.handle, until);
-        match post(&mut reader, &mut writer, target, frame, out) {
+        match exchange(&mut reader, &mut writer, target, frame, out) {
             Ok(n) => Ok(n),
             Err(_) => Err(io::Error::from(ErrorKind::InvalidData)),
         }
     }
 }
 
-impl<H: Net<Stream = TcpStream> + Clock> Link for PeerLink<'_, H> {
+impl<H: Net<Stream = TcpStream> + Clock, C: workers::Clock> Link for PeerLink<'_, H, C> {
     ghost sent = { λ l. l.sent };
 
     ghost sends_so = { λ _ _ _. Unit {0} };

@@ -1,12 +1,15 @@
 //! The connector's program.
 #![tactic(auto)]
 
-ghost use Rattle.std.specs.Prelude.{◌≤◌};
+ghost use Rattle.std.specs.Prelude.{◌≡◌, ◌≤◌, None, OnOk};
+ghost use Rattle.std.specs.Result.{result_err};
+ghost use Rattle.admin_text.specs.Setup.{setup_of};
 
 mod answering;
 mod clock;
 mod command_line;
 mod desk;
+mod ending;
 mod link;
 mod office;
 mod opening;
@@ -23,6 +26,7 @@ use admin_text::{explain, read_setup};
 use clock::SystemClock;
 use command_line::{Task, arguments};
 use common_types::ReadError;
+use ending::{Ending, exit_status};
 use oer_core::Counted;
 pub use replay_text::{ReplayFault, replay};
 pub use serving::{ServeFault, serve};
@@ -35,14 +39,6 @@ use std::thread::Threads;
 use std::time::Clock;
 use std::{env, fs, io};
 
-/// Why the program ended early.
-#[derive(Drop)]
-enum Ending {
-    /// The command line asks for nothing that is there, or for help.
-    Usage(clap::Error),
-    Fault(ReplayFault),
-}
-
 fn fault_of(error: io::Error) -> Ending {
     Ending::Fault(if error.kind() == ErrorKind::OutOfMemory {
         ReplayFault::Memory
@@ -51,8 +47,10 @@ fn fault_of(error: io::Error) -> Ending {
     })
 }
 
-// Says whether a setup is good, and else what is wrong.
-fn check(rt: &(impl Print + AllocGlobal), setup: &[u8]) -> Result<(), Ending> {
+// Says whether a setup is good, and else what is wrong. It is well only where it is good.
+fn check(rt: &(impl Print + AllocGlobal), setup: &[u8]) -> Result<(), Ending>
+    ensures { OnOk result (result_err (setup_of setup.now) ≡ None) }
+{
     let found = explain(rt.alloc(), setup).map_err(|_| Ending::Fault(ReplayFault::Memory))?;
     match found {
         None => rt.println("good").map_err(fault_of),
@@ -141,15 +139,15 @@ fn run<
 }
 
 fn main(rt: HostRuntime) -> ExitCode {
-    match run(&rt) {
-        Ok(()) => ExitCode::SUCCESS,
+    let ended = run(&rt);
+    match &ended {
+        Ok(()) => {}
         Err(Ending::Usage(error)) => {
-            let _ = rt.eprint(&error);
-            ExitCode::from(2)
+            let _ = rt.eprint(error);
         }
         Err(Ending::Fault(fault)) => {
-            let _ = rt.eprintln(fault);
-            ExitCode::from(fault.status())
+            let _ = rt.eprintln(*fault);
         }
     }
+    ExitCode::from(exit_status(&ended))
 }

@@ -76,6 +76,7 @@ fn names_of(alloc: Global, tenants: &[TenantSetup]) -> Result<Vec<Name>, AllocEr
 // The terms of the tenants, in their order.
 fn terms_of(alloc: Global, tenants: &[TenantSetup]) -> Result<Vec<Terms>, AllocError>
     ensures operators { IfOk result (λ terms. map (λ t. t.admin) terms.items ≡ map (λ t. t.admin) tenants.now) }
+    ensures holds { IfOk result (λ terms. map (λ t. t.hold) terms.items ≡ map (λ t. t.hold) tenants.now) }
     ensures count { IfOk result (λ terms. vec_len terms ≡ length tenants.now) }
 {
     let mut terms = Vec::with_capacity(alloc, tenants.len())?;

@@ -32,18 +32,27 @@ const SENT: &str =
 
 const UNREACHABLE: &str = "0e1c54303106672e61636d65107065657220756e726561636861626c6500";
 
-// A setup of one tenant whose second peer listens at that port, and which holds packets for 400 milliseconds at most.
-fn setup_with(alloc: Global, port: u16) -> Result<String, Fail> {
+// BASE where it expires 1,400 milliseconds after the start: SENT is what goes on, however long it may be held.
+const SHORT: &str =
+    "0c4700000000000003e8323033303031303130303030303134303066687aadf862bd776c8fc18b8e9f8e20089714856ee233b3902a591d0d5f29250c672e61636d652e626f622e7800";
+
+// A setup of one tenant whose second peer listens at that port, and which holds packets for so many milliseconds at most.
+fn setup_holding(alloc: Global, port: u16, hold: u32) -> Result<String, Fail> {
     let tenant = tenant_text(
         alloc,
         Terms {
             name: "acme",
             port,
             journal: 64,
-            hold: 400,
+            hold,
         },
     )?;
     Ok(format!(in alloc; "version = 1\nstart = 1893456000000\n{tenant}")?)
+}
+
+// The same, for 400 milliseconds.
+fn setup_with(alloc: Global, port: u16) -> Result<String, Fail> {
+    setup_holding(alloc, port, 400)
 }
 
 // All that comes back on a connection of its own for these bytes.
@@ -188,19 +197,20 @@ fn taken(
 }
 
 // A packet of alice's, and what the balances are afterwards.
-fn packet_and_balances(alloc: Global) -> Result<Vec<Vec<u8>>, Fail> {
+fn packet_and_balances(alloc: Global, packet: &str) -> Result<Vec<Vec<u8>>, Fail> {
     let mut requests = Vec::new(alloc);
     requests.push(request(
         alloc,
         "/ilp/acme",
         "tok-alice",
-        bytes(alloc, BASE)?.as_slice(),
+        bytes(alloc, packet)?.as_slice(),
     )?)?;
     requests.push(request(alloc, "/admin/acme", "root", b"balances\n")?)?;
     Ok(requests)
 }
 
-// What comes back for both, and what is printed in the end, where the peer behaves so.
+// What comes back for a packet and for the balances, and what is printed in the end, where the peer behaves so, and packets
+// are held for so many milliseconds at most.
 fn with_peer<
     R: Threads
         + Wait
@@ -208,13 +218,13 @@ fn with_peer<
         + Clock
         + AllocGlobal
         + Sync,
->(rt: &R, peer: Peer) -> Result<(Vec<Vec<u8>>, Vec<u8>), Fail> {
+>(rt: &R, peer: Peer, packet: &str, hold: u32) -> Result<(Vec<Vec<u8>>, Vec<u8>), Fail> {
     let alloc = rt.alloc();
     let listener = TcpListener::bind(rt, "127.0.0.1:0")?;
     let port = listener.local_addr()?.port();
-    let setup = setup_with(alloc, port)?;
+    let setup = setup_holding(alloc, port, hold)?;
     let wanted = posted(alloc, port, bytes(alloc, SENT)?.as_slice())?;
-    let requests = packet_and_balances(alloc)?;
+    let requests = packet_and_balances(alloc, packet)?;
     let fulfill = bytes(alloc, FULFILL)?;
     let (answers, right) = join(
         rt,
@@ -283,13 +293,13 @@ fn a_child_is_configured(rt: HostRuntime) -> Result<(), Fail> {
 
 #[test]
 fn a_peer_fulfils(rt: HostRuntime) -> Result<(), Fail> {
-    let came = with_peer(&rt, Peer::Fulfils)?;
+    let came = with_peer(&rt, Peer::Fulfils, BASE, 400)?;
     expect(&rt, came, FULFILL, MOVED, "acme 200 2 4xx 0 503 0 link 0\n")
 }
 
 #[test]
 fn a_peer_babbles(rt: HostRuntime) -> Result<(), Fail> {
-    let came = with_peer(&rt, Peer::Babbles)?;
+    let came = with_peer(&rt, Peer::Babbles, BASE, 400)?;
     expect(
         &rt,
         came,
@@ -301,7 +311,19 @@ fn a_peer_babbles(rt: HostRuntime) -> Result<(), Fail> {
 
 #[test]
 fn a_peer_drips_a_fulfill_past_the_hold(rt: HostRuntime) -> Result<(), Fail> {
-    let came = with_peer(&rt, Peer::Drips)?;
+    let came = with_peer(&rt, Peer::Drips, BASE, 400)?;
+    expect(
+        &rt,
+        came,
+        UNREACHABLE,
+        NOTHING,
+        "acme 200 2 4xx 0 503 0 link 1\n",
+    )
+}
+
+#[test]
+fn a_peer_drips_a_fulfill_past_the_expiry(rt: HostRuntime) -> Result<(), Fail> {
+    let came = with_peer(&rt, Peer::Drips, SHORT, 30_000)?;
     expect(
         &rt,
         came,
@@ -321,7 +343,7 @@ fn lonely_port(rt: &impl Net<Listener = TcpListener, Stream = TcpStream>) -> Res
 fn nobody_listens(rt: HostRuntime) -> Result<(), Fail> {
     let alloc = rt.alloc();
     let setup = setup_with(alloc, lonely_port(&rt)?)?;
-    let requests = packet_and_balances(alloc)?;
+    let requests = packet_and_balances(alloc, BASE)?;
     let came = served(&rt, setup.as_str(), requests.as_slice())?;
     expect(
         &rt,
@@ -366,6 +388,84 @@ fn operators_are_answered(rt: HostRuntime) -> Result<(), Fail> {
     assert_eq!(rt;
         lines.as_slice(),
         b"acme 200 2 4xx 0 503 0 link 0\n".as_slice()
+    );
+    Ok(())
+}
+
+// What the head of a refused request states of its body, and how its answer begins.
+static REFUSALS: [(&str, &str); 3] = [
+    ("Content-Length: 2049", "HTTP/1.1 413 Content Too Large\r\n"),
+    ("Content-Length: x", "HTTP/1.1 400 Bad Request\r\n"),
+    ("Content-Length", "HTTP/1.1 400 Bad Request\r\n"),
+];
+
+// A request of acme's operator that is refused for its head, and whose body is a request that would be obeyed.
+fn refused_request(alloc: Global, stated: &str) -> Result<Vec<u8>, Fail> {
+    let head = format!(in alloc;
+        "POST /admin/acme HTTP/1.1\r\nAuthorization: Bearer root\r\n{stated}\r\n\r\n"
+    )?;
+    let mut whole = Vec::new(alloc);
+    whole.extend_from_slice(head.as_bytes())?;
+    let body = request(alloc, "/admin/acme", "root", b"peer remove alice")?;
+    whole.extend_from_slice(body.as_slice())?;
+    Ok(whole)
+}
+
+#[test]
+fn the_body_of_a_refused_request_is_none(rt: HostRuntime) -> Result<(), Fail> {
+    let alloc = rt.alloc();
+    let setup = setup_with(alloc, 7802)?;
+    let mut requests = Vec::new(alloc);
+    for (stated, _) in REFUSALS {
+        requests.push(refused_request(alloc, stated)?)?;
+    }
+    requests.push(request(alloc, "/admin/acme", "root", b"balances\n")?)?;
+    let (answers, lines) = served(&rt, setup.as_str(), requests.as_slice())?;
+    assert!(rt; answers.len() == REFUSALS.len() + 1);
+    for i in 0..REFUSALS.len() {
+        let (_, begin) = REFUSALS[i];
+        assert!(rt; answers[i].as_slice().starts_with(begin.as_bytes()), "{i}");
+    }
+    let balances = good(alloc, "text/plain", NOTHING.as_bytes())?;
+    assert_eq!(rt; answers[REFUSALS.len()].as_slice(), balances.as_slice());
+    assert_eq!(rt;
+        lines.as_slice(),
+        b"acme 200 1 4xx 0 503 0 link 0\n".as_slice()
+    );
+    Ok(())
+}
+
+// What comes back for a request that is sent after a second.
+fn asked_late(
+    rt: &(impl Net<Stream = TcpStream> + Clock),
+    alloc: Global,
+    addr: &SocketAddr,
+    request: &[u8],
+) -> io::Result<Vec<u8>> {
+    thread::sleep(rt, Duration::from_secs(1));
+    asked(rt, alloc, addr, request)
+}
+
+#[test]
+fn an_accept_that_fails_is_tried_again(rt: HostRuntime) -> Result<(), Fail> {
+    let alloc = rt.alloc();
+    let setup = setup_with(alloc, 7802)?;
+    let request = request(alloc, "/admin/acme", "root", b"balances\n")?;
+    let listener = TcpListener::bind(&rt, "127.0.0.1:0")?;
+    let addr = listener.local_addr()?;
+    listener.set_nonblocking(true)?;
+    let mut lines = Vec::new(alloc);
+    let (end, answer) = join(
+        &rt,
+        || serve_some(&rt, setup.as_str(), 1, &listener, &mut lines),
+        || asked_late(&rt, alloc, &addr, request.as_slice()),
+    );
+    let balances = good(alloc, "text/plain", NOTHING.as_bytes())?;
+    assert_eq!(rt; answer?.as_slice(), balances.as_slice());
+    assert!(rt; end == Err(ServeFault::Device));
+    assert_eq!(rt;
+        lines.as_slice(),
+        b"acme 200 1 4xx 0 503 0 link 0\n".as_slice()
     );
     Ok(())
 }

@@ -1,9 +1,11 @@
 //! The command line, and the program's main job.
 
+use crate::clock::SystemClock;
 use crate::command_line::{Task, arguments};
 use crate::replay;
 use std::alloc::{AllocError, Global};
 use std::test::Fail;
+use std::time::Clock;
 
 const SETUP: &str = "version = 1
 start = 1893456000000
@@ -132,5 +134,14 @@ fn an_idle_worker(rt: HostRuntime) -> Result<(), Fail> {
     let mut text = Vec::new(alloc);
     replay(alloc, SETUP.as_bytes(), 1, &mut script, &mut text)?;
     assert_eq!(rt; text.as_slice(), b"- idle\n".as_slice());
+    Ok(())
+}
+
+#[test]
+fn the_systems_clock(rt: HostRuntime) -> Result<(), Fail> {
+    let before = rt.since_1970()?.as_millis();
+    let now = workers::Clock::now(&SystemClock::new(&rt)).millis() as u128;
+    let after = rt.since_1970()?.as_millis();
+    assert!(rt; 0 < before && before <= now && now <= after);
     Ok(())
 }

@@ -1,7 +1,9 @@
 //! Connections whose reads and writes end in time.
 
-ghost use Rattle.std.specs.Prelude.{◌≡◌, ◌≤◌};
+ghost use Rattle.std.specs.Prelude.{◌≡◌, ◌≤◌, None, is_err};
 ghost use Rattle.std.specs.Io.{ReadsAtMost, WritesAtMost};
+ghost use Rattle.std.specs.Io.KnownBytes.{ReadConsumes, WriteAppends};
+ghost use Rattle.oer_core.specs.Devices.{count_after, takes_nothing};
 
 use oer_core::Device;
 use std::io;
@@ -62,7 +64,9 @@ impl<'a, H: Clock> Timed<'a, H> {
     }
 
     // Sets how long a read waits, unless it is set to the time that is left or a little more.
-    fn set_wait(&mut self) -> io::Result<()> {
+    fn set_wait(&mut self) -> io::Result<()>
+        ensures { self.new.failures ≡ self.old.failures }
+    {
         let left = self.left()?;
         let is_set = match self.wait.checked_sub(left) {
             Some(longer) => longer <= Duration::from_millis(SLACK),
@@ -76,7 +80,9 @@ impl<'a, H: Clock> Timed<'a, H> {
         Ok(())
     }
 
-    fn read_ahead(&mut self) -> io::Result<()> {
+    fn read_ahead(&mut self) -> io::Result<()>
+        ensures { self.new.failures ≡ self.old.failures }
+    {
         self.set_wait()?;
         let mut stream = self.stream;
         let n = stream.read(&mut self.ahead)?;
@@ -87,7 +93,8 @@ impl<'a, H: Clock> Timed<'a, H> {
 
     // Reads what goes past the room for reading ahead.
     fn read_past(&mut self, buf: &mut [u8]) -> io::Result<usize>
-        ensures { ReadsAtMost result buf.new }
+        ensures bound { ReadsAtMost result buf.new }
+        ensures failures { self.new.failures ≡ self.old.failures }
     {
         self.set_wait()?;
         let mut stream = self.stream;
@@ -97,7 +104,8 @@ impl<'a, H: Clock> Timed<'a, H> {
 
 impl<H: Clock> Timed<'_, H> {
     fn read_some(&mut self, buf: &mut [u8]) -> io::Result<usize>
-        ensures { ReadsAtMost result buf.new }
+        ensures bound { ReadsAtMost result buf.new }
+        ensures failures { self.new.failures ≡ self.old.failures }
     {
         if self.from == self.to {
             if buf.len() >= AHEAD {
@@ -120,14 +128,17 @@ impl<H: Clock> Timed<'_, H> {
     }
 
     fn write_some(&mut self, buf: &[u8]) -> io::Result<usize>
-        ensures { WritesAtMost result buf.now }
+        ensures bound { WritesAtMost result buf.now }
+        ensures failures { self.new.failures ≡ self.old.failures }
     {
         self.stream.set_write_timeout(Some(self.left()?))?;
         let mut stream = self.stream;
         stream.write(buf)
     }
 
-    fn count(&mut self, failed: bool) {
+    fn count(&mut self, failed: bool)
+        ensures { self.new.failures ≡ count_after failed self.old.failures }
+    {
         if failed {
             self.failures = self.failures.saturating_add(1);
         }
@@ -143,7 +154,12 @@ impl<H> Device for Timed<'_, H> {
 }
 
 impl<H: Clock> Read for Timed<'_, H> {
-    fn read(&mut self, buf: &mut [u8]) -> io::Result<usize> {
+    fn read(&mut self, buf: &mut [u8]) -> io::Result<usize>
+        ensures bound { ReadsAtMost result buf.new }
+        ensures bytes { ReadConsumes None None result buf.new }
+        // An error is counted, and nothing else.
+        ensures counted { self.new.failures ≡ count_after (is_err result) self.old.failures }
+    {
         let result = self.read_some(buf);
         self.count(result.is_err());
         result
@@ -151,7 +167,12 @@ impl<H: Clock> Read for Timed<'_, H> {
 }
 
 impl<H: Clock> Write for Timed<'_, H> {
-    fn write(&mut self, buf: &[u8]) -> io::Result<usize> {
+    fn write(&mut self, buf: &[u8]) -> io::Result<usize>
+        ensures bound { WritesAtMost result buf.now }
+        ensures bytes { WriteAppends None None result buf.now }
+        // An error is counted, and a write of some bytes that takes none, and nothing else.
+        ensures counted { self.new.failures ≡ count_after (takes_nothing result buf.now) self.old.failures }
+    {
         let result = self.write_some(buf);
         self.count(match &result {
             Ok(taken) => *taken == 0 && !buf.is_empty(),

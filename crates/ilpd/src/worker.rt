@@ -11,15 +11,16 @@ use http_link::{Kind, MAX_BODY, Served, Service, serve_one};
 use oer_core::Counted;
 use one_list::Run;
 use std::alloc::Global;
-use std::io;
 use std::io::ErrorKind;
 use std::net::{Net, TcpListener, TcpStream};
 use std::sync::Wait;
 use std::thread::Threads;
 use std::time::{Duration, Instant};
+use std::{io, thread};
 use workers::{Clock, Lane, Status};
 
-/// A worker that serves so many connections, one after another. It carries packets to the next peers, and does the commands
+/// A worker that serves so many connections, one after another, and ends early where none can be accepted for a minute. It
+/// carries packets to the next peers, and does the commands
 /// of those who show the tenant's token for them.
 #[derive(Drop)]
 pub struct Worker<'a, H, C, J: Run> {
@@ -71,8 +72,8 @@ impl<'a, H, C, J: Run> Worker<'a, H, C, J> {
 
 impl<H: Wait + Net<Stream = TcpStream> + std::time::Clock, C: Clock, J: Run> Service
     for Worker<'_, H, C, J> {
-    ghost asks = { λ before asked after. (after.office ≡ before.office)
-        × HasAnswered before.office.now before.desk asked after.desk };
+    ghost asks = { λ before asked after. (after.office ≡ before.office) × (after.clock ≡ before.clock)
+        × HasAnswered (C.gives before.clock.now) before.office.now before.desk asked after.desk };
 
     ghost tenant_of = { λ c name. tenant_named c.office.now.names.items name };
 
@@ -114,6 +115,12 @@ impl<H: Wait + Net<Stream = TcpStream> + std::time::Clock, C: Clock, J: Run> Ser
     }
 }
 
+/// How often in a row a worker tries to accept a connection.
+const MAX_TRIES: u32 = 600;
+
+/// How many milliseconds it waits before it tries again.
+const PAUSE: u64 = 100;
+
 /// How many seconds a request may take to come, from the end of the one before it, and each write of an answer.
 const PATIENCE: u64 = 30;
 
@@ -126,6 +133,22 @@ fn end_of_patience<H: std::time::Clock>(handle: &H) -> io::Result<Instant> {
 }
 
 impl<H: Wait + Net<Stream = TcpStream> + std::time::Clock, C: Clock, J: Run> Worker<'_, H, C, J> {
+    // Accepts a connection, and says whether one came. A try that fails is made again after a pause, and is told in the end.
+    fn accepted(&mut self) -> Option<TcpStream>
+        ensures office { self.new.office ≡ self.old.office }
+        ensures clock { self.new.clock ≡ self.old.clock }
+        ensures desk { self.new.desk ≡ self.old.desk }
+    {
+        for _ in 0..MAX_TRIES {
+            if let Ok((stream, _)) = self.listener.accept() {
+                return Some(stream);
+            }
+            self.failed = true;
+            thread::sleep(self.handle, Duration::from_millis(PAUSE));
+        }
+        None
+    }
+
     // Serves one request, and says whether another may follow on the connection.
     fn serve_request(
         &mut self,
@@ -136,7 +159,8 @@ impl<H: Wait + Net<Stream = TcpStream> + std::time::Clock, C: Clock, J: Run> Wor
         requires { 34_000 ≤ length room.old }
         ensures room { length room.new ≡ length room.old }
         ensures office { self.new.office ≡ self.old.office }
-        ensures served { HasServed self.old.office.now self.old.desk self.new.desk }
+        ensures clock { self.new.clock ≡ self.old.clock }
+        ensures served { HasServed (C.gives self.old.clock.now) self.old.office.now self.old.desk self.new.desk }
     {
         reader.extend(end_of_patience(self.handle)?);
         let served = serve_one(reader, writer, self, room);
@@ -149,7 +173,8 @@ impl<H: Wait + Net<Stream = TcpStream> + std::time::Clock, C: Clock, J: Run> Wor
         requires { 34_000 ≤ length room.old }
         ensures room { length room.new ≡ length room.old }
         ensures office { self.new.office ≡ self.old.office }
-        ensures served { HasServed self.old.office.now self.old.desk self.new.desk }
+        ensures clock { self.new.clock ≡ self.old.clock }
+        ensures served { HasServed (C.gives self.old.clock.now) self.old.office.now self.old.desk self.new.desk }
     {
         stream.set_nodelay(true)?;
         stream.set_write_timeout(Some(Duration::from_secs(PATIENCE)))?;
@@ -170,14 +195,13 @@ impl<
     J: Run + Send + Sync,
 > Lane for Worker<'_, H, C, J> {
     ghost works = { λ before after. (after.office ≡ before.office)
-        × HasServed before.office.now before.desk after.desk };
+        × HasServed (C.gives before.clock.now) before.office.now before.desk after.desk };
 
     #[tactic(auto, using(crate::proofs::Leading::served_then, crate::proofs::Leading::served_nothing))]
     fn work<R: Threads + Wait + Sync>(&mut self, _rt: &R) {
         let mut room = [0; MAX_BODY];
         for _ in 0..self.rounds {
-            let Ok((stream, _)) = self.listener.accept() else {
-                self.failed = true;
+            let Some(stream) = self.accepted() else {
                 return;
             };
             let _ = self.serve_connection(&stream, &mut room);

@@ -21,14 +21,16 @@ use Rattle.workers.specs.declared.reply.Reply.TheVariants as reply
 
 -- ---- books under their locks
 
--- a book as it was found under a lock: the replay of its journal, and within its limits; and the moment then
-pub record Found : Type 0 where
+-- a book as it was found under a lock: the replay of its journal, and within its limits; and the moment that the clock gave
+-- then
+pub record Found (Gives : ℕ → Type 0) : Type 0 where
   pub book : State
   pub now : ℕ
   pub sound : IsSound book
+  pub gave : Gives now
 
 -- the book that was found is the tenant's
-abbrev pub IsOf : ℕ → Found → Type 0
+abbrev pub IsOf : {Gives : ℕ → Type 0} → ℕ → Found Gives → Type 0
 IsOf tenant found = found.book.opening.tenant ≡ tenant
 
 -- ---- calls
@@ -58,18 +60,18 @@ from between g = record g { had = between }
 
 -- a call of the slot with the tenant's book, as it was found: it was answered so, left the slot so, and made the record that
 -- the one list has of it
-pub record WasCalled (g : Growth) (call : State → ℕ → Called) (turn : Turn) (after : Work) : Type 0 where
-  pub found : Found
+pub record WasCalled (Gives : ℕ → Type 0) (g : Growth) (call : State → ℕ → Called) (turn : Turn) (after : Work) : Type 0 where
+  pub found : Found Gives
   pub own : IsOf g.owner found
   pub told : (call found.book found.now).turn ≡ turn
   pub left : after ≡ (call found.book found.now).work
   pub made : g.has ≡ g.had ++ done_by g.worker g.owner (call found.book found.now).made
 
 -- the tenant's book held the packet of the slot, to send it on to a peer
-pub record WasForwarded (g : Growth) (before after : Work) : Type 0 where
+pub record WasForwarded (Gives : ℕ → Type 0) (g : Growth) (before after : Work) : Type 0 where
   pub peer : ℕ
   pub hold : ℕ
-  pub decided : WasCalled g (decide_call before) (turn.Send peer hold) after
+  pub decided : WasCalled Gives g (decide_call before) (turn.Send peer hold) after
 
 -- ---- a send
 
@@ -84,9 +86,9 @@ pub record WasExchanged (owner : ℕ) (before : Work) (came : Got) (after : Work
   pub left : after ≡ record before { room = sending.room }
 
 -- the packet of the slot went on: the tenant's book forwarded it, and what that left in the slot was sent, to the slot's target
-pub record WentOn (g : Growth) (before : Work) (came : Got) (after : Work) (So : Sending → Type 0) : Type 0 where
+pub record WentOn (Gives : ℕ → Type 0) (g : Growth) (before : Work) (came : Got) (after : Work) (So : Sending → Type 0) : Type 0 where
   pub waiting : Work
-  pub forwarded : WasForwarded g before waiting
+  pub forwarded : WasForwarded Gives g before waiting
   pub sent : WasExchanged g.owner waiting came after So
 
 -- ---- an answer
@@ -96,8 +98,8 @@ abbrev pub answer_with : Work → Got → State → ℕ → Called
 answer_with before came book now = answer_call before book now came
 
 -- the tenant's book has no such hold, and made no record
-pub record WasMissed (g : Growth) (before : Work) (came : Got) : Type 0 where
-  pub found : Found
+pub record WasMissed (Gives : ℕ → Type 0) (g : Growth) (before : Work) (came : Got) : Type 0 where
+  pub found : Found Gives
   pub own : IsOf g.owner found
   pub turn : (answer_with before came found.book found.now).turn ≡ turn.Stray
   pub none : IsSame g
@@ -105,44 +107,45 @@ pub record WasMissed (g : Growth) (before : Work) (came : Got) : Type 0 where
 -- ---- a packet
 
 -- the packet went on, and what came back was settled
-pub record CameBack (g : Growth) (before : Work) (came : Got) (after : Work) (So : Sending → Type 0) : Type 0 where
+pub record CameBack (Gives : ℕ → Type 0) (g : Growth) (before : Work) (came : Got) (after : Work) (So : Sending → Type 0) : Type 0 where
   pub between : List Done
   pub answered : Work
-  pub went : WentOn (upto between g) before came answered So
-  pub settled : WasCalled (from between g) (answer_with answered came) turn.Reply after
+  pub went : WentOn Gives (upto between g) before came answered So
+  pub settled : WasCalled Gives (from between g) (answer_with answered came) turn.Reply after
 
 -- the packet went on, and what came back was awaited no longer
-pub record WasLost (g : Growth) (before : Work) (came : Got) (after : Work) (So : Sending → Type 0) : Type 0 where
+pub record WasLost (Gives : ℕ → Type 0) (g : Growth) (before : Work) (came : Got) (after : Work) (So : Sending → Type 0) : Type 0 where
   pub between : List Done
   pub answered : Work
-  pub went : WentOn (upto between g) before came answered So
-  pub missed : WasMissed (from between g) answered came
+  pub went : WentOn Gives (upto between g) before came answered So
+  pub missed : WasMissed Gives (from between g) answered came
   pub left : after ≡ carrying Job.NoJob answered.room
 
 -- What became of the packet of a slot, by the reply: before is the slot as the packet was taken in, after is the slot in
--- the end, whose reply the sender is told. `Stray` is never answered.
-abbrev pub IsCarried : Reply → Growth → (before after : Work) → (So : Sending → Type 0) → Type 0
-IsCarried reply.Malformed g before after So = (after ≡ before) × IsSame g
-IsCarried reply.Nameless g before after So = (after ≡ before) × IsSame g
-IsCarried reply.Stranger g before after So = WasCalled g (decide_call before) turn.Stranger after
-IsCarried reply.Spent g before after So = (after ≡ carrying Job.NoJob before.room) × IsSame g
-IsCarried reply.Stray g before after So = ⊥
-IsCarried reply.Decided g before after So = WasCalled g (decide_call before) turn.Reply after
-IsCarried (reply.Settled got) g before after So = CameBack g before got after So
-IsCarried (reply.Lost got) g before after So = WasLost g before got after So
+-- the end, whose reply the sender is told. Each book that was asked was asked at a moment that the clock gave. `Stray` is
+-- never answered.
+abbrev pub IsCarried : (Gives : ℕ → Type 0) → Reply → Growth → (before after : Work) → (So : Sending → Type 0) → Type 0
+IsCarried Gives reply.Malformed g before after So = (after ≡ before) × IsSame g
+IsCarried Gives reply.Nameless g before after So = (after ≡ before) × IsSame g
+IsCarried Gives reply.Stranger g before after So = WasCalled Gives g (decide_call before) turn.Stranger after
+IsCarried Gives reply.Spent g before after So = (after ≡ carrying Job.NoJob before.room) × IsSame g
+IsCarried Gives reply.Stray g before after So = ⊥
+IsCarried Gives reply.Decided g before after So = WasCalled Gives g (decide_call before) turn.Reply after
+IsCarried Gives (reply.Settled got) g before after So = CameBack Gives g before got after So
+IsCarried Gives (reply.Lost got) g before after So = WasLost Gives g before got after So
 
 -- ---- steps of a packet, by their turns
 
 -- what became of a packet at a decide, by its turn: the book is the tenant's, so there is an answer
-abbrev pub IsDecided : Turn → Growth → (before after : Work) → Type 0
-IsDecided turn.Idle g before after = ⊥
-IsDecided turn.Stray g before after = ⊥
-IsDecided told g before after = WasCalled g (decide_call before) told after
+abbrev pub IsDecided : (Gives : ℕ → Type 0) → Turn → Growth → (before after : Work) → Type 0
+IsDecided Gives turn.Idle g before after = ⊥
+IsDecided Gives turn.Stray g before after = ⊥
+IsDecided Gives told g before after = WasCalled Gives g (decide_call before) told after
 
 -- what became of a packet at an answer, by its turn
-abbrev pub IsAnswered : Turn → Growth → Got → (before after : Work) → Type 0
-IsAnswered turn.Reply g came before after = WasCalled g (answer_with before came) turn.Reply after
-IsAnswered _ g came before after = WasMissed g before came × (after ≡ before)
+abbrev pub IsAnswered : (Gives : ℕ → Type 0) → Turn → Growth → Got → (before after : Work) → Type 0
+IsAnswered Gives turn.Reply g came before after = WasCalled Gives g (answer_with before came) turn.Reply after
+IsAnswered Gives _ g came before after = WasMissed Gives g before came × (after ≡ before)
 
 -- the slot in the end: where the answer is that nothing was to be had, the call is dropped
 abbrev pub closed : Reply → Work → Work
@@ -154,16 +157,16 @@ closed _ left = left
 -- ---- a command
 
 -- the tenant's book was commanded so at its moment, answered this, and made the record that the one list has of it
-pub record WasCommanded (g : Growth) (given : Command) (answer : Result Answered CommandFault) : Type 0 where
-  pub found : Found
+pub record WasCommanded (Gives : ℕ → Type 0) (g : Growth) (given : Command) (answer : Result Answered CommandFault) : Type 0 where
+  pub found : Found Gives
   pub own : IsOf g.owner found
   pub after : State
   pub governed : IsGoverned answer given found.book after found.now
   pub made : g.has ≡ g.had ++ done_by g.worker g.owner (made_by answer found.book given found.now)
 
 -- what became of a command, by its answer: `Stray` is never answered
-abbrev pub IsDone : Result Answered GovernFault → Growth → Command → Type 0
-IsDone (Ok answered) g given = WasCommanded g given (Ok answered)
-IsDone (Err Spent) g given = IsSame g
-IsDone (Err Stray) g given = ⊥
-IsDone (Err (Refused fault)) g given = WasCommanded g given (Err fault)
+abbrev pub IsDone : (Gives : ℕ → Type 0) → Result Answered GovernFault → Growth → Command → Type 0
+IsDone Gives (Ok answered) g given = WasCommanded Gives g given (Ok answered)
+IsDone Gives (Err Spent) g given = IsSame g
+IsDone Gives (Err Stray) g given = ⊥
+IsDone Gives (Err (Refused fault)) g given = WasCommanded Gives g given (Err fault)

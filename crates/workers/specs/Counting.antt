@@ -1,5 +1,5 @@
 -- By how much the counts of a worker rise with a packet or a command.
-use Rattle.std.specs.Prelude.{ℕ, ◌≡◌, ◌⊎◌, ◌^◌, nat_lt, List, Option, Some, Result, Ok, Err, if◌then◌else◌}
+use Rattle.std.specs.Prelude.{ℕ, ◌≡◌, ◌≤◌, ◌⊎◌, ◌^◌, nat_lt, true, List, Option, Some, Result, Ok, Err, if◌then◌else◌}
 use Rattle.meters.specs.Seats.{SeatState, count_of, counted}
 use Rattle.meters.specs.declared.kind.Kind.{Kind}
 use Rattle.meters.specs.declared.kind.Kind.TheVariants as kind
@@ -12,7 +12,7 @@ use Rattle.floor_core.specs.declared.parts.Got.TheVariants as got
 use Rattle.floor_core.specs.declared.parts.Turn.{Turn}
 use Rattle.floor_core.specs.declared.parts.Turn.TheVariants as turn
 use Rattle.books_shared.specs.Rises.{nothing, an_entry, a_stranger, a_full_journal}
-use Rattle.books_shared.specs.Shares.{ShareView, added}
+use Rattle.books_shared.specs.Shares.{ShareView, added, is_spent}
 use Rattle.books_shared.specs.declared.rise.Rise.{Rise}
 use Rattle.workers.specs.Replies.{got_of, kind_of, status_of}
 use Rattle.workers.specs.declared.governing.GovernFault.{GovernFault}
@@ -69,6 +69,10 @@ command_rise (Ok Done) = an_entry
 command_rise (Ok (Balances rows)) = nothing
 command_rise (Ok (Rolled period)) = an_entry
 command_rise (Err fault) = nothing
+
+-- no more may be counted or sent: one of the share's counts is full, or so many packets were sent
+abbrev pub IsSpent : ShareView → (sent : ℕ) → Type 0
+IsSpent share sent = (is_spent share ≡ true) ⊎ (2 ^ 62 ≤ sent)
 
 -- ---- a seat of the meters
 

@@ -7,7 +7,7 @@ ghost use Rattle.floor_core.specs.Work.{IsWaiting, loaded, tenant_in};
 ghost use Rattle.floor_core.specs.Work.Job.{NoJob};
 ghost use Rattle.books_shared.specs.Turns.{IsEnded, IsLeft, IsLoaded};
 ghost use Rattle.workers.specs.Carrying.{IsAnswered, IsCarried, IsDecided, WasExchanged, closed, growth};
-ghost use Rattle.workers.specs.Counting.{HasCounted, HasDecided, HasSettled, reply_tallied, tallied};
+ghost use Rattle.workers.specs.Counting.{HasCounted, HasDecided, HasSettled, IsSpent, reply_tallied, tallied};
 ghost use Rattle.workers.specs.Replies.{IsOfPrepare, IsOver, IsSentSo, WasSent, sends_of};
 ghost use Rattle.workers.specs.declared.reply.Reply.TheVariants as reply;
 
@@ -36,7 +36,10 @@ pub struct Job<'a> {
 /// the link sends it; and the book settles what came back, under its lock again. No lock is held while the gate is passed,
 /// after each of these steps, or while the link sends. The slot is idle in the end.
 ///
-/// By the reply (`IsCarried`), the packet was judged by the tenant's book, sound at that moment; where the verdict was to send
+/// `Spent` is answered exactly where token and frame are good, and one of the share's counts is full or the link has sent
+/// 2^62 packets.
+///
+/// By the reply (`IsCarried`), the packet was judged by the tenant's book, sound at that moment, which the clock gave; where the verdict was to send
 /// it on, what was sent is the packet with the verdict's amount and expiry, to the target of the verdict's peer; and the
 /// sender is told what the book made of it, or of what came back. Each record that the book made with that is the next
 /// step of the worker's part of the one list, as a step of this tenant; no other step came to it.
@@ -62,11 +65,13 @@ pub fn carry<J: Run, R: Wait, L: Link, G: Gate, C: Clock>(
     ensures nameless { result ≡ reply.Nameless ↔ is_token job.entry.token.now ≡ false }
     ensures malformed { result ≡ reply.Malformed
         ↔ (is_token job.entry.token.now ≡ true) × (is_ok (prepare_at job.entry.frame.now) ≡ false) }
+    ensures spent { result ≡ reply.Spent ↔ (is_token job.entry.token.now ≡ true)
+        × (is_ok (prepare_at job.entry.frame.now) ≡ true) × IsSpent share.old (L.sent link.old) }
     ensures counted { HasCounted result job.entry.tenant slot.new.reply share.old share.new }
     ensures sends { L.sent link.new ≡ L.sent link.old + sends_of result }
     ensures sent { IsSentSo result job.entry.tenant
         (λ sending. L.sends_so link.old sending link.new) (link.new ≡ link.old) }
-    ensures carried { IsCarried result (growth job.entry.tenant share.old share.new)
+    ensures carried { IsCarried (C.gives clock.now) result (growth job.entry.tenant share.old share.new)
         (loaded slot.old job.entry.tenant job.entry.token.now job.entry.frame.now) slot.new
         (λ sending. L.sends_so link.old sending link.new) }
     ensures seat { seat.new ≡ reply_tallied job.entry.tenant result seat.old }
@@ -117,11 +122,13 @@ fn carried<J: Run, R: Wait, L: Link, G: Gate, C: Clock>(
     ensures nameless { result ≡ reply.Nameless ↔ is_token job.entry.token.now ≡ false }
     ensures malformed { result ≡ reply.Malformed
         ↔ (is_token job.entry.token.now ≡ true) × (is_ok (prepare_at job.entry.frame.now) ≡ false) }
+    ensures spent { result ≡ reply.Spent ↔ (is_token job.entry.token.now ≡ true)
+        × (is_ok (prepare_at job.entry.frame.now) ≡ true) × IsSpent share.old (L.sent link.old) }
     ensures counted { HasCounted result job.entry.tenant slot.new.reply share.old share.new }
     ensures sends { L.sent link.new ≡ L.sent link.old + sends_of result }
     ensures sent { IsSentSo result job.entry.tenant
         (λ sending. L.sends_so link.old sending link.new) (link.new ≡ link.old) }
-    ensures carried { IsCarried result (growth job.entry.tenant share.old share.new)
+    ensures carried { IsCarried (C.gives clock.now) result (growth job.entry.tenant share.old share.new)
         (loaded slot.old job.entry.tenant job.entry.token.now job.entry.frame.now) (closed result slot.new)
         (λ sending. L.sends_so link.old sending link.new) }
     ensures over { IsOver result slot.new.job }
@@ -151,11 +158,12 @@ fn exchanged<J: Run, R: Wait, L: Link, G: Gate, C: Clock>(
     requires loaded { IsLoaded slot.old.job }
     requires tenant { tenant_in slot.old.job ≡ Some tenant }
     ensures loaded { IsOfPrepare result }
+    ensures spent { result ≡ reply.Spent ↔ IsSpent share.old (L.sent link.old) }
     ensures counted { HasCounted result tenant slot.new.reply share.old share.new }
     ensures sends { L.sent link.new ≡ L.sent link.old + sends_of result }
     ensures sent { IsSentSo result tenant
         (λ sending. L.sends_so link.old sending link.new) (link.new ≡ link.old) }
-    ensures carried { IsCarried result (growth tenant share.old share.new) slot.old (closed result slot.new)
+    ensures carried { IsCarried (C.gives clock.now) result (growth tenant share.old share.new) slot.old (closed result slot.new)
         (λ sending. L.sends_so link.old sending link.new) }
     ensures over { IsOver result slot.new.job }
 {
@@ -195,7 +203,7 @@ fn decide<J: Run, R: Wait, C: Clock>(
     requires tenant { tenant_in slot.old.job ≡ Some tenant }
     requires room { 1 < share.old.room }
     ensures counted { HasDecided result tenant slot.new.reply share.old share.new }
-    ensures decided { IsDecided result (growth tenant share.old share.new) slot.old slot.new }
+    ensures decided { IsDecided (C.gives clock.now) result (growth tenant share.old share.new) slot.old slot.new }
     ensures left { IsLeft result slot.old slot.new }
     ensures room { 0 < share.new.room }
 {
@@ -233,7 +241,7 @@ fn answer<J: Run, R: Wait, C: Clock>(
     requires tenant { tenant_in slot.old.job ≡ Some tenant }
     requires room { 0 < share.old.room }
     ensures counted { HasSettled result tenant share.old share.new }
-    ensures answered { IsAnswered result (growth tenant share.old share.new) got slot.old slot.new }
+    ensures answered { IsAnswered (C.gives clock.now) result (growth tenant share.old share.new) got slot.old slot.new }
     ensures ended { IsEnded result slot.old slot.new }
 {
     let mut guard = books.enter(rt, tenant);

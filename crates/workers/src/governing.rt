@@ -1,8 +1,10 @@
 //! One command of an operator, done.
 
-ghost use Rattle.std.specs.Prelude.{◌≡◌, ◌<◌};
+ghost use Rattle.std.specs.Prelude.{◌≡◌, ◌<◌, ◌↔◌, true, Err};
+ghost use Rattle.books_shared.specs.Shares.{is_spent};
 ghost use Rattle.workers.specs.Carrying.{IsDone, growth};
 ghost use Rattle.workers.specs.Counting.{Rises, command_kind, command_rise, tallied};
+ghost use Rattle.workers.specs.declared.governing.GovernFault.TheVariants as governing;
 
 use crate::carrying::tally;
 use crate::traits::Clock;
@@ -32,10 +34,12 @@ pub enum GovernFault {
 /// counts it through a seat of these meters, unless the seat's count is full: as answered, also where the book refuses it;
 /// or as unavailable where the fault is `Spent` or want of memory.
 ///
-/// What is answered, or refused, is what the tenant's book, sound at that moment, answers to this command (`IsDone`). The
+/// What is answered, or refused, is what the tenant's book, sound at that moment, which the clock gave, answers to this
+/// command (`IsDone`). The
 /// record that it made is the next step of the worker's part of the one list; no other step came to it.
 ///
-/// The errors are, in the order in which they are looked for: `Spent`, and what `Book::command` refuses. Nothing has changed
+/// The errors are, in the order in which they are looked for: `Spent`, exactly where one of the share's counts is full, and
+/// what `Book::command` refuses. Nothing has changed
 /// then in the book and in the share's counts.
 pub fn govern<J: Run, R: Wait, C: Clock>(
     rt: &R,
@@ -51,7 +55,8 @@ pub fn govern<J: Run, R: Wait, C: Clock>(
     requires seat { seat.old.meters ≡ meters.now.id }
     requires books { tenant < books.now.tenants }
     requires meters { tenant < meters.now.tenants }
-    ensures done { IsDone result (growth tenant share.old share.new) command.now }
+    ensures done { IsDone (C.gives clock.now) result (growth tenant share.old share.new) command.now }
+    ensures spent { result ≡ Err governing.Spent ↔ is_spent share.old ≡ true }
     ensures counted { Rises (command_rise result) tenant share.old share.new }
     ensures seat { seat.new ≡ tallied tenant (command_kind result) seat.old }
     ensures same_meters { seat.new.meters ≡ seat.old.meters }
@@ -82,7 +87,8 @@ fn commanded<J: Run, R: Wait, C: Clock>(
     command: &Command,
 ) -> Result<Answered, GovernFault>
     requires { tenant < books.now.tenants }
-    ensures done { IsDone result (growth tenant share.old share.new) command.now }
+    ensures done { IsDone (C.gives clock.now) result (growth tenant share.old share.new) command.now }
+    ensures spent { result ≡ Err governing.Spent ↔ is_spent share.old ≡ true }
     ensures counted { Rises (command_rise result) tenant share.old share.new }
 {
     if share.make_room(Some(command)).is_err() {

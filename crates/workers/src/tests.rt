@@ -211,6 +211,8 @@ fn on_books<J: Run, R: Wait + Abort, T: Trial>(
 struct Standing(Moment);
 
 impl Clock for Standing {
+    ghost gives = { λ clock moment. moment ≡ clock.0 };
+
     fn now(&self) -> Moment {
         self.0
     }

@@ -54,5 +54,9 @@ pub trait Gate {
 
 /// What time it is.
 pub trait Clock {
-    fn now(&self) -> Moment;
+    /// Whether that is a moment which the clock may give, in milliseconds since 1970.
+    ghost gives: { Self → ℕ → Type 0 };
+
+    fn now(&self) -> Moment
+        ensures { gives self.now result };
 }

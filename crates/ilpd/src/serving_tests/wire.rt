@@ -1,5 +1,7 @@
 //! What goes over the wire, and the setup of a tenant.
 
+ghost use Rattle.std.specs.Prelude.{◌≡◌};
+
 use ilp_addr::Moment;
 use std::alloc::Global;
 use std::test::Fail;
@@ -13,6 +15,8 @@ pub const FULFILL: &str = "0d210000000000000000000000000000000000000000000000000
 pub struct Standing;
 
 impl workers::Clock for Standing {
+    ghost gives = { λ clock moment. moment ≡ 1_893_456_000_000 };
+
     fn now(&self) -> Moment {
         Moment::new(START).unwrap_or_else(|| unreachable!())
     }

@@ -13,7 +13,7 @@ returns-clause-counted g c =
 pub returns-clause-answered : goal.returns-clause-answered
 returns-clause-answered g c =
     let call = answer_call c.args.slot.now c.enter-guard.result.state c.now.result c.args.got in
-    is_answered c.answer.result (growth c.args.tenant c.args.share.now c.answer.new.share) c.args.slot.now c.answer.new.slot c.enter-guard.result.state c.now.result c.args.got
-    c.enter-guard.ensures.kept.sound c.enter-guard.ensures.own c.requires.waits c.requires.tenant c.answer.ensures.turn c.answer.ensures.slot
+    is_answered (g.C.Clock.gives c.args.clock.now) c.answer.result (growth c.args.tenant c.args.share.now c.answer.new.share) c.args.slot.now c.answer.new.slot c.enter-guard.result.state c.now.result c.args.got
+    c.enter-guard.ensures.kept.sound c.now.ensures c.enter-guard.ensures.own c.requires.waits c.requires.tenant c.answer.ensures.turn c.answer.ensures.slot
     (grows_by (rise_of call) c.args.tenant c.enter-guard.result.state.opening.tenant call.made c.args.share.now c.answer.new.share
     c.enter-guard.ensures.own c.answer.ensures.share)

@@ -13,8 +13,8 @@ returns-clause-counted g c =
 pub returns-clause-decided : goal.returns-clause-decided
 returns-clause-decided g c =
     let call = decide_call c.args.slot.now c.enter-guard.result.state c.now.result in
-    is_decided c.decide.result (growth c.args.tenant c.args.share.now c.decide.new.share) c.args.slot.now c.decide.new.slot c.enter-guard.result.state c.now.result
-    c.enter-guard.ensures.kept.sound c.enter-guard.ensures.own c.requires.loaded c.is_work.ensures.readable
+    is_decided (g.C.Clock.gives c.args.clock.now) c.decide.result (growth c.args.tenant c.args.share.now c.decide.new.share) c.args.slot.now c.decide.new.slot c.enter-guard.result.state c.now.result
+    c.enter-guard.ensures.kept.sound c.now.ensures c.enter-guard.ensures.own c.requires.loaded c.is_work.ensures.readable
     c.requires.tenant c.decide.ensures.turn c.decide.ensures.slot
     (grows_by (rise_of call) c.args.tenant c.enter-guard.result.state.opening.tenant call.made c.args.share.now c.decide.new.share
     c.enter-guard.ensures.own c.decide.ensures.share)

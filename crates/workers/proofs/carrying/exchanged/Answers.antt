@@ -1,4 +1,4 @@
-use Rattle.std.proofs.Common.{◌≡◌, ◌∙◌, ap, subst}
+use Rattle.std.proofs.Common.{◌≡◌, ◌∙◌, ap, rules, subst}
 use Rattle.floor_core.specs.Work.{Job, Work, carrying, decide_call}
 use Rattle.floor_core.specs.declared.parts.Turn.TheVariants as turn
 use Rattle.workers.specs.Carrying.{Growth, WasCalled, WasMissed, answer_with, growth}
@@ -8,7 +8,7 @@ use Rattle.workers.proofs.carrying.exchanged.Goals as goal
 
 pub returns-in-Stranger-clause-carried : goal.returns-in-Stranger-clause-carried
 returns-in-Stranger-clause-carried g c =
-    subst (λ (grew : Growth). WasCalled grew (decide_call c.args.slot.now) turn.Stranger c.decide-turn.new.slot)
+    subst (λ (grew : Growth). WasCalled (g.C.Clock.gives c.args.clock.now) grew (decide_call c.args.slot.now) turn.Stranger c.decide-turn.new.slot)
     (room_growth c.args.tenant c.args.share.now c.make_room.new.self c.decide-turn.new.share c.make_room.ensures.share) c.in-Stranger.ensures.decided
 
 pub returns-in-Reply-clause-counted : goal.returns-in-Reply-clause-counted
@@ -18,7 +18,7 @@ returns-in-Reply-clause-counted g c =
 
 pub returns-in-Reply-clause-carried : goal.returns-in-Reply-clause-carried
 returns-in-Reply-clause-carried g c =
-    subst (λ (grew : Growth). WasCalled grew (decide_call c.args.slot.now) turn.Reply c.decide-turn.new.slot)
+    subst (λ (grew : Growth). WasCalled (g.C.Clock.gives c.args.clock.now) grew (decide_call c.args.slot.now) turn.Reply c.decide-turn.new.slot)
     (room_growth c.args.tenant c.args.share.now c.make_room.new.self c.decide-turn.new.share c.make_room.ensures.share) c.in-Reply.ensures.decided
 
 pub returns-in-Reply-turn-clause-counted : goal.returns-in-Reply-turn-clause-counted
@@ -39,12 +39,12 @@ returns-in-Reply-turn-clause-carried g c =
         forwarded = record {
           peer = c.in-Send.peer;
           hold = c.in-Send.hold;
-          decided = subst (λ (grew : Growth). WasCalled grew (decide_call c.args.slot.now) (turn.Send c.in-Send.peer c.in-Send.hold) c.decide-turn.new.slot)
+          decided = subst (λ (grew : Growth). WasCalled (g.C.Clock.gives c.args.clock.now) grew (decide_call c.args.slot.now) (turn.Send c.in-Send.peer c.in-Send.hold) c.decide-turn.new.slot)
               (room_growth c.args.tenant c.args.share.now c.make_room.new.self c.decide-turn.new.share c.make_room.ensures.share) c.in-Send.ensures.decided;
         };
         sent = c.send-got.ensures.exchanged;
       };
-      settled = subst (λ (grew : Growth). WasCalled grew (answer_with c.send-got.new.slot c.send-got.result) turn.Reply c.answer-turn.new.slot)
+      settled = subst (λ (grew : Growth). WasCalled (g.C.Clock.gives c.args.clock.now) grew (answer_with c.send-got.new.slot c.send-got.result) turn.Reply c.answer-turn.new.slot)
           (from_growth c.args.tenant c.args.share.now c.decide-turn.new.share c.answer-turn.new.share worker) c.in-Reply-turn.ensures.answered;
     }
 
@@ -52,6 +52,7 @@ pub returns-in_default : goal.returns-in_default
 returns-in_default g c =
     record {
       loaded = tt;
+      spent = search rules;
       counted = one_rises c.args.tenant c.args.share.now c.decide-turn.new.share c.answer-turn.new.share
           (entry_keeps c.args.tenant c.args.share.now c.make_room.new.self c.decide-turn.new.share c.make_room.ensures.share c.in-Send.ensures.counted)
           (unsettled c.answer-turn.result c.args.tenant c.decide-turn.new.share c.answer-turn.new.share c.in_default.not-Reply c.answer-turn.ensures.counted);
@@ -70,12 +71,12 @@ returns-in_default g c =
               forwarded = record {
                 peer = c.in-Send.peer;
                 hold = c.in-Send.hold;
-                decided = subst (λ (grew : Growth). WasCalled grew (decide_call c.args.slot.now) (turn.Send c.in-Send.peer c.in-Send.hold) c.decide-turn.new.slot)
+                decided = subst (λ (grew : Growth). WasCalled (g.C.Clock.gives c.args.clock.now) grew (decide_call c.args.slot.now) (turn.Send c.in-Send.peer c.in-Send.hold) c.decide-turn.new.slot)
                     (room_growth c.args.tenant c.args.share.now c.make_room.new.self c.decide-turn.new.share c.make_room.ensures.share) c.in-Send.ensures.decided;
               };
               sent = c.send-got.ensures.exchanged;
             };
-            missed = subst (λ (grew : Growth). WasMissed grew c.send-got.new.slot c.send-got.result)
+            missed = subst (λ (grew : Growth). WasMissed (g.C.Clock.gives c.args.clock.now) grew c.send-got.new.slot c.send-got.result)
                 (from_growth c.args.tenant c.args.share.now c.decide-turn.new.share c.answer-turn.new.share worker) missed.0;
             left = ap (λ (w : Work). carrying Job.NoJob w.room) missed.1;
           };

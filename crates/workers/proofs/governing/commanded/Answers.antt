@@ -10,10 +10,10 @@ use Rattle.workers.proofs.governing.commanded.Goals as goal
 pub returns-clause-done : goal.returns-clause-done
 returns-clause-done g c =
     is_done c.command-answer.result c.map_err.result (growth c.args.tenant c.args.share.now c.command-answer.new.share) c.args.command.now c.map_err.ensures.cases
-    (subst (λ (grew : Growth). WasCommanded grew c.args.command.now c.command-answer.result)
+    (subst (λ (grew : Growth). WasCommanded (g.C.Clock.gives c.args.clock.now) grew c.args.command.now c.command-answer.result)
     (room_growth c.args.tenant c.args.share.now c.make_room.new.self c.command-answer.new.share c.make_room.ensures.share)
     (record {
-      found = record { book = c.enter-guard.result.state; now = c.now.result; sound = c.enter-guard.ensures.kept.sound };
+      found = record { book = c.enter-guard.result.state; now = c.now.result; sound = c.enter-guard.ensures.kept.sound; gave = c.now.ensures };
       own = c.enter-guard.ensures.own;
       after = c.command-answer.new.self.state;
       governed = c.command-answer.ensures.answer;

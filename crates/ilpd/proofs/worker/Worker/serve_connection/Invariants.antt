@@ -6,5 +6,6 @@ abbrev pub invariant-loop : goal.invariant-loop
 invariant-loop g l = record {
   room : length l.room ≡ length l.fn.room;
   office : l.self.office ≡ l.fn.self.office;
-  served : HasServed l.fn.self.office.now l.fn.self.desk l.self.desk;
+  clock : l.self.clock ≡ l.fn.self.clock;
+  served : HasServed (g.C.Clock.gives l.fn.self.clock.now) l.fn.self.office.now l.fn.self.desk l.self.desk;
 }

@@ -1,0 +1,25 @@
+//! How the program ends.
+
+ghost use Rattle.std.specs.Prelude.{◌≡◌};
+ghost use Rattle.ilpd.specs.Endings.{exit_status};
+
+use replay_text::ReplayFault;
+
+/// Why the program ended early.
+#[derive(Drop)]
+pub enum Ending {
+    /// The command line asks for nothing that is there, or for help.
+    Usage(clap::Error),
+    Fault(ReplayFault),
+}
+
+/// The exit status of a run that ended so: 0 only where nothing went wrong.
+pub fn exit_status(ended: &Result<(), Ending>) -> u8
+    ensures { result ≡ exit_status ended.now }
+{
+    match ended {
+        Ok(()) => 0,
+        Err(Ending::Usage(_)) => 2,
+        Err(Ending::Fault(fault)) => fault.status(),
+    }
+}
