@@ -1,5 +1,5 @@
 -- What is known of a worker whose clock may have given any moment.
-use Rattle.std.proofs.Common.{ℕ, ◌≡◌, ◌⊎◌, inl, inr, ◌∷◌, [], List, Bool, true, false, nat_lt}
+use Rattle.std.proofs.Common.{ℕ, inl, inr, ◌∷◌, [], List, Bool, true, false, nat_lt}
 use Rattle.std.specs.Prelude.{Result, Ok, Err}
 use Rattle.std.specs.Str.{bytes_eq}
 use Rattle.tenant_core.specs.State.{State}

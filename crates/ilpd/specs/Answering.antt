@@ -8,6 +8,7 @@ use Rattle.std.specs.Io.KnownBytes.{Appends}
 use Rattle.std.specs.declared.marker.Brand.{Brand}
 use Rattle.common_types.specs.Token.{is_token}
 use Rattle.ilp_view.specs.Reading.{prepare_at}
+use Rattle.tenant_core.specs.State.{State}
 use Rattle.tenant_core.specs.declared.command.Answered.{Answered}
 use Rattle.tenant_core.specs.declared.command.Command.{Command}
 use Rattle.tenant_core.specs.declared.faults.CommandFault.{CommandFault}
@@ -17,7 +18,7 @@ use Rattle.meters.specs.declared.kind.Kind as meter
 use Rattle.atomic_table.specs.Seated.{TableId}
 use Rattle.one_list.specs.declared.run.Run.{Ghosts}
 use Rattle.books_shared.specs.Shares.{ShareView, fresh, is_spent}
-use Rattle.books_shared.specs.Traced.{openings_of}
+use Rattle.books_shared.specs.Traced.{HaveListOf, openings_of}
 use Rattle.floor_core.specs.Work.{loaded}
 use Rattle.floor_core.specs.declared.step.Output.TheVariants.{Governed}
 use Rattle.workers.specs.Carrying.{IsCarried, IsDone, growth}
@@ -180,10 +181,12 @@ pub record HasWorked {J : Type 0} {r : Ghosts J} (office : Office J r) (desk : D
   pub is_new : IsNew new
   pub served : HasServed AnyMoment office new desk
 
--- the desks of so many workers, as their questions left them, and what they have counted in all
-pub record HaveCounted {J : Type 0} {r : Ghosts J} (office : Office J r) (workers : ℕ) (counts : ℕ → meter.Kind → ℕ) : Type 0 where
+-- the desks of so many workers, as their questions left them, with these shares, and what they have counted in all
+pub record HaveCounted {J : Type 0} {r : Ghosts J} (office : Office J r) (workers : ℕ) (shares : List ShareView) (counts : ℕ → meter.Kind → ℕ)
+    : Type 0 where
   pub desks : List (Desk J r)
   pub each : length desks ≡ workers
+  pub shares_are : map (λ desk. desk.share) desks ≡ shares
   pub worked : All (HasWorked office) desks
   pub sums : (tenant : ℕ) (kind : meter.Kind) → tenant < office.books.tenants
       → counts tenant kind ≡ sum_by (λ desk. count_of tenant kind desk.seat) desks
@@ -197,13 +200,17 @@ pub record IsOfficeOf {J : Type 0} {r : Ghosts J} (setup : Setup) (office : Offi
   pub books : office.books.tenants ≡ length setup.tenants
 
 -- A service of a setup, of which that is the run, has written a line for each tenant, of what so many workers have counted, as the
--- questions that they were asked left them.
+-- questions that they were asked left them. And of all that was done to the tenants' books there is one list, of which each
+-- worker's share has its part, and which is a run of a floor from the openings of the setup to the books in the end.
 pub record HasToldCountsIn {J : Type 0} (run : Ghosts J) (setup : Setup) (workers : ℕ) (old new : Option (List ℕ)) : Type 0 where
   pub office : Office J run
   pub known : IsOfficeOf setup office
   pub totals : TotalsState
-  pub counted : HaveCounted office workers (λ tenant kind. total_of tenant kind totals)
+  pub shares : List ShareView
+  pub counted : HaveCounted office workers shares (λ tenant kind. total_of tenant kind totals)
   pub told : Appends old new (lines_upto (length setup.tenants) office.names.items totals)
+  pub books : List (State × ℕ)
+  pub one_list : HaveListOf run.size run.openings books shares
 
 -- the run of a service of a setup, whose list stands behind that table
 abbrev pub run_of : TableId → Setup → (workers : ℕ) → Ghosts Brand
@@ -214,6 +221,6 @@ run_of table setup workers = record {
 }
 
 -- A service of a setup has written a line for each tenant, of what so many workers have counted, as the questions that they
--- were asked left them.
+-- were asked left them; and all that they did is one list, a run of a floor from the setup to the books in the end.
 abbrev pub HasToldCounts : Setup → (workers : ℕ) → (old new : Option (List ℕ)) → Type 0
 HasToldCounts setup workers old new = (table : TableId) × HasToldCountsIn (run_of table setup workers) setup workers old new

@@ -11,6 +11,8 @@ pub enum Ending {
     /// The command line asks for nothing that is there, or for help.
     Usage(clap::Error),
     Fault(ReplayFault),
+    /// The books that a service ended with are not what its workers counted.
+    Differs,
 }
 
 /// The exit status of a run that ended so: 0 only where nothing went wrong.
@@ -21,5 +23,6 @@ pub fn exit_status(ended: &Result<(), Ending>) -> u8
         Ok(()) => 0,
         Err(Ending::Usage(_)) => 2,
         Err(Ending::Fault(fault)) => fault.status(),
+        Err(Ending::Differs) => 6,
     }
 }

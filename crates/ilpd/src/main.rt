@@ -97,11 +97,10 @@ fn serve_at<
         &clock,
         &mut writer,
     )
-    .map_err(|fault| {
-        Ending::Fault(match fault {
-            ServeFault::Memory => ReplayFault::Memory,
-            ServeFault::Device => ReplayFault::Device,
-        })
+    .map_err(|fault| match fault {
+        ServeFault::Memory => Ending::Fault(ReplayFault::Memory),
+        ServeFault::Device => Ending::Fault(ReplayFault::Device),
+        ServeFault::Differs => Ending::Differs,
     })
 }
 
@@ -147,6 +146,9 @@ fn main(rt: HostRuntime) -> ExitCode {
         }
         Err(Ending::Fault(fault)) => {
             let _ = rt.eprintln(*fault);
+        }
+        Err(Ending::Differs) => {
+            let _ = rt.eprintln(ServeFault::Differs);
         }
     }
     ExitCode::from(exit_status(&ended))

@@ -1,6 +1,6 @@
 //! The service: all its workers, and what they counted.
 
-ghost use Rattle.std.specs.Prelude.{ℕ, ◌≡◌, ◌+◌, ◌≤◌, ◌<◌, ◌++◌, length, vec_len, true, All, IfOk, OnOk};
+ghost use Rattle.std.specs.Prelude.{ℕ, ◌≡◌, ◌+◌, ◌≤◌, ◌<◌, ◌++◌, length, map, vec_len, true, All, IfOk, OnOk};
 ghost use Rattle.std.specs.Io.KnownBytes.{Appends};
 ghost use Rattle.std.specs.List.{sum_by};
 ghost use Rattle.books_shared.specs.Gathers.{max_workers};
@@ -17,7 +17,7 @@ use crate::office::Office;
 use crate::opening::{Begun, open_office};
 use crate::worker::Worker;
 use admin_text::Setup;
-use books_shared::Share;
+use books_shared::{GatherFault, Share};
 use common_types::Name;
 use floor_core::Slot;
 use meters::laws::meters_are_shared;
@@ -42,6 +42,9 @@ pub enum ServeFault {
     /// A connection could not be accepted, a thread not started, or the lines not written.
     #[error("device")]
     Device,
+    /// The books in the end are not what the workers have counted. No lock that hands out what was left in it comes to this.
+    #[error("books differ")]
+    Differs,
 }
 
 impl From<AllocError> for ServeFault {
@@ -101,22 +104,22 @@ fn dismissed<H, C, J: Run>(
     alloc: Global,
     office: &Office<J>,
     first: &mut MeterSeat,
-    mut lanes: Vec<Worker<'_, H, C, J>>,
+    lanes: Vec<Worker<'_, H, C, J>>,
 ) -> Result<Done<J>, AllocError>
     requires here { first.old.meters ≡ office.now.meters.id }
     requires same { All (λ lane. lane.office.now ≡ office.now) lanes.items }
     ensures here { first.new.meters ≡ office.now.meters.id }
     ensures first { first.new.first ≡ first.old.first }
     ensures splits { first.new.splits ≡ first.old.splits }
-    ensures joined { OnOk result (first.new.joins ≡ first.old.joins + vec_len lanes.entry) }
-    ensures all { IfOk result (λ done. vec_len done.shares ≡ vec_len lanes.entry) }
+    ensures joined { OnOk result (first.new.joins ≡ first.old.joins + length lanes.entry.items) }
+    ensures shares { IfOk result (λ done. done.shares.items ≡ map (λ lane. lane.desk.share) lanes.entry.items) }
     ensures counts { OnOk result ((tenant : ℕ) (kind : meter.Kind)
         → count_of tenant kind first.new ≡ count_of tenant kind first.old
         + sum_by (λ lane. count_of tenant kind lane.desk.seat) lanes.entry.items) }
 {
     let mut shares = Vec::with_capacity(alloc, lanes.len())?;
     let mut failed = false;
-    while let Some(lane) = lanes.pop() {
+    for lane in lanes {
         let (desk, broken) = lane.into_desk();
         let Desk { seat, share, .. } = desk;
         office.meters.join(first, seat);
@@ -171,7 +174,7 @@ pub fn run_all<
     ensures here { first.new.meters ≡ office.now.meters.id }
     ensures joined { OnOk result (first.new.joins ≡ first.new.splits) }
     ensures first { first.new.first ≡ true }
-    ensures counted { OnOk result (HaveCounted office.now (vec_len shares)
+    ensures counted { IfOk result (λ done. HaveCounted office.now (vec_len shares) done.shares.items
         (λ tenant kind. count_of tenant kind first.new)) }
 {
     let mut lanes = hired(
@@ -254,8 +257,13 @@ fn tell<W: Write>(
 /// no answer: the sums of what the workers have counted, each of which begins with nothing and counts with each question
 /// that it is asked as `HasAnswered` says.
 ///
+/// All that the workers did to the tenants' books is one list, whatever the threads did: of each tenant it has what led from
+/// the setup to the tenant's book, of each worker what it did, and nothing else; and it is a run of a `Floor` from the setup on
+/// (`Books::gather`).
+///
 /// `Memory` where memory was refused; `Device` where a thread could not be started, a connection not be accepted, or the
-/// lines not be written.
+/// lines not be written; `Differs` where the books in the end are not what the workers have counted, which comes of no lock
+/// that hands out what was left in it. The lines are written first, unless no thread was started.
 pub fn serve<
     H: Threads + Wait + Net<Listener = TcpListener, Stream = TcpStream> + std::time::Clock + Sync,
     C: workers::Clock + Sync,
@@ -312,11 +320,27 @@ fn serve_run<
     let done = run_all(
         handle, alloc, &office, &mut first, shares, rounds, listener, clock,
     )?;
-    let Office { names, meters, .. } = office;
+    let Done { shares, failed } = done;
+    let Office {
+        books,
+        names,
+        meters,
+        ..
+    } = office;
     let totals = meters.close(first);
     tell(alloc, names.as_slice(), &totals, writer)?;
-    if done.failed {
+    if failed {
         return Err(ServeFault::Device);
     }
-    Ok(())
+    match books.gather(alloc, shares) {
+        Ok(_) => Ok(()),
+        Err(fault) => Err(fault_of_gathering(&fault)),
+    }
+}
+
+fn fault_of_gathering<J: Run>(fault: &GatherFault<J>) -> ServeFault {
+    match fault {
+        GatherFault::Memory(..) => ServeFault::Memory,
+        GatherFault::Missing(..) | GatherFault::Differs(..) => ServeFault::Differs,
+    }
 }

@@ -1,4 +1,4 @@
-use Rattle.std.proofs.Common.{ℕ, ◌≡◌, ◌≤◌, ◌+◌, vec_len, All}
+use Rattle.std.proofs.Common.{ℕ, ◌≡◌, ◌≤◌, ◌+◌, length, map, vec_len}
 use Rattle.std.specs.Prelude.{vec_capacity}
 use Rattle.std.specs.List.{sum_by}
 use Rattle.meters.specs.Seats.{count_of}
@@ -10,14 +10,10 @@ invariant-loop-lane g l = record {
   here : l.first.meters ≡ l.fn.office.meters.id;
   first : l.first.first ≡ l.fn.first.first;
   splits : l.first.splits ≡ l.fn.first.splits;
-  joined : l.first.joins + vec_len l.lanes ≡ l.fn.first.joins + vec_len l.fn.lanes;
-  all : vec_len l.shares + vec_len l.lanes ≡ vec_len l.fn.lanes;
-  room : vec_len l.shares + vec_len l.lanes ≤ vec_capacity l.shares;
-  same : All (λ lane. lane.office.now ≡ l.fn.office) l.lanes.items;
+  joined : l.first.joins ≡ l.fn.first.joins + length l.yielded;
+  many : vec_len l.shares ≡ length l.yielded;
+  room : vec_len l.fn.lanes ≤ vec_capacity l.shares;
+  shares : l.shares.items ≡ map (λ lane. lane.desk.share) l.yielded;
   counts : (tenant : ℕ) (kind : Kind)
-      → count_of tenant kind l.first + sum_by (λ lane. count_of tenant kind lane.desk.seat) l.lanes.items
-      ≡ count_of tenant kind l.fn.first + sum_by (λ lane. count_of tenant kind lane.desk.seat) l.fn.lanes.items;
+      → count_of tenant kind l.first ≡ count_of tenant kind l.fn.first + sum_by (λ lane. count_of tenant kind lane.desk.seat) l.yielded;
 }
-
-abbrev pub decreases-loop-lane : goal.decreases-loop-lane
-decreases-loop-lane g l = goal.left-loop-lane g l

@@ -1,10 +1,10 @@
-use Rattle.std.proofs.Common.{◌≡◌, ◌++◌, length, map, take, drop, vec_len, rules, All, refl, sym, subst}
+use Rattle.std.proofs.Common.{◌≡◌, ◌++◌, length, map, take, drop, vec_len, rules, All, refl, sym, subst, ap, ◌∙◌}
 use Rattle.std.specs.List.{sum_by}
 use Rattle.std.proofs.Math.Seq.{take-append_seam}
 use Rattle.std.proofs.lemmas.List.Elements.{All-map}
 use Rattle.meters.specs.Seats.{count_of}
 use Rattle.ilpd.specs.Answering.{HasWorked, IsNew}
-use Rattle.ilpd.proofs.Sums.{length_map, sum_by_map}
+use Rattle.ilpd.proofs.Sums.{length_map, map_map, sum_by_map}
 use Rattle.ilpd.proofs.serving.run_all.Goals as goal
 
 pub work_all-requires-clause-new : goal.work_all-requires-clause-new
@@ -27,6 +27,8 @@ returns-clause-counted g c =
     record {
       desks = map (λ lane. lane.desk) c.work_all.new.lanes;
       each = search (each, length_map);
+      shares_are = map_map (λ desk. desk.share) (λ lane. lane.desk) c.work_all.new.lanes
+          ∙ (ap (map (λ lane. lane.desk.share)) (sym whole) ∙ sym c.in_ok-dismissed.ensures.shares);
       worked = All-map (HasWorked c.args.office.now) (λ lane. lane.desk) c.work_all.new.lanes c.in_ok-work_all.ensures.worked;
       sums = λ tenant kind below.
           let before = c.requires.nothing tenant kind in

@@ -4,8 +4,8 @@ use Rattle.ilpd.specs.Served.{lines_upto}
 use Rattle.ilpd.proofs.Sums.{length_map}
 use Rattle.ilpd.proofs.serving.serve_run.Goals as goal
 
-pub returns : goal.returns
-returns g c =
+pub returns-in-Ok : goal.returns-in-Ok
+returns-in-Ok g c =
     let office = c.in_ok-office.field-0.office in
     let known = c.in_ok-office.ensures.known in
     let counted = c.in_ok-done.ensures.counted in
@@ -18,12 +18,16 @@ returns g c =
       office = office;
       known = known;
       totals = c.close-totals.result;
+      shares = _;
       counted = record {
         desks = counted.desks;
         each = search (rules, counted.each);
+        shares_are = counted.shares_are;
         worked = counted.worked;
         sums = λ tenant kind below. exact tenant kind (search rules) ∙ counted.sums tenant kind below;
       };
       told = subst (λ n. Appends (g.W.Write.contents c.args.writer.now) (g.W.Write.contents c.tell.new.writer)
           (lines_upto n office.names.items c.close-totals.result)) names told;
+      books = _;
+      one_list = c.in-Ok.ensures.one_list;
     }
