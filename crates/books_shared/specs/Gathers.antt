@@ -11,7 +11,7 @@ pub record BooksView : Type 0 where
 
 -- the most workers
 abbrev pub max_workers : ℕ
-max_workers = 64
+max_workers = 4_096
 
 -- ---- whose shares they are
 

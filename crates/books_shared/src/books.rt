@@ -15,7 +15,7 @@ use std::marker::Model;
 use std::sync::{Mutex, Wait};
 use tenant_core::{Book, TenantSetup};
 
-/// The books of 1 to 64 tenants, each behind a lock of its own, for 1 to 64 workers. Contracts see how many there are of
+/// The books of 1 to 64 tenants, each behind a lock of its own, for 1 to 4,096 workers. Contracts see how many there are of
 /// each.
 ///
 /// A `Book` is the replay of its journal whatever is done with it, and nothing but the calls of a `Guard` changes one. So
@@ -54,7 +54,7 @@ impl<J: Run> Books<J> {
 
     /// The books of these tenants, in which nothing has happened and whose first periods begin at `start`, and the shares
     /// of so many workers, in order: their numbers are 0, 1 and so on, all counts are 0, and there is no room for a
-    /// call. There are 1 to 64 tenants and 1 to 64 workers. The list of what is done to them has just been opened, for so many
+    /// call. There are 1 to 64 tenants and 1 to 4,096 workers. The list of what is done to them has just been opened, for so many
     /// tenants and workers. The one error is want of memory.
     pub fn new(
         alloc: Global,

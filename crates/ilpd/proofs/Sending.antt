@@ -16,6 +16,8 @@ use Rattle.ilpd.specs.contracts.worker.Worker as Worker
 use Rattle.ilpd.specs.contracts.desk.Desk as Desk
 use Rattle.ilpd.specs.contracts.office.Office as Office
 use Rattle.ilpd.specs.contracts.office.Terms as Terms
+use Rattle.ilpd.specs.contracts.door.Door as Door
+use Rattle.workers.specs.contracts.places.Places as Places
 
 pub share_send : (J : RattleType) (r : Run.Ghosts J.Denot) → IsSend (Share.the_row J r)
 share_send J r = search (sendable, std.crosses, of_part.the_send) depth 40
@@ -29,12 +31,18 @@ name_sync = search (sendable, std.crosses) depth 40
 pub terms_sync : IsSync Terms.the_row
 terms_sync = search (sendable, std.crosses) depth 40
 
+pub places_sync : IsSync Places.the_field.row
+places_sync = search (sendable, std.crosses) depth 40
+
+pub door_sync : IsSync Door.the_field.row
+door_sync = search (sendable, std.crosses) depth 40
+
 pub office_sync : (J : RattleType) (r : Run.Ghosts J.Denot) → IsSync (Books.the_row J r) → IsSync Meters.the_row
     → IsSync (Office.the_row J r)
 office_sync J r books meters =
     let fields = struct_sync (shape (Office.the_type J r)) (
       search (sendable, std.crosses, name_sync) depth 40,
-      (search (sendable, std.crosses, terms_sync) depth 40, (books, (meters, tt))),
+      (search (sendable, std.crosses, terms_sync) depth 40, (books, (meters, (places_sync, (door_sync, tt))))),
     ) in
     search (recorded_sync, fields) depth 10
 
@@ -46,4 +54,4 @@ pub worker_send : (κ : NamedLft) (H C J : RattleType) (r : Run.Ghosts J.Denot) 
     → IsSync (Office.the_row J r) → IsSend MeterSeat.the_row → IsSend (Worker.the_row κ H C J r)
 worker_send κ H C J r h c office seat =
     recorded_send _ _ _ (Worker.the_type κ H C J r).to_one (struct_send (shape (Worker.the_type κ H C J r))
-    (search (sendable, std.crosses, h) depth 40, (search (sendable, std.crosses) depth 40, (search (sendable, std.crosses, office) depth 40, (search (sendable, std.crosses, c) depth 40, (search (sendable, std.crosses) depth 40, (search (sendable, std.crosses) depth 40, (search (sendable, std.crosses) depth 40, (desk_send J r seat, tt)))))))))
+    (search (sendable, std.crosses, h) depth 40, (search (sendable, std.crosses) depth 40, (search (sendable, std.crosses, office) depth 40, (search (sendable, std.crosses, c) depth 40, (search (sendable, std.crosses) depth 40, (search (sendable, std.crosses) depth 40, (desk_send J r seat, tt))))))))

@@ -1,10 +1,11 @@
 -- What the command line asks for.
-use Rattle.std.specs.Prelude.{◌≤◌}
+use Rattle.std.specs.Prelude.{◌≤◌, IfSome}
 use Rattle.ilpd.specs.declared.command_line.Task.{Task}
 use Rattle.ilpd.specs.declared.command_line.Task.TheVariants.{Replay, Check, Serve}
 
--- a service serves 1 to 1,000,000 connections on each thread
+-- a service has 1 to 4,096 connections at once, and where it ends it has served 1 to 1,000,000 for each worker
 abbrev pub IsBounded : Task → Type 0
 IsBounded Replay = Unit {0}
 IsBounded Check = Unit {0}
-IsBounded (Serve rounds) = (1 ≤ rounds) × (rounds ≤ 1_000_000)
+IsBounded (Serve connections rounds) =
+    (1 ≤ connections) × (connections ≤ 4_096) × IfSome rounds (λ n. (1 ≤ n) × (n ≤ 1_000_000))

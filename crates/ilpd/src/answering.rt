@@ -42,7 +42,8 @@ impl<J: Run> Desk<J> {
         ensures same_meters { self.new.seat.meters ≡ self.old.seat.meters }
         ensures told { self.new.told ≡ self.old.told }
     {
-        let mut link = PeerLink::new(handle, clock, office.terms.as_slice(), self.sent);
+        let (terms, places) = (office.terms.as_slice(), &office.places);
+        let mut link = PeerLink::new(handle, clock, terms, places, self.sent);
         let job = Job {
             tenant,
             token,

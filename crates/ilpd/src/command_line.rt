@@ -1,6 +1,6 @@
 //! The command line.
 
-ghost use Rattle.std.specs.Prelude.{◌≡◌, ◌≤◌, IfOk};
+ghost use Rattle.std.specs.Prelude.{◌≡◌, ◌≤◌, IfOk, IfSome};
 ghost use Rattle.ilpd.specs.CommandLine.{IsBounded};
 
 use clap::{Arg, ArgAction, ArgMatches, Command, Error, value_parser};
@@ -13,14 +13,24 @@ pub enum Task {
     Replay,
     /// To say whether it is good.
     Check,
-    /// To serve so many connections with each worker.
-    Serve { rounds: u32 },
+    /// To serve so many connections at once, each on a thread of its own, and to end once as many were served for each worker,
+    /// if it is to end.
+    Serve {
+        connections: usize,
+        rounds: Option<u32>,
+    },
 }
 
 /// The most workers.
 const MAX_WORKERS: usize = 64;
 
-/// The most connections of a worker.
+/// The most connections at once.
+const MAX_CONNECTIONS: usize = 4096;
+
+/// How many connections there are at once where the command line does not say.
+const CONNECTIONS: usize = 256;
+
+/// The most connections for each worker before a service ends.
 const MAX_ROUNDS: u32 = 1_000_000;
 
 /// What the command line asks for, the file of the setup, how many workers there are, and the address that a service
@@ -37,7 +47,7 @@ pub struct CommandLine<'a> {
 const ADDRESS: &str = "127.0.0.1:7768";
 
 const USAGE: &str = "ilpd replay SETUP [--workers W] < SCRIPT\n       ilpd check SETUP\n       \
-ilpd serve SETUP --workers W --rounds N [--listen ADDR]";
+ilpd serve SETUP --workers W [--connections C] [--rounds N] [--listen ADDR]";
 
 const WHERE: &str =
     "docs/FORMATS.md describes setups, scripts and what is printed; examples/ has some of each";
@@ -76,15 +86,20 @@ fn serve_of<'a>(alloc: Global) -> Result<Command<'a>, AllocError> {
     let workers = Arg::new(alloc, "workers")
         .long("workers")
         .value_name("W")
-        .help("How many threads serve, 1 to 64")
+        .help("How many packets may be on their way to next peers at once, 1 to 64")
         .required(true)
         .value_parser(value_parser!(u64).range(1..=64));
     let rounds = Arg::new(alloc, "rounds")
         .long("rounds")
         .value_name("N")
-        .help("How many connections each of them serves before the program ends, 1 to 1000000")
-        .required(true)
+        .help("To end once W times N connections were served; N is 1 to 1000000")
         .value_parser(value_parser!(u64).range(1..=1_000_000));
+    let connections = Arg::new(alloc, "connections")
+        .long("connections")
+        .value_name("C")
+        .help("How many connections may be open at once, each on a thread of its own, 1 to 4096")
+        .default_value("256")
+        .value_parser(value_parser!(u64).range(1..=4096));
     let listen = Arg::new(alloc, "listen")
         .long("listen")
         .value_name("ADDR")
@@ -94,10 +109,13 @@ fn serve_of<'a>(alloc: Global) -> Result<Command<'a>, AllocError> {
         .about(
             "Serves packets and commands over HTTP, and prints in the end how many were answered how",
         )
-        .override_usage("ilpd serve SETUP --workers W --rounds N [--listen ADDR]")
-        .after_help("Example: ilpd serve examples/serve.toml --workers 4 --rounds 1000000")
+        .override_usage(
+            "ilpd serve SETUP --workers W [--connections C] [--rounds N] [--listen ADDR]",
+        )
+        .after_help("Example: ilpd serve examples/serve.toml --workers 4")
         .arg(setup_of(alloc))?
         .arg(workers)?
+        .arg(connections)?
         .arg(rounds)?
         .arg(listen)
 }
@@ -113,14 +131,24 @@ fn workers_of(words: &ArgMatches<'_>) -> usize
     }
 }
 
-// How many connections each worker serves.
-fn rounds_of(matches: &ArgMatches<'_>) -> u32
+// How many connections may be open at once.
+fn connections_of(words: &ArgMatches<'_>) -> usize
     ensures least { 1 ≤ result }
-    ensures most { result ≤ 1_000_000 }
+    ensures most { result ≤ 4_096 }
 {
-    match matches.get_one::<u32>("rounds") {
-        Some(rounds) if 1 <= rounds && rounds <= MAX_ROUNDS => rounds,
-        _ => 1,
+    match words.get_one::<usize>("connections") {
+        Some(connections) if 1 <= connections && connections <= MAX_CONNECTIONS => connections,
+        _ => CONNECTIONS,
+    }
+}
+
+// How many connections are served for each worker, where that is said.
+fn rounds_of(words: &ArgMatches<'_>) -> Option<u32>
+    ensures { IfSome result (λ rounds. (1 ≤ rounds) × (rounds ≤ 1_000_000)) }
+{
+    match words.get_one::<u32>("rounds") {
+        Some(rounds) if 1 <= rounds && rounds <= MAX_ROUNDS => Some(rounds),
+        _ => None,
     }
 }
 
@@ -146,14 +174,17 @@ fn line_of<'a>(
 fn line_in<'a>(matches: &ArgMatches<'a>) -> CommandLine<'a>
     ensures least { 1 ≤ result.workers }
     ensures most { result.workers ≤ 64 }
-    ensures rounds { IsBounded result.task }
+    ensures bounded { IsBounded result.task }
 {
     match matches.subcommand() {
         Some(("check", check)) => line_of(Task::Check, check, 1, ADDRESS),
         Some(("serve", serve)) => {
-            let rounds = rounds_of(serve);
+            let task = Task::Serve {
+                connections: connections_of(serve),
+                rounds: rounds_of(serve),
+            };
             let address = serve.get_str("listen").unwrap_or(ADDRESS);
-            line_of(Task::Serve { rounds }, serve, workers_of(serve), address)
+            line_of(task, serve, workers_of(serve), address)
         }
         Some((_, replay)) => line_of(Task::Replay, replay, workers_of(replay), ADDRESS),
         None => line_of(Task::Replay, matches, 1, ADDRESS),
@@ -161,14 +192,15 @@ fn line_in<'a>(matches: &ArgMatches<'a>) -> CommandLine<'a>
 }
 
 /// Reads the words of `ilpd replay SETUP [--workers W]`, `ilpd check SETUP` or
-/// `ilpd serve SETUP --workers W --rounds N [--listen ADDR]`, the program's name first. W is 1 to 64, and 1 for a replay
-/// where it is left out; N is 1 to 1,000,000; ADDR is 127.0.0.1:7768 where it is left out.
+/// `ilpd serve SETUP --workers W [--connections C] [--rounds N] [--listen ADDR]`, the program's name first. W is 1 to 64, and
+/// 1 for a replay where it is left out; C is 1 to 4,096, and 256 where it is left out; N is 1 to 1,000,000; ADDR is
+/// 127.0.0.1:7768 where it is left out.
 ///
 /// The error has the text for people, of a request for help too, or says that memory was refused.
 pub fn arguments<'a>(alloc: Global, words: &'a [String]) -> Result<CommandLine<'a>, Error>
     ensures least { IfOk result (λ line. 1 ≤ line.workers) }
     ensures most { IfOk result (λ line. line.workers ≤ 64) }
-    ensures rounds { IfOk result (λ line. IsBounded line.task) }
+    ensures bounded { IfOk result (λ line. IsBounded line.task) }
 {
     let command = Command::new(alloc, "ilpd")
         .about("A connector of the Interledger Protocol v4 for many operators")

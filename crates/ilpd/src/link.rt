@@ -16,29 +16,38 @@ use oer_core::Device;
 use std::io;
 use std::io::{ErrorKind, Read, Write};
 use std::net::{IpAddr, Ipv4Addr, Ipv6Addr, Net, SocketAddr, TcpStream};
+use std::sync::Wait;
 use std::time::{Clock, Duration, Instant};
-use workers::Link;
+use workers::{Link, Places};
 
-/// A link that opens a connection for each packet. From its beginning on, each connecting, read and write has what is left
-/// of the tenant's longest hold, or of the time until the packet expires where that is less. None is begun after it, and
-/// the exchange ends a little later.
+/// A link that opens a connection for each packet, in one of the places that the tenants share. The waiting for a place, the
+/// connecting, and all reads and writes have in all the tenant's longest hold, or the time until the packet expires where
+/// that is less. None is begun after it, and the exchange ends a little later.
 #[derive(Drop)]
 pub struct PeerLink<'a, H, C> {
     handle: &'a H,
     clock: &'a C,
     terms: &'a [Terms],
+    places: &'a Places,
     sent: u64,
 }
 
 impl<'a, H, C> PeerLink<'a, H, C> {
     /// A link for tenants of these terms, by that clock, which has sent so many packets.
-    pub fn new(handle: &'a H, clock: &'a C, terms: &'a [Terms], sent: u64) -> PeerLink<'a, H, C>
+    pub fn new(
+        handle: &'a H,
+        clock: &'a C,
+        terms: &'a [Terms],
+        places: &'a Places,
+        sent: u64,
+    ) -> PeerLink<'a, H, C>
         ensures { result.sent ≡ sent }
     {
         PeerLink {
             handle,
             clock,
             terms,
+            places,
             sent,
         }
     }
@@ -76,7 +85,7 @@ fn exchange<R: Read + Device, W: Write + Device>(
     post(r, w, target, frame, out)
 }
 
-impl<H: Net<Stream = TcpStream> + Clock, C: workers::Clock> PeerLink<'_, H, C> {
+impl<H: Wait + Net<Stream = TcpStream> + Clock, C: workers::Clock> PeerLink<'_, H, C> {
     // Until when an exchange of that frame for that tenant may last that begins now.
     fn end_of_exchange(&self, tenant: usize, frame: &[u8]) -> io::Result<Instant> {
         let Some(terms) = self.terms.get(tenant) else {
@@ -108,7 +117,7 @@ impl<H: Net<Stream = TcpStream> + Clock, C: workers::Clock> PeerLink<'_, H, C> {
         Ok(stream)
     }
 
-    // Sends a frame on a connection of its own, and gives how many bytes came back.
+    // Sends a frame in one of the places, once the tenant has one, and gives how many bytes came back.
     fn exchanged(
         &self,
         tenant: usize,
@@ -120,9 +129,28 @@ impl<H: Net<Stream = TcpStream> + Clock, C: workers::Clock> PeerLink<'_, H, C> {
         ensures { length out.new ≡ length out.old }
     {
         let until = self.end_of_exchange(tenant, frame)?;
+        let Some(place) = self.places.take(self.handle, tenant, until) else {
+            return Err(io::Error::from(ErrorKind::TimedOut));
+        };
+        let result = self.exchanged_until(until, target, frame, out);
+        self.places.give_back(self.handle, place);
+        result
+    }
+
+    // Sends a frame on a connection of its own, and gives how many bytes came back.
+    fn exchanged_until(
+        &self,
+        until: Instant,
+        target: &Target,
+        frame: &[u8],
+        out: &mut [u8],
+    ) -> io::Result<usize>
+        requires { 34_000 ≤ length out.old }
+        ensures { length out.new ≡ length out.old }
+    {
         let stream = self.connect(target, until)?;
-        let mut reader = Timed::new(&stream, self.handle, until);
-        let mut writer = Timed::new(&stream, self.handle, until);
+        let mut reader = Timed::until(&stream, self.handle, until);
+        let mut writer = Timed::until(&stream, self.handle, until);
         match exchange(&mut reader, &mut writer, target, frame, out) {
             Ok(n) => Ok(n),
             Err(_) => Err(io::Error::from(ErrorKind::InvalidData)),
@@ -130,7 +158,7 @@ impl<H: Net<Stream = TcpStream> + Clock, C: workers::Clock> PeerLink<'_, H, C> {
     }
 }
 
-impl<H: Net<Stream = TcpStream> + Clock, C: workers::Clock> Link for PeerLink<'_, H, C> {
+impl<H: Wait + Net<Stream = TcpStream> + Clock, C: workers::Clock> Link for PeerLink<'_, H, C> {
     ghost sent = { λ l. l.sent };
 
     ghost sends_so = { λ _ _ _. Unit {0} };

@@ -9,6 +9,7 @@ mod answering;
 mod clock;
 mod command_line;
 mod desk;
+mod door;
 mod ending;
 mod link;
 mod office;
@@ -29,7 +30,7 @@ use common_types::ReadError;
 use ending::{Ending, exit_status};
 use oer_core::Counted;
 pub use replay_text::{ReplayFault, replay};
-pub use serving::{ServeFault, serve};
+pub use serving::{Extent, ServeFault, serve};
 use std::io::ErrorKind;
 use std::net::{Net, SocketAddr, TcpListener, TcpStream};
 use std::process::ExitCode;
@@ -61,6 +62,22 @@ fn check(rt: &(impl Print + AllocGlobal), setup: &[u8]) -> Result<(), Ending>
     }
 }
 
+// Says on standard error where a service is too small for what it promises its tenants.
+fn warn(rt: &impl Eprint, extent: Extent, tenants: usize) {
+    if extent.workers < tenants {
+        let _ = eprintln!(rt;
+            "ilpd: {} workers for {} tenants: no tenant is sure of one",
+            extent.workers, tenants
+        );
+    }
+    if extent.connections <= extent.workers {
+        let _ = eprintln!(rt;
+            "ilpd: {} connections for {} workers: peers that hang can keep all of them",
+            extent.connections, extent.workers
+        );
+    }
+}
+
 // Serves the setup on an address, which is an IP address and a port.
 fn serve_at<
     R: Net<Listener = TcpListener, Stream = TcpStream>
@@ -68,10 +85,12 @@ fn serve_at<
         + Wait
         + Clock
         + Print
+        + Eprint
         + AllocGlobal
         + Sync,
->(rt: &R, setup: &[u8], workers: usize, rounds: u32, address: &str) -> Result<(), Ending>
-    requires { (1 ≤ workers) × (workers ≤ 64) }
+>(rt: &R, setup: &[u8], extent: Extent, address: &str) -> Result<(), Ending>
+    requires workers { (1 ≤ extent.workers) × (extent.workers ≤ 64) }
+    requires connections { (1 ≤ extent.connections) × (extent.connections ≤ 4_096) }
 {
     let alloc = rt.alloc();
     setups();
@@ -85,19 +104,10 @@ fn serve_at<
     };
     let listener = TcpListener::bind(rt, address).map_err(fault_of)?;
     println!(rt; "listening {address}").map_err(fault_of)?;
+    warn(rt, extent, setup.tenants.as_slice().len());
     let clock = SystemClock::new(rt);
     let mut writer = io::writer(rt);
-    serve(
-        rt,
-        alloc,
-        &setup,
-        workers,
-        rounds,
-        &listener,
-        &clock,
-        &mut writer,
-    )
-    .map_err(|fault| match fault {
+    serve(rt, alloc, &setup, extent, &listener, &clock, &mut writer).map_err(|fault| match fault {
         ServeFault::Memory => Ending::Fault(ReplayFault::Memory),
         ServeFault::Device => Ending::Fault(ReplayFault::Device),
         ServeFault::Differs => Ending::Differs,
@@ -109,6 +119,7 @@ fn run<
         + Files
         + Input
         + Print
+        + Eprint
         + AllocGlobal
         + Net<Listener = TcpListener, Stream = TcpStream>
         + Threads
@@ -125,8 +136,16 @@ fn run<
     let setup = fs::read(rt, line.setup).map_err(fault_of)?;
     match line.task {
         Task::Check => check(rt, setup.as_slice()),
-        Task::Serve { rounds } => {
-            serve_at(rt, setup.as_slice(), line.workers, rounds, line.address)
+        Task::Serve {
+            connections,
+            rounds,
+        } => {
+            let extent = Extent {
+                workers: line.workers,
+                connections,
+                rounds,
+            };
+            serve_at(rt, setup.as_slice(), extent, line.address)
         }
         Task::Replay => {
             let mut reader = Counted::new(rt.reader());

@@ -3,10 +3,12 @@
 ghost use Rattle.std.specs.Prelude.{◌≡◌, vec_len};
 ghost use Rattle.ilpd.specs.Served.{tenant_named};
 
+use crate::door::Door;
 use books_shared::Books;
 use common_types::{Name, Token};
 use meters::Meters;
 use one_list::Run;
+use workers::Places;
 
 /// What a service knows of a tenant beside its book.
 #[derive(Drop)]
@@ -17,7 +19,7 @@ pub struct Terms {
     pub hold: u64,
 }
 
-/// What all workers share: the tenants by their numbers, their books, and the meters. `J` says which list it is that tells,
+/// What all workers share: the tenants by their numbers, their books, the meters, and the ways in and out. `J` says which list it is that tells,
 /// to the proofs alone, what is done to the books.
 #[derive(Drop)]
 pub struct Office<J: Run> {
@@ -25,6 +27,10 @@ pub struct Office<J: Run> {
     pub terms: Vec<Terms>,
     pub books: Books<J>,
     pub meters: Meters,
+    /// The places in which packets are exchanged with next peers.
+    pub places: Places,
+    /// Where connections come in.
+    pub door: Door,
     ghost known: { vec_len terms ≡ books.tenants },
     ghost metered: { meters.tenants ≡ books.tenants },
 }

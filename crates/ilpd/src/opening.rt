@@ -8,6 +8,7 @@ ghost use Rattle.books_shared.specs.Gathers.{max_workers};
 ghost use Rattle.books_shared.specs.Traced.{openings_of};
 ghost use Rattle.ilpd.specs.Answering.{IsFresh, IsOfficeOf};
 
+use crate::door::Door;
 use crate::office::{Office, Terms};
 use admin_text::Setup;
 use books_shared::{Books, Share};
@@ -16,6 +17,7 @@ use meters::{MeterSeat, Meters};
 use one_list::{Opened, Run};
 use std::alloc::{AllocError, Global};
 use tenant_core::TenantSetup;
+use workers::Places;
 
 /// What a service begins with.
 #[derive(Drop)]
@@ -27,13 +29,15 @@ pub struct Begun<J: Run> {
     pub shares: Vec<Share<J>>,
 }
 
-/// The office of the tenants of a setup, to whom nothing has happened, for so many workers. The list of what is done to their
+/// The office of the tenants of a setup, to whom nothing has happened, for so many workers, with these ways in and out. The list of what is done to their
 /// books has just been opened, for so many tenants and workers.
 pub fn open_office<J: Run>(
     alloc: Global,
     opened: Opened,
     setup: &Setup,
     workers: usize,
+    places: Places,
+    door: Door,
 ) -> Result<Begun<J>, AllocError>
     requires list { (opened.table ≡ J.table) × (opened.size ≡ J.size) }
     requires size { J.size ≡ record { tenants = length setup.now.tenants; workers = workers } }
@@ -54,6 +58,8 @@ pub fn open_office<J: Run>(
         terms: terms_of(alloc, tenants)?,
         books,
         meters,
+        places,
+        door,
     };
     Ok(Begun {
         office,

@@ -3,6 +3,7 @@
 ghost use Rattle.std.specs.Prelude.{ℕ, ◌≡◌, ◌+◌, ◌≤◌, ◌<◌, ◌++◌, length, map, vec_len, true, All, IfOk, OnOk};
 ghost use Rattle.std.specs.Io.KnownBytes.{Appends};
 ghost use Rattle.std.specs.List.{sum_by};
+ghost use Rattle.allotment.specs.Loans.{max_places};
 ghost use Rattle.books_shared.specs.Gathers.{max_workers};
 ghost use Rattle.books_shared.specs.Traced.{openings_of};
 ghost use Rattle.tenant_core.specs.Limits.{max_tenants};
@@ -13,6 +14,7 @@ ghost use Rattle.ilpd.specs.Answering.{HasToldCounts, HasToldCountsIn, HasWorked
 ghost use Rattle.ilpd.specs.Served.{line_of, lines_upto};
 
 use crate::desk::Desk;
+use crate::door::Door;
 use crate::office::Office;
 use crate::opening::{Begun, open_office};
 use crate::worker::Worker;
@@ -31,7 +33,7 @@ use std::net::{Net, TcpListener, TcpStream};
 use std::sync::Wait;
 use std::thread::Threads;
 use thiserror::Error;
-use workers::run_workers;
+use workers::{Places, run_workers};
 
 /// Why a service ended otherwise than after its rounds.
 #[derive(Clone, Copy, Debug, PartialEq, Eq, Error)]
@@ -72,7 +74,6 @@ fn hired<
     office: &'a Office<J>,
     first: &mut MeterSeat,
     mut shares: Vec<Share<J>>,
-    rounds: u32,
     listener: &'a TcpListener,
     clock: &'a C,
 ) -> Result<Vec<Worker<'a, H, C, J>>, AllocError>
@@ -94,7 +95,7 @@ fn hired<
     while let Some(share) = shares.pop() {
         let slot = Slot::new(alloc)?;
         let desk = Desk::new(alloc, share, office.meters.split(first), slot);
-        lanes.push_reserved(Worker::new(handle, alloc, office, clock, listener, rounds, desk));
+        lanes.push_reserved(Worker::new(handle, alloc, office, clock, listener, desk));
     }
     Ok(lanes)
 }
@@ -148,7 +149,7 @@ fn work_all<
     }
 }
 
-/// Lets a worker for each share serve so many connections, and joins them all.
+/// Lets a worker for each share serve connections, and joins them all.
 pub fn run_all<
     'a,
     H: Threads + Wait + Net<Listener = TcpListener, Stream = TcpStream> + std::time::Clock + Sync,
@@ -160,7 +161,6 @@ pub fn run_all<
     office: &'a Office<J>,
     first: &mut MeterSeat,
     shares: Vec<Share<J>>,
-    rounds: u32,
     listener: &'a TcpListener,
     clock: &'a C,
 ) -> Result<Done<J>, ServeFault>
@@ -177,9 +177,7 @@ pub fn run_all<
     ensures counted { IfOk result (λ done. HaveCounted office.now (vec_len shares) done.shares.items
         (λ tenant kind. count_of tenant kind first.new)) }
 {
-    let mut lanes = hired(
-        handle, alloc, office, first, shares, rounds, listener, clock,
-    )?;
+    let mut lanes = hired(handle, alloc, office, first, shares, listener, clock)?;
     work_all(handle, office, lanes.as_mut_slice())?;
     Ok(dismissed(alloc, office, first, lanes)?)
 }
@@ -251,11 +249,41 @@ fn tell<W: Write>(
     }
 }
 
-/// Serves so many connections with each of so many workers, joins them, and writes a line for each tenant.
+/// How many threads serve, how many packets are exchanged with next peers at once, and how many connections are served.
+#[derive(Clone, Copy)]
+pub struct Extent {
+    /// 1 to 64: so many packets may be on their way to next peers at once.
+    pub workers: usize,
+    /// 1 to 4,096: so many connections may be open at once, each on a thread of its own.
+    pub connections: usize,
+    /// How many connections are served for each of `workers` before the service ends, if it does.
+    pub rounds: Option<u32>,
+}
+
+// How many connections are served in all.
+fn total_of(extent: Extent) -> u64 {
+    match extent.rounds {
+        Some(rounds) => (extent.workers as u64).saturating_mul(u64::from(rounds)),
+        None => u64::MAX,
+    }
+}
+
+// How many packets of each tenant may wait for a place: what half of the connections beyond the places come to for each.
+fn room_of(extent: Extent, tenants: usize) -> usize
+    requires { 1 ≤ tenants }
+{
+    extent.connections.saturating_sub(extent.workers) / 2 / tenants
+}
+
+/// Serves connections, each on a thread of its own, joins the threads once as many were served as are to be, and writes a
+/// line for each tenant.
+///
+/// A connection that brings no byte is none of those that are served. A packet that goes on takes one of the places
+/// that the tenants share while it is exchanged with the next peer.
 ///
 /// A line says how many packets and commands of the tenant were answered with which status, and how often its peers gave
-/// no answer: the sums of what the workers have counted, each of which begins with nothing and counts with each question
-/// that it is asked as `HasAnswered` says.
+/// no answer: the sums of what the workers have counted, one on each thread, each of which begins with nothing and counts
+/// with each question that it is asked as `HasAnswered` says.
 ///
 /// All that the workers did to the tenants' books is one list, whatever the threads did: of each tenant it has what led from
 /// the setup to the tenant's book, of each worker what it did, and nothing else; and it is a run of a `Floor` from the setup on
@@ -272,19 +300,23 @@ pub fn serve<
     handle: &H,
     alloc: Global,
     setup: &Setup,
-    workers: usize,
-    rounds: u32,
+    extent: Extent,
     listener: &TcpListener,
     clock: &C,
     writer: &mut W,
 ) -> Result<(), ServeFault>
     requires tenants { (1 ≤ length setup.now.tenants) × (length setup.now.tenants ≤ max_tenants) }
-    requires workers { (1 ≤ workers) × (workers ≤ max_workers) }
-    ensures { OnOk result (HasToldCounts setup.now workers (W.contents writer.old) (W.contents writer.new)) }
+    requires workers { (1 ≤ extent.workers) × (extent.workers ≤ max_places) }
+    requires connections { (1 ≤ extent.connections) × (extent.connections ≤ max_workers) }
+    ensures { OnOk result (HasToldCounts setup.now extent.connections (W.contents writer.old) (W.contents writer.new)) }
 {
-    let opened = Opened::new(alloc, setup.tenants.as_slice().len(), workers)?;
+    let tenants = setup.tenants.as_slice().len();
+    let opened = Opened::new(alloc, tenants, extent.connections)?;
+    let places = Places::new(alloc, extent.workers, tenants, room_of(extent, tenants))?;
+    let door = Door::new(total_of(extent));
+    let workers = extent.connections;
     serve_run::<Brand, _, _, _>(
-        handle, alloc, opened, setup, workers, rounds, listener, clock, writer,
+        handle, alloc, opened, setup, workers, places, door, listener, clock, writer,
     )
 }
 
@@ -300,7 +332,8 @@ fn serve_run<
     opened: Opened,
     setup: &Setup,
     workers: usize,
-    rounds: u32,
+    places: Places,
+    door: Door,
     listener: &TcpListener,
     clock: &C,
     writer: &mut W,
@@ -316,10 +349,8 @@ fn serve_run<
         office,
         mut first,
         shares,
-    } = open_office::<J>(alloc, opened, setup, workers)?;
-    let done = run_all(
-        handle, alloc, &office, &mut first, shares, rounds, listener, clock,
-    )?;
+    } = open_office::<J>(alloc, opened, setup, workers, places, door)?;
+    let done = run_all(handle, alloc, &office, &mut first, shares, listener, clock)?;
     let Done { shares, failed } = done;
     let Office {
         books,

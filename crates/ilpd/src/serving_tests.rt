@@ -3,7 +3,7 @@
 mod crowd;
 mod wire;
 
-use crate::serving::{ServeFault, serve};
+use crate::serving::{Extent, ServeFault, serve};
 use admin_text::laws::setups;
 use admin_text::read_setup;
 use std::alloc::Global;
@@ -96,8 +96,11 @@ fn serve_some<
         rt,
         rt.alloc(),
         &setup,
-        1,
-        rounds,
+        Extent {
+            workers: 1,
+            connections: 1,
+            rounds: Some(rounds),
+        },
         listener,
         &Standing,
         lines,

@@ -22,7 +22,7 @@ type Words = (
     Result<(Task, &'static str, usize), &'static str>,
 );
 
-static LINES: [Words; 25] = [
+static LINES: [Words; 28] = [
     (&["replay", "s1.toml"], Ok((Task::Replay, "s1.toml", 1))),
     (
         &["replay", "s1.toml", "--workers", "2"],
@@ -46,7 +46,14 @@ static LINES: [Words; 25] = [
     (&["replay", "s1.toml", "--workers"], Err("error:")),
     (
         &["serve", "s1.toml", "--workers", "2", "--rounds", "3"],
-        Ok((Task::Serve { rounds: 3 }, "s1.toml", 2)),
+        Ok((
+            Task::Serve {
+                connections: 256,
+                rounds: Some(3),
+            },
+            "s1.toml",
+            2,
+        )),
     ),
     (
         &[
@@ -56,11 +63,51 @@ static LINES: [Words; 25] = [
             "s1.toml",
             "--listen=[::1]:80",
         ],
-        Ok((Task::Serve { rounds: 1_000_000 }, "s1.toml", 64)),
+        Ok((
+            Task::Serve {
+                connections: 256,
+                rounds: Some(1_000_000),
+            },
+            "s1.toml",
+            64,
+        )),
     ),
     (&["serve", "s1.toml"], Err("error:")),
     (&["serve", "s1.toml", "--rounds", "1"], Err("error:")),
-    (&["serve", "s1.toml", "--workers", "1"], Err("error:")),
+    (
+        &[
+            "serve",
+            "s1.toml",
+            "--workers",
+            "1",
+            "--connections",
+            "4096",
+        ],
+        Ok((
+            Task::Serve {
+                connections: 4096,
+                rounds: None,
+            },
+            "s1.toml",
+            1,
+        )),
+    ),
+    (&["serve", "s1.toml", "--workers", "65"], Err("error:")),
+    (
+        &["serve", "s1.toml", "--workers", "1", "--connections", "0"],
+        Err("error:"),
+    ),
+    (
+        &[
+            "serve",
+            "s1.toml",
+            "--workers",
+            "1",
+            "--connections",
+            "4097",
+        ],
+        Err("error:"),
+    ),
     (
         &["serve", "s1.toml", "--workers", "1", "--rounds", "0"],
         Err("error:"),

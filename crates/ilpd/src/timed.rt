@@ -1,31 +1,164 @@
 //! Connections whose reads and writes end in time.
 
-ghost use Rattle.std.specs.Prelude.{◌≡◌, ◌≤◌, None, is_err};
+ghost use Rattle.std.specs.Prelude.{◌≡◌, ◌≤◌, None, is_err, length};
 ghost use Rattle.std.specs.Io.{ReadsAtMost, WritesAtMost};
 ghost use Rattle.std.specs.Io.KnownBytes.{ReadConsumes, WriteAppends};
 ghost use Rattle.oer_core.specs.Devices.{count_after, takes_nothing};
 
+use crate::door::Door;
 use oer_core::Device;
 use std::io;
-use std::io::{ErrorKind, Read, Write};
+use std::io::{Error, ErrorKind, Read, Write};
 use std::net::TcpStream;
+use std::sync::Wait;
 use std::time::{Clock, Duration, Instant};
 
 /// How many bytes are read ahead at most.
 const AHEAD: usize = 2048;
 
-/// By how many milliseconds more than are left a read may wait.
-const SLACK: u64 = 100;
+/// For how many milliseconds a read or write waits at most before it looks whether it may go on.
+const SLICE: u64 = 250;
 
-/// One side of a connection, whose reads and writes fail once a moment has come, a read up to 100 ms later. It reads ahead,
-/// and counts what failed.
+/// How long the reads or writes of one side may take.
+#[derive(Clone, Copy)]
+enum Limit {
+    /// Until a moment.
+    Until(Instant),
+    /// So long in all. The last part of it, as long as the second says, is given only while nobody waits for the thread.
+    For(Duration, Duration),
+}
+
+// A connection, and how long reading or writing it may take.
 #[derive(Drop)]
-pub struct Timed<'a, H> {
+struct Side<'a, H> {
     stream: &'a TcpStream,
     clock: &'a H,
-    until: Instant,
-    // How long a read of the stream waits, as it was last set; zero where it was not.
-    wait: Duration,
+    door: Option<&'a Door>,
+    limit: Limit,
+    // How long a read and a write wait, as it was last set; zero where it was not.
+    read_wait: Duration,
+    write_wait: Duration,
+}
+
+impl<H: Clock> Side<'_, H> {
+    // How much time is left.
+    fn left(&self, now: Instant) -> io::Result<Duration> {
+        let left = match self.limit {
+            Limit::Until(end) => end.saturating_duration_since(now),
+            Limit::For(left, favour) if left <= favour && self.is_crowded() => Duration::ZERO,
+            Limit::For(left, _) => left,
+        };
+        if left.is_zero() {
+            return Err(Error::from(ErrorKind::TimedOut));
+        }
+        Ok(left)
+    }
+
+    fn is_crowded(&self) -> bool {
+        match self.door {
+            Some(door) => door.is_crowded(),
+            None => false,
+        }
+    }
+
+    // Takes off the time that has gone by since then.
+    fn spend(&mut self, begun: Instant) -> io::Result<()> {
+        if let Limit::For(left, favour) = self.limit {
+            let spent = Instant::now(self.clock)?.saturating_duration_since(begun);
+            self.limit = Limit::For(left.saturating_sub(spent), favour);
+        }
+        Ok(())
+    }
+
+    fn set_read_wait(&mut self, left: Duration) -> io::Result<()> {
+        let wait = left.min(Duration::from_millis(SLICE));
+        if self.read_wait != wait {
+            self.stream.set_read_timeout(Some(wait))?;
+            self.read_wait = wait;
+        }
+        Ok(())
+    }
+
+    fn set_write_wait(&mut self, left: Duration) -> io::Result<()> {
+        let wait = left.min(Duration::from_millis(SLICE));
+        if self.write_wait != wait {
+            self.stream.set_write_timeout(Some(wait))?;
+            self.write_wait = wait;
+        }
+        Ok(())
+    }
+
+    // Reads once.
+    fn read_once(&mut self, buf: &mut [u8]) -> io::Result<usize>
+        ensures bound { ReadsAtMost result buf.new }
+        ensures len { length buf.new ≡ length buf.old }
+    {
+        let begun = Instant::now(self.clock)?;
+        let left = self.left(begun)?;
+        self.set_read_wait(left)?;
+        let mut stream = self.stream;
+        let result = stream.read(buf);
+        self.spend(begun)?;
+        result
+    }
+
+    // Writes once.
+    fn write_once(&mut self, buf: &[u8]) -> io::Result<usize>
+        ensures { WritesAtMost result buf.now }
+    {
+        let begun = Instant::now(self.clock)?;
+        let left = self.left(begun)?;
+        self.set_write_wait(left)?;
+        let mut stream = self.stream;
+        let result = stream.write(buf);
+        self.spend(begun)?;
+        result
+    }
+}
+
+// Whether it says only that nothing has come or gone yet.
+fn is_pause(error: &Error) -> bool {
+    match error.kind() {
+        ErrorKind::WouldBlock | ErrorKind::Interrupted => true,
+        _ => false,
+    }
+}
+
+impl<H: Wait + Clock> Side<'_, H> {
+    // Reads what comes in time.
+    fn receive(&mut self, buf: &mut [u8]) -> io::Result<usize>
+        ensures bound { ReadsAtMost result buf.new }
+        ensures len { length buf.new ≡ length buf.old }
+    {
+        let clock = self.clock;
+        for _ in clock.forever() {
+            match self.read_once(buf) {
+                Err(error) if is_pause(&error) => {}
+                result => return result,
+            }
+        }
+        unreachable!()
+    }
+
+    // Writes what can be written in time.
+    fn send(&mut self, buf: &[u8]) -> io::Result<usize>
+        ensures { WritesAtMost result buf.now }
+    {
+        let clock = self.clock;
+        for _ in clock.forever() {
+            match self.write_once(buf) {
+                Err(error) if is_pause(&error) => {}
+                result => return result,
+            }
+        }
+        unreachable!()
+    }
+}
+
+/// One side of a connection, whose reads and writes fail once their time is over. It reads ahead, and counts what failed.
+#[derive(Drop)]
+pub struct Timed<'a, H> {
+    side: Side<'a, H>,
     failures: u64,
     ahead: [u8; AHEAD],
     from: usize,
@@ -35,13 +168,21 @@ pub struct Timed<'a, H> {
 }
 
 impl<'a, H: Clock> Timed<'a, H> {
-    /// A side of the connection, which fails from that moment of the clock on.
-    pub fn new(stream: &'a TcpStream, clock: &'a H, until: Instant) -> Timed<'a, H> {
+    fn new(
+        stream: &'a TcpStream,
+        clock: &'a H,
+        door: Option<&'a Door>,
+        limit: Limit,
+    ) -> Timed<'a, H> {
         Timed {
-            stream,
-            clock,
-            until,
-            wait: Duration::ZERO,
+            side: Side {
+                stream,
+                clock,
+                door,
+                limit,
+                read_wait: Duration::ZERO,
+                write_wait: Duration::ZERO,
+            },
             failures: 0,
             ahead: [0; AHEAD],
             from: 0,
@@ -49,67 +190,49 @@ impl<'a, H: Clock> Timed<'a, H> {
         }
     }
 
-    /// Gives it until another moment.
-    pub fn extend(&mut self, until: Instant) {
-        self.until = until;
+    /// A side of the connection, whose reads and writes fail from that moment of the clock on.
+    pub fn until(stream: &'a TcpStream, clock: &'a H, end: Instant) -> Timed<'a, H> {
+        Timed::new(stream, clock, None, Limit::Until(end))
     }
 
-    // The time that is left.
-    fn left(&self) -> io::Result<Duration> {
-        let now = Instant::now(self.clock)?;
-        match self.until.checked_duration_since(now) {
-            Some(left) if !left.is_zero() => Ok(left),
-            _ => Err(io::Error::from(ErrorKind::TimedOut)),
-        }
+    /// A side of a connection that came through the door, with no time yet.
+    pub fn through(door: &'a Door, stream: &'a TcpStream, clock: &'a H) -> Timed<'a, H> {
+        let none = Limit::For(Duration::ZERO, Duration::ZERO);
+        Timed::new(stream, clock, Some(door), none)
     }
 
-    // Sets how long a read waits, unless it is set to the time that is left or a little more.
-    fn set_wait(&mut self) -> io::Result<()>
-        ensures { self.new.failures ≡ self.old.failures }
-    {
-        let left = self.left()?;
-        let is_set = match self.wait.checked_sub(left) {
-            Some(longer) => longer <= Duration::from_millis(SLACK),
-            None => false,
-        };
-        if !is_set {
-            let wait = left.saturating_add(Duration::from_millis(SLACK / 2));
-            self.stream.set_read_timeout(Some(wait))?;
-            self.wait = wait;
+    /// Gives its reads or writes so much time from now on, in all. The last part of it, as long as `favour`, is given only
+    /// while no other connection waits for the thread of this one.
+    pub fn allow(&mut self, time: Duration, favour: Duration) {
+        self.side.limit = Limit::For(time, favour);
+    }
+}
+
+impl<H: Wait + Clock> Timed<'_, H> {
+    /// Waits until there is more to read; `false` where there is no more.
+    pub fn has_more(&mut self) -> io::Result<bool> {
+        if self.from == self.to {
+            self.read_ahead()?;
         }
-        Ok(())
+        Ok(self.from < self.to)
     }
 
     fn read_ahead(&mut self) -> io::Result<()>
         ensures { self.new.failures ≡ self.old.failures }
     {
-        self.set_wait()?;
-        let mut stream = self.stream;
-        let n = stream.read(&mut self.ahead)?;
+        let n = self.side.receive(&mut self.ahead)?;
         self.from = 0;
         self.to = n;
         Ok(())
     }
 
-    // Reads what goes past the room for reading ahead.
-    fn read_past(&mut self, buf: &mut [u8]) -> io::Result<usize>
-        ensures bound { ReadsAtMost result buf.new }
-        ensures failures { self.new.failures ≡ self.old.failures }
-    {
-        self.set_wait()?;
-        let mut stream = self.stream;
-        stream.read(buf)
-    }
-}
-
-impl<H: Clock> Timed<'_, H> {
     fn read_some(&mut self, buf: &mut [u8]) -> io::Result<usize>
         ensures bound { ReadsAtMost result buf.new }
         ensures failures { self.new.failures ≡ self.old.failures }
     {
         if self.from == self.to {
             if buf.len() >= AHEAD {
-                return self.read_past(buf);
+                return self.side.receive(buf);
             }
             self.read_ahead()?;
         }
@@ -125,15 +248,6 @@ impl<H: Clock> Timed<'_, H> {
         buf[..n].copy_from_slice(&held[..n]);
         self.from += n;
         Ok(n)
-    }
-
-    fn write_some(&mut self, buf: &[u8]) -> io::Result<usize>
-        ensures bound { WritesAtMost result buf.now }
-        ensures failures { self.new.failures ≡ self.old.failures }
-    {
-        self.stream.set_write_timeout(Some(self.left()?))?;
-        let mut stream = self.stream;
-        stream.write(buf)
     }
 
     fn count(&mut self, failed: bool)
@@ -153,7 +267,7 @@ impl<H> Device for Timed<'_, H> {
     }
 }
 
-impl<H: Clock> Read for Timed<'_, H> {
+impl<H: Wait + Clock> Read for Timed<'_, H> {
     fn read(&mut self, buf: &mut [u8]) -> io::Result<usize>
         ensures bound { ReadsAtMost result buf.new }
         ensures bytes { ReadConsumes None None result buf.new }
@@ -166,14 +280,14 @@ impl<H: Clock> Read for Timed<'_, H> {
     }
 }
 
-impl<H: Clock> Write for Timed<'_, H> {
+impl<H: Wait + Clock> Write for Timed<'_, H> {
     fn write(&mut self, buf: &[u8]) -> io::Result<usize>
         ensures bound { WritesAtMost result buf.now }
         ensures bytes { WriteAppends None None result buf.now }
         // An error is counted, and a write of some bytes that takes none, and nothing else.
         ensures counted { self.new.failures ≡ count_after (takes_nothing result buf.now) self.old.failures }
     {
-        let result = self.write_some(buf);
+        let result = self.side.send(buf);
         self.count(match &result {
             Ok(taken) => *taken == 0 && !buf.is_empty(),
             Err(_) => true,

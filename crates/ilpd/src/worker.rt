@@ -8,20 +8,17 @@ use crate::desk::Desk;
 use crate::office::Office;
 use crate::timed::Timed;
 use http_link::{Kind, MAX_BODY, Served, Service, serve_one};
-use oer_core::Counted;
 use one_list::Run;
 use std::alloc::Global;
-use std::io::ErrorKind;
 use std::net::{Net, TcpListener, TcpStream};
 use std::sync::Wait;
+use std::thread;
 use std::thread::Threads;
-use std::time::{Duration, Instant};
-use std::{io, thread};
+use std::time::Duration;
 use workers::{Clock, Lane, Status};
 
-/// A worker that serves so many connections, one after another, and ends early where none can be accepted for a minute. It
-/// carries packets to the next peers, and does the commands
-/// of those who show the tenant's token for them.
+/// A worker that serves connections, one after another, as long as more may come, and ends early where none can be accepted
+/// for a minute. It carries packets to the next peers, and does the commands of those who show the tenant's token for them.
 #[derive(Drop)]
 pub struct Worker<'a, H, C, J: Run> {
     handle: &'a H,
@@ -29,7 +26,6 @@ pub struct Worker<'a, H, C, J: Run> {
     office: &'a Office<J>,
     clock: &'a C,
     listener: &'a TcpListener,
-    rounds: u32,
     failed: bool,
     desk: Desk<J>,
     ghost seated: { desk.seat.meters ≡ office.now.meters.id },
@@ -42,7 +38,6 @@ impl<'a, H, C, J: Run> Worker<'a, H, C, J> {
         office: &'a Office<J>,
         clock: &'a C,
         listener: &'a TcpListener,
-        rounds: u32,
         desk: Desk<J>,
     ) -> Worker<'a, H, C, J>
         requires { desk.seat.meters ≡ office.now.meters.id }
@@ -55,7 +50,6 @@ impl<'a, H, C, J: Run> Worker<'a, H, C, J> {
             office,
             clock,
             listener,
-            rounds,
             failed: false,
             desk,
         }
@@ -121,16 +115,15 @@ const MAX_TRIES: u32 = 600;
 /// How many milliseconds it waits before it tries again.
 const PAUSE: u64 = 100;
 
-/// How many seconds a request may take to come, from the end of the one before it, and each write of an answer.
-const PATIENCE: u64 = 30;
+/// For how many milliseconds a connection may bring nothing, how many a request may take to come whole, and an answer to go
+/// whole.
+const PATIENCE: u64 = 30_000;
 
-// Until when a request may come that is awaited from now on.
-fn end_of_patience<H: std::time::Clock>(handle: &H) -> io::Result<Instant> {
-    match Instant::now(handle)?.checked_add(Duration::from_secs(PATIENCE)) {
-        Some(end) => Ok(end),
-        None => Err(io::Error::from(ErrorKind::InvalidInput)),
-    }
-}
+/// How many of these a request or an answer has where other connections may have to wait for the thread.
+const HURRY: u64 = 5_000;
+
+/// And how many a connection that brings nothing.
+const MOMENT: u64 = 250;
 
 impl<H: Wait + Net<Stream = TcpStream> + std::time::Clock, C: Clock, J: Run> Worker<'_, H, C, J> {
     // Accepts a connection, and says whether one came. A try that fails is made again after a pause, and is told in the end.
@@ -149,44 +142,72 @@ impl<H: Wait + Net<Stream = TcpStream> + std::time::Clock, C: Clock, J: Run> Wor
         None
     }
 
+    // Accepts a connection that may be served.
+    fn next_connection(&mut self) -> Option<TcpStream>
+        ensures office { self.new.office ≡ self.old.office }
+        ensures clock { self.new.clock ≡ self.old.clock }
+        ensures desk { self.new.desk ≡ self.old.desk }
+    {
+        let door = &self.office.door;
+        if !door.enter(self.handle) {
+            return None;
+        }
+        door.wait_begins();
+        let stream = self.accepted();
+        door.wait_ends();
+        stream
+    }
+
     // Serves one request, and says whether another may follow on the connection.
     fn serve_request(
         &mut self,
         reader: &mut Timed<'_, H>,
-        writer: &mut Counted<&TcpStream>,
+        writer: &mut Timed<'_, H>,
         room: &mut [u8],
-    ) -> io::Result<bool>
+    ) -> bool
         requires { 34_000 ≤ length room.old }
         ensures room { length room.new ≡ length room.old }
         ensures office { self.new.office ≡ self.old.office }
         ensures clock { self.new.clock ≡ self.old.clock }
         ensures served { HasServed (C.gives self.old.clock.now) self.old.office.now self.old.desk self.new.desk }
     {
-        reader.extend(end_of_patience(self.handle)?);
+        let time = Duration::from_millis(PATIENCE);
+        let favour = Duration::from_millis(PATIENCE - HURRY);
+        reader.allow(time, favour);
+        writer.allow(time, favour);
         let served = serve_one(reader, writer, self, room);
-        Ok(served == Ok(Served::Kept))
+        served == Ok(Served::Kept)
     }
 
-    // Serves the requests of a connection until it ends.
+    // Serves the requests of a connection until it ends, and says whether it brought any byte.
     #[tactic(auto, using(crate::proofs::Leading::served_then, crate::proofs::Leading::served_nothing))]
-    fn serve_connection(&mut self, stream: &TcpStream, room: &mut [u8]) -> io::Result<()>
+    fn serve_connection(&mut self, stream: &TcpStream, room: &mut [u8]) -> bool
         requires { 34_000 ≤ length room.old }
         ensures room { length room.new ≡ length room.old }
         ensures office { self.new.office ≡ self.old.office }
         ensures clock { self.new.clock ≡ self.old.clock }
         ensures served { HasServed (C.gives self.old.clock.now) self.old.office.now self.old.desk self.new.desk }
     {
-        stream.set_nodelay(true)?;
-        stream.set_write_timeout(Some(Duration::from_secs(PATIENCE)))?;
-        let mut reader = Timed::new(stream, self.handle, end_of_patience(self.handle)?);
-        let mut writer = Counted::new(stream);
+        let door = &self.office.door;
+        let mut reader = Timed::through(door, stream, self.handle);
+        let mut writer = Timed::through(door, stream, self.handle);
+        if stream.set_nodelay(true).is_err() || !awaits(&mut reader) {
+            return false;
+        }
         for _ in self.handle.forever() {
-            if !self.serve_request(&mut reader, &mut writer, room)? {
+            if !self.serve_request(&mut reader, &mut writer, room) || !awaits(&mut reader) {
                 break;
             }
         }
-        Ok(())
+        true
     }
+}
+
+// Whether more comes on a connection. It may bring nothing for a while, as long as nobody waits for its thread.
+fn awaits<H: Wait + std::time::Clock>(reader: &mut Timed<'_, H>) -> bool {
+    let favour = Duration::from_millis(PATIENCE - MOMENT);
+    reader.allow(Duration::from_millis(PATIENCE), favour);
+    reader.has_more().unwrap_or(false)
 }
 
 impl<
@@ -200,11 +221,13 @@ impl<
     #[tactic(auto, using(crate::proofs::Leading::served_then, crate::proofs::Leading::served_nothing))]
     fn work<R: Threads + Wait + Sync>(&mut self, _rt: &R) {
         let mut room = [0; MAX_BODY];
-        for _ in 0..self.rounds {
-            let Some(stream) = self.accepted() else {
+        for _ in self.handle.forever() {
+            let Some(stream) = self.next_connection() else {
                 return;
             };
-            let _ = self.serve_connection(&stream, &mut room);
+            if !self.serve_connection(&stream, &mut room) {
+                self.office.door.give_back();
+            }
         }
     }
 }

@@ -12,7 +12,7 @@ use Rattle.meters.specs.declared.kind.Kind.TheVariants.{Answered, Refused, Unava
 use Rattle.meters.specs.declared.rule.View.{View}
 use Rattle.meters.specs.Counts.{place_of, word_of, count_in, both_rows}
 use Rattle.atomic_table.specs.Seated.{TableId}
-use Rattle.meters.specs.Seats.{MetersState, SeatState}
+use Rattle.meters.specs.Seats.{MetersState, SeatState, max_splits}
 use Rattle.meters.specs.Rule.{seat_state, total, empty_view, spent_view, raised_view, split_view, joined_view, IsSound, Kept, Raises, Looks}
 
 -- a view's count at a place
@@ -217,7 +217,7 @@ kept_at_first tenants words is =
 
 -- ---- a count
 
-bounds : (tenants : ℕ) (s : State (Unit {0}) View) → Kept tenants s → (t : ℕ) (k : Kind) → t < tenants → slice_index s.words (word_of t k) ≤ 65 * 2 ^ 40
+bounds : (tenants : ℕ) (s : State (Unit {0}) View) → Kept tenants s → (t : ℕ) (k : Kind) → t < tenants → slice_index s.words (word_of t k) ≤ (max_splits + 1) * 2 ^ 40
 bounds tenants s kept t k lt =
     let most = total_bound (word_of t k) s.views (λ id v at. (kept.sound id v at).bounded (word_of t k)) in
     let e = kept.sums t k lt in
@@ -387,7 +387,7 @@ at_value (x ∷ xs) (suc i) a e = at_value xs i a e
 
 -- ---- a split
 
-pub split_splits : (tenants id : ℕ) (v : View) → v.first ≡ true → v.splits < 64 → Splits (Kept tenants) id v (split_view v) (empty_view false)
+pub split_splits : (tenants id : ℕ) (v : View) → v.first ≡ true → v.splits < max_splits → Splits (Kept tenants) id v (split_view v) (empty_view false)
 split_splits tenants id v first few s kept at =
     let old = kept.sound id v at in
     record {

@@ -7,7 +7,7 @@ use Rattle.atomic_table.specs.Table.{State, Me, Step}
 use Rattle.meters.specs.declared.kind.Kind.{Kind}
 use Rattle.meters.specs.declared.rule.View.{View}
 use Rattle.meters.specs.Counts.{count_in, both_rows}
-use Rattle.meters.specs.Seats.{SeatState}
+use Rattle.meters.specs.Seats.{SeatState, max_splits}
 
 -- what clients see of a seat of these meters with this view
 abbrev pub seat_state : TableId → View → SeatState
@@ -53,12 +53,12 @@ pub record IsSound (id : ℕ) (v : View) : Type 0 where
   pub joined : v.first ≡ true → v.joins < v.parts
 
 -- the rule: for each tenant and kind the word is the sum of that count over the views of all seats. No seat is lost:
--- the views stand for one seat and one more for each split, of which there are at most 64
+-- the views stand for one seat and one more for each split, of which there are no more than may be
 pub record Kept (tenants : ℕ) (s : State (Unit {0}) View) : Type 0 where
   pub long : length s.words ≡ 4 * tenants
   pub sums : (tenant : ℕ) (kind : Kind) → tenant < tenants → count_in tenant kind s.words ≡ word_total tenant kind s.views
   pub parts : total (λ v. v.parts) s.views ≡ 1 + total (λ v. v.splits) s.views
-  pub few : total (λ v. v.splits) s.views ≤ 64
+  pub few : total (λ v. v.splits) s.views ≤ max_splits
   pub sound : (id : ℕ) (v : View) → get_elem? s.views id ≡ some v → IsSound id v
 
 -- a word is raised by one: the seat's count of it rises by one, and nothing else of what it knows changes
@@ -69,5 +69,5 @@ Raises s v found w = w ≡ (raised_view s.word v.0, v.1)
 -- word
 abbrev pub Looks : Step (Unit {0}) → Me (Unit {0}) View → ℕ → Me (Unit {0}) View → Type 0
 Looks s v found w =
-    (w ≡ v) × (slice_index v.0.counts s.word ≤ found) × (v.0.parts ≤ 65) × (found ≤ 65 * 2 ^ 40)
+    (w ≡ v) × (slice_index v.0.counts s.word ≤ found) × (v.0.parts ≤ max_splits + 1) × (found ≤ (max_splits + 1) * 2 ^ 40)
     × ((i : ℕ) → slice_index v.0.counts i ≤ v.0.parts * 2 ^ 40)

@@ -6,7 +6,7 @@ ghost use mathlib.Core.Option.{some};
 ghost use lib.ListN.{get_elem?};
 ghost use Rattle.meters.specs.declared.kind.Kind.{Kind};
 ghost use Rattle.meters.specs.Counts.{both_rows};
-ghost use Rattle.meters.specs.Seats.{count_of, total_of, empty_seat, counted, split_seat, joined_seat};
+ghost use Rattle.meters.specs.Seats.{count_of, total_of, empty_seat, counted, max_splits, split_seat, joined_seat};
 
 use crate::kind::{Kind, word_of};
 use crate::rule::{Cut, Look, Merge, Raise, Sums, View};
@@ -115,13 +115,13 @@ impl Meters {
     }
 
     /// How many of a kind all threads have counted for a tenant by now: no fewer than the seat itself, and at most
-    /// 65 * 2^40. The seat is one of these meters, and the tenant is below their number of tenants.
+    /// 4,097 * 2^40. The seat is one of these meters, and the tenant is below their number of tenants.
     pub fn read(&self, seat: &mut MeterSeat, tenant: usize, kind: Kind) -> u64
         requires here { seat.old.meters ≡ self.now.id }
         requires tenant { tenant < self.now.tenants }
         ensures kept { seat.new ≡ seat.old }
         ensures least { count_of tenant kind seat.old ≤ result }
-        ensures most { result ≤ 65 * 2 ^ 40 }
+        ensures most { result ≤ (max_splits + 1) * 2 ^ 40 }
     {
         self.table
             .shared
@@ -129,11 +129,11 @@ impl Meters {
     }
 
     /// A seat for another thread, with all counts at zero, from the seat of these meters that came from `new` and was
-    /// split fewer than 64 times. It takes no memory.
+    /// split fewer than 4,096 times. It takes no memory.
     pub fn split(&self, seat: &mut MeterSeat) -> MeterSeat
         requires here { seat.old.meters ≡ self.now.id }
         requires first { IsTrue seat.old.first }
-        requires few { seat.old.splits < 64 }
+        requires few { seat.old.splits < max_splits }
         ensures left { seat.new ≡ split_seat seat.old }
         ensures new { result ≡ empty_seat self.now.id false }
         ensures zero { (t : ℕ) (k : Kind) → count_of t k result ≡ 0 }

@@ -2,8 +2,7 @@
 
 ghost use Rattle.std.specs.Prelude.{◌≡◌, ◌<◌, ℕ, length, OnOk, OnErr, slice_index_or};
 
-use std::sync::Wait;
-use std::sync::atomic::{AtomicU64, Ordering};
+use std::sync::{Condvar, Mutex, Wait};
 use std::thread;
 use std::thread::Threads;
 use thiserror::Error;
@@ -23,28 +22,24 @@ pub trait Lane: Send {
 #[error("a thread could not be started")]
 pub struct StartFault;
 
-// Waits until the word is 1.
-fn wait_for<R: Wait>(rt: &R, start: &AtomicU64) {
-    for _ in rt.forever() {
-        if start.load(Ordering::SeqCst) == 1 {
-            break;
-        }
-        thread::yield_now();
-    }
+// Sleeps until the gate is open.
+fn wait_for<R: Wait>(rt: &R, open: &Mutex<bool>, bell: &Condvar) {
+    bell.wait_while(rt, open.lock(rt), |open| !*open);
 }
 
 // Whether so many threads can be there at once.
 fn can_start<R: Threads + Wait + Sync>(rt: &R, count: usize) -> bool {
-    let start = AtomicU64::new(0);
-    let gate = &start;
+    let (open, bell) = (Mutex::new(false), Condvar::new());
+    let (open, bell) = (&open, &bell);
     thread::scope(thread::scope_env(), rt, |scope| {
         let mut all = true;
         for _ in 0..count {
-            if scope.spawn(move || wait_for(rt, gate)).is_err() {
+            if scope.spawn(move || wait_for(rt, open, bell)).is_err() {
                 all = false;
             }
         }
-        gate.store(1, Ordering::SeqCst);
+        *open.lock(rt) = true;
+        bell.notify_all();
         all
     })
 }

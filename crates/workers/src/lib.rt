@@ -5,6 +5,7 @@
 mod carrying;
 mod governing;
 mod lanes;
+mod places;
 mod reply;
 #[cfg(test)]
 mod tests;
@@ -13,5 +14,6 @@ mod traits;
 pub use carrying::{Job, carry};
 pub use governing::{GovernFault, govern};
 pub use lanes::{Lane, StartFault, run_workers};
+pub use places::{Place, Places};
 pub use reply::{Reply, Status};
 pub use traits::{Clock, Gate, Link, Point};

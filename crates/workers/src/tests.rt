@@ -4,6 +4,7 @@ ghost use Rattle.std.specs.Prelude.{◌≡◌, ◌<◌, ◌≤◌, false, length
 ghost use Rattle.books_shared.specs.Traced.{openings_of};
 
 mod commands;
+mod places;
 
 use crate::{Clock, Gate, Job, Lane, Link, Point, Reply, StartFault, carry, run_workers};
 use books_shared::laws::books_are_shared;

@@ -5,6 +5,7 @@ ghost use Rattle.tenant_core.specs.Limits.{max_tenants};
 ghost use Rattle.books_shared.specs.Traced.{openings_of};
 
 use super::wire::{FULFILL, Standing, Terms, bytes, good, posted, request, tenant_text};
+use crate::door::Door;
 use crate::office::Office;
 use crate::opening::{Begun, open_office};
 use crate::serving::{ServeFault, run_all};
@@ -21,6 +22,7 @@ use std::thread::{Threads, join};
 use std::time::{Clock, Duration};
 use std::{io, thread};
 use tenant_core::Book;
+use workers::Places;
 
 const WAVES: u32 = 10;
 
@@ -32,8 +34,11 @@ const BETWEEN: u32 = 25;
 
 const WORKERS: usize = 4;
 
-// A connection for each of eight clients in each wave, and one for each of two operators after it: 100 for four workers.
-const ROUNDS: u32 = 25;
+// How many packets may be with the peer at once.
+const PLACES: usize = 2;
+
+// A connection for each of eight clients in each wave, and one for each of two operators after it.
+const CONNECTIONS: u64 = 100;
 
 // The hexadecimal text of a packet of 1,000 units before and behind the tenant's name in its destination.
 const FRONT: &str =
@@ -105,14 +110,20 @@ fn sums_after<
     requires openings { J.openings ≡ openings_of setup.now.tenants setup.now.start }
     requires tenants { (1 ≤ length setup.now.tenants) × (length setup.now.tenants ≤ max_tenants) }
 {
+    let places = Places::new(alloc, PLACES, setup.tenants.as_slice().len(), WORKERS)?;
     let Begun {
         office,
         mut first,
         shares,
-    } = open_office::<J>(alloc, opened, setup, WORKERS)?;
-    let done = run_all(
-        rt, alloc, &office, &mut first, shares, ROUNDS, listener, &Standing,
+    } = open_office::<J>(
+        alloc,
+        opened,
+        setup,
+        WORKERS,
+        places,
+        Door::new(CONNECTIONS),
     )?;
+    let done = run_all(rt, alloc, &office, &mut first, shares, listener, &Standing)?;
     let Office { books, .. } = office;
     match books.gather(alloc, done.shares) {
         Ok(gathered) => sums_of(gathered.as_slice()),

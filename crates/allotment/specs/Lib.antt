@@ -1,0 +1,5 @@
+pub mod Loans
+pub mod LoansKept
+pub mod Runs
+pub mod Waits
+pub mod WaitsKept

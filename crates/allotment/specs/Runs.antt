@@ -1,0 +1,42 @@
+-- Calls of many tenants, one after another, and what one of them is told.
+use Rattle.std.specs.Prelude.{ℕ, ◌≡◌, ◌+◌, ◌-◌, ◌<◌, ◌==◌, Bool, true, ◌&&◌, List, [], ◌∷◌, ◌++◌, filter, length, nat_lt, if◌then◌else◌}
+use Rattle.allotment.specs.Loans.{Loans, asked_by, given_back_by, is_granted, used_by}
+
+-- a tenant takes a place or gives one back
+pub record Call : Type 0 where
+  pub tenant : ℕ
+  pub takes : Bool
+
+-- the loans after a call
+abbrev pub after : Call → Loans → Loans
+after call loans = if call.takes then asked_by call.tenant loans else given_back_by call.tenant loans
+
+-- what a tenant is told at a call: whether it got a place, where it asked for one
+abbrev pub told_at : ℕ → Call → Loans → List Bool
+told_at tenant call loans = if (call.tenant == tenant) && call.takes then is_granted call.tenant loans ∷ [] else []
+
+-- what a tenant is told, call by call
+abbrev pub told_to : ℕ → List Call → Loans → List Bool
+told_to tenant [] loans = []
+told_to tenant (call ∷ calls) loans = told_at tenant call loans ++ told_to tenant calls (after call loans)
+
+-- the calls of one tenant
+abbrev pub calls_by : ℕ → List Call → List Call
+calls_by tenant calls = filter (λ call. call.tenant == tenant) calls
+
+-- a tenant that uses so many places asks for one only where it uses less than its share
+abbrev pub asks_within : ℕ → ℕ → ℕ → List Call → Bool
+asks_within tenant share used [] = true
+asks_within tenant share used (call ∷ calls) =
+    if call.tenant == tenant
+    then (if call.takes
+    then nat_lt used share && asks_within tenant share (used + 1) calls
+    else asks_within tenant share (used - 1) calls)
+    else asks_within tenant share used calls
+
+-- a tenant finds the same of itself in two worlds: its share, and how many places it uses
+pub record IsAlike (tenant : ℕ) (one other : Loans) : Type 0 where
+  pub share : one.share ≡ other.share
+  pub used : used_by tenant one ≡ used_by tenant other
+  pub is_one : tenant < length one.used
+  pub is_other : tenant < length other.used

@@ -1,0 +1,62 @@
+-- Who waits for a place, and for whom one is kept that came back.
+use Rattle.std.specs.Prelude.{ℕ, ◌≡◌, ◌+◌, ◌-◌, ◌<◌, true, false, List, Option, None, Some, if◌then◌else◌, nat_lt, slice_index, slice_set}
+use Rattle.allotment.specs.Loans.{Loans, given_back_by, is_granted, lent_to}
+
+-- The places that are lent, how many of one tenant may wait, how many of each tenant do, and how many places are kept for
+-- those of a tenant that have waited.
+pub record Queued : Type 0 where
+  pub loans : Loans
+  pub room : ℕ
+  pub waiting : List ℕ
+  pub kept : List ℕ
+
+-- how many of the tenant wait, and how many places are kept for it
+abbrev pub waiting_of : ℕ → Queued → ℕ
+waiting_of tenant queued = slice_index queued.waiting tenant
+
+abbrev pub kept_for : ℕ → Queued → ℕ
+kept_for tenant queued = slice_index queued.kept tenant
+
+-- nobody waits who could have a place
+abbrev pub NobodyWaitsInVain : Queued → Type 0
+NobodyWaitsInVain queued =
+    (tenant : ℕ) → 0 < waiting_of tenant queued → is_granted tenant queued.loans ≡ false
+
+-- one more of the tenant waits, or one less
+abbrev pub waits_for : ℕ → Queued → Queued
+waits_for tenant queued =
+    record queued { waiting = slice_set queued.waiting tenant (waiting_of tenant queued + 1) }
+
+abbrev pub given_up_by : ℕ → Queued → Queued
+given_up_by tenant queued =
+    record queued { waiting = slice_set queued.waiting tenant (waiting_of tenant queued - 1) }
+
+-- the tenant has asked: it has a place where it is granted one, and else one more of it waits where there is room for that
+abbrev pub asked_for : ℕ → Queued → Queued
+asked_for tenant queued =
+    if is_granted tenant queued.loans then record queued { loans = lent_to tenant queued.loans }
+    else (if nat_lt (waiting_of tenant queued) queued.room then waits_for tenant queued else queued)
+
+-- a place that the tenant used is free
+abbrev pub returned_by : ℕ → Queued → Queued
+returned_by tenant queued = record queued { loans = given_back_by tenant queued.loans }
+
+-- a place is taken for one of the tenant that waits, and kept for it
+abbrev pub kept_by : ℕ → Queued → Queued
+kept_by tenant queued = record queued {
+  loans = lent_to tenant queued.loans;
+  waiting = slice_set queued.waiting tenant (waiting_of tenant queued - 1);
+  kept = slice_set queued.kept tenant (kept_for tenant queued + 1);
+}
+
+-- one of the tenant has picked up a place that was kept for it
+abbrev pub picked_up_by : ℕ → Queued → Queued
+picked_up_by tenant queued =
+    record queued { kept = slice_set queued.kept tenant (kept_for tenant queued - 1) }
+
+-- a place of the tenant came back, and is kept for one that waits and may have it, if anyone does
+abbrev pub CameBack : ℕ → Queued → Option ℕ → Queued → Type 0
+CameBack tenant before None after = after ≡ returned_by tenant before
+CameBack tenant before (Some next) after =
+    (0 < waiting_of next before) × (is_granted next (given_back_by tenant before.loans) ≡ true)
+    × (after ≡ kept_by next (returned_by tenant before))

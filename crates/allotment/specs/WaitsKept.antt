@@ -1,0 +1,17 @@
+-- What contracts see of a lending, and what it keeps.
+use Rattle.std.specs.Prelude.{ℕ, ◌≡◌, ◌≤◌, length}
+use Rattle.allotment.specs.Loans.{used_by}
+use Rattle.allotment.specs.Waits.{Queued, NobodyWaitsInVain, kept_for, waiting_of}
+use Rattle.allotment.specs.declared.lending.Lending.TheInside.{Inside}
+
+-- what is lent, and who waits
+abbrev pub queued_of : Inside → Queued
+queued_of l = record { loans = l.loans; room = l.room; waiting = l.waiting.items; kept = l.kept.items }
+
+-- Each tenant has its two numbers. No more wait than may, and nobody in vain; what is kept for a tenant is among what it uses.
+pub record IsQueue (queued : Queued) : Type 0 where
+  pub all_wait : length queued.waiting ≡ length queued.loans.used
+  pub all_kept : length queued.kept ≡ length queued.loans.used
+  pub few : (tenant : ℕ) → waiting_of tenant queued ≤ queued.room
+  pub used : (tenant : ℕ) → kept_for tenant queued ≤ used_by tenant queued.loans
+  pub in_vain : NobodyWaitsInVain queued

@@ -1,0 +1,30 @@
+//! Laws of the definitions, each the contract of a function that does nothing.
+
+ghost use Rattle.std.specs.Prelude.{◌≡◌, ◌≢◌, ◌<◌, ◌≤◌, ℕ, List, IsTrue, length};
+ghost use Rattle.std.specs.List.{list_all};
+ghost use Rattle.allotment.specs.Loans.{IsCovered, Loans, given_back_by, is_granted, used_by};
+ghost use Rattle.allotment.specs.Runs.{Call, IsAlike, asks_within, calls_by, told_to};
+
+/// A tenant that asks for a place only where it uses less than its share gets one each time, whatever calls of others
+/// come between.
+pub fn sure_within_its_share()
+    ensures { (tenant : ℕ) (calls : List Call) (loans : Loans) → tenant < length loans.used
+        → IsTrue (asks_within tenant loans.share (used_by tenant loans) calls)
+        → IsTrue (list_all (λ got. got) (told_to tenant calls loans)) }
+{}
+
+/// Such a tenant is told what it would be told alone: it sees nothing of the others, neither of their loans nor of their
+/// calls.
+pub fn told_as_alone()
+    ensures { (tenant : ℕ) (calls : List Call) (one other : Loans) → IsAlike tenant one other
+        → IsTrue (asks_within tenant one.share (used_by tenant one) calls)
+        → told_to tenant calls one ≡ told_to tenant (calls_by tenant calls) other }
+{}
+
+/// What a tenant gives back that used no more than its share is for itself: nobody else gets a place that got none
+/// before. So who wakes the tenant's own threads alone forgets no other.
+pub fn given_to_itself()
+    ensures { (tenant other : ℕ) (loans : Loans) → tenant < length loans.used → 0 < used_by tenant loans
+        → used_by tenant loans ≤ loans.share → IsCovered loans → other ≢ tenant
+        → is_granted other (given_back_by tenant loans) ≡ is_granted other loans }
+{}

@@ -1,0 +1,228 @@
+//! Places that are lent, and who waits for one.
+
+ghost use Rattle.std.specs.Prelude.{◌≡◌, ◌+◌, ◌-◌, ◌<◌, ◌^◌, slice_index, slice_set, vec_len};
+
+use crate::allotted::Allotment;
+use std::alloc::{AllocError, Global};
+use std::marker::Model;
+
+/// What a tenant is told that asks for a place.
+#[derive(Clone, Copy, Debug, PartialEq, Eq)]
+pub enum Turn {
+    /// It has one.
+    Taken,
+    /// One more of it waits.
+    Waits,
+    /// It has none, and as many of it wait as may.
+    Full,
+}
+
+/// An allotment of places, and how many of each tenant wait for one. Contracts see it as `Queued`.
+///
+/// Nobody waits who could have a place: a place that comes back is kept at once for one that waits and may have it. So a
+/// tenant that uses less than its share never waits, whatever the others use and however many of them wait.
+#[derive(Drop)]
+pub struct Lending {
+    loans: Allotment,
+    room: usize,
+    waiting: Vec<usize>,
+    kept: Vec<usize>,
+    // With whose number the search for one that waits begins where anyone may have what came back.
+    next: usize,
+}
+
+impl Model for Lending {
+    ghost use Rattle.allotment.specs.Waits.{Queued};
+
+    ghost Value = { Queued };
+
+    ghost use Rattle.allotment.specs.WaitsKept.{IsQueue, queued_of};
+
+    ghost view = { queued_of };
+
+    ghost invariant = { λ l. IsQueue (queued_of l) };
+}
+
+impl Lending {
+    ghost use Rattle.std.specs.Prelude.{◌≡◌, ◌↔◌, ◌<◌, ◌≤◌, ℕ, length, true, false, nat_lt, replicate, IfNone, IfOk, IfSome, IsTrue, if◌then◌else◌};
+    ghost use Rattle.allotment.specs.Loans.{max_places, max_tenants, given_back_by, is_granted, share_of, used_by};
+    ghost use Rattle.allotment.specs.Waits.{CameBack, NobodyWaitsInVain, asked_for, given_up_by, kept_for, picked_up_by, waiting_of};
+
+    /// Places that nobody uses, for which so many of each tenant may wait. Each tenant is sure of its share
+    /// (`Allotment::new`). The one error is want of memory.
+    pub fn new(
+        alloc: Global,
+        places: usize,
+        tenants: usize,
+        room: usize,
+    ) -> Result<Lending, AllocError>
+        requires tenants { (1 ≤ tenants) × (tenants ≤ max_tenants) }
+        requires places { (1 ≤ places) × (places ≤ max_places) }
+        ensures { IfOk result (λ made. made ≡ record {
+          loans = record { places = places; share = share_of places tenants; used = replicate tenants 0 };
+          room = room;
+          waiting = replicate tenants 0;
+          kept = replicate tenants 0;
+        }) }
+    {
+        Ok(Lending {
+            loans: Allotment::new(alloc, places, tenants)?,
+            room,
+            waiting: vec![in alloc; 0; tenants]?,
+            kept: vec![in alloc; 0; tenants]?,
+            next: 0,
+        })
+    }
+
+    /// How many tenants there are: their numbers are those below.
+    pub fn tenants(&self) -> usize
+        ensures { result ≡ length self.now.loans.used }
+    {
+        self.loans.tenants()
+    }
+
+    /// Asks for a place for the tenant.
+    pub fn ask(&mut self, tenant: usize) -> Turn
+        requires { tenant < length self.old.loans.used }
+        ensures taken { (result ≡ Turn.Taken) ↔ IsTrue (is_granted tenant self.old.loans) }
+        ensures sure { used_by tenant self.old.loans < self.old.loans.share → result ≡ Turn.Taken }
+        ensures waits { (result ≡ Turn.Waits) ↔ ((is_granted tenant self.old.loans ≡ false) × (waiting_of tenant self.old < self.old.room)) }
+        ensures asked { self.new ≡ asked_for tenant self.old }
+    {
+        if self.loans.try_take(tenant) {
+            return Turn::Taken;
+        }
+        let waiting = self.waiting[tenant];
+        if waiting >= self.room {
+            return Turn::Full;
+        }
+        self.waiting[tenant] = waiting + 1;
+        Turn::Waits
+    }
+
+    /// Whether a place is kept for one of the tenant that waited. It is the caller's from then on.
+    pub fn pick_up(&mut self, tenant: usize) -> bool
+        requires { tenant < length self.old.loans.used }
+        ensures result { result ≡ nat_lt 0 (kept_for tenant self.old) }
+        ensures picked { self.new ≡ (if result then picked_up_by tenant self.old else self.old) }
+    {
+        let kept = self.kept[tenant];
+        if kept == 0 {
+            return false;
+        }
+        self.kept[tenant] = kept - 1;
+        true
+    }
+
+    /// One of the tenant waits no longer.
+    pub fn give_up(&mut self, tenant: usize)
+        requires { tenant < length self.old.loans.used }
+        ensures { self.new ≡ given_up_by tenant self.old }
+    {
+        self.waiting[tenant] = self.waiting[tenant].saturating_sub(1);
+    }
+
+    /// Whether the tenant uses a place that isn't kept for one of it that waited.
+    pub fn uses(&self, tenant: usize) -> bool
+        requires { tenant < length self.now.loans.used }
+        ensures { result ≡ nat_lt (kept_for tenant self.now) (used_by tenant self.now.loans) }
+    {
+        self.kept[tenant] < self.loans.used_by(tenant)
+    }
+
+    // Whose turn it is where the tenant gives a place back: the tenant's own, where it uses no more than its share, and else
+    // that of whichever comes next.
+    fn next_after(&self, tenant: usize) -> Option<usize>
+        requires tenant { tenant < length self.now.loans.used }
+        requires uses { 0 < used_by tenant self.now.loans }
+        ensures waits { IfSome result (λ next. 0 < waiting_of next self.now) }
+        ensures there { IfSome result (λ next. next < length self.now.loans.used) }
+        ensures granted { IfSome result (λ next. is_granted next (given_back_by tenant self.now.loans) ≡ true) }
+        ensures own { IfSome result (λ next. used_by tenant self.now.loans ≤ self.now.loans.share → next ≡ tenant) }
+        ensures nobody { IfNone result ((other : ℕ) → 0 < waiting_of other self.now
+            → is_granted other (given_back_by tenant self.now.loans) ≡ false) }
+    {
+        if self.loans.used_by(tenant) > self.loans.share() {
+            let next = self.whoever_waits()?;
+            return Some(next);
+        }
+        if self.waits(tenant) {
+            return Some(tenant);
+        }
+        None
+    }
+
+    // Whether one of the tenant waits.
+    fn waits(&self, tenant: usize) -> bool
+        requires { tenant < length self.now.loans.used }
+        ensures { result ≡ nat_lt 0 (waiting_of tenant self.now) }
+    {
+        self.waiting[tenant] > 0
+    }
+
+    // A tenant of which some wait, in turn.
+    fn whoever_waits(&self) -> Option<usize>
+        ensures waits { IfSome result (λ next. 0 < waiting_of next self.now) }
+        ensures there { IfSome result (λ next. next < length self.now.loans.used) }
+        ensures none { IfNone result ((other : ℕ) → waiting_of other self.now ≡ 0) }
+    {
+        let start = self.next.min(self.waiting.len());
+        match self.first_of(start, self.waiting.len()) {
+            Some(next) => Some(next),
+            None => self.first_of(0, start),
+        }
+    }
+
+    // The first of these tenants of which some wait.
+    fn first_of(&self, from: usize, to: usize) -> Option<usize>
+        requires { to ≤ length self.now.waiting }
+        ensures waits { IfSome result (λ next. 0 < waiting_of next self.now) }
+        ensures there { IfSome result (λ next. next < length self.now.loans.used) }
+        ensures none { IfNone result ((other : ℕ) → from ≤ other → other < to → waiting_of other self.now ≡ 0) }
+    {
+        for tenant in from..to {
+            if self.waiting[tenant] > 0 {
+                return Some(tenant);
+            }
+        }
+        None
+    }
+
+    /// Takes back a place that the tenant uses. It is kept for one that waits, of whose tenant the number is the answer: of
+    /// the same tenant, where it used no more than its share, and else of whichever comes next.
+    pub fn give_back(&mut self, tenant: usize) -> Option<usize>
+        requires tenant { tenant < length self.old.loans.used }
+        requires uses { kept_for tenant self.old < used_by tenant self.old.loans }
+        ensures back { CameBack tenant self.old result self.new }
+        ensures own { IfSome result (λ next. used_by tenant self.old.loans ≤ self.old.loans.share → next ≡ tenant) }
+        ensures nobody { NobodyWaitsInVain self.new }
+    {
+        let next = self.next_after(tenant);
+        self.loans.give_back(tenant);
+        if let Some(next) = next {
+            self.loans.try_take(next);
+            lower(&mut self.waiting, next);
+            raise(&mut self.kept, next);
+            self.next = next + 1;
+        }
+        next
+    }
+}
+
+// One more at that place of a list.
+fn raise(numbers: &mut Vec<usize>, at: usize)
+    requires there { at < vec_len numbers.old }
+    requires fits { slice_index numbers.old.items at + 1 < 2 ^ 64 }
+    ensures { numbers.new.items ≡ slice_set numbers.old.items at (slice_index numbers.old.items at + 1) }
+{
+    numbers[at] += 1;
+}
+
+// One less at that place of a list.
+fn lower(numbers: &mut Vec<usize>, at: usize)
+    requires there { at < vec_len numbers.old }
+    requires some { 0 < slice_index numbers.old.items at }
+    ensures { numbers.new.items ≡ slice_set numbers.old.items at (slice_index numbers.old.items at - 1) }
+{
+    numbers[at] -= 1;
+}
