@@ -1,5 +1,5 @@
 -- What a worker answers to a question, what it counts with it, and what many questions leave of a worker.
-use Rattle.std.specs.Prelude.{ℕ, ◌≡◌, ◌+◌, ◌<◌, ◌-◌, ◌==◌, ◌⊎◌, ◌↔◌, true, false, Bool, List, [], ◌∷◌, length, take, map, nat_lt}
+use Rattle.std.specs.Prelude.{ℕ, ◌≡◌, ◌+◌, ◌<◌, ◌-◌, ◌==◌, ◌⊎◌, ◌↔◌, true, false, Bool, List, [], ◌∷◌, ◌++◌, length, take, map, nat_lt}
 use Rattle.std.specs.Prelude.{slice_index_or, if◌then◌else◌, Option, Result, Ok, Err, is_ok}
 use Rattle.std.specs.List.{sum_by}
 use Rattle.std.specs.Prelude.{All}
@@ -41,6 +41,7 @@ use Rattle.http_link.specs.declared.request.Kind.TheVariants.{Ilp, Admin}
 use Rattle.ilpd.specs.declared.desk.Desk.{Desk}
 use Rattle.ilpd.specs.declared.office.Office.{Office}
 use Rattle.ilpd.specs.Served.{lines_upto}
+use Rattle.ilpd.specs.Standing.{balance_lines}
 
 -- nothing is counted, sent or carried
 pub record IsUntouched {J : Type 0} {r : Ghosts J} (before after : Desk J r) : Type 0 where
@@ -199,17 +200,19 @@ pub record IsOfficeOf {J : Type 0} {r : Ghosts J} (setup : Setup) (office : Offi
   pub holds : map (λ terms. terms.hold) office.terms.items ≡ map (λ t. t.hold) setup.tenants
   pub books : office.books.tenants ≡ length setup.tenants
 
--- A service of a setup, of which that is the run, has written a line for each tenant, of what so many workers have counted, as the
--- questions that they were asked left them. And of all that was done to the tenants' books there is one list, of which each
--- worker's share has its part, and which is a run of a floor from the openings of the setup to the books in the end.
-pub record HasToldCountsIn {J : Type 0} (run : Ghosts J) (setup : Setup) (workers : ℕ) (old new : Option (List ℕ)) : Type 0 where
+-- A service of a setup, of which that is the run, has written the balances of the books in the end, where they are wanted, and a
+-- line for each tenant, of what so many workers have counted, as the questions that they were asked left them. And of all that
+-- was done to the tenants' books there is one list, of which each worker's share has its part, and which is a run of a floor
+-- from the openings of the setup to the books in the end.
+pub record HasToldCountsIn {J : Type 0} (run : Ghosts J) (setup : Setup) (workers : ℕ) (balances : Bool) (old new : Option (List ℕ)) : Type 0 where
   pub office : Office J run
   pub known : IsOfficeOf setup office
   pub totals : TotalsState
   pub shares : List ShareView
   pub counted : HaveCounted office workers shares (λ tenant kind. total_of tenant kind totals)
-  pub told : Appends old new (lines_upto (length setup.tenants) office.names.items totals)
   pub books : List (State × ℕ)
+  pub told : Appends old new ((if balances then balance_lines office.names.items books else [])
+      ++ lines_upto (length setup.tenants) office.names.items totals)
   pub one_list : HaveListOf run.size run.openings books shares
 
 -- the run of a service of a setup, whose list stands behind that table
@@ -220,7 +223,9 @@ run_of table setup workers = record {
   openings = openings_of setup.tenants setup.start;
 }
 
--- A service of a setup has written a line for each tenant, of what so many workers have counted, as the questions that they
--- were asked left them; and all that they did is one list, a run of a floor from the setup to the books in the end.
-abbrev pub HasToldCounts : Setup → (workers : ℕ) → (old new : Option (List ℕ)) → Type 0
-HasToldCounts setup workers old new = (table : TableId) × HasToldCountsIn (run_of table setup workers) setup workers old new
+-- A service of a setup has written the balances in the end, where they are wanted, and a line for each tenant, of what so many
+-- workers have counted, as the questions that they were asked left them; and all that they did is one list, a run of a floor
+-- from the setup to the books in the end.
+abbrev pub HasToldCounts : Setup → (workers : ℕ) → (balances : Bool) → (old new : Option (List ℕ)) → Type 0
+HasToldCounts setup workers balances old new =
+    (table : TableId) × HasToldCountsIn (run_of table setup workers) setup workers balances old new

@@ -1,4 +1,5 @@
 pub mod Served
+pub mod Standing
 pub mod CommandLine
 pub mod Answering
 pub mod Exchanges

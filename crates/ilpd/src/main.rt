@@ -17,6 +17,7 @@ mod opening;
 mod serving;
 #[cfg(test)]
 mod serving_tests;
+mod standing;
 #[cfg(test)]
 mod tests;
 mod timed;
@@ -88,7 +89,7 @@ fn serve_at<
         + Eprint
         + AllocGlobal
         + Sync,
->(rt: &R, setup: &[u8], extent: Extent, address: &str) -> Result<(), Ending>
+>(rt: &R, setup: &[u8], extent: Extent, balances: bool, address: &str) -> Result<(), Ending>
     requires workers { (1 ≤ extent.workers) × (extent.workers ≤ 64) }
     requires connections { (1 ≤ extent.connections) × (extent.connections ≤ 4_096) }
 {
@@ -107,7 +108,17 @@ fn serve_at<
     warn(rt, extent, setup.tenants.as_slice().len());
     let clock = SystemClock::new(rt);
     let mut writer = io::writer(rt);
-    serve(rt, alloc, &setup, extent, &listener, &clock, &mut writer).map_err(|fault| match fault {
+    serve(
+        rt,
+        alloc,
+        &setup,
+        extent,
+        balances,
+        &listener,
+        &clock,
+        &mut writer,
+    )
+    .map_err(|fault| match fault {
         ServeFault::Memory => Ending::Fault(ReplayFault::Memory),
         ServeFault::Device => Ending::Fault(ReplayFault::Device),
         ServeFault::Differs => Ending::Differs,
@@ -139,13 +150,14 @@ fn run<
         Task::Serve {
             connections,
             rounds,
+            balances,
         } => {
             let extent = Extent {
                 workers: line.workers,
                 connections,
                 rounds,
             };
-            serve_at(rt, setup.as_slice(), extent, line.address)
+            serve_at(rt, setup.as_slice(), extent, balances, line.address)
         }
         Task::Replay => {
             let mut reader = Counted::new(rt.reader());

@@ -17,6 +17,7 @@ use crate::desk::Desk;
 use crate::door::Door;
 use crate::office::Office;
 use crate::opening::{Begun, open_office};
+use crate::standing::balance_lines;
 use crate::worker::Worker;
 use admin_text::Setup;
 use books_shared::{GatherFault, Share};
@@ -231,18 +232,20 @@ fn fault_of(error: io::Error) -> ServeFault {
     }
 }
 
-// Writes the lines of the tenants.
+// Writes a text, and the lines of the tenants after it.
 fn tell<W: Write>(
     alloc: Global,
+    mut text: Vec<u8>,
     names: &[Name],
     totals: &Totals,
     writer: &mut W,
 ) -> Result<(), ServeFault>
     requires { length names.now ≤ totals.now.tenants }
     ensures { OnOk result (Appends (W.contents writer.old) (W.contents writer.new)
-        (lines_upto (length names.now) names.now totals.now)) }
+        (text.items ++ lines_upto (length names.now) names.now totals.now)) }
 {
-    let text = lines_of(alloc, names, totals)?;
+    let lines = lines_of(alloc, names, totals)?;
+    text.extend_from_slice(lines.as_slice())?;
     match writer.write_all(text.as_slice()) {
         Ok(()) => Ok(()),
         Err(error) => Err(fault_of(error)),
@@ -275,8 +278,8 @@ fn room_of(extent: Extent, tenants: usize) -> usize
     extent.connections.saturating_sub(extent.workers) / 2 / tenants
 }
 
-/// Serves connections, each on a thread of its own, joins the threads once as many were served as are to be, and writes a
-/// line for each tenant.
+/// Serves connections, each on a thread of its own, joins the threads once as many were served as are to be, and writes what
+/// the command `balances` would tell of each tenant, where that is wanted, and a line for each tenant.
 ///
 /// A connection that brings no byte is none of those that are served. A packet that goes on takes one of the places
 /// that the tenants share while it is exchanged with the next peer.
@@ -291,7 +294,7 @@ fn room_of(extent: Extent, tenants: usize) -> usize
 ///
 /// `Memory` where memory was refused; `Device` where a thread could not be started, a connection not be accepted, or the
 /// lines not be written; `Differs` where the books in the end are not what the workers have counted, which comes of no lock
-/// that hands out what was left in it. The lines are written first, unless no thread was started.
+/// that hands out what was left in it. The lines are written first, unless no thread was started or memory was refused.
 pub fn serve<
     H: Threads + Wait + Net<Listener = TcpListener, Stream = TcpStream> + std::time::Clock + Sync,
     C: workers::Clock + Sync,
@@ -301,6 +304,7 @@ pub fn serve<
     alloc: Global,
     setup: &Setup,
     extent: Extent,
+    balances: bool,
     listener: &TcpListener,
     clock: &C,
     writer: &mut W,
@@ -308,7 +312,7 @@ pub fn serve<
     requires tenants { (1 ≤ length setup.now.tenants) × (length setup.now.tenants ≤ max_tenants) }
     requires workers { (1 ≤ extent.workers) × (extent.workers ≤ max_places) }
     requires connections { (1 ≤ extent.connections) × (extent.connections ≤ max_workers) }
-    ensures { OnOk result (HasToldCounts setup.now extent.connections (W.contents writer.old) (W.contents writer.new)) }
+    ensures { OnOk result (HasToldCounts setup.now extent.connections balances (W.contents writer.old) (W.contents writer.new)) }
 {
     let tenants = setup.tenants.as_slice().len();
     let opened = Opened::new(alloc, tenants, extent.connections)?;
@@ -316,7 +320,7 @@ pub fn serve<
     let door = Door::new(total_of(extent));
     let workers = extent.connections;
     serve_run::<Brand, _, _, _>(
-        handle, alloc, opened, setup, workers, places, door, listener, clock, writer,
+        handle, alloc, opened, setup, workers, balances, places, door, listener, clock, writer,
     )
 }
 
@@ -332,6 +336,7 @@ fn serve_run<
     opened: Opened,
     setup: &Setup,
     workers: usize,
+    balances: bool,
     places: Places,
     door: Door,
     listener: &TcpListener,
@@ -343,7 +348,7 @@ fn serve_run<
     requires openings { J.openings ≡ openings_of setup.now.tenants setup.now.start }
     requires tenants { (1 ≤ length setup.now.tenants) × (length setup.now.tenants ≤ max_tenants) }
     requires workers { (1 ≤ workers) × (workers ≤ max_workers) }
-    ensures { OnOk result (HasToldCountsIn J.Run setup.now workers (W.contents writer.old) (W.contents writer.new)) }
+    ensures { OnOk result (HasToldCountsIn J.Run setup.now workers balances (W.contents writer.old) (W.contents writer.new)) }
 {
     let Begun {
         office,
@@ -359,13 +364,20 @@ fn serve_run<
         ..
     } = office;
     let totals = meters.close(first);
-    tell(alloc, names.as_slice(), &totals, writer)?;
-    if failed {
-        return Err(ServeFault::Device);
-    }
+    let names = names.as_slice();
     match books.gather(alloc, shares) {
-        Ok(_) => Ok(()),
-        Err(fault) => Err(fault_of_gathering(&fault)),
+        Ok(gathered) => {
+            let text = balance_lines(alloc, balances, names, gathered)?;
+            tell(alloc, text, names, &totals, writer)?;
+            if failed {
+                return Err(ServeFault::Device);
+            }
+            Ok(())
+        }
+        Err(fault) => {
+            tell(alloc, Vec::new(alloc), names, &totals, writer)?;
+            Err(fault_of_gathering(&fault))
+        }
     }
 }
 

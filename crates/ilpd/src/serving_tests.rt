@@ -1,6 +1,9 @@
 //! The service on loopback.
 
+ghost use Rattle.std.specs.Prelude.{◌≤◌};
+
 mod crowd;
+mod neighbours;
 mod wire;
 
 use crate::serving::{Extent, ServeFault, serve};
@@ -55,6 +58,28 @@ fn setup_with(alloc: Global, port: u16) -> Result<String, Fail> {
     setup_holding(alloc, port, 400)
 }
 
+// A connection on which these bytes were sent, and no more will be.
+fn sent(
+    net: &impl Net<Stream = TcpStream>,
+    addr: &SocketAddr,
+    request: &[u8],
+) -> io::Result<TcpStream> {
+    let stream = TcpStream::connect_timeout(net, addr, Duration::from_secs(5))?;
+    stream.set_read_timeout(Some(Duration::from_secs(20)))?;
+    let mut out = &stream;
+    out.write_all(request)?;
+    stream.shutdown(Shutdown::Write)?;
+    Ok(stream)
+}
+
+// All that comes back on it.
+fn answer_of(alloc: Global, stream: &TcpStream) -> io::Result<Vec<u8>> {
+    let mut answer = Vec::new(alloc);
+    let mut input = stream;
+    input.read_to_end(&mut answer)?;
+    Ok(answer)
+}
+
 // All that comes back on a connection of its own for these bytes.
 fn asked(
     net: &impl Net<Stream = TcpStream>,
@@ -62,15 +87,43 @@ fn asked(
     addr: &SocketAddr,
     request: &[u8],
 ) -> io::Result<Vec<u8>> {
-    let stream = TcpStream::connect_timeout(net, addr, Duration::from_secs(5))?;
-    stream.set_read_timeout(Some(Duration::from_secs(20)))?;
-    let mut out = &stream;
-    out.write_all(request)?;
-    stream.shutdown(Shutdown::Write)?;
-    let mut answer = Vec::new(alloc);
-    let mut input = &stream;
-    input.read_to_end(&mut answer)?;
-    Ok(answer)
+    let stream = sent(net, addr, request)?;
+    answer_of(alloc, &stream)
+}
+
+// Serves the setup of that text.
+fn serve_as<
+    R: Threads
+        + Wait
+        + Net<Listener = TcpListener, Stream = TcpStream>
+        + Clock
+        + AllocGlobal
+        + Sync,
+>(
+    rt: &R,
+    text: &str,
+    extent: Extent,
+    balances: bool,
+    listener: &TcpListener,
+    lines: &mut Vec<u8>,
+) -> Result<(), ServeFault>
+    requires workers { (1 ≤ extent.workers) × (extent.workers ≤ 64) }
+    requires connections { (1 ≤ extent.connections) × (extent.connections ≤ 4_096) }
+{
+    setups();
+    let Ok(setup) = read_setup(rt.alloc(), text.as_bytes()) else {
+        return Err(ServeFault::Device);
+    };
+    serve(
+        rt,
+        rt.alloc(),
+        &setup,
+        extent,
+        balances,
+        listener,
+        &Standing,
+        lines,
+    )
 }
 
 // Serves so many connections on one thread, for the setup of that text.
@@ -88,23 +141,12 @@ fn serve_some<
     listener: &TcpListener,
     lines: &mut Vec<u8>,
 ) -> Result<(), ServeFault> {
-    setups();
-    let Ok(setup) = read_setup(rt.alloc(), text.as_bytes()) else {
-        return Err(ServeFault::Device);
+    let extent = Extent {
+        workers: 1,
+        connections: 1,
+        rounds: Some(rounds),
     };
-    serve(
-        rt,
-        rt.alloc(),
-        &setup,
-        Extent {
-            workers: 1,
-            connections: 1,
-            rounds: Some(rounds),
-        },
-        listener,
-        &Standing,
-        lines,
-    )
+    serve_as(rt, text, extent, false, listener, lines)
 }
 
 // What one worker answers to some requests, each on a connection of its own, and what it prints in the end.

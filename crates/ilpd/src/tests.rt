@@ -50,6 +50,7 @@ static LINES: [Words; 28] = [
             Task::Serve {
                 connections: 256,
                 rounds: Some(3),
+                balances: false,
             },
             "s1.toml",
             2,
@@ -67,6 +68,7 @@ static LINES: [Words; 28] = [
             Task::Serve {
                 connections: 256,
                 rounds: Some(1_000_000),
+                balances: false,
             },
             "s1.toml",
             64,
@@ -82,11 +84,13 @@ static LINES: [Words; 28] = [
             "1",
             "--connections",
             "4096",
+            "--balances",
         ],
         Ok((
             Task::Serve {
                 connections: 4096,
                 rounds: None,
+                balances: true,
             },
             "s1.toml",
             1,

@@ -1,6 +1,7 @@
-use Rattle.std.proofs.Common.{◌≡◌, length, rules, ap, subst, ◌∙◌}
+use Rattle.std.proofs.Common.{ℕ, ◌≡◌, ◌++◌, [], List, length, rules, ap, subst, ◌∙◌, if◌then◌else◌}
 use Rattle.std.specs.Io.KnownBytes.{Appends}
 use Rattle.ilpd.specs.Served.{lines_upto}
+use Rattle.ilpd.specs.Standing.{balance_lines}
 use Rattle.ilpd.proofs.Sums.{length_map}
 use Rattle.ilpd.proofs.serving.serve_run.Goals as goal
 
@@ -12,8 +13,11 @@ returns-in-Ok g c =
     let exact = c.close-totals.ensures.exact (search rules) (search rules) in
     let names : length office.names.items ≡ length c.args.setup.now.tenants
     = ap length known.names ∙ length_map _ c.args.setup.now.tenants in
-    let told : Appends (g.W.Write.contents c.args.writer.now) (g.W.Write.contents c.tell.new.writer)
-    (lines_upto (length office.names.items) office.names.items c.close-totals.result) = search rules in
+    let front : List ℕ = if c.args.balances then balance_lines office.names.items c.in-Ok.gathered.items else [] in
+    let text_is : c.in_ok-text-in-Ok.text.items ≡ front = search rules in
+    let Told : List ℕ → ℕ → Type 0 = λ text n. Appends (g.W.Write.contents c.args.writer.now) (g.W.Write.contents c.tell.new.writer)
+    (text ++ lines_upto n office.names.items c.close-totals.result) in
+    let told : Told c.in_ok-text-in-Ok.text.items (length office.names.items) = search rules in
     record {
       office = office;
       known = known;
@@ -26,8 +30,7 @@ returns-in-Ok g c =
         worked = counted.worked;
         sums = λ tenant kind below. exact tenant kind (search rules) ∙ counted.sums tenant kind below;
       };
-      told = subst (λ n. Appends (g.W.Write.contents c.args.writer.now) (g.W.Write.contents c.tell.new.writer)
-          (lines_upto n office.names.items c.close-totals.result)) names told;
-      books = _;
+      books = c.in-Ok.gathered.items;
+      told = subst (λ n. Told front n) names (subst (λ text. Told text (length office.names.items)) text_is told);
       one_list = c.in-Ok.ensures.one_list;
     }

@@ -1,0 +1,197 @@
+//! Neighbours that bring nothing, and a tenant whose peer says nothing.
+
+use super::wire::{Terms, bytes, good, request, tenant_text};
+use super::{
+    BASE, NOTHING, UNREACHABLE, answer_of, asked, lonely_port, sent, serve_as, setup_with,
+};
+use crate::serving::{Extent, ServeFault};
+use std::alloc::Global;
+use std::net::{Net, OpenListener, SocketAddr, TcpListener, TcpStream};
+use std::test::Fail;
+use std::thread::join;
+use std::time::{Clock, Duration, Instant};
+use std::{io, thread};
+
+// BASE for beta's bob, and what its sender is told where beta's peer can't be reached.
+const BETA: &str =
+    "0c4700000000000003e8323033303031303130303030313030303066687aadf862bd776c8fc18b8e9f8e20089714856ee233b3902a591d0d5f29250c672e626574612e626f622e7800";
+
+const BETA_UNREACHABLE: &str = "0e1c54303106672e62657461107065657220756e726561636861626c6500";
+
+// The answers to a request that is asked three times beside two connections that bring nothing, and whether they came within
+// ten seconds.
+fn asked_beside_idle(
+    rt: &(impl Net<Stream = TcpStream> + Clock),
+    alloc: Global,
+    addr: &SocketAddr,
+    request: &[u8],
+) -> io::Result<([Vec<u8>; 3], bool)> {
+    let wait = Duration::from_secs(5);
+    let first = TcpStream::connect_timeout(rt, addr, wait)?;
+    let second = TcpStream::connect_timeout(rt, addr, wait)?;
+    let begun = Instant::now(rt)?;
+    let answers = [
+        asked(rt, alloc, addr, request)?,
+        asked(rt, alloc, addr, request)?,
+        asked(rt, alloc, addr, request)?,
+    ];
+    let spent = Instant::now(rt)?.saturating_duration_since(begun);
+    drop((first, second));
+    Ok((answers, spent < Duration::from_secs(10)))
+}
+
+// There are two threads, and each has a connection that brings nothing.
+#[test]
+fn idle_connections_yield(rt: HostRuntime) -> Result<(), Fail> {
+    let alloc = rt.alloc();
+    let setup = setup_with(alloc, 7802)?;
+    let request = request(alloc, "/admin/acme", "root", b"balances\n")?;
+    let listener = TcpListener::bind(&rt, "127.0.0.1:0")?;
+    let addr = listener.local_addr()?;
+    let extent = Extent {
+        workers: 1,
+        connections: 2,
+        rounds: Some(3),
+    };
+    let mut lines = Vec::new(alloc);
+    let (end, came) = join(
+        &rt,
+        || serve_as(&rt, setup.as_str(), extent, false, &listener, &mut lines),
+        || asked_beside_idle(&rt, alloc, &addr, request.as_slice()),
+    );
+    end?;
+    let (answers, fast) = came?;
+    assert!(rt; fast);
+    let balances = good(alloc, "text/plain", NOTHING.as_bytes())?;
+    for answer in &answers {
+        assert_eq!(rt; answer.as_slice(), balances.as_slice());
+    }
+    assert_eq!(rt;
+        lines.as_slice(),
+        b"acme 200 3 4xx 0 503 0 link 0\n".as_slice()
+    );
+    Ok(())
+}
+
+// What four senders of acme's were answered, and beta's sender and operator meanwhile, and whether these two were answered
+// before acme's peer was given up.
+#[derive(Drop)]
+struct Answers {
+    acme: Vec<Vec<u8>>,
+    beta: Vec<u8>,
+    operator: Vec<u8>,
+    fast: bool,
+}
+
+// For so many milliseconds acme and beta hold a packet.
+const HOLD: u32 = 3_000;
+
+fn asked_beside_silence(
+    rt: &(impl Net<Stream = TcpStream> + Clock),
+    alloc: Global,
+    addr: &SocketAddr,
+    [acme, beta, operator]: [&[u8]; 3],
+) -> io::Result<Answers> {
+    let mut senders = Vec::new(alloc);
+    for _ in 0..4 {
+        senders.push(sent(rt, addr, acme)?)?;
+    }
+    thread::sleep(rt, Duration::from_millis(500));
+    let begun = Instant::now(rt)?;
+    let beta = asked(rt, alloc, addr, beta)?;
+    let operator = asked(rt, alloc, addr, operator)?;
+    let spent = Instant::now(rt)?.saturating_duration_since(begun);
+    let mut answers = Vec::new(alloc);
+    for sender in &senders {
+        answers.push(answer_of(alloc, sender)?)?;
+    }
+    Ok(Answers {
+        acme: answers,
+        beta,
+        operator,
+        fast: spent < Duration::from_millis(2_000),
+    })
+}
+
+// A setup of both, where acme's peer listens at the first port and beta's at the second one.
+fn two_tenants(alloc: Global, acme: u16, beta: u16) -> Result<String, Fail> {
+    let terms = Terms {
+        name: "acme",
+        port: acme,
+        journal: 64,
+        hold: HOLD,
+    };
+    let first = tenant_text(alloc, terms)?;
+    let second = tenant_text(
+        alloc,
+        Terms {
+            name: "beta",
+            port: beta,
+            ..terms
+        },
+    )?;
+    Ok(format!(in alloc; "version = 1\nstart = 1893456000000\n{first}{second}")?)
+}
+
+// Of two places each tenant has one. Of acme's four packets one is with a peer that says nothing, one waits, and for two there
+// is no room; beta's packet, whose peer refuses the connection, and its command are answered meanwhile.
+#[test]
+fn a_silent_peer_keeps_no_other_tenant(rt: HostRuntime) -> Result<(), Fail> {
+    let alloc = rt.alloc();
+    let silent = TcpListener::bind(&rt, "127.0.0.1:0")?;
+    let setup = two_tenants(alloc, silent.local_addr()?.port(), lonely_port(&rt)?)?;
+    let acme = request(
+        alloc,
+        "/ilp/acme",
+        "tok-alice",
+        bytes(alloc, BASE)?.as_slice(),
+    )?;
+    let beta = request(
+        alloc,
+        "/ilp/beta",
+        "tok-alice",
+        bytes(alloc, BETA)?.as_slice(),
+    )?;
+    let operator = request(alloc, "/admin/beta", "root", b"balances\n")?;
+    let requests = [acme.as_slice(), beta.as_slice(), operator.as_slice()];
+    let listener = TcpListener::bind(&rt, "127.0.0.1:0")?;
+    let addr = listener.local_addr()?;
+    let extent = Extent {
+        workers: 2,
+        connections: 8,
+        rounds: Some(3),
+    };
+    let mut lines = Vec::new(alloc);
+    let (end, came) = join(
+        &rt,
+        || serve_as(&rt, setup.as_str(), extent, true, &listener, &mut lines),
+        || asked_beside_silence(&rt, alloc, &addr, requests),
+    );
+    end?;
+    let came = came?;
+    drop(silent);
+    assert!(rt; came.fast);
+    let acme_told = good(
+        alloc,
+        "application/octet-stream",
+        bytes(alloc, UNREACHABLE)?.as_slice(),
+    )?;
+    for answer in &came.acme {
+        assert_eq!(rt; answer.as_slice(), acme_told.as_slice());
+    }
+    let beta_told = good(
+        alloc,
+        "application/octet-stream",
+        bytes(alloc, BETA_UNREACHABLE)?.as_slice(),
+    )?;
+    assert_eq!(rt; came.beta.as_slice(), beta_told.as_slice());
+    assert!(rt; came.operator.as_slice().starts_with(b"HTTP/1.1 200 OK\r\n"));
+    assert_eq!(rt;
+        lines.as_slice(),
+        b"acme balance alice 0 0 0\nacme balance bob 0 0 0\nacme ok\n\
+        beta balance alice 0 0 0\nbeta balance bob 0 0 0\nbeta ok\n\
+        acme 200 4 4xx 0 503 0 link 4\nbeta 200 2 4xx 0 503 0 link 1\n"
+            .as_slice()
+    );
+    Ok(())
+}
