@@ -57,6 +57,8 @@ const BUSY: &[u8; 28] = b"\x0e\x1aT03\x06g.acme\x0econnector busy\0";
 
 const UNREACHABLE: &[u8; 30] = b"\x0e\x1cT01\x06g.acme\x10peer unreachable\0";
 
+const TIMED_OUT: &[u8; 32] = b"\x0e\x1eR00\x06g.acme\x12transfer timed out\0";
+
 // ---- what there is
 
 fn name(bytes: &[u8]) -> Result<Name, Fail> {
@@ -219,6 +221,19 @@ impl Clock for Standing {
     }
 }
 
+/// A clock that goes on by ten seconds each time it is read.
+#[derive(Drop)]
+struct Going(AtomicU64);
+
+impl Clock for Going {
+    ghost gives = { λ clock moment. Unit {0} };
+
+    fn now(&self) -> Moment {
+        let millis = self.0.fetch_add(10_000, Ordering::SeqCst);
+        Moment::new(millis.min(Moment::MAX_MILLIS)).unwrap_or_else(|| unreachable!())
+    }
+}
+
 /// A gate that is open.
 #[derive(Clone, Copy)]
 struct Open;
@@ -298,8 +313,8 @@ fn counts_of(totals: &Totals) -> Tally
     }
 }
 
-// Carries a packet for acme, with meters of its own, in a slot of its own: the reply, what the sender is told, and what
-// the meters have counted.
+// Carries a packet for acme at the start, with meters of its own, in a slot of its own: the reply, what the sender is told,
+// and what the meters have counted.
 fn carried<J: Run, R: Wait, L: Link>(
     rt: &R,
     alloc: Global,
@@ -309,19 +324,33 @@ fn carried<J: Run, R: Wait, L: Link>(
     token: &[u8],
     frame: &[u8],
 ) -> Result<(Reply, Vec<u8>, Tally), Fail> {
+    let clock = Standing(start()?);
+    carried_at(rt, alloc, books, share, link, &clock, token, frame)
+}
+
+// The same, by that clock.
+fn carried_at<J: Run, R: Wait, L: Link, C: Clock>(
+    rt: &R,
+    alloc: Global,
+    books: &Books<J>,
+    share: &mut Share<J>,
+    link: &mut L,
+    clock: &C,
+    token: &[u8],
+    frame: &[u8],
+) -> Result<(Reply, Vec<u8>, Tally), Fail> {
     if books.tenants() == 0 {
         return Err("a tenant".into());
     }
     let mut slot = Slot::new(alloc)?;
     let (meters, mut seat) = Meters::new(alloc, 1)?;
-    let clock = Standing(start()?);
     let job = Job {
         tenant: 0,
         token,
         frame,
     };
     let reply = carry(
-        rt, books, &meters, &mut seat, &mut slot, share, link, &Open, &clock, job,
+        rt, books, &meters, &mut seat, &mut slot, share, link, &Open, clock, job,
     );
     let told = slot.reply().to_vec(alloc)?;
     Ok((reply, told, counts_of(&meters.close(seat))))
@@ -401,6 +430,43 @@ impl Trial for Settled {
 #[test]
 fn a_packet_is_settled(rt: HostRuntime) -> Result<(), Fail> {
     on_two_books(&rt, rt.alloc(), 64, &Settled)
+}
+
+/// A packet is sent on, and fulfilled when its time is over.
+struct Late;
+
+impl Trial for Late {
+    fn act<J: Run, R: Wait + Abort>(
+        &self,
+        rt: &R,
+        alloc: Global,
+        books: Books<J>,
+        mut first: Share<J>,
+        second: Share<J>,
+    ) -> Result<(), Fail> {
+        let mut link = new_link(true);
+        let clock = Going(AtomicU64::new(START));
+        let (reply, told, _) = carried_at(
+            rt,
+            alloc,
+            &books,
+            &mut first,
+            &mut link,
+            &clock,
+            b"tok-alice",
+            BASE,
+        )?;
+        assert!(rt; reply == Reply::Settled(Got::Filled(35)));
+        assert!(rt; told.as_slice() == TIMED_OUT.as_slice());
+        let shares = vec![in alloc; first, second]?;
+        assert!(rt; gathered(alloc, books, shares)? == Some((0, 0, 0, 0, 2)));
+        Ok(())
+    }
+}
+
+#[test]
+fn a_fulfillment_that_comes_late_is_none(rt: HostRuntime) -> Result<(), Fail> {
+    on_two_books(&rt, rt.alloc(), 64, &Late)
 }
 
 /// Books are gathered without the share of a worker that has done nothing, and then with both shares.
