@@ -1,13 +1,14 @@
 //! Which connections may still come, and whether others wait for the thread of one.
 
 use std::sync::Wait;
-use std::sync::atomic::{AtomicU64, Ordering};
+use std::sync::atomic::{AtomicBool, AtomicU64, Ordering};
 
-/// How many connections may still be served, and how many threads wait for one.
+/// How many connections may still be served, how many threads wait for one, and whether the system refuses them.
 #[derive(Drop)]
 pub struct Door {
     left: AtomicU64,
     waiting: AtomicU64,
+    refused: AtomicBool,
 }
 
 impl Door {
@@ -16,6 +17,7 @@ impl Door {
         Door {
             left: AtomicU64::new(connections),
             waiting: AtomicU64::new(0),
+            refused: AtomicBool::new(false),
         }
     }
 
@@ -36,7 +38,7 @@ impl Door {
         unreachable!()
     }
 
-    /// Another connection may be served in place of one that brought nothing.
+    /// Another connection may be served in place of one that brought nothing, or did not come.
     pub fn give_back(&self) {
         self.left.fetch_add(1, Ordering::SeqCst);
     }
@@ -51,8 +53,13 @@ impl Door {
         self.waiting.fetch_sub(1, Ordering::SeqCst);
     }
 
-    /// Whether no thread waits for a connection though more may come: then one that comes waits for one that ends.
+    /// Says whether the system has just refused to accept a connection, as it does where too many files are open.
+    pub fn set_refused(&self, refused: bool) {
+        self.refused.store(refused, Ordering::SeqCst);
+    }
+
+    /// Whether a connection that comes has to wait for one that ends: no thread waits for it, or the system refuses it.
     pub fn is_crowded(&self) -> bool {
-        self.waiting.load(Ordering::SeqCst) == 0 && self.left.load(Ordering::SeqCst) > 0
+        self.waiting.load(Ordering::SeqCst) == 0 || self.refused.load(Ordering::SeqCst)
     }
 }

@@ -133,7 +133,9 @@ impl<H: Wait + Net<Stream = TcpStream> + std::time::Clock, C: Clock, J: Run> Wor
         ensures desk { self.new.desk ≡ self.old.desk }
     {
         for _ in 0..MAX_TRIES {
-            if let Ok((stream, _)) = self.listener.accept() {
+            let accepted = self.listener.accept();
+            self.office.door.set_refused(accepted.is_err());
+            if let Ok((stream, _)) = accepted {
                 return Some(stream);
             }
             self.failed = true;
@@ -155,6 +157,9 @@ impl<H: Wait + Net<Stream = TcpStream> + std::time::Clock, C: Clock, J: Run> Wor
         door.wait_begins();
         let stream = self.accepted();
         door.wait_ends();
+        if stream.is_none() {
+            door.give_back();
+        }
         stream
     }
 
