@@ -63,8 +63,11 @@ used_then : (tenant next : ℕ) (loans : Loans) → tenant < length loans.used
     → ((next ≡ tenant) × (used_by next (given_back_by tenant loans) ≡ used_by tenant loans - 1))
     ⊎ ((next ≢ tenant) × (used_by next (given_back_by tenant loans) ≡ used_by next loans))
 used_then tenant next loans there = dite (ℕ_discrete next tenant)
-    (λ e. inl (e, (let P : ℕ → Type 0 = λ k. used_by k (given_back_by tenant loans) ≡ used_by tenant loans - 1 in
-    subst P (sym e) (get_or-set_same loans.used tenant (used_by tenant loans - 1) 0 there))))
+    (λ e. inl (
+      e,
+      (let P : ℕ → Type 0 = λ k. used_by k (given_back_by tenant loans) ≡ used_by tenant loans - 1 in
+          subst P (sym e) (get_or-set_same loans.used tenant (used_by tenant loans - 1) 0 there)),
+    ))
     (λ ne. inr (ne, get_or-set_other loans.used tenant next (used_by tenant loans - 1) 0 ne))
 
 -- who was refused is refused still when a place that came back is lent to one that waited for it
@@ -78,7 +81,7 @@ refused_after_return tenant next other loans there is_there uses own n r =
     let share = loans.share in
     let is_in : next < length given.used = omega (arith, length-set loans.used tenant (used - 1), is_there) in
     let above : next ≢ tenant → share < used =
-    λ ne. elim (cases_lt share used) [ | inl above ↦ above | inr below ↦ absurd (ne (own below)) ] in
+    λ ne. elim (cases_lt share used) [ inl above ↦ above | inr below ↦ absurd (ne (own below)) ] in
     let G : ℕ → ℕ → Type 0 = λ u m. u ≢ next → share ≤ used_by u loans → share ≤ m in
     let first : (u : ℕ) → G u (used_by u given) =
     set_all G loans.used tenant (used - 1) there (λ ne le. (let a = above (λ e. ne (sym e)) in omega arith)) (λ u ne differs le. le) in
