@@ -48,15 +48,17 @@ fn idle_connections_yield(rt: HostRuntime) -> Result<(), Fail> {
     let request = request(alloc, "/admin/acme", "root", b"balances\n")?;
     let listener = TcpListener::bind(&rt, "127.0.0.1:0")?;
     let addr = listener.local_addr()?;
-    let extent = Extent {
-        workers: 1,
-        connections: 2,
-        rounds: Some(3),
-    };
     let mut lines = Vec::new(alloc);
     let (end, came) = join(
         &rt,
-        || serve_as(&rt, setup.as_str(), extent, false, &listener, &mut lines),
+        || {
+            let extent = Extent {
+                workers: 1,
+                connections: 2,
+                rounds: Some(3),
+            };
+            serve_as(&rt, setup.as_str(), extent, false, &listener, &mut lines)
+        },
         || asked_beside_idle(&rt, alloc, &addr, request.as_slice()),
     );
     end?;
@@ -156,15 +158,17 @@ fn a_silent_peer_keeps_no_other_tenant(rt: HostRuntime) -> Result<(), Fail> {
     let requests = [acme.as_slice(), beta.as_slice(), operator.as_slice()];
     let listener = TcpListener::bind(&rt, "127.0.0.1:0")?;
     let addr = listener.local_addr()?;
-    let extent = Extent {
-        workers: 2,
-        connections: 8,
-        rounds: Some(3),
-    };
     let mut lines = Vec::new(alloc);
     let (end, came) = join(
         &rt,
-        || serve_as(&rt, setup.as_str(), extent, true, &listener, &mut lines),
+        || {
+            let extent = Extent {
+                workers: 2,
+                connections: 8,
+                rounds: Some(3),
+            };
+            serve_as(&rt, setup.as_str(), extent, true, &listener, &mut lines)
+        },
         || asked_beside_silence(&rt, alloc, &addr, requests),
     );
     end?;
