@@ -4,7 +4,7 @@ use super::wire::{Terms, bytes, good, request, tenant_text};
 use super::{
     BASE, NOTHING, UNREACHABLE, answer_of, asked, lonely_port, sent, serve_as, setup_with,
 };
-use crate::serving::{Extent, ServeFault};
+use crate::serving::Extent;
 use std::alloc::Global;
 use std::net::{Net, OpenListener, SocketAddr, TcpListener, TcpStream};
 use std::test::Fail;
