@@ -1,3 +1,4 @@
 pub mod Alone
 pub mod Owed
 pub mod Queue
+pub mod Turns

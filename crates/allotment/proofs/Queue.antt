@@ -155,6 +155,7 @@ queue_taken tenant q kept there allowed taken =
       few = kept.few;
       used = set_all U q.loans.used tenant (used + 1) there (omega arith) (λ u ne. kept.used u);
       in_vain = λ u waits. not_granted u (lent_to tenant q.loans) (refused_after_loan tenant u q.loans there allowed taken (refused u q.loans (kept.in_vain u waits)));
+      turn = omega (arith, kept.turn, length-set q.loans.used tenant (used + 1));
     }
 
 -- one more of a tenant waits
@@ -171,6 +172,7 @@ queue_waits tenant q kept there denied room =
       few = set_all F q.waiting tenant (waiting + 1) is_in (omega (arith, room)) (λ u ne. kept.few u);
       used = kept.used;
       in_vain = set_all V q.waiting tenant (waiting + 1) is_in (λ some. denied) (λ u ne. kept.in_vain u);
+      turn = kept.turn;
     }
 
 -- one of a tenant waits no longer
@@ -187,6 +189,7 @@ queue_given_up tenant q kept there =
       few = set_all F q.waiting tenant (waiting - 1) is_in (omega (arith, few)) (λ u ne. kept.few u);
       used = kept.used;
       in_vain = set_all V q.waiting tenant (waiting - 1) is_in (λ some. kept.in_vain tenant (omega (arith, some))) (λ u ne. kept.in_vain u);
+      turn = kept.turn;
     }
 
 -- a place that was kept is picked up
@@ -202,6 +205,7 @@ queue_picked_up tenant q kept there =
       few = kept.few;
       used = set_all U q.kept tenant (many - 1) is_in (omega (arith, used)) (λ u ne. kept.used u);
       in_vain = kept.in_vain;
+      turn = kept.turn;
     }
 
 -- a place came back for which nobody waits who could have it
@@ -216,13 +220,14 @@ queue_returned tenant q kept there uses nobody =
       few = kept.few;
       used = set_all U q.loans.used tenant (used - 1) there (omega (arith, uses)) (λ u ne. kept.used u);
       in_vain = nobody;
+      turn = omega (arith, kept.turn, length-set q.loans.used tenant (used - 1));
     }
 
 -- a place came back and is kept for one that waited
-pub queue_kept : (tenant next : ℕ) (q : Queued) → IsQueue q → tenant < length q.loans.used → next < length q.loans.used
+pub queue_kept : (tenant next turn : ℕ) (q : Queued) → IsQueue q → tenant < length q.loans.used → next < length q.loans.used
     → kept_for tenant q < used_by tenant q.loans → (used_by tenant q.loans ≤ q.loans.share → next ≡ tenant) → 0 < waiting_of next q
-    → IsQueue (kept_by next (returned_by tenant q))
-queue_kept tenant next q kept there is_there uses own waits =
+    → turn < length q.loans.used → IsQueue (record (kept_by next (returned_by tenant q)) { turn = turn })
+queue_kept tenant next turn q kept there is_there uses own waits is_turn =
     let given = given_back_by tenant q.loans in
     let used = used_by tenant q.loans in
     let again = used_by next given in
@@ -253,16 +258,17 @@ queue_kept tenant next q kept there is_there uses own waits =
       few = set_all F q.waiting next (waiting - 1) waits_in (omega (arith, few)) (λ u ne. kept.few u);
       used = set_all K q.kept next (many + 1) kept_in (omega (arith, here, now)) others;
       in_vain = set_all V q.waiting next (waiting - 1) waits_in (λ some. refuses next waits) (λ u ne. refuses u);
+      turn = omega (arith, is_turn, length-set q.loans.used tenant (used - 1), length-set given.used next (again + 1));
     }
 
 -- the same of what was read and written one after another
-pub queue_kept_at : (q now : Queued) → q ≡ now → (tenant next : ℕ) (given loans : Loans) (waiting kept : List ℕ) → IsQueue q
+pub queue_kept_at : (q now : Queued) → q ≡ now → (tenant next turn : ℕ) (given loans : Loans) (waiting kept : List ℕ) → IsQueue q
     → tenant < length now.loans.used → kept_for tenant now < used_by tenant now.loans → next < length now.loans.used
     → (used_by tenant now.loans ≤ now.loans.share → next ≡ tenant) → 0 < waiting_of next now
     → is_granted next (given_back_by tenant now.loans) ≡ true → given ≡ given_back_by tenant q.loans → loans ≡ asked_by next given
     → waiting ≡ slice_set q.waiting next (waiting_of next q - 1) → kept ≡ slice_set q.kept next (kept_for next q + 1)
-    → IsQueue (record { loans = loans; room = q.room; waiting = waiting; kept = kept })
-queue_kept_at q now is tenant next given loans waiting kept queue there uses is_there own waits allowed given_is loans_is waiting_is kept_is =
+    → turn < length q.loans.used → IsQueue (record { loans = loans; room = q.room; waiting = waiting; kept = kept; turn = turn })
+queue_kept_at q now is tenant next turn given loans waiting kept queue there uses is_there own waits allowed given_is loans_is waiting_is kept_is is_turn =
     let B : Queued → Type 0 = λ q. tenant < length q.loans.used in
     let N : Queued → Type 0 = λ q. next < length q.loans.used in
     let U : Queued → Type 0 = λ q. kept_for tenant q < used_by tenant q.loans in
@@ -272,8 +278,8 @@ queue_kept_at q now is tenant next given loans waiting kept queue there uses is_
     let back = sym is in
     let lent : loans ≡ lent_to next (given_back_by tenant q.loans) =
     loans_is ∙ (ap (asked_by next) given_is ∙ asked_when next (given_back_by tenant q.loans) (subst G back allowed)) in
-    let base = queue_kept tenant next q queue (subst B back there) (subst N back is_there) (subst U back uses) (subst O back own) (subst W back waits) in
-    let after = kept_by next (returned_by tenant q) in
+    let base = queue_kept tenant next turn q queue (subst B back there) (subst N back is_there) (subst U back uses) (subst O back own) (subst W back waits) is_turn in
+    let after : Queued = record (kept_by next (returned_by tenant q)) { turn = turn } in
     let PL : Loans → Type 0 = λ l. IsQueue (record after { loans = l }) in
     let PW : List ℕ → Type 0 = λ w. IsQueue (record after { loans = loans; waiting = w }) in
     let PK : List ℕ → Type 0 = λ k. IsQueue (record after { loans = loans; waiting = waiting; kept = k }) in

@@ -1,14 +1,15 @@
--- Who waits for a place, and for whom one is kept that came back.
-use Rattle.std.specs.Prelude.{ℕ, ◌≡◌, ◌+◌, ◌-◌, ◌<◌, true, false, List, Option, None, Some, if◌then◌else◌, nat_lt, slice_index, slice_set}
-use Rattle.allotment.specs.Loans.{Loans, given_back_by, is_granted, lent_to}
+-- Who waits for a place, for whom one is kept that came back, and whose turn it is.
+use Rattle.std.specs.Prelude.{ℕ, ◌≡◌, ◌+◌, ◌-◌, ◌<◌, ◌≤◌, ◌==◌, true, false, List, length, Option, None, Some, if◌then◌else◌, nat_lt, slice_index, slice_set}
+use Rattle.allotment.specs.Loans.{Loans, given_back_by, is_granted, lent_to, used_by}
 
--- The places that are lent, how many of one tenant may wait, how many of each tenant do, and how many places are kept for
--- those of a tenant that have waited.
+-- The places that are lent, how many of one tenant may wait, how many of each tenant do, how many places are kept for those
+-- of a tenant that have waited, and whose turn it is to have a place that anyone may have.
 pub record Queued : Type 0 where
   pub loans : Loans
   pub room : ℕ
   pub waiting : List ℕ
   pub kept : List ℕ
+  pub turn : ℕ
 
 -- how many of the tenant wait, and how many places are kept for it
 abbrev pub waiting_of : ℕ → Queued → ℕ
@@ -21,6 +22,27 @@ kept_for tenant queued = slice_index queued.kept tenant
 abbrev pub NobodyWaitsInVain : Queued → Type 0
 NobodyWaitsInVain queued =
     (tenant : ℕ) → 0 < waiting_of tenant queued → is_granted tenant queued.loans ≡ false
+
+-- how many tenants come before this one, counted from the one whose turn it is, and on from the last to the first
+abbrev pub steps_to : ℕ → Queued → ℕ
+steps_to tenant queued =
+    if nat_lt tenant queued.turn then tenant + length queued.loans.used - queued.turn else tenant - queued.turn
+
+-- no tenant of which some wait comes before this one
+abbrev pub IsNextInTurn : ℕ → Queued → Type 0
+IsNextInTurn tenant queued =
+    (other : ℕ) → 0 < waiting_of other queued → steps_to tenant queued ≤ steps_to other queued
+
+-- the tenant behind this one of so many: behind the last comes the first
+abbrev pub tenant_behind : ℕ → (tenants : ℕ) → ℕ
+tenant_behind tenant tenants = if tenant + 1 == tenants then 0 else tenant + 1
+
+-- Whose turn it is once what the tenant gives back is kept for the next one: that of whoever is behind the next one, where
+-- the tenant used more than its share. What is a tenant's own takes nobody's turn.
+abbrev pub turn_after : (tenant next : ℕ) → Queued → ℕ
+turn_after tenant next queued =
+    if nat_lt queued.loans.share (used_by tenant queued.loans) then tenant_behind next (length queued.loans.used)
+    else queued.turn
 
 -- one more of the tenant waits, or one less
 abbrev pub waits_for : ℕ → Queued → Queued
@@ -59,4 +81,4 @@ abbrev pub CameBack : ℕ → Queued → Option ℕ → Queued → Type 0
 CameBack tenant before None after = after ≡ returned_by tenant before
 CameBack tenant before (Some next) after =
     (0 < waiting_of next before) × (is_granted next (given_back_by tenant before.loans) ≡ true)
-    × (after ≡ kept_by next (returned_by tenant before))
+    × (after ≡ record (kept_by next (returned_by tenant before)) { turn = turn_after tenant next before })

@@ -1,17 +1,25 @@
 -- What contracts see of a lending, and what it keeps.
-use Rattle.std.specs.Prelude.{ℕ, ◌≡◌, ◌≤◌, length}
+use Rattle.std.specs.Prelude.{ℕ, ◌≡◌, ◌<◌, ◌≤◌, length}
 use Rattle.allotment.specs.Loans.{used_by}
 use Rattle.allotment.specs.Waits.{Queued, NobodyWaitsInVain, kept_for, waiting_of}
 use Rattle.allotment.specs.declared.lending.Lending.TheInside.{Inside}
 
--- what is lent, and who waits
+-- what is lent, who waits, and whose turn it is
 abbrev pub queued_of : Inside → Queued
-queued_of l = record { loans = l.loans; room = l.room; waiting = l.waiting.items; kept = l.kept.items }
+queued_of l = record {
+  loans = l.loans;
+  room = l.room;
+  waiting = l.waiting.items;
+  kept = l.kept.items;
+  turn = l.turn;
+}
 
--- Each tenant has its two numbers. No more wait than may, and nobody in vain; what is kept for a tenant is among what it uses.
+-- Each tenant has its two numbers. No more wait than may, and nobody in vain; what is kept for a tenant is among what it uses;
+-- and it is a tenant's turn.
 pub record IsQueue (queued : Queued) : Type 0 where
   pub all_wait : length queued.waiting ≡ length queued.loans.used
   pub all_kept : length queued.kept ≡ length queued.loans.used
   pub few : (tenant : ℕ) → waiting_of tenant queued ≤ queued.room
   pub used : (tenant : ℕ) → kept_for tenant queued ≤ used_by tenant queued.loans
   pub in_vain : NobodyWaitsInVain queued
+  pub turn : queued.turn < length queued.loans.used

@@ -1,9 +1,11 @@
 //! Laws of the definitions, each the contract of a function that does nothing.
 
-ghost use Rattle.std.specs.Prelude.{◌≡◌, ◌≢◌, ◌<◌, ◌≤◌, ℕ, List, IsTrue, length};
+ghost use Rattle.std.specs.Prelude.{◌≡◌, ◌≢◌, ◌<◌, ◌≤◌, ℕ, List, Some, IsTrue, length};
 ghost use Rattle.std.specs.List.{list_all};
 ghost use Rattle.allotment.specs.Loans.{IsCovered, Loans, given_back_by, is_granted, used_by};
 ghost use Rattle.allotment.specs.Runs.{Call, IsAlike, asks_within, calls_by, told_to};
+ghost use Rattle.allotment.specs.Waits.{CameBack, IsNextInTurn, Queued, steps_to, waiting_of};
+ghost use Rattle.allotment.specs.WaitsKept.{IsQueue};
 
 /// A tenant that asks for a place only where it uses less than its share gets one each time, whatever calls of others
 /// come between.
@@ -27,4 +29,19 @@ pub fn given_to_itself()
     ensures { (tenant other : ℕ) (loans : Loans) → tenant < length loans.used → 0 < used_by tenant loans
         → used_by tenant loans ≤ loans.share → IsCovered loans → other ≢ tenant
         → is_granted other (given_back_by tenant loans) ≡ is_granted other loans }
+{}
+
+/// A tenant that waits comes nearer to its turn each time that a place which anyone may have is kept for another. So it is
+/// passed over fewer times than there are tenants.
+pub fn nearer_each_time()
+    ensures { (tenant next other : ℕ) (before after : Queued) → IsQueue before → before.loans.share < used_by tenant before.loans
+        → CameBack tenant before (Some next) after → IsNextInTurn next before → 0 < waiting_of other before → other ≢ next
+        → steps_to other after < steps_to other before }
+{}
+
+/// The tenant for which such a place is kept comes last from then on.
+pub fn last_from_then_on()
+    ensures { (tenant next other : ℕ) (before after : Queued) → IsQueue before → before.loans.share < used_by tenant before.loans
+        → CameBack tenant before (Some next) after → other < length before.loans.used → other ≢ next
+        → steps_to other after < steps_to next after }
 {}

@@ -1,6 +1,7 @@
-//! Places that are lent, and who waits for one.
+//! Places that are lent, who waits for one, and whose turn it is.
 
 ghost use Rattle.std.specs.Prelude.{◌≡◌, ◌+◌, ◌-◌, ◌<◌, ◌^◌, slice_index, slice_set, vec_len};
+ghost use Rattle.allotment.specs.Waits.{tenant_behind};
 
 use crate::allotted::Allotment;
 use std::alloc::{AllocError, Global};
@@ -21,14 +22,18 @@ pub enum Turn {
 ///
 /// Nobody waits who could have a place: a place that comes back is kept at once for one that waits and may have it. So a
 /// tenant that uses less than its share never waits, whatever the others use and however many of them wait.
+///
+/// What anyone may have is kept for those who wait in turn: for the first that is behind the tenant which got the last such
+/// place. What is a tenant's own takes nobody's turn. Otherwise one whose own place comes and goes could bring the turn back
+/// to those right behind it each time, and another would wait for ever.
 #[derive(Drop)]
 pub struct Lending {
     loans: Allotment,
     room: usize,
     waiting: Vec<usize>,
     kept: Vec<usize>,
-    // With whose number the search for one that waits begins where anyone may have what came back.
-    next: usize,
+    // The tenant whose turn it is to have what anyone may have.
+    turn: usize,
 }
 
 impl Model for Lending {
@@ -46,7 +51,7 @@ impl Model for Lending {
 impl Lending {
     ghost use Rattle.std.specs.Prelude.{◌≡◌, ◌↔◌, ◌<◌, ◌≤◌, ℕ, length, true, false, nat_lt, replicate, IfNone, IfOk, IfSome, IsTrue, if◌then◌else◌};
     ghost use Rattle.allotment.specs.Loans.{max_places, max_tenants, given_back_by, is_granted, share_of, used_by};
-    ghost use Rattle.allotment.specs.Waits.{CameBack, NobodyWaitsInVain, asked_for, given_up_by, kept_for, picked_up_by, waiting_of};
+    ghost use Rattle.allotment.specs.Waits.{CameBack, IsNextInTurn, NobodyWaitsInVain, asked_for, given_up_by, kept_for, picked_up_by, waiting_of};
 
     /// Places that nobody uses, for which so many of each tenant may wait. Each tenant is sure of its share
     /// (`Allotment::new`). The one error is want of memory.
@@ -63,6 +68,7 @@ impl Lending {
           room = room;
           waiting = replicate tenants 0;
           kept = replicate tenants 0;
+          turn = 0;
         }) }
     {
         Ok(Lending {
@@ -70,7 +76,7 @@ impl Lending {
             room,
             waiting: vec![in alloc; 0; tenants]?,
             kept: vec![in alloc; 0; tenants]?,
-            next: 0,
+            turn: 0,
         })
     }
 
@@ -130,8 +136,8 @@ impl Lending {
         self.kept[tenant] < self.loans.used_by(tenant)
     }
 
-    // Whose turn it is where the tenant gives a place back: the tenant's own, where it uses no more than its share, and else
-    // that of whichever comes next.
+    // For whom a place is kept that the tenant gives back: for the tenant itself, where it uses no more than its share, and
+    // else for whoever is next in turn.
     fn next_after(&self, tenant: usize) -> Option<usize>
         requires tenant { tenant < length self.now.loans.used }
         requires uses { 0 < used_by tenant self.now.loans }
@@ -139,6 +145,7 @@ impl Lending {
         ensures there { IfSome result (λ next. next < length self.now.loans.used) }
         ensures granted { IfSome result (λ next. is_granted next (given_back_by tenant self.now.loans) ≡ true) }
         ensures own { IfSome result (λ next. used_by tenant self.now.loans ≤ self.now.loans.share → next ≡ tenant) }
+        ensures in_turn { IfSome result (λ next. self.now.loans.share < used_by tenant self.now.loans → IsNextInTurn next self.now) }
         ensures nobody { IfNone result ((other : ℕ) → 0 < waiting_of other self.now
             → is_granted other (given_back_by tenant self.now.loans) ≡ false) }
     {
@@ -160,16 +167,16 @@ impl Lending {
         self.waiting[tenant] > 0
     }
 
-    // A tenant of which some wait, in turn.
+    // The next in turn of the tenants of which some wait.
     fn whoever_waits(&self) -> Option<usize>
         ensures waits { IfSome result (λ next. 0 < waiting_of next self.now) }
         ensures there { IfSome result (λ next. next < length self.now.loans.used) }
+        ensures in_turn { IfSome result (λ next. IsNextInTurn next self.now) }
         ensures none { IfNone result ((other : ℕ) → waiting_of other self.now ≡ 0) }
     {
-        let start = self.next.min(self.waiting.len());
-        match self.first_of(start, self.waiting.len()) {
+        match self.first_of(self.turn, self.waiting.len()) {
             Some(next) => Some(next),
-            None => self.first_of(0, start),
+            None => self.first_of(0, self.turn),
         }
     }
 
@@ -178,6 +185,8 @@ impl Lending {
         requires { to ≤ length self.now.waiting }
         ensures waits { IfSome result (λ next. 0 < waiting_of next self.now) }
         ensures there { IfSome result (λ next. next < length self.now.loans.used) }
+        ensures within { IfSome result (λ next. (from ≤ next) × (next < to)) }
+        ensures first { IfSome result (λ next. (other : ℕ) → from ≤ other → other < next → waiting_of other self.now ≡ 0) }
         ensures none { IfNone result ((other : ℕ) → from ≤ other → other < to → waiting_of other self.now ≡ 0) }
     {
         for tenant in from..to {
@@ -189,24 +198,43 @@ impl Lending {
     }
 
     /// Takes back a place that the tenant uses. It is kept for one that waits, of whose tenant the number is the answer: of
-    /// the same tenant, where it used no more than its share, and else of whichever comes next.
+    /// the same tenant, where it used no more than its share, and else of whichever is next in turn. Only then does the turn
+    /// pass on, to the tenant behind that one (`laws::nearer_each_time`, `laws::last_from_then_on`).
     pub fn give_back(&mut self, tenant: usize) -> Option<usize>
         requires tenant { tenant < length self.old.loans.used }
         requires uses { kept_for tenant self.old < used_by tenant self.old.loans }
         ensures back { CameBack tenant self.old result self.new }
         ensures own { IfSome result (λ next. used_by tenant self.old.loans ≤ self.old.loans.share → next ≡ tenant) }
+        ensures in_turn { IfSome result (λ next. self.old.loans.share < used_by tenant self.old.loans → IsNextInTurn next self.old) }
         ensures nobody { NobodyWaitsInVain self.new }
     {
         let next = self.next_after(tenant);
-        self.loans.give_back(tenant);
+        let tenants = self.tenants();
+        let common = self.loans.give_back(tenant);
         if let Some(next) = next {
             self.loans.try_take(next);
             lower(&mut self.waiting, next);
             raise(&mut self.kept, next);
-            self.next = next + 1;
+            self.turn = if common {
+                behind(next, tenants)
+            } else {
+                self.turn
+            };
         }
         next
     }
+}
+
+// The tenant behind this one of so many.
+fn behind(tenant: usize, tenants: usize) -> usize
+    requires { tenant < tenants }
+    ensures behind { result ≡ tenant_behind tenant tenants }
+    ensures there { result < tenants }
+{
+    if tenant + 1 == tenants {
+        return 0;
+    }
+    tenant + 1
 }
 
 // One more at that place of a list.
