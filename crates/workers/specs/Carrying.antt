@@ -1,18 +1,20 @@
 -- What a packet went through that a worker carried, and what a command did: which books decided, and when.
-use Rattle.std.specs.Prelude.{ℕ, ◌≡◌, ◌++◌, List, Some, Result, Ok, Err}
+use Rattle.std.specs.Prelude.{ℕ, ◌≡◌, Option, Some, Result, Ok, Err}
 use Rattle.tenant_core.specs.Governed.{IsGoverned, made_by}
 use Rattle.tenant_core.specs.Sound.{IsSound}
 use Rattle.tenant_core.specs.State.{State}
 use Rattle.tenant_core.specs.declared.command.Answered.{Answered}
 use Rattle.tenant_core.specs.declared.command.Command.{Command}
 use Rattle.tenant_core.specs.declared.faults.CommandFault.{CommandFault}
-use Rattle.one_list.specs.Steps.{done_by}
-use Rattle.one_list.specs.declared.step.Done.{Done}
+use Rattle.tenant_core.specs.declared.journal.Record.{Record}
 use Rattle.floor_core.specs.Work.{Job, Work, Called, answer_call, carrying, decide_call, frame_of}
 use Rattle.floor_core.specs.declared.parts.Got.{Got}
 use Rattle.floor_core.specs.declared.parts.Turn.{Turn}
 use Rattle.floor_core.specs.declared.parts.Turn.TheVariants as turn
+use Rattle.books_shared.specs.Rises.{command_rise, rise_of}
 use Rattle.books_shared.specs.Shares.{ShareView}
+use Rattle.books_shared.specs.Traced.{counted}
+use Rattle.books_shared.specs.declared.rise.Rise.{Rise}
 use Rattle.workers.specs.Replies.{Sending}
 use Rattle.workers.specs.declared.governing.GovernFault.{GovernFault}
 use Rattle.workers.specs.declared.governing.GovernFault.TheVariants.{Spent, Stray, Refused}
@@ -35,37 +37,44 @@ IsOf tenant found = found.book.opening.tenant ≡ tenant
 
 -- ---- calls
 
--- whose call it is, and how the worker's part of the one list grew by it: it had these steps, and has those
+-- whose call it is, and a worker's share before and after
 pub record Growth : Type 0 where
   pub owner : ℕ
-  pub worker : ℕ
-  pub had : List Done
-  pub has : List Done
+  pub before : ShareView
+  pub after : ShareView
 
--- how a call for that tenant grew the part that a share knows
+-- a share before and after what was done for that tenant
 abbrev pub growth : ℕ → (before after : ShareView) → Growth
-growth owner before after = record { owner = owner; worker = before.worker; had = before.steps; has = after.steps }
+growth owner before after = record { owner = owner; before = before; after = after }
 
--- it did not grow
+-- the same worker, with the same counts and steps: for how many calls there is room is left open
+abbrev pub AreAlike : (one other : ShareView) → Type 0
+AreAlike one other = other ≡ record one { room = other.room }
+
+-- the share has grown by one call, with that rise and that record
+abbrev pub HasGrown : Rise → Option Record → Growth → Type 0
+HasGrown rise made g = AreAlike (counted rise g.owner made g.before) g.after
+
+-- it has not grown
 abbrev pub IsSame : Growth → Type 0
-IsSame g = g.has ≡ g.had
+IsSame g = AreAlike g.before g.after
 
--- by the steps up to these
-abbrev pub upto : List Done → Growth → Growth
-upto between g = record g { has = between }
+-- up to the share between
+abbrev pub upto : ShareView → Growth → Growth
+upto between g = record g { after = between }
 
--- by those from these on
-abbrev pub from : List Done → Growth → Growth
-from between g = record g { had = between }
+-- from the share between on
+abbrev pub from : ShareView → Growth → Growth
+from between g = record g { before = between }
 
--- a call of the slot with the tenant's book, as it was found: it was answered so, left the slot so, and made the record that
--- the one list has of it
+-- a call of the slot with the tenant's book, as it was found: it was answered so, it left the slot so, and the share has grown
+-- by it
 pub record WasCalled (Gives : ℕ → Type 0) (g : Growth) (call : State → ℕ → Called) (turn : Turn) (after : Work) : Type 0 where
   pub found : Found Gives
   pub own : IsOf g.owner found
   pub told : (call found.book found.now).turn ≡ turn
   pub left : after ≡ (call found.book found.now).work
-  pub made : g.has ≡ g.had ++ done_by g.worker g.owner (call found.book found.now).made
+  pub grew : HasGrown (rise_of (call found.book found.now)) (call found.book found.now).made g
 
 -- the tenant's book held the packet of the slot, to send it on to a peer
 pub record WasForwarded (Gives : ℕ → Type 0) (g : Growth) (before after : Work) : Type 0 where
@@ -97,7 +106,7 @@ pub record WentOn (Gives : ℕ → Type 0) (g : Growth) (before : Work) (came : 
 abbrev pub answer_with : Work → Got → State → ℕ → Called
 answer_with before came book now = answer_call before book now came
 
--- the tenant's book has no such hold, and made no record
+-- the tenant's book has no such hold, and the share has not grown
 pub record WasMissed (Gives : ℕ → Type 0) (g : Growth) (before : Work) (came : Got) : Type 0 where
   pub found : Found Gives
   pub own : IsOf g.owner found
@@ -108,14 +117,14 @@ pub record WasMissed (Gives : ℕ → Type 0) (g : Growth) (before : Work) (came
 
 -- the packet went on, and what came back was settled
 pub record CameBack (Gives : ℕ → Type 0) (g : Growth) (before : Work) (came : Got) (after : Work) (So : Sending → Type 0) : Type 0 where
-  pub between : List Done
+  pub between : ShareView
   pub answered : Work
   pub went : WentOn Gives (upto between g) before came answered So
   pub settled : WasCalled Gives (from between g) (answer_with answered came) turn.Reply after
 
 -- the packet went on, and what came back was awaited no longer
 pub record WasLost (Gives : ℕ → Type 0) (g : Growth) (before : Work) (came : Got) (after : Work) (So : Sending → Type 0) : Type 0 where
-  pub between : List Done
+  pub between : ShareView
   pub answered : Work
   pub went : WentOn Gives (upto between g) before came answered So
   pub missed : WasMissed Gives (from between g) answered came
@@ -156,13 +165,13 @@ closed _ left = left
 
 -- ---- a command
 
--- the tenant's book was commanded so at its moment, answered this, and made the record that the one list has of it
+-- the tenant's book was commanded so at its moment, answered this, and the share has grown by that
 pub record WasCommanded (Gives : ℕ → Type 0) (g : Growth) (given : Command) (answer : Result Answered CommandFault) : Type 0 where
   pub found : Found Gives
   pub own : IsOf g.owner found
   pub after : State
   pub governed : IsGoverned answer given found.book after found.now
-  pub made : g.has ≡ g.had ++ done_by g.worker g.owner (made_by answer found.book given found.now)
+  pub grew : HasGrown (command_rise answer) (made_by answer found.book given found.now) g
 
 -- what became of a command, by its answer: `Stray` is never answered
 abbrev pub IsDone : (Gives : ℕ → Type 0) → Result Answered GovernFault → Growth → Command → Type 0

@@ -7,7 +7,7 @@ ghost use Rattle.floor_core.specs.Work.{IsWaiting, loaded, tenant_in};
 ghost use Rattle.floor_core.specs.Work.Job.{NoJob};
 ghost use Rattle.books_shared.specs.Turns.{IsEnded, IsLeft, IsLoaded};
 ghost use Rattle.workers.specs.Carrying.{IsAnswered, IsCarried, IsDecided, WasExchanged, closed, growth};
-ghost use Rattle.workers.specs.Counting.{HasCounted, HasDecided, HasSettled, IsSpent, reply_tallied, tallied};
+ghost use Rattle.workers.specs.Counting.{IsSpent, reply_tallied, tallied};
 ghost use Rattle.workers.specs.Replies.{IsOfPrepare, IsOver, IsSentSo, WasSent, sends_of};
 ghost use Rattle.workers.specs.declared.reply.Reply.TheVariants as reply;
 
@@ -39,10 +39,11 @@ pub struct Job<'a> {
 /// `Spent` is answered exactly where token and frame are good, and one of the share's counts is full or the link has sent
 /// 2^62 packets.
 ///
-/// By the reply (`IsCarried`), the packet was judged by the tenant's book, sound at that moment, which the clock gave; where the verdict was to send
-/// it on, what was sent is the packet with the verdict's amount and expiry, to the target of the verdict's peer; and the
-/// sender is told what the book made of it, or of what came back. Each record that the book made with that is the next
-/// step of the worker's part of the one list, as a step of this tenant; no other step came to it.
+/// By the reply (`IsCarried`), the packet was judged by the tenant's book, sound at that moment, which the clock gave; where
+/// the verdict was to send it on, what was sent is the packet with the verdict's amount and expiry, to the target of the
+/// verdict's peer; and the sender is told what the book made of it, or of what came back. The share has grown by just these
+/// calls with the book: by what each of them counts for the tenant, and by the record that it made, if it made one, as the
+/// next step of the worker's part of the one list.
 ///
 /// The reply's status is counted for the tenant, and a fault of the link too, unless the seat's count of it is full. What
 /// the sender is told is the slot's reply where the status is 200, and nothing where it is 503.
@@ -67,7 +68,6 @@ pub fn carry<J: Run, R: Wait, L: Link, G: Gate, C: Clock>(
         ↔ (is_token job.entry.token.now ≡ true) × (is_ok (prepare_at job.entry.frame.now) ≡ false) }
     ensures spent { result ≡ reply.Spent ↔ (is_token job.entry.token.now ≡ true)
         × (is_ok (prepare_at job.entry.frame.now) ≡ true) × IsSpent share.old (L.sent link.old) }
-    ensures counted { HasCounted result job.entry.tenant slot.new.reply share.old share.new }
     ensures sends { L.sent link.new ≡ L.sent link.old + sends_of result }
     ensures sent { IsSentSo result job.entry.tenant
         (λ sending. L.sends_so link.old sending link.new) (link.new ≡ link.old) }
@@ -124,7 +124,6 @@ fn carried<J: Run, R: Wait, L: Link, G: Gate, C: Clock>(
         ↔ (is_token job.entry.token.now ≡ true) × (is_ok (prepare_at job.entry.frame.now) ≡ false) }
     ensures spent { result ≡ reply.Spent ↔ (is_token job.entry.token.now ≡ true)
         × (is_ok (prepare_at job.entry.frame.now) ≡ true) × IsSpent share.old (L.sent link.old) }
-    ensures counted { HasCounted result job.entry.tenant slot.new.reply share.old share.new }
     ensures sends { L.sent link.new ≡ L.sent link.old + sends_of result }
     ensures sent { IsSentSo result job.entry.tenant
         (λ sending. L.sends_so link.old sending link.new) (link.new ≡ link.old) }
@@ -159,7 +158,6 @@ fn exchanged<J: Run, R: Wait, L: Link, G: Gate, C: Clock>(
     requires tenant { tenant_in slot.old.job ≡ Some tenant }
     ensures loaded { IsOfPrepare result }
     ensures spent { result ≡ reply.Spent ↔ IsSpent share.old (L.sent link.old) }
-    ensures counted { HasCounted result tenant slot.new.reply share.old share.new }
     ensures sends { L.sent link.new ≡ L.sent link.old + sends_of result }
     ensures sent { IsSentSo result tenant
         (λ sending. L.sends_so link.old sending link.new) (link.new ≡ link.old) }
@@ -202,7 +200,6 @@ fn decide<J: Run, R: Wait, C: Clock>(
     requires loaded { IsLoaded slot.old.job }
     requires tenant { tenant_in slot.old.job ≡ Some tenant }
     requires room { 1 < share.old.room }
-    ensures counted { HasDecided result tenant slot.new.reply share.old share.new }
     ensures decided { IsDecided (C.gives clock.now) result (growth tenant share.old share.new) slot.old slot.new }
     ensures left { IsLeft result slot.old slot.new }
     ensures room { 0 < share.new.room }
@@ -240,7 +237,6 @@ fn answer<J: Run, R: Wait, C: Clock>(
     requires waits { IsWaiting slot.old.job }
     requires tenant { tenant_in slot.old.job ≡ Some tenant }
     requires room { 0 < share.old.room }
-    ensures counted { HasSettled result tenant share.old share.new }
     ensures answered { IsAnswered (C.gives clock.now) result (growth tenant share.old share.new) got slot.old slot.new }
     ensures ended { IsEnded result slot.old slot.new }
 {

@@ -3,7 +3,7 @@
 ghost use Rattle.std.specs.Prelude.{◌≡◌, ◌<◌, ◌↔◌, true, Err};
 ghost use Rattle.books_shared.specs.Shares.{is_spent};
 ghost use Rattle.workers.specs.Carrying.{IsDone, growth};
-ghost use Rattle.workers.specs.Counting.{Rises, command_kind, command_rise, tallied};
+ghost use Rattle.workers.specs.Counting.{command_kind, tallied};
 ghost use Rattle.workers.specs.declared.governing.GovernFault.TheVariants as governing;
 
 use crate::carrying::tally;
@@ -35,12 +35,11 @@ pub enum GovernFault {
 /// or as unavailable where the fault is `Spent` or want of memory.
 ///
 /// What is answered, or refused, is what the tenant's book, sound at that moment, which the clock gave, answers to this
-/// command (`IsDone`). The
-/// record that it made is the next step of the worker's part of the one list; no other step came to it.
+/// command (`IsDone`). The share has grown by just that: by the entry for the tenant, if there is one, and by its record, as
+/// the next step of the worker's part of the one list.
 ///
 /// The errors are, in the order in which they are looked for: `Spent`, exactly where one of the share's counts is full, and
-/// what `Book::command` refuses. Nothing has changed
-/// then in the book and in the share's counts.
+/// what `Book::command` refuses. Nothing has changed then in the book and in the share's counts.
 pub fn govern<J: Run, R: Wait, C: Clock>(
     rt: &R,
     alloc: Global,
@@ -57,7 +56,6 @@ pub fn govern<J: Run, R: Wait, C: Clock>(
     requires meters { tenant < meters.now.tenants }
     ensures done { IsDone (C.gives clock.now) result (growth tenant share.old share.new) command.now }
     ensures spent { result ≡ Err governing.Spent ↔ is_spent share.old ≡ true }
-    ensures counted { Rises (command_rise result) tenant share.old share.new }
     ensures seat { seat.new ≡ tallied tenant (command_kind result) seat.old }
     ensures same_meters { seat.new.meters ≡ seat.old.meters }
 {
@@ -89,7 +87,6 @@ fn commanded<J: Run, R: Wait, C: Clock>(
     requires { tenant < books.now.tenants }
     ensures done { IsDone (C.gives clock.now) result (growth tenant share.old share.new) command.now }
     ensures spent { result ≡ Err governing.Spent ↔ is_spent share.old ≡ true }
-    ensures counted { Rises (command_rise result) tenant share.old share.new }
 {
     if share.make_room(Some(command)).is_err() {
         return Err(GovernFault::Spent);

@@ -10,9 +10,9 @@ use Rattle.one_list.specs.declared.run.Run as Run
 use Rattle.one_list.proofs.parts.WorkerPart.TheSendSync as of_part
 use Rattle.books_shared.specs.contracts.books.Books as Books
 use Rattle.books_shared.specs.contracts.share.Share as Share
-use Rattle.workers.specs.contracts.tests.Carrier as Carrier
-use Rattle.workers.specs.contracts.tests.Meeting as Meeting
-use Rattle.workers.proofs.tests.work_all.Goals as goal
+use Rattle.workers.specs.contracts.tests.together.Carrier as Carrier
+use Rattle.workers.specs.contracts.tests.together.Meeting as Meeting
+use Rattle.workers.proofs.tests.together.work_all.Goals as goal
 
 share_send : (J : RattleType) (r : Run.Ghosts J.Denot) → IsSend (Share.the_row J r)
 share_send J r = search (sendable, std.crosses, of_part.the_send) depth 40

@@ -1,0 +1,61 @@
+//! The locks of two tenants.
+
+use super::{Trial, on_two_books, start};
+use books_shared::{Books, Share};
+use one_list::Run;
+use std::alloc::Global;
+use std::process::Abort;
+use std::sync::Wait;
+use std::test::Fail;
+
+// Ticks acme's book. Whether its lock was held over that, and beta's was free.
+fn ticked<J: Run, R: Wait>(rt: &R, books: &Books<J>, share: &mut Share<J>) -> Result<bool, Fail> {
+    if books.tenants() < 2 {
+        return Err("two tenants".into());
+    }
+    share.make_room(None)?;
+    let mut guard = books.enter(rt, 0);
+    guard.tick(share, start()?)?;
+    Ok(books.try_enter(0).is_none() && books.try_enter(1).is_some())
+}
+
+// How many entries acme's book has.
+fn entries<J: Run, R: Wait>(rt: &R, books: &Books<J>) -> Option<usize> {
+    if books.tenants() == 0 {
+        return None;
+    }
+    Some(books.enter(rt, 0).book().entries())
+}
+
+// The same, where the lock is free.
+fn entries_at_once<J: Run>(books: &Books<J>) -> Option<usize> {
+    if books.tenants() == 0 {
+        return None;
+    }
+    let guard = books.try_enter(0)?;
+    Some(guard.book().entries())
+}
+
+/// Acme's book is ticked under its lock, which is free again afterwards.
+struct OwnLock;
+
+impl Trial for OwnLock {
+    fn act<J: Run, R: Wait + Abort>(
+        &self,
+        rt: &R,
+        _alloc: Global,
+        books: Books<J>,
+        mut first: Share<J>,
+        _second: Share<J>,
+    ) -> Result<(), Fail> {
+        assert!(rt; ticked(rt, &books, &mut first)?);
+        assert!(rt; entries(rt, &books) == Some(1));
+        assert!(rt; entries_at_once(&books) == Some(1));
+        Ok(())
+    }
+}
+
+#[test]
+fn a_lock_is_a_tenants_own(rt: HostRuntime) -> Result<(), Fail> {
+    on_two_books(&rt, rt.alloc(), 64, &OwnLock)
+}
