@@ -1,6 +1,9 @@
 -- Heads of requests, of which a front is known.
 use Rattle.std.proofs.Common.{◌≡◌, ◌≢◌, ◌⊎◌, inl, inr, Bool, true, false, ◌||◌, eqb, ltb, ltb-true, ltb-false, ℕ, ◌<◌, ◌≤◌, List, [], ◌∷◌, ◌++◌, length, take, drop, ◌+◌, ◌-◌}
-use Rattle.std.proofs.Common.{refl, sym, ap, subst, ◌∙◌, arith, append_assoc, append-nil, length-append, length-take, Option, Some, None}
+use Rattle.std.proofs.Common.{refl, sym, ap, subst, ◌∙◌, arith, append_assoc, append-nil, length-append, length-take, take-append-drop, take-take, Option, Some, None}
+use Rattle.std.proofs.lemmas.Grind.{common_steps}
+use Rattle.std.proofs.lemmas.List.{length-map}
+use Rattle.std.specs.Prelude.{slice_index}
 use Rattle.std.specs.List.{flat_map, ends_with}
 use Rattle.std.specs.Cmp.Lexicographic.{pointwise}
 use Rattle.std.proofs.Math.Seq.{drop-append_seam}
@@ -8,8 +11,10 @@ use Rattle.std.specs.Io.KnownBytes.{Consumes}
 use Rattle.httparse.specs.Grammar.{LineEnd, crlf, lf, print_end, print_blank, print_version, Field, print_field, RequestHead, IsRequestHead, print_request, HasNoRequest}
 use Rattle.httparse.specs.declared.spans.HeaderSpan.{HeaderSpan}
 use Rattle.httparse.specs.declared.spans.RequestSpans.{RequestSpans}
+use Rattle.httparse.specs.Spans.{IsRequestOf, IsRequestWithin, header_bytes, name_and_value}
 use Rattle.http_link.proofs.Known.{Consumes-more}
-use Rattle.http_link.specs.Reading.{ends_empty_line, IsRequest, IsTaken, GoesOn, BeginsNone, HasNoHead}
+use Rattle.http_link.specs.Reading.{ends_empty_line, IsRequest, IsTaken, GoesOn, BeginsNone, BeginsNot, HasNoHead, StandsIn}
+use Rattle.http_link.specs.declared.head.Offered.TheVariants.{Whole}
 
 -- of two fronts of one list the longer one goes on
 pub goes_on : (a m p r : List ℕ) → a ++ m ≡ p ++ r → length a ≤ length p → (q : List ℕ) × (p ≡ a ++ q) × (m ≡ q ++ r)
@@ -39,6 +44,10 @@ last_same [] [] a b e = cc
 last_same [] (y ∷ ys) a b e = let l = ap length e in absurd (omega (arith, length-append ys (b ∷ [])))
 last_same (x ∷ xs) [] a b e = let l = ap length e in absurd (omega (arith, length-append xs (a ∷ [])))
 last_same (x ∷ xs) (y ∷ ys) a b e = last_same xs ys a b cc
+
+-- a list is what stands before its last, and that
+pub last_behind : (text : List ℕ) → 0 < length text → text ≡ take (length text - 1) text ++ slice_index text (length text - 1) ∷ []
+last_behind text some = grind (arith, common_steps)
 
 -- a line feed stands at the end
 abbrev pub EndsLine : List ℕ → Type 0
@@ -183,6 +192,26 @@ whole_at front text b room lines spans grows wide on is =
     let long = ap length grows in
     omega (arith, length-append front (b ∷ []))
 
+-- what a parser finds is a head of no more lines than there is room for
+pub is_request : (text : List ℕ) (lines : List HeaderSpan) (spans : RequestSpans) → IsRequestOf text lines spans → IsRequestWithin text lines spans → IsRequest text lines spans
+is_request text lines spans found within =
+    let at = found.1 in
+    let long = ap length at.fields in
+    record {
+      head = found.0;
+      at = at;
+      few = omega (arith, length-map (take spans.headers lines) (header_bytes text), length-map found.0.fields name_and_value, length-take spans.headers lines);
+      within = within;
+    }
+
+-- of a text that goes on up to a byte, and has a head with it, the head ends there
+pub ends_there : (text : List ℕ) (k room : ℕ) (lines : List HeaderSpan) (spans : RequestSpans) → k < length text → room ≡ length lines → GoesOn (take k text) room
+    → IsRequest (take (k + 1) text) lines spans → spans.len ≡ k + 1
+ends_there text k room lines spans some wide on is =
+    let grows : take (k + 1) text ≡ take k text ++ slice_index text k ∷ [] = grind (arith, common_steps) in
+    let len = whole_at (take k text) (take (k + 1) text) (slice_index text k) room lines spans grows wide on is in
+    omega (arith, length-take (k + 1) text)
+
 -- where a byte more makes a head whole, it is taken
 pub whole_taken : (old between new : Option (List ℕ)) (buffer front : List ℕ) (b n room : ℕ) (lines : List HeaderSpan) (spans : RequestSpans)
     → take (n + 1) buffer ≡ front ++ b ∷ [] → n < length buffer → room ≡ length lines → Consumes old between front → Consumes between new (b ∷ []) → GoesOn front room
@@ -196,3 +225,41 @@ whole_taken old between new buffer front b n room lines spans grows short wide b
       is = subst (λ (k : ℕ). IsRequest (take k buffer) lines spans) same is;
       taken = subst (λ (k : ℕ). Consumes old new (take k buffer)) same (Consumes-more old between new front (b ∷ []) text grows begun byte);
     }
+
+-- ---- heads in what has come
+
+-- a head that was seen in a front stands at the front of all
+pub stands_whole : (room : List ℕ) (had end seen : ℕ) (lines : List HeaderSpan) (spans : RequestSpans) (left : Option (List ℕ)) → end ≤ had → end ≤ 8192 → had ≤ length room
+    → seen ≤ length (take end room) → IsRequest (take seen (take end room)) lines spans → spans.len ≡ seen → StandsIn (take had room) lines left (Whole spans)
+stands_whole room had end seen lines spans left le small there inside is len =
+    let most : seen ≤ end = omega (arith, length-take end room) in
+    let same : take seen (take end room) ≡ take spans.len (take had room) =
+    take-take seen end room most ∙ sym (take-take seen had room (omega arith)) ∙ ap (λ n. take n (take had room)) (sym len) in (
+      omega (arith, length-take had room),
+      omega arith,
+      subst (λ (text : List ℕ). IsRequest text lines spans) same is,
+    )
+
+-- all is what was looked at, and what follows
+pub looked_at : (room : List ℕ) (had end seen : ℕ) → end ≤ had → seen ≤ length (take end room) → take had room ≡ take seen (take end room) ++ drop seen (take had room)
+looked_at room had end seen le inside =
+    let most : seen ≤ end = omega (arith, length-take end room) in
+    let front : take seen (take end room) ≡ take seen (take had room) = take-take seen end room most ∙ sym (take-take seen had room (omega arith)) in
+    sym (ap (λ (w : List ℕ). w ++ drop seen (take had room)) front ∙ take-append-drop seen (take had room))
+
+-- where no head begins what was looked at, whatever follows, none begins all
+pub none_begins_all : (room : List ℕ) (had end seen lines : ℕ) → end ≤ had → seen ≤ length (take end room) → BeginsNone (take seen (take end room)) lines
+    → BeginsNot (take had room) lines
+none_begins_all room had end seen lines le inside none head rest reads short few =
+    none head (drop seen (take had room)) rest (reads.0, sym (looked_at room had end seen le inside) ∙ reads.1) few
+
+-- where a front goes on that is all there is, or as long as a head may be, no head begins all
+pub going_on_begins_not : (bytes front back : List ℕ) (lines : ℕ) → bytes ≡ front ++ back → GoesOn front lines → (length bytes ≤ length front) ⊎ (8192 ≤ length front)
+    → BeginsNot bytes lines
+going_on_begins_not bytes front back lines parts on (inl all) head rest reads short few =
+    let lt = on head back rest (reads.0, sym parts ∙ reads.1) few in
+    let long = ap length reads.1 in
+    absurd (omega (arith, length-append (print_request head) rest))
+going_on_begins_not bytes front back lines parts on (inr most) head rest reads short few =
+    let lt = on head back rest (reads.0, sym parts ∙ reads.1) few in
+    absurd (omega arith)

@@ -1,6 +1,6 @@
 -- Known bytes that are written and taken in turn.
-use Rattle.std.proofs.Common.{◌≡◌, ◌≤◌, ℕ, ◌+◌, List, ◌++◌, length, take, drop, Option, Some, None, Result, Ok, Err, OnOk, sym, ap, ◌∙◌, append_assoc, arith, length-take}
-use Rattle.std.proofs.KnownBytes.{Appends-trans}
+use Rattle.std.proofs.Common.{◌≡◌, ◌≤◌, ℕ, ◌+◌, ◌-◌, List, [], ◌++◌, length, take, drop, Option, Some, None, Result, Ok, Err, OnOk, sym, ap, subst, ◌∙◌, append_assoc, append-nil, arith, length-append, length-take}
+use Rattle.std.proofs.KnownBytes.{Appends-trans, Consumes-nil, Consumes-trans}
 use Rattle.std.proofs.Math.Seq.{take-add, take-append-add}
 use Rattle.std.proofs.lemmas.List.{take-append-le}
 use borrow.Rule.Slice.PartMut.{put_mid, post_of}
@@ -27,6 +27,33 @@ Consumes-more (Some xs) None new front taken both e a b = absurd a
 Consumes-more (Some xs) (Some ys) None front taken both e a b = absurd b
 Consumes-more (Some xs) (Some ys) (Some zs) front taken both e a b =
     a ∙ ap (λ (w : List ℕ). front ++ w) b ∙ sym (append_assoc front taken zs) ∙ ap (λ (w : List ℕ). w ++ zs) (sym e)
+
+-- bytes came behind those that there were, as many as were missing at most
+abbrev pub CameBehind : (old new : Option (List ℕ)) → (had : List ℕ) → (wanted n : ℕ) → (buffer : List ℕ) → Type 0
+CameBehind old new had wanted n buffer =
+    (came : List ℕ) × (take n buffer ≡ had ++ came) × Consumes old new came × (length came ≤ wanted - length had)
+
+pub none_came : (known : Option (List ℕ)) (buffer : List ℕ) (wanted n : ℕ) → CameBehind known known (take n buffer) wanted n buffer
+none_came known buffer wanted n = ([], sym (append-nil (take n buffer)), Consumes-nil known, omega arith)
+
+-- and more behind these
+pub more_came : (old between new : Option (List ℕ)) (had before after more : List ℕ) (wanted n k : ℕ) → CameBehind old between had wanted n before
+    → take (n + k) after ≡ take n before ++ more → Consumes between new more → n + k ≤ wanted → n + k ≤ length after → CameBehind old new had wanted (n + k) after
+more_came old between new had before after more wanted n k sofar put took le within =
+    let came = sofar.0 in
+    let grew : take (n + k) after ≡ had ++ (came ++ more) = put ∙ ap (λ (w : List ℕ). w ++ more) sofar.1 ∙ append_assoc had came more in
+    let long = ap length grew in
+    (came ++ more, grew, Consumes-trans old between new came more sofar.2 took, omega (arith, length-take (n + k) after, length-append had (came ++ more)))
+
+-- bytes came behind those that there were, and more behind these
+pub came_more : (old between new : Option (List ℕ)) (had before after : List ℕ) (n m k : ℕ) → m ≡ n
+    → (came : List ℕ) × (take n before ≡ had ++ came) × Consumes old between came
+    → (more : List ℕ) × (take (m + k) after ≡ take m before ++ more) × Consumes between new more
+    → (came : List ℕ) × (take (n + k) after ≡ had ++ came) × Consumes old new came
+came_more old between new had before after n m k same one other =
+    let grew : take (m + k) after ≡ had ++ (one.0 ++ other.0) =
+    other.1 ∙ ap (λ (w : List ℕ). w ++ other.0) (ap (λ j. take j before) same ∙ one.1) ∙ append_assoc had one.0 other.0 in
+    (one.0 ++ other.0, subst (λ j. take (j + k) after ≡ had ++ (one.0 ++ other.0)) same grew, Consumes-trans old between new one.0 other.0 one.2 other.2)
 
 -- a front of what was put into the middle
 pub take-into : (at k n : ℕ) (before part : List ℕ) → at ≤ length before → n ≤ length part → take (at + n) (put_mid at k before part) ≡ take at before ++ take n part

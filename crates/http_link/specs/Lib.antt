@@ -8,4 +8,6 @@ pub mod Reading
 pub mod ReadingReplies
 pub mod Serving
 pub mod Running
+pub mod Connections
+pub mod InboxKept
 pub mod Client

@@ -1,11 +1,12 @@
 -- Heads as they are read, byte by byte.
 use Rattle.std.specs.Prelude.{◌≡◌, ℕ, ◌<◌, ◌≤◌, List, [], ◌∷◌, ◌++◌, length, take, Option, Some, Bool, ◌||◌, ◌==◌}
 use Rattle.std.specs.List.{ends_with}
-use Rattle.std.specs.Io.KnownBytes.{Consumes}
+use Rattle.std.specs.Io.KnownBytes.{Consumes, IsAtEnd}
 use Rattle.httparse.specs.declared.spans.RequestSpans.{RequestSpans}
 use Rattle.httparse.specs.declared.spans.HeaderSpan.{HeaderSpan}
 use Rattle.httparse.specs.Grammar.{RequestHead, print_request, ReadsRequest}
 use Rattle.httparse.specs.Spans.{IsRequestAt, IsRequestWithin}
+use Rattle.http_link.specs.Heads.{max_head}
 use Rattle.http_link.specs.declared.head.Offered.{Offered}
 use Rattle.http_link.specs.declared.head.Offered.TheVariants.{Whole, Partial, Malformed}
 
@@ -56,3 +57,30 @@ abbrev pub HeadIsRead : Option (List ℕ) → Option (List ℕ) → List ℕ →
 HeadIsRead old new text lines (Whole spans) = IsTaken old new text lines spans
 HeadIsRead old new text lines Partial = HasNoHead old (length text) (length lines)
 HeadIsRead old new text lines Malformed = HasNoHead old (length text) (length lines)
+
+-- no head within the limits begins the bytes
+abbrev pub BeginsNot : List ℕ → (lines : ℕ) → Type 0
+BeginsNot bytes lines =
+    (head : RequestHead) (rest : List ℕ) → ReadsRequest bytes head rest → length (print_request head) ≤ max_head
+    → length head.fields ≤ lines → ⊥
+
+-- what was seen of a text, of which so many bytes were looked at: a head that ends there, that it goes on, or that none begins it
+abbrev pub Sees : List ℕ → (seen room : ℕ) → List HeaderSpan → Offered RequestSpans → Type 0
+Sees text seen room lines (Whole spans) = IsRequest (take seen text) lines spans × (spans.len ≡ seen)
+Sees text seen room lines Partial = GoesOn (take seen text) room × (seen ≡ length text)
+Sees text seen room lines Malformed = BeginsNone (take seen text) room
+
+-- what stands at the front of bytes, behind which no more are left where they are not enough
+abbrev pub StandsIn : List ℕ → List HeaderSpan → Option (List ℕ) → Offered RequestSpans → Type 0
+StandsIn bytes lines left (Whole spans) =
+    (spans.len ≤ length bytes) × (spans.len ≤ max_head) × IsRequest (take spans.len bytes) lines spans
+StandsIn bytes lines left Partial = BeginsNot bytes (length lines) × IsAtEnd left
+StandsIn bytes lines left Malformed = BeginsNot bytes (length lines)
+
+-- bytes came behind those that there were, and that stands at the front of all of them
+pub record HeadIsFound (had : List ℕ) (old new : Option (List ℕ)) (has : List ℕ) (lines : List HeaderSpan)
+    (offered : Offered RequestSpans) : Type 0 where
+  pub came : List ℕ
+  pub grew : has ≡ had ++ came
+  pub taken : Consumes old new came
+  pub stands : StandsIn has lines new offered

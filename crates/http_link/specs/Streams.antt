@@ -1,5 +1,5 @@
 -- What is taken from a reader, and given to a writer.
-use Rattle.std.specs.Prelude.{◌≡◌, ◌<◌, ◌≤◌, ◌+◌, ℕ, List, [], ◌∷◌, ◌++◌, length, take, Option, Some, None, Bool, true}
+use Rattle.std.specs.Prelude.{◌≡◌, ◌<◌, ◌≤◌, ◌+◌, ◌-◌, ℕ, List, [], ◌∷◌, ◌++◌, length, take, Option, Some, None, Bool, true}
 use Rattle.std.specs.Prelude.{false}
 use Rattle.std.specs.Io.KnownBytes.{Appends, Consumes, Keeps, IsAtEnd}
 use Rattle.http_link.specs.declared.streams.Pulled.{Pulled}
@@ -21,6 +21,16 @@ ReadsBehind old new at limit before after None = Keeps old new × (take at after
 ReadsBehind old new at limit before after (Some n) =
     (at + n ≤ limit) × (n ≡ 0 → IsAtEnd new)
     × ((taken : List ℕ) × (take (at + n) after ≡ take at before ++ taken) × Consumes old new taken)
+
+-- more bytes were taken, as many as are missing at most, and stand in the buffer behind those that there were; where all of
+-- them are fewer than wanted, no more are left
+pub record FillsOn (old new : Option (List ℕ)) (had : List ℕ) (wanted : ℕ) (buffer : List ℕ) (n : ℕ) : Type 0 where
+  pub came : List ℕ
+  pub grew : take n buffer ≡ had ++ came
+  pub taken : Consumes old new came
+  pub missing : length came ≤ wanted - length had
+  pub bound : n ≤ length buffer
+  pub ended : n < wanted → IsAtEnd new
 
 -- so many bytes were taken and stand at the front of the buffer; where they are fewer than wanted, no more are left
 pub record Fills (old new : Option (List ℕ)) (wanted : ℕ) (buffer : List ℕ) (n : ℕ) : Type 0 where

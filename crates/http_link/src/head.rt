@@ -1,10 +1,10 @@
-//! Heads of requests and of answers, read one byte at a time, so that no byte behind them is taken.
+//! Heads of requests and of answers: read one byte at a time, so that no byte behind them is taken, or found in what has come.
 
-ghost use Rattle.std.specs.Prelude.{◌≡◌, ◌≢◌, ◌↔◌, ◌+◌, ◌<◌, ◌≤◌, ◌++◌, ◌∷◌, [], length, take, false, Ok, Err, IfOk};
-ghost use Rattle.http_link.specs.Reading.{ends_empty_line, Decides, GoesOn, HeadIsRead};
+ghost use Rattle.std.specs.Prelude.{◌≡◌, ◌≢◌, ◌↔◌, ◌+◌, ◌-◌, ◌<◌, ◌≤◌, ◌++◌, ◌∷◌, [], length, take, false, Ok, Err, IfOk};
+ghost use Rattle.http_link.specs.Reading.{ends_empty_line, Decides, GoesOn, HeadIsFound, HeadIsRead, Sees};
 ghost use Rattle.http_link.specs.ReadingReplies.{DecidesReply, ReplyGoesOn, ReplyIsRead};
 
-use crate::streams::{LinkFault, Pulled, pull};
+use crate::streams::{LinkFault, Pulled, pull, read_some};
 use httparse::Status;
 use httparse::spans::{HeaderSpan, RequestSpans, ResponseSpans, parse_request, parse_response};
 use oer_core::Device;
@@ -42,7 +42,32 @@ fn is_due(text: &[u8], parsed: usize) -> bool
     text.len() / 2 >= parsed || ends_empty_line(text)
 }
 
-// Puts a byte behind the first n, of which so many were parsed before, and parses them where a line ends and they are due.
+// Parses a text whose last byte has just come, of which so many were parsed before, where a line ends and it is due.
+fn examine_request(
+    text: &[u8],
+    parsed: &mut usize,
+    lines: &mut [HeaderSpan],
+) -> Offered<RequestSpans>
+    requires some { 0 < length text.now }
+    requires inside { GoesOn (take (length text.now - 1) text.now) (length lines.old) }
+    ensures lines { length lines.new ≡ length lines.old }
+    ensures decides { Decides text.now (length lines.old) lines.new result }
+{
+    if text[text.len() - 1] != b'\n' {
+        return Offered::Partial;
+    }
+    if !is_due(text, *parsed) {
+        return Offered::Partial;
+    }
+    *parsed = text.len();
+    match parse_request(text, lines) {
+        Ok(Status::Complete(spans)) => Offered::Whole(spans),
+        Ok(Status::Partial) => Offered::Partial,
+        Err(_) => Offered::Malformed,
+    }
+}
+
+// Puts a byte behind the first n, of which so many were parsed before, and examines them.
 fn offer_request(
     text: &mut [u8],
     n: usize,
@@ -58,19 +83,76 @@ fn offer_request(
     ensures decides { Decides (take (n + 1) text.new) (length lines.old) lines.new result }
 {
     text[n] = b;
-    if b != b'\n' {
-        return Offered::Partial;
+    examine_request(&text[..n + 1], parsed, lines)
+}
+
+// Looks for the end of a head in a text, of which so many bytes were looked at before, and so many parsed.
+fn scan_request(
+    text: &[u8],
+    seen: &mut usize,
+    parsed: &mut usize,
+    lines: &mut [HeaderSpan],
+) -> Offered<RequestSpans>
+    requires seen { seen.old ≤ length text.now }
+    requires inside { GoesOn (take seen.old text.now) (length lines.old) }
+    ensures lines { length lines.new ≡ length lines.old }
+    ensures seen { seen.new ≤ length text.now }
+    ensures sees { Sees text.now seen.new (length lines.old) lines.new result }
+{
+    while *seen < text.len() {
+        *seen += 1;
+        match examine_request(&text[..*seen], parsed, lines) {
+            Offered::Partial => {}
+            Offered::Whole(spans) => return Offered::Whole(spans),
+            Offered::Malformed => return Offered::Malformed,
+        }
     }
-    let size = n + 1;
-    if !is_due(&text[..size], *parsed) {
-        return Offered::Partial;
+    Offered::Partial
+}
+
+/// Reads on until a head stands at the front of the room, where some bytes stand already, or none can, and counts how many
+/// stand there. Where the stream has ended, the answer is `Partial`.
+pub(crate) fn find_request_head<R: Read + Device>(
+    r: &mut R,
+    room: &mut [u8],
+    had: &mut usize,
+    lines: &mut [HeaderSpan],
+    before: u64,
+    turns: &mut u32,
+) -> Result<Offered<RequestSpans>, LinkFault>
+    requires there { had.old ≤ length room.old }
+    requires wide { 8192 ≤ length room.old }
+    requires unfailed { R.failure_count r.old ≤ before }
+    ensures len { length room.new ≡ length room.old }
+    ensures lines { length lines.new ≡ length lines.old }
+    ensures there { had.new ≤ length room.new }
+    ensures found { IfOk result (HeadIsFound (take had.old room.old) (R.remaining r.old) (R.remaining r.new)
+        (take had.new room.new) lines.new) }
+    ensures read { (result ≡ Err LinkFault.Read) ↔ (before < R.failure_count r.new) }
+    ensures write { result ≢ Err LinkFault.Write }
+    ensures spent { result ≡ Err LinkFault.Turns → turns.new ≡ 0 }
+{
+    let mut seen = 0;
+    let mut parsed = 0;
+    while *turns > 0 {
+        *turns -= 1;
+        let end = (*had).min(MAX_HEAD);
+        match scan_request(&room[..end], &mut seen, &mut parsed, lines) {
+            Offered::Partial => {}
+            Offered::Whole(spans) => return Ok(Offered::Whole(spans)),
+            Offered::Malformed => return Ok(Offered::Malformed),
+        }
+        if end == MAX_HEAD {
+            return Ok(Offered::Malformed);
+        }
+        let limit = room.len();
+        match read_some(r, room, end, limit, before)? {
+            Some(0) => return Ok(Offered::Partial),
+            Some(n) => *had += n,
+            None => {}
+        }
     }
-    *parsed = size;
-    match parse_request(&text[..size], lines) {
-        Ok(Status::Complete(spans)) => Offered::Whole(spans),
-        Ok(Status::Partial) => Offered::Partial,
-        Err(_) => Offered::Malformed,
-    }
+    Err(LinkFault::Turns)
 }
 
 /// Reads the head of a request. It has as many bytes as the text at most, and as many field lines as there are lines.

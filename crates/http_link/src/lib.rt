@@ -1,6 +1,7 @@
 //! Packets and commands over HTTP (RFC 0035; RFC 9110 and 9112), without memory.
 //!
-//! - [`serve_one`] reads one request from a stream, asks a [`Service`] where nothing refuses it, and writes the answer.
+//! - [`serve_one`] reads one request from a stream, asks a [`Service`] where nothing refuses it, and writes the answer;
+//!   [`serve_next`] does so for the requests of a connection, whose bytes an [`Inbox`] takes as they come.
 //! - [`post`] sends a frame to a peer and reads its answer.
 //! - [`LinkFault`] and [`PostFault`] say why a connection ended.
 #![tactic(auto)]
@@ -8,6 +9,9 @@
 mod answer;
 mod fields;
 mod head;
+mod held;
+mod inbox;
+pub mod laws;
 mod line_buffer;
 mod posting;
 mod request;
@@ -15,6 +19,7 @@ mod serve;
 mod service;
 mod streams;
 
+pub use inbox::{Inbox, serve_next};
 pub use posting::{MAX_ANSWER, PostFault, post};
 pub use request::{Kind, MAX_BODY};
 pub use serve::{Served, serve_one};

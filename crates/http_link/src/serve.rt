@@ -1,6 +1,6 @@
 //! One request of a connection.
 
-ghost use Rattle.std.specs.Prelude.{◌≡◌, ◌≢◌, ◌↔◌, ◌<◌, ◌≤◌, List, ℕ, length, Some, Ok, Err, IfOk, OnOk};
+ghost use Rattle.std.specs.Prelude.{◌≡◌, ◌≢◌, ◌↔◌, ◌<◌, ◌≤◌, List, ℕ, length, min, Some, Ok, Err, IfOk, OnOk};
 ghost use Rattle.std.specs.Io.KnownBytes.{Appends};
 ghost use Rattle.httparse.specs.Grammar as grammar;
 ghost use Rattle.httparse.specs.Spans.{IsRequestWithin};
@@ -10,15 +10,16 @@ ghost use Rattle.http_link.specs.Requests.{wanted_of};
 ghost use Rattle.http_link.specs.Answers.{refusal_text, continue_text, answer_text, told_body};
 ghost use Rattle.http_link.specs.Serving.{IsServed, IsAskedOnly, AsksAtMostOnce, WritesNothingOr400};
 ghost use Rattle.http_link.specs.Serving.{asking, kept_unless};
-ghost use Rattle.http_link.specs.Running.{Runs, AsksWanted};
+ghost use Rattle.http_link.specs.Running.{Runs, AsksWanted, held_in};
 
 use crate::answer::{answer_head, told};
 use crate::fields::Lines;
 use crate::head::{MAX_HEAD, MAX_LINES, Offered, read_request_head};
+use crate::held::Held;
 use crate::line_buffer::write_message;
 use crate::request::{Kind, RequestHead, Wanted, closes, waits, wanted_of};
 use crate::service::Service;
-use crate::streams::{LinkFault, MAX_READS, read_up_to, write_all};
+use crate::streams::{LinkFault, MAX_READS, read_on, write_all};
 use httparse::spans::{EMPTY_HEADER_SPAN, HeaderSpan, RequestSpans};
 use oer_core::Device;
 use std::io::{Read, Write};
@@ -36,9 +37,9 @@ pub enum Served {
 
 /// How often both devices had failed before a request.
 #[derive(Clone, Copy)]
-struct Failures {
-    reads: u64,
-    writes: u64,
+pub(crate) struct Failures {
+    pub(crate) reads: u64,
+    pub(crate) writes: u64,
 }
 
 /// Reads one request, asks the service where nothing refuses it, and writes the answer. (RFC 9112, 2 and 9.3)
@@ -98,13 +99,18 @@ pub fn serve_one<R: Read + Device, W: Write + Device, S: Service>(
         Offered::Malformed => refuse(w, 400, before.writes),
         Offered::Whole(spans) => {
             let head = head_in(&text[..spans.len], &lines, spans);
-            serve_head(r, w, service, room, &head, before, &mut turns)
+            let mut held = Held { from: 0, to: 0 };
+            serve_head(r, w, service, room, &mut held, &head, before, &mut turns)
         }
     }
 }
 
-// The parts of a head, by their spans in its text.
-fn head_in<'b>(text: &'b [u8], lines: &'b [HeaderSpan], spans: RequestSpans) -> RequestHead<'b>
+/// The parts of a head, by their spans in its text.
+pub(crate) fn head_in<'b>(
+    text: &'b [u8],
+    lines: &'b [HeaderSpan],
+    spans: RequestSpans,
+) -> RequestHead<'b>
     requires within { IsRequestWithin text.now lines.now spans }
     ensures { head_at result ≡ head_in text.now lines.now spans }
 {
@@ -119,8 +125,12 @@ fn head_in<'b>(text: &'b [u8], lines: &'b [HeaderSpan], spans: RequestSpans) -> 
     }
 }
 
-// Writes the answer that refuses a request.
-fn refuse<W: Write + Device>(w: &mut W, status: u16, before: u64) -> Result<Served, LinkFault>
+/// Writes the answer that refuses a request.
+pub(crate) fn refuse<W: Write + Device>(
+    w: &mut W,
+    status: u16,
+    before: u64,
+) -> Result<Served, LinkFault>
     requires unfailed { W.failure_count w.old ≤ before }
     ensures refused { IfOk result (λ served. (served ≡ Served.Closed)
         × Appends (W.contents w.old) (W.contents w.new) (refusal_text status)) }
@@ -132,35 +142,41 @@ fn refuse<W: Write + Device>(w: &mut W, status: u16, before: u64) -> Result<Serv
     Ok(Served::Closed)
 }
 
-// Serves a request behind its head.
-fn serve_head<R: Read + Device, W: Write + Device, S: Service>(
+/// Serves a request behind its head. At the front of the room stand the bytes that came with the head; in the end those are
+/// held that came behind the request.
+pub(crate) fn serve_head<R: Read + Device, W: Write + Device, S: Service>(
     r: &mut R,
     w: &mut W,
     service: &mut S,
     room: &mut [u8],
+    held: &mut Held,
     head: &RequestHead,
     before: Failures,
     turns: &mut u32,
 ) -> Result<Served, LinkFault>
     requires room { 34_000 ≤ length room.old }
+    requires front { held.old.from ≡ 0 }
+    requires there { held.old.to ≤ length room.old }
     requires reads { R.failure_count r.old ≤ before.reads }
     requires writes { W.failure_count w.old ≤ before.writes }
+    ensures len { length room.new ≡ length room.old }
+    ensures held { (held.new.from ≤ held.new.to) × (held.new.to ≤ length room.new) }
     ensures runs { IfOk result (Runs (wanted_of (S.tenant_of service.old) (head_at head.now)) (head_at head.now)
-        (R.remaining r.old) (record {
+        (held_in room.old held.old) (R.remaining r.old) (R.remaining r.new) (record {
           Unasked = service.new ≡ service.old;
           Asks = λ question. S.asks service.old question service.new;
           answer = S.answer service.new;
-          left = R.remaining r.new;
+          left = Some (held_in room.new held.new);
           Writes = λ text. Appends (W.contents w.old) (W.contents w.new) text;
         })) }
-    ensures asks { AsksWanted (wanted_of (S.tenant_of service.old) (head_at head.now)) (R.remaining r.old)
-        (R.remaining r.new) (service.new ≡ service.old) (λ question. S.asks service.old question service.new) }
+    ensures asks { AsksWanted (wanted_of (S.tenant_of service.old) (head_at head.now)) (held_in room.old held.old)
+        (R.remaining r.old) (R.remaining r.new) (service.new ≡ service.old) (λ question. S.asks service.old question service.new) }
     ensures unread { result ≡ Err LinkFault.Read → service.new ≡ service.old }
     ensures read { (result ≡ Err LinkFault.Read) ↔ (before.reads < R.failure_count r.new) }
     ensures write { (result ≡ Err LinkFault.Write) ↔ (before.writes < W.failure_count w.new) }
 {
     match wanted_of(service, head) {
-        Ok(wanted) => serve_wanted(r, w, service, room, head, &wanted, before, turns),
+        Ok(wanted) => serve_wanted(r, w, service, room, held, head, &wanted, before, turns),
         Err(status) => refuse(w, status, before.writes),
     }
 }
@@ -171,34 +187,40 @@ fn serve_wanted<R: Read + Device, W: Write + Device, S: Service>(
     w: &mut W,
     service: &mut S,
     room: &mut [u8],
+    held: &mut Held,
     head: &RequestHead,
     wanted: &Wanted,
     before: Failures,
     turns: &mut u32,
 ) -> Result<Served, LinkFault>
     requires size { wanted.now.size ≤ length room.old }
+    requires front { held.old.from ≡ 0 }
+    requires there { held.old.to ≤ length room.old }
     requires reads { R.failure_count r.old ≤ before.reads }
     requires writes { W.failure_count w.old ≤ before.writes }
+    ensures len { length room.new ≡ length room.old }
+    ensures held { (held.new.from ≤ held.new.to) × (held.new.to ≤ length room.new) }
     ensures runs { IfOk result (Runs (Ok (wanted_at wanted.now)) (head_at head.now)
-        (R.remaining r.old) (record {
+        (held_in room.old held.old) (R.remaining r.old) (R.remaining r.new) (record {
           Unasked = service.new ≡ service.old;
           Asks = λ question. S.asks service.old question service.new;
           answer = S.answer service.new;
-          left = R.remaining r.new;
+          left = Some (held_in room.new held.new);
           Writes = λ text. Appends (W.contents w.old) (W.contents w.new) text;
         })) }
-    ensures asks { AsksWanted (Ok (wanted_at wanted.now)) (R.remaining r.old)
+    ensures asks { AsksWanted (Ok (wanted_at wanted.now)) (held_in room.old held.old) (R.remaining r.old)
         (R.remaining r.new) (service.new ≡ service.old) (λ question. S.asks service.old question service.new) }
     ensures unread { result ≡ Err LinkFault.Read → service.new ≡ service.old }
     ensures read { (result ≡ Err LinkFault.Read) ↔ (before.reads < R.failure_count r.new) }
     ensures write { (result ≡ Err LinkFault.Write) ↔ (before.writes < W.failure_count w.new) }
 {
     write_all(w, continue_text(waits(head)), before.writes)?;
-    let n = read_up_to(r, room, wanted.size, before.reads, turns)?;
-    if n < wanted.size {
+    let there = read_on(r, room, held.to, wanted.size, before.reads, turns)?;
+    *held = used(wanted.size, there);
+    if there < wanted.size {
         return Ok(Served::Ended);
     }
-    let status = ask(service, wanted, &room[..n]);
+    let status = ask(service, wanted, &room[..wanted.size]);
     let closed = closes(head);
     write_answer(
         w,
@@ -209,6 +231,16 @@ fn serve_wanted<R: Read + Device, W: Write + Device, S: Service>(
         before.writes,
     )?;
     Ok(kept_unless(closed))
+}
+
+// What is held of so many bytes once so many of them, or all, were used.
+fn used(size: usize, there: usize) -> Held
+    ensures { result ≡ record { from = min size there; to = there } }
+{
+    Held {
+        from: size.min(there),
+        to: there,
+    }
 }
 
 fn continue_text(waits: bool) -> &'static [u8]

@@ -2,7 +2,7 @@
 
 ghost use Rattle.std.specs.Prelude.{◌≡◌, ◌≢◌, ◌↔◌, ◌<◌, ◌≤◌, length, take, Ok, Err, IfOk, OnOk};
 ghost use Rattle.std.specs.Io.KnownBytes.{Appends};
-ghost use Rattle.http_link.specs.Streams.{AppendsFront, PullsByte, ReadsBehind, Fills, EndsOrNot};
+ghost use Rattle.http_link.specs.Streams.{AppendsFront, PullsByte, ReadsBehind, Fills, FillsOn, EndsOrNot};
 
 use oer_core::Device;
 use std::io::{Read, Write};
@@ -56,9 +56,9 @@ pub(crate) fn pull<R: Read + Device>(r: &mut R, before: u64) -> Result<Pulled, L
     }
 }
 
-// Reads once into a place of the buffer, and gives how many bytes came, or nothing after an error that the device did
-// not count. At 0 the stream has ended.
-fn read_some<R: Read + Device>(
+/// Reads once into a place of the buffer, and gives how many bytes came, or nothing after an error that the device did
+/// not count. At 0 the stream has ended.
+pub(crate) fn read_some<R: Read + Device>(
     r: &mut R,
     out: &mut [u8],
     at: usize,
@@ -84,6 +84,40 @@ fn read_some<R: Read + Device>(
     }
 }
 
+/// Reads until so many bytes stand at the front of the buffer, where some stand already, or the stream has ended, and gives
+/// how many stand there.
+pub(crate) fn read_on<R: Read + Device>(
+    r: &mut R,
+    out: &mut [u8],
+    had: usize,
+    wanted: usize,
+    before: u64,
+    turns: &mut u32,
+) -> Result<usize, LinkFault>
+    requires there { had ≤ length out.old }
+    requires within { wanted ≤ length out.old }
+    requires unfailed { R.failure_count r.old ≤ before }
+    ensures filled { IfOk result (FillsOn (R.remaining r.old) (R.remaining r.new) (take had out.old) wanted out.new) }
+    ensures len { length out.new ≡ length out.old }
+    ensures read { (result ≡ Err LinkFault.Read) ↔ (before < R.failure_count r.new) }
+    ensures write { result ≢ Err LinkFault.Write }
+    ensures spent { result ≡ Err LinkFault.Turns → turns.new ≡ 0 }
+{
+    let mut done = had;
+    while done < wanted {
+        if *turns == 0 {
+            return Err(LinkFault::Turns);
+        }
+        *turns -= 1;
+        match read_some(r, out, done, wanted, before)? {
+            Some(0) => return Ok(done),
+            Some(n) => done += n,
+            None => {}
+        }
+    }
+    Ok(done)
+}
+
 /// Reads until so many bytes have come or the stream has ended, and gives how many came.
 pub(crate) fn read_up_to<R: Read + Device>(
     r: &mut R,
@@ -100,19 +134,7 @@ pub(crate) fn read_up_to<R: Read + Device>(
     ensures write { result ≢ Err LinkFault.Write }
     ensures spent { result ≡ Err LinkFault.Turns → turns.new ≡ 0 }
 {
-    let mut done = 0;
-    while done < limit {
-        if *turns == 0 {
-            return Err(LinkFault::Turns);
-        }
-        *turns -= 1;
-        match read_some(r, out, done, limit, before)? {
-            Some(0) => return Ok(done),
-            Some(n) => done += n,
-            None => {}
-        }
-    }
-    Ok(done)
+    read_on(r, out, 0, limit, before, turns)
 }
 
 /// Whether the stream has ended. One byte more is taken from it at most.

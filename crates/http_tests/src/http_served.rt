@@ -9,18 +9,18 @@ use std::test::Fail;
 
 /// Two tenants, acme and beta. It notes how often it was asked, and whether that was the question that it waits for.
 #[derive(Drop)]
-struct Desk {
+pub(crate) struct Desk {
     kind: Kind,
     tenant: usize,
     body: &'static [u8],
     status: u16,
     answer: &'static [u8],
-    questions: u32,
+    pub(crate) questions: u32,
     is_right: bool,
 }
 
 impl Desk {
-    fn new(kind: Kind, tenant: usize) -> Desk {
+    pub(crate) fn new(kind: Kind, tenant: usize) -> Desk {
         Desk {
             kind,
             tenant,
@@ -43,7 +43,7 @@ impl Desk {
         self.status
     }
 
-    fn was_asked(&self) -> bool {
+    pub(crate) fn was_asked(&self) -> bool {
         self.questions == 1 && self.is_right
     }
 }
@@ -83,7 +83,8 @@ impl Service for Desk {
     }
 }
 
-const BAD: &[u8] = b"HTTP/1.1 400 Bad Request\r\nContent-Length: 0\r\nConnection: close\r\n\r\n";
+pub(crate) const BAD: &[u8] =
+    b"HTTP/1.1 400 Bad Request\r\nContent-Length: 0\r\nConnection: close\r\n\r\n";
 
 const UNAUTHORIZED: &[u8] =
     b"HTTP/1.1 401 Unauthorized\r\nWWW-Authenticate: Bearer\r\nContent-Length: 0\r\nConnection: close\r\n\r\n";
@@ -99,12 +100,12 @@ const NO_LENGTH: &[u8] =
 const LARGE: &[u8] =
     b"HTTP/1.1 413 Content Too Large\r\nContent-Length: 0\r\nConnection: close\r\n\r\n";
 
-const CONTINUE: &[u8] = b"HTTP/1.1 100 Continue\r\n\r\n";
+pub(crate) const CONTINUE: &[u8] = b"HTTP/1.1 100 Continue\r\n\r\n";
 
-const KEPT: &[u8] =
+pub(crate) const KEPT: &[u8] =
     b"HTTP/1.1 200 OK\r\nContent-Type: application/octet-stream\r\nContent-Length: 5\r\n\r\nreply";
 
-const CLOSED: &[u8] =
+pub(crate) const CLOSED: &[u8] =
     b"HTTP/1.1 200 OK\r\nContent-Type: application/octet-stream\r\nContent-Length: 5\r\nConnection: close\r\n\r\nreply";
 
 const LINES: &[u8] =
@@ -298,7 +299,7 @@ static ASKED: [(&[u8], &[u8], Kind, usize, bool); 13] = [
     ),
 ];
 
-const POSTED: &[u8] =
+pub(crate) const POSTED: &[u8] =
     b"POST /ilp/acme HTTP/1.1\r\nContent-Length: 5\r\nAuthorization: Bearer tok-Bob\r\n\r\nframe";
 
 fn request(alloc: Global, line: &[u8], minor: u8, fields: &[u8]) -> Result<Vec<u8>, Fail> {

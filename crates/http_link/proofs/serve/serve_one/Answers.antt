@@ -23,7 +23,7 @@ returns-in-Whole-clause-exact g c stream head rest e begins =
     let text = c.read_request_head.new.text in
     let lines = c.read_request_head.new.lines in
     let taken : IsTaken (g.R.Read.remaining c.args.r.now) (g.R.Read.remaining c.read_request_head.new.r) text lines c.in-Whole.spans = rw c.in-Whole.is at c.in_ok-read_request_head.ensures.head in
-    head_served c.serve_head.result (g.S.Service.tenant_of c.args.service.now) (head_at c.head_in-head.result) (g.R.Read.remaining c.read_request_head.new.r) _ head rest
+    head_served c.serve_head.result (g.S.Service.tenant_of c.args.service.now) (head_at c.head_in-head.result) (g.R.Read.remaining c.read_request_head.new.r) (g.R.Read.remaining c.serve_head.new.r) _ head rest
     (taken_is (head_at c.head_in-head.result) (g.R.Read.remaining c.args.r.now) (g.R.Read.remaining c.read_request_head.new.r) text stream lines c.in-Whole.spans head rest
     (omega arith) (omega arith) taken c.head_in-head.ensures e begins) c.serve_head.ensures.runs
 
@@ -45,4 +45,4 @@ returns-in-Whole-clause-turned_away g c stream e none =
     absurd (none taken.is.head front.0 front.2)
 
 pub returns-in-Whole-clause-asked_once : goal.returns-in-Whole-clause-asked_once
-returns-in-Whole-clause-asked_once g c = asks_once _ _ _ _ _ c.serve_head.ensures.asks
+returns-in-Whole-clause-asked_once g c = asks_once _ _ _ _ _ _ c.serve_head.ensures.asks

@@ -1,11 +1,11 @@
 use Rattle.std.proofs.Common.{◌≡◌, ◌≤◌, length, take}
-use Rattle.std.specs.Io.KnownBytes.{Consumes}
-use Rattle.http_link.proofs.streams.read_up_to.Given as goal
+use Rattle.http_link.proofs.Known.{CameBehind}
+use Rattle.http_link.proofs.streams.read_on.Given as goal
 
 abbrev pub invariant-loop-done : goal.invariant-loop-done
 invariant-loop-done g l = record {
-  taken : Consumes (g.R.Read.remaining l.fn.r) (g.R.Read.remaining l.r) (take l.done l.out);
-  bound : l.done ≤ l.limit;
+  came : CameBehind (g.R.Read.remaining l.fn.r) (g.R.Read.remaining l.r) (take l.had l.fn.out) l.wanted l.done l.out;
+  bound : l.done ≤ length l.out;
   len : length l.out ≡ length l.fn.out;
   unfailed : g.R.Device.failure_count l.r ≤ l.before;
 }

@@ -1,0 +1,132 @@
+-- From a head that was found in what has come to what serving the next request of a connection does.
+use Rattle.std.proofs.Common.{◌≡◌, inl, inr, ℕ, ◌≤◌, List, [], ◌++◌, length, take, drop, refl, sym, ap, subst, ◌∙◌, arith, append_assoc, length-take, length-drop, take-append-drop, Option, Result, Ok, Err, IfOk, Bool, false, ◌∷◌, length-append}
+use Rattle.std.proofs.KnownBytes.{Consumes-trans}
+use Rattle.httparse.specs.declared.spans.HeaderSpan.{HeaderSpan}
+use Rattle.httparse.specs.declared.spans.RequestSpans.{RequestSpans}
+use Rattle.httparse.specs.Grammar.{ReadsRequest}
+use Rattle.httparse.proofs.GrammarLemmas.{ReadsRequest-append}
+use lib.Seq.{drop-append-le}
+use Rattle.std.proofs.lemmas.List.{take-append-le}
+use Rattle.http_link.specs.Connections.{AreAskedBy, AsksIt, AsksNext, IsAskedBy, ServesNext}
+use Rattle.http_link.specs.Heads.{BeginsWith, Head, head_of}
+use Rattle.http_link.specs.Lines.{head_in}
+use Rattle.http_link.specs.Reading.{HeadIsFound, IsRequest}
+use Rattle.http_link.specs.Requests.{Wanted, closes, wanted_of}
+use Rattle.http_link.specs.Running.{AsksWanted, Runs}
+use Rattle.http_link.specs.Serving.{Asked, IsAskedOnly, IsServed, Traces, asking}
+use Rattle.http_link.specs.declared.head.Offered.TheVariants.{Whole}
+use Rattle.http_link.specs.declared.serve.Served.{Served}
+use Rattle.http_link.specs.declared.streams.LinkFault.{LinkFault}
+use Rattle.http_link.proofs.Heads.{nothing_left}
+use Rattle.http_link.proofs.Serving.{head_said}
+
+-- a head that stands at the front of bytes begins them, with whatever follows
+begins_here : (has more : List ℕ) (lines : List HeaderSpan) (spans : RequestSpans) → spans.len ≤ length has → spans.len ≤ 8192 → length lines ≡ 64
+    → (is : IsRequest (take spans.len has) lines spans) → BeginsWith (has ++ more) is.head (drop spans.len has ++ more)
+begins_here has more lines spans bound small room is =
+    let len = spans.len in
+    let text : List ℕ = take len has in
+    let at = is.at in
+    let few = is.few in
+    let printed = at.len in
+    let behind : drop len text ≡ [] = nothing_left (drop len text) (omega (arith, length-drop len text, length-take len has)) in
+    let whole = ReadsRequest-append text is.head (drop len text) (drop len has ++ more) at.reads in
+    let parts : text ++ (drop len has ++ more) ≡ has ++ more = sym (append_assoc text (drop len has) more) ∙ ap (λ (w : List ℕ). w ++ more) (take-append-drop len has) in
+    record {
+      reads = subst (λ (w : List ℕ). ReadsRequest w is.head (drop len has ++ more)) parts
+          (subst (λ (w : List ℕ). ReadsRequest (text ++ (drop len has ++ more)) is.head (w ++ (drop len has ++ more))) behind whole);
+      short = omega arith;
+      few = omega arith;
+    }
+
+-- what had come and came in two parts
+in_all : (had has one other : List ℕ) → has ≡ had ++ one → has ++ other ≡ had ++ (one ++ other)
+in_all had has one other e = ap (λ (w : List ℕ). w ++ other) e ∙ append_assoc had one other
+
+-- the head that was found begins all that came
+found_begins : (had : List ℕ) (old mid : Option (List ℕ)) (has other : List ℕ) (lines : List HeaderSpan) (spans : RequestSpans) → length lines ≡ 64
+    → (found : HeadIsFound had old mid has lines (Whole spans)) → BeginsWith (had ++ (found.came ++ other)) found.stands.2.head (drop spans.len has ++ other)
+found_begins had old mid has other lines spans room found =
+    subst (λ (w : List ℕ). BeginsWith w found.stands.2.head (drop spans.len has ++ other)) (in_all had has found.came other found.grew)
+    (begins_here has other lines spans found.stands.0 found.stands.1 room found.stands.2)
+
+-- what it says
+found_says : (had : List ℕ) (old mid : Option (List ℕ)) (has text : List ℕ) (lines : List HeaderSpan) (spans : RequestSpans) → text ≡ take spans.len has
+    → (found : HeadIsFound had old mid has lines (Whole spans)) → head_in text lines spans ≡ head_of found.stands.2.head
+found_says had old mid has text lines spans same found =
+    head_said (head_in text lines spans) (take spans.len has) lines spans found.stands.2.head (ap (λ (t : List ℕ). head_in t lines spans) same) found.stands.2.at
+
+-- what is done with the head that was found is what serving the next request does
+pub found_next : (r : Result Served LinkFault) (tenant_of : List ℕ → Option ℕ) (had : List ℕ) (old mid new : Option (List ℕ)) (has text : List ℕ) (lines : List HeaderSpan)
+    (spans : RequestSpans) (traces : Traces) → length lines ≡ 64 → text ≡ take spans.len has → HeadIsFound had old mid has lines (Whole spans)
+    → IfOk r (Runs (wanted_of tenant_of (head_in text lines spans)) (head_in text lines spans) (drop spans.len has) mid new traces) → IfOk r (ServesNext tenant_of had old new traces)
+found_next (Err fault) tenant_of had old mid new has text lines spans traces room same found runs = tt
+found_next (Ok served) tenant_of had old mid new has text lines spans traces room same found runs =
+    record {
+      came = found.came ++ runs.came;
+      taken = Consumes-trans old mid new found.came runs.came found.taken runs.taken.taken;
+      so = inl (record {
+        head = found.stands.2.head;
+        rest = drop spans.len has ++ runs.came;
+        begins = found_begins had old mid has runs.came lines spans room found;
+        is_served = subst (λ (h : Head). IsServed (wanted_of tenant_of h) h (drop spans.len has ++ runs.came) traces served) (found_says had old mid has text lines spans same found) runs.so;
+      });
+      ended = runs.ended;
+    }
+
+-- and what is asked for it is what the next request asks
+pub found_asks : (tenant_of : List ℕ → Option ℕ) (had : List ℕ) (old mid new : Option (List ℕ)) (has text : List ℕ) (lines : List HeaderSpan) (spans : RequestSpans)
+    (Unasked : Type 0) (Asks : Asked → Type 0) → length lines ≡ 64 → text ≡ take spans.len has → HeadIsFound had old mid has lines (Whole spans)
+    → AsksWanted (wanted_of tenant_of (head_in text lines spans)) (drop spans.len has) mid new Unasked Asks → AsksNext tenant_of had old new Unasked Asks
+found_asks tenant_of had old mid new has text lines spans Unasked Asks room same found (inl none) = inl none
+found_asks tenant_of had old mid new has text lines spans Unasked Asks room same found (inr once) =
+    inr (by_wanted (wanted_of tenant_of (head_of found.stands.2.head)) refl
+    (subst (λ (h : Head). IsAskedOnly (wanted_of tenant_of h) (drop spans.len has ++ once.0) ⊥ Asks) (found_says had old mid has text lines spans same found) once.2))
+  where
+    by_wanted : (want : Result Wanted ℕ) → wanted_of tenant_of (head_of found.stands.2.head) ≡ want → IsAskedOnly want (drop spans.len has ++ once.0) ⊥ Asks
+        → AsksIt tenant_of had old new Asks
+    by_wanted (Err status) is asks = absurd asks
+    by_wanted (Ok wanted) is (inl none) = absurd none
+    by_wanted (Ok wanted) is (inr asks) = record {
+      came = found.came ++ once.0;
+      taken = Consumes-trans old mid new found.came once.0 found.taken once.1.taken;
+      asked = asking wanted (take wanted.size (drop spans.len has ++ once.0)) asks.1.0;
+      left = drop wanted.size (drop spans.len has ++ once.0);
+      last = closes (head_of found.stands.2.head);
+      by = record {
+        head = found.stands.2.head;
+        rest = drop spans.len has ++ once.0;
+        begins = found_begins had old mid has once.0 lines spans room found;
+        wanted = wanted;
+        wants = is;
+        whole = asks.0;
+        asks = refl;
+        behind = refl;
+        is_last = refl;
+      };
+      asks = asks.1.1;
+    }
+
+-- a request asks the same where more bytes follow
+asked_more : (tenant_of : List ℕ → Option ℕ) (bytes more : List ℕ) (asked : Asked) (left : List ℕ) (last : Bool) → IsAskedBy tenant_of bytes asked left last
+    → IsAskedBy tenant_of (bytes ++ more) asked (left ++ more) last
+asked_more tenant_of bytes more asked left last h =
+    let whole = h.whole in
+    record {
+      head = h.head;
+      rest = h.rest ++ more;
+      begins = record { reads = ReadsRequest-append bytes h.head h.rest more h.begins.reads; short = h.begins.short; few = h.begins.few };
+      wanted = h.wanted;
+      wants = h.wants;
+      whole = omega (arith, length-append h.rest more);
+      asks = h.asks ∙ ap (λ (body : List ℕ). asking h.wanted body asked.status) (sym (take-append-le h.wanted.size h.rest more whole));
+      behind = ap (λ (w : List ℕ). w ++ more) h.behind ∙ sym (drop-append-le h.wanted.size h.rest more whole);
+      is_last = h.is_last;
+    }
+
+-- and so do many
+pub all_asked_more : (tenant_of : List ℕ → Option ℕ) (bytes more : List ℕ) (questions : List Asked) (left : List ℕ) (last : Bool)
+    → AreAskedBy tenant_of bytes questions left last → AreAskedBy tenant_of (bytes ++ more) questions (left ++ more) last
+all_asked_more tenant_of bytes more [] left last h = (ap (λ (w : List ℕ). w ++ more) h.0, h.1)
+all_asked_more tenant_of bytes more (asked ∷ earlier) left last h =
+    (h.0 ++ more, all_asked_more tenant_of bytes more earlier h.0 false h.1, asked_more tenant_of h.0 more asked left last h.2)

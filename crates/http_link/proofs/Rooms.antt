@@ -1,0 +1,85 @@
+-- Bytes that are held in a room.
+use Rattle.std.proofs.Common.{◌≡◌, ◌≤◌, ◌+◌, ◌-◌, ◌++◌, Bool, true, false, nat_lt, ltb-true, ltb-false, List, [], ℕ, length, take, drop, Option, Some, Ok, sym, ap, subst, ◌∙◌, arith, length-take, length-drop}
+use lib.Seq.{paste}
+use Rattle.std.proofs.Math.Seq.{drop-append-add, take-append-add}
+use Rattle.std.proofs.lemmas.List.{drop-take}
+use Rattle.std.proofs.lemmas.List.Edits.{take-paste}
+use Rattle.http_link.specs.declared.held.Held.{Held}
+use Rattle.http_link.specs.Running.{Came, held_in}
+use Rattle.http_link.specs.Requests.{Wanted}
+use Rattle.http_link.specs.Serving.{kept_unless}
+use Rattle.std.proofs.KnownBytes.{Consumes-trans}
+use Rattle.std.specs.Io.KnownBytes.{Consumes}
+use Rattle.http_link.specs.Connections.{Awaits}
+use Rattle.http_link.specs.Streams.{FillsOn, ReadsBehind}
+use Rattle.http_link.specs.declared.serve.Served.TheVariants.{Ended}
+use Rattle.http_link.proofs.Heads.{nothing_left}
+
+-- what is held from the front on
+pub held_front : (room : List ℕ) (h : Held) → h.from ≡ 0 → held_in room h ≡ take h.to room
+held_front room h zero = ap (λ n. drop n (take h.to room)) zero
+
+-- all that stands in a room, once it was filled on
+pub filled_all : (old new : Option (List ℕ)) (room : List ℕ) (h : Held) (wanted n : ℕ) (buffer : List ℕ) → h.from ≡ 0
+    → (fills : FillsOn old new (take h.to room) wanted buffer n) → held_in room h ++ fills.came ≡ take n buffer
+filled_all old new room h wanted n buffer zero fills =
+    ap (λ (had : List ℕ). had ++ fills.came) (held_front room h zero) ∙ sym fills.grew
+
+-- that came
+pub filled_came : (old new : Option (List ℕ)) (room : List ℕ) (h : Held) (wanted : Wanted) (n : ℕ) (buffer : List ℕ) → h.from ≡ 0
+    → (fills : FillsOn old new (take h.to room) wanted.size buffer n) → Came (Ok wanted) (held_in room h) old new fills.came
+filled_came old new room h wanted n buffer zero fills = record {
+  taken = fills.taken;
+  as_wanted = subst (λ (had : List ℕ). length fills.came ≤ wanted.size - length had) (sym (held_front room h zero)) fills.missing;
+}
+
+-- nothing of a front is left behind all of it
+pub all_used : (room : List ℕ) (n : ℕ) → n ≤ length room → drop n (take n room) ≡ []
+all_used room n le = nothing_left (drop n (take n room)) (omega (arith, length-drop n (take n room), length-take n room))
+
+-- a connection that is kept or closed has not ended
+pub never_ended : (closed : Bool) → kept_unless closed ≡ Ended → ⊥
+never_ended true e = absurd cc
+never_ended false e = absurd cc
+
+-- what lies behind a front, of a longer front
+pub behind_front : (room : List ℕ) (n to : ℕ) → n ≤ to → take (to - n) (drop n room) ≡ drop n (take to room)
+behind_front room n to le = sym (drop-take n (to - n) room) ∙ ap (λ k. drop n (take k room)) (omega arith)
+
+-- what is held, moved to the front
+pub moved_front : (room after : List ℕ) (h : Held) → h.from ≤ h.to → h.to ≤ length room → after ≡ paste room 0 (drop h.from room) (h.to - h.from)
+    → take (h.to - h.from) after ≡ held_in room h
+moved_front room after h ordered within is =
+    let size = h.to - h.from in
+    let plain : size ≡ 0 + size = omega arith in
+    ap (take size) is ∙ ap (λ k. take k (paste room 0 (drop h.from room) size)) plain ∙ take-paste room 0 (drop h.from room) size (omega arith) (omega (arith, length-drop h.from room))
+    ∙ behind_front room h.from h.to ordered
+
+-- what is held behind a text
+pub held_behind : (text rest : List ℕ) (len from to : ℕ) → length text ≡ len
+    → drop (len + from) (take (len + to) (text ++ rest)) ≡ drop from (take to rest)
+held_behind text rest len from to long =
+    ap (λ n. drop (n + from) (take (n + to) (text ++ rest))) (sym long)
+    ∙ ap (drop (length text + from)) (take-append-add text rest to) ∙ drop-append-add text (take to rest) from
+
+-- nothing is held where the places are in no order
+pub none_held : (room : List ℕ) (h : Held) → h.to ≤ h.from → held_in room h ≡ []
+none_held room h le = nothing_left (held_in room h) (omega (arith, length-drop h.from (take h.to room), length-take h.to room))
+
+-- what came where nothing was held
+pub first_came : (old between new : Option (List ℕ)) (before room after : List ℕ) (h now : Held) (limit n : ℕ) → h.to ≤ h.from → now.from ≡ 0 → now.to ≡ n
+    → limit ≤ length after → Consumes old between [] → ReadsBehind between new 0 limit room after (Some n) → Awaits (held_in before h) old new (held_in after now) (nat_lt 0 n)
+first_came old between new before room after h now limit n none from to within kept read =
+    let nothing = none_held before h none in
+    let bound = read.0 in
+    let plain : n ≡ 0 + n = omega arith in
+    let has : held_in after now ≡ take n after = held_front after now from ∙ ap (λ k. take k after) to in
+    let taken : take n after ≡ read.2.0 = ap (λ k. take k after) plain ∙ read.2.1 in
+    let long : length (held_in after now) ≡ n = ap length has ∙ omega (arith, length-take n after) in
+    record {
+      came = read.2.0;
+      grew = has ∙ taken ∙ ap (λ (w : List ℕ). w ++ read.2.0) (sym nothing);
+      taken = Consumes-trans old between new [] read.2.0 kept read.2.2;
+      some = λ more. let lt = ltb-true 0 n more in omega arith;
+      ended = λ over. let le = ltb-false 0 n over in (nothing_left (held_in after now) (omega arith), read.1 (omega arith));
+    }

@@ -1,0 +1,34 @@
+use Rattle.std.proofs.Common.{List, ℕ, take, subst, sym, arith, length-take, take-take}
+use Rattle.http_link.specs.Reading.{HeadIsFound}
+use Rattle.http_link.specs.Running.{held_in}
+use Rattle.http_link.specs.declared.head.Offered.TheVariants.{Whole}
+use Rattle.http_link.proofs.Connections.{found_asks, found_next}
+use Rattle.http_link.proofs.inbox.serve_held.Goals as goal
+
+pub returns-in-Whole-clause-serves : goal.returns-in-Whole-clause-serves
+returns-in-Whole-clause-serves g c =
+    let room : List ℕ = c.find_request_head.new.room in
+    let there = c.find_request_head.new.had in
+    let lines = c.find_request_head.new.lines in
+    let spans = c.in-Whole.spans in
+    let told : HeadIsFound (take c.move_to_front.new.held.to c.move_to_front.new.room) (g.R.Read.remaining c.args.r.now) (g.R.Read.remaining c.find_request_head.new.r) (take there room) lines (Whole spans) =
+    rw c.in-Whole.is at c.in_ok-find_request_head.ensures.found in
+    let found : HeadIsFound (held_in c.args.room.now c.args.held.now) (g.R.Read.remaining c.args.r.now) (g.R.Read.remaining c.find_request_head.new.r) (take there room) lines (Whole spans) =
+    subst (λ (had : List ℕ). HeadIsFound had (g.R.Read.remaining c.args.r.now) (g.R.Read.remaining c.find_request_head.new.r) (take there room) lines (Whole spans)) c.move_to_front.ensures.same told in
+    let bound = found.stands.0 in
+    found_next c.serve_found.result (g.S.Service.tenant_of c.args.service.now) _ _ _ _ (take there room) (take spans.len room) lines spans _ (omega arith)
+    (sym (take-take spans.len there room (omega (arith, length-take there room)))) found c.serve_found.ensures.runs
+
+pub returns-in-Whole-clause-asks : goal.returns-in-Whole-clause-asks
+returns-in-Whole-clause-asks g c =
+    let room : List ℕ = c.find_request_head.new.room in
+    let there = c.find_request_head.new.had in
+    let lines = c.find_request_head.new.lines in
+    let spans = c.in-Whole.spans in
+    let told : HeadIsFound (take c.move_to_front.new.held.to c.move_to_front.new.room) (g.R.Read.remaining c.args.r.now) (g.R.Read.remaining c.find_request_head.new.r) (take there room) lines (Whole spans) =
+    rw c.in-Whole.is at c.in_ok-find_request_head.ensures.found in
+    let found : HeadIsFound (held_in c.args.room.now c.args.held.now) (g.R.Read.remaining c.args.r.now) (g.R.Read.remaining c.find_request_head.new.r) (take there room) lines (Whole spans) =
+    subst (λ (had : List ℕ). HeadIsFound had (g.R.Read.remaining c.args.r.now) (g.R.Read.remaining c.find_request_head.new.r) (take there room) lines (Whole spans)) c.move_to_front.ensures.same told in
+    let bound = found.stands.0 in
+    found_asks (g.S.Service.tenant_of c.args.service.now) _ _ _ _ (take there room) (take spans.len room) lines spans _ _ (omega arith)
+    (sym (take-take spans.len there room (omega (arith, length-take there room)))) found c.serve_found.ensures.asks

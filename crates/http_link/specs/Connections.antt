@@ -1,0 +1,94 @@
+-- Requests of a connection, one after another, on the bytes that come.
+use Rattle.std.specs.Prelude.{◌≡◌, ◌<◌, ◌≤◌, ◌⊎◌, ℕ, List, [], ◌∷◌, ◌++◌, length, take, drop, Bool, true, false, Option, Ok, Err}
+use Rattle.std.specs.Io.KnownBytes.{Consumes, IsAtEnd}
+use Rattle.httparse.specs.Grammar.{RequestHead}
+use Rattle.http_link.specs.declared.serve.Served.{Served}
+use Rattle.http_link.specs.declared.serve.Served.TheVariants.{Closed, Ended, Kept}
+use Rattle.http_link.specs.Heads.{BeginsWith, head_of}
+use Rattle.http_link.specs.Requests.{Wanted, closes, wanted_of}
+use Rattle.http_link.specs.Serving.{Asked, Traces, IsServed, WritesNothingOr400, asking}
+
+-- ---- one request
+
+-- bytes begin with a head within the limits, which was served
+pub record HeadServed (tenant_of : List ℕ → Option ℕ) (bytes : List ℕ) (traces : Traces) (served : Served) : Type 0 where
+  pub head : RequestHead
+  pub rest : List ℕ
+  pub begins : BeginsWith bytes head rest
+  pub is_served : IsServed (wanted_of tenant_of (head_of head)) (head_of head) rest traces served
+
+-- bytes begin with none, and were turned away
+pub record TurnedAway (bytes : List ℕ) (traces : Traces) (served : Served) : Type 0 where
+  pub none : (head : RequestHead) (rest : List ℕ) → BeginsWith bytes head rest → ⊥
+  pub unasked : traces.Unasked
+  pub written : WritesNothingOr400 traces.Writes served
+
+-- More bytes came on a connection behind those that there were, and the request that all of them begin with was served; where
+-- it isn't whole, no more are left.
+pub record ServesNext (tenant_of : List ℕ → Option ℕ) (had : List ℕ) (old new : Option (List ℕ)) (traces : Traces) (served : Served) : Type 0 where
+  pub came : List ℕ
+  pub taken : Consumes old new came
+  pub so : HeadServed tenant_of (had ++ came) traces served ⊎ TurnedAway (had ++ came) traces served
+  pub ended : served ≡ Ended → IsAtEnd new
+
+-- ---- questions
+
+-- Bytes begin with a request that nothing refuses, whole: it asks this, and that is left behind it. It may be the last one of
+-- its connection.
+pub record IsAskedBy (tenant_of : List ℕ → Option ℕ) (bytes : List ℕ) (asked : Asked) (left : List ℕ) (last : Bool) : Type 0 where
+  pub head : RequestHead
+  pub rest : List ℕ
+  pub begins : BeginsWith bytes head rest
+  pub wanted : Wanted
+  pub wants : wanted_of tenant_of (head_of head) ≡ Ok wanted
+  pub whole : wanted.size ≤ length rest
+  pub asks : asked ≡ asking wanted (take wanted.size rest) asked.status
+  pub behind : left ≡ drop wanted.size rest
+  pub is_last : last ≡ closes (head_of head)
+
+-- the request was asked that the bytes begin with, once more of them had come
+pub record AsksIt (tenant_of : List ℕ → Option ℕ) (had : List ℕ) (old new : Option (List ℕ)) (Asks : Asked → Type 0) : Type 0 where
+  pub came : List ℕ
+  pub taken : Consumes old new came
+  pub asked : Asked
+  pub left : List ℕ
+  pub last : Bool
+  pub by : IsAskedBy tenant_of (had ++ came) asked left last
+  pub asks : Asks asked
+
+-- at most that
+abbrev pub AsksNext : (tenant_of : List ℕ → Option ℕ) → (had : List ℕ) → (old new : Option (List ℕ)) → Type 0 → (Asked → Type 0) → Type 0
+AsksNext tenant_of had old new Unasked Asks = Unasked ⊎ AsksIt tenant_of had old new Asks
+
+-- The questions, the latest first, are those of the requests that the bytes of a connection begin with: each by the bytes
+-- behind the one before it, none passed over, and none behind the last one. That is left behind the latest.
+abbrev pub AreAskedBy : (tenant_of : List ℕ → Option ℕ) → (bytes : List ℕ) → List Asked → (left : List ℕ) → (last : Bool) → Type 0
+AreAskedBy tenant_of bytes [] left last = (left ≡ bytes) × (last ≡ false)
+AreAskedBy tenant_of bytes (asked ∷ earlier) left last =
+    (before : List ℕ) × AreAskedBy tenant_of bytes earlier before false × IsAskedBy tenant_of before asked left last
+
+-- ---- the end
+
+-- what bytes begin with is no head within the limits, or one that is refused
+abbrev pub IsTurnedAway : (List ℕ → Option ℕ) → List ℕ → Type 0
+IsTurnedAway tenant_of bytes =
+    ((head : RequestHead) (rest : List ℕ) → BeginsWith bytes head rest → ⊥)
+    ⊎ ((head : RequestHead) × (rest : List ℕ) × (status : ℕ) × BeginsWith bytes head rest
+    × (wanted_of tenant_of (head_of head) ≡ Err status))
+
+-- How a connection came to its end, on which that is left: no more bytes came; or its last request closed it, or the next one was
+-- turned away.
+abbrev pub IsOver : (List ℕ → Option ℕ) → Served → (left : List ℕ) → (last : Bool) → Option (List ℕ) → Type 0
+IsOver tenant_of Ended left last known = IsAtEnd known
+IsOver tenant_of Closed left last known = (last ≡ true) ⊎ IsTurnedAway tenant_of left
+IsOver tenant_of Kept left last known = ⊥
+
+-- ---- waiting
+
+-- Something waits, or nothing does and no more is left; what has come stands behind what there was.
+pub record Awaits (had : List ℕ) (old new : Option (List ℕ)) (has : List ℕ) (more : Bool) : Type 0 where
+  pub came : List ℕ
+  pub grew : has ≡ had ++ came
+  pub taken : Consumes old new came
+  pub some : more ≡ true → 0 < length has
+  pub ended : more ≡ false → (has ≡ []) × IsAtEnd new

@@ -1,0 +1,13 @@
+-- What contracts see of an inbox, and what it keeps.
+use Rattle.std.specs.Prelude.{ℕ, ◌≤◌, List}
+use Rattle.http_link.specs.Running.{held_in}
+use Rattle.http_link.specs.declared.inbox.Inbox.TheInside.{Inside}
+
+-- the bytes that have come and were not served
+abbrev pub waiting_in : Inside → List ℕ
+waiting_in i = held_in i.room i.held
+
+-- they stand in the room
+pub record IsKept (i : Inside) : Type 0 where
+  pub ordered : i.held.from ≤ i.held.to
+  pub within : i.held.to ≤ 42_192
