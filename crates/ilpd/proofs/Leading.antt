@@ -1,8 +1,10 @@
--- Questions that follow one another.
-use Rattle.std.proofs.Common.{ℕ, ◌≡◌, ◌⊎◌, inl, inr, ◌++◌, ◌∷◌, [], List, subst, sym, refl, ap}
+-- Questions that follow one another, on a connection and on many.
+use Rattle.std.proofs.Common.{ℕ, ◌++◌, ◌∷◌, [], List, Option, subst, sym, refl, append-nil}
+use Rattle.std.proofs.lemmas.Grind.{flat_map-append}
+use Rattle.std.proofs.lemmas.List.Elements.{All-nil, All-append, All-cons}
 use Rattle.one_list.specs.declared.run.Run.{Ghosts}
 use Rattle.http_link.specs.Serving.{Asked}
-use Rattle.ilpd.specs.Answering.{HasAnswered, HasAnsweredAll, HasServed}
+use Rattle.ilpd.specs.Answering.{HasAnsweredAll, HasHeard, HasServed, IsAsked}
 use Rattle.ilpd.specs.declared.desk.Desk.{Desk}
 use Rattle.ilpd.specs.declared.office.Office.{Office}
 
@@ -14,16 +16,20 @@ left_then Gives office a b c earlier (asked ∷ later) ab bc =
 
 pub served_then : {J : Type 0} {r : Ghosts J} (Gives : ℕ → Type 0) (office : Office J r) (a b c : Desk J r) → HasServed Gives office a b → HasServed Gives office b c → HasServed Gives office a c
 served_then Gives office a b c ab bc = record {
-  questions = bc.questions ++ ab.questions;
-  left = left_then Gives office a b c ab.questions bc.questions ab.left bc.left;
+  connections = bc.connections ++ ab.connections;
+  asked = All-append (IsAsked office) bc.connections ab.connections bc.asked ab.asked;
+  left = subst (λ questions. HasAnsweredAll Gives office a questions c) (sym (flat_map-append (λ connection. connection.questions) bc.connections ab.connections))
+      (left_then Gives office a b c _ _ ab.left bc.left);
 }
 
 pub served_nothing : {J : Type 0} {r : Ghosts J} (Gives : ℕ → Type 0) (office : Office J r) (a : Desk J r) → HasServed Gives office a a
-served_nothing Gives office a = record { questions = []; left = refl }
+served_nothing Gives office a = record { connections = []; asked = All-nil (IsAsked office); left = refl }
 
--- after at most one question
-pub served_once : {W J : Type 0} {r : Ghosts J} (Gives : ℕ → Type 0) (office : Office J r) (a b : W) (desk : W → Desk J r) (SameOffice SameClock : Type 0)
-    → (b ≡ a) ⊎ ((asked : Asked) × (SameOffice × SameClock × HasAnswered Gives office (desk a) asked (desk b))) → HasServed Gives office (desk a) (desk b)
-served_once Gives office a b desk SameOffice SameClock (inl same) = record { questions = []; left = ap desk same }
-served_once Gives office a b desk SameOffice SameClock (inr one) =
-    record { questions = one.0 ∷ []; left = (desk a, refl, one.1.2) }
+-- what was heard on a connection was served
+pub heard_served : {J : Type 0} {r : Ghosts J} (Gives : ℕ → Type 0) (office : Office J r) (a b : Desk J r) (old new : Option (List ℕ)) (result : _)
+    → HasHeard Gives office a old new result b → HasServed Gives office a b
+heard_served Gives office a b old new result h = record {
+  connections = h.connection ∷ [];
+  asked = All-cons (IsAsked office) h.connection [] (h.left, h.last, h.asked) (All-nil (IsAsked office));
+  left = subst (λ questions. HasAnsweredAll Gives office a questions b) (sym (append-nil h.connection.questions)) h.answered;
+}

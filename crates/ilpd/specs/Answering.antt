@@ -1,10 +1,10 @@
--- What a worker answers to a question, what it counts with it, and what many questions leave of a worker.
+-- What a worker answers to a question, what it counts with it, and what connections leave of a worker.
 use Rattle.std.specs.Prelude.{ℕ, ◌≡◌, ◌+◌, ◌<◌, ◌-◌, ◌==◌, ◌⊎◌, ◌↔◌, true, false, Bool, List, [], ◌∷◌, ◌++◌, length, take, map, nat_lt}
-use Rattle.std.specs.Prelude.{slice_index_or, if◌then◌else◌, Option, Result, Ok, Err, is_ok}
-use Rattle.std.specs.List.{sum_by}
+use Rattle.std.specs.Prelude.{slice_index_or, if◌then◌else◌, Option, Result, Ok, Err, IfOk, is_ok}
+use Rattle.std.specs.List.{flat_map, sum_by}
 use Rattle.std.specs.Prelude.{All}
 use Rattle.std.specs.Str.{bytes_eq}
-use Rattle.std.specs.Io.KnownBytes.{Appends}
+use Rattle.std.specs.Io.KnownBytes.{Appends, Consumes}
 use Rattle.std.specs.declared.marker.Brand.{Brand}
 use Rattle.common_types.specs.Token.{is_token}
 use Rattle.ilp_view.specs.Reading.{prepare_at}
@@ -22,7 +22,7 @@ use Rattle.books_shared.specs.Traced.{HaveListOf, openings_of}
 use Rattle.floor_core.specs.Work.{loaded}
 use Rattle.floor_core.specs.declared.step.Output.TheVariants.{Governed}
 use Rattle.workers.specs.Carrying.{IsCarried, IsDone, growth}
-use Rattle.workers.specs.Counting.{HasCounted, IsSpent, Rises, command_kind, command_rise, reply_tallied, tallied}
+use Rattle.workers.specs.Counting.{IsSpent, command_kind, reply_tallied, tallied}
 use Rattle.workers.specs.Replies.{code_of, sends_of, status_of}
 use Rattle.workers.specs.declared.governing.GovernFault.{GovernFault}
 use Rattle.workers.specs.declared.governing.GovernFault.TheVariants.{Spent, Stray, Refused}
@@ -35,12 +35,15 @@ use Rattle.admin_text.specs.Commands.{command_in}
 use Rattle.admin_text.specs.declared.setup.Setup.{Setup}
 use Rattle.admin_text.specs.declared.commands.TextFault.{TextFault}
 use Rattle.replay_text.specs.Printed.{printed_lines}
+use Rattle.http_link.specs.Connections.{AreAskedBy, IsOver}
 use Rattle.http_link.specs.Serving.{Asked}
 use Rattle.http_link.specs.declared.request.Kind.{Kind}
 use Rattle.http_link.specs.declared.request.Kind.TheVariants.{Ilp, Admin}
+use Rattle.http_link.specs.declared.serve.Served.{Served}
+use Rattle.http_link.specs.declared.streams.LinkFault.{LinkFault}
 use Rattle.ilpd.specs.declared.desk.Desk.{Desk}
 use Rattle.ilpd.specs.declared.office.Office.{Office}
-use Rattle.ilpd.specs.Served.{lines_upto}
+use Rattle.ilpd.specs.Served.{lines_upto, tenant_named}
 use Rattle.ilpd.specs.Standing.{balance_lines}
 
 -- nothing is counted, sent or carried
@@ -52,9 +55,9 @@ pub record IsUntouched {J : Type 0} {r : Ghosts J} (before after : Desk J r) : T
 
 -- ---- a packet
 
--- A packet was carried, by the book of its tenant, counted in the books' share and at the meters, and answered with the
--- status of its reply. Each record that the book made with it is the next step of the worker's part of the one list, and no
--- other step came to that part. A token that is none and a frame that is no Prepare get no further, and nothing does where
+-- A packet was carried, by the book of its tenant, counted at the meters, and answered with the status of its reply. The
+-- books' share has grown by each call of the book: it counts what the book did, and each record that the book made is the next
+-- step of the worker's part of the one list; no other step came to that part. A token that is none and a frame that is no Prepare get no further, and nothing does where
 -- no more may be counted or sent. Books were asked at moments that the clock gave.
 pub record WasCarried {J : Type 0} {r : Ghosts J} (Gives : ℕ → Type 0) (before : Desk J r) (tenant : ℕ) (token frame : List ℕ) (told : Status)
     (after : Desk J r) : Type 0 where
@@ -67,7 +70,6 @@ pub record WasCarried {J : Type 0} {r : Ghosts J} (Gives : ℕ → Type 0) (befo
   pub sent : after.sent ≡ before.sent + sends_of reply
   pub carried : IsCarried Gives reply (growth tenant before.share after.share) (loaded before.slot tenant token frame) after.slot
       (λ sending. Unit {0})
-  pub counted : HasCounted reply tenant after.slot.reply before.share after.share
   pub metered : after.seat ≡ reply_tallied tenant reply before.seat
 
 -- ---- a command
@@ -90,15 +92,14 @@ IsTold office tenant (Err Stray) told printed = told ≡ status.Unavailable
 IsTold office tenant (Err (Refused Memory)) told printed = told ≡ status.Unavailable
 IsTold office tenant (Err (Refused fault)) told printed = IsPrinted office tenant (Err fault) told printed
 
--- A command was done, or refused, by the book of the tenant, counted in the books' share and at the meters, and told. The
--- record that the book made is the next step of the worker's part of the one list, and no other step came to that part. No
+-- A command was done, or refused, by the book of the tenant, counted at the meters, and told. The books' share has grown by
+-- it: the record that the book made is the next step of the worker's part of the one list, and no other step came to it. No
 -- book was asked exactly where no more may be counted, and else at a moment that the clock gave.
 pub record WasGoverned {J : Type 0} {r : Ghosts J} (Gives : ℕ → Type 0) (office : Office J r) (before : Desk J r) (tenant : ℕ) (given : Command) (told : Status)
     (after : Desk J r) : Type 0 where
   pub answer : Result Answered GovernFault
   pub spent : answer ≡ Err Spent ↔ is_spent before.share ≡ true
   pub done : IsDone Gives answer (growth tenant before.share after.share) given
-  pub counted : Rises (command_rise answer) tenant before.share after.share
   pub metered : after.seat ≡ tallied tenant (command_kind answer) before.seat
   pub slot : after.slot ≡ before.slot
   pub sent : after.sent ≡ before.sent
@@ -156,10 +157,39 @@ HasAnsweredAll Gives office before [] after = after ≡ before
 HasAnsweredAll {J} {r} Gives office before (asked ∷ earlier) after =
     (desk : Desk J r) × HasAnsweredAll Gives office before earlier desk × HasAnswered Gives office desk asked after
 
--- a desk after some questions
-pub record HasServed {J : Type 0} {r : Ghosts J} (Gives : ℕ → Type 0) (office : Office J r) (before after : Desk J r) : Type 0 where
+-- ---- connections
+
+-- the bytes that came on a connection, and the questions that they asked, the latest first
+pub record Connection : Type 0 where
+  pub came : List ℕ
   pub questions : List Asked
-  pub left : HasAnsweredAll Gives office before questions after
+
+-- the tenants of an office, by name
+abbrev pub tenants_of : {J : Type 0} {r : Ghosts J} → Office J r → List ℕ → Option ℕ
+tenants_of office name = tenant_named office.names.items name
+
+-- What was heard on a connection: its requests were answered in their order, none passed over and none behind the last one.
+-- Where no device failed all that came was taken, up to its end.
+pub record HasHeard {J : Type 0} {r : Ghosts J} (Gives : ℕ → Type 0) (office : Office J r) (before : Desk J r) (old new : Option (List ℕ))
+    (result : Result Served LinkFault) (after : Desk J r) : Type 0 where
+  pub connection : Connection
+  pub left : List ℕ
+  pub last : Bool
+  pub asked : AreAskedBy (tenants_of office) connection.came connection.questions left last
+  pub answered : HasAnsweredAll Gives office before connection.questions after
+  pub taken : IfOk result (λ served. Consumes old new connection.came)
+  pub over : IfOk result (λ served. IsOver (tenants_of office) served left last new)
+
+-- the questions of a connection are those of its requests, in their order, none passed over and none behind the last one
+abbrev pub IsAsked : {J : Type 0} {r : Ghosts J} → Office J r → Connection → Type 0
+IsAsked office connection =
+    (left : List ℕ) × (last : Bool) × AreAskedBy (tenants_of office) connection.came connection.questions left last
+
+-- a desk after some connections, the latest first: it has answered the questions of each, and no others
+pub record HasServed {J : Type 0} {r : Ghosts J} (Gives : ℕ → Type 0) (office : Office J r) (before after : Desk J r) : Type 0 where
+  pub connections : List Connection
+  pub asked : All (IsAsked office) connections
+  pub left : HasAnsweredAll Gives office before (flat_map (λ connection. connection.questions) connections) after
 
 -- ---- a service
 
@@ -172,23 +202,19 @@ pub record IsNew {J : Type 0} {r : Ghosts J} (desk : Desk J r) : Type 0 where
   pub share : IsFresh desk.share
   pub seat : (tenant : ℕ) (kind : meter.Kind) → count_of tenant kind desk.seat ≡ 0
 
--- any moment
-abbrev pub AnyMoment : ℕ → Type 0
-AnyMoment now = Unit {0}
-
--- a desk that its questions left
-pub record HasWorked {J : Type 0} {r : Ghosts J} (office : Office J r) (desk : Desk J r) : Type 0 where
+-- a desk that its connections left
+pub record HasWorked {J : Type 0} {r : Ghosts J} (Gives : ℕ → Type 0) (office : Office J r) (desk : Desk J r) : Type 0 where
   pub new : Desk J r
   pub is_new : IsNew new
-  pub served : HasServed AnyMoment office new desk
+  pub served : HasServed Gives office new desk
 
--- the desks of so many workers, as their questions left them, with these shares, and what they have counted in all
-pub record HaveCounted {J : Type 0} {r : Ghosts J} (office : Office J r) (workers : ℕ) (shares : List ShareView) (counts : ℕ → meter.Kind → ℕ)
+-- the desks of so many workers, as their connections left them, with these shares, and what they have counted in all
+pub record HaveCounted {J : Type 0} {r : Ghosts J} (Gives : ℕ → Type 0) (office : Office J r) (workers : ℕ) (shares : List ShareView) (counts : ℕ → meter.Kind → ℕ)
     : Type 0 where
   pub desks : List (Desk J r)
   pub each : length desks ≡ workers
   pub shares_are : map (λ desk. desk.share) desks ≡ shares
-  pub worked : All (HasWorked office) desks
+  pub worked : All (HasWorked Gives office) desks
   pub sums : (tenant : ℕ) (kind : meter.Kind) → tenant < office.books.tenants
       → counts tenant kind ≡ sum_by (λ desk. count_of tenant kind desk.seat) desks
 
@@ -201,15 +227,16 @@ pub record IsOfficeOf {J : Type 0} {r : Ghosts J} (setup : Setup) (office : Offi
   pub books : office.books.tenants ≡ length setup.tenants
 
 -- A service of a setup, of which that is the run, has written the balances of the books in the end, where they are wanted, and a
--- line for each tenant, of what so many workers have counted, as the questions that they were asked left them. And of all that
+-- line for each tenant, of what so many workers have counted, as the connections that each served left it, at moments that the
+-- clock gave. And of all that
 -- was done to the tenants' books there is one list, of which each worker's share has its part, and which is a run of a floor
 -- from the openings of the setup to the books in the end.
-pub record HasToldCountsIn {J : Type 0} (run : Ghosts J) (setup : Setup) (workers : ℕ) (balances : Bool) (old new : Option (List ℕ)) : Type 0 where
+pub record HasToldCountsIn {J : Type 0} (run : Ghosts J) (Gives : ℕ → Type 0) (setup : Setup) (workers : ℕ) (balances : Bool) (old new : Option (List ℕ)) : Type 0 where
   pub office : Office J run
   pub known : IsOfficeOf setup office
   pub totals : TotalsState
   pub shares : List ShareView
-  pub counted : HaveCounted office workers shares (λ tenant kind. total_of tenant kind totals)
+  pub counted : HaveCounted Gives office workers shares (λ tenant kind. total_of tenant kind totals)
   pub books : List (State × ℕ)
   pub told : Appends old new ((if balances then balance_lines office.names.items books else [])
       ++ lines_upto (length setup.tenants) office.names.items totals)
@@ -224,8 +251,8 @@ run_of table setup workers = record {
 }
 
 -- A service of a setup has written the balances in the end, where they are wanted, and a line for each tenant, of what so many
--- workers have counted, as the questions that they were asked left them; and all that they did is one list, a run of a floor
--- from the setup to the books in the end.
-abbrev pub HasToldCounts : Setup → (workers : ℕ) → (balances : Bool) → (old new : Option (List ℕ)) → Type 0
-HasToldCounts setup workers balances old new =
-    (table : TableId) × HasToldCountsIn (run_of table setup workers) setup workers balances old new
+-- workers have counted, as the connections that each served left it; and all that they did is one list, a run of a floor from the
+-- setup to the books in the end.
+abbrev pub HasToldCounts : (Gives : ℕ → Type 0) → Setup → (workers : ℕ) → (balances : Bool) → (old new : Option (List ℕ)) → Type 0
+HasToldCounts Gives setup workers balances old new =
+    (table : TableId) × HasToldCountsIn (run_of table setup workers) Gives setup workers balances old new

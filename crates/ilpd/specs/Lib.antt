@@ -4,3 +4,4 @@ pub mod CommandLine
 pub mod Answering
 pub mod Exchanges
 pub mod Endings
+pub mod Ahead

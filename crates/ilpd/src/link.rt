@@ -6,6 +6,7 @@ ghost use Rattle.ilp_view.specs.Reading.{prepare_at};
 ghost use Rattle.http_link.specs.Client.{Means, given, post_text};
 ghost use Rattle.ilpd.specs.Exchanges.{exchange_time};
 
+use crate::ahead::Ahead;
 use crate::office::Terms;
 use crate::timed::Timed;
 use floor_core::Got;
@@ -149,7 +150,7 @@ impl<H: Wait + Net<Stream = TcpStream> + Clock, C: workers::Clock> PeerLink<'_, 
         ensures { length out.new ≡ length out.old }
     {
         let stream = self.connect(target, until)?;
-        let mut reader = Timed::until(&stream, self.handle, until);
+        let mut reader = Ahead::new(Timed::until(&stream, self.handle, until));
         let mut writer = Timed::until(&stream, self.handle, until);
         match exchange(&mut reader, &mut writer, target, frame, out) {
             Ok(n) => Ok(n),

@@ -5,6 +5,7 @@ ghost use Rattle.std.specs.Prelude.{◌≡◌, ◌≤◌, None, OnOk};
 ghost use Rattle.std.specs.Result.{result_err};
 ghost use Rattle.admin_text.specs.Setup.{setup_of};
 
+mod ahead;
 mod answering;
 mod clock;
 mod command_line;

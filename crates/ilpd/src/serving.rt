@@ -91,6 +91,7 @@ fn hired<
     ensures each { IfOk result (λ lanes. vec_len lanes ≡ vec_len shares) }
     ensures new { IfOk result (λ lanes. All (λ lane. IsNew lane.desk) lanes.items) }
     ensures office { IfOk result (λ lanes. All (λ lane. lane.office.now ≡ office.now) lanes.items) }
+    ensures clock { IfOk result (λ lanes. All (λ lane. lane.clock.now ≡ clock.now) lanes.items) }
 {
     let mut lanes = Vec::with_capacity(alloc, shares.len())?;
     while let Some(share) = shares.pop() {
@@ -137,11 +138,17 @@ fn work_all<
     H: Threads + Wait + Net<Listener = TcpListener, Stream = TcpStream> + std::time::Clock + Sync,
     C: workers::Clock + Sync,
     J: Run + Send + Sync,
->(handle: &'a H, office: &'a Office<J>, lanes: &mut [Worker<'a, H, C, J>]) -> Result<(), ServeFault>
+>(
+    handle: &'a H,
+    office: &'a Office<J>,
+    clock: &'a C,
+    lanes: &mut [Worker<'a, H, C, J>],
+) -> Result<(), ServeFault>
     requires new { All (λ lane. IsNew lane.desk) lanes.old }
     requires office { All (λ lane. lane.office.now ≡ office.now) lanes.old }
+    requires clock { All (λ lane. lane.clock.now ≡ clock.now) lanes.old }
     ensures office { All (λ lane. lane.office.now ≡ office.now) lanes.new }
-    ensures worked { OnOk result (All (λ lane. HasWorked office.now lane.desk) lanes.new) }
+    ensures worked { OnOk result (All (λ lane. HasWorked (C.gives clock.now) office.now lane.desk) lanes.new) }
 {
     meters_are_shared();
     match run_workers(handle, lanes) {
@@ -175,11 +182,11 @@ pub fn run_all<
     ensures here { first.new.meters ≡ office.now.meters.id }
     ensures joined { OnOk result (first.new.joins ≡ first.new.splits) }
     ensures first { first.new.first ≡ true }
-    ensures counted { IfOk result (λ done. HaveCounted office.now (vec_len shares) done.shares.items
+    ensures counted { IfOk result (λ done. HaveCounted (C.gives clock.now) office.now (vec_len shares) done.shares.items
         (λ tenant kind. count_of tenant kind first.new)) }
 {
     let mut lanes = hired(handle, alloc, office, first, shares, listener, clock)?;
-    work_all(handle, office, lanes.as_mut_slice())?;
+    work_all(handle, office, clock, lanes.as_mut_slice())?;
     Ok(dismissed(alloc, office, first, lanes)?)
 }
 
@@ -286,7 +293,8 @@ fn room_of(extent: Extent, tenants: usize) -> usize
 ///
 /// A line says how many packets and commands of the tenant were answered with which status, and how often its peers gave
 /// no answer: the sums of what the workers have counted, one on each thread, each of which begins with nothing and counts
-/// with each question that it is asked as `HasAnswered` says.
+/// with each question that it is asked as `HasAnswered` says. It is asked what the requests of its connections ask, in their
+/// order, none passed over, and none behind one that closes a connection.
 ///
 /// All that the workers did to the tenants' books is one list, whatever the threads did: of each tenant it has what led from
 /// the setup to the tenant's book, of each worker what it did, and nothing else; and it is a run of a `Floor` from the setup on
@@ -312,7 +320,7 @@ pub fn serve<
     requires tenants { (1 ≤ length setup.now.tenants) × (length setup.now.tenants ≤ max_tenants) }
     requires workers { (1 ≤ extent.workers) × (extent.workers ≤ max_places) }
     requires connections { (1 ≤ extent.connections) × (extent.connections ≤ max_workers) }
-    ensures { OnOk result (HasToldCounts setup.now extent.connections balances (W.contents writer.old) (W.contents writer.new)) }
+    ensures { OnOk result (HasToldCounts (C.gives clock.now) setup.now extent.connections balances (W.contents writer.old) (W.contents writer.new)) }
 {
     let tenants = setup.tenants.as_slice().len();
     let opened = Opened::new(alloc, tenants, extent.connections)?;
@@ -348,7 +356,7 @@ fn serve_run<
     requires openings { J.openings ≡ openings_of setup.now.tenants setup.now.start }
     requires tenants { (1 ≤ length setup.now.tenants) × (length setup.now.tenants ≤ max_tenants) }
     requires workers { (1 ≤ workers) × (workers ≤ max_workers) }
-    ensures { OnOk result (HasToldCountsIn J.Run setup.now workers balances (W.contents writer.old) (W.contents writer.new)) }
+    ensures { OnOk result (HasToldCountsIn J.Run (C.gives clock.now) setup.now workers balances (W.contents writer.old) (W.contents writer.new)) }
 {
     let Begun {
         office,

@@ -1,6 +1,6 @@
 //! Connections whose reads and writes end in time.
 
-ghost use Rattle.std.specs.Prelude.{◌≡◌, ◌≤◌, None, is_err, length};
+ghost use Rattle.std.specs.Prelude.{◌≡◌, None, is_err, length};
 ghost use Rattle.std.specs.Io.{ReadsAtMost, WritesAtMost};
 ghost use Rattle.std.specs.Io.KnownBytes.{ReadConsumes, WriteAppends};
 ghost use Rattle.oer_core.specs.Devices.{count_after, takes_nothing};
@@ -12,9 +12,6 @@ use std::io::{Error, ErrorKind, Read, Write};
 use std::net::TcpStream;
 use std::sync::Wait;
 use std::time::{Clock, Duration, Instant};
-
-/// How many bytes are read ahead at most.
-const AHEAD: usize = 2048;
 
 /// For how many milliseconds a read or write waits at most before it looks whether it may go on.
 const SLICE: u64 = 250;
@@ -155,16 +152,22 @@ impl<H: Wait + Clock> Side<'_, H> {
     }
 }
 
-/// One side of a connection, whose reads and writes fail once their time is over. It reads ahead, and counts what failed.
+/// A side of a connection whose reads or writes have a limit of time.
+pub trait Paced: Read + Write + Device {
+    /// Gives its reads or writes so much time from now on, in all. The last part of it, as long as `favour`, is given only
+    /// while no other connection waits for the thread of this one.
+    fn allow(&mut self, time: Duration, favour: Duration)
+        ensures reads { Self.remaining self.new ≡ Self.remaining self.old }
+        ensures writes { Self.contents self.new ≡ Self.contents self.old }
+        ensures counted { Self.failure_count self.new ≡ Self.failure_count self.old };
+}
+
+/// One side of a connection, whose reads and writes fail once their time is over. It counts what failed.
 #[derive(Drop)]
 pub struct Timed<'a, H> {
     side: Side<'a, H>,
     failures: u64,
-    ahead: [u8; AHEAD],
-    from: usize,
-    to: usize,
-    ghost ordered: { from ≤ to },
-    ghost within: { to ≤ 2048 },
+    has_read: bool,
 }
 
 impl<'a, H: Clock> Timed<'a, H> {
@@ -184,9 +187,7 @@ impl<'a, H: Clock> Timed<'a, H> {
                 write_wait: Duration::ZERO,
             },
             failures: 0,
-            ahead: [0; AHEAD],
-            from: 0,
-            to: 0,
+            has_read: false,
         }
     }
 
@@ -200,54 +201,12 @@ impl<'a, H: Clock> Timed<'a, H> {
         let none = Limit::For(Duration::ZERO, Duration::ZERO);
         Timed::new(stream, clock, Some(door), none)
     }
-
-    /// Gives its reads or writes so much time from now on, in all. The last part of it, as long as `favour`, is given only
-    /// while no other connection waits for the thread of this one.
-    pub fn allow(&mut self, time: Duration, favour: Duration) {
-        self.side.limit = Limit::For(time, favour);
-    }
 }
 
-impl<H: Wait + Clock> Timed<'_, H> {
-    /// Waits until there is more to read; `false` where there is no more.
-    pub fn has_more(&mut self) -> io::Result<bool> {
-        if self.from == self.to {
-            self.read_ahead()?;
-        }
-        Ok(self.from < self.to)
-    }
-
-    fn read_ahead(&mut self) -> io::Result<()>
-        ensures { self.new.failures ≡ self.old.failures }
-    {
-        let n = self.side.receive(&mut self.ahead)?;
-        self.from = 0;
-        self.to = n;
-        Ok(())
-    }
-
-    fn read_some(&mut self, buf: &mut [u8]) -> io::Result<usize>
-        ensures bound { ReadsAtMost result buf.new }
-        ensures failures { self.new.failures ≡ self.old.failures }
-    {
-        if self.from == self.to {
-            if buf.len() >= AHEAD {
-                return self.side.receive(buf);
-            }
-            self.read_ahead()?;
-        }
-        if let [one] = buf
-            && self.from < self.to
-        {
-            *one = self.ahead[self.from];
-            self.from += 1;
-            return Ok(1);
-        }
-        let held = &self.ahead[self.from..self.to];
-        let n = held.len().min(buf.len());
-        buf[..n].copy_from_slice(&held[..n]);
-        self.from += n;
-        Ok(n)
+impl<H> Timed<'_, H> {
+    /// Whether any byte was read.
+    pub fn has_read(&self) -> bool {
+        self.has_read
     }
 
     fn count(&mut self, failed: bool)
@@ -256,6 +215,12 @@ impl<H: Wait + Clock> Timed<'_, H> {
         if failed {
             self.failures = self.failures.saturating_add(1);
         }
+    }
+}
+
+impl<H: Wait + Clock> Paced for Timed<'_, H> {
+    fn allow(&mut self, time: Duration, favour: Duration) {
+        self.side.limit = Limit::For(time, favour);
     }
 }
 
@@ -274,7 +239,8 @@ impl<H: Wait + Clock> Read for Timed<'_, H> {
         // An error is counted, and nothing else.
         ensures counted { self.new.failures ≡ count_after (is_err result) self.old.failures }
     {
-        let result = self.read_some(buf);
+        let result = self.side.receive(buf);
+        self.has_read |= matches!(result, Ok(n) if n > 0);
         self.count(result.is_err());
         result
     }

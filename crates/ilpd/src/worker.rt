@@ -1,13 +1,14 @@
 //! A worker, and what it answers to requests.
 
-ghost use Rattle.std.specs.Prelude.{◌≡◌, ◌≤◌, length};
-ghost use Rattle.ilpd.specs.Answering.{HasAnswered, HasServed};
+ghost use Rattle.std.specs.Prelude.{◌≡◌, []};
+ghost use Rattle.ilpd.specs.Answering.{HasAnswered, HasHeard, HasServed};
 ghost use Rattle.ilpd.specs.Served.{tenant_named, told_text};
 
 use crate::desk::Desk;
 use crate::office::Office;
-use crate::timed::Timed;
-use http_link::{Kind, MAX_BODY, Served, Service, serve_one};
+use crate::timed::{Paced, Timed};
+use http_link::laws::more_may_come;
+use http_link::{Inbox, Kind, LinkFault, Served, Service, serve_next};
 use one_list::Run;
 use std::alloc::Global;
 use std::net::{Net, TcpListener, TcpStream};
@@ -43,6 +44,7 @@ impl<'a, H, C, J: Run> Worker<'a, H, C, J> {
         requires { desk.seat.meters ≡ office.now.meters.id }
         ensures desk { result.desk ≡ desk }
         ensures office { result.office.now ≡ office.now }
+        ensures clock { result.clock.now ≡ clock.now }
     {
         Worker {
             handle,
@@ -163,32 +165,44 @@ impl<H: Wait + Net<Stream = TcpStream> + std::time::Clock, C: Clock, J: Run> Wor
         stream
     }
 
-    // Serves one request, and says whether another may follow on the connection.
-    fn serve_request(
+    // Serves the requests of a connection until it ends, and says how.
+    fn converse<P: Paced>(
         &mut self,
-        reader: &mut Timed<'_, H>,
-        writer: &mut Timed<'_, H>,
-        room: &mut [u8],
-    ) -> bool
-        requires { 34_000 ≤ length room.old }
-        ensures room { length room.new ≡ length room.old }
+        reader: &mut P,
+        writer: &mut P,
+        inbox: &mut Inbox,
+    ) -> Result<Served, LinkFault>
+        requires fresh { inbox.old ≡ [] }
         ensures office { self.new.office ≡ self.old.office }
         ensures clock { self.new.clock ≡ self.old.clock }
-        ensures served { HasServed (C.gives self.old.clock.now) self.old.office.now self.old.desk self.new.desk }
+        ensures heard { HasHeard (C.gives self.old.clock.now) self.old.office.now self.old.desk (P.remaining reader.old) (P.remaining reader.new) result self.new.desk }
     {
-        let time = Duration::from_millis(PATIENCE);
-        let favour = Duration::from_millis(PATIENCE - HURRY);
-        reader.allow(time, favour);
-        writer.allow(time, favour);
-        let served = serve_one(reader, writer, self, room);
-        served == Ok(Served::Kept)
+        more_may_come();
+        for _ in self.handle.forever() {
+            reader.allow(
+                Duration::from_millis(PATIENCE),
+                Duration::from_millis(PATIENCE - MOMENT),
+            );
+            if !inbox.await_more(reader)? {
+                return Ok(Served::Ended);
+            }
+            let (time, favour) = (
+                Duration::from_millis(PATIENCE),
+                Duration::from_millis(PATIENCE - HURRY),
+            );
+            reader.allow(time, favour);
+            writer.allow(time, favour);
+            match serve_next(reader, writer, self, inbox)? {
+                Served::Kept => {}
+                Served::Closed => return Ok(Served::Closed),
+                Served::Ended => return Ok(Served::Ended),
+            }
+        }
+        unreachable!()
     }
 
-    // Serves the requests of a connection until it ends, and says whether it brought any byte.
-    #[tactic(auto, using(crate::proofs::Leading::served_then, crate::proofs::Leading::served_nothing))]
-    fn serve_connection(&mut self, stream: &TcpStream, room: &mut [u8]) -> bool
-        requires { 34_000 ≤ length room.old }
-        ensures room { length room.new ≡ length room.old }
+    // Serves a connection until it ends, and says whether it brought any byte.
+    fn serve_connection(&mut self, stream: &TcpStream, inbox: &mut Inbox) -> bool
         ensures office { self.new.office ≡ self.old.office }
         ensures clock { self.new.clock ≡ self.old.clock }
         ensures served { HasServed (C.gives self.old.clock.now) self.old.office.now self.old.desk self.new.desk }
@@ -196,23 +210,13 @@ impl<H: Wait + Net<Stream = TcpStream> + std::time::Clock, C: Clock, J: Run> Wor
         let door = &self.office.door;
         let mut reader = Timed::through(door, stream, self.handle);
         let mut writer = Timed::through(door, stream, self.handle);
-        if stream.set_nodelay(true).is_err() || !awaits(&mut reader) {
+        if stream.set_nodelay(true).is_err() {
             return false;
         }
-        for _ in self.handle.forever() {
-            if !self.serve_request(&mut reader, &mut writer, room) || !awaits(&mut reader) {
-                break;
-            }
-        }
-        true
+        inbox.clear();
+        let _ = self.converse(&mut reader, &mut writer, inbox);
+        reader.has_read()
     }
-}
-
-// Whether more comes on a connection. It may bring nothing for a while, as long as nobody waits for its thread.
-fn awaits<H: Wait + std::time::Clock>(reader: &mut Timed<'_, H>) -> bool {
-    let favour = Duration::from_millis(PATIENCE - MOMENT);
-    reader.allow(Duration::from_millis(PATIENCE), favour);
-    reader.has_more().unwrap_or(false)
 }
 
 impl<
@@ -225,12 +229,12 @@ impl<
 
     #[tactic(auto, using(crate::proofs::Leading::served_then, crate::proofs::Leading::served_nothing))]
     fn work<R: Threads + Wait + Sync>(&mut self, _rt: &R) {
-        let mut room = [0; MAX_BODY];
+        let mut inbox = Inbox::new();
         for _ in self.handle.forever() {
             let Some(stream) = self.next_connection() else {
                 return;
             };
-            if !self.serve_connection(&stream, &mut room) {
+            if !self.serve_connection(&stream, &mut inbox) {
                 self.office.door.give_back();
             }
         }

@@ -1,11 +1,10 @@
 use Rattle.std.proofs.Common.{◌<◌, length, rules, slice_index_or, subst}
-use Rattle.ilpd.specs.Answering.{AnyMoment, HasServed}
+use Rattle.ilpd.specs.Answering.{HasServed}
 use denote.Param.{param}
 use denote.Param.Send.{IsSend, sendable}
 use denote.Ref.{NamedLft}
 use Rattle.ilpd.specs.contracts.worker.Worker as Worker
 use Rattle.books_shared.proofs.Crossing.{books_sync}
-use Rattle.ilpd.proofs.Weaker.{served_any}
 use Rattle.ilpd.proofs.Sending.{office_sync, worker_send}
 use Rattle.ilpd.proofs.serving.work_all.Goals as goal
 
@@ -24,6 +23,8 @@ returns-in-Ok-clause-worked g c k d below =
     record {
       new = (slice_index_or c.args.lanes.now k d).desk;
       is_new = c.requires.new k d within;
-      served = subst (λ office. HasServed AnyMoment office (slice_index_or c.args.lanes.now k d).desk
-          (slice_index_or c.run_workers.new.lanes k d).desk) (c.requires.office k d within) (served_any _ _ _ _ works.1);
+      served = subst (λ clock. HasServed (g.C.Clock.gives clock) c.args.office.now (slice_index_or c.args.lanes.now k d).desk
+          (slice_index_or c.run_workers.new.lanes k d).desk) (c.requires.clock k d within)
+          (subst (λ office. HasServed (g.C.Clock.gives (slice_index_or c.args.lanes.now k d).clock.now) office (slice_index_or c.args.lanes.now k d).desk
+          (slice_index_or c.run_workers.new.lanes k d).desk) (c.requires.office k d within) works.1);
     }

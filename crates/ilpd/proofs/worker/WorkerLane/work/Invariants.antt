@@ -1,10 +1,9 @@
-use Rattle.std.proofs.Common.{◌≡◌, length}
+use Rattle.std.proofs.Common.{◌≡◌}
 use Rattle.ilpd.specs.Answering.{HasServed}
 use Rattle.ilpd.proofs.worker.WorkerLane.work.Given as goal
 
 abbrev pub invariant-loop : goal.invariant-loop
 invariant-loop g l = record {
-  room : length l.room ≡ 34_000;
   office : l.self.office ≡ l.fn.self.office;
   clock : l.self.clock ≡ l.fn.self.clock;
   served : HasServed (g.C.Clock.gives l.fn.self.clock.now) l.fn.self.office.now l.fn.self.desk l.self.desk;
