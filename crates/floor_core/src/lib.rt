@@ -6,6 +6,7 @@ pub mod laws;
 mod octets;
 mod parts;
 mod replies;
+mod rewriting;
 mod room;
 mod slot;
 mod step;

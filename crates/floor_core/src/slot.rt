@@ -1,8 +1,8 @@
 //! Slots: what a worker carries, in room that is used again and again.
 
 ghost use Rattle.std.specs.Prelude.{◌≡◌, ◌≤◌, IfOk, IsOk, IsSome, Some, take, List, ℕ, length};
-ghost use Rattle.ilp_addr.specs.Timestamp.{latest_expiry, timestamp_of};
-ghost use Rattle.ilp_view.specs.Packet.{max_frame, with_amount_and_expiry};
+ghost use Rattle.ilp_addr.specs.Timestamp.{latest_expiry};
+ghost use Rattle.ilp_view.specs.Packet.{max_frame};
 ghost use Rattle.ilp_view.specs.Reading.{prepare_at, fulfill_at, reject_at};
 ghost use Rattle.tenant_core.specs.Judge.{IsSooner, decided, judge};
 ghost use Rattle.floor_core.specs.World.{answer_key, bytes_given, key_in, key_read};
@@ -12,10 +12,11 @@ ghost use Rattle.tenant_core.specs.Present.{network_of};
 
 use crate::parts::{Got, LoadFault, Turn};
 use crate::replies::{put_decision, put_settlement};
+use crate::rewriting::rewrite;
 use crate::room::Room;
 use common_types::Token;
 use ilp_addr::{Moment, Target};
-use ilp_view::{FulfillView, MAX_FRAME, PrepareView, RejectView, set_amount_and_expiry};
+use ilp_view::{FulfillView, MAX_FRAME, PrepareView, RejectView};
 use route_table::PeerNo;
 use std::alloc::{AllocError, Global};
 use std::marker::Model;
@@ -317,17 +318,6 @@ fn decided(book: &mut Book, token: &[u8], room: &[u8], len: usize, now: Moment) 
         destination: packet.destination(),
     };
     book.decide(token, &key, now)
-}
-
-// Another amount and another expiry in the Prepare of that length at the front of the room.
-fn rewrite(room: &mut [u8], len: usize, amount: u64, expiry: u64)
-    requires len { len ≤ length room.old }
-    requires prepare { IsOk (prepare_at (take len room.old)) }
-    requires expiry { expiry ≤ latest_expiry }
-    ensures { IfOk (prepare_at (take len room.old)) (λ p.
-        take len room.new ≡ with_amount_and_expiry p amount (timestamp_of expiry)) }
-{
-    set_amount_and_expiry(&mut room[..len], amount, expiry);
 }
 
 fn target_of(book: &Book, peer: PeerNo) -> Target

@@ -4,4 +4,6 @@ pub mod PrepareLaws
 pub mod AnswerLaws
 pub mod Writes
 pub mod WrittenAnswers
-pub mod Rewrites
+pub mod Cuts
+pub mod Ranges
+pub mod Lends

@@ -1,4 +1,5 @@
 pub mod Packet
 pub mod Reading
 pub mod Seen
+pub mod Lent
 pub mod Below

@@ -60,6 +60,36 @@ pub record IsPrepare (frame : List ℕ) (p : Prepare) : Type 0 where
 abbrev pub with_amount_and_expiry : Prepare → ℕ → List ℕ → List ℕ
 with_amount_and_expiry p amount expiry = prepare_frame (record p { amount = amount; expiry = expiry })
 
+-- The bytes of a Prepare before its amount: its type and the length of its contents, as it was spelled
+-- (RFC 0027, "ILP Prepare").
+abbrev pub before_amount : Prepare → List ℕ
+before_amount p = 12 ∷ p.contents_length
+
+-- The bytes of a Prepare behind its expiry, the last fields and what stands after them (RFC 0027,
+-- "ILP Prepare").
+abbrev pub behind_expiry : Prepare → List ℕ
+behind_expiry p =
+    p.condition ++ (p.destination_length ++ (p.destination ++ (p.data_length ++ (p.payload ++ p.extra))))
+
+-- The frame is these bytes: those before the amount, 8 of an amount, 17 of an expiry, and those behind
+-- them (RFC 0027, "ILP Prepare").
+pub record IsCutAt (frame front amount expiry back : List ℕ) : Type 0 where
+  pub bytes : frame ≡ front ++ (amount ++ (expiry ++ back))
+  pub amount_size : length amount ≡ 8
+  pub expiry_size : length expiry ≡ 17
+
+-- A frame came that is a Prepare, and the frame that went differs from it in its amount and its expiry
+-- at most (RFC 0027, "ILP Prepare").
+pub record IsForwardOf (came went : List ℕ) : Type 0 where
+  pub prepare : Prepare
+  pub amount_came : List ℕ
+  pub expiry_came : List ℕ
+  pub amount_went : List ℕ
+  pub expiry_went : List ℕ
+  pub is : IsPrepare came prepare
+  pub came_cut : IsCutAt came (before_amount prepare) amount_came expiry_came (behind_expiry prepare)
+  pub went_cut : IsCutAt went (before_amount prepare) amount_went expiry_went (behind_expiry prepare)
+
 -- The parts of a Fulfill, each as it stands in the frame (RFC 0027, "ILP Fulfill").
 pub record Fulfill : Type 0 where
   pub contents_length : List ℕ

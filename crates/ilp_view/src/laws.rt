@@ -1,11 +1,14 @@
 //! Laws of frames, each the contract of a function that does nothing.
 
-ghost use Rattle.std.specs.Prelude.{◌≡◌, ◌≤◌, ◌+◌, ◌++◌, ℕ, List, [], length, Ok};
+ghost use Rattle.std.specs.Prelude.{◌≡◌, ◌<◌, ◌≤◌, ◌+◌, ◌^◌, ◌++◌, ℕ, List, [], length, Ok};
+ghost use Rattle.ilp_addr.specs.Timestamp.{IsTimestamp};
 ghost use Rattle.ilp_view.specs.Below.{LawsBelow};
 ghost use Rattle.ilp_view.specs.Packet.{max_frame, max_data, IsFrame, Prepare, IsPrepare, Fulfill, IsFulfill, Reject};
 ghost use Rattle.ilp_view.specs.Packet.{IsReject};
+ghost use Rattle.ilp_view.specs.Packet.{IsForwardOf, before_amount, behind_expiry, with_amount_and_expiry};
 ghost use Rattle.ilp_view.specs.Packet.{fulfill_frame, reject_frame, written_fulfill, written_reject};
-ghost use Rattle.ilp_view.specs.Reading.{fulfill_at, reject_at};
+ghost use Rattle.ilp_view.specs.Reading.{prepare_at, fulfill_at, reject_at};
+ghost use Rattle.oer_core.specs.Length.{AreBytes};
 
 /// No frame is a proper prefix of another, of whatever types they are. (RFC 0027)
 pub fn no_frame_begins_another()
@@ -21,6 +24,30 @@ pub fn parts_are_the_only_ones()
     ensures prepares { (frame : List ℕ) (p q : Prepare) → IsPrepare frame p → IsPrepare frame q → p ≡ q }
     ensures fulfills { (frame : List ℕ) (p q : Fulfill) → IsFulfill frame p → IsFulfill frame q → p ≡ q }
     ensures rejects { (frame : List ℕ) (p q : Reject) → IsReject frame p → IsReject frame q → p ≡ q }
+{
+    laws_below();
+}
+
+/// What is read of bytes as a Prepare are the parts of one: they are its frame. (RFC 0027, "ILP Prepare")
+pub fn what_is_read_is_a_prepare()
+    ensures { (frame : List ℕ) (p : Prepare) → AreBytes frame → prepare_at frame ≡ Ok p → IsPrepare frame p }
+{
+    laws_below();
+}
+
+/// A frame that goes on differs from the one that came in its amount and its expiry at most: so does
+/// a Prepare with any 8 and 17 other bytes in their places, and one with another amount and another
+/// date in their place is a Prepare of the same parts but for these. (RFC 0027, "ILP Prepare")
+pub fn forwards_change_two_fields()
+    ensures bytes { (frame : List ℕ) (p : Prepare) (amount expiry : List ℕ)
+        → IsPrepare frame p → length amount ≡ 8 → length expiry ≡ 17
+        → IsForwardOf frame (before_amount p ++ (amount ++ (expiry ++ behind_expiry p))) }
+    ensures values { (frame : List ℕ) (p : Prepare) (amount : ℕ) (expiry : List ℕ)
+        → IsPrepare frame p → amount < 2 ^ 64 → IsTimestamp expiry
+        → IsForwardOf frame (with_amount_and_expiry p amount expiry) }
+    ensures prepares { (frame : List ℕ) (p : Prepare) (amount : ℕ) (expiry : List ℕ)
+        → IsPrepare frame p → amount < 2 ^ 64 → IsTimestamp expiry
+        → IsPrepare (with_amount_and_expiry p amount expiry) (record p { amount = amount; expiry = expiry }) }
 {
     laws_below();
 }

@@ -2,7 +2,9 @@
 //! lent from the frame, and no reader allocates.
 //!
 //! - [`PrepareView`], [`FulfillView`] and [`RejectView`] read a frame of at most [`MAX_FRAME`] bytes
-//!   with at most [`MAX_DATA`] bytes of data; [`PrepareView::forwarded`] is the frame that is sent on.
+//!   with at most [`MAX_DATA`] bytes of data.
+//! - [`PrepareMut`] reads a Prepare in place, and lends its amount and its expiry to be written: so a
+//!   frame is sent on in the bytes that it came in.
 //! - [`write_fulfill`] and [`write_reject`] write the two answers.
 //! - [`ViewFault`] says why a frame could not be read or written; [`laws`] what frames have in common.
 #![tactic(auto)]
@@ -21,5 +23,5 @@ pub use fault::ViewFault;
 pub use fields::{MAX_DATA, MAX_FRAME};
 pub use fulfill::FulfillView;
 pub use prepare::PrepareView;
-pub use prepare_mut::set_amount_and_expiry;
+pub use prepare_mut::PrepareMut;
 pub use reject::RejectView;

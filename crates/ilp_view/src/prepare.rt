@@ -1,8 +1,8 @@
 //! A Prepare: what is to be paid to whom, until when, and against which fulfillment.
 
 ghost use Rattle.std.specs.Prelude.{◌≡◌, ◌≤◌, List, ℕ, length, IfOk, Ok};
-ghost use Rattle.ilp_addr.specs.Timestamp.{latest_expiry, moment_of, timestamp_of};
-ghost use Rattle.ilp_view.specs.Packet.{max_data, Prepare, IsPrepare, prepare_frame, with_amount_and_expiry};
+ghost use Rattle.ilp_addr.specs.Timestamp.{latest_expiry, moment_of};
+ghost use Rattle.ilp_view.specs.Packet.{max_data, Prepare, IsPrepare, prepare_frame};
 ghost use Rattle.ilp_view.specs.Reading.{prepare_at, prepare_fields};
 ghost use Rattle.ilp_view.specs.Seen.{prepare_of};
 ghost use Rattle.common_types.specs.Outcomes.{Gives};
@@ -10,9 +10,8 @@ ghost use Rattle.common_types.specs.Outcomes.{Gives};
 use crate::fault::ViewFault;
 use crate::fields;
 use crate::laws::laws_below;
-use ilp_addr::{Address, Stamp};
+use ilp_addr::Address;
 use oer_core::read_u64;
-use std::alloc::{AllocError, Global};
 use std::marker::Model;
 
 /// The type byte of a Prepare (RFC 0027).
@@ -35,7 +34,6 @@ struct PrepareParts<'a> {
 /// A Prepare that was read, its parts lent from the frame (RFC 0027, "ILP Prepare").
 #[derive(Debug, Drop)]
 pub struct PrepareView<'a> {
-    frame: &'a [u8],
     parts: PrepareParts<'a>,
 }
 
@@ -86,29 +84,6 @@ fn parts_of(frame: &[u8]) -> Result<PrepareParts<'_>, ViewFault>
     fields_of(spelling, contents)
 }
 
-fn frame_with(
-    alloc: Global,
-    room: usize,
-    parts: &PrepareParts<'_>,
-    amount: u64,
-    expiry: &[u8],
-) -> Result<Vec<u8>, AllocError>
-    ensures { IfOk result (λ v. v.items ≡ with_amount_and_expiry (prepare_of parts.now) amount expiry.now) }
-{
-    let mut frame = Vec::with_capacity(alloc, room)?;
-    frame.push(PREPARE)?;
-    frame.extend_from_slice(parts.contents_length)?;
-    frame.extend_from_slice(&amount.to_be_bytes())?;
-    frame.extend_from_slice(expiry)?;
-    frame.extend_from_slice(parts.condition)?;
-    frame.extend_from_slice(parts.destination_length)?;
-    frame.extend_from_slice(parts.destination.bytes())?;
-    frame.extend_from_slice(parts.data_length)?;
-    frame.extend_from_slice(parts.payload)?;
-    frame.extend_from_slice(parts.extra)?;
-    Ok(frame)
-}
-
 impl<'a> PrepareView<'a> {
     /// The Prepare that `frame` is, all of its bytes.
     ///
@@ -128,7 +103,7 @@ impl<'a> PrepareView<'a> {
     {
         laws_below();
         let parts = parts_of(frame)?;
-        Ok(PrepareView { frame, parts })
+        Ok(PrepareView { parts })
     }
 
     /// The amount, in the units that the two peers agreed on.
@@ -167,24 +142,5 @@ impl<'a> PrepareView<'a> {
         ensures size { length result.now ≤ max_data }
     {
         self.parts.payload
-    }
-
-    /// The frame that is sent on: a copy of this one with that amount and that expiry, every other
-    /// byte as it came. Its room is made once.
-    ///
-    /// `expiry` is in milliseconds since 1970-01-01T00:00:00 UTC, at most 253,402,128,000,000. The
-    /// error is want of memory. (RFC 0027, "ILP Prepare")
-    pub fn forwarded(&self, alloc: Global, amount: u64, expiry: u64) -> Result<Vec<u8>, AllocError>
-        requires { expiry ≤ latest_expiry }
-        // Every byte of the frame.
-        ensures frame { IfOk result (λ v. v.items ≡ with_amount_and_expiry self.now amount (timestamp_of expiry)) }
-        // It is a Prepare too, with this amount and expiry in place of the others.
-        ensures prepare { IfOk result (λ v.
-            IsPrepare v.items (record self.now { amount = amount; expiry = timestamp_of expiry })) }
-    {
-        laws_below();
-        let mut text = [0; 17];
-        Stamp::write(expiry, &mut text);
-        frame_with(alloc, self.frame.len(), &self.parts, amount, &text)
     }
 }

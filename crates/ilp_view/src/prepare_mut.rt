@@ -1,15 +1,27 @@
-//! Another amount and another expiry in the frame of a Prepare, every other byte as it is.
+//! A Prepare in the frame that it came in: its amount and its expiry are lent to be written, and no
+//! other byte.
 
-ghost use Rattle.std.specs.Prelude.{◌≡◌, ◌≤◌, ◌+◌, length, IsOk, IfOk};
-ghost use Rattle.ilp_addr.specs.Timestamp.{latest_expiry, timestamp_of};
-ghost use Rattle.ilp_view.specs.Packet.{IsPrepare, with_amount_and_expiry};
+ghost use Rattle.std.specs.Prelude.{◌≡◌, ◌+◌, length, IsOk, IsOkAnd, IfOk};
+ghost use Rattle.std.specs.Borrow.{sem};
+ghost use Rattle.common_types.specs.Outcomes.{Gives};
+ghost use Rattle.ilp_view.specs.Lent.{HasFields, LendsFields, cut_at, cut_of, frame_of, lent_of, name_of};
+ghost use Rattle.ilp_view.specs.Packet.{Prepare, IsPrepare};
 ghost use Rattle.ilp_view.specs.Reading.{prepare_at};
 
+use crate::fault::ViewFault;
 use crate::fields;
 use crate::laws::laws_below;
-use crate::prepare::PREPARE;
-use ilp_addr::Stamp;
-use oer_core::put_bytes;
+use crate::prepare::{PREPARE, PrepareView};
+use std::slice::from_raw_parts_mut;
+
+/// A Prepare that was read in place: its amount and its expiry may be written, and no other byte of
+/// its frame (RFC 0027, "ILP Prepare").
+#[derive(Debug, Drop)]
+pub struct PrepareMut<'a> {
+    frame: &'a mut [u8],
+    // Where the amount stands, and behind it the expiry.
+    place: usize,
+}
 
 // Where the amount stands in the frame of a Prepare, and behind it the expiry.
 fn place_of_amount(frame: &[u8]) -> usize
@@ -22,18 +34,59 @@ fn place_of_amount(frame: &[u8]) -> usize
     1 + spelling.len()
 }
 
-/// Writes that amount and that expiry into the frame of a Prepare, in place of its own.
-///
-/// `expiry` is in milliseconds since 1970-01-01T00:00:00 UTC, at most 253,402,128,000,000. (RFC 0027, "ILP Prepare")
-pub fn set_amount_and_expiry(frame: &mut [u8], amount: u64, expiry: u64)
-    requires prepare { IsOk (prepare_at frame.old) }
-    requires expiry { expiry ≤ latest_expiry }
-    ensures { IfOk (prepare_at frame.old) (λ p. frame.new ≡ with_amount_and_expiry p amount (timestamp_of expiry)) }
-{
-    laws_below();
-    let place = place_of_amount(frame);
-    let mut text = [0; 17];
-    Stamp::write(expiry, &mut text);
-    put_bytes(frame, place, &amount.to_be_bytes());
-    put_bytes(frame, place + 8, &text);
+impl<'a> PrepareMut<'a> {
+    /// The Prepare that `frame` is, all of its bytes.
+    ///
+    /// The errors are those of [`PrepareView::read`], in the same order. (RFC 0027, "ILP Prepare")
+    pub fn read(frame: &'a mut [u8]) -> Result<PrepareMut<'a>, ViewFault>
+        // What is read is the frame, cut where the amount and the expiry of a Prepare lie.
+        ensures found { IfOk result (λ m. (p : Prepare) × IsPrepare frame.old p × (lent_of m ≡ cut_of p)) }
+        // Each Prepare is read.
+        ensures only { (p : Prepare) → IsPrepare frame.old p → IsOkAnd result (λ m. lent_of m ≡ cut_of p) }
+        // Which fault it is.
+        ensures exact { Gives lent_of result (cut_at frame.old) }
+        // The frame is lent as it is, and ends as what the PrepareMut ends with.
+        ensures same_frame { IfOk result (λ m. name_of m ≡ frame.entry.ghost_name) }
+        ensures bytes { IfOk result (λ m. frame_of m ≡ frame.old) }
+        ensures fields { IfOk result HasFields }
+    {
+        laws_below();
+        PrepareView::read(frame)?;
+        Ok(PrepareMut::of_known(frame))
+    }
+
+    /// The Prepare that `frame` is, where it is known to be one. (RFC 0027, "ILP Prepare")
+    pub fn of_known(frame: &'a mut [u8]) -> PrepareMut<'a>
+        requires { IsOk (prepare_at frame.old) }
+        // It is cut where the amount and the expiry lie.
+        ensures cut { IfOk (prepare_at frame.old) (λ p. lent_of result ≡ cut_of p) }
+        // The frame is lent as it is, and ends as what the PrepareMut ends with.
+        ensures same_frame { name_of result ≡ frame.entry.ghost_name }
+        ensures bytes { frame_of result ≡ frame.old }
+        ensures fields { HasFields result }
+    {
+        let place = place_of_amount(frame);
+        PrepareMut { frame, place }
+    }
+
+    /// The 8 bytes of the amount, in big-endian order, and the 17 bytes of the expiry, lent at once to
+    /// be written. (RFC 0027, "ILP Prepare")
+    pub fn lend(&mut self) -> (&mut [u8], &mut [u8])
+        requires { HasFields self.old }
+        // Whatever is written there, the frame is then the bytes before, these, and the bytes behind.
+        ensures* writes_back { sem 𝓛 (LendsFields self.entry result) }
+        ensures amount { result.0.now ≡ (lent_of self.old).amount }
+        ensures expiry { result.1.now ≡ (lent_of self.old).expiry }
+        ensures amount_size { length result.0.now ≡ 8 }
+        ensures expiry_size { length result.1.now ≡ 17 }
+    {
+        let frame = self.frame.as_mut_ptr();
+        let place = self.place;
+        unsafe {
+            (
+                from_raw_parts_mut(frame.add(place), 8),
+                from_raw_parts_mut(frame.add(place + 8), 17),
+            )
+        }
+    }
 }

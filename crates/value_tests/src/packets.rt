@@ -3,7 +3,9 @@
 ghost use Rattle.std.specs.Prelude.{◌≡◌, ◌≤◌, length};
 
 use ilp_view::laws::written_frames_are_short;
-use ilp_view::{FulfillView, PrepareView, RejectView, ViewFault, write_fulfill, write_reject};
+use ilp_view::{
+    FulfillView, PrepareMut, PrepareView, RejectView, ViewFault, write_fulfill, write_reject,
+};
 use std::alloc::Global;
 use std::test::Fail;
 use test_texts::filled;
@@ -45,7 +47,11 @@ fn prepares(rt: HostRuntime) -> Result<(), Fail> {
         let came = frame(alloc, came)?;
         let view = PrepareView::read(came.as_slice())?;
         assert!(rt; is_base(&view, condition.as_slice()));
-        let forwarded = view.forwarded(alloc, 1500, EXPIRY - 1000)?;
+        let mut forwarded = came.clone()?;
+        let mut prepare = PrepareMut::read(forwarded.as_mut_slice())?;
+        let (amount, expiry) = prepare.lend();
+        amount.copy_from_slice(&1500u64.to_be_bytes());
+        expiry.copy_from_slice(b"20300101000009000");
         assert!(rt; forwarded.as_slice() == frame(alloc, sent_on)?.as_slice());
     }
     Ok(())

@@ -1,7 +1,7 @@
 use Rattle.std.proofs.Common.{ℕ, ◌+◌, List, length, ap, arith}
 use Rattle.ilp_view.specs.Reading.{envelope_at, prepare_at}
 use Rattle.ilp_view.proofs.PrepareLaws.{prepare_takes}
-use Rattle.ilp_view.proofs.Rewrites.{envelope_of, value_of, if_ok, given_ok, given_at, same_first}
+use Rattle.ilp_view.proofs.Cuts.{envelope_of, value_of, if_ok, given_ok, given_at, same_first}
 use Rattle.ilp_view.proofs.prepare_mut.place_of_amount.Goals as goal
 
 pub unwrap-requires : goal.unwrap-requires
