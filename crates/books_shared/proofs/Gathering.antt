@@ -10,19 +10,23 @@ use Rattle.std.proofs.lemmas.List.Elements.{All-cons, All-head, All-nil, All-tai
 use Rattle.std.proofs.lemmas.List.Sorted.{All-permutation, length_permutation, sum_by-IsPermutation}
 use Rattle.std.proofs.lemmas.List.Sums.{sum_by-cons}
 use Rattle.std.proofs.lemmas.Option.{slice_get_past, slice_get_within}
+use Rattle.tenant_core.specs.Answer.{answer_made, answer_to}
 use Rattle.tenant_core.specs.Holds.{open_hold}
-use Rattle.tenant_core.specs.Judge.{judge}
+use Rattle.tenant_core.specs.Judge.{decide_made, judge}
 use Rattle.tenant_core.specs.Network.{peer_with_token}
 use Rattle.tenant_core.specs.Present.{network_of}
 use Rattle.tenant_core.specs.State.{State, opened, opening_of, recorded}
+use Rattle.tenant_core.specs.declared.faults.HoldFault.{HoldFault}
 use Rattle.tenant_core.specs.declared.journal.Entry.{Entry}
 use Rattle.tenant_core.specs.declared.journal.Entry.TheVariants.{Decide, Answer, Tick, Change, Roll}
 use Rattle.tenant_core.specs.declared.journal.Record.{Record}
 use Rattle.tenant_core.specs.declared.opening.Opening.{Opening}
 use Rattle.tenant_core.specs.declared.terms.TenantTerms.{TenantTerms}
-use Rattle.floor_core.specs.Causes.{AreCaused, ArePlaced, AreRun, Cause, Entered, book_opened, left_from, made_alone, made_by_answer, made_by_decide, made_from, packet_made, world_opened}
+use Rattle.tenant_core.specs.declared.verdict.Verdict.{Verdict}
+use Rattle.tenant_core.specs.declared.verdict.Verdict.TheVariants.{Unknown, NoRoom, Refuse, Fulfil, Forward, Relay}
+use Rattle.floor_core.specs.Causes.{AreCaused, ArePlaced, AreRun, Cause, Entered, book_opened, left_from, made_alone, made_from, packet_made, world_opened}
 use Rattle.ilp_view.specs.Packet.{Prepare}
-use Rattle.floor_core.specs.World.{Event, Stage, Tenant, after_alone, all_free, answer_after, arrival, arrive_after, decide_after, key_in, new_tenant, no_book, put}
+use Rattle.floor_core.specs.World.{Effect, Event, Stage, Tenant, after_alone, all_free, answer_key, arrival, arrived, call_answered, call_decided, call_judged, call_settled, heard, key_in, new_tenant, no_book, put}
 use Rattle.floor_core.specs.World.{tenant_at_start, world_at_start}
 use Rattle.floor_core.specs.declared.step.Given.{Given}
 use Rattle.floor_core.specs.declared.step.Malformed.{Malformed}
@@ -323,25 +327,46 @@ list_of runs size openings found books shares parts many each traced moved sorte
 
 -- ---- the record of an event is what the book grows by
 
-event_decides : (s : Tenant) (call now : ℕ) (stage : Option Stage) → (decide_after s call stage now).book ≡ after_made s.book (made_by_decide s.book stage now)
-event_decides s call now None = refl
-event_decides s call now (Some (Stage.Ready token p)) =
-    sym (record_stays (peer_with_token token (network_of s.book).peers) (key_in p) now (judge s.book token (key_in p) now) s.book)
-event_decides s call now (Some (Stage.Sent hold)) = refl
+-- the effect of a call grows the book by its record, where that record leaves it so
+abbrev Grows : Tenant → Effect → Type 0
+Grows s effect = effect.after.book ≡ after_made s.book effect.made
 
-event_answers : (s : Tenant) (call now : ℕ) (given : Given) (stage : Option Stage) → (answer_after s call stage now given).book ≡ after_made s.book (made_by_answer s.book stage now given)
-event_answers s call now given None = refl
-event_answers s call now given (Some (Stage.Ready token p)) = refl
-event_answers s call now given (Some (Stage.Sent hold)) = sym (held_stays (open_hold s.book hold) _ (λ h x. refl) s.book)
+judged_grows : (s : Tenant) (call : ℕ) (token : List ℕ) (p : Prepare) (made : Option Record) (v : Verdict)
+    → recorded s.book made ≡ after_made s.book made → Grows s (call_judged s call token p made v)
+judged_grows s call token p made Unknown same = same
+judged_grows s call token p made NoRoom same = same
+judged_grows s call token p made (Refuse code amounts) same = same
+judged_grows s call token p made Fulfil same = same
+judged_grows s call token p made (Forward hold peer amount expiry) same = same
+judged_grows s call token p made Relay same = same
 
-arrival_stays : (s : Tenant) (token : List ℕ) (a : Result Prepare Malformed) → (arrive_after s token a).book ≡ s.book
-arrival_stays s token (Ok p) = refl
-arrival_stays s token (Err wrong) = refl
+decided_grows : (s : Tenant) (call now : ℕ) (stage : Option Stage) → Grows s (call_decided s call stage now)
+decided_grows s call now None = refl
+decided_grows s call now (Some (Stage.Ready token p)) =
+    judged_grows s call token p (decide_made s.book token (key_in p) now) (judge s.book token (key_in p) now)
+    (sym (record_stays (peer_with_token token (network_of s.book).peers) (key_in p) now (judge s.book token (key_in p) now) s.book))
+decided_grows s call now (Some (Stage.Sent hold)) = refl
+
+settled_grows : (s : Tenant) (call : ℕ) (given : Given) (made : Option Record) (r : Result Verdict HoldFault)
+    → recorded s.book made ≡ after_made s.book made → Grows s (call_settled s call given made r)
+settled_grows s call given made (Ok v) same = same
+settled_grows s call given made (Err fault) same = refl
+
+answered_grows : (s : Tenant) (call now : ℕ) (given : Given) (stage : Option Stage) → Grows s (call_answered s call stage now given)
+answered_grows s call now given None = refl
+answered_grows s call now given (Some (Stage.Ready token p)) = refl
+answered_grows s call now given (Some (Stage.Sent hold)) =
+    settled_grows s call given (answer_made s.book hold now (answer_key given)) (answer_to s.book hold now (answer_key given))
+    (sym (held_stays (open_hold s.book hold) _ (λ h x. refl) s.book))
+
+arrival_grows : (s : Tenant) (token : List ℕ) (a : Result Prepare Malformed) → Grows s (arrived s token a)
+arrival_grows s token (Ok p) = refl
+arrival_grows s token (Err wrong) = refl
 
 pub events_make : (s : Tenant) (event : Event) → (after_alone s event).book ≡ after_made s.book (made_alone s event)
-events_make s (Event.Arrives token bytes) = arrival_stays s token (arrival token bytes)
-events_make s (Event.Decides call now) = event_decides s call now (s.calls call)
-events_make s (Event.Answers call now given) = event_answers s call now given (s.calls call)
+events_make s (Event.Arrives token bytes) = arrival_grows s token (arrival token bytes)
+events_make s (Event.Decides call now) = decided_grows s call now (s.calls call)
+events_make s (Event.Answers call now given) = answered_grows s call now (heard given) (s.calls call)
 events_make s (Event.Ticks now) = sym (tick_stays s.book now s.book)
 events_make s (Event.Governs now command) = command_leaves s.book command now
 

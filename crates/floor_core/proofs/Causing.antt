@@ -22,13 +22,14 @@ use Rattle.tenant_core.specs.declared.opening.Opening.{Opening}
 use Rattle.tenant_core.specs.declared.verdict.Verdict.{Verdict}
 use Rattle.tenant_core.specs.declared.verdict.Verdict.TheVariants.{Unknown, NoRoom, Refuse, Fulfil, Forward, Relay}
 use Rattle.floor_core.specs.Causes.{Cause, Entered, AreCaused, AreRun, ArePlaced, all_made, book_opened, entered, left_from, made_from, made_in, packet_made, world_opened}
-use Rattle.floor_core.specs.World.{Stage, Tenant, Hand, World, put, arrival, key_in, answer_key, heard, said, stage_after, told, owner}
+use Rattle.floor_core.specs.World.{Effect, Stage, Tenant, Hand, World, put, arrival, arrived, key_in, answer_key, heard, told, owner}
 use Rattle.floor_core.specs.Worlds.{after, after_all}
 use Rattle.floor_core.specs.declared.step.Given.{Given}
 use Rattle.floor_core.specs.declared.step.Malformed.{Malformed}
 use Rattle.floor_core.specs.declared.step.Step.{Step}
 use Rattle.floor_core.specs.declared.step.Step.TheVariants.{Load, Decide, Answer, Tick, Govern}
 use Rattle.floor_core.proofs.Calls.{put-same, put-other}
+use Rattle.floor_core.proofs.Effects.{answer_effect, arrival_effect, came, decide_effect, said, stage_after}
 use Rattle.floor_core.proofs.Views.{after_all-append}
 
 -- ---- hands
@@ -232,12 +233,14 @@ ok_of (Err fault) e = absurd (not_true e)
 answer_after_step : (w : World) (t hold call worker now : ℕ) (given : Given) (v : Verdict) → w.hands worker ≡ Hand.Awaits t call
     → (w.tenants t).calls call ≡ Some (Stage.Sent hold) → answer_to (w.tenants t).book hold now (answer_key (heard given)) ≡ Ok v
     → after w (Answer worker now given) ≡ answered_world w t hold call worker now given
-answer_after_step w t hold call worker now given v hand stage settled = rw hand (rw stage (rw settled refl))
+answer_after_step w t hold call worker now given v hand stage settled =
+    rw hand (came w worker t (Hand.Awaits t call) _ _ (answer_effect (w.tenants t) call hold now (heard given) v ((w.tenants t).calls call) stage settled))
 
-answer_made_step : (w : World) (t hold call worker now : ℕ) (given : Given) → w.hands worker ≡ Hand.Awaits t call
-    → (w.tenants t).calls call ≡ Some (Stage.Sent hold)
+answer_made_step : (w : World) (t hold call worker now : ℕ) (given : Given) (v : Verdict) → w.hands worker ≡ Hand.Awaits t call
+    → (w.tenants t).calls call ≡ Some (Stage.Sent hold) → answer_to (w.tenants t).book hold now (answer_key (heard given)) ≡ Ok v
     → made_in w (owner w.hands (Answer worker now given)) ≡ entered t (answer_made (w.tenants t).book hold now (answer_key (heard given)))
-answer_made_step w t hold call worker now given hand stage = rw hand (rw stage refl)
+answer_made_step w t hold call worker now given v hand stage settled =
+    rw hand (ap (λ (x : Effect). entered t x.made) (answer_effect (w.tenants t) call hold now (heard given) v ((w.tenants t).calls call) stage settled))
 
 split : (a b : Bool) → (a && not b) ≡ true → (a ≡ true) × (b ≡ false)
 split true true e = absurd (not_true e)
@@ -296,7 +299,7 @@ return_goes holds calls bound next w t hold now given r lt g e =
     (others_await holds bound next w t hold now given here g) in
     record {
       steps = Answer here.worker now given ∷ [];
-      made = ap (λ (es : List Entered). es ++ []) (answer_made_step w t hold here.call here.worker now given here.hand here.stage) ∙ entered_of t _ r e;
+      made = ap (λ (es : List Entered). es ++ []) (answer_made_step w t hold here.call here.worker now given ok.0 here.hand here.stage ok.1) ∙ entered_of t _ r e;
       later = next;
       going = subst (λ (y : World). IsGoing bound next y) (sym is) going;
       books = λ u. ap (λ (y : World). (y.tenants u).book) is
@@ -323,10 +326,18 @@ loaded_world w t worker token p =
 
 load_after_step : (w : World) (t worker : ℕ) (token frame : List ℕ) (p : Prepare) → w.hands worker ≡ Hand.Free → (w.tenants t).book.opening.tenant ≡ t
     → arrival token frame ≡ Ok p → after w (Load worker t token frame) ≡ loaded_world w t worker token p
-load_after_step w t worker token frame p free number arrives = rw free (rw (arrives, number) refl)
+load_after_step w t worker token frame p free number arrives =
+    rw free (came w worker t Hand.Free _ _ (arrival_effect (w.tenants t) token frame (Ok p) arrives)
+    ∙ (λ j. record { tenants = put w.tenants t (loaded_tenant w t token p); hands = put w.hands worker (Hand.Has (number j) (w.tenants t).next_call) }))
+
+-- an arrival makes no record
+none_made : (s : Tenant) (token : List ℕ) (a : Result Prepare Malformed) → (arrived s token a).made ≡ None
+none_made s token (Ok p) = refl
+none_made s token (Err wrong) = refl
 
 load_made_step : (w : World) (t worker : ℕ) (token frame : List ℕ) → w.hands worker ≡ Hand.Free → made_in w (owner w.hands (Load worker t token frame)) ≡ []
-load_made_step w t worker token frame free = rw free refl
+load_made_step w t worker token frame free =
+    rw free (ap (λ (m : Option Record). entered t m) (none_made (w.tenants t) token (arrival token frame)))
 
 -- the tenant, with the packet decided
 abbrev decided_tenant : World → ℕ → List ℕ → Prepare → ℕ → Tenant
@@ -343,7 +354,7 @@ abbrev hand_left : ℕ → ℕ → Verdict → Hand
 hand_left t call (Forward hold peer amount expiry) = Hand.Awaits t call
 hand_left t call _ = Hand.Free
 
-told_left : (s : State) (token : List ℕ) (p : Prepare) (t call : ℕ) (v : Verdict) → told (Hand.Has t call) (said s token p v) ≡ hand_left t call v
+told_left : (s : Tenant) (token : List ℕ) (p : Prepare) (t call : ℕ) (v : Verdict) → told (Hand.Has t call) (said s token p v) ≡ hand_left t call v
 told_left s token p t call Unknown = refl
 told_left s token p t call NoRoom = refl
 told_left s token p t call (Refuse code amounts) = refl
@@ -361,17 +372,19 @@ decide_moves : (l : World) (t worker call now : ℕ) (token : List ℕ) (p : Pre
       calls = put (l.tenants t).calls call (stage_after (judge (l.tenants t).book token (key_in p) now));
     }) (hand_left t call (judge (l.tenants t).book token (key_in p) now))
 decide_moves l t worker call now token p hand stage =
+    let effect = decide_effect (l.tenants t) call token p now ((l.tenants t).calls call) stage in
     record {
-      own = rw hand (rw stage (put-same l.tenants t _));
-      others = λ u ne. rw hand (rw stage (put-other l.tenants t _ u ne));
-      hand = put-same l.hands worker _ ∙ rw hand (rw stage (told_left (l.tenants t).book token p t call (judge (l.tenants t).book token (key_in p) now)));
+      own = rw hand (put-same l.tenants t _ ∙ ap (λ (x : Effect). x.after) effect);
+      others = λ u ne. rw hand (put-other l.tenants t _ u ne);
+      hand = put-same l.hands worker _ ∙ rw hand (ap (λ (x : Effect). told (Hand.Has t call) x.output) effect ∙ told_left (l.tenants t) token p t call (judge (l.tenants t).book token (key_in p) now));
       hands = λ k ne. rw hand (put-other l.hands worker _ k ne);
     }
 
 decide_made_step : (l : World) (t worker call now : ℕ) (token : List ℕ) (p : Prepare) → l.hands worker ≡ Hand.Has t call
     → (l.tenants t).calls call ≡ Some (Stage.Ready token p)
     → made_in l (owner l.hands (Decide worker now)) ≡ entered t (decide_made (l.tenants t).book token (key_in p) now)
-decide_made_step l t worker call now token p hand stage = rw hand (rw stage refl)
+decide_made_step l t worker call now token p hand stage =
+    rw hand (ap (λ (x : Effect). entered t x.made) (decide_effect (l.tenants t) call token p now ((l.tenants t).calls call) stage))
 
 -- the verdict begins that hold where the hand awaits it
 begun_in : (t call hold : ℕ) (v : Verdict) → begins hold v ≡ true → (hand_left t call v ≡ Hand.Awaits t call) × (stage_after v ≡ Some (Stage.Sent hold))

@@ -1,23 +1,24 @@
 -- Each event leaves a tenant's calls and holds in step, and an answer meets its hold.
-use Rattle.std.proofs.Common.{◌≡◌, ◌≢◌, ◌+◌, ℕ, List, Bool, true, false, eqb, Option, Some, None, refl, inl, inr, ◌⊎◌, sym, ap, ◌∙◌}
+use Rattle.std.proofs.Common.{◌≡◌, ◌≢◌, ◌+◌, ℕ, List, Bool, true, false, eqb, Option, Some, None, refl, inl, inr, ◌⊎◌, sym, ap, subst, ◌∙◌}
 use Rattle.std.specs.Prelude.{◌||◌, ◌&&◌, not, Result, Ok, Err, is_ok}
 use Rattle.std.proofs.lemmas.Bool.{eq-eqb, ne_eqb}
 use Rattle.std.proofs.lemmas.Bool.Decides.{eqb_tells}
 use Rattle.ilp_view.specs.Packet.{Prepare}
-use Rattle.tenant_core.specs.Answer.{answer_to, answered, ticked}
-use Rattle.tenant_core.specs.Calls.{CallLaws}
+use Rattle.tenant_core.specs.Answer.{answer_to, answer_made, ticked}
 use Rattle.tenant_core.specs.Governed.{commanded}
 use Rattle.tenant_core.specs.Judge.{judge, decided}
 use Rattle.tenant_core.specs.OpenHolds.{is_awaited, begins, OpenHoldLaws}
 use Rattle.tenant_core.specs.Sound.{IsSound}
-use Rattle.tenant_core.specs.State.{State}
+use Rattle.tenant_core.specs.State.{State, recorded}
 use Rattle.tenant_core.specs.declared.faults.HoldFault.{HoldFault}
+use Rattle.tenant_core.specs.declared.journal.Record.{Record}
 use Rattle.tenant_core.specs.declared.verdict.Verdict.{Verdict}
 use Rattle.tenant_core.specs.declared.verdict.Verdict.TheVariants.{Unknown, NoRoom, Refuse, Fulfil, Forward, Relay}
 use Rattle.floor_core.specs.Kept.{IsKept}
-use Rattle.floor_core.specs.World.{Stage, Tenant, Event, put, stage_after, after_alone, arrive_after, decide_after, answer_after, calls_settled, key_in, answer_key, heard, arrival}
+use Rattle.floor_core.specs.World.{Effect, Stage, Tenant, Event, put, after_alone, arrived, call_answered, call_decided, call_settled, key_in, answer_key, heard, arrival}
 use Rattle.floor_core.specs.declared.step.Given.{Given}
 use Rattle.floor_core.specs.declared.step.Malformed.{Malformed}
+use Rattle.floor_core.proofs.Effects.{decide_effect, stage_after}
 
 -- a tenant of these parts
 abbrev pub of_parts : State → ℕ → (ℕ → Option Stage) → Tenant
@@ -97,12 +98,13 @@ decided_kept s book k (Forward hold peer amount expiry) is new i =
     sent s book s.next_call k hold (new hold here) (is hold ∙ or_right (is_awaited s.book hold) (eqb hold hold) here)
     (λ h a. is h ∙ or_left (is_awaited s.book h) (eqb hold h) a) i
 
-decide_kept : OpenHoldLaws → (s : Tenant) (k now : ℕ) (o : Option Stage) → IsSound s.book → IsKept s → IsKept (decide_after s k o now)
+decide_kept : OpenHoldLaws → (s : Tenant) (k now : ℕ) (o : Option Stage) → IsSound s.book → IsKept s → IsKept (call_decided s k o now).after
 decide_kept laws s k now None sound i = i
 decide_kept laws s k now (Some (Stage.Ready token p)) sound i =
     let v = judge s.book token (key_in p) now in
-    decided_kept s (decided s.book token (key_in p) now) k v (laws.decided s.book token (key_in p) now)
-    (λ h b. ap (is_awaited s.book) (laws.begun s.book token (key_in p) now h sound b) ∙ laws.fresh s.book sound) i
+    subst (λ (x : Effect). IsKept x.after) (sym (decide_effect s k token p now (Some (Stage.Ready token p)) refl))
+    (decided_kept s (decided s.book token (key_in p) now) k v (laws.decided s.book token (key_in p) now)
+    (λ h b. ap (is_awaited s.book) (laws.begun s.book token (key_in p) now h sound b) ∙ laws.fresh s.book sound) i)
 decide_kept laws s k now (Some (Stage.Sent hold)) sound i = i
 
 -- another hold is awaited after an answer, if it was before
@@ -110,11 +112,11 @@ other_stays : (a : Bool) (n m : ℕ) → n ≢ m → a ≡ true → (a && not (e
 other_stays a n m ne e = rw e (rw (ne_eqb n m ne) refl)
 
 -- an answer leaves a tenant kept
-settled_kept : (s : Tenant) (book : State) (k hold : ℕ) (r : Result Verdict HoldFault) → s.calls k ≡ Some (Stage.Sent hold)
-    → ((h : ℕ) → is_awaited book h ≡ (is_awaited s.book h && not (eqb h hold))) → is_ok r ≡ is_awaited s.book hold
-    → IsKept s → IsKept (of_parts book s.next_call (calls_settled s.calls k r))
-settled_kept s book k hold (Err f) here is settles i = absurd (let x : false ≡ true = settles ∙ i.waits k hold here in cc)
-settled_kept s book k hold (Ok v) here is settles i = record {
+settled_kept : (s : Tenant) (given : Given) (made : Option Record) (k hold : ℕ) (r : Result Verdict HoldFault) → s.calls k ≡ Some (Stage.Sent hold)
+    → ((h : ℕ) → is_awaited (recorded s.book made) h ≡ (is_awaited s.book h && not (eqb h hold)))
+    → IsKept s → IsKept (call_settled s k given made r).after
+settled_kept s given made k hold (Err f) here is i = i
+settled_kept s given made k hold (Ok v) here is i = record {
   waits = λ n h p. elim (put_at s.calls k None n (Some (Stage.Sent h)) p) [
     | inl a ↦ absurd (unsent_none None refl h a.1)
     | inr a ↦ is h ∙ other_stays (is_awaited s.book h) h hold (λ e. a.0 (i.apart n k h a.1 (here ∙ ap (λ x. Some (Stage.Sent x)) (sym e)))) (i.waits n h a.1)
@@ -125,14 +127,14 @@ settled_kept s book k hold (Ok v) here is settles i = record {
   ];
 }
 
-answer_kept : OpenHoldLaws → CallLaws → (s : Tenant) (k now : ℕ) (given : Given) (o : Option Stage) → s.calls k ≡ o → IsKept s → IsKept (answer_after s k o now given)
-answer_kept laws calls s k now given None e i = i
-answer_kept laws calls s k now given (Some (Stage.Ready token p)) e i = i
-answer_kept laws calls s k now given (Some (Stage.Sent hold)) e i =
-    let key = answer_key (heard given) in
-    settled_kept s (answered s.book hold now key) k hold (answer_to s.book hold now key) e (laws.answered s.book hold now key) (calls.settled s.book hold now key) i
+answer_kept : OpenHoldLaws → (s : Tenant) (k now : ℕ) (given : Given) (o : Option Stage) → s.calls k ≡ o → IsKept s → IsKept (call_answered s k o now given).after
+answer_kept laws s k now given None e i = i
+answer_kept laws s k now given (Some (Stage.Ready token p)) e i = i
+answer_kept laws s k now given (Some (Stage.Sent hold)) e i =
+    let key = answer_key given in
+    settled_kept s given (answer_made s.book hold now key) k hold (answer_to s.book hold now key) e (laws.answered s.book hold now key) i
 
-arrive_kept : (s : Tenant) (token : List ℕ) (r : Result Prepare Malformed) → IsKept s → IsKept (arrive_after s token r)
+arrive_kept : (s : Tenant) (token : List ℕ) (r : Result Prepare Malformed) → IsKept s → IsKept (arrived s token r).after
 arrive_kept s token (Ok p) i = unsent s s.book (s.next_call + 1) s.next_call (Some (Stage.Ready token p)) (unsent_ready token p) (λ h a. a) i
 arrive_kept s token (Err wrong) i = i
 
@@ -142,9 +144,9 @@ IsAskedOf s (Event.Decides call now) = IsSound s.book
 IsAskedOf s _ = Unit {0}
 
 -- each event leaves a tenant kept
-pub after_kept : OpenHoldLaws → CallLaws → (s : Tenant) (e : Event) → IsAskedOf s e → IsKept s → IsKept (after_alone s e)
-after_kept laws calls s (Event.Arrives token bytes) asked i = arrive_kept s token (arrival token bytes) i
-after_kept laws calls s (Event.Decides call now) asked i = decide_kept laws s call now (s.calls call) asked i
-after_kept laws calls s (Event.Answers call now given) asked i = answer_kept laws calls s call now given (s.calls call) refl i
-after_kept laws calls s (Event.Ticks now) asked i = stays s (ticked s.book now) (laws.ticked s.book now) i
-after_kept laws calls s (Event.Governs now command) asked i = stays s (commanded s.book command now) (laws.commanded s.book command now) i
+pub after_kept : OpenHoldLaws → (s : Tenant) (e : Event) → IsAskedOf s e → IsKept s → IsKept (after_alone s e)
+after_kept laws s (Event.Arrives token bytes) asked i = arrive_kept s token (arrival token bytes) i
+after_kept laws s (Event.Decides call now) asked i = decide_kept laws s call now (s.calls call) asked i
+after_kept laws s (Event.Answers call now given) asked i = answer_kept laws s call now (heard given) (s.calls call) refl i
+after_kept laws s (Event.Ticks now) asked i = stays s (ticked s.book now) (laws.ticked s.book now) i
+after_kept laws s (Event.Governs now command) asked i = stays s (commanded s.book command now) (laws.commanded s.book command now) i

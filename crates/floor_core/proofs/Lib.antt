@@ -1,5 +1,7 @@
 pub mod Calls
 pub mod Changed
+pub mod Effects
+pub mod Forwarding
 pub mod Keeping
 pub mod Simulation
 pub mod Views

@@ -24,15 +24,19 @@ use Rattle.floor_core.specs.FloorView.{FloorState, hand_by, hands_of, carried_by
 use Rattle.floor_core.specs.Kept.{IsKept}
 use Rattle.floor_core.specs.Moves.{put_both, output_of, moved, turn_output, got_of, filled}
 use Rattle.floor_core.specs.Work.{Job, Work, IsReadable, verdict_call, given_by, settled_call}
-use Rattle.floor_core.specs.World.{Stage, Tenant, Hand, World, put, said, heard, answer_key, key_in, stage_after, told, no_book}
+use Rattle.floor_core.specs.World.{Effect, Stage, malformed_by, Tenant, Hand, World, arrival, arrived, bytes_given, put, heard, answer_key, key_in, settled_reply, told, no_book}
 use Rattle.floor_core.specs.Worlds.{reply, after}
 use Rattle.floor_core.specs.declared.floor.Seat.{Seat}
 use Rattle.floor_core.specs.declared.step.Given.{Given}
+use Rattle.floor_core.specs.declared.step.Malformed.{Malformed}
+use Rattle.floor_core.specs.declared.step.Malformed.TheVariants as malformed
+use Rattle.floor_core.specs.declared.step.Output.TheVariants as output
 use Rattle.floor_core.specs.declared.step.Given.TheVariants as given
 use Rattle.floor_core.specs.declared.step.Step.{Step}
 use Rattle.floor_core.specs.declared.step.Step.TheVariants.{Load, Decide, Answer, Tick, Govern}
 use Rattle.floor_core.proofs.Calls.{Apart, put-back, lookup}
 use Rattle.floor_core.proofs.Changed.{Changes, Counts, world_changed, sound_changed, placed_set}
+use Rattle.floor_core.proofs.Effects.{answer_effect, arrival_effect, decide_effect, said, stage_after}
 
 -- what is to be shown of a step
 pub record Simulates (f : FloorState) (step : Step) : Type 0 where
@@ -117,9 +121,15 @@ settles f w t old new l stage lt i e b g placed =
       sound = sound_changed f w t (get_or f.seats w no_seat).call (record { slot = new; call = (get_or f.seats w no_seat).call }) l f.next_calls i ch co placed;
     }
 
+-- the world after what came of a step to a tenant
+came : (f : FloorState) (w t : ℕ) (hand : Hand) (x y : Effect) → x ≡ y
+    → (let m : World = record { tenants = put (tenant_of f) t x.after; hands = put (hands_of f.seats) w (told hand x.output) } in m)
+    ≡ record { tenants = put (tenant_of f) t y.after; hands = put (hands_of f.seats) w (told hand y.output) }
+came f w t hand x y e = λ j. record { tenants = put (tenant_of f) t (e j).after; hands = put (hands_of f.seats) w (told hand (e j).output) }
+
 -- ---- a decide
 
-told_by : (s : State) (t k : ℕ) (token : List ℕ) (p : Prepare) (room : List ℕ) (made : Option Record) (v : Verdict) → hand_by (verdict_call s t token p room made v).work.job k ≡ told (Hand.Has t k) (said s token p v)
+told_by : (s : Tenant) (t k : ℕ) (token : List ℕ) (p : Prepare) (room : List ℕ) (made : Option Record) (v : Verdict) → hand_by (verdict_call s.book t token p room made v).work.job k ≡ told (Hand.Has t k) (said s token p v)
 told_by s t k token p room made Unknown = refl
 told_by s t k token p room made NoRoom = refl
 told_by s t k token p room made (Refuse code amounts) = refl
@@ -143,8 +153,8 @@ made_by s t token p room made Fulfil = refl
 made_by s t token p room made (Forward hold peer amount expiry) = refl
 made_by s t token p room made Relay = refl
 
-said_by : (s : State) (t : ℕ) (token : List ℕ) (p : Prepare) (room : List ℕ) (made : Option Record) (v : Verdict) → s.opening.tenant ≡ t
-    → turn_output t s (verdict_call s t token p room made v).work (verdict_call s t token p room made v).turn ≡ said s token p v
+said_by : (s : Tenant) (t : ℕ) (token : List ℕ) (p : Prepare) (room : List ℕ) (made : Option Record) (v : Verdict) → s.book.opening.tenant ≡ t
+    → turn_output t s.book (verdict_call s.book t token p room made v).work (verdict_call s.book t token p room made v).turn ≡ said s token p v
 said_by s t token p room made Unknown e = rw e refl
 said_by s t token p room made NoRoom e = rw e refl
 said_by s t token p room made (Refuse code amounts) e = rw e refl
@@ -168,9 +178,11 @@ decides_packet laws f w now t token frame p lt i e r =
     let made = decide_made book token (key_in p) now in
     let s = settles f w t (Job.Carries t token frame) (verdict_call book t token p room made v).work l (stage_after v) lt i e refl (goes_by_verdict book t k token p room made v) ((laws.same_decided book token (key_in p) now).number ∙ here) in
     let m = made_by book t token p room made v in
+    let own = tenant_of f t in
+    let effect = decide_effect own k token p now (calls_of t f.seats k) stage in
     record {
-      output = rw (e, e, q, r) (rw stage (said_by book t token p room made v here));
-      world = rw (e, e, q, r, m) (rw stage (s.world ∙ same_hand _ _ w _ _ (told_by book t k token p room made v)));
+      output = rw (e, e, q, r) (said_by own t token p room made v here ∙ sym (ap (λ (x : Effect). x.output) effect));
+      world = rw (e, e, q, r, m) (s.world ∙ same_hand _ _ w _ _ (told_by own t k token p room made v) ∙ sym (came f w t (Hand.Has t k) _ _ effect));
       sound = rw (e, e, q, r, m) s.sound;
     }
 
@@ -227,9 +239,12 @@ answers_settled laws f w now g t hold frame v lt i e r =
     let h : given_by slot.room (got_of g) ≡ heard g = heard_by (get_or f.seats w no_seat).slot g in
     let l = answered book hold now (answer_key (heard g)) in
     let s = settles f w t (Job.Waits t hold frame) (settled_call slot book (heard g) None (Ok v)).work l None lt i e refl (record { stage_is = refl; ends = inl refl; readable = tt }) ((laws.same_answered book hold now (answer_key (heard g))).number ∙ here) in
+    let k = (get_or f.seats w no_seat).call in
+    let effect = answer_effect (tenant_of f t) k hold now (heard g) v (calls_of t f.seats k) c.1 r in
+    let text = settled_reply book.opening.address (bytes_given (heard g)) v in
     record {
-      output = rw (e, j, h, q, r) (rw c.1 (rw (r, here) refl));
-      world = rw (e, j, h, q, r) (rw c.1 (rw r s.world));
+      output = rw (e, j, h, q, r) (ap (λ n. output.Reply n text) (sym here) ∙ sym (ap (λ (x : Effect). x.output) effect));
+      world = rw (e, j, h, q, r) (s.world ∙ sym (came f w t (Hand.Awaits t k) _ _ effect));
       sound = rw (e, j, h, q, r) s.sound;
     }
 
@@ -288,9 +303,10 @@ loads_no_token : (f : FloorState) (w t : ℕ) (token bytes : List ℕ) → t < l
 loads_no_token f w t token bytes there i e b =
     let s = same_load f w in
     let here = i.placed t there in
+    let effect = arrival_effect (tenant_of f t) token bytes (Err malformed.Token) (rw b refl) in
     record {
-      output = rw (e, b) (rw here refl);
-      world = rw (e, b) (ap world_of s ∙ no_news_of f w t (rw e refl));
+      output = rw (e, b) (ap (λ n. output.Bad n malformed.Token) (sym here) ∙ sym (ap (λ (x : Effect). x.output) effect));
+      world = rw (e, b) (ap world_of s ∙ no_news_of f w t (rw e refl) ∙ sym (came f w t Hand.Free _ _ effect));
       sound = rw (e, b) (rw s i);
     }
 
@@ -299,9 +315,10 @@ loads_bad : (f : FloorState) (w t : ℕ) (token bytes : List ℕ) (fault : ViewF
 loads_bad f w t token bytes fault there i e b r =
     let s = same_load f w in
     let here = i.placed t there in
+    let effect = arrival_effect (tenant_of f t) token bytes (Err (malformed_by fault)) (rw (b, r) refl) in
     record {
-      output = rw (e, b, r) (rw here refl);
-      world = rw (e, b, r) (ap world_of s ∙ no_news_of f w t (rw e refl));
+      output = rw (e, b, r) (ap (λ n. output.Bad n (malformed_by fault)) (sym here) ∙ sym (ap (λ (x : Effect). x.output) effect));
+      world = rw (e, b, r) (ap world_of s ∙ no_news_of f w t (rw e refl) ∙ sym (came f w t Hand.Free _ _ effect));
       sound = rw (e, b, r) (rw s i);
     }
 
@@ -347,13 +364,15 @@ loads_good f w t token bytes p lt there i e b r =
     let same = same_books f.books t in
     let wc = world_changed f w t k s (get_or f.books t no_book) nexts ch co in
     let so = sound_changed f w t k s (get_or f.books t no_book) nexts i ch co here in
+    let effect = arrival_effect (tenant_of f t) token bytes (Ok p) (rw (b, r) refl) in
     record {
-      output = rw (e, b, r) (rw here refl);
+      output = rw (e, b, r) (ap (λ n. output.Loaded n k) (sym here) ∙ sym (ap (λ (x : Effect). x.output) effect));
       world = rw (e, b, r) (
           ap (λ (z : List State). world_of (record { seats = set f.seats w s; books = z; next_calls = nexts })) (sym same)
           ∙ wc
           ∙ (λ j. record { tenants = put (tenant_of f) t (record { book = get_or f.books t no_book; next_call = next j; calls = put (calls_of t f.seats) k (stage_of_frame token (r j)) }); hands = put (hands_of f.seats) w (Hand.Has t k) })
-          ∙ same_hand _ (hands_of f.seats) w _ _ (ap (λ x. Hand.Has x k) (sym here)));
+          ∙ same_hand _ (hands_of f.seats) w _ _ (ap (λ x. Hand.Has x k) (sym here))
+          ∙ sym (came f w t Hand.Free _ _ effect));
       sound = rw (e, b, r) (subst (λ (z : List State). IsSound (record { seats = set f.seats w s; books = z; next_calls = nexts })) same so);
     }
 

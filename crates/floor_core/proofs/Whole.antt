@@ -23,9 +23,9 @@ abbrev OwnerAsks : World → Owner → Type 0
 OwnerAsks w (Owner.Nobody out) = Unit {0}
 OwnerAsks w (Owner.Own t e) = IsAskedOf (w.tenants t) e
 
-tenants_kept : OpenHoldLaws → CallLaws → (w : World) (o : Owner) → OwnerAsks w o → ((t : ℕ) → IsKept (w.tenants t)) → (t : ℕ) → IsKept (tenants_after w o t)
-tenants_kept laws calls w (Owner.Nobody out) asked i t = i t
-tenants_kept laws calls w (Owner.Own u e) asked i t = elim (eqb_tells t u) [ inl a ↦ rw a.0 (after_kept laws calls (w.tenants u) e asked (i u)) | inr a ↦ rw a.0 (i t) ]
+tenants_kept : OpenHoldLaws → (w : World) (o : Owner) → OwnerAsks w o → ((t : ℕ) → IsKept (w.tenants t)) → (t : ℕ) → IsKept (tenants_after w o t)
+tenants_kept laws w (Owner.Nobody out) asked i t = i t
+tenants_kept laws w (Owner.Own u e) asked i t = elim (eqb_tells t u) [ inl a ↦ rw a.0 (after_kept laws (w.tenants u) e asked (i u)) | inr a ↦ rw a.0 (i t) ]
 
 load_asks : (f : FloorState) (job : Job) (call t : ℕ) (token bytes : List ℕ) → OwnerAsks (world_of f) (load_owner (hand_by job call) t token bytes)
 load_asks f Job.NoJob call t token bytes = tt
@@ -62,7 +62,7 @@ steps laws calls f step i h asked =
       world = s.world;
       whole = record {
         sound = s.sound;
-        tenants = λ t. subst IsKept (sym (ap (λ (w : World). w.tenants t) s.world)) (tenants_kept laws calls (world_of f) (owner (hands_of f.seats) step) (owner_asks f step asked) i.tenants t);
+        tenants = λ t. subst IsKept (sym (ap (λ (w : World). w.tenants t) s.world)) (tenants_kept laws (world_of f) (owner (hands_of f.seats) step) (owner_asks f step asked) i.tenants t);
       };
     }
 

@@ -8,9 +8,8 @@ use Rattle.tenant_core.specs.State.{State, opened, recorded}
 use Rattle.tenant_core.specs.declared.command.Command.{Command}
 use Rattle.tenant_core.specs.declared.journal.Record.{Record}
 use Rattle.tenant_core.specs.declared.opening.Opening.{Opening}
-use Rattle.floor_core.specs.World.{Stage, Tenant, Event, Owner, World, put, new_tenant, no_book, arrival, key_in, answer_key, heard}
-use Rattle.floor_core.specs.World.{all_free, owner}
-use Rattle.floor_core.specs.World.Event.{Arrives, Decides, Answers, Ticks, Governs}
+use Rattle.floor_core.specs.World.{Tenant, Event, Owner, World, put, new_tenant, no_book, arrival, key_in, answer_key, heard}
+use Rattle.floor_core.specs.World.{effect_of, all_free, owner}
 use Rattle.floor_core.specs.Worlds.{after, after_all}
 use Rattle.floor_core.specs.declared.step.Given.{Given}
 use Rattle.floor_core.specs.declared.step.Malformed.{Malformed}
@@ -67,23 +66,9 @@ AreCaused books (e ∷ es) left =
 
 -- ---- records of steps
 
--- the record that the decide of a call makes
-abbrev pub made_by_decide : State → Option Stage → ℕ → Option Record
-made_by_decide s (Some (Stage.Ready token p)) now = decide_made s token (key_in p) now
-made_by_decide s _ now = None
-
--- the record that the answer to a call makes
-abbrev pub made_by_answer : State → Option Stage → ℕ → Given → Option Record
-made_by_answer s (Some (Stage.Sent hold)) now given = answer_made s hold now (answer_key (heard given))
-made_by_answer s _ now given = None
-
 -- the record that an event makes in the book of the one-tenant connector
 abbrev pub made_alone : Tenant → Event → Option Record
-made_alone s (Arrives token bytes) = None
-made_alone s (Decides call now) = made_by_decide s.book (s.calls call) now
-made_alone s (Answers call now given) = made_by_answer s.book (s.calls call) now given
-made_alone s (Ticks now) = tick_made s.book now
-made_alone s (Governs now command) = command_made s.book command now
+made_alone s e = (effect_of s e).made
 
 -- the record that a step makes, by its owner
 abbrev pub made_in : World → Owner → List Entered

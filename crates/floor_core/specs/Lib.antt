@@ -9,6 +9,7 @@ pub mod FloorView
 pub mod Moves
 pub mod Worlds
 pub mod Causes
+pub mod Forwards
 pub mod Told
 pub mod Parts
 pub mod FloorKept

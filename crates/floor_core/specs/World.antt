@@ -8,17 +8,18 @@ use Rattle.ilp_view.specs.declared.fault.ViewFault.{ViewFault}
 use Rattle.ilp_view.specs.declared.fault.ViewFault.TheVariants as fault
 use Rattle.ilp_view.specs.Packet.{Prepare, Fulfill, Reject, max_frame, with_amount_and_expiry}
 use Rattle.ilp_view.specs.Reading.{prepare_at, fulfill_at, reject_at}
-use Rattle.tenant_core.specs.Answer.{answer_to, answered, tick_result, ticked}
-use Rattle.tenant_core.specs.Governed.{command_answer, commanded}
-use Rattle.tenant_core.specs.Judge.{judge, decided}
+use Rattle.tenant_core.specs.Answer.{answer_to, answer_made, tick_made, tick_result, ticked}
+use Rattle.tenant_core.specs.Governed.{command_answer, command_made, commanded}
+use Rattle.tenant_core.specs.Judge.{judge, decide_made}
 use Rattle.tenant_core.specs.Key.{Key}
 use Rattle.tenant_core.specs.Network.{nobody, peer_numbered}
 use Rattle.tenant_core.specs.Present.{network_of}
-use Rattle.tenant_core.specs.State.{State, opened, opening_of}
+use Rattle.tenant_core.specs.State.{State, opened, opening_of, recorded}
 use Rattle.tenant_core.specs.declared.command.Command.{Command}
 use Rattle.tenant_core.specs.declared.faults.HoldFault.{HoldFault}
 use Rattle.tenant_core.specs.declared.journal.AnswerKey.{AnswerKey}
 use Rattle.tenant_core.specs.declared.journal.AnswerKey.TheVariants as key
+use Rattle.tenant_core.specs.declared.journal.Record.{Record}
 use Rattle.tenant_core.specs.declared.peer.Peer.{Peer}
 use Rattle.tenant_core.specs.declared.terms.TenantTerms.{TenantTerms}
 use Rattle.tenant_core.specs.declared.verdict.Verdict.{Verdict}
@@ -99,52 +100,6 @@ abbrev pub peer_name : Option Peer → List ℕ
 peer_name None = []
 peer_name (Some p) = p.terms.name
 
--- what a verdict on a packet is answered with, which came with this token; the packet that goes on is the one that
--- came, with another amount and another expiry
-abbrev pub said : State → List ℕ → Prepare → Verdict → Output
-said s token p Unknown = Stranger s.opening.tenant
-said s token p (Forward hold peer amount expiry) =
-    Send s.opening.tenant (peer_name (peer_numbered peer (network_of s).peers)) hold
-    (with_amount_and_expiry p amount (timestamp_of expiry))
-said s token p v = Reply s.opening.tenant (decision_reply s token v)
-
--- the call after that verdict: it awaits its answer where the packet went on, else it has ended
-abbrev pub stage_after : Verdict → Option Stage
-stage_after (Forward hold peer amount expiry) = Some (Sent hold)
-stage_after _ = None
-
--- what an arrival is answered with
-abbrev pub arrive_reply : Tenant → Result Prepare Malformed → Output
-arrive_reply s (Ok p) = Loaded (number_of s) s.next_call
-arrive_reply s (Err wrong) = Bad (number_of s) wrong
-
--- what an arrival leaves
-abbrev pub arrive_after : Tenant → List ℕ → Result Prepare Malformed → Tenant
-arrive_after s token (Ok p) =
-    record {
-      book = s.book;
-      next_call = s.next_call + 1;
-      calls = put s.calls s.next_call (Some (Ready token p));
-    }
-arrive_after s token (Err wrong) = s
-
--- what the decide of a call is answered with
-abbrev pub decide_reply : Tenant → Option Stage → ℕ → Output
-decide_reply s None now = Idle
-decide_reply s (Some (Ready token p)) now = said s.book token p (judge s.book token (key_in p) now)
-decide_reply s (Some (Sent hold)) now = Idle
-
--- what the decide of a call leaves
-abbrev pub decide_after : Tenant → ℕ → Option Stage → ℕ → Tenant
-decide_after s call None now = s
-decide_after s call (Some (Ready token p)) now =
-    record {
-      book = decided s.book token (key_in p) now;
-      next_call = s.next_call;
-      calls = put s.calls call (stage_after (judge s.book token (key_in p) now));
-    }
-decide_after s call (Some (Sent hold)) now = s
-
 -- what came back, if it was an answer of the protocol: a Fulfill, or else a Reject (RFC 0027)
 abbrev pub key_read : Result Fulfill ViewFault → Result Reject ViewFault → AnswerKey
 key_read (Ok p) other = key.Fulfilled p.fulfillment
@@ -172,47 +127,92 @@ settled_reply address bytes Relay = bytes
 settled_reply address bytes (Refuse code amounts) = refusal_reply address code amounts
 settled_reply address bytes _ = []
 
--- what is said of an answer to a hold; of one that awaits none, nothing
-abbrev pub said_back : State → Given → Result Verdict HoldFault → Output
-said_back s given (Ok v) = Reply s.opening.tenant (settled_reply s.opening.address (bytes_given given) v)
-said_back s given (Err f) = Idle
+-- ---- what comes of an event
 
--- what the answer to a call is answered with
-abbrev pub answer_reply : Tenant → Option Stage → ℕ → Given → Output
-answer_reply s (Some (Sent hold)) now given =
-    said_back s.book (heard given) (answer_to s.book hold now (answer_key (heard given)))
-answer_reply s _ now given = Idle
+-- what is said of an event, where it leaves the tenant, and the record that it makes in the book, if it makes one
+pub record Effect : Type 0 where
+  pub output : Output
+  pub after : Tenant
+  pub made : Option Record
 
--- a call has ended once its hold was settled
-abbrev pub calls_settled : (ℕ → Option Stage) → ℕ → Result Verdict HoldFault → ℕ → Option Stage
-calls_settled calls call (Ok v) = put calls call None
-calls_settled calls call (Err f) = calls
+-- nothing happens
+abbrev pub no_effect : Tenant → Effect
+no_effect s = record { output = Idle; after = s; made = None }
 
--- what the answer to a call leaves
-abbrev pub answer_after : Tenant → ℕ → Option Stage → ℕ → Given → Tenant
-answer_after s call (Some (Sent hold)) now given =
+-- this is said, the book is left so, and that record is made, if any
+abbrev pub on_book : Tenant → Output → State → Option Record → Effect
+on_book s output book made = record { output = output; after = record s { book = book }; made = made }
+
+-- this is said of a call, which comes to that stage or ends, and that record is made, if any
+abbrev pub on_call : Tenant → (call : ℕ) → Option Stage → Output → Option Record → Effect
+on_call s call stage output made =
     record {
-      book = answered s.book hold now (answer_key (heard given));
-      next_call = s.next_call;
-      calls = calls_settled s.calls call (answer_to s.book hold now (answer_key (heard given)));
+      output = output;
+      after = record { book = recorded s.book made; next_call = s.next_call; calls = put s.calls call stage };
+      made = made;
     }
-answer_after s call _ now given = s
 
--- the one-tenant connector: what it says to an event
+-- an arrival: a packet is the next call
+abbrev pub arrived : Tenant → (token : List ℕ) → Result Prepare Malformed → Effect
+arrived s token (Ok p) =
+    record {
+      output = Loaded (number_of s) s.next_call;
+      after = record {
+        book = s.book;
+        next_call = s.next_call + 1;
+        calls = put s.calls s.next_call (Some (Ready token p));
+      };
+      made = None;
+    }
+arrived s token (Err wrong) = record { output = Bad (number_of s) wrong; after = s; made = None }
+
+-- a verdict on the packet of a call, which came with this token: the packet that goes on is the one that came, with another
+-- amount and another expiry, and awaits its answer
+abbrev pub call_judged : Tenant → (call : ℕ) → (token : List ℕ) → Prepare → Option Record → Verdict → Effect
+call_judged s call token p made Unknown = on_call s call None (Stranger (number_of s)) made
+call_judged s call token p made (Forward hold peer amount expiry) =
+    on_call s call (Some (Sent hold))
+    (Send (number_of s) (peer_name (peer_numbered peer (network_of s.book).peers)) hold
+    (with_amount_and_expiry p amount (timestamp_of expiry))) made
+call_judged s call token p made v = on_call s call None (Reply (number_of s) (decision_reply s.book token v)) made
+
+-- the decide of a call that stands there
+abbrev pub call_decided : Tenant → (call : ℕ) → Option Stage → (now : ℕ) → Effect
+call_decided s call (Some (Ready token p)) now =
+    call_judged s call token p (decide_made s.book token (key_in p) now) (judge s.book token (key_in p) now)
+call_decided s call _ now = no_effect s
+
+-- the answer to a hold, which settles its call; to one that awaits none, nothing
+abbrev pub call_settled : Tenant → (call : ℕ) → Given → Option Record → Result Verdict HoldFault → Effect
+call_settled s call given made (Ok v) =
+    on_call s call None (Reply (number_of s) (settled_reply s.book.opening.address (bytes_given given) v)) made
+call_settled s call given made (Err f) = no_effect s
+
+-- the answer to a call that stands there
+abbrev pub call_answered : Tenant → (call : ℕ) → Option Stage → (now : ℕ) → Given → Effect
+call_answered s call (Some (Sent hold)) now given =
+    call_settled s call given (answer_made s.book hold now (answer_key given))
+    (answer_to s.book hold now (answer_key given))
+call_answered s call _ now given = no_effect s
+
+-- the one-tenant connector: what comes of an event
+abbrev pub effect_of : Tenant → Event → Effect
+effect_of s (Arrives token bytes) = arrived s token (arrival token bytes)
+effect_of s (Decides call now) = call_decided s call (s.calls call) now
+effect_of s (Answers call now given) = call_answered s call (s.calls call) now (heard given)
+effect_of s (Ticks now) =
+    on_book s (Ticked (number_of s) (tick_result s.book now)) (ticked s.book now) (tick_made s.book now)
+effect_of s (Governs now command) =
+    on_book s (Governed (number_of s) (command_answer s.book command now)) (commanded s.book command now)
+    (command_made s.book command now)
+
+-- what it says to an event
 abbrev pub reply_alone : Tenant → Event → Output
-reply_alone s (Arrives token bytes) = arrive_reply s (arrival token bytes)
-reply_alone s (Decides call now) = decide_reply s (s.calls call) now
-reply_alone s (Answers call now given) = answer_reply s (s.calls call) now given
-reply_alone s (Ticks now) = Ticked (number_of s) (tick_result s.book now)
-reply_alone s (Governs now command) = Governed (number_of s) (command_answer s.book command now)
+reply_alone s e = (effect_of s e).output
 
--- the one-tenant connector: where an event leaves it
+-- where an event leaves it
 abbrev pub after_alone : Tenant → Event → Tenant
-after_alone s (Arrives token bytes) = arrive_after s token (arrival token bytes)
-after_alone s (Decides call now) = decide_after s call (s.calls call) now
-after_alone s (Answers call now given) = answer_after s call (s.calls call) now given
-after_alone s (Ticks now) = record s { book = ticked s.book now }
-after_alone s (Governs now command) = record s { book = commanded s.book command now }
+after_alone s e = (effect_of s e).after
 
 -- what the one-tenant connector says to events, one after the other
 abbrev pub run_alone : Tenant → List Event → List Output

@@ -4,7 +4,8 @@ ghost use Rattle.std.specs.Prelude.{◌≡◌, ◌<◌, ◌++◌, ℕ, List, All
 ghost use Rattle.tenant_core.specs.State.{State};
 ghost use Rattle.tenant_core.specs.declared.opening.Opening.{Opening};
 ghost use Rattle.floor_core.specs.Causes.{AreCaused, ArePlaced, AreRun, Entered, book_opened};
-ghost use Rattle.floor_core.specs.World.{World, owners, own_steps, seen_by, AreOutputs, IsLeft};
+ghost use Rattle.floor_core.specs.Forwards.{AreForwards, HasBytes, no_frames};
+ghost use Rattle.floor_core.specs.World.{World, FitsIn, all_free, number_of, owners, own_steps, seen_by, AreOutputs, IsLeft};
 ghost use Rattle.floor_core.specs.Worlds.{replies, after_all};
 ghost use Rattle.floor_core.specs.declared.step.Step.{Step};
 ghost use Rattle.floor_core.specs.declared.step.Output.{Output};
@@ -32,6 +33,19 @@ pub fn one_after_the_other()
         → AreOutputs world steps xs → IsLeft world steps xs between → AreOutputs between more ys
         → IsLeft between more ys last → IsLeft world (steps ++ more) (xs ++ ys) last }
 {}
+
+/// Where no worker has anything in hand, each frame that steps send on is the one that came at the last good load of its
+/// worker, with 8 other bytes for its amount and 17 others for its expiry. (RFC 0027, "ILP Prepare")
+pub fn frames_that_go_on()
+    ensures { (world : World) (workers tenants : ℕ) (steps : List Step) (outputs : List Output)
+        → ((t : ℕ) → t < tenants → number_of (world.tenants t) ≡ t) → world.hands ≡ all_free
+        → All (FitsIn workers tenants) steps → All HasBytes steps
+        → AreOutputs world steps outputs → AreForwards no_frames steps outputs }
+{
+    tenant_core::laws::calls();
+    ilp_view::laws::what_is_read_is_a_prepare();
+    ilp_view::laws::forwards_change_two_fields();
+}
 
 /// Two worlds, with any other tenants and any numbers of workers, in which a tenant stands alike, and two lists of
 /// steps of which the tenant's own are alike: the tenant sees the same, and stands alike afterwards.
