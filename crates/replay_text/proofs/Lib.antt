@@ -4,6 +4,7 @@ pub mod Fronts
 pub mod Scripts
 pub mod Governs
 pub mod Known
+pub mod Octets
 pub mod Fits
 pub mod Composition
 pub mod OneText

@@ -1,6 +1,6 @@
 -- What the steps of numbered lines are, and which line is named.
-use Rattle.std.proofs.Common.{◌≡◌, ◌⊎◌, ℕ, ◌+◌, List, [], ◌∷◌, ◌++◌, length, Result, Ok, Err, refl, sym, ap, ◌∙◌, inl, inr, arith}
-use Rattle.std.specs.Prelude.{◌≤◌, OnOk}
+use Rattle.std.proofs.Common.{◌≡◌, ◌⊎◌, ℕ, ◌+◌, List, [], ◌∷◌, ◌++◌, length, Bool, true, false, cond, Result, Ok, Err, refl, sym, ap, ◌∙◌, inl, inr, arith}
+use Rattle.std.specs.Prelude.{◌≤◌, OnOk, nat_lt}
 use Rattle.std.proofs.lemmas.List.Elements.{filter_map-append}
 use Rattle.std.specs.List.{filter_map, cons_option, AllByRecursion}
 use Rattle.floor_core.specs.declared.step.Step.{Step}
@@ -107,6 +107,15 @@ checked_err (Err (errors.Fault f)) read fault given is = cc
 -- a good line's step, and those of the lines behind it
 pub steps_behind : (names : List (List ℕ)) (workers : ℕ) (line : List ℕ) (lines : List (List ℕ)) → steps_in names workers (line ∷ []) ++ steps_in names workers lines ≡ steps_in names workers (line ∷ lines)
 steps_behind names workers line lines = sym (filter_map-append (λ (l : List ℕ). step_in (meaning_of names workers l)) (line ∷ []) lines)
+
+-- the steps of a script are those of its lines
+pub script_steps : (names : List (List ℕ)) (workers : ℕ) (text : List ℕ) (steps : List Step) → steps_of_script names workers text ≡ Ok steps → steps ≡ steps_in names workers (lines_of text)
+unfolding steps_of_script
+script_steps names workers text steps e = by (nat_lt 16_777_216 (length text)) e
+  where
+    by : (b : Bool) → cond b (Err Size) (steps_from names workers 1 (lines_of text)) ≡ Ok steps → steps ≡ steps_in names workers (lines_of text)
+    by true e = absurd cc
+    by false e = (steps_are names workers 1 (lines_of text) steps e).in_order
 
 -- the steps of a script that was found good
 pub good_steps : (names : List (List ℕ)) (workers : ℕ) (text : List ℕ) → length text ≤ 16_777_216 → (steps : List Step) × AreSteps names workers (lines_of text) steps → steps_of_script names workers text ≡ Ok (steps_in names workers (lines_of text))

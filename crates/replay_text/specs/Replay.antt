@@ -1,7 +1,8 @@
 -- What a replay of a script for a setup writes, and what refuses it.
-use Rattle.std.specs.Prelude.{ℕ, ◌≡◌, List, map, ◌++◌, ◌⊎◌, Option, Some, option_map, Result, Ok, Err, IfSome}
+use Rattle.std.specs.Prelude.{ℕ, ◌≡◌, List, map, ◌++◌, ◌⊎◌, Option, Some, option_map, Result, Ok, Err, IfSome, IsOk}
 use Rattle.std.specs.Result.{result_err}
 use Rattle.std.specs.Io.KnownBytes.{Keeps, Appends}
+use Rattle.floor_core.specs.Forwards.{AreForwards, no_frames}
 use Rattle.floor_core.specs.World.{World, world_at_start, AreOutputs, IsLeft}
 use Rattle.floor_core.specs.declared.step.Output.{Output}
 use Rattle.floor_core.specs.declared.step.Step.{Step}
@@ -23,7 +24,8 @@ abbrev pub names_in : Setup → List (List ℕ)
 names_in s = map (λ t. t.name) s.tenants
 
 -- The setup and the script are well formed, and what is written is the lines of the outputs of the script's steps: to
--- each tenant those of the one-tenant connector on the tenant's own steps alone, and nobody's.
+-- each tenant those of the one-tenant connector on the tenant's own steps alone, and nobody's. Each frame that goes on is
+-- the one that came, with 8 other bytes for its amount and 17 others for its expiry.
 pub record IsReplayed (setup_text : List ℕ) (workers : ℕ) (script written : List ℕ) : Type 0 where
   pub setup : Setup
   pub steps : List Step
@@ -31,6 +33,7 @@ pub record IsReplayed (setup_text : List ℕ) (workers : ℕ) (script written : 
   pub setup_is : setup_of setup_text ≡ Ok setup
   pub steps_are : steps_of_script (names_in setup) workers script ≡ Ok steps
   pub outputs_are : AreOutputs (world_of_setup setup) steps outputs
+  pub forwards_are : AreForwards no_frames steps outputs
   pub written_is : written ≡ printed_lines (names_in setup) outputs
 
 -- the exit status of a program that a replay with this fault ends
@@ -46,13 +49,14 @@ refusal_of (Ok setup) workers script =
     option_map (λ f. fault.Script f) (result_err (steps_of_script (names_in setup) workers script))
 refusal_of (Err f) workers script = Some (fault.Setup f)
 
--- A setup or a script is refused by its own first fault. Of memory and devices nothing is said here.
+-- A setup is refused by its first fault, and a script by its own where the setup is good. Of memory and devices nothing is
+-- said here.
 abbrev pub IsRefusedBy : ReplayFault → Result Setup SetupFault → ℕ → Option (List ℕ) → Type 0
 IsRefusedBy fault.Memory read workers known = Unit {0}
 IsRefusedBy fault.Device read workers known = Unit {0}
 IsRefusedBy (fault.Setup f) read workers known = read ≡ Err f
 IsRefusedBy (fault.Script f) read workers known =
-    IfSome known (λ script. refusal_of read workers script ≡ Some (fault.Script f))
+    IsOk read × IfSome known (λ script. refusal_of read workers script ≡ Some (fault.Script f))
 
 -- what is to be written was written whole
 abbrev pub WritesAll : List ℕ → ℕ → List ℕ → Option (List ℕ) → Option (List ℕ) → Type 0

@@ -16,7 +16,7 @@ use crate::streams::{StreamFault, read_script, write_text};
 use admin_text::laws::setups;
 use admin_text::{Setup, SetupFault, read_setup};
 use common_types::{Name, ReadError};
-use floor_core::laws::{one_after_the_other, outputs_are_there};
+use floor_core::laws::{frames_that_go_on, one_after_the_other, outputs_are_there};
 use floor_core::{Floor, Step};
 use oer_core::Device;
 use std::alloc::{AllocError, Global};
@@ -314,6 +314,7 @@ pub fn replay<R: Read + Device, W: Write + Device>(
     ensures taken { ConsumesAtMost 16_777_217 (R.remaining reader.old) (R.remaining reader.new) }
 {
     setups();
+    frames_that_go_on();
     match read_setup(alloc, setup) {
         Ok(setup) => replay_for(alloc, &setup, workers, reader, writer),
         Err(ReadError::Memory) => Err(ReplayFault::Memory),
