@@ -6,3 +6,4 @@ pub mod Only
 pub mod Spaces
 pub mod PrefixWords
 pub mod Few
+pub mod OwnTerms

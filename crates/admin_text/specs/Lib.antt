@@ -1,8 +1,11 @@
 pub mod Prefixes
 pub mod Keys
+pub mod Outcomes
 pub mod Networks
 pub mod TenantTable
+pub mod OwnTerms
 pub mod Tenants
 pub mod Setup
+pub mod Wrong
 pub mod Spaces
 pub mod Commands

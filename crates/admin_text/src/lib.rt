@@ -11,6 +11,7 @@ mod prefixes;
 mod setup;
 mod wanted;
 mod written;
+mod wrong;
 
 pub use commands::{TextFault, parse_command};
 pub use explained::{Explained, explain};

@@ -1,17 +1,30 @@
 //! Whom a tenant deals with at the start, as its setup says: peers, routes and rates in the order given, each by the rules
 //! of the commands.
 
-ghost use Rattle.std.specs.Prelude.{◌≡◌, IfOk, IfSome, IsSome};
+ghost use Rattle.std.specs.Prelude.{◌≡◌, codes, option_and_then, IfOk, IfSome, IsSome};
+ghost use Rattle.std.specs.Result.{result_ok};
+ghost use Rattle.money_core.specs.Price.{rate_at};
 ghost use Rattle.toml.specs.View.{view, items_view, table_view};
 ghost use Rattle.tenant_core.specs.Network.{peer_numbered};
-ghost use Rattle.admin_text.specs.Networks.{with_peer_of, with_peer_in, with_peers_of, peer_under, rate_of};
-ghost use Rattle.admin_text.specs.Networks.{with_route_of, with_route_in, with_routes_of};
-ghost use Rattle.admin_text.specs.Networks.{with_rate_of, with_rate_in, with_rates_of, network_of};
+ghost use Rattle.admin_text.specs.Networks.{with_peer_in, with_peers_of, peer_under, rate_of};
+ghost use Rattle.admin_text.specs.Networks.{with_route_in, with_routes_of};
+ghost use Rattle.admin_text.specs.Networks.{with_rate_in, with_rates_of, network_of};
+ghost use Rattle.admin_text.specs.Outcomes.{known};
+ghost use Rattle.admin_text.specs.Keys.{string_under};
+ghost use Rattle.admin_text.specs.Prefixes.{written_prefix};
 
-use crate::keys::{balance_of, items_under, name_under, peer_terms_of, string_under, u64_under};
+use crate::keys::{
+    balance_of, items_under, name_under, peer_terms_of, string_under, table_in, text_under,
+    u64_under,
+};
+use crate::places::{Kind, Place};
 use crate::prefixes::written_prefix;
-use money_core::Rate;
-use std::alloc::{AllocError, Global};
+use crate::wanted::Wanted;
+use crate::wrong::{Key, TenantWrong, Wrong};
+use common_types::ReadError;
+use ilp_addr::Prefix;
+use money_core::{Rate, RateFault};
+use std::alloc::Global;
 use tenant_core::{CommandFault, Level, Network, PeerNo, RateTerms, number_named};
 use toml::{Table, Value};
 
@@ -22,85 +35,142 @@ const EMPTY: Level = Level {
     entries: 0,
 };
 
-fn with_peer_of(mut network: Network, table: &Table) -> Result<Option<Network>, AllocError>
-    ensures { IfOk result (λ more. more ≡ with_peer_of network (table_view table.now)) }
+// What was read at a place, from 0, of a tenant's array of that kind.
+fn at_part<'a>(
+    read: Result<Network, ReadError<Wrong<'a>>>,
+    kind: Kind,
+    at: usize,
+    value: &'a Value,
+) -> Result<Network, ReadError<TenantWrong<'a>>>
+    ensures { known result ≡ known read.entry }
 {
-    let (Some(terms), Some(balance)) = (peer_terms_of(table), balance_of(table)) else {
-        return Ok(None);
-    };
-    match network.add_peer(terms, balance, EMPTY) {
-        Ok(()) => Ok(Some(network)),
-        Err(CommandFault::Memory) => Err(AllocError),
-        Err(_) => Ok(None),
+    let place = Place::new(kind, at.saturating_add(1), value);
+    match read {
+        Ok(network) => Ok(network),
+        Err(ReadError::Memory) => Err(ReadError::Memory),
+        Err(ReadError::Fault(wrong)) => Err(ReadError::Fault(TenantWrong::Part(place, wrong))),
     }
 }
 
-fn with_peer_in(network: Network, value: &Value) -> Result<Option<Network>, AllocError>
-    ensures { IfOk result (λ more. more ≡ with_peer_in network (view value.now)) }
-{
+// What the text at a key spells: a prefix may have a dot at its end.
+fn spelled_under<'a>(table: &'a Table, kind: Kind, key: &str) -> Option<&'a str> {
+    let text = string_under(table, key)?;
+    match kind {
+        Kind::Route => Some(text.strip_suffix('.').unwrap_or(text)),
+        Kind::Tenant | Kind::Peer | Kind::Rate => Some(text),
+    }
+}
+
+fn has_under(value: &Value, kind: Kind, key: &str, text: &str) -> bool {
     match value.as_table() {
-        Some(table) => with_peer_of(network, table),
-        None => Ok(None),
+        Some(table) => spelled_under(table, kind, key) == Some(text),
+        None => false,
+    }
+}
+
+// That one of the values before it has the text at the key too.
+fn taken<'a>(before: &[Value], table: &'a Table, kind: Kind, key: &'a str) -> Option<Wrong<'a>> {
+    let text = spelled_under(table, kind, key)?;
+    let at = before
+        .iter()
+        .position(|value| has_under(value, kind, key, text))?;
+    Some(Wrong::Taken(Key::of(table, key), kind, at.saturating_add(1)))
+}
+
+// Why what the table says is refused behind those before it, which may have the same text at one of the keys.
+fn refused<'a>(
+    fault: CommandFault,
+    before: &[Value],
+    table: &'a Table,
+    kind: Kind,
+    keys: &[&'a str],
+) -> Wrong<'a> {
+    match fault {
+        CommandFault::Limit => Wrong::TooMany(kind),
+        CommandFault::Present => keys
+            .iter()
+            .find_map(|key| taken(before, table, kind, key))
+            .unwrap_or(Wrong::Refused(fault)),
+        CommandFault::Full | CommandFault::InUse | CommandFault::Absent | CommandFault::Memory => {
+            Wrong::Refused(fault)
+        }
+    }
+}
+
+fn with_peer_in<'a>(
+    mut network: Network,
+    before: &[Value],
+    value: &'a Value,
+) -> Result<Network, ReadError<Wrong<'a>>>
+    ensures { IfSome (known result) (λ more. more ≡ with_peer_in network (view value.now)) }
+{
+    let table = table_in(value, Kind::Peer)?;
+    let terms = peer_terms_of(table)?;
+    let balance = balance_of(table)?;
+    match network.add_peer(terms, balance, EMPTY) {
+        Ok(()) => Ok(network),
+        Err(CommandFault::Memory) => Err(ReadError::Memory),
+        Err(fault) => {
+            let wrong = refused(fault, before, table, Kind::Peer, &["name", "token"]);
+            Err(ReadError::Fault(wrong))
+        }
     }
 }
 
 #[tactic(auto, unfolding(crate::specs::Networks::with_peers_of))]
-fn with_peers_of(network: Network, values: &[Value]) -> Result<Option<Network>, AllocError>
-    ensures { IfOk result (λ more. more ≡ with_peers_of network (items_view values.now)) }
+fn with_peers_of(network: Network, values: &[Value]) -> Result<Network, ReadError<TenantWrong<'_>>>
+    ensures { IfSome (known result) (λ more. more ≡ with_peers_of network (items_view values.now)) }
 {
     let mut network = network;
-    for value in values {
-        let Some(more) = with_peer_in(network, value)? else {
-            return Ok(None);
-        };
-        network = more;
+    for (at, value) in values.iter().enumerate() {
+        let more = with_peer_in(network, &values[..at], value);
+        network = at_part(more, Kind::Peer, at, value)?;
     }
-    Ok(Some(network))
+    Ok(network)
 }
 
 #[tactic(auto, unfolding(crate::specs::Networks::peer_under))]
-fn peer_under(network: &Network, table: &Table, key: &str) -> Option<PeerNo>
-    ensures exact { result ≡ peer_under network.now key.now (table_view table.now) }
-    ensures present { IfSome result (λ n. IsSome (peer_numbered n network.now.peers)) }
+fn peer_under<'a>(network: &Network, table: &'a Table, key: &'a str) -> Result<PeerNo, Wrong<'a>>
+    ensures exact { result_ok result ≡ peer_under network.now key.now (table_view table.now) }
+    ensures present { IfOk result (λ n. IsSome (peer_numbered n network.now.peers)) }
 {
-    let name = name_under(table, key)?;
-    number_named(network, &name)
-}
-
-#[tactic(auto, unfolding(crate::specs::Networks::with_route_of))]
-fn with_route_of(
-    alloc: Global,
-    mut network: Network,
-    table: &Table,
-) -> Result<Option<Network>, AllocError>
-    ensures { IfOk result (λ more. more ≡ with_route_of network (table_view table.now)) }
-{
-    let Some(text) = string_under(table, "prefix") else {
-        return Ok(None);
-    };
-    let Some(prefix) = written_prefix(alloc, text.as_bytes())? else {
-        return Ok(None);
-    };
-    let Some(peer) = peer_under(&network, table, "peer") else {
-        return Ok(None);
-    };
-    match network.add_route(prefix, peer) {
-        Ok(()) => Ok(Some(network)),
-        Err(CommandFault::Memory) => Err(AllocError),
-        Err(_) => Ok(None),
+    let name = name_under(table, key, Wanted::PeerName)?;
+    match number_named(network, &name) {
+        Some(number) => Ok(number),
+        None => Err(Wrong::NoPeer(Key::of(table, key))),
     }
 }
 
-fn with_route_in(
-    alloc: Global,
-    network: Network,
-    value: &Value,
-) -> Result<Option<Network>, AllocError>
-    ensures { IfOk result (λ more. more ≡ with_route_in network (view value.now)) }
+fn prefix_of(alloc: Global, table: &Table) -> Result<Prefix, ReadError<Wrong<'_>>>
+    ensures { IfSome (known result) (λ prefix. prefix ≡
+        option_and_then written_prefix (string_under (codes "prefix") (table_view table.now))) }
 {
-    match value.as_table() {
-        Some(table) => with_route_of(alloc, network, table),
-        None => Ok(None),
+    let text = text_under(table, "prefix", Wanted::Prefix)?;
+    match written_prefix(alloc, text.as_bytes())? {
+        Some(prefix) => Ok(prefix),
+        None => Err(ReadError::Fault(Wrong::at(table, "prefix", Wanted::Prefix))),
+    }
+}
+
+#[tactic(auto, unfolding(crate::specs::Networks::with_route_of))]
+fn with_route_in<'a>(
+    alloc: Global,
+    mut network: Network,
+    before: &[Value],
+    value: &'a Value,
+) -> Result<Network, ReadError<Wrong<'a>>>
+    ensures { IfSome (known result) (λ more. more ≡ with_route_in network (view value.now)) }
+{
+    let table = table_in(value, Kind::Route)?;
+    let prefix = prefix_of(alloc, table)?;
+    let peer = peer_under(&network, table, "peer")?;
+    match network.add_route(prefix, peer) {
+        Ok(()) => Ok(network),
+        Err(CommandFault::Memory) => Err(ReadError::Memory),
+        Err(fault) => {
+            let wrong = refused(fault, before, table, Kind::Route, &["prefix"]);
+            Err(ReadError::Fault(wrong))
+        }
     }
 }
 
@@ -109,91 +179,90 @@ fn with_routes_of(
     alloc: Global,
     network: Network,
     values: &[Value],
-) -> Result<Option<Network>, AllocError>
-    ensures { IfOk result (λ more. more ≡ with_routes_of network (items_view values.now)) }
+) -> Result<Network, ReadError<TenantWrong<'_>>>
+    ensures { IfSome (known result) (λ more. more ≡ with_routes_of network (items_view values.now)) }
 {
     let mut network = network;
-    for value in values {
-        let Some(more) = with_route_in(alloc, network, value)? else {
-            return Ok(None);
-        };
-        network = more;
+    for (at, value) in values.iter().enumerate() {
+        let more = with_route_in(alloc, network, &values[..at], value);
+        network = at_part(more, Kind::Route, at, value)?;
     }
-    Ok(Some(network))
+    Ok(network)
+}
+
+// A term of a rate.
+const TERM: Wanted = Wanted::Whole(1, Rate::MAX_TERM);
+
+// The rate of a table's two numbers.
+fn rate_between(table: &Table, num: u64, den: u64) -> Result<Rate, Wrong<'_>>
+    ensures { result_ok result ≡ result_ok (rate_at num den) }
+{
+    let first_wrong = if (1..=Rate::MAX_TERM).contains(&num) {
+        "den"
+    } else {
+        "num"
+    };
+    match Rate::new(num, den) {
+        Ok(rate) => Ok(rate),
+        Err(RateFault::Zero | RateFault::Limit) => Err(Wrong::at(table, first_wrong, TERM)),
+    }
 }
 
 #[tactic(auto, unfolding(crate::specs::Networks::rate_of))]
-fn rate_of(network: &Network, table: &Table) -> Option<RateTerms>
-    ensures exact { result ≡ rate_of network.now (table_view table.now) }
-    ensures from { IfSome result (λ r. IsSome (peer_numbered r.from network.now.peers)) }
-    ensures to { IfSome result (λ r. IsSome (peer_numbered r.to network.now.peers)) }
+fn rate_of<'a>(network: &Network, table: &'a Table) -> Result<RateTerms, Wrong<'a>>
+    ensures exact { result_ok result ≡ rate_of network.now (table_view table.now) }
+    ensures from { IfOk result (λ r. IsSome (peer_numbered r.from network.now.peers)) }
+    ensures to { IfOk result (λ r. IsSome (peer_numbered r.to network.now.peers)) }
 {
     let from = peer_under(network, table, "from")?;
     let to = peer_under(network, table, "to")?;
-    let num = u64_under(table, "num")?;
-    let den = u64_under(table, "den")?;
-    let rate = Rate::new(num, den).ok()?;
+    let num = u64_under(table, "num", TERM)?;
+    let den = u64_under(table, "den", TERM)?;
+    let rate = rate_between(table, num, den)?;
     if from == to {
-        None
+        Err(Wrong::SamePeer(Key::of(table, "to")))
     } else {
-        Some(RateTerms { from, to, rate })
+        Ok(RateTerms { from, to, rate })
     }
 }
 
 #[tactic(auto, unfolding(crate::specs::Networks::with_rate_of))]
-fn with_rate_of(mut network: Network, table: &Table) -> Result<Option<Network>, AllocError>
-    ensures { IfOk result (λ more. more ≡ with_rate_of network (table_view table.now)) }
+fn with_rate_in(mut network: Network, value: &Value) -> Result<Network, ReadError<Wrong<'_>>>
+    ensures { IfSome (known result) (λ more. more ≡ with_rate_in network (view value.now)) }
 {
-    let Some(rate) = rate_of(&network, table) else {
-        return Ok(None);
-    };
+    let table = table_in(value, Kind::Rate)?;
+    let rate = rate_of(&network, table)?;
     match network.set_rate(&rate) {
-        Ok(()) => Ok(Some(network)),
-        Err(CommandFault::Memory) => Err(AllocError),
-        Err(_) => Ok(None),
-    }
-}
-
-fn with_rate_in(network: Network, value: &Value) -> Result<Option<Network>, AllocError>
-    ensures { IfOk result (λ more. more ≡ with_rate_in network (view value.now)) }
-{
-    match value.as_table() {
-        Some(table) => with_rate_of(network, table),
-        None => Ok(None),
+        Ok(()) => Ok(network),
+        Err(CommandFault::Memory) => Err(ReadError::Memory),
+        Err(fault) => Err(ReadError::Fault(refused(fault, &[], table, Kind::Rate, &[]))),
     }
 }
 
 #[tactic(auto, unfolding(crate::specs::Networks::with_rates_of))]
-fn with_rates_of(network: Network, values: &[Value]) -> Result<Option<Network>, AllocError>
-    ensures { IfOk result (λ more. more ≡ with_rates_of network (items_view values.now)) }
+fn with_rates_of(network: Network, values: &[Value]) -> Result<Network, ReadError<TenantWrong<'_>>>
+    ensures { IfSome (known result) (λ more. more ≡ with_rates_of network (items_view values.now)) }
 {
     let mut network = network;
-    for value in values {
-        let Some(more) = with_rate_in(network, value)? else {
-            return Ok(None);
-        };
-        network = more;
+    for (at, value) in values.iter().enumerate() {
+        let more = with_rate_in(network, value);
+        network = at_part(more, Kind::Rate, at, value)?;
     }
-    Ok(Some(network))
+    Ok(network)
 }
 
-/// Whom the tenant of a table deals with at the start, and how; `None` where a rule is broken.
+/// Whom the tenant of a table deals with at the start, and how.
 #[tactic(auto, unfolding(crate::specs::Networks::network_of))]
-pub fn network_of(alloc: Global, table: &Table) -> Result<Option<Network>, AllocError>
-    ensures { IfOk result (λ network. network ≡ network_of (table_view table.now)) }
+pub(crate) fn network_of(
+    alloc: Global,
+    table: &Table,
+) -> Result<Network, ReadError<TenantWrong<'_>>>
+    ensures { IfSome (known result) (λ network. network ≡ network_of (table_view table.now)) }
 {
-    let (Some(peers), Some(routes), Some(rates)) = (
-        items_under(table, "peer"),
-        items_under(table, "route"),
-        items_under(table, "rate"),
-    ) else {
-        return Ok(None);
-    };
-    let Some(network) = with_peers_of(Network::new(alloc), peers)? else {
-        return Ok(None);
-    };
-    let Some(network) = with_routes_of(alloc, network, routes)? else {
-        return Ok(None);
-    };
+    let peers = items_under(table, "peer", Kind::Peer)?;
+    let routes = items_under(table, "route", Kind::Route)?;
+    let rates = items_under(table, "rate", Kind::Rate)?;
+    let network = with_peers_of(Network::new(alloc), peers)?;
+    let network = with_routes_of(alloc, network, routes)?;
     with_rates_of(network, rates)
 }

@@ -1,43 +1,75 @@
 //! Places in a setup, as people find them: a tenant by its number from 0, and its peers, routes and rates by theirs
 //! from 1, each with the names that it gives itself.
 
-use crate::keys::string_under;
-use std::fmt;
-use toml::Table;
+ghost use Rattle.std.specs.Prelude.{◌≡◌};
 
-/// What a tenant has several of.
+use crate::keys::string_under;
+use crate::wanted::Shown;
+use std::fmt;
+use toml::{Table, Value};
+
+/// What a setup, or a tenant, has several of.
 #[derive(Clone, Copy)]
 pub(crate) enum Kind {
+    Tenant,
     Peer,
     Route,
     Rate,
 }
 
 impl Kind {
-    /// The key of the array, and the word for one.
+    /// The word for one.
     pub(crate) fn word(self) -> &'static str {
         match self {
+            Kind::Tenant => "tenant",
             Kind::Peer => "peer",
             Kind::Route => "route",
             Kind::Rate => "rate",
         }
     }
+
+    /// What the header of one says.
+    pub(crate) fn header(self) -> &'static str {
+        match self {
+            Kind::Tenant => "tenant",
+            Kind::Peer => "tenant.peer",
+            Kind::Route => "tenant.route",
+            Kind::Rate => "tenant.rate",
+        }
+    }
+
+    // Writes the names that one gives itself.
+    fn write_names<W: fmt::Write>(self, f: &mut fmt::Formatter<W>, table: &Table) -> fmt::Result {
+        match self {
+            Kind::Tenant | Kind::Peer => write_word(f, table, "name"),
+            Kind::Route => write_word(f, table, "prefix"),
+            Kind::Rate => {
+                write_word(f, table, "from")?;
+                f.write_str(" to")?;
+                write_word(f, table, "to")
+            }
+        }
+    }
 }
 
-/// A tenant, by its number from 0 and its table.
+/// One of a kind, by its number and what stands there.
 #[derive(Clone, Copy)]
-pub(crate) struct Tenant<'a> {
+pub(crate) struct Place<'a> {
+    kind: Kind,
     pub(crate) number: usize,
-    pub(crate) table: &'a Table,
+    value: &'a Value,
 }
 
-/// A peer, a route or a rate of a tenant, by its number from 1 and its table.
-#[derive(Clone, Copy)]
-pub(crate) struct Part<'a> {
-    pub(crate) tenant: Tenant<'a>,
-    pub(crate) kind: Kind,
-    pub(crate) number: usize,
-    pub(crate) table: &'a Table,
+impl<'a> Place<'a> {
+    pub(crate) fn new(kind: Kind, number: usize, value: &'a Value) -> Place<'a>
+        ensures { result.number ≡ number }
+    {
+        Place {
+            kind,
+            number,
+            value,
+        }
+    }
 }
 
 // The most bytes of a name that is shown with a place.
@@ -57,28 +89,13 @@ fn write_word<W: fmt::Write>(f: &mut fmt::Formatter<W>, table: &Table, key: &str
     }
 }
 
-impl fmt::Display for Tenant<'_> {
+impl fmt::Display for Place<'_> {
     fn fmt<W: fmt::Write>(&self, f: &mut fmt::Formatter<W>) -> fmt::Result {
-        let number = self.number;
-        write!(f, "tenant {number}")?;
-        write_word(f, self.table, "name")?;
-        f.write_str(": ")
-    }
-}
-
-impl fmt::Display for Part<'_> {
-    fn fmt<W: fmt::Write>(&self, f: &mut fmt::Formatter<W>) -> fmt::Result {
-        let (tenant, word, number) = (self.tenant, self.kind.word(), self.number);
-        write!(f, "{tenant}{word} {number}")?;
-        match self.kind {
-            Kind::Peer => write_word(f, self.table, "name")?,
-            Kind::Route => write_word(f, self.table, "prefix")?,
-            Kind::Rate => {
-                write_word(f, self.table, "from")?;
-                f.write_str(" to")?;
-                write_word(f, self.table, "to")?;
-            }
+        let (word, number) = (self.kind.word(), self.number);
+        write!(f, "{word} {number}")?;
+        match self.value {
+            Value::Table(table) => self.kind.write_names(f, table),
+            value => write!(f, "{}", Shown(value)),
         }
-        f.write_str(": ")
     }
 }

@@ -1,21 +1,31 @@
 //! Setups: what a TOML document says of the tenants.
 
-ghost use Rattle.std.specs.Prelude.{◌≡◌, [], codes, option_and_then, IfOk};
+ghost use Rattle.std.specs.Prelude.{◌≡◌, ◌≢◌, ◌∷◌, ◌++◌, [], Some, Err, MatchResult, codes, option_and_then, IfSome};
+ghost use Rattle.std.specs.Result.{result_ok};
 ghost use Rattle.std.specs.Str.{bytes_eq};
 ghost use Rattle.toml.specs.Data.{as_table};
-ghost use Rattle.toml.specs.Parse.{parse_document};
 ghost use Rattle.toml.specs.View.{view, items_view, table_view};
+ghost use Rattle.common_types.specs.declared.read_error.ReadError.TheVariants.{Memory};
 ghost use Rattle.common_types.specs.Outcomes.{GivesUnlessMemory};
 ghost use Rattle.admin_text.specs.Keys.{array_under};
-ghost use Rattle.admin_text.specs.TenantTable.{terms_of, tenant_of_table};
-ghost use Rattle.admin_text.specs.Tenants.{is_there, some_tenants, next_tenant, tenants_of_items, tenants_of_array};
-ghost use Rattle.admin_text.specs.Setup.{start_of, setup_of_table, document_of, setup_of};
+ghost use Rattle.admin_text.specs.Outcomes.{known};
+ghost use Rattle.admin_text.specs.OwnTerms.{own_terms_of, terms_with};
+ghost use Rattle.admin_text.specs.TenantTable.{tenant_of_table};
+ghost use Rattle.admin_text.specs.Tenants.{is_there, unless_there, some_tenants, next_tenant, with_one_more, tenants_of_items, tenants_of_array};
+ghost use Rattle.admin_text.specs.Setup.{setup_of_table, setup_of};
+ghost use Rattle.admin_text.specs.Wrong.{told};
 
-use crate::keys::{address_under, array_under, name_under, token_under, u64_or, u64_under};
+use crate::keys::{
+    address_under, array_under, between_or, name_under, start_of, table_in, token_under, version_of,
+};
 use crate::networks::network_of;
-use common_types::{Items, Name, ReadError};
-use ilp_addr::Moment;
-use std::alloc::{AllocError, AllocFailed, Global};
+use crate::places::{Kind, Place};
+use crate::wanted::Wanted;
+use crate::wrong::{Key, SetupWrong, TenantWrong, Wrong};
+use common_types::{Between, Items, Name, ReadError, Token};
+use ilp_addr::{Moment, OwnAddress};
+use std::alloc::Global;
+use tenant_core::limits::{MAX_HOLD, MAX_JOURNAL, MAX_MARGIN};
 use tenant_core::{Network, TenantSetup, TenantTerms};
 use thiserror::Error;
 use toml::{Table, Value};
@@ -47,40 +57,45 @@ pub struct Setup {
 /// The most tenants of a setup.
 pub const MAX_TENANTS: usize = 64;
 
-#[tactic(auto, unfolding(crate::specs::TenantTable::terms_of))]
-fn terms_of(table: &Table, network: Network) -> Option<TenantTerms>
-    ensures { result ≡ terms_of (table_view table.now) network }
+// What the keys of a tenant's table say, but for whom it deals with.
+#[derive(Drop)]
+struct OwnTerms {
+    name: Name,
+    address: OwnAddress,
+    admin: Token,
+    journal: Between<2, { MAX_JOURNAL }>,
+    margin: Between<0, { MAX_MARGIN }>,
+    hold: Between<1, { MAX_HOLD }>,
+}
+
+fn own_terms_of(table: &Table) -> Result<OwnTerms, Wrong<'_>>
+    ensures { result_ok result ≡ own_terms_of (table_view table.now) }
 {
-    Some(TenantTerms {
-        name: name_under(table, "name")?,
+    Ok(OwnTerms {
+        name: name_under(table, "name", Wanted::Name)?,
         address: address_under(table, "address")?,
         admin: token_under(table, "admin")?,
-        journal: u64_or(1024, table, "journal")?,
-        margin: u64_or(1000, table, "margin")?,
-        hold: u64_or(30_000, table, "hold")?,
-        network,
+        journal: between_or(1024, table, "journal")?,
+        margin: between_or(1000, table, "margin")?,
+        hold: between_or(30_000, table, "hold")?,
     })
 }
 
-#[tactic(auto, unfolding(crate::specs::TenantTable::tenant_of_table))]
-fn tenant_of_table(alloc: Global, table: &Table) -> Result<Option<TenantSetup>, AllocError>
-    ensures { IfOk result (λ tenant. tenant ≡ tenant_of_table (table_view table.now)) }
-{
-    let Some(network) = network_of(alloc, table)? else {
-        return Ok(None);
-    };
-    match terms_of(table, network) {
-        Some(terms) => Ok(TenantSetup::new(terms)),
-        None => Ok(None),
-    }
-}
-
-fn tenant_of_item(alloc: Global, value: &Value) -> Result<Option<TenantSetup>, AllocError>
-    ensures { IfOk result (λ tenant. tenant ≡ option_and_then tenant_of_table (as_table (view value.now))) }
-{
-    match value.as_table() {
-        Some(table) => tenant_of_table(alloc, table),
-        None => Ok(None),
+impl OwnTerms {
+    // The setup of the tenant that deals with these.
+    fn with(self, network: Network) -> TenantSetup
+        ensures { result ≡ terms_with self network }
+    {
+        let terms = TenantTerms {
+            name: self.name,
+            address: self.address,
+            admin: self.admin,
+            journal: self.journal.get(),
+            margin: self.margin.get(),
+            hold: self.hold.get(),
+            network,
+        };
+        TenantSetup::new(terms).unwrap()
     }
 }
 
@@ -97,20 +112,54 @@ fn is_there(tenants: &[TenantSetup], name: &Name) -> bool
     tenants.iter().any(|tenant| has_name(tenant, name))
 }
 
-// The tenant of an item behind these; `None` where it breaks a rule, or there are 64.
-fn next_tenant(
+// How many tenants stand before the first that has that name.
+fn number_of(tenants: &[TenantSetup], name: &Name) -> usize {
+    tenants
+        .iter()
+        .take_while(|tenant| !has_name(tenant, name))
+        .count()
+}
+
+// The tenant of a value behind these.
+#[tactic(auto, unfolding(crate::specs::TenantTable::tenant_of_table))]
+fn new_tenant<'a>(
     alloc: Global,
     tenants: &[TenantSetup],
-    value: &Value,
-) -> Result<Option<TenantSetup>, AllocError>
-    ensures { IfOk result (λ tenant. tenant ≡ next_tenant tenants.now (view value.now)) }
+    value: &'a Value,
+) -> Result<TenantSetup, ReadError<TenantWrong<'a>>>
+    ensures { IfSome (known result) (λ tenant. tenant ≡
+        option_and_then (unless_there tenants.now) (option_and_then tenant_of_table (as_table (view value.now)))) }
 {
-    if tenants.len() >= MAX_TENANTS {
-        return Ok(None);
+    let table = table_in(value, Kind::Tenant)?;
+    let own = own_terms_of(table)?;
+    if is_there(tenants, &own.name) {
+        let number = number_of(tenants, &own.name);
+        return Err(ReadError::from(Wrong::Taken(Key::of(table, "name"), Kind::Tenant, number)));
     }
-    match tenant_of_item(alloc, value)? {
-        Some(tenant) if !is_there(tenants, &tenant.terms().name) => Ok(Some(tenant)),
-        _ => Ok(None),
+    let network = network_of(alloc, table)?;
+    Ok(own.with(network))
+}
+
+// The tenant of a value behind these, which are at most 63.
+fn next_tenant<'a>(
+    alloc: Global,
+    tenants: &[TenantSetup],
+    value: &'a Value,
+) -> Result<TenantSetup, ReadError<SetupWrong<'a>>>
+    ensures { GivesUnlessMemory (λ tenant. tenants.now ++ tenant ∷ []) (told result)
+        (with_one_more tenants.now (next_tenant tenants.now (view value.now))) }
+{
+    let number = tenants.len();
+    if number >= MAX_TENANTS {
+        return Err(ReadError::Fault(SetupWrong::OneTooMany(number)));
+    }
+    match new_tenant(alloc, tenants, value) {
+        Ok(tenant) => Ok(tenant),
+        Err(ReadError::Memory) => Err(ReadError::Memory),
+        Err(ReadError::Fault(wrong)) => {
+            let place = Place::new(Kind::Tenant, number, value);
+            Err(ReadError::Fault(SetupWrong::InTenant(place, wrong)))
+        }
     }
 }
 
@@ -118,57 +167,62 @@ fn next_tenant(
 fn tenants_of_items(
     alloc: Global,
     values: &[Value],
-) -> Result<Vec<TenantSetup>, ReadError<SetupFault>>
-    ensures { GivesUnlessMemory (λ tenants. tenants.items) result (tenants_of_items [] (items_view values.now)) }
+) -> Result<Vec<TenantSetup>, ReadError<SetupWrong<'_>>>
+    ensures { GivesUnlessMemory (λ tenants. tenants.items) (told result) (tenants_of_items [] (items_view values.now)) }
 {
     let mut tenants = Vec::new(alloc);
     for value in values {
-        let Some(tenant) = next_tenant(alloc, tenants.as_slice(), value)? else {
-            return Err(ReadError::Fault(SetupFault::Tenant(tenants.len())));
-        };
+        let tenant = next_tenant(alloc, tenants.as_slice(), value)?;
         tenants.push(tenant)?;
     }
     Ok(tenants)
 }
 
-fn some_tenants(alloc: Global, values: &[Value]) -> Result<Vec<TenantSetup>, ReadError<SetupFault>>
-    ensures { GivesUnlessMemory (λ tenants. tenants.items) result (some_tenants (items_view values.now)) }
+// The tenants of an array at that key, of which there is one at least.
+fn some_tenants<'a>(
+    alloc: Global,
+    key: Key<'a>,
+    values: &'a [Value],
+) -> Result<Vec<TenantSetup>, ReadError<SetupWrong<'a>>>
+    ensures { GivesUnlessMemory (λ tenants. tenants.items) (told result) (some_tenants (items_view values.now)) }
 {
     match values {
-        [] => Err(ReadError::Fault(SetupFault::Tenant(0))),
+        [] => {
+            let wrong = Wrong::Key(key, Wanted::Tenants);
+            Err(ReadError::Fault(SetupWrong::NoTenants(wrong)))
+        }
         [_, ..] => tenants_of_items(alloc, values),
     }
 }
 
 #[tactic(auto, unfolding(crate::specs::Tenants::tenants_of_array))]
-fn tenants_of_array(alloc: Global, table: &Table) -> Result<Vec<TenantSetup>, ReadError<SetupFault>>
-    ensures { GivesUnlessMemory (λ tenants. tenants.items) result
+fn tenants_of_array(
+    alloc: Global,
+    table: &Table,
+) -> Result<Vec<TenantSetup>, ReadError<SetupWrong<'_>>>
+    ensures { GivesUnlessMemory (λ tenants. tenants.items) (told result)
         (tenants_of_array (array_under (codes "tenant") (table_view table.now))) }
 {
-    match array_under(table, "tenant") {
-        Some(values) => some_tenants(alloc, values.as_slice()),
-        None => Err(ReadError::Fault(SetupFault::Tenant(0))),
+    match array_under(table, "tenant", Wanted::Tenants) {
+        Ok(values) => some_tenants(alloc, Key::of(table, "tenant"), values),
+        Err(wrong) => Err(ReadError::Fault(SetupWrong::NoTenants(wrong))),
     }
 }
 
-fn start_of(table: &Table) -> Option<Moment>
-    ensures { result ≡ start_of (table_view table.now) }
-{
-    match u64_under(table, "start") {
-        Some(start) => Moment::new(start),
-        None => None,
-    }
-}
-
+/// What a document says.
 #[tactic(auto, unfolding(crate::specs::Setup::setup_of_table))]
-fn setup_of_table(alloc: Global, table: &Table) -> Result<Setup, ReadError<SetupFault>>
-    ensures { GivesUnlessMemory (λ s. s) result (setup_of_table (table_view table.now)) }
+pub(crate) fn setup_of_table(
+    alloc: Global,
+    table: &Table,
+) -> Result<Setup, ReadError<SetupWrong<'_>>>
+    ensures { GivesUnlessMemory (λ s. s) (told result) (setup_of_table (table_view table.now)) }
 {
-    if u64_under(table, "version") != Some(1) {
-        return Err(ReadError::Fault(SetupFault::Version));
+    if let Err(wrong) = version_of(table) {
+        return Err(ReadError::Fault(SetupWrong::AtVersion(wrong)));
     }
-    let Some(start) = start_of(table) else {
-        return Err(ReadError::Fault(SetupFault::Start));
+    let start = match start_of(table) {
+        Ok(start) => start,
+        Err(wrong) => return Err(ReadError::Fault(SetupWrong::AtStart(wrong))),
     };
     let tenants = tenants_of_array(alloc, table)?;
     Ok(Setup {
@@ -177,13 +231,15 @@ fn setup_of_table(alloc: Global, table: &Table) -> Result<Setup, ReadError<Setup
     })
 }
 
-fn document_of(alloc: Global, text: &str) -> Result<Table, ReadError<SetupFault>>
-    ensures { GivesUnlessMemory table_view result (document_of (parse_document text.now)) }
+/// The TOML document that a text is.
+pub(crate) fn document_of(alloc: Global, text: &[u8]) -> Result<Table, ReadError<toml::de::Error>>
+    ensures { MatchResult result (λ table. setup_of text.now ≡ setup_of_table (table_view table))
+        (λ e. e ≢ Memory → setup_of text.now ≡ Err SetupFault.Toml) }
 {
-    match toml::table_from_str(alloc, text) {
+    match toml::table_from_slice(alloc, text) {
         Ok(table) => Ok(table),
         Err(e) if e.is_memory() => Err(ReadError::Memory),
-        Err(_) => Err(ReadError::Fault(SetupFault::Toml)),
+        Err(e) => Err(ReadError::Fault(e)),
     }
 }
 
@@ -201,13 +257,17 @@ fn document_of(alloc: Global, text: &str) -> Result<Table, ReadError<SetupFault>
 ///
 /// The faults are looked for in the order of [`SetupFault`]; a key that lacks or is of another kind
 /// than wanted, and a limit of [`TenantSetup::new`] that is broken, is a fault of its tenant.
-#[tactic(auto, unfolding(crate::specs::Setup::setup_of))]
 pub fn read_setup(alloc: Global, text: &[u8]) -> Result<Setup, ReadError<SetupFault>>
     ensures exact { GivesUnlessMemory (λ s. s) result (setup_of text.now) }
 {
-    let Ok(text) = std::str::from_utf8(text) else {
-        return Err(ReadError::Fault(SetupFault::Toml));
+    let table = match document_of(alloc, text) {
+        Ok(table) => table,
+        Err(ReadError::Memory) => return Err(ReadError::Memory),
+        Err(ReadError::Fault(_)) => return Err(ReadError::Fault(SetupFault::Toml)),
     };
-    let table = document_of(alloc, text)?;
-    setup_of_table(alloc, &table)
+    match setup_of_table(alloc, &table) {
+        Ok(setup) => Ok(setup),
+        Err(ReadError::Memory) => Err(ReadError::Memory),
+        Err(ReadError::Fault(wrong)) => Err(ReadError::Fault(wrong.fault())),
+    }
 }

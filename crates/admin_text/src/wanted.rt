@@ -1,20 +1,17 @@
-//! What each key of a setup wants, as a table, and its words for people.
+//! What each key of a setup wants, and its words for people.
 
-use crate::prefixes::written_prefix;
-use common_types::{AssetCode, Name, Token};
-use ilp_addr::{Moment, OwnAddress, Target};
-use money_core::Rate;
-use std::alloc::{AllocError, Global};
+use crate::places::Kind;
+use crate::setup::MAX_TENANTS;
 use std::fmt;
-use tenant_core::limits::{
-    MAX_BURST, MAX_HOLD, MAX_JOURNAL, MAX_MARGIN, MAX_MONEY, MAX_PER_SECOND,
-};
+use tenant_core::limits::MAX_MONEY;
 use toml::Value;
 
 /// What may stand at a key.
 #[derive(Clone, Copy)]
 pub(crate) enum Wanted {
     Version,
+    Tenants,
+    Tables(Kind),
     Name,
     Token,
     Address,
@@ -24,129 +21,16 @@ pub(crate) enum Wanted {
     Prefix,
     PeerName,
     /// A whole number from the first to the second.
-    Whole(i64, i64),
+    Whole(u64, u64),
+    /// A whole number at most as far from 0 as money goes.
+    Balance,
 }
-
-/// Whether a key may be left out.
-#[derive(Clone, Copy)]
-pub(crate) enum Presence {
-    Required,
-    Optional,
-}
-
-/// A key, what it wants, and whether it may be left out.
-pub(crate) type Key = (&'static str, Wanted, Presence);
-
-const MONEY: i64 = MAX_MONEY as i64;
-
-const AMOUNT: Wanted = Wanted::Whole(0, MONEY);
-
-const TERM: Wanted = Wanted::Whole(1, Rate::MAX_TERM as i64);
-
-pub(crate) static TOP: [Key; 2] = [
-    ("version", Wanted::Version, Presence::Required),
-    (
-        "start",
-        Wanted::Whole(0, Moment::MAX_MILLIS as i64),
-        Presence::Required,
-    ),
-];
-
-pub(crate) static TENANT: [Key; 6] = [
-    ("name", Wanted::Name, Presence::Required),
-    ("address", Wanted::Address, Presence::Required),
-    ("admin", Wanted::Token, Presence::Required),
-    (
-        "journal",
-        Wanted::Whole(2, MAX_JOURNAL as i64),
-        Presence::Optional,
-    ),
-    (
-        "margin",
-        Wanted::Whole(0, MAX_MARGIN as i64),
-        Presence::Optional,
-    ),
-    (
-        "hold",
-        Wanted::Whole(1, MAX_HOLD as i64),
-        Presence::Optional,
-    ),
-];
-
-pub(crate) static PEER: [Key; 13] = [
-    ("name", Wanted::Name, Presence::Required),
-    ("role", Wanted::Role, Presence::Required),
-    ("token", Wanted::Token, Presence::Required),
-    ("url", Wanted::Url, Presence::Required),
-    ("out_token", Wanted::Token, Presence::Required),
-    ("asset", Wanted::Asset, Presence::Required),
-    ("scale", Wanted::Whole(0, 255), Presence::Required),
-    ("cap", AMOUNT, Presence::Required),
-    ("ceiling", AMOUNT, Presence::Required),
-    ("credit", AMOUNT, Presence::Required),
-    (
-        "burst",
-        Wanted::Whole(1, MAX_BURST as i64),
-        Presence::Required,
-    ),
-    (
-        "per_second",
-        Wanted::Whole(0, MAX_PER_SECOND as i64),
-        Presence::Required,
-    ),
-    (
-        "balance",
-        Wanted::Whole(-4_611_686_018_427_387_904, MONEY),
-        Presence::Optional,
-    ),
-];
-
-pub(crate) static ROUTE: [Key; 2] = [
-    ("prefix", Wanted::Prefix, Presence::Required),
-    ("peer", Wanted::PeerName, Presence::Required),
-];
-
-pub(crate) static RATE: [Key; 4] = [
-    ("from", Wanted::PeerName, Presence::Required),
-    ("to", Wanted::PeerName, Presence::Required),
-    ("num", TERM, Presence::Required),
-    ("den", TERM, Presence::Required),
-];
-
-// Any token, since a target is a URL and a token.
-const TOKEN: &[u8] = b"t";
 
 impl Wanted {
-    // Whether a text may stand there.
-    fn takes_text(self, alloc: Global, text: &[u8]) -> Result<bool, AllocError> {
-        Ok(match self {
-            Wanted::Version | Wanted::Whole(_, _) => false,
-            Wanted::Name | Wanted::PeerName => Name::new(text).is_some(),
-            Wanted::Token => Token::new(text).is_some(),
-            Wanted::Address => OwnAddress::new(text).is_some(),
-            Wanted::Role => text == b"child".as_slice() || text == b"peer".as_slice(),
-            Wanted::Url => Target::new(text, TOKEN).is_some(),
-            Wanted::Asset => AssetCode::new(text).is_some(),
-            Wanted::Prefix => written_prefix(alloc, text)?.is_some(),
-        })
-    }
-
-    /// Whether the value may stand there.
-    pub(crate) fn takes(self, alloc: Global, value: &Value) -> Result<bool, AllocError> {
-        match value {
-            Value::String(text) => self.takes_text(alloc, text.as_bytes()),
-            Value::Integer(number) => Ok(match self {
-                Wanted::Version => *number == 1,
-                Wanted::Whole(least, most) => least <= *number && *number <= most,
-                _ => false,
-            }),
-            _ => Ok(false),
-        }
-    }
-
     fn words(self) -> &'static str {
         match self {
             Wanted::Version => "1 is the only version",
+            Wanted::Tenants | Wanted::Tables(_) => "an array of tables",
             Wanted::Name => "a text of 1 to 32 of a-z 0-9 -",
             Wanted::Token => "a text of 1 to 64 of A-Z a-z 0-9 - . _ ~ + / =",
             Wanted::Address => {
@@ -163,7 +47,7 @@ impl Wanted {
                 "an address as \"g.acme.bob\", a scheme as \"g\", or \"*\" for every destination"
             }
             Wanted::PeerName => "the name of a peer of this tenant",
-            Wanted::Whole(_, _) => "a whole number",
+            Wanted::Whole(_, _) | Wanted::Balance => "a whole number",
         }
     }
 }
@@ -178,11 +62,24 @@ pub(crate) struct Right<'a> {
 impl fmt::Display for Right<'_> {
     fn fmt<W: fmt::Write>(&self, f: &mut fmt::Formatter<W>) -> fmt::Result {
         match (self.wanted, self.found) {
-            (Wanted::Whole(least, _), Some(Value::Integer(number))) if *number < least => {
-                write!(f, "at least {least}")
+            (Wanted::Whole(least, most), Some(Value::Integer(number))) => {
+                match u64::try_from(*number) {
+                    Ok(number) if number >= least => write!(f, "at most {most}"),
+                    _ => write!(f, "at least {least}"),
+                }
             }
-            (Wanted::Whole(_, most), Some(Value::Integer(_))) => write!(f, "at most {most}"),
             (Wanted::Whole(least, most), _) => write!(f, "a whole number from {least} to {most}"),
+            (Wanted::Balance, Some(Value::Integer(number))) if *number < 0 => {
+                write!(f, "at least -{MAX_MONEY}")
+            }
+            (Wanted::Balance, Some(Value::Integer(_))) => write!(f, "at most {MAX_MONEY}"),
+            (Wanted::Balance, _) => { write!(f, "a whole number from -{MAX_MONEY} to {MAX_MONEY}") }
+            (Wanted::Tenants, _) => {
+                write!(f, "1 to {MAX_TENANTS} tables, each begun by [[tenant]]")
+            }
+            (Wanted::Tables(kind), _) => {
+                write!(f, "an array of tables, each begun by [[{}]]", kind.header())
+            }
             (wanted, _) => f.write_str(wanted.words()),
         }
     }

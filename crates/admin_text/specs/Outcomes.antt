@@ -1,0 +1,10 @@
+-- What readers returned whose faults say more than the definitions.
+use Rattle.std.specs.Prelude.{Option, Some, None, Result, Ok, Err}
+use Rattle.common_types.specs.declared.read_error.ReadError.{ReadError}
+use Rattle.common_types.specs.declared.read_error.ReadError.TheVariants.{Memory, Fault}
+
+-- what was read, `None` in it where something is wrong; nothing is known where memory was refused
+abbrev pub known : {X F : Type 0} → Result X (ReadError F) → Option (Option X)
+known (Ok x) = Some (Some x)
+known (Err Memory) = None
+known (Err (Fault fault)) = Some None

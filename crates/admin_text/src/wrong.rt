@@ -1,0 +1,178 @@
+//! What is wrong with a setup, and its words for people.
+
+use crate::places::{Kind, Place};
+use crate::setup::{MAX_TENANTS, SetupFault};
+use crate::wanted::{Right, Shown, Wanted};
+use common_types::ReadError;
+use route_table::MAX_ROUTES;
+use std::fmt;
+use tenant_core::CommandFault;
+use tenant_core::limits::{MAX_PEERS, MAX_RATES};
+use toml::{Table, Value};
+
+/// A key of a table, and what stands there.
+#[derive(Clone, Copy)]
+pub(crate) struct Key<'a> {
+    name: &'a str,
+    found: Option<&'a Value>,
+}
+
+impl<'a> Key<'a> {
+    pub(crate) fn of(table: &'a Table, name: &'a str) -> Key<'a> {
+        Key {
+            name,
+            found: table.get(name),
+        }
+    }
+}
+
+impl fmt::Display for Key<'_> {
+    fn fmt<W: fmt::Write>(&self, f: &mut fmt::Formatter<W>) -> fmt::Result {
+        let name = self.name;
+        match self.found {
+            Some(value) => write!(f, "{name}{}", Shown(value)),
+            None => write!(f, "{name} is missing"),
+        }
+    }
+}
+
+/// What is wrong with what should be a table of a setup.
+#[derive(Clone, Copy)]
+pub(crate) enum Wrong<'a> {
+    /// It is no table.
+    NoTable(Kind),
+    /// The key wants something else.
+    Key(Key<'a>, Wanted),
+    /// No peer of the tenant has the name at the key.
+    NoPeer(Key<'a>),
+    /// A rate goes to the peer that it comes from.
+    SamePeer(Key<'a>),
+    /// The other of that kind and number has what stands at the key.
+    Taken(Key<'a>, Kind, usize),
+    /// There are too many of that kind.
+    TooMany(Kind),
+    /// A command for it would be refused.
+    Refused(CommandFault),
+}
+
+impl<'a> Wrong<'a> {
+    /// The key of the table wants something else than what stands there.
+    pub(crate) fn at(table: &'a Table, key: &'a str, wanted: Wanted) -> Wrong<'a> {
+        Wrong::Key(Key::of(table, key), wanted)
+    }
+}
+
+impl<'a> From<Wrong<'a>> for ReadError<Wrong<'a>> {
+    ghost use Rattle.std.specs.Prelude.{◌≡◌};
+    ghost use Rattle.common_types.specs.declared.read_error.ReadError.TheVariants.{Fault};
+
+    ghost from_gives = { λ wrong e. e ≡ Fault wrong };
+
+    fn from(wrong: Wrong<'a>) -> ReadError<Wrong<'a>> {
+        ReadError::Fault(wrong)
+    }
+}
+
+impl fmt::Display for Wrong<'_> {
+    fn fmt<W: fmt::Write>(&self, f: &mut fmt::Formatter<W>) -> fmt::Result {
+        match *self {
+            Wrong::NoTable(kind) => write!(f, "a table, begun by [[{}]]", kind.header()),
+            Wrong::Key(key, wanted) => {
+                let found = key.found;
+                write!(f, "{key}: {}", Right { wanted, found })
+            }
+            Wrong::NoPeer(key) => write!(f, "{key}: no peer of this tenant has that name"),
+            Wrong::SamePeer(key) => write!(f, "{key}: another peer than from names"),
+            Wrong::Taken(key, kind, number) => {
+                let (word, name) = (kind.word(), key.name);
+                write!(f, "{key}: {word} {number} has that {name} too")
+            }
+            Wrong::TooMany(Kind::Tenant) => write!(f, "a setup has at most {MAX_TENANTS} tenants"),
+            Wrong::TooMany(Kind::Peer) => write!(f, "a tenant has at most {MAX_PEERS} peers"),
+            Wrong::TooMany(Kind::Route) => write!(f, "a tenant has at most {MAX_ROUTES} routes"),
+            Wrong::TooMany(Kind::Rate) => {
+                write!(
+                    f,
+                    "its rates are for more than {MAX_RATES} ordered pairs of peers"
+                )
+            }
+            Wrong::Refused(fault) => write!(f, "{fault}"),
+        }
+    }
+}
+
+/// What is wrong with a tenant.
+#[derive(Clone, Copy)]
+pub(crate) enum TenantWrong<'a> {
+    /// With its own table.
+    Own(Wrong<'a>),
+    /// With one of its peers, routes or rates.
+    Part(Place<'a>, Wrong<'a>),
+}
+
+impl<'a> From<Wrong<'a>> for ReadError<TenantWrong<'a>> {
+    ghost use Rattle.std.specs.Prelude.{◌≡◌};
+    ghost use Rattle.common_types.specs.declared.read_error.ReadError.TheVariants.{Fault};
+    ghost use Rattle.admin_text.specs.declared.wrong.TenantWrong.TheVariants.{Own};
+
+    ghost from_gives = { λ wrong e. e ≡ Fault (Own wrong) };
+
+    fn from(wrong: Wrong<'a>) -> ReadError<TenantWrong<'a>> {
+        ReadError::Fault(TenantWrong::Own(wrong))
+    }
+}
+
+impl fmt::Display for TenantWrong<'_> {
+    fn fmt<W: fmt::Write>(&self, f: &mut fmt::Formatter<W>) -> fmt::Result {
+        match *self {
+            TenantWrong::Own(wrong) | TenantWrong::Part(_, wrong @ Wrong::TooMany(Kind::Rate)) => {
+                write!(f, "{wrong}")
+            }
+            TenantWrong::Part(part, wrong) => write!(f, "{part}: {wrong}"),
+        }
+    }
+}
+
+/// What is wrong with a setup that is a TOML document.
+#[derive(Clone, Copy)]
+pub(crate) enum SetupWrong<'a> {
+    AtVersion(Wrong<'a>),
+    AtStart(Wrong<'a>),
+    NoTenants(Wrong<'a>),
+    /// The tenant of that number, from 0, is one too many.
+    OneTooMany(usize),
+    InTenant(Place<'a>, TenantWrong<'a>),
+}
+
+impl SetupWrong<'_> {
+    ghost use Rattle.std.specs.Prelude.{◌≡◌};
+    ghost use Rattle.admin_text.specs.Wrong.{fault_of};
+
+    /// The fault that stands for it.
+    pub(crate) fn fault(&self) -> SetupFault
+        ensures { result ≡ fault_of self.now }
+    {
+        match self {
+            SetupWrong::AtVersion(_) => SetupFault::Version,
+            SetupWrong::AtStart(_) => SetupFault::Start,
+            SetupWrong::NoTenants(_) => SetupFault::Tenant(0),
+            SetupWrong::OneTooMany(number) => SetupFault::Tenant(*number),
+            SetupWrong::InTenant(tenant, _) => SetupFault::Tenant(tenant.number),
+        }
+    }
+}
+
+impl fmt::Display for SetupWrong<'_> {
+    fn fmt<W: fmt::Write>(&self, f: &mut fmt::Formatter<W>) -> fmt::Result {
+        match self {
+            SetupWrong::AtVersion(wrong)
+            | SetupWrong::AtStart(wrong)
+            | SetupWrong::NoTenants(wrong) => write!(f, "{wrong}"),
+            SetupWrong::OneTooMany(number) => {
+                let (kind, wrong) = (Kind::Tenant, Wrong::TooMany(Kind::Tenant));
+                write!(f, "{} {number}: {wrong}", kind.word())
+            }
+            SetupWrong::InTenant(tenant, wrong) => write!(f, "{tenant}: {wrong}"),
+        }
+    }
+}
