@@ -26,7 +26,7 @@ pub record OpenHoldLaws : Type 0 where
   -- a Prepare that goes on begins its hold, and no other
   pub decided : (s : State) (token : List ℕ) (key : Key) (now n : ℕ)
       → is_awaited (decided s token key now) n ≡ (is_awaited s n || begins n (judge s token key now))
-  -- its number is the next one, which no hold had
+  -- its number is the next one, under which no hold awaits its answer
   pub begun : (s : State) (token : List ℕ) (key : Key) (now n : ℕ) → IsSound s
       → begins n (judge s token key now) ≡ true → n ≡ next_hold s
   pub fresh : (s : State) → IsSound s → is_awaited s (next_hold s) ≡ false

@@ -15,8 +15,8 @@ pub fn book_is_sound(book: &Book)
     book.is_sound();
 }
 
-/// A packet that goes on awaits its answer from then on, under a number that no other had; its answer ends that, and
-/// nothing else does.
+/// A packet that goes on awaits its answer from then on, under the next number, under which none awaits one; its answer
+/// ends that, and nothing else does.
 pub fn open_holds()
     ensures { OpenHoldLaws }
 {}
