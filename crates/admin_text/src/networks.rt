@@ -1,7 +1,7 @@
 //! Whom a tenant deals with at the start, as its setup says: peers, routes and rates in the order given, each by the rules
 //! of the commands.
 
-ghost use Rattle.std.specs.Prelude.{◌≡◌, codes, option_and_then, IfOk, IfSome, IsSome};
+ghost use Rattle.std.specs.Prelude.{◌≡◌, ◌==◌, codes, false, option_and_then, IfOk, IfSome, IsSome};
 ghost use Rattle.std.specs.Result.{result_ok};
 ghost use Rattle.money_core.specs.Price.{rate_at};
 ghost use Rattle.toml.specs.View.{view, items_view, table_view};
@@ -213,6 +213,7 @@ fn rate_of<'a>(network: &Network, table: &'a Table) -> Result<RateTerms, Wrong<'
     ensures exact { result_ok result ≡ rate_of network.now (table_view table.now) }
     ensures from { IfOk result (λ r. IsSome (peer_numbered r.from network.now.peers)) }
     ensures to { IfOk result (λ r. IsSome (peer_numbered r.to network.now.peers)) }
+    ensures apart { IfOk result (λ r. (r.from == r.to) ≡ false) }
 {
     let from = peer_under(network, table, "from")?;
     let to = peer_under(network, table, "to")?;

@@ -1,7 +1,8 @@
 -- The one list goes on with each call: what the call appended is what its entry led to, and leads to the state after it.
-use Rattle.std.proofs.Common.{◌≡◌, ◌==◌, ℕ, ◌+◌, zero, suc, Bool, true, false, List, [], ◌∷◌, ◌++◌, length, map, refl, sym, ap, subst, ◌∙◌}
+use Rattle.std.proofs.Common.{◌≡◌, ◌==◌, ◌≤◌, ℕ, ◌+◌, zero, suc, Bool, true, false, List, [], ◌∷◌, ◌++◌, length, map, refl, sym, ap, subst, ◌∙◌}
 use Rattle.std.proofs.Common.{arith, append-nil, add-zero}
 use Rattle.std.specs.Prelude.{max, Option, Some, None, IfSome, Result, Ok, Err, slice_get, option_map, if◌then◌else◌}
+use Rattle.ilp_addr.specs.Timestamp.{last_moment}
 use Rattle.ilp_view.specs.Packet.{Prepare}
 use Rattle.ilp_view.specs.Reading.{prepare_at}
 use Rattle.ilp_view.specs.declared.fault.ViewFault.{ViewFault}
@@ -18,6 +19,7 @@ use Rattle.tenant_core.specs.Orders.{ordered}
 use Rattle.tenant_core.specs.Periods.{roll_refusal, roll_record}
 use Rattle.tenant_core.specs.Present.{network_of}
 use Rattle.tenant_core.specs.Replay.{IsReplay}
+use Rattle.tenant_core.specs.Sound.{IsSound}
 use Rattle.tenant_core.specs.State.{State, clock_of, recorded, opening_of}
 use Rattle.tenant_core.specs.declared.command.Answered.{Answered}
 use Rattle.tenant_core.specs.declared.command.Command.{Command}
@@ -146,14 +148,15 @@ order_is_made : (s : State) (r : Result Changed CommandFault) (now : ℕ) → Is
 order_is_made s (Ok change) now replay = made_laws.last s _ replay
 order_is_made s (Err fault) now replay = tt
 
-roll_is_made : (s : State) (o : Option CommandFault) (now : ℕ) → roll_refusal s ≡ o → IfSome (roll_made o now) (λ x. IsMade s x)
-roll_is_made s None now free = made_laws.roll s now free
-roll_is_made s (Some fault) now free = tt
+roll_is_made : (s : State) (o : Option CommandFault) (now : ℕ) → roll_refusal s ≡ o → IsSound (roll_left s o now)
+    → IfSome (roll_made o now) (λ x. IsMade s x)
+roll_is_made s None now free sound = let clock : max (clock_of s) now ≤ last_moment = sound.clock in made_laws.roll s now free (omega arith)
+roll_is_made s (Some fault) now free sound = tt
 
-command_is_made : (s : State) (c : Command) (now : ℕ) → IsReplay (commanded s c now) → IfSome (command_made s c now) (λ x. IsMade s x)
-command_is_made s (command.Order order) now replay = order_is_made s (ordered s order) now replay
-command_is_made s command.Balances now replay = tt
-command_is_made s command.Roll now replay = roll_is_made s (roll_refusal s) now refl
+command_is_made : (s : State) (c : Command) (now : ℕ) → IsSound (commanded s c now) → IfSome (command_made s c now) (λ x. IsMade s x)
+command_is_made s (command.Order order) now sound = order_is_made s (ordered s order) now sound.replay
+command_is_made s command.Balances now sound = tt
+command_is_made s command.Roll now sound = roll_is_made s (roll_refusal s) now refl sound
 
 order_leaves : (s : State) (r : Result Changed CommandFault) (now : ℕ) → order_left s r now ≡ after_made s (order_made r now)
 order_leaves s (Ok change) now = refl
@@ -174,10 +177,10 @@ governed_leaves (Ok answered) c before after now governed = governed.1 ∙ comma
 governed_leaves (Err fault) c before after now governed = governed.1
 
 pub governed_made : (r : Result Answered CommandFault) (c : Command) (before after : State) (now : ℕ)
-    → IsGoverned r c before after now → IsReplay after → IfSome (made_by r before c now) (λ x. IsMade before x)
-governed_made (Ok answered) c before after now governed replay =
-    command_is_made before c now (subst IsReplay governed.1 replay)
-governed_made (Err fault) c before after now governed replay = tt
+    → IsGoverned r c before after now → IsSound after → IfSome (made_by r before c now) (λ x. IsMade before x)
+governed_made (Ok answered) c before after now governed sound =
+    command_is_made before c now (subst (λ (x : State). IsSound x) governed.1 sound)
+governed_made (Err fault) c before after now governed sound = tt
 
 governed_tenant : (r : Result Answered CommandFault) (c : Command) (before after : State) (now : ℕ)
     → IsGoverned r c before after now → after.opening.tenant ≡ before.opening.tenant
@@ -261,11 +264,11 @@ traced_call openings s after part left worker made n traced stays caused e repla
 
 -- a book after a command
 pub traced_command : (openings : List Opening) (s after : State) (part left : PartView) (worker : ℕ) (r : Result Answered CommandFault) (c : Command) (now : ℕ)
-    → IsTraced openings s part → IsGoverned r c s after now → IsReplay after
+    → IsTraced openings s part → IsGoverned r c s after now → IsSound after
     → left ≡ grown part (told_of r worker part.number after.records) → IsTraced openings after left
-traced_command openings s after part left worker r c now traced governed replay grew =
+traced_command openings s after part left worker r c now traced governed sound grew =
     traced_on openings s after part left worker (made_by r s c now) traced (governed_leaves r c s after now governed)
-    (governed_tenant r c s after now governed) (governed_made r c s after now governed replay) (governed_cause r s c now)
+    (governed_tenant r c s after now governed) (governed_made r c s after now governed sound) (governed_cause r s c now)
     (grew ∙ ap (λ (ds : List Done). grown part ds) (governed_told r c s after now worker part.number governed))
 
 -- the steps of a part after a call, and of a share

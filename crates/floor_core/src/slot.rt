@@ -21,7 +21,7 @@ use route_table::PeerNo;
 use std::alloc::{AllocError, Global};
 use std::marker::Model;
 use tenant_core::laws::what_stays;
-use tenant_core::{AnswerKey, Book, PrepareKey, Verdict};
+use tenant_core::{AnswerKey, Book, Expiry, PrepareKey, Verdict};
 
 /// What a slot does.
 #[derive(Drop)]
@@ -313,7 +313,7 @@ fn decided(book: &mut Book, token: &[u8], room: &[u8], len: usize, now: Moment) 
     let packet = PrepareView::read(&room[..len]).unwrap();
     let key = PrepareKey {
         amount: packet.amount(),
-        expiry: packet.expiry(),
+        expiry: Expiry::new(packet.expiry()).unwrap(),
         condition: packet.condition().try_into().unwrap(),
         destination: packet.destination(),
     };

@@ -146,7 +146,7 @@ count-ended hs i d b l e =
     now ∙ add-zero (count_by is_open hs)
 
 -- what is found passes the test
-pub find_passes : (p : Hold → Bool) (hs : List Hold) (h : Hold) → find p hs ≡ Some h → p h ≡ true
+pub find_passes : {A : Type 0} (p : A → Bool) (hs : List A) (h : A) → find p hs ≡ Some h → p h ≡ true
 find_passes p hs h e =
     let place = position_or_len p hs in
     let read : slice_get hs place ≡ Some h = sym (find_at p hs) ∙ e in

@@ -20,6 +20,7 @@ pub mod Keyed
 pub mod Tokens
 pub mod Pairs
 pub mod Numbers
+pub mod Apart
 pub mod ChangedLists
 pub mod Runnings
 pub mod Moving

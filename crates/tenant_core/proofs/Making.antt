@@ -1,8 +1,10 @@
 -- The last record of a replay is what its entry led to, and a roll's is what a roll leads to.
-use Rattle.std.proofs.Common.{◌≡◌, ℕ, List, [], ◌∷◌, ◌++◌, map, refl, sym, ap, subst, ◌∙◌}
+use Rattle.std.proofs.Common.{◌≡◌, ◌≤◌, ℕ, List, [], ◌∷◌, ◌++◌, map, refl, sym, ap, subst, ◌∙◌}
 use Rattle.std.specs.Prelude.{Option, Some, None, option_map, option_and_then, fold}
+use Rattle.std.proofs.lemmas.Bool.{le-leb}
 use Rattle.std.proofs.lemmas.List.{map-append, same_from_push}
 use Rattle.std.proofs.lemmas.List.Sums.{fold_push}
+use Rattle.ilp_addr.specs.Timestamp.{last_moment}
 use Rattle.tenant_core.specs.Made.{IsMade, MadeLaws}
 use Rattle.tenant_core.specs.Periods.{roll_refusal, roll_record}
 use Rattle.tenant_core.specs.Replay.{IsReplay, replay, outcome_of, appended}
@@ -46,8 +48,8 @@ made_last s r h =
     made_in s r (fold step first (map (λ (x : Record). x.entry) s.records))
     (sym more ∙ (sym (ap (λ (es : List Entry). fold step first es) split) ∙ h))
 
-made_roll : (s : State) (now : ℕ) → roll_refusal s ≡ None → IsMade s (roll_record now)
-made_roll s now free = rw free refl
+made_roll : (s : State) (now : ℕ) → roll_refusal s ≡ None → now ≤ last_moment → IsMade s (roll_record now)
+made_roll s now free early = rw (le-leb now last_moment early, free) refl
 
 pub made_laws : MadeLaws
 made_laws = record { last = made_last; roll = made_roll }

@@ -21,6 +21,7 @@ use Rattle.tenant_core.specs.declared.peer.Level.{Level}
 use Rattle.tenant_core.specs.declared.peer.Peer.{Peer}
 use Rattle.tenant_core.specs.declared.terms.PeerTerms.{PeerTerms}
 use Rattle.tenant_core.specs.declared.terms.RateTerms.{RateTerms}
+use Rattle.tenant_core.proofs.Courses.{find_passes}
 use Rattle.tenant_core.specs.Limits.{max_peers, max_peer_numbers, max_rates}
 use Rattle.route_table.specs.Routes.{NamesPeer, RouteMap}
 use Rattle.tenant_core.specs.Terms.{are_terms_within, is_balance_within}
@@ -74,6 +75,7 @@ nobody_is =
       senders = All-nil (λ (r : RateTerms). IsSome (peer_numbered r.from []));
       receivers = All-nil (λ (r : RateTerms). IsSome (peer_numbered r.to []));
       rates = All-nil (λ (r : RateTerms). None ≡ Some r);
+      apart = All-nil (λ (r : RateTerms). eqb r.from r.to ≡ false);
       few_rates = omega arith;
       terms = All-nil (λ (p : Peer). are_terms_within p.terms ≡ true);
       balances = All-nil (λ (p : Peer). is_balance_within p.balance ≡ true);
@@ -108,6 +110,7 @@ with_peer_is net t balance level is absent few numbers within small =
       senders = λ k d l. some_push (λ p. eqb p.number (get_or net.rates k d).from) net.peers peer (is.senders k d l);
       receivers = λ k d l. some_push (λ p. eqb p.number (get_or net.rates k d).to) net.peers peer (is.receivers k d l);
       rates = is.rates;
+      apart = is.apart;
       few_rates = is.few_rates;
       terms = All-push (λ p. are_terms_within p.terms ≡ true) net.peers peer is.terms within;
       balances = All-push (λ p. is_balance_within p.balance ≡ true) net.peers peer is.balances small;
@@ -165,6 +168,7 @@ changed_is net g number name token within balance is =
       senders = λ k d l. some_map (λ p. eqb p.number (get_or net.rates k d).from) g (λ x. ap (λ a. eqb a (get_or net.rates k d).from) (number x)) net.peers (is.senders k d l);
       receivers = λ k d l. some_map (λ p. eqb p.number (get_or net.rates k d).to) g (λ x. ap (λ a. eqb a (get_or net.rates k d).to) (number x)) net.peers (is.receivers k d l);
       rates = is.rates;
+      apart = is.apart;
       few_rates = is.few_rates;
       terms = All-map (λ p. are_terms_within p.terms ≡ true) g net.peers (λ k d l. within (get_or net.peers k d) (is.terms k d l));
       balances = All-map (λ p. is_balance_within p.balance ≡ true) g net.peers (λ k d l. balance (get_or net.peers k d) (is.balances k d l));
@@ -225,20 +229,6 @@ find_filter {A} t keep (x ∷ xs) p e k = by (t x) (keep x) refl refl e (find_fi
 length-filter_le : {A : Type 0} (keep : A → Bool) (xs : List A) → length (filter keep xs) ≤ length xs
 length-filter_le keep xs = subst (λ n. n ≤ length xs) (sym (length-filter keep xs)) (count_by-le-length keep xs)
 
-find_passes : {A : Type 0} (t : A → Bool) (xs : List A) (x : A) → find t xs ≡ Some x → t x ≡ true
-find_passes {A} t [] x e = absurd (none_some x e)
-  where
-    none_some : (q : A) → None ≡ Some q → ⊥
-    none_some q f = absurd cc
-find_passes {A} t (y ∷ ys) x e = by (t y) refl e (find_passes t ys x)
-  where
-    same : Some y ≡ Some x → y ≡ x
-    same f = cc
-
-    by : (b : Bool) → t y ≡ b → cond b (Some y) (find t ys) ≡ Some x → (find t ys ≡ Some x → t x ≡ true) → t x ≡ true
-    by true ty f rest = ap t (sym (same f)) ∙ ty
-    by false ty f rest = rest f
-
 found_filter : {A K : Type 0} (key : A → K) (test : K → K → Bool) (keep : A → Bool) (xs : List A) → AreFound key test xs → AreFound key test (filter keep xs)
 found_filter {A} key test keep xs each k d l =
     let p : A = get_or (filter keep xs) k d in
@@ -292,6 +282,7 @@ without_peer_is net n is free =
           some_filter (λ p. eqb p.number r.to) keep (other_kept r.to n (not_to r passes)) net.peers
           (All-filter keep_rate (λ x. IsSome (peer_numbered x.to net.peers)) net.rates is.receivers k d l);
       rates = found_filter pair_of same_pair keep_rate net.rates is.rates;
+      apart = All-filter keep_rate (λ x. eqb x.from x.to ≡ false) net.rates is.apart;
       few_rates = omega arith;
       terms = All-filter keep (λ p. are_terms_within p.terms ≡ true) net.peers is.terms;
       balances = All-filter keep (λ p. is_balance_within p.balance ≡ true) net.peers is.balances;
@@ -319,6 +310,7 @@ with_route_is net prefix n is there =
       senders = is.senders;
       receivers = is.receivers;
       rates = is.rates;
+      apart = is.apart;
       few_rates = is.few_rates;
       terms = is.terms;
       balances = is.balances;
@@ -348,6 +340,7 @@ without_route_is net prefix is =
       senders = is.senders;
       receivers = is.receivers;
       rates = is.rates;
+      apart = is.apart;
       few_rates = is.few_rates;
       terms = is.terms;
       balances = is.balances;
@@ -370,8 +363,8 @@ none_found t [] e = refl
 none_found t (r ∷ rs) e = let parts = or_parts (t r) (list_any t rs) e in rw parts.0 (none_found t rs parts.1)
 
 pub pushed_rate_is : (net : Net) (r : RateTerms) → IsNetwork net → IsSome (peer_numbered r.from net.peers) → IsSome (peer_numbered r.to net.peers)
-    → has_pair r net.rates ≡ false → length net.rates < max_rates → IsNetwork (record net { rates = net.rates ++ r ∷ [] })
-pushed_rate_is net r is from to other room =
+    → eqb r.from r.to ≡ false → has_pair r net.rates ≡ false → length net.rates < max_rates → IsNetwork (record net { rates = net.rates ++ r ∷ [] })
+pushed_rate_is net r is from to apart other room =
     let count = length_push net.rates r in
     record {
       peers = is.peers;
@@ -385,14 +378,15 @@ pushed_rate_is net r is from to other room =
       senders = All-push (λ x. IsSome (peer_numbered x.from net.peers)) net.rates r is.senders from;
       receivers = All-push (λ x. IsSome (peer_numbered x.to net.peers)) net.rates r is.receivers to;
       rates = found_push pair_of same_pair net.rates r is.rates (none_found (is_for_pair r.from r.to) net.rates other) (same_itself r);
+      apart = All-push (λ x. eqb x.from x.to ≡ false) net.rates r is.apart apart;
       few_rates = omega arith;
       terms = is.terms;
       balances = is.balances;
     }
 
 pub replaced_rate_is : (net : Net) (r : RateTerms) → IsNetwork net → IsSome (peer_numbered r.from net.peers) → IsSome (peer_numbered r.to net.peers)
-    → IsNetwork (record net { rates = replaced_rate r net.rates })
-replaced_rate_is net r is from to =
+    → eqb r.from r.to ≡ false → IsNetwork (record net { rates = replaced_rate r net.rates })
+replaced_rate_is net r is from to apart =
     let put : RateTerms → RateTerms = λ q. cond (is_for_pair r.from r.to q) r q in
     let count = length-map net.rates put in
     let short = is.few_rates in
@@ -408,6 +402,7 @@ replaced_rate_is net r is from to =
       senders = All-map (λ x. IsSome (peer_numbered x.from net.peers)) put net.rates (λ k d l. either (λ x. IsSome (peer_numbered x.from net.peers)) (get_or net.rates k d) from (is.senders k d l));
       receivers = All-map (λ x. IsSome (peer_numbered x.to net.peers)) put net.rates (λ k d l. either (λ x. IsSome (peer_numbered x.to net.peers)) (get_or net.rates k d) to (is.receivers k d l));
       rates = found_map pair_of same_pair put same net.rates is.rates;
+      apart = All-map (λ x. eqb x.from x.to ≡ false) put net.rates (λ k d l. either (λ x. eqb x.from x.to ≡ false) (get_or net.rates k d) apart (is.apart k d l));
       few_rates = omega arith;
       terms = is.terms;
       balances = is.balances;

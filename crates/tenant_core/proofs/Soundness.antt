@@ -24,6 +24,7 @@ use Rattle.tenant_core.specs.Holds.{hold_ended, hold_ticked, with_fate, begun_by
 use Rattle.tenant_core.specs.Key.{Key}
 use Rattle.tenant_core.specs.Network.{Net, IsNetwork, peer_with_token}
 use Rattle.tenant_core.specs.Present.{network_of}
+use Rattle.tenant_core.specs.Replay.{is_sayable}
 use Rattle.tenant_core.specs.State.{State, clock_of, recorded, extended, later}
 use Rattle.tenant_core.specs.declared.journal.Change.{Change as Changed}
 use Rattle.tenant_core.specs.Orders.{change_record, change_refusal, names_present}
@@ -64,9 +65,9 @@ decided_numbers s peer key now (Forward hold to price expiry) paid e =
     numbered-push s.opening.next_hold (holds_of s) h e paid.2
 
 pub decided_sound : (s : State) (token : List ℕ) (key : Key) (now : ℕ) (from : Peer) → IsSound s
-    → peer_with_token token (network_of s).peers ≡ Some from → is_full s ≡ false → now ≤ last_moment
+    → peer_with_token token (network_of s).peers ≡ Some from → is_full s ≡ false → is_sayable key ≡ true → now ≤ last_moment
     → IsSound (recorded s (Some (decide_record from.number key now (verdict_for_sender s from key (max (clock_of s) now)))))
-decided_sound s token key now from sound is room early =
+decided_sound s token key now from sound is room sayable early =
     let v : Verdict = verdict_for_sender s from key (max (clock_of s) now) in
     let r : Record = decide_record from.number key now v in
     let fits : length s.records + open_holds s + 2 ≤ s.opening.journal = ltb-false _ _ room in
@@ -78,7 +79,7 @@ decided_sound s token key now from sound is room early =
     let paid = sender_paid s from key (max (clock_of s) now) sound.network.terms (has_limits from.terms sender) in
     let last = sound.clock in
     record {
-      replay = decided_replay s token key now from sound.replay sound.network.numbers is room;
+      replay = decided_replay s token key now from sound.replay sound.network.numbers is room sayable early;
       tenant = sound.tenant;
       network = subst (λ (x : Net). IsNetwork x) (sym (network_of-decide s from.number key now v)) sound.network;
       room = omega arith;
@@ -128,7 +129,7 @@ answered_sound s n now key h sound is early =
     let fits = sound.room in
     let last = sound.clock in
     record {
-      replay = answered_replay s n now key h sound.replay is;
+      replay = answered_replay s n now key h sound.replay is early;
       tenant = sound.tenant;
       network = subst (λ (x : Net). IsNetwork x) (sym (network_of-answer s n now key v)) sound.network;
       room = omega arith;
@@ -155,7 +156,7 @@ ticked_sound s now sound room early =
     let longer = length_push s.records r in
     let last = sound.clock in
     record {
-      replay = ticked_replay s now sound.replay room;
+      replay = ticked_replay s now sound.replay room early;
       tenant = sound.tenant;
       network = subst (λ (x : Net). IsNetwork x) (sym (network_of-tick s now (tick_count s clock))) sound.network;
       room = omega arith;
@@ -180,7 +181,7 @@ changed_sound s c now sound room early present allowed network =
     let longer = length_push s.records r in
     let last = sound.clock in
     record {
-      replay = changed_replay s c now sound.replay room present allowed;
+      replay = changed_replay s c now sound.replay room present allowed early;
       tenant = sound.tenant;
       network = network;
       room = omega arith;

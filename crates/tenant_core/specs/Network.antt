@@ -1,5 +1,5 @@
 -- Whom a tenant deals with, and how: its peers, the routes to them, and the rates between them.
-use Rattle.std.specs.Prelude.{ℕ, ◌≡◌, ◌≤◌, ◌<◌, ◌+◌, ℤ, Bool, true, not, ◌||◌, List, [], ◌∷◌, ◌++◌, map, length, find}
+use Rattle.std.specs.Prelude.{ℕ, ◌≡◌, ◌≤◌, ◌<◌, ◌+◌, ℤ, Bool, true, false, not, ◌||◌, List, [], ◌∷◌, ◌++◌, map, length, find}
 use Rattle.std.specs.Prelude.{All, Option, Some, None, IsSome, ◌==◌, nat_le, if◌then◌else◌, Result, Ok, Err, ◌&&◌}
 use Rattle.std.specs.FinMap.{empty, get, contains_key, insert, remove, len}
 use Rattle.std.specs.List.{filter, list_any, AllPairs}
@@ -165,6 +165,8 @@ pub record IsNetwork (net : Net) : Type 0 where
   pub senders : All (λ r. IsSome (peer_numbered r.from net.peers)) net.rates
   pub receivers : All (λ r. IsSome (peer_numbered r.to net.peers)) net.rates
   pub rates : All (λ r. find (is_for_pair r.from r.to) net.rates ≡ Some r) net.rates
+  -- whose two peers are not the same
+  pub apart : All (λ r. (r.from == r.to) ≡ false) net.rates
   pub few_rates : length net.rates ≤ max_rates
   -- what is agreed with each peer is within its limits, and so is what it owed at first
   pub terms : All (λ p. are_terms_within p.terms ≡ true) net.peers

@@ -5,8 +5,10 @@ use Rattle.std.specs.FinMap.{values}
 use Rattle.std.specs.List.{list_any}
 use Rattle.std.specs.Option.{option_or}
 use Rattle.common_types.specs.OptionChain.{◌>>=◌}
+use Rattle.money_core.specs.Fraction.{Fraction}
 use Rattle.route_table.specs.Routes.{NamesPeer}
 use Rattle.tenant_core.specs.Answer.{has_no_place}
+use Rattle.tenant_core.specs.Commands.{Ends}
 use Rattle.tenant_core.specs.Checks.{◌otherwise◌}
 use Rattle.tenant_core.specs.Holds.{holds_of, is_open}
 use Rattle.tenant_core.specs.Limits.{max_money}
@@ -29,10 +31,18 @@ use Rattle.tenant_core.specs.declared.journal.Change.TheVariants.{RouteAdded, Ro
 use Rattle.tenant_core.specs.declared.journal.Entry.TheVariants.{Change}
 use Rattle.tenant_core.specs.declared.journal.Outcome.TheVariants.{Done}
 use Rattle.tenant_core.specs.declared.journal.Record.{Record}
+use Rattle.tenant_core.specs.declared.terms.RateTerms.{RateTerms}
 
 -- the number of the peer of that name
 abbrev pub number_named : Net → List ℕ → Option ℕ
 number_named net name = option_map (λ p. p.number) (peer_named name net.peers)
+
+-- the rate between the peers of these names, if they are there
+abbrev pub rate_named : Net → Ends → Fraction → Option RateTerms
+rate_named net pair rate = do
+  from ← number_named net pair.from
+  to ← number_named net pair.to
+  Some (record { from = from; to = to; rate = rate })
 
 -- what an order changes, if the peers are there that it names
 abbrev pub change_of : Net → Order → Option Changed
@@ -42,10 +52,7 @@ change_of net (SetLimits name limits) = option_map (λ n. LimitsSet n limits) (n
 change_of net (SetBucket name bucket) = option_map (λ n. BucketSet n bucket) (number_named net name)
 change_of net (AddRoute prefix name) = option_map (λ n. RouteAdded prefix n) (number_named net name)
 change_of net (RemoveRoute prefix) = Some (RouteRemoved prefix)
-change_of net (SetRate pair rate) = do
-  from ← number_named net pair.from
-  to ← number_named net pair.to
-  Some (RateSet (record { from = from; to = to; rate = rate }))
+change_of net (SetRate pair rate) = option_map (λ r. RateSet r) (rate_named net pair rate)
 change_of net (Settle name side amount) = option_map (λ n. Settled n side amount) (number_named net name)
 
 -- a hold that awaits its answer names the peer of that number
@@ -114,7 +121,7 @@ abbrev pub IsFree : Net → Changed → Type 0
 IsFree net (PeerRemoved n) = ¬ (NamesPeer net.routes n)
 IsFree net _ = Unit {0}
 
--- the peers are there that a change names
+-- the peers are there that a change names, and a rate's are two
 abbrev pub names_present : Net → Changed → Bool
 names_present net (PeerAdded t) = true
 names_present net (PeerRemoved n) = is_some (peer_numbered n net.peers)
@@ -122,5 +129,6 @@ names_present net (LimitsSet n limits) = is_some (peer_numbered n net.peers)
 names_present net (BucketSet n bucket) = is_some (peer_numbered n net.peers)
 names_present net (RouteAdded prefix n) = is_some (peer_numbered n net.peers)
 names_present net (RouteRemoved prefix) = true
-names_present net (RateSet r) = is_some (peer_numbered r.from net.peers) && is_some (peer_numbered r.to net.peers)
+names_present net (RateSet r) =
+    is_some (peer_numbered r.from net.peers) && is_some (peer_numbered r.to net.peers) && not (r.from == r.to)
 names_present net (Settled n side amount) = is_some (peer_numbered n net.peers)

@@ -1,5 +1,7 @@
 -- Replays: the outcomes that a journal's entries lead to, from its opening on.
-use Rattle.std.specs.Prelude.{◌≡◌, ◌||◌, not, is_some, List, fold, map, max, Option, Some, None, option_map, option_and_then, if◌then◌else◌}
+use Rattle.std.specs.Prelude.{◌≡◌, ◌||◌, ◌&&◌, Bool, not, is_ok, is_some, nat_le, List, fold, map, max, Option, Some, None, option_map, option_and_then, if◌then◌else◌}
+use Rattle.ilp_addr.specs.Address.{address_at}
+use Rattle.ilp_addr.specs.Timestamp.{latest_expiry, last_moment}
 use Rattle.tenant_core.specs.Answer.{settle_answer, has_no_place, tick_count}
 use Rattle.tenant_core.specs.Holds.{open_hold}
 use Rattle.tenant_core.specs.Judge.{is_full, verdict_for_sender}
@@ -8,7 +10,7 @@ use Rattle.tenant_core.specs.Network.{peer_numbered}
 use Rattle.tenant_core.specs.Present.{network_of}
 use Rattle.tenant_core.specs.Orders.{names_present, change_refusal}
 use Rattle.tenant_core.specs.Periods.{roll_refusal}
-use Rattle.tenant_core.specs.State.{State, opened, clock_of, recorded}
+use Rattle.tenant_core.specs.State.{State, opened, clock_of, entered_at, recorded}
 use Rattle.tenant_core.specs.declared.journal.AnswerEntry.{AnswerEntry}
 use Rattle.tenant_core.specs.declared.journal.ChangeEntry.{ChangeEntry}
 use Rattle.tenant_core.specs.declared.journal.DecideEntry.{DecideEntry}
@@ -23,10 +25,14 @@ use Rattle.tenant_core.specs.declared.opening.Opening.{Opening}
 abbrev pub key_entered : DecideEntry → Key
 key_entered d = record { amount = d.amount; expiry = d.expiry; condition = d.condition; destination = d.destination }
 
+-- a Prepare can say that: its destination is an address, and its expiry the moment of a timestamp (RFC 0027, "ILP Prepare")
+abbrev pub is_sayable : Key → Bool
+is_sayable key = is_ok (address_at key.destination) && nat_le key.expiry latest_expiry
+
 -- what the Prepare of the entry's peer leads to, where the journal has room for it
 abbrev pub decide_outcome : State → DecideEntry → Option Outcome
 decide_outcome s d =
-    if is_full s then None
+    if is_full s || not (is_sayable (key_entered d)) then None
     else option_map
     (λ from. Packet (verdict_for_sender s from (key_entered d) (max (clock_of s) d.now)))
     (peer_numbered d.peer (network_of s).peers)
@@ -51,13 +57,17 @@ change_outcome s c =
 abbrev pub roll_outcome : State → Option Outcome
 roll_outcome s = if is_some (roll_refusal s) then None else Some Rolled
 
--- what an entry leads to in a state; nothing where it would not be appended
+-- what an entry leads to in a state, whenever it came
+abbrev pub entry_outcome : State → Entry → Option Outcome
+entry_outcome s (Decide d) = decide_outcome s d
+entry_outcome s (Answer a) = answer_outcome s a
+entry_outcome s (Tick t) = tick_outcome s t
+entry_outcome s (Change c) = change_outcome s c
+entry_outcome s (Roll r) = roll_outcome s
+
+-- what an entry leads to in a state; nothing where it would not be appended, or is of no moment that is handed in
 abbrev pub outcome_of : State → Entry → Option Outcome
-outcome_of s (Decide d) = decide_outcome s d
-outcome_of s (Answer a) = answer_outcome s a
-outcome_of s (Tick t) = tick_outcome s t
-outcome_of s (Change c) = change_outcome s c
-outcome_of s (Roll r) = roll_outcome s
+outcome_of s e = if nat_le (entered_at e) last_moment then entry_outcome s e else None
 
 -- the state with that entry and what it leads to
 abbrev pub appended : State → Entry → Option State

@@ -3,18 +3,21 @@
 use crate::command::{Amount, Side};
 use crate::terms::{BucketTerms, PeerLimits, PeerTerms, RateTerms};
 use crate::verdict::Verdict;
-use common_types::Bytes;
+use common_types::{Between, Bytes};
 use ilp_addr::{Address, Prefix};
 use route_table::PeerNo;
 use std::alloc::{AllocError, Global};
+
+/// When a packet expires, in milliseconds since 1970-01-01: at most 9999-12-30, as late as a timestamp says it
+/// (RFC 0027, "ILP Prepare").
+pub type Expiry = Between<0, 253_402_128_000_000>;
 
 /// What a Prepare says that a tenant decides by.
 #[derive(Clone, Copy)]
 pub struct PrepareKey<'a> {
     /// In the sender's units.
     pub amount: u64,
-    /// Milliseconds since 1970-01-01, at most 253,402,128,000,000.
-    pub expiry: u64,
+    pub expiry: Expiry,
     pub condition: &'a [u8; 32],
     pub destination: &'a Address<'a>,
 }

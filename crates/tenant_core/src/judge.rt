@@ -151,7 +151,7 @@ impl Standing<'_> {
         if from.bucket.credit(clock) < PACKET {
             return refuse(RejectCode::RateLimited);
         }
-        if key.expiry <= clock {
+        if key.expiry.get() <= clock {
             return refuse(RejectCode::InsufficientTimeout);
         }
         if is_config(key.destination) {
@@ -201,7 +201,7 @@ impl Standing<'_> {
                 rate.greatest(from.peer.terms.limits.cap.get(), cap),
             );
         }
-        let expiry = outgoing_expiry(self.opening, key.expiry, clock);
+        let expiry = outgoing_expiry(self.opening, key.expiry.get(), clock);
         if expiry <= clock {
             return refuse(RejectCode::InsufficientTimeout);
         }

@@ -38,8 +38,8 @@ pub use command::{Amount, Answered, Command, Order, Pair, Side};
 pub use faults::{BookFault, CommandFault, HoldFault};
 pub use ildcp_core::Role;
 pub use journal::{
-    AnswerEntry, AnswerKey, Change, ChangeEntry, DecideEntry, Entry, Outcome, PrepareKey, Record,
-    RollEntry, TickEntry,
+    AnswerEntry, AnswerKey, Change, ChangeEntry, DecideEntry, Entry, Expiry, Outcome, PrepareKey,
+    Record, RollEntry, TickEntry,
 };
 pub use network::Network;
 pub use opening::Opening;

@@ -20,7 +20,7 @@ use std::alloc::{AllocError, Global};
 use std::marker::Model;
 
 /// Whom a tenant deals with, and how. Its type keeps that peers are told apart by number, name and token, that routes and
-/// rates name peers that are there, and that an ordered pair of peers has one rate. Numbers, tokens and pairs are looked up
+/// rates name peers that are there, and that an ordered pair of two peers has one rate. Numbers, tokens and pairs are looked up
 /// without a walk over the list.
 #[derive(Drop)]
 pub struct Network {
@@ -120,7 +120,7 @@ impl Network {
     ghost use Rattle.route_table.specs.Routes.{NamesPeer};
     ghost use Rattle.tenant_core.specs.Network.{IsNetwork, IsChanged, nobody, peer_refusal, with_peer, without_peer};
     ghost use Rattle.tenant_core.specs.Network.{begun, with_limits, with_bucket, with_route, without_route, with_rate};
-    ghost use Rattle.std.specs.Prelude.{true};
+    ghost use Rattle.std.specs.Prelude.{◌==◌, false, true};
     ghost use Rattle.tenant_core.specs.Orders.{names_present, IsFree, net_refusal};
     ghost use Rattle.tenant_core.specs.Present.{changed};
     ghost use Rattle.tenant_core.specs.Network.{route_refusal, no_route_refusal, rate_refusal};
@@ -380,13 +380,14 @@ impl Network {
         }
     }
 
-    /// What packets of one peer for another cost, in the place of what they did. Both peers are there.
+    /// What packets of one peer for another cost, in the place of what they did. Both peers are there, and are two.
     ///
     /// The errors are, in the order in which they are looked for: `Limit` where the pair has no rate and there are 4,096,
     /// and `Memory`. An error leaves the network as it was.
     pub fn set_rate(&mut self, rate: &RateTerms) -> Result<(), CommandFault>
         requires from { IsSome (peer_numbered rate.now.from self.old.peers) }
         requires to { IsSome (peer_numbered rate.now.to self.old.peers) }
+        requires apart { (rate.now.from == rate.now.to) ≡ false }
         ensures { IsChanged result (rate_refusal self.old rate.now) self.old self.new (with_rate self.old rate.now) }
     {
         let at = match search_pair(&self.rates, &self.by_pair, (rate.from, rate.to)) {

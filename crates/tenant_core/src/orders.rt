@@ -1,20 +1,21 @@
 //! What orders change, and what they are refused for.
 
-ghost use Rattle.std.specs.Prelude.{length, option_and_then, slice_get, ◌<◌, ◌≡◌, IfOk, IfSome, is_some, true};
+ghost use Rattle.std.specs.Prelude.{length, option_and_then, slice_get, ◌<◌, ◌≡◌, ◌==◌, not, IfOk, IfSome, is_some, true};
 ghost use Rattle.std.specs.List.{list_any};
 ghost use Rattle.std.specs.Option.{option_copied};
 ghost use Rattle.std.specs.Str.{bytes_eq};
 ghost use Rattle.tenant_core.specs.Network.{peer_named, peer_numbered};
-ghost use Rattle.tenant_core.specs.Orders.{number_named, change_of, awaits_for, names_present};
+ghost use Rattle.tenant_core.specs.Orders.{number_named, rate_named, change_of, awaits_for, names_present};
 ghost use Rattle.tenant_core.specs.Following.{peer_changed};
 
-use crate::command::Order;
+use crate::command::{Order, Pair};
 use crate::hold::{Hold, is_open};
 use crate::journal::Change;
 use crate::network::Network;
 use crate::peer::Peer;
 use crate::terms::RateTerms;
 use common_types::Name;
+use money_core::Rate;
 use route_table::PeerNo;
 use std::alloc::{AllocError, Global};
 
@@ -35,9 +36,22 @@ fn peer_named<'a>(peers: &'a [Peer], name: &[u8]) -> Option<&'a Peer>
 pub fn number_named(network: &Network, name: &Name) -> Option<PeerNo>
     ensures exact { result ≡ number_named network.now name.now }
     ensures present { IfSome result (λ n. is_some (peer_numbered n network.now.peers) ≡ true) }
+    ensures same { IfSome result (λ n. peer_numbered n network.now.peers ≡ peer_named name.now network.now.peers) }
 {
     let peer = peer_named(network.peers(), name.as_bytes())?;
     Some(peer.number)
+}
+
+/// The rate between the peers of these names, which are two, if they are there.
+pub fn rate_named(network: &Network, pair: &Pair, rate: Rate) -> Option<RateTerms>
+    ensures exact { result ≡ rate_named network.now pair.now rate }
+    ensures from { IfSome result (λ r. is_some (peer_numbered r.from network.now.peers) ≡ true) }
+    ensures to { IfSome result (λ r. is_some (peer_numbered r.to network.now.peers) ≡ true) }
+    ensures apart { IfSome result (λ r. not (r.from == r.to) ≡ true) }
+{
+    let from = number_named(network, pair.from())?;
+    let to = number_named(network, pair.to())?;
+    Some(RateTerms { from, to, rate })
 }
 
 /// What an order changes, if the peers are there that it names. The one error is want of memory.
@@ -74,19 +88,7 @@ pub fn change_of(
             None => None,
         },
         Order::RemoveRoute(prefix) => Some(Change::RouteRemoved(prefix.copy(alloc)?)),
-        Order::SetRate { pair, rate } => {
-            match (
-                number_named(network, pair.from()),
-                number_named(network, pair.to()),
-            ) {
-                (Some(from), Some(to)) => Some(Change::RateSet(RateTerms {
-                    from,
-                    to,
-                    rate: *rate,
-                })),
-                _ => None,
-            }
-        }
+        Order::SetRate { pair, rate } => rate_named(network, pair, *rate).map(Change::RateSet),
         Order::Settle { peer, side, amount } => number_named(network, peer).map(
             |peer| Change::Settled {
                 peer,

@@ -1,12 +1,14 @@
 //! Records as a journal lends them.
 
-ghost use Rattle.std.specs.Prelude.{◌≡◌, ◌≤◌, length};
+ghost use Rattle.std.specs.Prelude.{◌≡◌, ◌≤◌, length, true};
 ghost use Rattle.tenant_core.specs.Judge.{decide_entry};
 ghost use Rattle.tenant_core.specs.Key.{key_of};
+ghost use Rattle.tenant_core.specs.Replay.{is_sayable};
 ghost use Rattle.tenant_core.specs.Views.{decide_of};
 
 use crate::journal::{AnswerEntry, ChangeEntry, Outcome, PrepareKey, RollEntry, TickEntry};
 use ilp_addr::Moment;
+use ilp_addr::laws::addresses;
 use route_table::PeerNo;
 
 /// A Prepare that a peer brought, and the moment; its bytes lie elsewhere.
@@ -46,11 +48,13 @@ pub struct RecordView<'a> {
 pub fn decide_view<'a>(peer: PeerNo, key: &PrepareKey<'a>, now: Moment) -> DecideView<'a>
     ensures value { decide_of result ≡ decide_entry peer (key_of key.now) now }
     ensures short { length result.destination.now ≤ 1023 }
+    ensures sayable { is_sayable (key_of key.now) ≡ true }
 {
+    addresses();
     DecideView {
         peer,
         amount: key.amount,
-        expiry: key.expiry,
+        expiry: key.expiry.get(),
         condition: key.condition,
         destination: key.destination.bytes(),
         now: now.millis(),

@@ -6,9 +6,8 @@ use crate::command::{Amount, Order, Side};
 use crate::faults::CommandFault;
 use crate::journal::Change;
 use crate::judge::Standing;
-use crate::orders::{is_awaited_for, number_named};
+use crate::orders::{is_awaited_for, number_named, rate_named};
 use crate::peer::Level;
-use crate::terms::RateTerms;
 use rate_bucket::full_bucket;
 use route_table::PeerNo;
 
@@ -87,19 +86,10 @@ impl Standing<'_> {
                 None => Some(CommandFault::Absent),
             },
             Order::RemoveRoute(prefix) => network.no_route_refusal(prefix),
-            Order::SetRate { pair, rate } => {
-                match (
-                    number_named(network, pair.from()),
-                    number_named(network, pair.to()),
-                ) {
-                    (Some(from), Some(to)) => network.rate_refusal(&RateTerms {
-                        from,
-                        to,
-                        rate: *rate,
-                    }),
-                    _ => Some(CommandFault::Absent),
-                }
-            }
+            Order::SetRate { pair, rate } => match rate_named(network, pair, *rate) {
+                Some(rate) => network.rate_refusal(&rate),
+                None => Some(CommandFault::Absent),
+            },
             Order::Settle { peer, side, amount } => match number_named(network, peer) {
                 Some(peer) => self.settlement_refusal(peer, *side, *amount),
                 None => Some(CommandFault::Absent),

@@ -17,7 +17,7 @@ use std::alloc::Global;
 use std::process::Abort;
 use std::test::Fail;
 use tenant_core::{
-    AnswerKey, Answered, Balance, Book, BookFault, Command, CommandFault, Network, Order, Pair,
+    AnswerKey, Answered, Balance, Book, BookFault, Command, CommandFault, Expiry, Network, Order, Pair,
     PeerNo, PrepareKey, RejectCode, Row, TenantSetup, TenantTerms, Verdict,
 };
 use told::{Priced, Sums, Told};
@@ -143,7 +143,7 @@ fn decide(alloc: Global, book: &mut Book, packet: &Packet, now: u64) -> Result<V
     let destination = Address::parse(text.as_bytes())?;
     let key = PrepareKey {
         amount: packet.amount,
-        expiry: packet.expiry,
+        expiry: Expiry::new(packet.expiry).ok_or("an expiry")?,
         condition: &CONDITION,
         destination: &destination,
     };

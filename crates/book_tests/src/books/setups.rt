@@ -7,7 +7,7 @@ use std::alloc::Global;
 use std::process::Abort;
 use std::test::Fail;
 use tenant_core::{
-    AnswerKey, Balance, Book, BookFault, BucketTerms, CommandFault, HoldFault, Level, Network,
+    AnswerKey, Balance, Book, BookFault, BucketTerms, CommandFault, Expiry, HoldFault, Level, Network,
     PeerLimits, PeerTerms, PrepareKey, RateTerms, RejectCode, Role, TenantSetup, TenantTerms,
     Verdict, number_named,
 };
@@ -113,6 +113,9 @@ pub fn set_rate(
     let to = format!(in alloc; "p{to}")?;
     let from = number_named(network, &name(from.as_bytes())?).ok_or("the first peer")?;
     let to = number_named(network, &name(to.as_bytes())?).ok_or("the second peer")?;
+    if from == to {
+        return Err(Fail::from("two peers"));
+    }
     let rate = Rate::new(rate.0, rate.1)?;
     Ok(network.set_rate(&RateTerms { from, to, rate }))
 }
@@ -198,7 +201,7 @@ pub fn decide(book: &mut Book, amount: u64, expiry: u64, now: u64) -> Result<Ver
     let destination = Address::parse(b"g.acme.bob.x")?;
     let key = PrepareKey {
         amount,
-        expiry,
+        expiry: Expiry::new(expiry).ok_or("an expiry")?,
         condition: &[7; 32],
         destination: &destination,
     };
@@ -228,7 +231,7 @@ pub fn send(book: &mut Book, now: u64) -> Result<Verdict, Fail> {
     let destination = Address::parse(b"g.acme.bob.x")?;
     let key = PrepareKey {
         amount: 1_000,
-        expiry: START + 30_000,
+        expiry: Expiry::new(START + 30_000).ok_or("an expiry")?,
         condition: &CONDITION,
         destination: &destination,
     };

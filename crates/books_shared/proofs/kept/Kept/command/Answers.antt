@@ -20,7 +20,7 @@ invariant_of-self g c = (
   (let kept = c.self.invariant.0 in let most = c.command_in-answer.ensures.most in omega arith),
   traced_command g.J.Run.openings c.self.inside.book c.command_in-answer.new.book c.self.inside.part c.trace_command.new.part c.args.share.now.worker
       c.command_in-answer.result.0 c.args.command.now c.args.now c.self.invariant.1 c.command_in-answer.ensures.answer
-      c.book_is_sound.ensures.replay c.trace_command.ensures.part,
+      c.book_is_sound.ensures c.trace_command.ensures.part,
 )
 
 pub returns-clause-steps : goal.returns-clause-steps

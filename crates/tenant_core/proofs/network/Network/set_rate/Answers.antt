@@ -27,7 +27,7 @@ invariant_of-self c =
     let tie = rw (c.deref.ensures.value, c.deref-2.ensures.value) at (c.in-Ok.ensures.position c.index.result.now) in
     let is = set_is net.rates c.self.inside.by_pair.items c.self.invariant.pairs c.self.invariant.apart r c.in-Ok.at c.index.result.now found c.index.ensures tie in
     record {
-      network = is_network _ _ (ap others is) (replaced_rate_is net r c.self.invariant.network from to);
+      network = is_network _ _ (ap others is) (replaced_rate_is net r c.self.invariant.network from to c.requires.apart);
       tokens = c.self.invariant.tokens;
       pairs = pair_replaced net.rates c.self.inside.by_pair.items c.self.invariant.pairs c.self.invariant.apart r c.in-Ok.at c.index.result.now found c.index.ensures tie;
       apart = apart_replaced net.rates c.self.inside.by_pair.items c.self.invariant.pairs c.self.invariant.apart r c.in-Ok.at c.index.result.now found c.index.ensures tie;
@@ -94,7 +94,7 @@ invariant_of-self-2 c =
     let ok : IsOk c.insert.result = c.insert.ensures.succeeds (search rules) in
     let order : c.insert.new.self.items ≡ insert c.self.inside.by_pair.items c.in-Err.at (length net.rates) = grind (arith, common_steps, ok) in
     record {
-      network = is_network _ _ (ap others rates) (pushed_rate_is net r c.self.invariant.network from to absent (search rules));
+      network = is_network _ _ (ap others rates) (pushed_rate_is net r c.self.invariant.network from to c.requires.apart absent (search rules));
       tokens = c.self.invariant.tokens;
       pairs = rw (rates, order) (pair_added net.rates c.self.inside.by_pair.items c.self.invariant.pairs r c.in-Err.at range searched);
       apart = rw rates (apart_added net.rates c.self.inside.by_pair.items c.self.invariant.pairs r c.in-Err.at range searched c.self.invariant.apart);
