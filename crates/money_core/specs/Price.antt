@@ -1,5 +1,6 @@
 -- Prices of amounts under a rate, in exact numbers.
-use Rattle.std.specs.Prelude.{ℕ, ◌+◌, ◌-◌, ◌*◌, ◌/◌, ◌<◌, ◌≤◌, Result, Ok, Err, nat_lt, ◌==◌, ◌||◌, if◌then◌else◌}
+use Rattle.std.specs.Prelude.{ℕ, ◌+◌, ◌-◌, ◌*◌, ◌/◌, ◌<◌, ◌≤◌, Option, Some, None, Result, Ok, Err, nat_lt, ◌==◌, ◌||◌}
+use Rattle.std.specs.Prelude.{if◌then◌else◌}
 use Rattle.money_core.specs.Fraction.{Fraction, max_term}
 use Rattle.money_core.specs.declared.rate.RateFault.{RateFault}
 use Rattle.money_core.specs.declared.rate.RateFault.TheVariants.{Zero, Limit}
@@ -12,6 +13,10 @@ IsPrice f amount price =
 -- the price, computed
 abbrev pub price_of : Fraction → ℕ → ℕ
 price_of f amount = amount * f.numerator / f.denominator
+
+-- the price less a fee, if it is not below the fee
+abbrev pub price_less : Fraction → ℕ → ℕ → Option ℕ
+price_less f amount fee = if nat_lt (price_of f amount) fee then None else Some (price_of f amount - fee)
 
 -- the amount is within its limit, its price within its bound, and no larger amount is so
 pub record IsGreatestAmount (f : Fraction) (limit max amount : ℕ) : Type 0 where

@@ -84,8 +84,8 @@ impl Rate {
 }
 
 impl Rate {
-    ghost use Rattle.std.specs.Prelude.{◌≡◌};
-    ghost use Rattle.money_core.specs.Price.{price_of, greatest_amount, IsPrice, IsGreatestAmount};
+    ghost use Rattle.std.specs.Prelude.{◌≡◌, ◌+◌, ◌<◌, IfNone, IfSome};
+    ghost use Rattle.money_core.specs.Price.{price_of, price_less, greatest_amount, IsPrice, IsGreatestAmount};
 
     /// What `amount` incoming units cost in outgoing ones: the exact product, rounded down.
     pub fn price(self, amount: u64) -> u128
@@ -93,6 +93,20 @@ impl Rate {
         ensures exact { result ≡ price_of self amount }
     {
         amount as u128 * self.numerator as u128 / self.denominator as u128
+    }
+
+    /// What `amount` incoming units cost in outgoing ones, less a fee in these; `None` where the price is below the fee.
+    pub fn price_less(self, amount: u64, fee: u64) -> Option<u128>
+        ensures left { IfSome result (λ left. left + fee ≡ price_of self amount) }
+        ensures below { IfNone result (price_of self amount < fee) }
+        ensures exact { result ≡ price_less self amount fee }
+    {
+        let price = self.price(amount);
+        if price < fee as u128 {
+            None
+        } else {
+            Some(price - fee as u128)
+        }
     }
 
     /// The greatest amount up to `limit` whose price is at most `max`.

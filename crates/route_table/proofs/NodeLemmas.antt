@@ -12,9 +12,10 @@ use Rattle.std.specs.FinMap as map
 use Rattle.std.specs.FinMap.{entries, get-from_entries}
 use Rattle.route_table.specs.declared.node.Wanted.{Wanted}
 use Rattle.route_table.specs.Paths.{Path, PathMap, is_same, longest_at}
-use Rattle.route_table.specs.Nodes.{Branch, Children, PathRow, own_row, below, apart, rows_of, routes_from, child_of, peer_in, HasNoEmptyChild, IsWanted, HasWanted, Names}
+use Rattle.route_table.specs.Nodes.{Branch, Children, PathRow, own_row, below, apart, rows_of, routes_from, child_of, hop_in, HasNoEmptyChild, IsWanted, HasWanted, Names}
 use Rattle.route_table.proofs.PathLemmas.{cases, same, same_test, turned, tied, at, find_at, get, get_at, get_none, paths_total, same_paths}
 use Rattle.route_table.proofs.PathLemmas.{get_inserted, get_removed, inserted_some, longest_cong, longest_none, or_or}
+use Rattle.route_table.specs.declared.hop.Hop.{Hop}
 
 -- ---- the rows of the children
 
@@ -26,7 +27,7 @@ at_append q (x ∷ xs) ys =
       | false ↦ at_append q xs ys
     ]
 
-either : (b : Bool) (o : Option ℕ) → o ≡ cond b o o
+either : (b : Bool) (o : Option Hop) → o ≡ cond b o o
 either true o = refl
 either false o = refl
 
@@ -42,8 +43,8 @@ none_below t (row ∷ rows) = none_below t rows
 
 at_apart : (s t : List ℕ) (q : Path) (rows : List PathRow) → at (s ∷ q) (apart t rows) ≡ cond (is_same s t) None (at (s ∷ q) rows)
 at_apart s t q [] = either (is_same s t) None
-at_apart s t q (([], peer) ∷ rows) = at_apart s t q rows
-at_apart s t q ((u ∷ path, peer) ∷ rows) =
+at_apart s t q (([], hop) ∷ rows) = at_apart s t q rows
+at_apart s t q ((u ∷ path, hop) ∷ rows) =
     let more = at_apart s t q rows in
     elim (cases (is_same u t)) [
       | inl gone ↦ elim (cases (is_same s t)) [
@@ -56,31 +57,31 @@ at_apart s t q ((u ∷ path, peer) ∷ rows) =
         | inl here ↦
             let differs : is_same s u ≡ false = turned u s (ap (is_same u) (same s t here) ∙ kept) in
             rw (kept, here, differs) (rw here at more)
-        | inr other ↦ rw (kept, other) (ap (cond (is_same s u && tied q path) (Some peer)) (rw other at more))
+        | inr other ↦ rw (kept, other) (ap (cond (is_same s u && tied q path) (Some hop)) (rw other at more))
       ]
     ]
 
 none_apart : (t : List ℕ) (rows : List PathRow) → at [] rows ≡ None → at [] (apart t rows) ≡ None
 none_apart t [] none = refl
-none_apart t (([], peer) ∷ rows) none = none
-none_apart t ((u ∷ path, peer) ∷ rows) none =
-    elim (is_same u t) as (λ b. at [] (cond b (apart t rows) ((u ∷ path, peer) ∷ apart t rows)) ≡ None) [
+none_apart t (([], hop) ∷ rows) none = none
+none_apart t ((u ∷ path, hop) ∷ rows) none =
+    elim (is_same u t) as (λ b. at [] (cond b (apart t rows) ((u ∷ path, hop) ∷ apart t rows)) ≡ None) [
       | true ↦ none_apart t rows none
       | false ↦ none_apart t rows none
     ]
 
-at_rows_of : (s : List ℕ) (q : Path) (children : Children) → at (s ∷ q) (rows_of children) ≡ peer_in q (child_of s children)
+at_rows_of : (s : List ℕ) (q : Path) (children : Children) → at (s ∷ q) (rows_of children) ≡ hop_in q (child_of s children)
 at_rows_of s q [] = refl
 at_rows_of s q (child ∷ children) =
     at_append (s ∷ q) (below child.0 (entries child.1.routes)) (apart child.0 (rows_of children))
     ∙ (λ i. option_or (at_below s child.0 q (entries child.1.routes) i) (at_apart s child.0 q (rows_of children) i))
     ∙ elim (is_same s child.0) as
-    (λ b. option_or (cond b (at q (entries child.1.routes)) None) (cond b None (at (s ∷ q) (rows_of children))) ≡ peer_in q (cond b (Some child.1) (child_of s children))) [
+    (λ b. option_or (cond b (at q (entries child.1.routes)) None) (cond b None (at (s ∷ q) (rows_of children))) ≡ hop_in q (cond b (Some child.1) (child_of s children))) [
       | true ↦ or_none (at q (entries child.1.routes)) ∙ sym (get_at child.1.routes q)
       | false ↦ at_rows_of s q children
     ]
   where
-    or_none : (o : Option ℕ) → option_or o None ≡ o
+    or_none : (o : Option Hop) → option_or o None ≡ o
     or_none None = refl
     or_none (Some n) = refl
 
@@ -92,135 +93,135 @@ none_rows_of (child ∷ children) =
 
 -- ---- what a node has
 
-get_routes_from : (peer : Option ℕ) (children : Children) (q : Path) → get (routes_from peer children) q ≡ at q (own_row peer ++ rows_of children)
-get_routes_from peer children q = get-from_entries paths_total (own_row peer ++ rows_of children) q ∙ find_at q (own_row peer ++ rows_of children)
+get_routes_from : (hop : Option Hop) (children : Children) (q : Path) → get (routes_from hop children) q ≡ at q (own_row hop ++ rows_of children)
+get_routes_from hop children q = get-from_entries paths_total (own_row hop ++ rows_of children) q ∙ find_at q (own_row hop ++ rows_of children)
 
-pub get_here : (peer : Option ℕ) (children : Children) → get (routes_from peer children) [] ≡ peer
+pub get_here : (hop : Option Hop) (children : Children) → get (routes_from hop children) [] ≡ hop
 get_here None children = get_routes_from None children [] ∙ none_rows_of children
 get_here (Some n) children = get_routes_from (Some n) children []
 
-pub get_below : (peer : Option ℕ) (children : Children) (s : List ℕ) (q : Path) → get (routes_from peer children) (s ∷ q) ≡ peer_in q (child_of s children)
+pub get_below : (hop : Option Hop) (children : Children) (s : List ℕ) (q : Path) → get (routes_from hop children) (s ∷ q) ≡ hop_in q (child_of s children)
 get_below None children s q = get_routes_from None children (s ∷ q) ∙ at_rows_of s q children
 get_below (Some n) children s q = get_routes_from (Some n) children (s ∷ q) ∙ at_rows_of s q children
 
-pub peer_is : (b : Branch) (peer : Option ℕ) (children : Children) → routes_from peer children ≡ b.routes → peer ≡ get b.routes []
-peer_is b peer children is = sym (get_here peer children) ∙ ap (λ m. get m []) is
+pub hop_is : (b : Branch) (hop : Option Hop) (children : Children) → routes_from hop children ≡ b.routes → hop ≡ get b.routes []
+hop_is b hop children is = sym (get_here hop children) ∙ ap (λ m. get m []) is
 
-pub child_is : (b : Branch) (peer : Option ℕ) (children : Children) (s : List ℕ) (child : Option Branch) → routes_from peer children ≡ b.routes → child ≡ child_of s children
-    → (path : Path) → peer_in path child ≡ get b.routes (s ∷ path)
-child_is b peer children s child is found path = ap (peer_in path) found ∙ sym (get_below peer children s path) ∙ ap (λ m. get m (s ∷ path)) is
+pub child_is : (b : Branch) (hop : Option Hop) (children : Children) (s : List ℕ) (child : Option Branch) → routes_from hop children ≡ b.routes → child ≡ child_of s children
+    → (path : Path) → hop_in path child ≡ get b.routes (s ∷ path)
+child_is b hop children s child is found path = ap (hop_in path) found ∙ sym (get_below hop children s path) ∙ ap (λ m. get m (s ∷ path)) is
 
 -- the child behind the first segment has what the node has behind it
-pub walked : (m : PathMap) (left : Path) (s : List ℕ) (rest : Path) (child : Option Branch) → ((path : Path) → peer_in path child ≡ get m (s ∷ path)) → left ≡ s ∷ rest
-    → peer_in rest child ≡ get m left
+pub walked : (m : PathMap) (left : Path) (s : List ℕ) (rest : Path) (child : Option Branch) → ((path : Path) → hop_in path child ≡ get m (s ∷ path)) → left ≡ s ∷ rest
+    → hop_in rest child ≡ get m left
 walked m left s rest child is steps = is rest ∙ ap (get m) (sym steps)
 
-abbrev longest_in : Option Branch → Path → Option ℕ
+abbrev longest_in : Option Branch → Path → Option Hop
 longest_in None path = None
 longest_in (Some child) path = longest_at (get child.routes) path
 
-pub longest_walked : (m : PathMap) (left : Path) (s : List ℕ) (rest : Path) (child : Option Branch) (best : Option ℕ) → ((path : Path) → peer_in path child ≡ get m (s ∷ path)) → left ≡ s ∷ rest
+pub longest_walked : (m : PathMap) (left : Path) (s : List ℕ) (rest : Path) (child : Option Branch) (best : Option Hop) → ((path : Path) → hop_in path child ≡ get m (s ∷ path)) → left ≡ s ∷ rest
     → option_or (longest_in child rest) (option_or (get m []) best) ≡ option_or (longest_at (get m) left) best
 longest_walked m left s rest child best is steps =
     sym (or_or (longest_in child rest) (get m []) best)
-    ∙ ap (λ o. option_or (option_or o (get m [])) best) (sym (longest_peer_in child rest) ∙ longest_cong (λ q. peer_in q child) (λ q. get m (s ∷ q)) is rest)
+    ∙ ap (λ o. option_or (option_or o (get m [])) best) (sym (longest_hop_in child rest) ∙ longest_cong (λ q. hop_in q child) (λ q. get m (s ∷ q)) is rest)
     ∙ ap (λ p. option_or (longest_at (get m) p) best) (sym steps)
   where
-    longest_peer_in : (child : Option Branch) (path : Path) → longest_at (λ q. peer_in q child) path ≡ longest_in child path
-    longest_peer_in None path = longest_none path
-    longest_peer_in (Some child) path = refl
+    longest_hop_in : (child : Option Branch) (path : Path) → longest_at (λ q. hop_in q child) path ≡ longest_in child path
+    longest_hop_in None path = longest_none path
+    longest_hop_in (Some child) path = refl
 
 -- ---- a node with no routes
 
-pub empty_from : (peer : Option ℕ) (children : Children) → peer ≡ None → children ≡ [] → routes_from peer children ≡ map.empty
-empty_from peer children none nothing = λ i. routes_from (none i) (nothing i)
+pub empty_from : (hop : Option Hop) (children : Children) → hop ≡ None → children ≡ [] → routes_from hop children ≡ map.empty
+empty_from hop children none nothing = λ i. routes_from (none i) (nothing i)
 
-pub from_empty : (peer : Option ℕ) (children : Children) → HasNoEmptyChild children → routes_from peer children ≡ map.empty → (peer ≡ None) × (children ≡ [])
-from_empty peer children used is = (sym (get_here peer children) ∙ get_none _ is [], nothing children used (λ s q. sym (get_below peer children s q) ∙ get_none _ is (s ∷ q)))
+pub from_empty : (hop : Option Hop) (children : Children) → HasNoEmptyChild children → routes_from hop children ≡ map.empty → (hop ≡ None) × (children ≡ [])
+from_empty hop children used is = (sym (get_here hop children) ∙ get_none _ is [], nothing children used (λ s q. sym (get_below hop children s q) ∙ get_none _ is (s ∷ q)))
   where
-    nothing : (children : Children) → HasNoEmptyChild children → ((s : List ℕ) (q : Path) → peer_in q (child_of s children) ≡ None) → children ≡ []
+    nothing : (children : Children) → HasNoEmptyChild children → ((s : List ℕ) (q : Path) → hop_in q (child_of s children) ≡ None) → children ≡ []
     nothing [] used none = refl
     nothing (child ∷ children) used none =
         let first : child_of child.0 (child ∷ children) ≡ Some child.1 = ap (λ b. cond b (Some child.1) (child_of child.0 children)) (same_test child.0 child.0 refl) in
-        absurd (used child.0 child.1 first (same_paths _ _ (λ q. sym (ap (peer_in q) first) ∙ none child.0 q ∙ sym (get_none _ refl q))))
+        absurd (used child.0 child.1 first (same_paths _ _ (λ q. sym (ap (hop_in q) first) ∙ none child.0 q ∙ sym (get_none _ refl q))))
 
-some_peer : (b : Branch) (n : ℕ) (children : Children) → routes_from (Some n) children ≡ b.routes → ¬ (b.routes ≡ map.empty)
-some_peer b n children is e = let none : Some n ≡ None = peer_is b (Some n) children is ∙ get_none b.routes e [] in absurd cc
+some_hop : (b : Branch) (n : Hop) (children : Children) → routes_from (Some n) children ≡ b.routes → ¬ (b.routes ≡ map.empty)
+some_hop b n children is e = let none : Some n ≡ None = hop_is b (Some n) children is ∙ get_none b.routes e [] in absurd cc
 
 nil : {A : Type 0} (xs : List A) → length xs ≡ 0 → xs ≡ []
 nil [] e = refl
 nil (x ∷ xs) e = absurd (omega arith)
 
--- no peer of its own: it has no routes exactly where it has no children
-pub empty_without_peer : (b : Branch) (peer : Option ℕ) (children : Children) → HasNoEmptyChild children → routes_from peer children ≡ b.routes → is_some peer ≡ false
+-- no hop of its own: it has no routes exactly where it has no children
+pub empty_without_hop : (b : Branch) (hop : Option Hop) (children : Children) → HasNoEmptyChild children → routes_from hop children ≡ b.routes → is_some hop ≡ false
     → (length children ≡ 0) ↔ (b.routes ≡ map.empty)
-empty_without_peer b None children used is none = (
+empty_without_hop b None children used is none = (
   λ e. sym is ∙ empty_from None children refl (nil children e),
   λ e. ap length (from_empty None children used (is ∙ e)).1,
 )
-empty_without_peer b (Some n) children used is none = absurd cc
+empty_without_hop b (Some n) children used is none = absurd cc
 
-pub not_empty_with_peer : (b : Branch) (peer : Option ℕ) (children : Children) → routes_from peer children ≡ b.routes → is_some peer ≡ true → ¬ (b.routes ≡ map.empty)
-not_empty_with_peer b None children is some = absurd cc
-not_empty_with_peer b (Some n) children is some = some_peer b n children is
+pub not_empty_with_hop : (b : Branch) (hop : Option Hop) (children : Children) → routes_from hop children ≡ b.routes → is_some hop ≡ true → ¬ (b.routes ≡ map.empty)
+not_empty_with_hop b None children is some = absurd cc
+not_empty_with_hop b (Some n) children is some = some_hop b n children is
 
 -- ---- a node that changes at one path
 
-pub peer_set : (peer : Option ℕ) (children : Children) (n : ℕ) → routes_from (Some n) children ≡ map.insert (routes_from peer children) [] n
-peer_set peer children n = same_paths _ _ (λ q. at_each q ∙ sym (get_inserted (routes_from peer children) [] n q))
+pub hop_set : (hop : Option Hop) (children : Children) (n : Hop) → routes_from (Some n) children ≡ map.insert (routes_from hop children) [] n
+hop_set hop children n = same_paths _ _ (λ q. at_each q ∙ sym (get_inserted (routes_from hop children) [] n q))
   where
-    at_each : (q : Path) → get (routes_from (Some n) children) q ≡ cond (tied q []) (Some n) (get (routes_from peer children) q)
+    at_each : (q : Path) → get (routes_from (Some n) children) q ≡ cond (tied q []) (Some n) (get (routes_from hop children) q)
     at_each [] = get_here (Some n) children
-    at_each (s ∷ q) = get_below (Some n) children s q ∙ sym (get_below peer children s q)
+    at_each (s ∷ q) = get_below (Some n) children s q ∙ sym (get_below hop children s q)
 
-pub peer_taken : (peer : Option ℕ) (children : Children) → routes_from None children ≡ map.remove (routes_from peer children) []
-peer_taken peer children = same_paths _ _ (λ q. at_each q ∙ sym (get_removed (routes_from peer children) [] q))
+pub hop_taken : (hop : Option Hop) (children : Children) → routes_from None children ≡ map.remove (routes_from hop children) []
+hop_taken hop children = same_paths _ _ (λ q. at_each q ∙ sym (get_removed (routes_from hop children) [] q))
   where
-    at_each : (q : Path) → get (routes_from None children) q ≡ cond (tied q []) None (get (routes_from peer children) q)
+    at_each : (q : Path) → get (routes_from None children) q ≡ cond (tied q []) None (get (routes_from hop children) q)
     at_each [] = get_here None children
-    at_each (s ∷ q) = get_below None children s q ∙ sym (get_below peer children s q)
+    at_each (s ∷ q) = get_below None children s q ∙ sym (get_below hop children s q)
 
-pub set_here : (b : Branch) (peer : Option ℕ) (children : Children) (path : Path) (n : ℕ) → routes_from peer children ≡ b.routes → path ≡ []
+pub set_here : (b : Branch) (hop : Option Hop) (children : Children) (path : Path) (n : Hop) → routes_from hop children ≡ b.routes → path ≡ []
     → routes_from (Some n) children ≡ map.insert b.routes path n
-set_here b peer children path n is none = peer_set peer children n ∙ (λ i. map.insert (is i) (sym none i) n)
+set_here b hop children path n is none = hop_set hop children n ∙ (λ i. map.insert (is i) (sym none i) n)
 
-pub taken_here : (b : Branch) (peer : Option ℕ) (children : Children) (path : Path) → routes_from peer children ≡ b.routes → path ≡ []
+pub taken_here : (b : Branch) (hop : Option Hop) (children : Children) (path : Path) → routes_from hop children ≡ b.routes → path ≡ []
     → routes_from None children ≡ map.remove b.routes path
-taken_here b peer children path is none = peer_taken peer children ∙ (λ i. map.remove (is i) (sym none i))
+taken_here b hop children path is none = hop_taken hop children ∙ (λ i. map.remove (is i) (sym none i))
 
 -- the children differ at one segment
 pub record Differ (old new : Children) (s : List ℕ) (child : Option Branch) : Type 0 where
   pub here : child_of s new ≡ child
   pub others : (t : List ℕ) → is_same t s ≡ false → child_of t new ≡ child_of t old
 
-changed : (peer : Option ℕ) (old new : Children) (s : List ℕ) (child : Option Branch) (p : Path) (v : Option ℕ) → Differ old new s child
-    → ((q : Path) → peer_in q child ≡ cond (tied q p) v (peer_in q (child_of s old)))
-    → (q : Path) → get (routes_from peer new) q ≡ cond (tied q (s ∷ p)) v (get (routes_from peer old) q)
-changed peer old new s child p v differ below [] = get_here peer new ∙ sym (get_here peer old)
-changed peer old new s child p v differ below (t ∷ q) =
-    get_below peer new t q
+changed : (hop : Option Hop) (old new : Children) (s : List ℕ) (child : Option Branch) (p : Path) (v : Option Hop) → Differ old new s child
+    → ((q : Path) → hop_in q child ≡ cond (tied q p) v (hop_in q (child_of s old)))
+    → (q : Path) → get (routes_from hop new) q ≡ cond (tied q (s ∷ p)) v (get (routes_from hop old) q)
+changed hop old new s child p v differ below [] = get_here hop new ∙ sym (get_here hop old)
+changed hop old new s child p v differ below (t ∷ q) =
+    get_below hop new t q
     ∙ elim (cases (is_same t s)) [
       | inl is ↦
-          rw is (ap (λ x. peer_in q (child_of x new)) (same t s is) ∙ ap (peer_in q) differ.here ∙ below q
-          ∙ ap (cond (tied q p) v) (ap (λ x. peer_in q (child_of x old)) (sym (same t s is)) ∙ sym (get_below peer old t q)))
-      | inr other ↦ rw other (ap (peer_in q) (differ.others t other) ∙ sym (get_below peer old t q))
+          rw is (ap (λ x. hop_in q (child_of x new)) (same t s is) ∙ ap (hop_in q) differ.here ∙ below q
+          ∙ ap (cond (tied q p) v) (ap (λ x. hop_in q (child_of x old)) (sym (same t s is)) ∙ sym (get_below hop old t q)))
+      | inr other ↦ rw other (ap (hop_in q) (differ.others t other) ∙ sym (get_below hop old t q))
     ]
 
-pub inserted : (peer : Option ℕ) (old new : Children) (s : List ℕ) (child : Branch) (m : PathMap) (p : Path) (n : ℕ) → Differ old new s (Some child)
-    → child.routes ≡ map.insert m p n → ((q : Path) → get m q ≡ peer_in q (child_of s old))
-    → routes_from peer new ≡ map.insert (routes_from peer old) (s ∷ p) n
-inserted peer old new s child m p n differ e was =
-    same_paths _ _ (λ q. changed peer old new s (Some child) p (Some n) differ
+pub inserted : (hop : Option Hop) (old new : Children) (s : List ℕ) (child : Branch) (m : PathMap) (p : Path) (n : Hop) → Differ old new s (Some child)
+    → child.routes ≡ map.insert m p n → ((q : Path) → get m q ≡ hop_in q (child_of s old))
+    → routes_from hop new ≡ map.insert (routes_from hop old) (s ∷ p) n
+inserted hop old new s child m p n differ e was =
+    same_paths _ _ (λ q. changed hop old new s (Some child) p (Some n) differ
     (λ r. ap (λ x. get x r) e ∙ get_inserted m p n r ∙ ap (cond (tied r p) (Some n)) (was r)) q
-    ∙ sym (get_inserted (routes_from peer old) (s ∷ p) n q))
+    ∙ sym (get_inserted (routes_from hop old) (s ∷ p) n q))
 
-pub removed : (peer : Option ℕ) (old new : Children) (s : List ℕ) (child : Option Branch) (m : PathMap) (p : Path) → Differ old new s child
-    → ((q : Path) → peer_in q child ≡ get (map.remove m p) q) → ((q : Path) → get m q ≡ peer_in q (child_of s old))
-    → routes_from peer new ≡ map.remove (routes_from peer old) (s ∷ p)
-removed peer old new s child m p differ e was =
-    same_paths _ _ (λ q. changed peer old new s child p None differ
+pub removed : (hop : Option Hop) (old new : Children) (s : List ℕ) (child : Option Branch) (m : PathMap) (p : Path) → Differ old new s child
+    → ((q : Path) → hop_in q child ≡ get (map.remove m p) q) → ((q : Path) → get m q ≡ hop_in q (child_of s old))
+    → routes_from hop new ≡ map.remove (routes_from hop old) (s ∷ p)
+removed hop old new s child m p differ e was =
+    same_paths _ _ (λ q. changed hop old new s child p None differ
     (λ r. e r ∙ get_removed m p r ∙ ap (cond (tied r p) None) (was r)) q
-    ∙ sym (get_removed (routes_from peer old) (s ∷ p) q))
+    ∙ sym (get_removed (routes_from hop old) (s ∷ p) q))
 
 -- ---- children that differ at a segment
 
@@ -250,8 +251,8 @@ less_used old new s used differ t other found =
       | inr away ↦ used t other (sym (differ.others t away) ∙ found)
     ]
 
-pub was_in : (child : Branch) (s : List ℕ) (old : Children) → Some child ≡ child_of s old → (q : Path) → get child.routes q ≡ peer_in q (child_of s old)
-was_in child s old is q = ap (peer_in q) is
+pub was_in : (child : Branch) (s : List ℕ) (old : Children) → Some child ≡ child_of s old → (q : Path) → get child.routes q ≡ hop_in q (child_of s old)
+was_in child s old is q = ap (hop_in q) is
 
 -- ---- one route more
 
@@ -268,71 +269,71 @@ on_err (Ok x) P Q f h = h
 on_err (Err e) P Q f h = f h
 
 -- a child that took a route, or is as it was, has routes
-pub child_used : {A E : Type 0} (r : Result A E) (old new : Children) (s : List ℕ) (was child : Branch) (p : Path) (n : ℕ) → HasNoEmptyChild old
+pub child_used : {A E : Type 0} (r : Result A E) (old new : Children) (s : List ℕ) (was child : Branch) (p : Path) (n : Hop) → HasNoEmptyChild old
     → Some was ≡ child_of s old → Differ old new s (Some child) → OnOk r (child.routes ≡ map.insert was.routes p n) → OnErr r (child.routes ≡ was.routes) → HasNoEmptyChild new
 child_used r old new s was child p n used is differ added stays =
     still_used old new s child used differ
     (outcome r _ _ (¬ (child.routes ≡ map.empty)) (λ e f. inserted_some was.routes p n (sym e ∙ f)) (λ e f. used s was (sym is) (sym e ∙ f)) added stays)
 
 -- a child written back as it was
-pub kept : (peer : Option ℕ) (old new : Children) (s : List ℕ) (child was : Branch) → Some was ≡ child_of s old → Differ old new s (Some child) → child.routes ≡ was.routes
-    → routes_from peer new ≡ routes_from peer old
-kept peer old new s child was is differ e = same_paths _ _ at_each
+pub kept : (hop : Option Hop) (old new : Children) (s : List ℕ) (child was : Branch) → Some was ≡ child_of s old → Differ old new s (Some child) → child.routes ≡ was.routes
+    → routes_from hop new ≡ routes_from hop old
+kept hop old new s child was is differ e = same_paths _ _ at_each
   where
-    at_each : (q : Path) → get (routes_from peer new) q ≡ get (routes_from peer old) q
-    at_each [] = get_here peer new ∙ sym (get_here peer old)
+    at_each : (q : Path) → get (routes_from hop new) q ≡ get (routes_from hop old) q
+    at_each [] = get_here hop new ∙ sym (get_here hop old)
     at_each (t ∷ q) =
-        get_below peer new t q
+        get_below hop new t q
         ∙ elim (cases (is_same t s)) [
-          | inl tie ↦ ap (λ x. peer_in q (child_of x new)) (same t s tie) ∙ ap (peer_in q) differ.here ∙ ap (λ x. get x q) e
-              ∙ was_in was s old is q ∙ ap (λ x. peer_in q (child_of x old)) (sym (same t s tie))
-          | inr other ↦ ap (peer_in q) (differ.others t other)
+          | inl tie ↦ ap (λ x. hop_in q (child_of x new)) (same t s tie) ∙ ap (hop_in q) differ.here ∙ ap (λ x. get x q) e
+              ∙ was_in was s old is q ∙ ap (λ x. hop_in q (child_of x old)) (sym (same t s tie))
+          | inr other ↦ ap (hop_in q) (differ.others t other)
         ]
-        ∙ sym (get_below peer old t q)
+        ∙ sym (get_below hop old t q)
 
 -- the route went to a child that was there
-pub added_below : (b : Branch) (peer : Option ℕ) (old new : Children) (s : List ℕ) (was child : Branch) (left rest : Path) (n : ℕ) → routes_from peer old ≡ b.routes → left ≡ s ∷ rest
-    → Some was ≡ child_of s old → Differ old new s (Some child) → child.routes ≡ map.insert was.routes rest n → routes_from peer new ≡ map.insert b.routes left n
-added_below b peer old new s was child left rest n view steps is differ e =
-    inserted peer old new s child was.routes rest n differ e (was_in was s old is) ∙ (λ i. map.insert (view i) (sym steps i) n)
+pub added_below : (b : Branch) (hop : Option Hop) (old new : Children) (s : List ℕ) (was child : Branch) (left rest : Path) (n : Hop) → routes_from hop old ≡ b.routes → left ≡ s ∷ rest
+    → Some was ≡ child_of s old → Differ old new s (Some child) → child.routes ≡ map.insert was.routes rest n → routes_from hop new ≡ map.insert b.routes left n
+added_below b hop old new s was child left rest n view steps is differ e =
+    inserted hop old new s child was.routes rest n differ e (was_in was s old is) ∙ (λ i. map.insert (view i) (sym steps i) n)
 
 -- the route went to a child that is new
-pub added_new : (b : Branch) (peer : Option ℕ) (old new : Children) (s : List ℕ) (child fresh : Branch) (left rest : Path) (n : ℕ) → routes_from peer old ≡ b.routes → left ≡ s ∷ rest
-    → None ≡ child_of s old → Differ old new s (Some child) → fresh.routes ≡ map.empty → child.routes ≡ map.insert fresh.routes rest n → routes_from peer new ≡ map.insert b.routes left n
-added_new b peer old new s child fresh left rest n view steps none differ nothing e =
-    inserted peer old new s child fresh.routes rest n differ e (λ q. get_none fresh.routes nothing q ∙ ap (peer_in q) none)
+pub added_new : (b : Branch) (hop : Option Hop) (old new : Children) (s : List ℕ) (child fresh : Branch) (left rest : Path) (n : Hop) → routes_from hop old ≡ b.routes → left ≡ s ∷ rest
+    → None ≡ child_of s old → Differ old new s (Some child) → fresh.routes ≡ map.empty → child.routes ≡ map.insert fresh.routes rest n → routes_from hop new ≡ map.insert b.routes left n
+added_new b hop old new s child fresh left rest n view steps none differ nothing e =
+    inserted hop old new s child fresh.routes rest n differ e (λ q. get_none fresh.routes nothing q ∙ ap (hop_in q) none)
     ∙ (λ i. map.insert (view i) (sym steps i) n)
 
 -- ---- one route less
 
 -- the child that lost the route has routes left
-pub removed_below : (b : Branch) (peer : Option ℕ) (old new : Children) (s : List ℕ) (was child : Branch) (left rest : Path) → routes_from peer old ≡ b.routes → left ≡ s ∷ rest
-    → Some was ≡ child_of s old → Differ old new s (Some child) → child.routes ≡ map.remove was.routes rest → routes_from peer new ≡ map.remove b.routes left
-removed_below b peer old new s was child left rest view steps is differ e =
-    removed peer old new s (Some child) was.routes rest differ (λ q. ap (λ m. get m q) e) (was_in was s old is) ∙ (λ i. map.remove (view i) (sym steps i))
+pub removed_below : (b : Branch) (hop : Option Hop) (old new : Children) (s : List ℕ) (was child : Branch) (left rest : Path) → routes_from hop old ≡ b.routes → left ≡ s ∷ rest
+    → Some was ≡ child_of s old → Differ old new s (Some child) → child.routes ≡ map.remove was.routes rest → routes_from hop new ≡ map.remove b.routes left
+removed_below b hop old new s was child left rest view steps is differ e =
+    removed hop old new s (Some child) was.routes rest differ (λ q. ap (λ m. get m q) e) (was_in was s old is) ∙ (λ i. map.remove (view i) (sym steps i))
 
 -- it has none left, and is taken away
-pub removed_whole : (b : Branch) (peer : Option ℕ) (old mid new : Children) (s : List ℕ) (was child : Branch) (left rest : Path) → routes_from peer old ≡ b.routes → left ≡ s ∷ rest
+pub removed_whole : (b : Branch) (hop : Option Hop) (old mid new : Children) (s : List ℕ) (was child : Branch) (left rest : Path) → routes_from hop old ≡ b.routes → left ≡ s ∷ rest
     → Some was ≡ child_of s old → Differ old mid s (Some child) → Differ mid new s None → child.routes ≡ map.remove was.routes rest → child.routes ≡ map.empty
-    → routes_from peer new ≡ map.remove b.routes left
-removed_whole b peer old mid new s was child left rest view steps is first second e nothing =
-    removed peer old new s None was.routes rest (then old mid new s (Some child) None first second)
+    → routes_from hop new ≡ map.remove b.routes left
+removed_whole b hop old mid new s was child left rest view steps is first second e nothing =
+    removed hop old new s None was.routes rest (then old mid new s (Some child) None first second)
     (λ q. sym (ap (λ m. get m q) (sym e) ∙ get_none child.routes nothing q))
     (was_in was s old is)
     ∙ (λ i. map.remove (view i) (sym steps i))
 
 -- no child is behind the segment
-pub removed_nothing : (b : Branch) (peer : Option ℕ) (children : Children) (s : List ℕ) (left rest : Path) → routes_from peer children ≡ b.routes → left ≡ s ∷ rest → None ≡ child_of s children
-    → routes_from peer children ≡ map.remove b.routes left
-removed_nothing b peer children s left rest view steps none =
-    removed peer children children s None map.empty rest (record { here = sym none; others = λ t e. refl })
+pub removed_nothing : (b : Branch) (hop : Option Hop) (children : Children) (s : List ℕ) (left rest : Path) → routes_from hop children ≡ b.routes → left ≡ s ∷ rest → None ≡ child_of s children
+    → routes_from hop children ≡ map.remove b.routes left
+removed_nothing b hop children s left rest view steps none =
+    removed hop children children s None map.empty rest (record { here = sym none; others = λ t e. refl })
     (λ q. sym (get_removed map.empty rest q ∙ ap (cond (tied q rest) None) (get_none map.empty refl q) ∙ sym (either (tied q rest) None)))
-    (λ q. get_none map.empty refl q ∙ ap (peer_in q) none)
+    (λ q. get_none map.empty refl q ∙ ap (hop_in q) none)
     ∙ (λ i. map.remove (view i) (sym steps i))
 
 -- ---- peers that are looked for
 
--- some path from a child on has a peer that is looked for
+-- some path from a child on has a hop that is looked for
 abbrev pub SomeChildNames : Wanted → Children → Type 0
 SomeChildNames wanted [] = ⊥
 SomeChildNames wanted (child ∷ children) = Names wanted child.1.routes ⊎ SomeChildNames wanted children
@@ -344,8 +345,8 @@ none_later : (k : List ℕ) (children : Children) → AllByRecursion (λ y. is_s
 none_later k [] h = refl
 none_later k (child ∷ children) h = rw h.0 (none_later k children h.1)
 
--- a peer from a child on, found in the order of the children
-named_child : (wanted : Wanted) (s : List ℕ) (q : Path) (n : ℕ) (children : Children) → peer_in q (child_of s children) ≡ Some n → IsWanted wanted n → SomeChildNames wanted children
+-- a hop from a child on, found in the order of the children
+named_child : (wanted : Wanted) (s : List ℕ) (q : Path) (n : Hop) (children : Children) → hop_in q (child_of s children) ≡ Some n → IsWanted wanted n.peer → SomeChildNames wanted children
 named_child wanted s q n [] e is = absurd cc
 named_child wanted s q n (child ∷ children) e is =
     elim (cases (is_same s child.0)) [
@@ -355,7 +356,7 @@ named_child wanted s q n (child ∷ children) e is =
 
 -- and the other way: each child is found by its own segment
 child_names : (wanted : Wanted) (children : Children) → IsDistinct is_same (keys_of children) → SomeChildNames wanted children
-    → (s : List ℕ) × (q : Path) × (n : ℕ) × (peer_in q (child_of s children) ≡ Some n) × IsWanted wanted n
+    → (s : List ℕ) × (q : Path) × (n : Hop) × (hop_in q (child_of s children) ≡ Some n) × IsWanted wanted n.peer
 unfolding IsDistinct
 child_names wanted [] distinct some = absurd some
 child_names wanted (child ∷ children) distinct (inl here) = (child.0, here.0, here.1, rw (same_test child.0 child.0 refl) here.2, here.3)
@@ -364,33 +365,33 @@ child_names wanted (child ∷ children) distinct (inr later) =
     elim (cases (is_same more.0 child.0)) [
       | inl here ↦
           let none : child_of more.0 children ≡ None = ap (λ x. child_of x children) (same more.0 child.0 here) ∙ none_later child.0 children distinct.0 in
-          let gone : peer_in more.1 (child_of more.0 children) ≡ None = ap (peer_in more.1) none in
+          let gone : hop_in more.1 (child_of more.0 children) ≡ None = ap (hop_in more.1) none in
           absurd cc
       | inr other ↦ (more.0, more.1, more.2, rw other more.3, more.4)
     ]
 
-pub own_names : (wanted : Wanted) (b : Branch) (peer : Option ℕ) (children : Children) → routes_from peer children ≡ b.routes → HasWanted wanted peer → Names wanted b.routes
+pub own_names : (wanted : Wanted) (b : Branch) (hop : Option Hop) (children : Children) → routes_from hop children ≡ b.routes → HasWanted wanted hop → Names wanted b.routes
 own_names wanted b None children view own = absurd own
-own_names wanted b (Some n) children view own = ([], n, sym (peer_is b (Some n) children view), own)
+own_names wanted b (Some n) children view own = ([], n, sym (hop_is b (Some n) children view), own)
 
--- the node's own peer is not looked for, and the children are left
-pub names_start : (wanted : Wanted) (b : Branch) (peer : Option ℕ) (children left : Children) → routes_from peer children ≡ b.routes → left ≡ children → IsStrictlySortedBy (slice_cmp nat_cmp) (keys_of children)
-    → ¬ (HasWanted wanted peer) → Names wanted b.routes ↔ SomeChildNames wanted left
-names_start wanted b peer children left view all sorted other =
+-- the node's own hop is not looked for, and the children are left
+pub names_start : (wanted : Wanted) (b : Branch) (hop : Option Hop) (children left : Children) → routes_from hop children ≡ b.routes → left ≡ children → IsStrictlySortedBy (slice_cmp nat_cmp) (keys_of children)
+    → ¬ (HasWanted wanted hop) → Names wanted b.routes ↔ SomeChildNames wanted left
+names_start wanted b hop children left view all sorted other =
     (λ names. subst (SomeChildNames wanted) (sym all) (forth names.0 names.1 names.2 names.3), λ some. back (subst (SomeChildNames wanted) all some))
   where
-    own : (o : Option ℕ) (n : ℕ) → o ≡ Some n → IsWanted wanted n → HasWanted wanted o
+    own : (o : Option Hop) (n : Hop) → o ≡ Some n → IsWanted wanted n.peer → HasWanted wanted o
     own None n e is = absurd cc
-    own (Some k) n e is = let same_peer : k ≡ n = cc in subst (IsWanted wanted) (sym same_peer) is
+    own (Some k) n e is = let same_hop : k ≡ n = cc in subst (λ (h : Hop). IsWanted wanted h.peer) (sym same_hop) is
 
-    forth : (q : Path) (n : ℕ) → get b.routes q ≡ Some n → IsWanted wanted n → SomeChildNames wanted children
-    forth [] n e is = absurd (other (own peer n (peer_is b peer children view ∙ e) is))
-    forth (s ∷ q) n e is = named_child wanted s q n children (child_is b peer children s (child_of s children) view refl q ∙ e) is
+    forth : (q : Path) (n : Hop) → get b.routes q ≡ Some n → IsWanted wanted n.peer → SomeChildNames wanted children
+    forth [] n e is = absurd (other (own hop n (hop_is b hop children view ∙ e) is))
+    forth (s ∷ q) n e is = named_child wanted s q n children (child_is b hop children s (child_of s children) view refl q ∙ e) is
 
     back : SomeChildNames wanted children → Names wanted b.routes
     back some =
         let child = child_names wanted children (distinct_keys children sorted) some in
-        (child.0 ∷ child.1, child.2, sym (child_is b peer children child.0 (child_of child.0 children) view refl child.1) ∙ child.3, child.4)
+        (child.0 ∷ child.1, child.2, sym (child_is b hop children child.0 (child_of child.0 children) view refl child.1) ∙ child.3, child.4)
 
 pub but : {A B C : Type 0} → A ↔ (B ⊎ C) → ¬ B → A ↔ C
 but both none = (λ a. ⊎_elim (λ b. absurd (none b)) (λ c. c) (both.0 a), λ c. both.1 (inr c))

@@ -12,6 +12,7 @@ use Rattle.std.specs.FinMap as map
 use Rattle.std.specs.FinMap.{find, entries, get-empty, get-entries, get-insert, get-remove, same_map, slice_cmp-IsAntisymmetric, nat_cmp-IsAntisymmetric}
 use Rattle.route_table.specs.Paths.{Path, PathMap, is_same, longest_at}
 use Rattle.route_table.specs.Nodes.{PathRow}
+use Rattle.route_table.specs.declared.hop.Hop.{Hop}
 
 pub cases : (b : Bool) → (b ≡ true) ⊎ (b ≡ false)
 cases true = inl refl
@@ -52,7 +53,7 @@ ties = lists_ties (slice_cmp nat_cmp) (λ s t. refl)
 -- ---- rows
 
 -- the peer of the first row of a path
-abbrev pub at : Path → List PathRow → Option ℕ
+abbrev pub at : Path → List PathRow → Option Hop
 at q [] = None
 at q (row ∷ rows) = cond (tied q row.0) (Some row.1) (at q rows)
 
@@ -62,7 +63,7 @@ find_at q (row ∷ rows) = λ i. cond (sym (ties q row.0) i) (Some row.1) (find_
 
 -- ---- maps
 
-abbrev pub get : PathMap → Path → Option ℕ
+abbrev pub get : PathMap → Path → Option Hop
 get = map.get
 
 pub get_at : (m : PathMap) (q : Path) → get m q ≡ at q (entries m)
@@ -74,14 +75,14 @@ get_none m e q = ap (λ x. get x q) e ∙ get-empty path_cmp q
 pub same_paths : (m n : PathMap) → ((q : Path) → get m q ≡ get n q) → m ≡ n
 same_paths = same_map paths_total (slice_cmp-IsAntisymmetric (slice_cmp-IsAntisymmetric nat_cmp-IsAntisymmetric))
 
-pub get_inserted : (m : PathMap) (p : Path) (n : ℕ) (q : Path) → get (map.insert m p n) q ≡ cond (tied q p) (Some n) (get m q)
+pub get_inserted : (m : PathMap) (p : Path) (n : Hop) (q : Path) → get (map.insert m p n) q ≡ cond (tied q p) (Some n) (get m q)
 get_inserted m p n q = get-insert paths_total m p n q ∙ ap (λ b. cond b (Some n) (get m q)) (sym (ties q p))
 
 pub get_removed : (m : PathMap) (p q : Path) → get (map.remove m p) q ≡ cond (tied q p) None (get m q)
 get_removed m p q = get-remove paths_total m p q ∙ ap (λ b. cond b None (get m q)) (sym (ties q p))
 
 -- a map with one path more is not empty
-pub inserted_some : (m : PathMap) (p : Path) (n : ℕ) → ¬ (map.insert m p n ≡ map.empty)
+pub inserted_some : (m : PathMap) (p : Path) (n : Hop) → ¬ (map.insert m p n ≡ map.empty)
 inserted_some m p n e =
     let has : get (map.insert m p n) p ≡ Some n = get_inserted m p n p ∙ ap (λ b. cond b (Some n) (get m p)) ((tied_decides p p).1 refl) in
     let none : get (map.insert m p n) p ≡ None = get_none _ e p in
@@ -89,7 +90,7 @@ inserted_some m p n e =
 
 -- ---- the longest beginning that has a peer
 
-pub longest_cong : (f g : Path → Option ℕ) → ((q : Path) → f q ≡ g q) → (path : Path) → longest_at f path ≡ longest_at g path
+pub longest_cong : (f g : Path → Option Hop) → ((q : Path) → f q ≡ g q) → (path : Path) → longest_at f path ≡ longest_at g path
 longest_cong f g e [] = e []
 longest_cong f g e (s ∷ path) = λ i. option_or (longest_cong (λ q. f (s ∷ q)) (λ q. g (s ∷ q)) (λ q. e (s ∷ q)) path i) (e [] i)
 
@@ -97,6 +98,6 @@ pub longest_none : (path : Path) → longest_at (λ _. None) path ≡ None
 longest_none [] = refl
 longest_none (s ∷ path) = ap (λ o. option_or o None) (longest_none path)
 
-pub or_or : (a b c : Option ℕ) → option_or (option_or a b) c ≡ option_or a (option_or b c)
+pub or_or : (a b c : Option Hop) → option_or (option_or a b) c ≡ option_or a (option_or b c)
 or_or None b c = refl
 or_or (Some n) b c = refl

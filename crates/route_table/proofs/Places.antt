@@ -23,6 +23,7 @@ use Rattle.route_table.specs.Nodes.{Branch, Children, child_of, routes_from, IsN
 use Rattle.route_table.specs.Children.{children_of, height_of}
 use Rattle.route_table.proofs.PathLemmas.{same, same_test, turned}
 use Rattle.route_table.proofs.NodeLemmas.{Differ, still_used, less_used, child_used, then, outcome}
+use Rattle.route_table.specs.declared.hop.Hop.{Hop}
 
 abbrev cmp : List ℕ → List ℕ → Ordering
 cmp = slice_cmp nat_cmp
@@ -276,7 +277,7 @@ module _ {s : List ℕ} {old new : List Child} {was child : Branch} (node : IsNo
     ordered = change.ordered;
   }
 
-  pub node_more : {A E : Type 0} (r : Result A E) (p : Path) (n : ℕ) → OnOk r (child.routes ≡ map.insert was.routes p n) → OnErr r (child.routes ≡ was.routes) → IsNode (children_of new)
+  pub node_more : {A E : Type 0} (r : Result A E) (p : Path) (n : Hop) → OnOk r (child.routes ≡ map.insert was.routes p n) → OnErr r (child.routes ≡ was.routes) → IsNode (children_of new)
   node_more r p n added stays = record {
     used = child_used r _ _ s was child p n node.used change.is change.differ added stays;
     ordered = change.ordered;
@@ -347,8 +348,8 @@ height_is : (cs : List Child) → height_of cs ≡ most_of (children_of cs)
 height_is [] = refl
 height_is (c ∷ cs) = ap (max (c.node.value.height + 1)) (height_is cs)
 
-pub same_node : (peer : Option ℕ) (old new : List Child) → children_of new ≡ children_of old
-    → ◌≡◌ {A = Branch} (record { routes = routes_from peer (children_of new); height = height_of new }) (record { routes = routes_from peer (children_of old); height = height_of old })
-same_node peer old new e =
+pub same_node : (hop : Option Hop) (old new : List Child) → children_of new ≡ children_of old
+    → ◌≡◌ {A = Branch} (record { routes = routes_from hop (children_of new); height = height_of new }) (record { routes = routes_from hop (children_of old); height = height_of old })
+same_node hop old new e =
     let height : height_of new ≡ height_of old = height_is new ∙ ap most_of e ∙ sym (height_is old) in
-    λ i. record { routes = routes_from peer (e i); height = height i }
+    λ i. record { routes = routes_from hop (e i); height = height i }

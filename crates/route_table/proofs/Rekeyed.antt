@@ -17,6 +17,7 @@ use Rattle.route_table.specs.Routes.{RouteMap}
 use Rattle.route_table.specs.Kept.{joined, routes_of, ArePrefixes, IsKept}
 use Rattle.route_table.proofs.Matching.{join_with_byte-prefix_segments}
 use Rattle.route_table.proofs.PathLemmas.{cases, same, same_test, ties, tied, tied_decides, at, get_at, path_cmp, paths_total, get_inserted, get_removed}
+use Rattle.route_table.specs.declared.hop.Hop.{Hop}
 
 abbrev join : Path → List ℕ
 join = join_with_byte 46
@@ -50,7 +51,7 @@ find_joined b (row ∷ rows) valid =
 pub get_routes_of : (m : PathMap) (b : List ℕ) → ArePrefixes (entries m) → map.get (routes_of m) b ≡ map.get m (prefix_segments b)
 get_routes_of m b valid = get-from_entries nat_list_cmp_total (joined (entries m)) b ∙ find_joined b (entries m) valid ∙ sym (get_at m (prefix_segments b))
 
-pub valid_at : (p : Path) (rows : List PathRow) → ArePrefixes rows → (n : ℕ) → at p rows ≡ Some n → IsPath p
+pub valid_at : (p : Path) (rows : List PathRow) → ArePrefixes rows → (n : Hop) → at p rows ≡ Some n → IsPath p
 valid_at p [] valid n e = absurd cc
 valid_at p (row ∷ rows) valid n e =
     elim (cases (tied p row.0)) [
@@ -60,7 +61,7 @@ valid_at p (row ∷ rows) valid n e =
 
 -- ---- a route more, and one less
 
-put_valid : (p : Path) (n : ℕ) (rows : List PathRow) → IsPath p → ArePrefixes rows → ArePrefixes (put path_cmp p n rows)
+put_valid : (p : Path) (n : Hop) (rows : List PathRow) → IsPath p → ArePrefixes rows → ArePrefixes (put path_cmp p n rows)
 put_valid p n [] is valid = (is, valid)
 put_valid p n (row ∷ rows) is valid =
     elim (path_cmp p row.0) as (λ o. ArePrefixes (by_order o ((p, n) ∷ row ∷ rows) ((row.0, n) ∷ rows) (row ∷ put path_cmp p n rows))) [
@@ -69,7 +70,7 @@ put_valid p n (row ∷ rows) is valid =
       | Greater ↦ (valid.0, put_valid p n rows is valid.1)
     ]
 
-pub insert_valid : (m : PathMap) (b : List ℕ) (n : ℕ) → ArePrefixes (entries m) → ArePrefixes (entries (map.insert m (prefix_segments b) n))
+pub insert_valid : (m : PathMap) (b : List ℕ) (n : Hop) → ArePrefixes (entries m) → ArePrefixes (entries (map.insert m (prefix_segments b) n))
 insert_valid m b n valid = subst ArePrefixes (sym (entries-insert paths_total m (prefix_segments b) n)) (put_valid (prefix_segments b) n (entries m) (of_prefix b) valid)
 
 all_valid : (rows : List PathRow) → ((p : Path) → list_any (eq_by_cmp path_cmp p) (list_map (λ (e : PathRow). e.0) rows) ≡ true → IsPath p) → ArePrefixes rows
@@ -79,11 +80,11 @@ all_valid (row ∷ rows) h = (
   all_valid rows (λ p t. h p (or_right (eq_by_cmp path_cmp p row.0) _ t)),
 )
 
-some_path : (m : PathMap) (p : Path) → ArePrefixes (entries m) → (o : Option ℕ) → o ≡ map.get m p → is_some o ≡ true → IsPath p
+some_path : (m : PathMap) (p : Path) → ArePrefixes (entries m) → (o : Option Hop) → o ≡ map.get m p → is_some o ≡ true → IsPath p
 some_path m p valid None e t = absurd cc
 some_path m p valid (Some n) e t = valid_at p (entries m) valid n (sym (get_at m p) ∙ sym e)
 
-still : (b : Bool) (o : Option ℕ) → is_some (cond b None o) ≡ true → is_some o ≡ true
+still : (b : Bool) (o : Option Hop) → is_some (cond b None o) ≡ true → is_some o ≡ true
 still true o t = absurd cc
 still false o t = t
 
@@ -95,7 +96,7 @@ remove_valid m q valid =
 same_routes : (m n : RouteMap) → ((q : List ℕ) → map.get m q ≡ map.get n q) → m ≡ n
 same_routes = same_map nat_list_cmp_total (slice_cmp-IsAntisymmetric nat_cmp-IsAntisymmetric)
 
-pub routes_insert : (m : PathMap) (b : List ℕ) (n : ℕ) → ArePrefixes (entries m) → routes_of (map.insert m (prefix_segments b) n) ≡ map.insert (routes_of m) b n
+pub routes_insert : (m : PathMap) (b : List ℕ) (n : Hop) → ArePrefixes (entries m) → routes_of (map.insert m (prefix_segments b) n) ≡ map.insert (routes_of m) b n
 routes_insert m b n valid =
     same_routes _ _ (λ q. get_routes_of (map.insert m (prefix_segments b) n) q (insert_valid m b n valid)
     ∙ get_inserted m (prefix_segments b) n (prefix_segments q)
@@ -116,7 +117,7 @@ nil [] e = refl
 nil (x ∷ es) e = absurd (omega arith)
 
 no_entries : (m : PathMap) → m ≡ map.empty → entries m ≡ []
-no_entries m e = nil (entries m) (sym (len-entries m) ∙ ap map.len e ∙ len-empty path_cmp ℕ)
+no_entries m e = nil (entries m) (sym (len-entries m) ∙ ap map.len e ∙ len-empty path_cmp Hop)
 
 pub empty_routes : (m : PathMap) → m ≡ map.empty → routes_of m ≡ map.empty
 empty_routes m e = ap (λ es. from_entries (joined es)) (no_entries m e)
@@ -124,22 +125,22 @@ empty_routes m e = ap (λ es. from_entries (joined es)) (no_entries m e)
 pub empty_kept : (m : PathMap) → m ≡ map.empty → IsKept m 0
 empty_kept m e = record {
   prefixes = subst ArePrefixes (sym (no_entries m e)) tt;
-  counted = sym (ap map.len (empty_routes m e) ∙ len-empty (slice_cmp nat_cmp) ℕ);
+  counted = sym (ap map.len (empty_routes m e) ∙ len-empty (slice_cmp nat_cmp) Hop);
   few = omega arith;
 }
 
-pub peer_of_prefix : (m : PathMap) (routes : RouteMap) (b : List ℕ) (path : Path) (o : Option ℕ) → routes_of m ≡ routes → ArePrefixes (entries m) → path ≡ prefix_segments b → o ≡ map.get m path
+pub hop_of_prefix : (m : PathMap) (routes : RouteMap) (b : List ℕ) (path : Path) (o : Option Hop) → routes_of m ≡ routes → ArePrefixes (entries m) → path ≡ prefix_segments b → o ≡ map.get m path
     → o ≡ map.get routes b
-peer_of_prefix m routes b path o view valid path_is e = e ∙ ap (map.get m) path_is ∙ sym (get_routes_of m b valid) ∙ ap (λ r. map.get r b) view
+hop_of_prefix m routes b path o view valid path_is e = e ∙ ap (map.get m) path_is ∙ sym (get_routes_of m b valid) ∙ ap (λ r. map.get r b) view
 
 -- ---- one route more
 
-pub routes_more : (m new : PathMap) (routes : RouteMap) (b : List ℕ) (path : Path) (n : ℕ) → routes_of m ≡ routes → ArePrefixes (entries m) → path ≡ prefix_segments b → new ≡ map.insert m path n
+pub routes_more : (m new : PathMap) (routes : RouteMap) (b : List ℕ) (path : Path) (n : Hop) → routes_of m ≡ routes → ArePrefixes (entries m) → path ≡ prefix_segments b → new ≡ map.insert m path n
     → routes_of new ≡ map.insert routes b n
 routes_more m new routes b path n view valid path_is is =
     ap routes_of (is ∙ ap (λ p. map.insert m p n) path_is) ∙ routes_insert m b n valid ∙ ap (λ r. map.insert r b n) view
 
-pub kept_more : (m new : PathMap) (routes : RouteMap) (b : List ℕ) (path : Path) (n count : ℕ) → routes_of m ≡ routes → IsKept m count → path ≡ prefix_segments b → new ≡ map.insert m path n
+pub kept_more : (m new : PathMap) (routes : RouteMap) (b : List ℕ) (path : Path) (n : Hop) (count : ℕ) → routes_of m ≡ routes → IsKept m count → path ≡ prefix_segments b → new ≡ map.insert m path n
     → map.contains_key routes b ≡ false → count ≤ 4095 → IsKept new (count + 1)
 kept_more m new routes b path n count view kept path_is is absent few =
     let more : map.len (map.insert routes b n) ≡ map.len routes + 1 = len-insert nat_list_cmp_total routes b n ∙ ap (λ t. cond t (map.len routes) (map.len routes + 1)) absent in

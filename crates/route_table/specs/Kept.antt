@@ -6,9 +6,10 @@ use Rattle.ilp_addr.specs.Address.{prefix_segments}
 use Rattle.route_table.specs.Paths.{PathMap}
 use Rattle.route_table.specs.Nodes.{PathRow}
 use Rattle.route_table.specs.Routes.{RouteMap, max_routes}
+use Rattle.route_table.specs.declared.hop.Hop.{Hop}
 
 -- each row with its segments joined by dots
-abbrev pub joined : List PathRow → List (List ℕ × ℕ)
+abbrev pub joined : List PathRow → List (List ℕ × Hop)
 joined [] = []
 joined (row ∷ rows) = (join_with_byte 46 row.0, row.1) ∷ joined rows
 

@@ -1,3 +1,4 @@
+pub mod Hops
 pub mod Routes
 pub mod Paths
 pub mod Nodes

@@ -10,7 +10,9 @@ use Rattle.std.specs.List.Sorted.{IsStrictlySortedBy}
 use Rattle.std.specs.Option.{option_and_then}
 use Rattle.route_table.specs.declared.node.Wanted.{Wanted}
 use Rattle.route_table.specs.declared.node.Wanted.TheVariants.{Peer, NotBelow}
+use Rattle.route_table.specs.Hops.{hop_code}
 use Rattle.route_table.specs.Paths.{Path, PathMap, is_same}
+use Rattle.route_table.specs.declared.hop.Hop.{Hop}
 
 -- what contracts see of a node: the routes from it on, by the segments that follow, and how deep it goes
 pub record Branch : Type 0 where
@@ -20,21 +22,21 @@ pub record Branch : Type 0 where
 -- stored as the pair of its fields
 abbrev pub branch_code : Coded Branch
 branch_code =
-    code_by (PathMap × ℕ) (coded× (map.code (coded_list (coded_list coded_ℕ)) coded_ℕ) coded_ℕ)
+    code_by (PathMap × ℕ) (coded× (map.code (coded_list (coded_list coded_ℕ)) hop_code) coded_ℕ)
     (λ b. (b.routes, b.height)) (λ p. record { routes = p.0; height = p.1 }) (λ _. refl)
 
 -- the branch behind each segment that follows
 abbrev pub Children : Type 0
 Children = List (List ℕ × Branch)
 
--- a path and the number of its peer
+-- a path and its hop
 abbrev pub PathRow : Type 0
-PathRow = Path × ℕ
+PathRow = Path × Hop
 
 -- the row of the node itself
-abbrev pub own_row : Option ℕ → List PathRow
+abbrev pub own_row : Option Hop → List PathRow
 own_row None = []
-own_row (Some peer) = ([], peer) ∷ []
+own_row (Some hop) = ([], hop) ∷ []
 
 -- each row with a segment in front
 abbrev pub below : List ℕ → List PathRow → List PathRow
@@ -44,9 +46,9 @@ below s (row ∷ rows) = (s ∷ row.0, row.1) ∷ below s rows
 -- the rows that do not begin with a segment
 abbrev pub apart : List ℕ → List PathRow → List PathRow
 apart s [] = []
-apart s (([], peer) ∷ rows) = ([], peer) ∷ apart s rows
-apart s ((t ∷ path, peer) ∷ rows) =
-    if is_same t s then apart s rows else (t ∷ path, peer) ∷ apart s rows
+apart s (([], hop) ∷ rows) = ([], hop) ∷ apart s rows
+apart s ((t ∷ path, hop) ∷ rows) =
+    if is_same t s then apart s rows else (t ∷ path, hop) ∷ apart s rows
 
 -- the rows of the children; of two behind one segment the first counts
 abbrev pub rows_of : Children → List PathRow
@@ -54,17 +56,17 @@ rows_of [] = []
 rows_of (child ∷ children) =
     below child.0 (entries child.1.routes) ++ apart child.0 (rows_of children)
 
--- the routes of a node with a peer of its own, if it has one, and children
-abbrev pub routes_from : Option ℕ → Children → PathMap
-routes_from peer children = from_entries (own_row peer ++ rows_of children)
+-- the routes of a node with a hop of its own, if it has one, and children
+abbrev pub routes_from : Option Hop → Children → PathMap
+routes_from hop children = from_entries (own_row hop ++ rows_of children)
 
 -- the child behind a segment
 abbrev pub child_of : List ℕ → Children → Option Branch
 child_of s children = lookup (is_same s) children
 
--- the peer of a path from a branch on, if there is the branch
-abbrev pub peer_in : Path → Option Branch → Option ℕ
-peer_in path branch = option_and_then (λ (b : Branch). map.get b.routes path) branch
+-- the hop of a path from a branch on, if there is the branch
+abbrev pub hop_in : Path → Option Branch → Option Hop
+hop_in path branch = option_and_then (λ (b : Branch). map.get b.routes path) branch
 
 -- no child is without a route
 abbrev pub HasNoEmptyChild : Children → Type 0
@@ -81,12 +83,12 @@ abbrev pub IsWanted : Wanted → ℕ → Type 0
 IsWanted (Peer other) peer = peer ≡ other
 IsWanted (NotBelow count) peer = count ≤ peer
 
--- there is a peer, and it is looked for
-abbrev pub HasWanted : Wanted → Option ℕ → Type 0
+-- there is a hop, and its peer is looked for
+abbrev pub HasWanted : Wanted → Option Hop → Type 0
 HasWanted wanted None = ⊥
-HasWanted wanted (Some peer) = IsWanted wanted peer
+HasWanted wanted (Some hop) = IsWanted wanted hop.peer
 
 -- some path has a peer that is looked for
 abbrev pub Names : Wanted → PathMap → Type 0
 Names wanted paths =
-    (path : Path) × (peer : ℕ) × (map.get paths path ≡ Some peer) × IsWanted wanted peer
+    (path : Path) × (hop : Hop) × (map.get paths path ≡ Some hop) × IsWanted wanted hop.peer

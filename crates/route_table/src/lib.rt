@@ -1,15 +1,17 @@
-//! The routes of one operator: the peer that packets for a prefix go to, and the best route of an
-//! address (RFC 0015, "Address Prefixes").
+//! The routes of one operator: where packets for a prefix go, and the best route of an address
+//! (RFC 0015, "Address Prefixes").
 //!
-//! - [`Routes`] maps at most [`MAX_ROUTES`] prefixes to a peer's number, a [`PeerNo`];
-//!   [`Routes::find`] gives the peer of the longest prefix that begins an address.
+//! - [`Routes`] maps at most [`MAX_ROUTES`] prefixes to a [`Hop`], a peer's number and a fee;
+//!   [`Routes::find`] gives the hop of the longest prefix that begins an address.
 //! - [`RouteFault`] says why a route was not added or not removed; [`laws`] what the best route is.
 #![tactic(auto)]
 
 mod fault;
+mod hop;
 pub mod laws;
 mod node;
 mod routes;
 
 pub use fault::RouteFault;
-pub use routes::{MAX_ROUTES, PeerNo, Routes};
+pub use hop::{Fee, Hop, PeerNo};
+pub use routes::{MAX_ROUTES, Routes};

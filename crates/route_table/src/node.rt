@@ -9,9 +9,9 @@ ghost use Rattle.std.specs.List.Sorted.{IsBinarySearchResult, IsSearchInRange};
 ghost use Rattle.std.specs.Ordering.{nat_cmp};
 ghost use Rattle.ilp_addr.specs.Segments.{segments_left};
 ghost use Rattle.route_table.specs.Paths.{Path, longest_at};
-ghost use Rattle.route_table.specs.Nodes.{peer_in, Names, HasWanted};
+ghost use Rattle.route_table.specs.Nodes.{hop_in, Names, HasWanted};
 
-use crate::routes::PeerNo;
+use crate::hop::{Hop, PeerNo};
 use ilp_addr::Segments;
 use std::alloc::{AllocError, Global};
 use std::marker::Model;
@@ -26,13 +26,13 @@ pub(crate) enum Wanted {
     NotBelow(usize),
 }
 
-/// A node: the peer of the prefix that ends here, if that has a route, and a child for each segment
+/// A node: the hop of the prefix that ends here, if that has a route, and a child for each segment
 /// that follows. The children are in the order of their segments, so that no choice of segments
 /// makes a search slow.
 #[derive(Debug, Drop)]
 #[cycle(node)]
 pub(crate) struct Node {
-    peer: Option<PeerNo>,
+    hop: Option<Hop>,
     children: Vec<Child>,
 }
 
@@ -54,7 +54,7 @@ impl Model for Node {
     ghost use Rattle.route_table.specs.Children.{children_of, height_of};
 
     ghost view = { λ n. record {
-      routes = routes_from n.peer (children_of n.children.items);
+      routes = routes_from n.hop (children_of n.children.items);
       height = height_of n.children.items;
     } };
 
@@ -77,64 +77,64 @@ impl Node {
         ensures { result.routes ≡ empty }
     {
         Node {
-            peer: None,
+            hop: None,
             children: Vec::new(alloc),
         }
     }
 
-    /// The peer of the longest beginning of the path that has one.
-    pub(crate) fn find(&self, path: Segments<'_>) -> Option<PeerNo>
+    /// The hop of the longest beginning of the path that has one.
+    pub(crate) fn find(&self, path: Segments<'_>) -> Option<Hop>
         ensures { result ≡ longest_at (get self.now.routes) (segments_left path.entry) }
     {
         let mut node = self;
         let mut best = None;
         for segment in path {
-            best = node.peer().or(best);
+            best = node.hop().or(best);
             let Some(child) = node.child(segment) else {
                 return best;
             };
             node = child;
         }
-        node.peer().or(best)
+        node.hop().or(best)
     }
 
-    /// The peer of the path.
-    pub(crate) fn peer_at(&self, path: Segments<'_>) -> Option<PeerNo>
+    /// The hop of the path.
+    pub(crate) fn hop_at(&self, path: Segments<'_>) -> Option<Hop>
         ensures { result ≡ get self.now.routes (segments_left path.entry) }
     {
         let mut node = self;
         for segment in path {
             node = node.child(segment)?;
         }
-        node.peer()
+        node.hop()
     }
 
-    /// Gives the path the peer. An error leaves the routes as they were.
+    /// Gives the path the hop. An error leaves the routes as they were.
     pub(crate) fn add(
         &mut self,
         alloc: Global,
         path: Segments<'_>,
-        peer: PeerNo,
+        hop: Hop,
     ) -> Result<(), AllocError>
         ensures added { OnOk result
-            (self.new.routes ≡ insert self.old.routes (segments_left path.entry) peer) }
+            (self.new.routes ≡ insert self.old.routes (segments_left path.entry) hop) }
         ensures unchanged { OnErr result (self.new.routes ≡ self.old.routes) }
     {
         let mut rest = path;
         let Some(segment) = rest.next() else {
-            self.peer = Some(peer);
+            self.hop = Some(hop);
             return Ok(());
         };
         let at = match search(&self.children, segment) {
             Ok(at) => {
                 let child = Arc::make_mut(&mut self.children[at].node)?;
-                return child.add(alloc, rest, peer);
+                return child.add(alloc, rest, hop);
             }
             Err(at) => at,
         };
         let segment = Vec::from_slice(alloc, segment)?;
         let mut node = Node::new(alloc);
-        node.add(alloc, rest, peer)?;
+        node.add(alloc, rest, hop)?;
         let node = Arc::new(alloc, node)?;
         insert_child(&mut self.children, at, Child { segment, node })
     }
@@ -148,7 +148,7 @@ impl Node {
     {
         let mut rest = path;
         let Some(segment) = rest.next() else {
-            self.peer = None;
+            self.hop = None;
             return Ok(());
         };
         let Ok(at) = search(&self.children, segment) else {
@@ -166,7 +166,7 @@ impl Node {
     pub(crate) fn names(&self, wanted: Wanted) -> bool
         ensures { IsTrue result ↔ Names wanted self.now.routes }
     {
-        if is_wanted(self.peer, wanted) {
+        if is_wanted(self.hop, wanted) {
             return true;
         }
         for child in &self.children {
@@ -182,20 +182,20 @@ impl Node {
         ensures { IfOk result (λ node. node ≡ self.now) }
     {
         Ok(Node {
-            peer: self.peer,
+            hop: self.hop,
             children: Child::share_all(alloc, &self.children)?,
         })
     }
 
-    fn peer(&self) -> Option<PeerNo>
+    fn hop(&self) -> Option<Hop>
         ensures { result ≡ get self.now.routes [] }
     {
-        self.peer
+        self.hop
     }
 
     fn child(&self, segment: &[u8]) -> Option<&Node>
         ensures { (path : Path)
-            → peer_in path (option_copied result) ≡ get self.now.routes (segment.now ∷ path) }
+            → hop_in path (option_copied result) ≡ get self.now.routes (segment.now ∷ path) }
     {
         match search(&self.children, segment) {
             Ok(at) => Some(&self.children[at].node),
@@ -206,7 +206,7 @@ impl Node {
     fn is_empty(&self) -> bool
         ensures { IsTrue result ↔ (self.now.routes ≡ empty) }
     {
-        self.peer.is_none() && self.children.is_empty()
+        self.hop.is_none() && self.children.is_empty()
     }
 }
 
@@ -256,12 +256,12 @@ fn insert_child(children: &mut Vec<Child>, at: usize, child: Child) -> Result<()
     Ok(())
 }
 
-fn is_wanted(peer: Option<PeerNo>, wanted: Wanted) -> bool
-    ensures { IsTrue result ↔ HasWanted wanted peer }
+fn is_wanted(hop: Option<Hop>, wanted: Wanted) -> bool
+    ensures { IsTrue result ↔ HasWanted wanted hop }
 {
-    match (peer, wanted) {
-        (Some(peer), Wanted::Peer(other)) => peer == other,
-        (Some(peer), Wanted::NotBelow(count)) => peer as usize >= count,
+    match (hop, wanted) {
+        (Some(hop), Wanted::Peer(peer)) => hop.peer == peer,
+        (Some(hop), Wanted::NotBelow(count)) => hop.peer as usize >= count,
         (None, _) => false,
     }
 }

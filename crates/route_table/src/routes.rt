@@ -7,19 +7,17 @@ ghost use Rattle.std.specs.List.{list_all, list_any};
 ghost use Rattle.route_table.specs.Routes.{RouteMap, IsBestRoute, HasNoRoute, NamesPeer, best_route, max_routes};
 
 use crate::fault::RouteFault;
+use crate::hop::{Hop, PeerNo};
 use crate::node::{Node, Wanted};
 use ilp_addr::{Address, Prefix};
 use std::alloc::{AllocError, Global};
 use std::marker::Model;
 
-/// The number of a peer of the operator.
-pub type PeerNo = u16;
-
 /// The most routes that an operator may have.
 pub const MAX_ROUTES: usize = 4096;
 
 /// The routes of one operator: at most 4,096 prefixes, and for each the peer that packets for it
-/// go to.
+/// go to, and the fee that is kept of them.
 #[derive(Debug, Drop)]
 pub struct Routes {
     alloc: Global,
@@ -28,15 +26,16 @@ pub struct Routes {
 }
 
 impl Model for Routes {
-    ghost use Rattle.std.specs.Prelude.{ℕ};
     ghost use Rattle.std.specs.Ordering.{nat_cmp};
     ghost use Rattle.std.specs.Cmp.Lexicographic.{slice_cmp};
     ghost use Rattle.std.specs.FinMap as map;
     ghost use Rattle.std.specs.Coded.{coded_ℕ, coded_list};
+    ghost use Rattle.route_table.specs.Hops.{hop_code};
+    ghost use Rattle.route_table.specs.declared.hop.Hop.{Hop};
 
-    ghost Value = { map.FinMap (slice_cmp nat_cmp) ℕ };
+    ghost Value = { map.FinMap (slice_cmp nat_cmp) Hop };
 
-    ghost coded = { map.code (coded_list coded_ℕ) coded_ℕ };
+    ghost coded = { map.code (coded_list coded_ℕ) hop_code };
 
     ghost use Rattle.route_table.specs.Kept.{routes_of, IsKept};
 
@@ -76,29 +75,29 @@ impl Routes {
     pub fn has(&self, prefix: &Prefix) -> bool
         ensures { result ≡ contains_key self.now prefix.now }
     {
-        self.peer_of(prefix).is_some()
+        self.hop_of(prefix).is_some()
     }
 
-    /// Sends packets for the prefix to the peer.
+    /// Sends packets for the prefix on by the hop.
     ///
     /// The errors are, in the order in which they are looked for: `Present` where the prefix has a
     /// route, `Full` where there are 4,096 routes, and `Memory` where there is no memory for one
     /// more. An error leaves the routes as they were.
-    pub fn add(&mut self, prefix: Prefix, peer: PeerNo) -> Result<(), RouteFault>
-        ensures added { OnOk result (self.new ≡ insert self.old prefix peer) }
+    pub fn add(&mut self, prefix: Prefix, hop: Hop) -> Result<(), RouteFault>
+        ensures added { OnOk result (self.new ≡ insert self.old prefix hop) }
         ensures unchanged { OnErr result (self.new ≡ self.old) }
         ensures present { (result ≡ Err RouteFault.Present) ↔ IsTrue (contains_key self.old prefix) }
         ensures full { (result ≡ Err RouteFault.Full)
             ↔ ((contains_key self.old prefix ≡ false) × (len self.old ≡ max_routes)) }
         ensures never_absent { result ≢ Err RouteFault.Absent }
     {
-        if self.peer_of(&prefix).is_some() {
+        if self.hop_of(&prefix).is_some() {
             return Err(RouteFault::Present);
         }
         if self.count == MAX_ROUTES {
             return Err(RouteFault::Full);
         }
-        if self.root.add(self.alloc, prefix.segments(), peer).is_err() {
+        if self.root.add(self.alloc, prefix.segments(), hop).is_err() {
             return Err(RouteFault::Memory);
         }
         self.count += 1;
@@ -118,7 +117,7 @@ impl Routes {
         ensures never_present { result ≢ Err RouteFault.Present }
         ensures never_full { result ≢ Err RouteFault.Full }
     {
-        if self.peer_of(prefix).is_none() {
+        if self.hop_of(prefix).is_none() {
             return Err(RouteFault::Absent);
         }
         if self.root.remove(prefix.segments()).is_err() {
@@ -128,12 +127,12 @@ impl Routes {
         Ok(())
     }
 
-    /// The peer of the best route: of the prefixes that begin the destination the one with the
+    /// The hop of the best route: of the prefixes that begin the destination the one with the
     /// most segments (RFC 0015, "Address Prefixes"). `None` where no prefix begins it.
-    pub fn find(&self, destination: &Address<'_>) -> Option<PeerNo>
+    pub fn find(&self, destination: &Address<'_>) -> Option<Hop>
         ensures exact { result ≡ best_route self.now destination.now }
-        ensures found { IfSome result (λ peer.
-            (prefix : List ℕ) × IsBestRoute self.now destination.now prefix peer) }
+        ensures found { IfSome result (λ hop.
+            (prefix : List ℕ) × IsBestRoute self.now destination.now prefix hop) }
         ensures none { IfNone result (HasNoRoute self.now destination.now) }
     {
         ilp_addr::laws::prefixes();
@@ -143,14 +142,14 @@ impl Routes {
     /// Whether some prefix has a route to the peer.
     pub fn names_peer(&self, peer: PeerNo) -> bool
         ensures named { IsTrue result ↔ NamesPeer self.now peer }
-        ensures listed { result ≡ list_any (λ other. other == peer) (values self.now) }
+        ensures listed { result ≡ list_any (λ hop. hop.peer == peer) (values self.now) }
     {
         self.root.names(Wanted::Peer(peer))
     }
 
     /// Whether each route's peer has a number below `count`.
     pub fn names_only_below(&self, count: usize) -> bool
-        ensures { result ≡ list_all (λ peer. nat_lt peer count) (values self.now) }
+        ensures { result ≡ list_all (λ hop. nat_lt hop.peer count) (values self.now) }
     {
         !self.root.names(Wanted::NotBelow(count))
     }
@@ -169,9 +168,9 @@ impl Routes {
         })
     }
 
-    fn peer_of(&self, prefix: &Prefix) -> Option<PeerNo>
+    fn hop_of(&self, prefix: &Prefix) -> Option<Hop>
         ensures { result ≡ get self.now prefix.now }
     {
-        self.root.peer_at(prefix.segments())
+        self.root.hop_at(prefix.segments())
     }
 }

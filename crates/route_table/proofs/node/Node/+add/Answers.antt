@@ -11,7 +11,7 @@ use Rattle.route_table.proofs.node.Node.+add.Goals as goal
 
 pub returns-in_default-clause-added : goal.returns-in_default-clause-added
 returns-in_default-clause-added t c =
-    set_here c.args.self.now c.self.inside.peer (children_of c.self.inside.children.items) (segments_left c.args.path) c.args.peer (ap (λ (b : Branch). b.routes) c.self.view_is) c.in_default.ensures.steps.0
+    set_here c.args.self.now c.self.inside.hop (children_of c.self.inside.children.items) (segments_left c.args.path) c.args.hop (ap (λ (b : Branch). b.routes) c.self.view_is) c.in_default.ensures.steps.0
 
 pub invariant_of-self-in_err-child-in-Ok : goal.invariant_of-self-in_err-child-in-Ok
 invariant_of-self-in_err-child-in-Ok t c =
@@ -23,7 +23,7 @@ pub returns-in_err-child-in-Ok-clause-unchanged : goal.returns-in_err-child-in-O
 returns-in_err-child-in-Ok-clause-unchanged t c =
     let change = changed_at c.in-Some.segment.now c.self.inside.children.items c.in-Ok.at c.index_mut.result.now c.make_mut.follows.lender-at-none c.index_mut.result.now.node.value c.index_mut.result.now.node.value
     c.self.invariant.ordered (hit_at c.in-Some.segment.now _ _ c.in-Ok.at c.deref.ensures.value c.in-Ok.ensures.range c.in-Ok.ensures.position) c.index_mut.ensures.value refl (either (at_err c.make_mut.result _ _ c.in_err-child-in-Ok.was c.make_mut.follows.holds-at-none)) in
-    always_err c.from_residual.result (kept c.self.inside.peer _ _ _ _ _ change.is change.differ refl ∙ ap (λ (b : Branch). b.routes) c.self.view_is)
+    always_err c.from_residual.result (kept c.self.inside.hop _ _ _ _ _ change.is change.differ refl ∙ ap (λ (b : Branch). b.routes) c.self.view_is)
 
 pub invariant_of-self-in-Ok : goal.invariant_of-self-in-Ok
 invariant_of-self-in-Ok t c =
@@ -36,14 +36,14 @@ returns-in-Ok-clause-added t c =
     let change = changed_at c.in-Some.segment.now c.self.inside.children.items c.in-Ok.at c.index_mut.result.now (c.make_mut.follows.lender c.add.new.self) c.in_ok-child-in-Ok.child.now c.add.new.self
     c.self.invariant.ordered (hit_at c.in-Some.segment.now _ _ c.in-Ok.at c.deref.ensures.value c.in-Ok.ensures.range c.in-Ok.ensures.position) c.index_mut.ensures.value (either c.in_ok-child-in-Ok.ensures.value) (at_ok c.make_mut.result _ _ c.in_ok-child-in-Ok.was (c.make_mut.follows.holds c.add.new.self)) in
     on_ok _ _ _
-    (added_below c.args.self.now c.self.inside.peer _ _ _ _ _ (segments_left c.args.path) _ c.args.peer (ap (λ (b : Branch). b.routes) c.self.view_is) c.in-Some.ensures.steps change.is change.differ)
+    (added_below c.args.self.now c.self.inside.hop _ _ _ _ _ (segments_left c.args.path) _ c.args.hop (ap (λ (b : Branch). b.routes) c.self.view_is) c.in-Some.ensures.steps change.is change.differ)
     c.add.ensures.added
 
 pub returns-in-Ok-clause-unchanged : goal.returns-in-Ok-clause-unchanged
 returns-in-Ok-clause-unchanged t c =
     let change = changed_at c.in-Some.segment.now c.self.inside.children.items c.in-Ok.at c.index_mut.result.now (c.make_mut.follows.lender c.add.new.self) c.in_ok-child-in-Ok.child.now c.add.new.self
     c.self.invariant.ordered (hit_at c.in-Some.segment.now _ _ c.in-Ok.at c.deref.ensures.value c.in-Ok.ensures.range c.in-Ok.ensures.position) c.index_mut.ensures.value (either c.in_ok-child-in-Ok.ensures.value) (at_ok c.make_mut.result _ _ c.in_ok-child-in-Ok.was (c.make_mut.follows.holds c.add.new.self)) in
-    on_err _ _ _ (λ e. kept c.self.inside.peer _ _ _ _ _ change.is change.differ e ∙ ap (λ (b : Branch). b.routes) c.self.view_is) c.add.ensures.unchanged
+    on_err _ _ _ (λ e. kept c.self.inside.hop _ _ _ _ _ change.is change.differ e ∙ ap (λ (b : Branch). b.routes) c.self.view_is) c.add.ensures.unchanged
 
 pub invariant_of-self-2 : goal.invariant_of-self-2
 invariant_of-self-2 t c =
@@ -60,8 +60,8 @@ returns-clause-added t c =
     let child : Child = record { segment = c.in_ok-segment.segment; node = c.in_ok-node.node } in
     on_ok c.insert_child.result _ _
     (λ (put : c.insert_child.new.children.items ≡ list.insert c.self.inside.children.items c.in-Err.at child).
-    added_new c.args.self.now c.self.inside.peer (children_of c.self.inside.children.items) (children_of c.insert_child.new.children.items) c.in-Some.segment.now child.node.value c.new-node.result
-    (segments_left c.args.path) _ c.args.peer (ap (λ (b : Branch). b.routes) c.self.view_is) c.in-Some.ensures.steps
+    added_new c.args.self.now c.self.inside.hop (children_of c.self.inside.children.items) (children_of c.insert_child.new.children.items) c.in-Some.segment.now child.node.value c.new-node.result
+    (segments_left c.args.path) _ c.args.hop (ap (λ (b : Branch). b.routes) c.self.view_is) c.in-Some.ensures.steps
     (sym (gap_none c.in-Some.segment.now c.self.inside.children.items c.in-Err.at inside gap))
     (put_in c.in-Some.segment.now c.self.inside.children.items c.insert_child.new.children.items c.in-Err.at child inside gap c.in_ok-segment.ensures.items put)
     c.new-node.ensures (ap (λ (b : Branch). b.routes) c.in_ok-node.ensures.ok ∙ c.in_ok-add.ensures.added))

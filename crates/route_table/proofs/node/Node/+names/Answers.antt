@@ -9,13 +9,13 @@ use Rattle.route_table.proofs.node.Node.+names.Goals as goal
 
 pub returns-then-is_wanted : goal.returns-then-is_wanted
 returns-then-is_wanted t c = (
-  λ _. own_names _ c.args.self.now c.self.inside.peer (children_of c.self.inside.children.items) (ap (λ (b : Branch). b.routes) c.self.view_is) (c.is_wanted.ensures.0 c.if-is_wanted.true),
+  λ _. own_names _ c.args.self.now c.self.inside.hop (children_of c.self.inside.children.items) (ap (λ (b : Branch). b.routes) c.self.view_is) (c.is_wanted.ensures.0 c.if-is_wanted.true),
   λ _. refl,
 )
 
 pub loop-child-init : goal.loop-child-init
 loop-child-init t c =
-    names_start _ c.args.self.now c.self.inside.peer (children_of c.self.inside.children.items) _ (ap (λ (b : Branch). b.routes) c.self.view_is) (ap children_of c.deref-child-items.ensures.value) c.self.invariant.ordered
+    names_start _ c.args.self.now c.self.inside.hop (children_of c.self.inside.children.items) _ (ap (λ (b : Branch). b.routes) c.self.view_is) (ap children_of c.deref-child-items.ensures.value) c.self.invariant.ordered
     (λ own. let yes = c.is_wanted.ensures.1 own in absurd cc)
 
 pub loop-child-preserved : goal.loop-child-preserved

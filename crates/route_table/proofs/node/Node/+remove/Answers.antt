@@ -8,12 +8,12 @@ use Rattle.route_table.proofs.node.Node.+remove.Goals as goal
 
 pub returns-in_default-clause-removed : goal.returns-in_default-clause-removed
 returns-in_default-clause-removed t c =
-    taken_here c.args.self.now c.self.inside.peer (children_of c.self.inside.children.items) (segments_left c.args.path) (ap (λ (b : Branch). b.routes) c.self.view_is) c.in_default.ensures.steps.0
+    taken_here c.args.self.now c.self.inside.hop (children_of c.self.inside.children.items) (segments_left c.args.path) (ap (λ (b : Branch). b.routes) c.self.view_is) c.in_default.ensures.steps.0
 
 pub returns-in_default-search-clause-removed : goal.returns-in_default-search-clause-removed
 returns-in_default-search-clause-removed t c =
     let absent = absent_at c.search.result c.in-Some.segment.now _ c.self.inside.children.items c.deref.ensures.value c.self.invariant.ordered c.in_default-search.not-Ok c.search.ensures.range c.search.ensures.position in
-    sym (ap (λ (b : Branch). b.routes) c.self.view_is) ∙ removed_nothing c.args.self.now c.self.inside.peer (children_of c.self.inside.children.items) c.in-Some.segment.now (segments_left c.args.path) _ (ap (λ (b : Branch). b.routes) c.self.view_is) c.in-Some.ensures.steps (sym absent)
+    sym (ap (λ (b : Branch). b.routes) c.self.view_is) ∙ removed_nothing c.args.self.now c.self.inside.hop (children_of c.self.inside.children.items) c.in-Some.segment.now (segments_left c.args.path) _ (ap (λ (b : Branch). b.routes) c.self.view_is) c.in-Some.ensures.steps (sym absent)
 
 pub invariant_of-self-in_err-child : goal.invariant_of-self-in_err-child
 invariant_of-self-in_err-child t c =
@@ -25,7 +25,7 @@ pub returns-in_err-child-clause-unchanged : goal.returns-in_err-child-clause-unc
 returns-in_err-child-clause-unchanged t c =
     let change = changed_at c.in-Some.segment.now c.self.inside.children.items c.in-Ok.at c.index_mut.result.now c.make_mut.follows.lender-at-none c.index_mut.result.now.node.value c.index_mut.result.now.node.value
     c.self.invariant.ordered (hit_at c.in-Some.segment.now _ _ c.in-Ok.at c.deref.ensures.value c.in-Ok.ensures.range c.in-Ok.ensures.position) c.index_mut.ensures.value refl (either (at_err c.make_mut.result _ _ c.in_err-child.was c.make_mut.follows.holds-at-none)) in
-    always_err c.from_residual.result (kept c.self.inside.peer _ _ _ _ _ change.is change.differ refl ∙ ap (λ (b : Branch). b.routes) c.self.view_is)
+    always_err c.from_residual.result (kept c.self.inside.hop _ _ _ _ _ change.is change.differ refl ∙ ap (λ (b : Branch). b.routes) c.self.view_is)
 
 pub invariant_of-self-in_err-remove : goal.invariant_of-self-in_err-remove
 invariant_of-self-in_err-remove t c =
@@ -38,7 +38,7 @@ returns-in_err-remove-clause-unchanged t c =
     let change = changed_at c.in-Some.segment.now c.self.inside.children.items c.in-Ok.at c.index_mut.result.now (c.make_mut.follows.lender c.remove.new.self) c.in_ok-child.child.now c.remove.new.self
     c.self.invariant.ordered (hit_at c.in-Some.segment.now _ _ c.in-Ok.at c.deref.ensures.value c.in-Ok.ensures.range c.in-Ok.ensures.position) c.index_mut.ensures.value (either c.in_ok-child.ensures.value) (at_ok c.make_mut.result _ _ c.in_ok-child.was (c.make_mut.follows.holds c.remove.new.self)) in
     always_err c.from_residual-in_err-remove.result
-    (kept c.self.inside.peer _ _ _ _ _ change.is change.differ (at_err c.remove.result _ _ c.in_err-remove.was c.remove.ensures.unchanged) ∙ ap (λ (b : Branch). b.routes) c.self.view_is)
+    (kept c.self.inside.hop _ _ _ _ _ change.is change.differ (at_err c.remove.result _ _ c.in_err-remove.was c.remove.ensures.unchanged) ∙ ap (λ (b : Branch). b.routes) c.self.view_is)
 
 pub invariant_of-self-then-is_empty : goal.invariant_of-self-then-is_empty
 invariant_of-self-then-is_empty t c =
@@ -60,11 +60,11 @@ returns-then-is_empty-clause-removed t c =
     c.self.invariant.ordered (hit_at c.in-Some.segment.now _ _ c.in-Ok.at c.deref.ensures.value c.in-Ok.ensures.range c.in-Ok.ensures.position) c.index_mut.ensures.value (either c.in_ok-child.ensures.value) (at_ok c.make_mut.result _ _ c.in_ok-child.was (c.make_mut.follows.holds c.remove.new.self)) in
     let taken = taken_at c.in-Some.segment.now c.self.inside.children.items c.remove-then-is_empty.new.self.items c.in-Ok.at c.index_mut.result.now (c.make_mut.follows.lender c.remove.new.self)
     c.self.invariant.ordered (hit_at c.in-Some.segment.now _ _ c.in-Ok.at c.deref.ensures.value c.in-Ok.ensures.range c.in-Ok.ensures.position) c.index_mut.ensures.value c.remove-then-is_empty.ensures.items in
-    removed_whole c.args.self.now c.self.inside.peer _ _ _ _ _ _ (segments_left c.args.path) _ (ap (λ (b : Branch). b.routes) c.self.view_is) c.in-Some.ensures.steps change.is change.differ taken.differ
+    removed_whole c.args.self.now c.self.inside.hop _ _ _ _ _ _ (segments_left c.args.path) _ (ap (λ (b : Branch). b.routes) c.self.view_is) c.in-Some.ensures.steps change.is change.differ taken.differ
     c.in_ok-remove.ensures.removed (c.is_empty.ensures.0 c.if-is_empty.true)
 
 pub returns-else-is_empty-clause-removed : goal.returns-else-is_empty-clause-removed
 returns-else-is_empty-clause-removed t c =
     let change = changed_at c.in-Some.segment.now c.self.inside.children.items c.in-Ok.at c.index_mut.result.now (c.make_mut.follows.lender c.remove.new.self) c.in_ok-child.child.now c.remove.new.self
     c.self.invariant.ordered (hit_at c.in-Some.segment.now _ _ c.in-Ok.at c.deref.ensures.value c.in-Ok.ensures.range c.in-Ok.ensures.position) c.index_mut.ensures.value (either c.in_ok-child.ensures.value) (at_ok c.make_mut.result _ _ c.in_ok-child.was (c.make_mut.follows.holds c.remove.new.self)) in
-    removed_below c.args.self.now c.self.inside.peer _ _ _ _ _ (segments_left c.args.path) _ (ap (λ (b : Branch). b.routes) c.self.view_is) c.in-Some.ensures.steps change.is change.differ c.in_ok-remove.ensures.removed
+    removed_below c.args.self.now c.self.inside.hop _ _ _ _ _ (segments_left c.args.path) _ (ap (λ (b : Branch). b.routes) c.self.view_is) c.in-Some.ensures.steps change.is change.differ c.in_ok-remove.ensures.removed

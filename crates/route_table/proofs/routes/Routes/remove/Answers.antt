@@ -6,12 +6,12 @@ use Rattle.route_table.proofs.routes.Routes.remove.Goals as goal
 
 pub overflow_sub-self : goal.overflow_sub-self
 overflow_sub-self c =
-    let present : contains_key c.args.self.now c.args.prefix.now ≡ true = sym (ap is_some c.peer_of.ensures) ∙ c.if-is_none.ensures in
+    let present : contains_key c.args.self.now c.args.prefix.now ≡ true = sym (ap is_some c.hop_of.ensures) ∙ c.if-is_none.ensures in
     omega (arith, some_kept _ c.args.self.now c.args.prefix.now _ c.self.view_is c.self.invariant present)
 
 pub invariant_of-self-2 : goal.invariant_of-self-2
 invariant_of-self-2 c =
-    let present : contains_key c.args.self.now c.args.prefix.now ≡ true = sym (ap is_some c.peer_of.ensures) ∙ c.if-is_none.ensures in
+    let present : contains_key c.args.self.now c.args.prefix.now ≡ true = sym (ap is_some c.hop_of.ensures) ∙ c.if-is_none.ensures in
     kept_less _ _ c.args.self.now c.args.prefix.now _ _ c.self.view_is c.self.invariant c.segments.ensures (ok_gives c.remove.result _ c.if-is_err.ensures.negation c.remove.ensures.removed) present
 
 pub returns-clause-removed : goal.returns-clause-removed

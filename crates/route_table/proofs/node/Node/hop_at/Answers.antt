@@ -1,6 +1,6 @@
 use Rattle.std.proofs.Common.{◌∙◌, Some, None}
 use Rattle.route_table.proofs.NodeLemmas.{walked}
-use Rattle.route_table.proofs.node.Node.peer_at.Goals as goal
+use Rattle.route_table.proofs.node.Node.hop_at.Goals as goal
 
 pub returns-in_err-node : goal.returns-in_err-node
 returns-in_err-node c =
