@@ -1,4 +1,5 @@
 pub mod Courses
+pub mod Fates
 pub mod Ticking
 pub mod Slots
 pub mod Replays

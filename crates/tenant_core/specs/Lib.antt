@@ -35,6 +35,7 @@ pub mod Made
 pub mod Setup
 pub mod Sound
 pub mod OpenHolds
+pub mod Fates
 pub mod Staying
 pub mod Calls
 pub mod Standing

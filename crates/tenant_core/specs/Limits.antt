@@ -1,5 +1,7 @@
 -- The limits of tenants.
-use Rattle.std.specs.Prelude.{ℕ, ◌^◌}
+use Rattle.std.specs.Prelude.{ℕ}
+use Rattle.tenant_core.specs.declared.limits.TheConstants.{MAX_PEERS, MAX_RATES, MAX_JOURNAL, MAX_HOLDS, MAX_MONEY, MAX_MARGIN}
+use Rattle.tenant_core.specs.declared.limits.TheConstants.{MAX_HOLD, MAX_BURST, MAX_PER_SECOND, MAX_PERIOD, MAX_PEER_NUMBERS}
 
 -- how many tenants there are
 abbrev pub max_tenants : ℕ
@@ -7,44 +9,44 @@ max_tenants = 64
 
 -- peers of a tenant
 abbrev pub max_peers : ℕ
-max_peers = 256
+max_peers = MAX_PEERS
 
 -- rates of a tenant
 abbrev pub max_rates : ℕ
-max_rates = 4_096
+max_rates = MAX_RATES
 
 -- places of a journal
 abbrev pub max_journal : ℕ
-max_journal = 16_384
+max_journal = MAX_JOURNAL
 
 -- packets that are held at once
 abbrev pub max_holds : ℕ
-max_holds = 1_024
+max_holds = MAX_HOLDS
 
 -- money in a peer's units: a cap, a ceiling, a credit, and a balance on either side of 0
 abbrev pub max_money : ℕ
-max_money = 2 ^ 62
+max_money = MAX_MONEY
 
 -- milliseconds by which an expiry is brought forward
 abbrev pub max_margin : ℕ
-max_margin = 60_000
+max_margin = MAX_MARGIN
 
 -- milliseconds for which a packet may be held
 abbrev pub max_hold : ℕ
-max_hold = 600_000
+max_hold = MAX_HOLD
 
 -- packets that a full bucket admits at once
 abbrev pub max_burst : ℕ
-max_burst = 1_000_000
+max_burst = MAX_BURST
 
 -- packets that flow into a bucket in a second
 abbrev pub max_per_second : ℕ
-max_per_second = 1_000_000
+max_per_second = MAX_PER_SECOND
 
 -- the number of a period
 abbrev pub max_period : ℕ
-max_period = 4_294_967_295
+max_period = MAX_PERIOD
 
 -- peers that a tenant ever has
 abbrev pub max_peer_numbers : ℕ
-max_peer_numbers = 65_535
+max_peer_numbers = MAX_PEER_NUMBERS

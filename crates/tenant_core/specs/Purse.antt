@@ -5,7 +5,9 @@ use Rattle.tenant_core.specs.Holds.{holds_of, holds_amounts, took_amounts}
 use Rattle.tenant_core.specs.Limits.{max_money}
 use Rattle.tenant_core.specs.Network.{peer_numbered}
 use Rattle.tenant_core.specs.State.{State}
+use Rattle.tenant_core.specs.declared.command.Side.{Side}
 use Rattle.tenant_core.specs.declared.command.Side.TheVariants.{In, Out}
+use Rattle.tenant_core.specs.declared.hold.Fate.{Fate}
 use Rattle.tenant_core.specs.declared.hold.Hold.{Hold}
 use Rattle.tenant_core.specs.declared.journal.Change.{Change as Changed}
 use Rattle.tenant_core.specs.declared.journal.Change.TheVariants.{Settled}
@@ -15,21 +17,32 @@ use Rattle.tenant_core.specs.declared.journal.Record.{Record}
 use Rattle.tenant_core.specs.declared.peer.Peer.{Peer}
 use Rattle.tenant_core.specs.declared.row.Row.{Row}
 
--- what a hold holds from the peer of that number
+-- the peer on a side of a hold: money comes in from the sender, and goes out to the receiver
+abbrev pub peer_on : Side → Hold → ℕ
+peer_on In h = h.from
+peer_on Out h = h.to
+
+-- how much it is on that side, in that peer's units
+abbrev pub amount_on : Side → Hold → ℕ
+amount_on In h = h.amount
+amount_on Out h = h.price
+
+-- what a hold comes to on that side for the peer of that number, where such a fate counts
+abbrev pub comes_to : Side → (Fate → Bool) → ℕ → Hold → ℕ
+comes_to side counts n h = if counts h.fate && (peer_on side h == n) then amount_on side h else 0
+
+-- what it holds from the peer, holds for it, took from it, and took for it
 abbrev pub held_from : ℕ → Hold → ℕ
-held_from n h = if holds_amounts h.fate && (h.from == n) then h.amount else 0
+held_from n h = comes_to In holds_amounts n h
 
--- what a hold holds for the peer of that number
 abbrev pub held_for : ℕ → Hold → ℕ
-held_for n h = if holds_amounts h.fate && (h.to == n) then h.price else 0
+held_for n h = comes_to Out holds_amounts n h
 
--- what a hold took from the peer of that number
 abbrev pub taken_from : ℕ → Hold → ℕ
-taken_from n h = if took_amounts h.fate && (h.from == n) then h.amount else 0
+taken_from n h = comes_to In took_amounts n h
 
--- what a hold took for the peer of that number
 abbrev pub taken_for : ℕ → Hold → ℕ
-taken_for n h = if took_amounts h.fate && (h.to == n) then h.price else 0
+taken_for n h = comes_to Out took_amounts n h
 
 -- what is held from the peer of that number, in its units
 abbrev pub held_in_of : State → ℕ → ℕ
@@ -52,31 +65,26 @@ abbrev pub opening_balance : Option Peer → ℤ
 opening_balance None = pos 0
 opening_balance (Some p) = p.balance
 
--- what a change says that the peer of that number paid
-abbrev pub paid_in : ℕ → Changed → ℕ
-paid_in n (Settled peer In amount) = if peer == n then amount else 0
-paid_in n _ = 0
+-- what a change says that was paid on that side, by the peer of that number or to it
+abbrev pub paid_on : Side → ℕ → Changed → ℕ
+paid_on In n (Settled peer In amount) = if peer == n then amount else 0
+paid_on Out n (Settled peer Out amount) = if peer == n then amount else 0
+paid_on side n _ = 0
 
--- what a change says that it was paid
-abbrev pub paid_out : ℕ → Changed → ℕ
-paid_out n (Settled peer Out amount) = if peer == n then amount else 0
-paid_out n _ = 0
+-- what a record says so
+abbrev pub settled_on : Side → ℕ → Record → ℕ
+settled_on side n r = of_entry r.entry
+  where
+    of_entry : Entry → ℕ
+    of_entry (Change c) = paid_on side n c.change
+    of_entry _ = 0
 
--- what a record says that the peer of that number paid
+-- what it says that the peer paid, and that it was paid
 abbrev pub settled_in : ℕ → Record → ℕ
-settled_in n r = of_entry r.entry
-  where
-    of_entry : Entry → ℕ
-    of_entry (Change c) = paid_in n c.change
-    of_entry _ = 0
+settled_in n r = settled_on In n r
 
--- what it says that the peer was paid
 abbrev pub settled_out : ℕ → Record → ℕ
-settled_out n r = of_entry r.entry
-  where
-    of_entry : Entry → ℕ
-    of_entry (Change c) = paid_out n c.change
-    of_entry _ = 0
+settled_out n r = settled_on Out n r
 
 -- what the peer of that number owed at first and by what was settled since, in its units
 abbrev pub base_of : State → ℕ → ℤ

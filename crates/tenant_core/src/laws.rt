@@ -1,6 +1,7 @@
 //! Laws of books and their states, each the contract of a function that does nothing.
 
 ghost use Rattle.tenant_core.specs.Calls.{CallLaws};
+ghost use Rattle.tenant_core.specs.Fates.{FateLaw};
 ghost use Rattle.tenant_core.specs.Made.{MadeLaws};
 ghost use Rattle.tenant_core.specs.OpenHolds.{OpenHoldLaws};
 ghost use Rattle.tenant_core.specs.Sound.{IsSound};
@@ -19,6 +20,13 @@ pub fn book_is_sound(book: &Book)
 /// ends that, and nothing else does.
 pub fn open_holds()
     ensures { OpenHoldLaws }
+{}
+
+/// The holds of a state are the packets that its records say went on, in their order. What became of each the records behind
+/// its own say: an answer that names it ends it, the first one; else the first tick after its expiry marks it; else its
+/// amounts are held.
+pub fn fates()
+    ensures { FateLaw }
 {}
 
 /// Packets, answers and ticks leave whom a tenant deals with, and how; commands leave the tenant's number, and
