@@ -13,7 +13,7 @@ use Rattle.tenant_core.specs.declared.verdict.RejectCode.{RejectCode}
 use Rattle.tenant_core.specs.declared.verdict.RejectCode.TheVariants.{BadRequest, Unreachable, InvalidAmount}
 use Rattle.tenant_core.specs.declared.verdict.RejectCode.TheVariants.{WrongCondition, AmountTooLarge, PeerUnreachable}
 use Rattle.tenant_core.specs.declared.verdict.RejectCode.TheVariants.{Busy, InsufficientLiquidity, RateLimited}
-use Rattle.tenant_core.specs.declared.verdict.RejectCode.TheVariants.{TimedOut, InsufficientTimeout}
+use Rattle.tenant_core.specs.declared.verdict.RejectCode.TheVariants.{TimedOut, InsufficientSource, InsufficientTimeout}
 use Rattle.tenant_core.specs.declared.verdict.Verdict.{Verdict}
 use Rattle.tenant_core.specs.declared.verdict.Verdict.TheVariants.{Unknown, NoRoom, Refuse, Fulfil, Forward, Relay}
 
@@ -29,6 +29,7 @@ code_of Busy = codes "T03"
 code_of InsufficientLiquidity = codes "T04"
 code_of RateLimited = codes "T05"
 code_of TimedOut = codes "R00"
+code_of InsufficientSource = codes "R01"
 code_of InsufficientTimeout = codes "R02"
 
 -- the message for people
@@ -43,6 +44,7 @@ message_of Busy = codes "connector busy"
 message_of InsufficientLiquidity = codes "insufficient liquidity"
 message_of RateLimited = codes "rate limited"
 message_of TimedOut = codes "transfer timed out"
+message_of InsufficientSource = codes "insufficient source amount"
 message_of InsufficientTimeout = codes "insufficient timeout"
 
 -- the received and the greatest amount, where they are told

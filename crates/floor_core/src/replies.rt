@@ -25,13 +25,14 @@ fn code_of(code: RejectCode) -> &'static [u8; 3]
         RejectCode::InsufficientLiquidity => b"T04",
         RejectCode::RateLimited => b"T05",
         RejectCode::TimedOut => b"R00",
+        RejectCode::InsufficientSource => b"R01",
         RejectCode::InsufficientTimeout => b"R02",
     }
 }
 
 fn message_of(code: RejectCode) -> &'static [u8]
     ensures value { result.now ≡ message_of code }
-    ensures short { length result.now ≤ 22 }
+    ensures short { length result.now ≤ 26 }
 {
     match code {
         RejectCode::BadRequest => b"bad request",
@@ -44,6 +45,7 @@ fn message_of(code: RejectCode) -> &'static [u8]
         RejectCode::InsufficientLiquidity => b"insufficient liquidity",
         RejectCode::RateLimited => b"rate limited",
         RejectCode::TimedOut => b"transfer timed out",
+        RejectCode::InsufficientSource => b"insufficient source amount",
         RejectCode::InsufficientTimeout => b"insufficient timeout",
     }
 }

@@ -24,6 +24,7 @@ use Rattle.tenant_core.specs.declared.terms.RateTerms.{RateTerms}
 use Rattle.tenant_core.proofs.Courses.{find_passes}
 use Rattle.tenant_core.specs.Limits.{max_peers, max_peer_numbers, max_rates}
 use Rattle.route_table.specs.Routes.{NamesPeer, RouteMap}
+use Rattle.route_table.specs.declared.hop.Hop.{Hop}
 use Rattle.tenant_core.specs.Terms.{are_terms_within, is_balance_within}
 use Rattle.tenant_core.specs.Limits.{max_money}
 use Rattle.tenant_core.specs.Periods.{carried, carried_net}
@@ -58,7 +59,7 @@ some_push test xs x some = subst IsSome (sym (find-append test xs (x ∷ []))) (
 
 -- ---- nobody, and a peer more
 
-is_none : (n : ℕ) → None ≡ Some n → ⊥
+is_none : (n : Hop) → None ≡ Some n → ⊥
 is_none n e = absurd cc
 
 pub nobody_is : IsNetwork nobody
@@ -71,7 +72,7 @@ nobody_is =
       rising = λ i j d lt h. absurd (omega arith);
       next = All-nil (λ (p : Peer). p.number < 0);
       few = omega arith;
-      routes = λ prefix n e. let none : get {R = slice_cmp nat_cmp} (empty {X = ℕ}) prefix ≡ None = get-empty (slice_cmp nat_cmp) prefix in absurd (is_none n (sym none ∙ e));
+      routes = λ prefix n e. let none : get {R = slice_cmp nat_cmp} (empty {X = Hop}) prefix ≡ None = get-empty (slice_cmp nat_cmp) prefix in absurd (is_none n (sym none ∙ e));
       senders = All-nil (λ (r : RateTerms). IsSome (peer_numbered r.from []));
       receivers = All-nil (λ (r : RateTerms). IsSome (peer_numbered r.to []));
       rates = All-nil (λ (r : RateTerms). None ≡ Some r);
@@ -106,7 +107,7 @@ with_peer_is net t balance level is absent few numbers within small =
       rising = all_pairs_push (λ p q. p.number < q.number) net.peers peer is.rising is.next;
       next = All-push (λ p. p.number < net.next_peer + 1) net.peers peer (λ k d l. let less = is.next k d l in omega arith) (omega arith);
       few = omega arith;
-      routes = λ prefix n e. some_push (λ p. eqb p.number n) net.peers peer (is.routes prefix n e);
+      routes = λ prefix h e. some_push (λ p. eqb p.number h.peer) net.peers peer (is.routes prefix h e);
       senders = λ k d l. some_push (λ p. eqb p.number (get_or net.rates k d).from) net.peers peer (is.senders k d l);
       receivers = λ k d l. some_push (λ p. eqb p.number (get_or net.rates k d).to) net.peers peer (is.receivers k d l);
       rates = is.rates;
@@ -164,7 +165,7 @@ changed_is net g number name token within balance is =
       rising = rising_map;
       next = All-map (λ p. p.number < net.next_peer) g net.peers (λ k d l. let less = is.next k d l in let same = number (get_or net.peers k d) in omega arith);
       few = is.few;
-      routes = λ prefix n e. some_map (λ p. eqb p.number n) g (λ x. ap (λ a. eqb a n) (number x)) net.peers (is.routes prefix n e);
+      routes = λ prefix h e. some_map (λ p. eqb p.number h.peer) g (λ x. ap (λ a. eqb a h.peer) (number x)) net.peers (is.routes prefix h e);
       senders = λ k d l. some_map (λ p. eqb p.number (get_or net.rates k d).from) g (λ x. ap (λ a. eqb a (get_or net.rates k d).from) (number x)) net.peers (is.senders k d l);
       receivers = λ k d l. some_map (λ p. eqb p.number (get_or net.rates k d).to) g (λ x. ap (λ a. eqb a (get_or net.rates k d).to) (number x)) net.peers (is.receivers k d l);
       rates = is.rates;
@@ -270,7 +271,7 @@ without_peer_is net n is free =
       rising = AllPairs-filter (λ p q. p.number < q.number) keep net.peers is.rising;
       next = All-filter keep (λ p. p.number < net.next_peer) net.peers is.next;
       few = is.few;
-      routes = λ prefix m e. some_filter (λ p. eqb p.number m) keep (other_kept m n (λ same. free (prefix, e ∙ ap Some same))) net.peers (is.routes prefix m e);
+      routes = λ prefix h e. some_filter (λ p. eqb p.number h.peer) keep (other_kept h.peer n (λ same. free (prefix, h, e, same))) net.peers (is.routes prefix h e);
       senders = λ k d l.
           let r : RateTerms = get_or (filter keep_rate net.rates) k d in
           let passes : not (eqb r.from n || eqb r.to n) ≡ true = filter_passes keep_rate net.rates k d l in
@@ -296,8 +297,8 @@ without_peer_is net n is free =
 
 -- ---- routes
 
-pub with_route_is : (net : Net) (prefix : List ℕ) (n : ℕ) → IsNetwork net → IsSome (peer_numbered n net.peers) → IsNetwork (with_route net prefix n)
-with_route_is net prefix n is there =
+pub with_route_is : (net : Net) (prefix : List ℕ) (hop : Hop) → IsNetwork net → IsSome (peer_numbered hop.peer net.peers) → IsNetwork (with_route net prefix hop)
+with_route_is net prefix hop is there =
     record {
       peers = is.peers;
       numbers = is.numbers;
@@ -316,14 +317,14 @@ with_route_is net prefix n is there =
       balances = is.balances;
     }
   where
-    leads : (q : List ℕ) (m : ℕ) → get (insert net.routes prefix n) q ≡ Some m → IsSome (peer_numbered m net.peers)
-    leads q m e = by (eq_by_cmp (slice_cmp nat_cmp) q prefix) (sym (get-insert nat_list_cmp_total net.routes prefix n q) ∙ e)
+    leads : (q : List ℕ) (m : Hop) → get (insert net.routes prefix hop) q ≡ Some m → IsSome (peer_numbered m.peer net.peers)
+    leads q m e = by (eq_by_cmp (slice_cmp nat_cmp) q prefix) (sym (get-insert nat_list_cmp_total net.routes prefix hop q) ∙ e)
       where
-        same : Some n ≡ Some m → n ≡ m
+        same : Some hop ≡ Some m → hop ≡ m
         same f = cc
 
-        by : (b : Bool) → cond b (Some n) (get net.routes q) ≡ Some m → IsSome (peer_numbered m net.peers)
-        by true f = subst (λ k. IsSome (peer_numbered k net.peers)) (same f) there
+        by : (b : Bool) → cond b (Some hop) (get net.routes q) ≡ Some m → IsSome (peer_numbered m.peer net.peers)
+        by true f = subst (λ (h : Hop). IsSome (peer_numbered h.peer net.peers)) (same f) there
         by false f = is.routes q m f
 
 pub without_route_is : (net : Net) (prefix : List ℕ) → IsNetwork net → IsNetwork (without_route net prefix)
@@ -346,10 +347,10 @@ without_route_is net prefix is =
       balances = is.balances;
     }
   where
-    leads : (q : List ℕ) (m : ℕ) → get (remove net.routes prefix) q ≡ Some m → IsSome (peer_numbered m net.peers)
+    leads : (q : List ℕ) (m : Hop) → get (remove net.routes prefix) q ≡ Some m → IsSome (peer_numbered m.peer net.peers)
     leads q m e = by (eq_by_cmp (slice_cmp nat_cmp) q prefix) (sym (get-remove nat_list_cmp_total net.routes prefix q) ∙ e)
       where
-        by : (b : Bool) → cond b None (get net.routes q) ≡ Some m → IsSome (peer_numbered m net.peers)
+        by : (b : Bool) → cond b None (get net.routes q) ≡ Some m → IsSome (peer_numbered m.peer net.peers)
         by true f = absurd cc
         by false f = is.routes q m f
 

@@ -12,7 +12,8 @@ use Rattle.std.specs.Prelude.{option_and_then}
 use Rattle.route_table.specs.Routes.{best_route}
 use Rattle.tenant_core.specs.Network.{Net, peer_numbered}
 use Rattle.tenant_core.specs.Present.{network_of}
-use Rattle.tenant_core.specs.Routing.{another, onward}
+use Rattle.route_table.specs.declared.hop.Hop.{Hop}
+use Rattle.tenant_core.specs.Routing.{Way, another, onward, way_by}
 use Rattle.tenant_core.specs.Standing.{CanGoTo, CanGoOn}
 use Rattle.tenant_core.specs.declared.verdict.Verdict.{Verdict}
 use Rattle.tenant_core.specs.declared.verdict.Verdict.TheVariants.{Unknown, NoRoom, Refuse, Fulfil, Forward, Relay}
@@ -33,13 +34,25 @@ level_at s peers levels i p l inside at are read =
     let here : i < length levels = omega arith in
     are.each i p l at (read_at levels i l here read)
 
+-- the peer of a way, or another where there is none
+abbrev peer_or : Peer → Option Way → Peer
+peer_or p None = p
+peer_or p (Some way) = way.peer
+
 -- the peer that a packet goes on to is the one of its number
-pub onward_found : (net : Net) (from : ℕ) (destination : List ℕ) (to : Peer) → onward net from destination ≡ Some to → peer_numbered to.number net.peers ≡ Some to
-onward_found net from destination to = by (option_and_then (another from) (best_route net.routes destination))
+pub onward_found : (net : Net) (from : ℕ) (destination : List ℕ) (way : Way) → onward net from destination ≡ Some way
+    → peer_numbered way.peer.number net.peers ≡ Some way.peer
+onward_found net from destination way = by (option_and_then (another from) (best_route net.routes destination))
   where
-    by : (o : Option ℕ) → option_and_then (λ n. peer_numbered n net.peers) o ≡ Some to → peer_numbered to.number net.peers ≡ Some to
+    there : (fee : ℕ) (o : Option Peer) → option_map (λ p. let w : Way = record { peer = p; fee = fee } in w) o ≡ Some way → o ≡ Some way.peer
+    there fee None e = absurd cc
+    there fee (Some p) e = let same : p ≡ way.peer = ap (λ (o : Option Way). peer_or p o) e in ap Some same
+
+    by : (o : Option Hop) → option_and_then (way_by net) o ≡ Some way → peer_numbered way.peer.number net.peers ≡ Some way.peer
     by None e = absurd cc
-    by (Some n) e = ap (λ k. peer_numbered k net.peers) (numbered n net.peers to e) ∙ e
+    by (Some hop) e =
+        let is : peer_numbered hop.peer net.peers ≡ Some way.peer = there hop.fee (peer_numbered hop.peer net.peers) e in
+        ap (λ k. peer_numbered k net.peers) (numbered hop.peer net.peers way.peer is) ∙ is
 
 -- a packet that may go on to a peer that was found may go on
 pub goes_on : (s : State) (from to : Peer) (amount : ℕ) (v : Verdict) → peer_numbered to.number (network_of s).peers ≡ Some to → CanGoTo s from to amount v → CanGoOn s from amount v

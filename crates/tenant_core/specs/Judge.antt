@@ -7,14 +7,14 @@ use Rattle.ildcp_core.specs.Request.{is_config, checked_request}
 use Rattle.ildcp_core.specs.declared.fault.IldcpFault.{IldcpFault}
 use Rattle.ildcp_core.specs.declared.fault.IldcpFault.TheVariants.{NotChild, Amount, Condition}
 use Rattle.money_core.specs.Fraction.{Fraction}
-use Rattle.money_core.specs.Price.{price_of, greatest_amount}
+use Rattle.money_core.specs.Price.{price_less, greatest_amount}
 use Rattle.rate_bucket.specs.Bucket.{is_admitted}
 use Rattle.tenant_core.specs.Bucket.{stretch_of}
 use Rattle.tenant_core.specs.Checks.{◌⇒◌, ◌otherwise◌, ◌>>◌, ◌>>=◌}
 use Rattle.tenant_core.specs.Key.{Key}
 use Rattle.tenant_core.specs.Limits.{max_holds}
 use Rattle.tenant_core.specs.Purse.{is_over_ceiling, is_over_credit}
-use Rattle.tenant_core.specs.Routing.{stays_here, onward, rate_between, outgoing_expiry}
+use Rattle.tenant_core.specs.Routing.{Way, stays_here, onward, rate_between, outgoing_expiry}
 use Rattle.tenant_core.specs.Holds.{open_holds, next_hold}
 use Rattle.tenant_core.specs.Network.{peer_with_token}
 use Rattle.tenant_core.specs.Present.{network_of}
@@ -28,7 +28,7 @@ use Rattle.tenant_core.specs.declared.journal.Record.{Record}
 use Rattle.tenant_core.specs.declared.verdict.RejectCode.{RejectCode}
 use Rattle.tenant_core.specs.declared.verdict.RejectCode.TheVariants.{BadRequest, Unreachable, InvalidAmount, WrongCondition, AmountTooLarge, Busy}
 use Rattle.tenant_core.specs.declared.verdict.RejectCode.TheVariants.{InsufficientLiquidity, RateLimited}
-use Rattle.tenant_core.specs.declared.verdict.RejectCode.TheVariants.{InsufficientTimeout}
+use Rattle.tenant_core.specs.declared.verdict.RejectCode.TheVariants.{InsufficientSource, InsufficientTimeout}
 use Rattle.tenant_core.specs.declared.verdict.Verdict.{Verdict}
 use Rattle.tenant_core.specs.declared.verdict.Verdict.TheVariants.{Unknown, NoRoom, Refuse, Fulfil, Forward, Relay}
 
@@ -62,12 +62,13 @@ config_verdict (Err NotChild) = refuse BadRequest
 config_verdict (Err Amount) = refuse InvalidAmount
 config_verdict (Err Condition) = refuse WrongCondition
 
--- the last checks: those of a packet of one peer for another, at the rate between them
-abbrev pub verdict_at_rate : State → Peer → Peer → Fraction → Key → ℕ → Verdict
-verdict_at_rate s from to rate key clock = do
-  let price = price_of rate key.amount
+-- the last checks: those of a packet of one peer that goes that way, at the rate between the two
+abbrev pub verdict_at_rate : State → Peer → Way → Fraction → Key → ℕ → Verdict
+verdict_at_rate s from way rate key clock = do
+  price ← price_less rate key.amount way.fee otherwise refuse InsufficientSource
   let expiry = outgoing_expiry s.opening key.expiry clock
-  let greatest = greatest_amount rate from.terms.limits.cap to.terms.limits.cap
+  let to = way.peer
+  let greatest = greatest_amount rate from.terms.limits.cap (to.terms.limits.cap + way.fee)
   nat_lt to.terms.limits.cap price ⇒ refuse_over key.amount greatest
   nat_le expiry clock ⇒ refuse InsufficientTimeout
   is_over_ceiling s from key.amount ⇒ refuse InsufficientLiquidity
@@ -83,9 +84,9 @@ verdict_for_sender s from key clock = do
   is_config key.destination ⇒ config_verdict (checked_request from.terms.role key.amount key.condition)
   stays_here s.opening key.destination ⇒ refuse Unreachable
   nat_lt from.terms.limits.cap key.amount ⇒ refuse_over key.amount from.terms.limits.cap
-  to ← onward (network_of s) from.number key.destination otherwise refuse Unreachable
-  rate ← rate_between (network_of s) from.number to.number otherwise refuse Unreachable
-  verdict_at_rate s from to rate key clock
+  way ← onward (network_of s) from.number key.destination otherwise refuse Unreachable
+  rate ← rate_between (network_of s) from.number way.peer.number otherwise refuse Unreachable
+  verdict_at_rate s from way rate key clock
 
 -- the verdict on a Prepare that came with this token at this moment
 abbrev pub judge : State → List ℕ → Key → ℕ → Verdict

@@ -6,6 +6,7 @@ use Rattle.std.specs.List.{filter, list_any, AllPairs}
 use Rattle.std.specs.Str.{bytes_eq}
 use Rattle.rate_bucket.specs.Bucket.{full_bucket}
 use Rattle.route_table.specs.Routes.{RouteMap, max_routes}
+use Rattle.route_table.specs.declared.hop.Hop.{Hop}
 use Rattle.tenant_core.specs.Limits.{max_peers, max_peer_numbers, max_rates}
 use Rattle.tenant_core.specs.Terms.{are_terms_within, is_balance_within}
 use Rattle.tenant_core.specs.declared.faults.CommandFault.{CommandFault}
@@ -90,8 +91,8 @@ with_bucket net n bucket level =
     }
 
 -- with a route more
-abbrev pub with_route : Net → List ℕ → ℕ → Net
-with_route net prefix n = record net { routes = insert net.routes prefix n }
+abbrev pub with_route : Net → List ℕ → Hop → Net
+with_route net prefix hop = record net { routes = insert net.routes prefix hop }
 
 -- with a route less
 abbrev pub without_route : Net → List ℕ → Net
@@ -161,7 +162,7 @@ pub record IsNetwork (net : Net) : Type 0 where
   pub next : All (λ p. p.number < net.next_peer) net.peers
   pub few : net.next_peer ≤ max_peer_numbers
   -- routes and rates name peers that are there, and an ordered pair has one rate
-  pub routes : (prefix : List ℕ) (n : ℕ) → get net.routes prefix ≡ Some n → IsSome (peer_numbered n net.peers)
+  pub routes : (prefix : List ℕ) (hop : Hop) → get net.routes prefix ≡ Some hop → IsSome (peer_numbered hop.peer net.peers)
   pub senders : All (λ r. IsSome (peer_numbered r.from net.peers)) net.rates
   pub receivers : All (λ r. IsSome (peer_numbered r.to net.peers)) net.rates
   pub rates : All (λ r. find (is_for_pair r.from r.to) net.rates ≡ Some r) net.rates

@@ -50,7 +50,8 @@ change_of net (AddPeer t) = Some (PeerAdded t)
 change_of net (RemovePeer name) = option_map (λ n. PeerRemoved n) (number_named net name)
 change_of net (SetLimits name limits) = option_map (λ n. LimitsSet n limits) (number_named net name)
 change_of net (SetBucket name bucket) = option_map (λ n. BucketSet n bucket) (number_named net name)
-change_of net (AddRoute prefix name) = option_map (λ n. RouteAdded prefix n) (number_named net name)
+change_of net (AddRoute prefix name fee) =
+    option_map (λ n. RouteAdded prefix (record { peer = n; fee = fee })) (number_named net name)
 change_of net (RemoveRoute prefix) = Some (RouteRemoved prefix)
 change_of net (SetRate pair rate) = option_map (λ r. RateSet r) (rate_named net pair rate)
 change_of net (Settle name side amount) = option_map (λ n. Settled n side amount) (number_named net name)
@@ -62,7 +63,7 @@ awaits_for n h = is_open h && ((h.from == n) || (h.to == n))
 -- a route, a packet that awaits its answer or a balance names the peer of that number
 abbrev pub is_in_use : State → Net → ℕ → Bool
 is_in_use s net n =
-    list_any (λ to. to == n) (values net.routes) || list_any (awaits_for n) (holds_of s)
+    list_any (λ hop. hop.peer == n) (values net.routes) || list_any (awaits_for n) (holds_of s)
     || not (unsigned_abs (balance_of s n) == 0)
 
 -- with so much paid on that side, a purse would leave its bounds
@@ -79,7 +80,7 @@ state_refusal s net _ = None
 -- what it is refused for by the network
 abbrev pub net_refusal : Net → Changed → Option CommandFault
 net_refusal net (PeerAdded t) = peer_refusal net t
-net_refusal net (RouteAdded prefix n) = route_refusal net prefix
+net_refusal net (RouteAdded prefix hop) = route_refusal net prefix
 net_refusal net (RouteRemoved prefix) = no_route_refusal net prefix
 net_refusal net (RateSet r) = rate_refusal net r
 net_refusal net _ = None
@@ -127,7 +128,7 @@ names_present net (PeerAdded t) = true
 names_present net (PeerRemoved n) = is_some (peer_numbered n net.peers)
 names_present net (LimitsSet n limits) = is_some (peer_numbered n net.peers)
 names_present net (BucketSet n bucket) = is_some (peer_numbered n net.peers)
-names_present net (RouteAdded prefix n) = is_some (peer_numbered n net.peers)
+names_present net (RouteAdded prefix hop) = is_some (peer_numbered hop.peer net.peers)
 names_present net (RouteRemoved prefix) = true
 names_present net (RateSet r) =
     is_some (peer_numbered r.from net.peers) && is_some (peer_numbered r.to net.peers) && not (r.from == r.to)

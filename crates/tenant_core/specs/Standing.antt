@@ -5,9 +5,11 @@ use Rattle.tenant_core.specs.Holds.{holds_of, open_holds}
 use Rattle.tenant_core.specs.Limits.{max_holds}
 use Rattle.tenant_core.specs.Network.{peer_numbered}
 use Rattle.tenant_core.specs.Present.{network_of}
+use Rattle.tenant_core.specs.Routing.{Way}
 use Rattle.tenant_core.specs.Running.{purse_of, IsLevel, AreLevels}
 use Rattle.tenant_core.specs.Sound.{IsSound}
 use Rattle.tenant_core.specs.State.{State}
+use Rattle.tenant_core.specs.declared.judge.Onward.{Onward}
 use Rattle.tenant_core.specs.declared.judge.Party.{Party}
 use Rattle.tenant_core.specs.declared.judge.Standing.{Standing}
 use Rattle.tenant_core.specs.declared.peer.Peer.{Peer}
@@ -30,6 +32,10 @@ pub record IsShown (t : Standing) : Type 0 where
 -- the peer itself
 abbrev pub peer_of : Party → Peer
 peer_of t = t.peer.now
+
+-- how a packet goes on, without where its peer lies in memory
+abbrev pub way_of : Onward → Way
+way_of o = record { peer = peer_of o.to; fee = o.fee }
 
 -- the purse and the bucket are the peer's
 pub record IsParty (s : State) (t : Party) : Type 0 where

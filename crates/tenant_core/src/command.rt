@@ -9,6 +9,7 @@ use crate::terms::{BucketTerms, PeerLimits, PeerTerms};
 use common_types::{Between, Boxed, Items, Name};
 use ilp_addr::Prefix;
 use money_core::Rate;
+use route_table::Fee;
 use std::marker::Model;
 
 /// An amount that is settled, in a peer's units: from 1 to 2^62.
@@ -89,10 +90,11 @@ pub enum Order {
         peer: Name,
         bucket: BucketTerms,
     },
-    /// Packets for the prefix go to the peer.
+    /// Packets for the prefix go to the peer, and the fee is kept of the price of each, in that peer's units.
     AddRoute {
         prefix: Prefix,
         peer: Name,
+        fee: Fee,
     },
     RemoveRoute(Prefix),
     /// What packets of one peer for another cost, in the place of what they did.

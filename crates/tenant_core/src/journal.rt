@@ -5,7 +5,7 @@ use crate::terms::{BucketTerms, PeerLimits, PeerTerms, RateTerms};
 use crate::verdict::Verdict;
 use common_types::{Between, Bytes};
 use ilp_addr::{Address, Prefix};
-use route_table::PeerNo;
+use route_table::{Hop, PeerNo};
 use std::alloc::{AllocError, Global};
 
 /// When a packet expires, in milliseconds since 1970-01-01: at most 9999-12-30, as late as a timestamp says it
@@ -88,7 +88,7 @@ pub enum Change {
     },
     RouteAdded {
         prefix: Prefix,
-        peer: PeerNo,
+        hop: Hop,
     },
     RouteRemoved(Prefix),
     RateSet(RateTerms),
@@ -175,9 +175,9 @@ impl Change {
                 peer: *peer,
                 bucket: *bucket,
             },
-            Change::RouteAdded { prefix, peer } => Change::RouteAdded {
+            Change::RouteAdded { prefix, hop } => Change::RouteAdded {
                 prefix: prefix.copy(alloc)?,
-                peer: *peer,
+                hop: *hop,
             },
             Change::RouteRemoved(prefix) => Change::RouteRemoved(prefix.copy(alloc)?),
             Change::RateSet(rate) => Change::RateSet(*rate),

@@ -18,7 +18,7 @@ use ildcp_core::{Child, ChildParts, IldcpFault, check, is_config};
 use ilp_addr::Address;
 use money_core::{Purse, Rate};
 use rate_bucket::{Bucket, PACKET};
-use route_table::PeerNo;
+use route_table::{Fee, Hop, PeerNo};
 
 /// What the checks see of a book: what its period began with, whom the tenant deals with, the records since, the peers' purses
 /// and buckets, and the holds.
@@ -41,11 +41,18 @@ pub struct Party<'a> {
     pub bucket: &'a Bucket,
 }
 
+/// How a packet goes on: to whom, and the fee that is kept of it.
+#[derive(Clone, Copy)]
+pub struct Onward<'a> {
+    pub to: Party<'a>,
+    pub fee: Fee,
+}
+
 impl<'a> Standing<'a> {
     ghost use Rattle.std.specs.Prelude.{◌≡◌, ◌<◌, ◌≤◌, IfSome, is_some, true, length, option_map, slice_get, Some};
     ghost use Rattle.tenant_core.specs.Network.{peer_numbered, peer_with_token};
-    ghost use Rattle.tenant_core.specs.Routing.{onward};
-    ghost use Rattle.tenant_core.specs.Standing.{state_shown, IsShown, IsParty, peer_of};
+    ghost use Rattle.tenant_core.specs.Routing.{onward, way_by};
+    ghost use Rattle.tenant_core.specs.Standing.{state_shown, IsShown, IsParty, peer_of, way_of};
 
     /// The peer that stands at that place.
     pub fn party(&self, place: usize) -> Party<'a>
@@ -94,16 +101,26 @@ impl<'a> Standing<'a> {
         self.numbered(number).unwrap()
     }
 
-    // The peer that a packet of `from` goes on to: that of the best route, unless it leads back.
-    fn onward(&self, from: PeerNo, destination: &Address<'_>) -> Option<Party<'a>>
+    // The way that a packet of `from` goes on: that of the best route, unless it leads back.
+    fn onward(&self, from: PeerNo, destination: &Address<'_>) -> Option<Onward<'a>>
         requires { IsShown self.now }
-        ensures peer { option_map peer_of result ≡ onward self.now.network.now from destination.now }
-        ensures kept { IfSome result (IsParty (state_shown self.now)) }
+        ensures way { option_map way_of result ≡ onward self.now.network.now from destination.now }
+        ensures kept { IfSome result (λ way. IsParty (state_shown self.now) way.to) }
     {
         match self.network.routes().find(destination) {
-            Some(to) if to != from => self.numbered(to),
+            Some(hop) if hop.peer != from => self.by_hop(hop),
             _ => None,
         }
+    }
+
+    // The way by a hop, if its peer is there.
+    fn by_hop(&self, hop: Hop) -> Option<Onward<'a>>
+        requires { IsShown self.now }
+        ensures way { option_map way_of result ≡ way_by self.now.network.now hop }
+        ensures kept { IfSome result (λ way. IsParty (state_shown self.now) way.to) }
+    {
+        let to = self.numbered(hop.peer)?;
+        Some(Onward { to, fee: hop.fee })
     }
 }
 
@@ -116,7 +133,7 @@ impl Standing<'_> {
     ghost use Rattle.tenant_core.specs.Purse.{is_over_ceiling, is_over_credit};
     ghost use Rattle.tenant_core.specs.Judge.{verdict_for_sender, verdict_at_rate, is_full, is_recorded, IsSooner};
     ghost use Rattle.tenant_core.specs.State.{clock_of};
-    ghost use Rattle.tenant_core.specs.Standing.{state_shown, IsShown, IsParty, CanGoOn, CanGoTo, peer_of};
+    ghost use Rattle.tenant_core.specs.Standing.{state_shown, IsShown, IsParty, CanGoOn, CanGoTo, peer_of, way_of};
 
     // How many packets await their answers.
     fn awaited(&self) -> u64
@@ -164,41 +181,48 @@ impl Standing<'_> {
         if key.amount > cap {
             return refuse_over(key.amount, cap);
         }
-        let Some(to) = self.onward(from.peer.number, key.destination) else {
+        let Some(way) = self.onward(from.peer.number, key.destination) else {
             return refuse(RejectCode::Unreachable);
         };
-        let Some(rate) = self.network.rate_between(from.peer.number, to.peer.number) else {
+        let Some(rate) = self
+            .network
+            .rate_between(from.peer.number, way.to.peer.number)
+        else {
             return refuse(RejectCode::Unreachable);
         };
-        self.verdict_at_rate(from, &to, rate, key, clock)
+        self.verdict_at_rate(from, &way, rate, key, clock)
     }
 
-    // The verdict on a packet of one peer for another, at the rate between them.
+    // The verdict on a packet of one peer that goes that way, at the rate between the two.
     fn verdict_at_rate(
         &self,
         from: &Party<'_>,
-        to: &Party<'_>,
+        way: &Onward<'_>,
         rate: Rate,
         key: &PrepareKey<'_>,
         clock: u64,
     ) -> Verdict
         requires shown { IsShown self.now }
         requires sender { IsParty (state_shown self.now) from.now }
-        requires receiver { IsParty (state_shown self.now) to.now }
+        requires receiver { IsParty (state_shown self.now) way.now.to }
         requires clock { clock ≤ last_moment }
-        ensures verdict { result ≡ verdict_at_rate (state_shown self.now) (peer_of from.now) (peer_of to.now) rate
+        ensures verdict { result ≡ verdict_at_rate (state_shown self.now) (peer_of from.now) (way_of way.now) rate
             (key_of key.now) clock }
         ensures recorded { is_recorded result ≡ true }
         ensures sooner { IsSooner result key.now.expiry }
         ensures limited { is_limited result ≡ false }
-        ensures goes { CanGoTo (state_shown self.now) (peer_of from.now) (peer_of to.now) key.now.amount result }
+        ensures goes { CanGoTo (state_shown self.now) (peer_of from.now) (peer_of way.now.to) key.now.amount result }
     {
+        let to = &way.to;
+        let fee = way.fee.get();
+        let Some(price) = rate.price_less(key.amount, fee) else {
+            return refuse(RejectCode::InsufficientSource);
+        };
         let cap = to.peer.terms.limits.cap.get();
-        let price = rate.price(key.amount);
         if price > cap as u128 {
             return refuse_over(
                 key.amount,
-                rate.greatest(from.peer.terms.limits.cap.get(), cap),
+                rate.greatest(from.peer.terms.limits.cap.get(), cap + fee),
             );
         }
         let expiry = outgoing_expiry(self.opening, key.expiry.get(), clock);

@@ -47,7 +47,7 @@ pub use orders::number_named;
 pub use peer::{Level, Peer};
 pub use period::{Period, Records};
 pub use record_view::{DecideView, EntryView, RecordView};
-pub use route_table::PeerNo;
+pub use route_table::{Fee, Hop, PeerNo};
 pub use row::Row;
 pub use setup::TenantSetup;
 pub use terms::{Balance, BucketTerms, Money, PeerLimits, PeerTerms, RateTerms, TenantTerms};

@@ -15,7 +15,7 @@ use crate::terms::{Balance, BucketTerms, PeerLimits, PeerTerms, RateTerms};
 use ilp_addr::Prefix;
 use money_core::Rate;
 use rate_bucket::full_bucket;
-use route_table::{MAX_ROUTES, PeerNo, RouteFault, Routes};
+use route_table::{Hop, MAX_ROUTES, PeerNo, RouteFault, Routes};
 use std::alloc::{AllocError, Global};
 use std::marker::Model;
 
@@ -349,15 +349,15 @@ impl Network {
         change_bucket(&mut self.peers, number, bucket, level);
     }
 
-    /// Sends packets for the prefix to the peer of that number, which is there.
+    /// Sends packets for the prefix on by the hop, whose peer is there.
     ///
     /// The errors are, in the order in which they are looked for: `Present` where the prefix has a route, `Limit` where
     /// there are 4,096 routes, and `Memory`. An error leaves the network as it was.
-    pub fn add_route(&mut self, prefix: Prefix, number: PeerNo) -> Result<(), CommandFault>
-        requires { IsSome (peer_numbered number self.old.peers) }
-        ensures { IsChanged result (route_refusal self.old prefix) self.old self.new (with_route self.old prefix number) }
+    pub fn add_route(&mut self, prefix: Prefix, hop: Hop) -> Result<(), CommandFault>
+        requires { IsSome (peer_numbered hop.peer self.old.peers) }
+        ensures { IsChanged result (route_refusal self.old prefix) self.old self.new (with_route self.old prefix hop) }
     {
-        match self.routes.add(prefix, number) {
+        match self.routes.add(prefix, hop) {
             Ok(()) => Ok(()),
             Err(RouteFault::Present | RouteFault::Absent) => Err(CommandFault::Present),
             Err(RouteFault::Full) => Err(CommandFault::Limit),
@@ -437,7 +437,7 @@ impl Network {
                 self.set_bucket(*peer, bucket, level);
                 Ok(())
             }
-            Change::RouteAdded { prefix, peer } => self.add_route_copy(alloc, prefix, *peer),
+            Change::RouteAdded { prefix, hop } => self.add_route_copy(alloc, prefix, *hop),
             Change::RouteRemoved(prefix) => self.remove_route(prefix),
             Change::RateSet(rate) => self.set_rate(rate),
             Change::Settled { .. } => Ok(()),
@@ -449,11 +449,11 @@ impl Network {
         &mut self,
         alloc: Global,
         prefix: &Prefix,
-        number: PeerNo,
+        hop: Hop,
     ) -> Result<(), CommandFault>
-        requires { IsSome (peer_numbered number self.old.peers) }
+        requires { IsSome (peer_numbered hop.peer self.old.peers) }
         ensures { IsChanged result (route_refusal self.old prefix.now) self.old self.new
-            (with_route self.old prefix.now number) }
+            (with_route self.old prefix.now hop) }
     {
         if self.routes.has(prefix) {
             return Err(CommandFault::Present);
@@ -462,6 +462,6 @@ impl Network {
             return Err(CommandFault::Limit);
         }
         let copy = prefix.copy(alloc)?;
-        self.add_route(copy, number)
+        self.add_route(copy, hop)
     }
 }

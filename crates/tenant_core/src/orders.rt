@@ -16,7 +16,7 @@ use crate::peer::Peer;
 use crate::terms::RateTerms;
 use common_types::Name;
 use money_core::Rate;
-use route_table::PeerNo;
+use route_table::{Hop, PeerNo};
 use std::alloc::{AllocError, Global};
 
 fn has_name(peer: &Peer, name: &[u8]) -> bool
@@ -80,10 +80,10 @@ pub fn change_of(
                 bucket: *bucket,
             },
         ),
-        Order::AddRoute { prefix, peer } => match number_named(network, peer) {
+        Order::AddRoute { prefix, peer, fee } => match number_named(network, peer) {
             Some(peer) => Some(Change::RouteAdded {
                 prefix: prefix.copy(alloc)?,
-                peer,
+                hop: Hop { peer, fee: *fee },
             }),
             None => None,
         },

@@ -81,7 +81,7 @@ impl Standing<'_> {
             Order::SetLimits { peer, .. } | Order::SetBucket { peer, .. } => {
                 absent_unless(number_named(network, peer).is_some())
             }
-            Order::AddRoute { prefix, peer } => match number_named(network, peer) {
+            Order::AddRoute { prefix, peer, .. } => match number_named(network, peer) {
                 Some(_) => network.route_refusal(prefix),
                 None => Some(CommandFault::Absent),
             },

@@ -29,6 +29,8 @@ pub enum RejectCode {
     RateLimited,
     /// R00: the packet expired before its answer came.
     TimedOut,
+    /// R01: the packet's price is below the fee of its route.
+    InsufficientSource,
     /// R02: the packet expires too soon.
     InsufficientTimeout,
 }

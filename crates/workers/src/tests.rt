@@ -92,7 +92,8 @@ fn network(alloc: Global, prefix: &[u8]) -> Result<Network, Fail> {
     network.add_peer(alice, Balance::zero(), FULL)?;
     let bob = terms(b"bob", Role::Child, b"tok-bob", BOB_URL)?;
     network.add_peer(bob, Balance::zero(), FULL)?;
-    network.add_route(Prefix::parse(alloc, prefix)?, 1)?;
+    let fee = Fee::new(0).ok_or("a fee")?;
+    network.add_route(Prefix::parse(alloc, prefix)?, Hop { peer: 1, fee })?;
     network.set_rate(&RateTerms {
         from: 0,
         to: 1,

@@ -95,7 +95,7 @@ fn begin_peer(
         prefix.as_bytes(),
         called(alloc, slot)?.as_bytes(),
     )??;
-    told.routes.push(slot)?;
+    told.routes.push((slot, 0))?;
     Ok(())
 }
 
@@ -209,9 +209,10 @@ fn order_of(alloc: Global, ask: Ask) -> Result<Order, Fail> {
             peer: called(alloc, slot)?,
             bucket: terms(alloc, slot, agreed)?.bucket,
         },
-        Ask::AddRoute(slot) => Order::AddRoute {
+        Ask::AddRoute(slot, fee) => Order::AddRoute {
             prefix: prefix(alloc, slot)?,
             peer: called(alloc, slot)?,
+            fee: number(fee)?,
         },
         Ask::RemoveRoute(slot) => Order::RemoveRoute(prefix(alloc, slot)?),
         Ask::SetRate(from, to, rate) => Order::SetRate {
@@ -396,7 +397,8 @@ fn expect_list(
     expect_closed(rt, alloc, book, course)
 }
 
-static CODES: [RejectCode; 8] = [
+static CODES: [RejectCode; 9] = [
+    RejectCode::InsufficientSource,
     RejectCode::RateLimited,
     RejectCode::InsufficientLiquidity,
     RejectCode::AmountTooLarge,

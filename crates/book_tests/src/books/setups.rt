@@ -126,8 +126,9 @@ pub fn add_route(
     prefix: &[u8],
     to: &[u8],
 ) -> Result<Result<(), CommandFault>, Fail> {
-    let to = number_named(network, &name(to)?).ok_or("the peer of the route")?;
-    Ok(network.add_route(Prefix::parse(alloc, prefix)?, to))
+    let peer = number_named(network, &name(to)?).ok_or("the peer of the route")?;
+    let fee = number(0)?;
+    Ok(network.add_route(Prefix::parse(alloc, prefix)?, Hop { peer, fee }))
 }
 
 // p0, p1 and so on, with a route for g.acme.bob to p1, and a rate from p0 to p1.

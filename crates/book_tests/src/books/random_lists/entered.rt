@@ -157,8 +157,8 @@ impl Told {
                 let credit = self.credit(number, self.clock);
                 self.set_bucket(number, agreed, credit)?;
             }
-            Ask::AddRoute(slot) => self.routes.push(slot)?,
-            Ask::RemoveRoute(slot) => self.routes.retain(|other| *other != slot),
+            Ask::AddRoute(slot, fee) => self.routes.push((slot, fee))?,
+            Ask::RemoveRoute(slot) => self.routes.retain(|route| route.0 != slot),
             Ask::SetRate(_, to, rate) => self.set_rate(number, to, rate)?,
             Ask::Settle(_, side, amount) => {
                 self.paid.push(Paid {

@@ -91,8 +91,8 @@ pub struct Told {
     pub next_peer: PeerNo,
     /// In the order in which they were added.
     pub peers: Vec<Peer>,
-    /// The slots to whose peers a route leads.
-    pub routes: Vec<u32>,
+    /// The slots to whose peers a route leads, and its fee.
+    pub routes: Vec<(u32, u64)>,
     pub rates: Vec<Priced>,
     pub sent: Vec<Sent>,
     pub paid: Vec<Paid>,
@@ -146,8 +146,18 @@ impl Told {
         self.peers.iter().find(|peer| peer.slot == slot).copied()
     }
 
+    /// The fee of the route to the slot's peer, if there is one.
+    pub fn fee(&self, slot: u32) -> Option<u64> {
+        for route in &self.routes {
+            if route.0 == slot {
+                return Some(route.1);
+            }
+        }
+        None
+    }
+
     pub fn has_route(&self, slot: u32) -> bool {
-        self.routes.as_slice().contains(&slot)
+        self.fee(slot).is_some()
     }
 
     /// What was set last for the pair.

@@ -60,12 +60,15 @@ fn verdict_at_rate(
     packet: &Packet,
     from: &Peer,
     to: &Peer,
-    rate: (u64, u64),
+    (rate, fee): ((u64, u64), u64),
     clock: u64,
 ) -> Verdict {
-    let price = price(packet.amount, rate);
+    let Some(price) = price(packet.amount, rate).checked_sub(fee) else {
+        return refused(RejectCode::InsufficientSource);
+    };
     if price > to.cap {
-        return verdict(Wanted::TooLarge(packet.amount, greatest(rate, from.cap, to.cap)));
+        let most = to.cap.saturating_add(fee);
+        return verdict(Wanted::TooLarge(packet.amount, greatest(rate, from.cap, most)));
     }
     let expiry = packet
         .expiry
@@ -99,14 +102,14 @@ fn verdict_for(told: &Told, packet: &Packet, from: &Peer, clock: u64) -> Verdict
         return verdict(Wanted::TooLarge(packet.amount, from.cap));
     }
     let unreachable = refused(RejectCode::Unreachable);
-    if !told.has_route(packet.to) || packet.to == packet.from {
+    if packet.to == packet.from {
         return unreachable;
     }
-    let Some(to) = told.peer_at(packet.to) else {
+    let (Some(fee), Some(to)) = (told.fee(packet.to), told.peer_at(packet.to)) else {
         return unreachable;
     };
     match told.rate(from.number, to.number) {
-        Some(rate) => verdict_at_rate(told, packet, from, &to, rate, clock),
+        Some(rate) => verdict_at_rate(told, packet, from, &to, (rate, fee), clock),
         None => unreachable,
     }
 }
@@ -156,7 +159,7 @@ pub enum Ask {
     RemovePeer(u32),
     SetLimits(u32, Agreed),
     SetBucket(u32, Agreed),
-    AddRoute(u32),
+    AddRoute(u32, u64),
     RemoveRoute(u32),
     SetRate(u32, u32, (u64, u64)),
     Settle(u32, Side, u64),
@@ -169,7 +172,7 @@ pub fn slot_named(ask: Ask) -> u32 {
         | Ask::RemovePeer(slot)
         | Ask::SetLimits(slot, _)
         | Ask::SetBucket(slot, _)
-        | Ask::AddRoute(slot)
+        | Ask::AddRoute(slot, _)
         | Ask::RemoveRoute(slot)
         | Ask::SetRate(slot, _, _)
         | Ask::Settle(slot, _, _) => slot,
@@ -200,7 +203,7 @@ fn refused_for(told: &Told, ask: Ask, peer: &Peer) -> Option<CommandFault> {
     match ask {
         Ask::AddPeer(_, _) => Some(CommandFault::Present),
         Ask::RemovePeer(_) if is_in_use(told, peer) => Some(CommandFault::InUse),
-        Ask::AddRoute(slot) if told.has_route(slot) => Some(CommandFault::Present),
+        Ask::AddRoute(slot, _) if told.has_route(slot) => Some(CommandFault::Present),
         Ask::RemoveRoute(slot) if !told.has_route(slot) => Some(CommandFault::Absent),
         Ask::SetRate(_, to, _) if told.peer_at(to).is_none() => Some(CommandFault::Absent),
         Ask::Settle(_, side, amount) if is_too_much(told, peer, side, amount) => {
