@@ -9,11 +9,12 @@ use Rattle.tenant_core.specs.Limits.{max_tenants}
 use Rattle.tenant_core.specs.declared.terms.TenantTerms.{TenantTerms}
 use Rattle.common_types.specs.ResultChain.{◌>>=◌}
 use Rattle.admin_text.specs.Keys.{array_under}
-use Rattle.admin_text.specs.Setup.{SetupLaw, document_of, from_start, setup_of, setup_of_table, start_of, then_setup}
+use Rattle.admin_text.specs.Setup.{SetupLaw, document_of, from_start, setup_of, setup_by, setup_of_table, start_of, then_setup, version_of}
 use Rattle.admin_text.specs.Tenants.{next_tenant, tenants_of_array, tenants_of_items, with_one_more}
 use Rattle.admin_text.specs.declared.setup.Setup.{Setup}
 use Rattle.admin_text.specs.declared.setup.SetupFault.{SetupFault}
-use Rattle.admin_text.specs.declared.setup.SetupFault.TheVariants.{Toml, Version}
+use Rattle.admin_text.specs.declared.setup.SetupFault.TheVariants.{Toml}
+use Rattle.admin_text.specs.declared.version.Version.{Version}
 
 abbrev Are : ℕ → List TenantTerms → Type 0
 Are low ts = (low ≤ length ts) × (length ts ≤ max_tenants)
@@ -27,12 +28,13 @@ one_longer : (ts : List TenantTerms) (t : TenantTerms) → length (ts ++ t ∷ [
 one_longer [] t = refl
 one_longer (x ∷ xs) t = let e = one_longer xs t in omega arith
 
-few : (ts : List TenantTerms) (items : Items) (r : List TenantTerms) → length ts ≤ max_tenants → tenants_of_items ts items ≡ Ok r → Are (length ts) r
+few : (version : Version) (ts : List TenantTerms) (items : Items) (r : List TenantTerms) → length ts ≤ max_tenants → tenants_of_items version ts items ≡ Ok r
+    → Are (length ts) r
 unfolding tenants_of_items
-few ts no_items r le e = let same : ts ≡ r = cc in subst (λ (us : List TenantTerms). Are (length ts) us) same (omega arith, le)
-few ts (item first others) r le e = step (next_tenant ts first) refl (λ more. few more others r) e
+few version ts no_items r le e = let same : ts ≡ r = cc in subst (λ (us : List TenantTerms). Are (length ts) us) same (omega arith, le)
+few version ts (item first others) r le e = step (next_tenant version ts first) refl (λ more. few version more others r) e
   where
-    step : (o : Option TenantTerms) → next_tenant ts first ≡ o → ((more : List TenantTerms) → length more ≤ max_tenants → tenants_of_items more others ≡ Ok r → Are (length more) r) → (with_one_more ts o >>= (λ more. tenants_of_items more others)) ≡ Ok r → Are (length ts) r
+    step : (o : Option TenantTerms) → next_tenant version ts first ≡ o → ((more : List TenantTerms) → length more ≤ max_tenants → tenants_of_items version more others ≡ Ok r → Are (length more) r) → (with_one_more ts o >>= (λ more. tenants_of_items version more others)) ≡ Ok r → Are (length ts) r
     step None is rest e = absurd cc
     step (Some t) is rest e =
         let room = had_room ts (nat_le max_tenants (length ts)) _ t refl is in
@@ -40,15 +42,15 @@ few ts (item first others) r le e = step (next_tenant ts first) refl (λ more. f
         let k = rest (ts ++ t ∷ []) (omega arith) e in
         (omega (arith, k.0), k.1)
 
-some_few : (o : Option Items) (r : List TenantTerms) → tenants_of_array o ≡ Ok r → Are 1 r
+some_few : (version : Version) (o : Option Items) (r : List TenantTerms) → tenants_of_array version o ≡ Ok r → Are 1 r
 unfolding tenants_of_array tenants_of_items
-some_few None r e = absurd cc
-some_few (Some no_items) r e = absurd cc
-some_few (Some (item first others)) r e = step (next_tenant [] first) e
+some_few version None r e = absurd cc
+some_few version (Some no_items) r e = absurd cc
+some_few version (Some (item first others)) r e = step (next_tenant version [] first) e
   where
-    step : (o : Option TenantTerms) → (with_one_more [] o >>= (λ more. tenants_of_items more others)) ≡ Ok r → Are 1 r
+    step : (o : Option TenantTerms) → (with_one_more [] o >>= (λ more. tenants_of_items version more others)) ≡ Ok r → Are 1 r
     step None e = absurd cc
-    step (Some t) e = few (t ∷ []) others r (omega arith) e
+    step (Some t) e = few version (t ∷ []) others r (omega arith) e
 
 started_few : (start : Option ℕ) (tenants : Result (List TenantTerms) SetupFault) (s : Setup) → ((r : List TenantTerms) → tenants ≡ Ok r → Are 1 r)
     → from_start start tenants ≡ Ok s → Are 1 s.tenants
@@ -58,11 +60,11 @@ started_few (Some start) (Err f) s are e = absurd cc
 
 table_few : (t : Members) (s : Setup) → setup_of_table t ≡ Ok s → Are 1 s.tenants
 unfolding setup_of_table
-table_few t s e = by _ e
+table_few t s e = by (version_of t) e
   where
-    by : (b : Bool) → cond b (from_start (start_of t) (tenants_of_array (array_under (codes "tenant") t))) (Err Version) ≡ Ok s → Are 1 s.tenants
-    by true e = started_few (start_of t) _ s (some_few (array_under (codes "tenant") t)) e
-    by false e = absurd cc
+    by : (o : Option Version) → setup_by o t ≡ Ok s → Are 1 s.tenants
+    by None e = absurd cc
+    by (Some version) e = started_few (start_of t) _ s (some_few version (array_under (codes "tenant") t)) e
 
 document_few : (r : Result Members SetupFault) (s : Setup) → then_setup r ≡ Ok s → Are 1 s.tenants
 document_few (Ok t) s e = table_few t s e

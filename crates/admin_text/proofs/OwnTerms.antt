@@ -14,6 +14,7 @@ use Rattle.admin_text.specs.OwnTerms.{own_terms_of, terms_with}
 use Rattle.admin_text.specs.TenantTable.{terms_of, tenant_of_table, within_limits}
 use Rattle.admin_text.specs.Tenants.{is_there, unless_there}
 use Rattle.admin_text.specs.declared.setup.OwnTerms.{OwnTerms}
+use Rattle.admin_text.specs.declared.version.Version.{Version}
 
 abbrev own_in : List ℕ → List ℕ → List ℕ → ℕ → ℕ → ℕ → OwnTerms
 own_in name address admin journal margin hold = record {
@@ -63,24 +64,24 @@ within_are t net =
     limited (name_under (codes "name") t) (address_under (codes "address") t) (token_under (codes "admin") t)
     (number_or 1024 (codes "journal") t) (number_or 1000 (codes "margin") t) (number_or 30000 (codes "hold") t) net
 
-pub no_tenant : (t : Members) → None ≡ own_terms_of t → None ≡ tenant_of_table t
+pub no_tenant : (version : Version) (t : Members) → None ≡ own_terms_of t → None ≡ tenant_of_table version t
 unfolding tenant_of_table
-no_tenant t none = by (network_of t)
+no_tenant version t none = by (network_of version t)
   where
     by : (net : Option Net) → None ≡ (net >>= λ network. terms_of t network >>= within_limits)
     by None = refl
     by (Some network) = rw (within_are t network, ← none) refl
 
-pub tenant_is : (t : Members) (own : OwnTerms) (network : Net) → Some own ≡ own_terms_of t → Some network ≡ network_of t
-    → Some (terms_with own network) ≡ tenant_of_table t
+pub tenant_is : (version : Version) (t : Members) (own : OwnTerms) (network : Net) → Some own ≡ own_terms_of t → Some network ≡ network_of version t
+    → Some (terms_with own network) ≡ tenant_of_table version t
 unfolding tenant_of_table
-tenant_is t own network o n = rw (← n, within_are t network, ← o) refl
+tenant_is version t own network o n = rw (← n, within_are t network, ← o) refl
 
 -- a name that an earlier tenant has
-pub taken : (tenants : List TenantTerms) (t : Members) (own : OwnTerms) → Some own ≡ own_terms_of t → is_there tenants own.name ≡ true
-    → None ≡ option_and_then (unless_there tenants) (tenant_of_table t)
+pub taken : (version : Version) (tenants : List TenantTerms) (t : Members) (own : OwnTerms) → Some own ≡ own_terms_of t → is_there tenants own.name ≡ true
+    → None ≡ option_and_then (unless_there tenants) (tenant_of_table version t)
 unfolding tenant_of_table
-taken tenants t own o there = by (network_of t)
+taken version tenants t own o there = by (network_of version t)
   where
     by : (net : Option Net) → None ≡ option_and_then (unless_there tenants) (net >>= λ network. terms_of t network >>= within_limits)
     by None = refl

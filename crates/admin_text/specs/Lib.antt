@@ -1,6 +1,7 @@
 pub mod Prefixes
 pub mod Keys
 pub mod Outcomes
+pub mod Versions
 pub mod Networks
 pub mod TenantTable
 pub mod OwnTerms

@@ -3,14 +3,17 @@ use Rattle.std.specs.Prelude.{ℕ, ◌==◌, List, codes, if◌then◌else◌, O
 use Rattle.std.specs.Result.{result_ok}
 use Rattle.toml.specs.Data.{Data, Items, no_items, item, Members, as_table}
 use Rattle.money_core.specs.Price.{rate_at}
+use Rattle.tenant_core.specs.Limits.{max_money}
 use Rattle.tenant_core.specs.Network.{Net, nobody, with_peer, peer_refusal, with_route, route_refusal, with_rate, rate_refusal}
 use Rattle.tenant_core.specs.Orders.{number_named}
 use Rattle.tenant_core.specs.declared.faults.CommandFault.{CommandFault}
 use Rattle.tenant_core.specs.declared.peer.Level.{Level}
 use Rattle.tenant_core.specs.declared.terms.RateTerms.{RateTerms}
 use Rattle.common_types.specs.OptionChain.{◌>>=◌}
-use Rattle.admin_text.specs.Keys.{string_under, name_under, number_under, items_under, peer_terms_of, balance_of}
+use Rattle.admin_text.specs.Keys.{string_under, name_under, number_under, number_or, within, items_under, peer_terms_of, balance_of}
 use Rattle.admin_text.specs.Prefixes.{written_prefix}
+use Rattle.admin_text.specs.Versions.{has_fees}
+use Rattle.admin_text.specs.declared.version.Version.{Version}
 
 -- a network, unless what was to make it is refused
 abbrev pub unless : Option CommandFault → Net → Option Net
@@ -43,24 +46,29 @@ with_peers_of net (item first others) = do
 unfoldable pub peer_under : Net → List ℕ → Members → Option ℕ
 peer_under net key t = name_under key t >>= number_named net
 
+-- the fee of a route's table, 0 where nothing is said or the key doesn't count
+unfoldable pub fee_of : Version → Members → Option ℕ
+fee_of version t = if has_fees version then number_or 0 (codes "fee") t >>= within 0 max_money else Some 0
+
 -- with the route of a table
-unfoldable pub with_route_of : Net → Members → Option Net
-with_route_of net t = do
+unfoldable pub with_route_of : Version → Net → Members → Option Net
+with_route_of version net t = do
   text ← string_under (codes "prefix") t
   prefix ← written_prefix text
   peer ← peer_under net (codes "peer") t
-  unless (route_refusal net prefix) (with_route net prefix peer)
+  fee ← fee_of version t
+  unless (route_refusal net prefix) (with_route net prefix (record { peer = peer; fee = fee }))
 
 -- with the route of a value, if that is a table
-abbrev pub with_route_in : Net → Data → Option Net
-with_route_in net value = as_table value >>= with_route_of net
+abbrev pub with_route_in : Version → Net → Data → Option Net
+with_route_in version net value = as_table value >>= with_route_of version net
 
 -- with the routes of the items
-unfoldable pub with_routes_of : Net → Items → Option Net
-with_routes_of net no_items = Some net
-with_routes_of net (item first others) = do
-  more ← with_route_in net first
-  with_routes_of more others
+unfoldable pub with_routes_of : Version → Net → Items → Option Net
+with_routes_of version net no_items = Some net
+with_routes_of version net (item first others) = do
+  more ← with_route_in version net first
+  with_routes_of version more others
 
 -- the rate of a table, between two different peers
 unfoldable pub rate_of : Net → Members → Option RateTerms
@@ -90,11 +98,11 @@ with_rates_of net (item first others) = do
   with_rates_of more others
 
 -- the network of a tenant's table
-unfoldable pub network_of : Members → Option Net
-network_of t = do
+unfoldable pub network_of : Version → Members → Option Net
+network_of version t = do
   peers ← items_under (codes "peer") t
   routes ← items_under (codes "route") t
   rates ← items_under (codes "rate") t
   reached ← with_peers_of nobody peers
-  routed ← with_routes_of reached routes
+  routed ← with_routes_of version reached routes
   with_rates_of routed rates

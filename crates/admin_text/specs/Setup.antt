@@ -1,5 +1,5 @@
 -- Setups: what a TOML document says of the tenants.
-use Rattle.std.specs.Prelude.{◌≡◌, ◌≤◌, ℕ, Bool, false, List, length, ◌==◌, nat_le, if◌then◌else◌, Option, Some, None, Result, Ok, Err, codes}
+use Rattle.std.specs.Prelude.{◌≡◌, ◌≤◌, ℕ, List, length, nat_le, if◌then◌else◌, Option, Some, None, Result, Ok, Err, codes}
 use Rattle.std.specs.Str.{is_utf8}
 use Rattle.toml.specs.Data.{Members}
 use Rattle.toml.specs.Parse.{parse_document}
@@ -10,13 +10,11 @@ use Rattle.common_types.specs.OptionChain.{◌>>=◌}
 use Rattle.admin_text.specs.Keys.{number_under, array_under}
 use Rattle.admin_text.specs.Tenants.{tenants_of_array}
 use Rattle.admin_text.specs.declared.setup.SetupFault.{SetupFault}
-use Rattle.admin_text.specs.declared.setup.SetupFault.TheVariants.{Toml, Version, Start}
+use Rattle.admin_text.specs.declared.setup.SetupFault.TheVariants.{Toml, Start}
+use Rattle.admin_text.specs.declared.setup.SetupFault.TheVariants as fault
 use Rattle.admin_text.specs.declared.setup.Setup.{Setup}
-
--- the number is 1
-abbrev pub is_one : Option ℕ → Bool
-is_one None = false
-is_one (Some n) = n == 1
+use Rattle.admin_text.specs.declared.version.Version.{Version}
+use Rattle.admin_text.specs.Versions.{version_numbered}
 
 -- a moment that a setup may begin at
 abbrev pub moment_within : ℕ → Option ℕ
@@ -32,12 +30,18 @@ from_start (Some start) (Err fault) = Err fault
 abbrev pub start_of : Members → Option ℕ
 start_of t = number_under 64 (codes "start") t >>= moment_within
 
+-- the version at the key `version`
+abbrev pub version_of : Members → Option Version
+version_of t = number_under 64 (codes "version") t >>= version_numbered
+
+-- what a document of a version says
+abbrev pub setup_by : Option Version → Members → Result Setup SetupFault
+setup_by None t = Err fault.Version
+setup_by (Some version) t = from_start (start_of t) (tenants_of_array version (array_under (codes "tenant") t))
+
 -- what a document says, or its first fault
 unfoldable pub setup_of_table : Members → Result Setup SetupFault
-setup_of_table t =
-    if is_one (number_under 64 (codes "version") t)
-    then from_start (start_of t) (tenants_of_array (array_under (codes "tenant") t))
-    else Err Version
+setup_of_table t = setup_by (version_of t) t
 
 -- a text that is no TOML is a fault
 abbrev pub document_of : Option Members → Result Members SetupFault

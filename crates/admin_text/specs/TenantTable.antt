@@ -7,6 +7,7 @@ use Rattle.tenant_core.specs.declared.terms.TenantTerms.{TenantTerms}
 use Rattle.common_types.specs.OptionChain.{◌>>=◌}
 use Rattle.admin_text.specs.Keys.{name_under, address_under, token_under, number_or}
 use Rattle.admin_text.specs.Networks.{network_of}
+use Rattle.admin_text.specs.declared.version.Version.{Version}
 
 -- what a tenant's table says, where it deals with these
 unfoldable pub terms_of : Members → Net → Option TenantTerms
@@ -32,8 +33,8 @@ abbrev pub within_limits : TenantTerms → Option TenantTerms
 within_limits terms = if is_tenant_setup terms then Some terms else None
 
 -- a tenant
-unfoldable pub tenant_of_table : Members → Option TenantTerms
-tenant_of_table t = do
-  network ← network_of t
+unfoldable pub tenant_of_table : Version → Members → Option TenantTerms
+tenant_of_table version t = do
+  network ← network_of version t
   terms ← terms_of t network
   within_limits terms

@@ -1,15 +1,17 @@
 //! What stands at the keys of a table.
 
 ghost use Rattle.std.specs.Prelude.{◌≡◌, codes, option_and_then, option_copied, option_map};
-ghost use Rattle.std.specs.Result.{is_ok, result_ok};
+ghost use Rattle.std.specs.Result.{result_ok};
 ghost use Rattle.toml.specs.Data.{as_table, get_member};
 ghost use Rattle.toml.specs.View.{view, items_view, table_view};
 ghost use Rattle.admin_text.specs.Keys.{string_under, integer_under, number_under, integer_or, number_or, between_under, within};
 ghost use Rattle.admin_text.specs.Keys.{name_under, token_under, address_under, asset_under, target_of, array_under};
-ghost use Rattle.admin_text.specs.Setup.{is_one, start_of};
+ghost use Rattle.admin_text.specs.Setup.{start_of, version_of};
+ghost use Rattle.admin_text.specs.Versions.{version_numbered};
 ghost use Rattle.admin_text.specs.Keys.{items_under, role_under, peer_limits_of, bucket_terms_of, peer_terms_of, balance_of};
 
 use crate::places::Kind;
+use crate::version::{Version, version_numbered};
 use crate::wanted::Wanted;
 use crate::wrong::Wrong;
 use common_types::{AssetCode, Between, Name, Token};
@@ -268,14 +270,12 @@ pub(crate) fn table_in(value: &Value, kind: Kind) -> Result<&Table, Wrong<'_>>
     }
 }
 
-/// The version, which is 1.
-pub(crate) fn version_of(table: &Table) -> Result<u64, Wrong<'_>>
-    ensures { is_ok result ≡ is_one (number_under 64 (codes "version") (table_view table.now)) }
+/// The version, which is 1 or 2.
+pub(crate) fn version_of(table: &Table) -> Result<Version, Wrong<'_>>
+    ensures { result_ok result ≡ version_of (table_view table.now) }
 {
-    match u64_under(table, "version", Wanted::Version)? {
-        1 => Ok(1),
-        _ => Err(Wrong::at(table, "version", Wanted::Version)),
-    }
+    let number = u64_under(table, "version", Wanted::Version)?;
+    made(version_numbered(number), table, "version", Wanted::Version)
 }
 
 /// When the setup starts.

@@ -9,6 +9,7 @@ mod networks;
 mod places;
 mod prefixes;
 mod setup;
+mod version;
 mod wanted;
 mod written;
 mod wrong;

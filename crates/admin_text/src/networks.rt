@@ -7,25 +7,26 @@ ghost use Rattle.money_core.specs.Price.{rate_at};
 ghost use Rattle.toml.specs.View.{view, items_view, table_view};
 ghost use Rattle.tenant_core.specs.Network.{peer_numbered};
 ghost use Rattle.admin_text.specs.Networks.{with_peer_in, with_peers_of, peer_under, rate_of};
-ghost use Rattle.admin_text.specs.Networks.{with_route_in, with_routes_of};
+ghost use Rattle.admin_text.specs.Networks.{fee_of, with_route_in, with_routes_of};
 ghost use Rattle.admin_text.specs.Networks.{with_rate_in, with_rates_of, network_of};
 ghost use Rattle.admin_text.specs.Outcomes.{known};
 ghost use Rattle.admin_text.specs.Keys.{string_under};
 ghost use Rattle.admin_text.specs.Prefixes.{written_prefix};
 
 use crate::keys::{
-    balance_of, items_under, name_under, peer_terms_of, string_under, table_in, text_under,
+    balance_of, between_or, items_under, name_under, peer_terms_of, string_under, table_in, text_under,
     u64_under,
 };
 use crate::places::{Kind, Place};
 use crate::prefixes::written_prefix;
+use crate::version::{Version, has_fees};
 use crate::wanted::Wanted;
 use crate::wrong::{Key, TenantWrong, Wrong};
 use common_types::ReadError;
 use ilp_addr::Prefix;
 use money_core::{Rate, RateFault};
 use std::alloc::Global;
-use tenant_core::{CommandFault, Level, Network, PeerNo, RateTerms, number_named};
+use tenant_core::{CommandFault, Fee, Hop, Level, Network, PeerNo, RateTerms, number_named};
 use toml::{Table, Value};
 
 // What a bucket holds before a period begins.
@@ -152,19 +153,33 @@ fn prefix_of(alloc: Global, table: &Table) -> Result<Prefix, ReadError<Wrong<'_>
     }
 }
 
+// The fee of a route's table, 0 where nothing is said or the key doesn't count.
+#[tactic(auto, unfolding(crate::specs::Networks::fee_of))]
+fn fee_of(version: Version, table: &Table) -> Result<Fee, Wrong<'_>>
+    ensures { result_ok result ≡ fee_of version (table_view table.now) }
+{
+    if has_fees(version) {
+        between_or(0, table, "fee")
+    } else {
+        Ok(Fee::new(0).unwrap())
+    }
+}
+
 #[tactic(auto, unfolding(crate::specs::Networks::with_route_of))]
 fn with_route_in<'a>(
     alloc: Global,
+    version: Version,
     mut network: Network,
     before: &[Value],
     value: &'a Value,
 ) -> Result<Network, ReadError<Wrong<'a>>>
-    ensures { IfSome (known result) (λ more. more ≡ with_route_in network (view value.now)) }
+    ensures { IfSome (known result) (λ more. more ≡ with_route_in version network (view value.now)) }
 {
     let table = table_in(value, Kind::Route)?;
     let prefix = prefix_of(alloc, table)?;
     let peer = peer_under(&network, table, "peer")?;
-    match network.add_route(prefix, peer) {
+    let fee = fee_of(version, table)?;
+    match network.add_route(prefix, Hop { peer, fee }) {
         Ok(()) => Ok(network),
         Err(CommandFault::Memory) => Err(ReadError::Memory),
         Err(fault) => {
@@ -177,14 +192,15 @@ fn with_route_in<'a>(
 #[tactic(auto, unfolding(crate::specs::Networks::with_routes_of))]
 fn with_routes_of(
     alloc: Global,
+    version: Version,
     network: Network,
     values: &[Value],
 ) -> Result<Network, ReadError<TenantWrong<'_>>>
-    ensures { IfSome (known result) (λ more. more ≡ with_routes_of network (items_view values.now)) }
+    ensures { IfSome (known result) (λ more. more ≡ with_routes_of version network (items_view values.now)) }
 {
     let mut network = network;
     for (at, value) in values.iter().enumerate() {
-        let more = with_route_in(alloc, network, &values[..at], value);
+        let more = with_route_in(alloc, version, network, &values[..at], value);
         network = at_part(more, Kind::Route, at, value)?;
     }
     Ok(network)
@@ -256,14 +272,15 @@ fn with_rates_of(network: Network, values: &[Value]) -> Result<Network, ReadErro
 #[tactic(auto, unfolding(crate::specs::Networks::network_of))]
 pub(crate) fn network_of(
     alloc: Global,
+    version: Version,
     table: &Table,
 ) -> Result<Network, ReadError<TenantWrong<'_>>>
-    ensures { IfSome (known result) (λ network. network ≡ network_of (table_view table.now)) }
+    ensures { IfSome (known result) (λ network. network ≡ network_of version (table_view table.now)) }
 {
     let peers = items_under(table, "peer", Kind::Peer)?;
     let routes = items_under(table, "route", Kind::Route)?;
     let rates = items_under(table, "rate", Kind::Rate)?;
     let network = with_peers_of(Network::new(alloc), peers)?;
-    let network = with_routes_of(alloc, network, routes)?;
+    let network = with_routes_of(alloc, version, network, routes)?;
     with_rates_of(network, rates)
 }

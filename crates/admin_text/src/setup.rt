@@ -20,6 +20,7 @@ use crate::keys::{
 };
 use crate::networks::network_of;
 use crate::places::{Kind, Place};
+use crate::version::Version;
 use crate::wanted::Wanted;
 use crate::wrong::{Key, SetupWrong, TenantWrong, Wrong};
 use common_types::{Between, Items, Name, ReadError, Token};
@@ -36,7 +37,7 @@ pub enum SetupFault {
     /// It is no TOML document.
     #[error("setup: toml")]
     Toml,
-    /// Its version is not 1.
+    /// Its version is neither 1 nor 2.
     #[error("setup: version")]
     Version,
     /// Its start is no moment from 0 to 253,400,000,000,000 milliseconds.
@@ -124,11 +125,12 @@ fn number_of(tenants: &[TenantSetup], name: &Name) -> usize {
 #[tactic(auto, unfolding(crate::specs::TenantTable::tenant_of_table))]
 fn new_tenant<'a>(
     alloc: Global,
+    version: Version,
     tenants: &[TenantSetup],
     value: &'a Value,
 ) -> Result<TenantSetup, ReadError<TenantWrong<'a>>>
     ensures { IfSome (known result) (λ tenant. tenant ≡
-        option_and_then (unless_there tenants.now) (option_and_then tenant_of_table (as_table (view value.now)))) }
+        option_and_then (unless_there tenants.now) (option_and_then (tenant_of_table version) (as_table (view value.now)))) }
 {
     let table = table_in(value, Kind::Tenant)?;
     let own = own_terms_of(table)?;
@@ -136,24 +138,25 @@ fn new_tenant<'a>(
         let number = number_of(tenants, &own.name);
         return Err(ReadError::from(Wrong::Taken(Key::of(table, "name"), Kind::Tenant, number)));
     }
-    let network = network_of(alloc, table)?;
+    let network = network_of(alloc, version, table)?;
     Ok(own.with(network))
 }
 
 // The tenant of a value behind these, which are at most 63.
 fn next_tenant<'a>(
     alloc: Global,
+    version: Version,
     tenants: &[TenantSetup],
     value: &'a Value,
 ) -> Result<TenantSetup, ReadError<SetupWrong<'a>>>
     ensures { GivesUnlessMemory (λ tenant. tenants.now ++ tenant ∷ []) (told result)
-        (with_one_more tenants.now (next_tenant tenants.now (view value.now))) }
+        (with_one_more tenants.now (next_tenant version tenants.now (view value.now))) }
 {
     let number = tenants.len();
     if number >= MAX_TENANTS {
         return Err(ReadError::Fault(SetupWrong::OneTooMany(number)));
     }
-    match new_tenant(alloc, tenants, value) {
+    match new_tenant(alloc, version, tenants, value) {
         Ok(tenant) => Ok(tenant),
         Err(ReadError::Memory) => Err(ReadError::Memory),
         Err(ReadError::Fault(wrong)) => {
@@ -166,13 +169,14 @@ fn next_tenant<'a>(
 #[tactic(auto, unfolding(crate::specs::Tenants::tenants_of_items))]
 fn tenants_of_items(
     alloc: Global,
+    version: Version,
     values: &[Value],
 ) -> Result<Vec<TenantSetup>, ReadError<SetupWrong<'_>>>
-    ensures { GivesUnlessMemory (λ tenants. tenants.items) (told result) (tenants_of_items [] (items_view values.now)) }
+    ensures { GivesUnlessMemory (λ tenants. tenants.items) (told result) (tenants_of_items version [] (items_view values.now)) }
 {
     let mut tenants = Vec::new(alloc);
     for value in values {
-        let tenant = next_tenant(alloc, tenants.as_slice(), value)?;
+        let tenant = next_tenant(alloc, version, tenants.as_slice(), value)?;
         tenants.push(tenant)?;
     }
     Ok(tenants)
@@ -181,30 +185,32 @@ fn tenants_of_items(
 // The tenants of an array at that key, of which there is one at least.
 fn some_tenants<'a>(
     alloc: Global,
+    version: Version,
     key: Key<'a>,
     values: &'a [Value],
 ) -> Result<Vec<TenantSetup>, ReadError<SetupWrong<'a>>>
-    ensures { GivesUnlessMemory (λ tenants. tenants.items) (told result) (some_tenants (items_view values.now)) }
+    ensures { GivesUnlessMemory (λ tenants. tenants.items) (told result) (some_tenants version (items_view values.now)) }
 {
     match values {
         [] => {
             let wrong = Wrong::Key(key, Wanted::Tenants);
             Err(ReadError::Fault(SetupWrong::NoTenants(wrong)))
         }
-        [_, ..] => tenants_of_items(alloc, values),
+        [_, ..] => tenants_of_items(alloc, version, values),
     }
 }
 
 #[tactic(auto, unfolding(crate::specs::Tenants::tenants_of_array))]
 fn tenants_of_array(
     alloc: Global,
+    version: Version,
     table: &Table,
 ) -> Result<Vec<TenantSetup>, ReadError<SetupWrong<'_>>>
     ensures { GivesUnlessMemory (λ tenants. tenants.items) (told result)
-        (tenants_of_array (array_under (codes "tenant") (table_view table.now))) }
+        (tenants_of_array version (array_under (codes "tenant") (table_view table.now))) }
 {
     match array_under(table, "tenant", Wanted::Tenants) {
-        Ok(values) => some_tenants(alloc, Key::of(table, "tenant"), values),
+        Ok(values) => some_tenants(alloc, version, Key::of(table, "tenant"), values),
         Err(wrong) => Err(ReadError::Fault(SetupWrong::NoTenants(wrong))),
     }
 }
@@ -217,14 +223,15 @@ pub(crate) fn setup_of_table(
 ) -> Result<Setup, ReadError<SetupWrong<'_>>>
     ensures { GivesUnlessMemory (λ s. s) (told result) (setup_of_table (table_view table.now)) }
 {
-    if let Err(wrong) = version_of(table) {
-        return Err(ReadError::Fault(SetupWrong::AtVersion(wrong)));
-    }
+    let version = match version_of(table) {
+        Ok(version) => version,
+        Err(wrong) => return Err(ReadError::Fault(SetupWrong::AtVersion(wrong))),
+    };
     let start = match start_of(table) {
         Ok(start) => start,
         Err(wrong) => return Err(ReadError::Fault(SetupWrong::AtStart(wrong))),
     };
-    let tenants = tenants_of_array(alloc, table)?;
+    let tenants = tenants_of_array(alloc, version, table)?;
     Ok(Setup {
         start,
         tenants: Items::from_vec(tenants),
@@ -245,14 +252,14 @@ pub(crate) fn document_of(alloc: Global, text: &[u8]) -> Result<Table, ReadError
 
 /// Reads a setup, a TOML document in UTF-8. Keys that are not named here are ignored.
 ///
-/// - At the top: `version`, which is 1; `start`, in milliseconds since 1970-01-01; and `tenant`, an
+/// - At the top: `version`, which is 1 or 2; `start`, in milliseconds since 1970-01-01; and `tenant`, an
 ///   array of 1 to 64 tables.
 /// - A tenant: `name`, `address` and `admin`; `journal` (1024 where it is left out), `margin` (1000)
 ///   and `hold` (30000); arrays of tables `peer`, `route` and `rate`, each empty where it is left out.
 /// - A peer: `name`, `role` (`child` or `peer`), `token`, `url`, `out_token`, `asset`, `scale`, `cap`,
 ///   `ceiling`, `credit`, `burst`, `per_second`, and `balance` (0 where it is left out).
 /// - A route: `prefix`, whose dot at the end is dropped and which is `*` for the empty one, and `peer`, a
-///   peer's name. No two have the same prefix.
+///   peer's name; in version 2 `fee` too, from 0 to 2^62 (0 where it is left out). No two have the same prefix.
 /// - A rate: `from` and `to`, peers' names, `num` and `den`. Of two for the same ordered pair the later counts.
 ///
 /// The faults are looked for in the order of [`SetupFault`]; a key that lacks or is of another kind

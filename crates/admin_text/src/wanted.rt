@@ -29,7 +29,7 @@ pub(crate) enum Wanted {
 impl Wanted {
     fn words(self) -> &'static str {
         match self {
-            Wanted::Version => "1 is the only version",
+            Wanted::Version => "1 and 2 are the versions",
             Wanted::Tenants | Wanted::Tables(_) => "an array of tables",
             Wanted::Name => "a text of 1 to 32 of a-z 0-9 -",
             Wanted::Token => "a text of 1 to 64 of A-Z a-z 0-9 - . _ ~ + / =",

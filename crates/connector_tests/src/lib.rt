@@ -11,6 +11,8 @@ mod crowds;
 #[cfg(test)]
 mod devices;
 #[cfg(test)]
+mod fees;
+#[cfg(test)]
 mod governed;
 #[cfg(test)]
 mod replays;

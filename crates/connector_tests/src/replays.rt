@@ -162,7 +162,7 @@ static REFUSALS: [Refusal; 6] = [
         text: "setup: toml",
     },
     Refusal {
-        changes: &[("", "version", "2")],
+        changes: &[("", "version", "3")],
         script: "tick\n",
         fault: ReplayFault::Setup(SetupFault::Version),
         status: 3,

@@ -11,9 +11,10 @@ use Rattle.ildcp_core.specs.Request.{is_config, checked_request}
 use Rattle.ildcp_core.specs.declared.fault.IldcpFault.{IldcpFault}
 use Rattle.ildcp_core.specs.declared.fault.IldcpFault.TheVariants.{NotChild, Amount, Condition}
 use Rattle.money_core.specs.Fraction.{Fraction}
-use Rattle.money_core.specs.Price.{price_of}
+use Rattle.money_core.specs.Price.{price_less}
 use Rattle.rate_bucket.specs.Bucket.{is_admitted}
 use Rattle.route_table.specs.Routes.{best_route}
+use Rattle.route_table.specs.declared.hop.Hop.{Hop}
 use Rattle.oer_core.specs.Writing.{Writes}
 use Rattle.tenant_core.specs.Bucket.{stretch_of}
 use Rattle.tenant_core.specs.Checks.{◌otherwise◌}
@@ -24,12 +25,12 @@ use Rattle.tenant_core.specs.Limits.{max_holds}
 use Rattle.tenant_core.specs.Network.{Net, peer_numbered, peer_with_token}
 use Rattle.tenant_core.specs.Present.{network_of}
 use Rattle.tenant_core.specs.Purse.{is_over_ceiling, is_over_credit}
-use Rattle.tenant_core.specs.Routing.{another, onward, stays_here, rate_between, outgoing_expiry}
+use Rattle.tenant_core.specs.Routing.{Way, another, onward, way_by, stays_here, rate_between, outgoing_expiry}
 use Rattle.tenant_core.specs.State.{State, clock_of, recorded}
 use Rattle.tenant_core.specs.declared.journal.Record.{Record}
 use Rattle.tenant_core.specs.declared.opening.Opening.{Opening}
 use Rattle.tenant_core.specs.declared.peer.Peer.{Peer}
-use Rattle.tenant_core.specs.declared.verdict.RejectCode.TheVariants.{Unreachable}
+use Rattle.tenant_core.specs.declared.verdict.RejectCode.TheVariants.{InsufficientSource, Unreachable}
 use Rattle.tenant_core.specs.declared.verdict.Verdict.{Verdict}
 use Rattle.tenant_core.specs.declared.verdict.Verdict.TheVariants.{Unknown, NoRoom, Refuse, Fulfil, Forward, Relay}
 use Rattle.floor_core.specs.Replies.{decision_reply, busy_reply, refusal_reply, config_reply}
@@ -57,14 +58,15 @@ found : {A : Type 0} (s : State) (o : Option A) (v : Verdict) (next : A → Verd
 found s None v next p q = p
 found s (Some x) v next p q = q x refl
 
-rate_goes : (s : State) (from to : Peer) (rate : Fraction) (key : Key) (clock : ℕ) → IsSome (target_of s to.number)
-    → GoesSomewhere s (verdict_at_rate s from to rate key clock)
-rate_goes s from to rate key clock there =
-    passed s (nat_lt to.terms.limits.cap (price_of rate key.amount)) _ _ tt (
+rate_goes : (s : State) (from : Peer) (way : Way) (rate : Fraction) (key : Key) (clock : ℕ) → IsSome (target_of s way.peer.number)
+    → GoesSomewhere s (verdict_at_rate s from way rate key clock)
+rate_goes s from way rate key clock there =
+    found s (price_less rate key.amount way.fee) (refuse InsufficientSource) _ tt (λ price _.
+    passed s (nat_lt way.peer.terms.limits.cap price) _ _ tt (
     passed s (nat_le (outgoing_expiry s.opening key.expiry clock) clock) _ _ tt (
     passed s (is_over_ceiling s from key.amount) _ _ tt (
-    passed s (is_over_credit s to (price_of rate key.amount)) _ _ tt (
-    passed s (nat_le max_holds (open_holds s)) _ _ tt there))))
+    passed s (is_over_credit s way.peer price) _ _ tt (
+    passed s (nat_le max_holds (open_holds s)) _ _ tt there)))))
 
 config_goes : (s : State) (r : Result (Unit {0}) IldcpFault) → GoesSomewhere s (config_verdict r)
 config_goes s (Ok good) = tt
@@ -90,10 +92,21 @@ target_there : (o : Option Peer) → IsSome o → IsSome (option_map (λ p. p.te
 target_there None is = absurd cc
 target_there (Some p) is = refl
 
-onward_there : (s : State) (n : Option ℕ) (to : Peer) → option_and_then (λ k. peer_numbered k (network_of s).peers) n ≡ Some to
-    → IsSome (target_of s to.number)
-onward_there s None to e = absurd cc
-onward_there s (Some n) to e = target_there (peer_numbered to.number (network_of s).peers) (own_number n (network_of s).peers to e)
+-- the peer of a way, or another where there is none
+abbrev peer_or : Peer → Option Way → Peer
+peer_or p None = p
+peer_or p (Some way) = way.peer
+
+peer_of_way : (fee : ℕ) (o : Option Peer) (way : Way) → option_map (λ p. let w : Way = record { peer = p; fee = fee } in w) o ≡ Some way → o ≡ Some way.peer
+peer_of_way fee None way e = absurd cc
+peer_of_way fee (Some p) way e = let same : p ≡ way.peer = ap (λ (o : Option Way). peer_or p o) e in ap Some same
+
+onward_there : (s : State) (n : Option Hop) (way : Way) → option_and_then (way_by (network_of s)) n ≡ Some way
+    → IsSome (target_of s way.peer.number)
+onward_there s None way e = absurd cc
+onward_there s (Some hop) way e =
+    target_there (peer_numbered way.peer.number (network_of s).peers)
+    (own_number hop.peer (network_of s).peers way.peer (peer_of_way hop.fee (peer_numbered hop.peer (network_of s).peers) way e))
 
 sender_goes : (s : State) (from : Peer) (key : Key) (clock : ℕ) → GoesSomewhere s (verdict_for_sender s from key clock)
 sender_goes s from key clock =
@@ -102,10 +115,10 @@ sender_goes s from key clock =
     passed s (is_config key.destination) _ _ (config_goes s (checked_request from.terms.role key.amount key.condition)) (
     passed s (stays_here s.opening key.destination) _ _ tt (
     passed s (nat_lt from.terms.limits.cap key.amount) _ _ tt (
-    found s (onward (network_of s) from.number key.destination) (refuse Unreachable) _ tt (λ to is.
-    found s (rate_between (network_of s) from.number to.number) (refuse Unreachable) _ tt (λ rate _.
-    rate_goes s from to rate key clock
-    (onward_there s (option_and_then (another from.number) (best_route (network_of s).routes key.destination)) to is))))))))
+    found s (onward (network_of s) from.number key.destination) (refuse Unreachable) _ tt (λ way is.
+    found s (rate_between (network_of s) from.number way.peer.number) (refuse Unreachable) _ tt (λ rate _.
+    rate_goes s from way rate key clock
+    (onward_there s (option_and_then (another from.number) (best_route (network_of s).routes key.destination)) way is))))))))
 
 goes : (s : State) (token : List ℕ) (key : Key) (now : ℕ) → GoesSomewhere s (judge s token key now)
 goes s token key now =

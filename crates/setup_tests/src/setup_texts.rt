@@ -7,9 +7,25 @@ use std::test::Fail;
 use test_texts::{ABSENT, Line, RATE, ROUTE, setup_with};
 
 // Changes of the usual setup, and the fault that they bring.
-static CHANGES: [(&[Line], Option<SetupFault>); 42] = [
+static CHANGES: [(&[Line], Option<SetupFault>); 49] = [
     (&[], None),
-    (&[("", "version", "2")], Some(SetupFault::Version)),
+    (&[("", "version", "2")], None),
+    (&[("", "version", "3")], Some(SetupFault::Version)),
+    (&[("", "version", "0")], Some(SetupFault::Version)),
+    (&[("route", "fee", "-1")], None),
+    (&[("", "version", "2"), ("route", "fee", "0")], None),
+    (
+        &[("", "version", "2"), ("route", "fee", "4611686018427387904")],
+        None,
+    ),
+    (
+        &[("", "version", "2"), ("route", "fee", "4611686018427387905")],
+        Some(SetupFault::Tenant(0)),
+    ),
+    (
+        &[("", "version", "2"), ("route", "fee", "-1")],
+        Some(SetupFault::Tenant(0)),
+    ),
     (&[("", "version", "'1'")], Some(SetupFault::Version)),
     (&[("", "version", ABSENT)], Some(SetupFault::Version)),
     (&[("", "version", "")], Some(SetupFault::Toml)),

@@ -7,20 +7,20 @@ use std::test::Fail;
 use test_texts::{ABSENT, Line, PEER, RATE, ROUTE, setup_with};
 
 // Changes of the usual setup, and the words for what they make wrong.
-static CHANGES: [(&[Line], &str); 52] = [
+static CHANGES: [(&[Line], &str); 54] = [
     (&[], "good"),
     (&[("acme", "other", "1")], "good"),
     (
         &[("", "version", ABSENT)],
-        "version is missing: 1 is the only version",
+        "version is missing: 1 and 2 are the versions",
     ),
     (
-        &[("", "version", "2")],
-        "version = 2: 1 is the only version",
+        &[("", "version", "3")],
+        "version = 3: 1 and 2 are the versions",
     ),
     (
         &[("", "version", "'1'")],
-        "version = \"1\": 1 is the only version",
+        "version = \"1\": 1 and 2 are the versions",
     ),
     (
         &[("", "start", "-1"), ("acme", "hold", "0")],
@@ -149,6 +149,14 @@ static CHANGES: [(&[Line], &str); 52] = [
     (
         &[("route", "", "[tenant.route]")],
         "tenant 0 acme: route is a table: an array of tables, each begun by [[tenant.route]]",
+    ),
+    (
+        &[("", "version", "2"), ("route", "fee", "4611686018427387905")],
+        "tenant 0 acme: route 1 g.acme.bob: fee = 4611686018427387905: at most 4611686018427387904",
+    ),
+    (
+        &[("", "version", "2"), ("route", "fee", "'much'")],
+        "tenant 0 acme: route 1 g.acme.bob: fee = \"much\": a whole number from 0 to 4611686018427387904",
     ),
     (
         &[("route", "prefix", ABSENT)],

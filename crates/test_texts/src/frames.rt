@@ -5,7 +5,7 @@ use std::test::Fail;
 
 // What stands for a name in braces, which may have names of its own in it. The values were worked out by hand from the
 // formats of RFC 0027 and RFC 0030.
-static NAMES: [(&str, &str); 80] = [
+static NAMES: [(&str, &str); 83] = [
     ("T", "1893456000000"),
     ("T+999", "1893456000999"),
     ("T+1000", "1893456001000"),
@@ -79,6 +79,14 @@ static NAMES: [(&str, &str); 80] = [
     (
         "sent 1498",
         "0c4700000000000005da{until 9 s}{condition}{to bob}00",
+    ),
+    (
+        "sent 1000",
+        "0c4700000000000003e8{until 9 s}{condition}{to bob}00",
+    ),
+    (
+        "sent 998",
+        "0c4700000000000003e6{until 9 s}{condition}{to bob}00",
     ),
     (
         "sent 500",
@@ -213,6 +221,10 @@ static NAMES: [(&str, &str); 80] = [
     (
         "31 zeros",
         "00000000000000000000000000000000000000000000000000000000000000",
+    ),
+    (
+        "R01",
+        "0e26523031{by acme}1a696e73756666696369656e7420736f7572636520616d6f756e7400",
     ),
     (
         "R02",

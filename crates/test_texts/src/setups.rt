@@ -20,7 +20,7 @@ pub const TENANT: &str = "[[tenant]]";
 
 // alice, who may send to bob at 3/2, and what rows may add: a third peer, routes and rates before and after, and a second
 // tenant, beta, like the first.
-static USUAL: [Line; 122] = [
+static USUAL: [Line; 123] = [
     ("", "version", "1"),
     ("", "start", "1893456000000"),
     ("acme", "", "[[tenant]]"),
@@ -78,6 +78,7 @@ static USUAL: [Line; 122] = [
     ("route", "", ROUTE),
     ("route", "prefix", "'g.acme.bob'"),
     ("route", "peer", "'bob'"),
+    ("route", "fee", ABSENT),
     ("route after", "", ABSENT),
     ("route after", "prefix", "'*'"),
     ("route after", "peer", "'alice'"),
