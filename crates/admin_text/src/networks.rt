@@ -14,8 +14,8 @@ ghost use Rattle.admin_text.specs.Keys.{string_under};
 ghost use Rattle.admin_text.specs.Prefixes.{written_prefix};
 
 use crate::keys::{
-    balance_of, between_or, items_under, name_under, peer_terms_of, string_under, table_in, text_under,
-    u64_under,
+    balance_of, between_or, items_under, name_under, peer_terms_of, string_under, table_in,
+    text_under, u64_under,
 };
 use crate::places::{Kind, Place};
 use crate::prefixes::written_prefix;

@@ -15,11 +15,17 @@ static CHANGES: [(&[Line], Option<SetupFault>); 49] = [
     (&[("route", "fee", "-1")], None),
     (&[("", "version", "2"), ("route", "fee", "0")], None),
     (
-        &[("", "version", "2"), ("route", "fee", "4611686018427387904")],
+        &[
+            ("", "version", "2"),
+            ("route", "fee", "4611686018427387904"),
+        ],
         None,
     ),
     (
-        &[("", "version", "2"), ("route", "fee", "4611686018427387905")],
+        &[
+            ("", "version", "2"),
+            ("route", "fee", "4611686018427387905"),
+        ],
         Some(SetupFault::Tenant(0)),
     ),
     (

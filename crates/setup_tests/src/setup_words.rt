@@ -151,7 +151,10 @@ static CHANGES: [(&[Line], &str); 54] = [
         "tenant 0 acme: route is a table: an array of tables, each begun by [[tenant.route]]",
     ),
     (
-        &[("", "version", "2"), ("route", "fee", "4611686018427387905")],
+        &[
+            ("", "version", "2"),
+            ("route", "fee", "4611686018427387905"),
+        ],
         "tenant 0 acme: route 1 g.acme.bob: fee = 4611686018427387905: at most 4611686018427387904",
     ),
     (

@@ -17,8 +17,8 @@ use std::alloc::Global;
 use std::process::Abort;
 use std::test::Fail;
 use tenant_core::{
-    AnswerKey, Answered, Balance, Book, BookFault, Command, CommandFault, Expiry, Network, Order, Pair,
-    PeerNo, PrepareKey, RejectCode, Row, TenantSetup, TenantTerms, Verdict,
+    AnswerKey, Answered, Balance, Book, BookFault, Command, CommandFault, Expiry, Network, Order,
+    Pair, PeerNo, PrepareKey, RejectCode, Row, TenantSetup, TenantTerms, Verdict,
 };
 use told::{Priced, Sums, Told};
 use wanted::{Ask, HOLD, MARGIN, Packet, decided, has_place, refusal, settled};

@@ -7,9 +7,9 @@ use std::alloc::Global;
 use std::process::Abort;
 use std::test::Fail;
 use tenant_core::{
-    AnswerKey, Balance, Book, BookFault, BucketTerms, CommandFault, Expiry, HoldFault, Level, Network,
-    PeerLimits, PeerTerms, PrepareKey, RateTerms, RejectCode, Role, TenantSetup, TenantTerms,
-    Verdict, number_named,
+    AnswerKey, Balance, Book, BookFault, BucketTerms, CommandFault, Expiry, HoldFault, Level,
+    Network, PeerLimits, PeerTerms, PrepareKey, RateTerms, RejectCode, Role, TenantSetup,
+    TenantTerms, Verdict, number_named,
 };
 
 // 2030-01-01T00:00:00Z, and the greatest moment.
