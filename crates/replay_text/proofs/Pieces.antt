@@ -11,7 +11,7 @@ use Rattle.floor_core.specs.Worlds.{reply, after, replies, after_all}
 use Rattle.floor_core.specs.declared.step.Output.{Output}
 use Rattle.floor_core.specs.declared.step.Step.{Step}
 use Rattle.replay_text.specs.Printed.{line_of, printed_lines}
-use Rattle.replay_text.specs.Replay.{ArePrinted, Prints, WritesLines, WritesSome}
+use Rattle.replay_text.specs.Replay.{ArePrinted, Prints, WritesDone, WritesLines, WritesSome}
 use Rattle.replay_text.specs.Script.{meaning_of, steps_in}
 use Rattle.replay_text.specs.Streams.{AppendsFront, WritesUpTo}
 use Rattle.replay_text.specs.declared.script.Meaning.TheVariants.{Skipped, Runs}
@@ -169,11 +169,11 @@ pub all_written : (names : List (List ℕ)) (w m : World) (steps : List Step) (t
 all_written names w m steps text old between new far last =
     (far.0 ++ text, none_left names w m steps (far.0 ++ text) far.2, Appends-both old between new far.0 text far.1 last)
 
--- unless a write failed
-pub all_written_unless : {E : Type 0} → (names : List (List ℕ)) (w m : World) (steps : List Step) (text : List ℕ) (old between new : Option (List ℕ)) (r : Result (Unit {0}) E) → Far names w m steps [] text old between → OnOk r (Appends between new text)
-    → OnOk r (WritesLines names w steps old new)
-all_written_unless names w m steps text old between new (Ok done) far last = all_written names w m steps text old between new far last
-all_written_unless names w m steps text old between new (Err e) far last = tt
+-- the lines of the steps that were done were written
+pub done_written : (names : List (List ℕ)) (w m : World) (steps rest : List Step) (text : List ℕ) (old between new : Option (List ℕ)) → Far names w m steps rest text old between → Appends between new text
+    → WritesDone names w steps m old new
+done_written names w m steps rest text old between new far last =
+    (far.2.0, rest, far.2.1, far.0 ++ text, far.2.2, Appends-both old between new far.0 text far.1 last)
 
 -- ---- numbers of calls
 
@@ -184,12 +184,6 @@ room_for_fewer f few many less room = λ t within. omega (arith, room t within)
 -- a step takes one number at most
 pub room_behind : (f g : FloorState) → length g.books ≡ length f.books → ((t : ℕ) → slice_index g.next_calls t ≤ slice_index f.next_calls t + 1) → (n : ℕ) → HasRoom f (1 + n) → HasRoom g n
 room_behind f g same counted n room = λ t within. omega (arith, counted t, room t (omega (arith, same)))
-
--- one step was told and printed, unless memory was refused
-pub prints_told : {E : Type 0} → RepliesLaw → AfterLaw → (names : List (List ℕ)) (step : Step) (w m : World) (output : Output) (r : Result (Unit {0}) E) (a b : List ℕ) → output ≡ reply w step → m ≡ after w step
-    → OnOk r (b ≡ a ++ line_of names output) → OnOk r (Prints names (step ∷ []) w m a b)
-prints_told outputs left names step w m output (Ok done) a b is world printed = prints_one outputs left names step w m output a b is world printed
-prints_told outputs left names step w m output (Err e) a b is world printed = tt
 
 -- the step of a line
 pub prints_line : (names : List (List ℕ)) (workers : ℕ) (line : List ℕ) (step : Step) (w m : World) (a b : List ℕ) → meaning_of names workers line ≡ Runs step → Prints names (step ∷ []) w m a b

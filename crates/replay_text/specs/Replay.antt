@@ -1,5 +1,5 @@
 -- What a replay of a script for a setup writes, and what refuses it.
-use Rattle.std.specs.Prelude.{ℕ, ◌≡◌, List, map, ◌++◌, ◌⊎◌, Option, Some, option_map, Result, Ok, Err, IfSome, IsOk}
+use Rattle.std.specs.Prelude.{ℕ, ◌≡◌, List, [], map, ◌++◌, ◌⊎◌, Option, Some, option_map, Result, Ok, Err, IfSome, IsOk}
 use Rattle.std.specs.Result.{result_err}
 use Rattle.std.specs.Io.KnownBytes.{Keeps, Appends}
 use Rattle.floor_core.specs.Forwards.{AreForwards, no_frames}
@@ -93,6 +93,11 @@ Prints names steps before after old new =
 -- those lines were written
 abbrev pub WritesLines : List (List ℕ) → World → List Step → Option (List ℕ) → Option (List ℕ) → Type 0
 WritesLines names world steps old new = (text : List ℕ) × ArePrinted names world steps text × Appends old new text
+
+-- the lines of the first of these steps were written, each whole: of those that lead to the last world
+abbrev pub WritesDone : List (List ℕ) → World → List Step → World → Option (List ℕ) → Option (List ℕ) → Type 0
+WritesDone names world steps last old new =
+    (done rest : List Step) × (done ++ rest ≡ steps) × (text : List ℕ) × Prints names done world last [] text × Appends old new text
 
 -- or a front of them
 abbrev pub WritesSome : List (List ℕ) → World → List Step → Option (List ℕ) → Option (List ℕ) → Type 0

@@ -3,7 +3,7 @@
 ghost use Rattle.std.specs.Prelude.{◌≡◌, ◌≢◌, ◌≤◌, ◌<◌, ◌⊎◌, ◌↔◌, ◌+◌, ◌∷◌, [], ℕ, List, OnOk, OnErr, IfOk, IfErr, IfSome, IsOk, None, Ok, Err, map, length};
 ghost use Rattle.std.specs.Io.KnownBytes.{Keeps, Appends};
 ghost use Rattle.replay_text.specs.Replay.{names_in, refusal_of, IsRefusedBy, Prints, WritesAll, LeavesWritten};
-ghost use Rattle.replay_text.specs.Replay.{IsReplayedFor, LeavesWrittenFor, WritesLines, WritesSome, world_of_setup};
+ghost use Rattle.replay_text.specs.Replay.{IsReplayedFor, LeavesWrittenFor, WritesDone, WritesLines, WritesSome, world_of_setup};
 ghost use Rattle.admin_text.specs.Setup.{setup_of};
 ghost use Rattle.floor_core.specs.FloorView.{Fits, HasRoom, world_of};
 ghost use Rattle.tenant_core.specs.Limits.{max_tenants};
@@ -26,6 +26,27 @@ use thiserror::Error;
 
 /// How many bytes of lines are written as soon as there are so many.
 const LONG: usize = 65_536;
+
+/// Room for the lines of any step: a frame of 34,000 bytes in digits, or 256 balances, and some words beside.
+const STEP_ROOM: usize = 70_000;
+
+/// How far a list of steps went.
+#[derive(Clone, Copy, Debug, PartialEq, Eq)]
+enum Course {
+    /// All steps were done.
+    Whole,
+    /// Memory was refused before a step: those before it were done.
+    Cut,
+}
+
+/// Where memory was refused in a step.
+#[derive(Clone, Copy, Debug, PartialEq, Eq)]
+enum Refusal {
+    /// Before it: nothing of it has happened.
+    Before,
+    /// Behind it, for its lines.
+    Behind,
+}
 
 /// Why a replay ended early.
 #[derive(Clone, Copy, Debug, PartialEq, Eq, Error)]
@@ -77,18 +98,28 @@ fn run_step(
     names: &[Name],
     step: &Step,
     text: &mut Vec<u8>,
-) -> Result<(), AllocError>
+) -> Result<(), Refusal>
     requires fits { Fits floor.old step.now }
     requires room { HasRoom floor.old 1 }
     ensures printed { OnOk result (Prints names.now (step.now ∷ []) (world_of floor.old) (world_of floor.new)
         text.old.items text.new.items) }
+    ensures undone { result ≡ Err Refusal.Before → floor.new ≡ floor.old }
+    ensures unprinted { result ≡ Err Refusal.Before → text.new.items ≡ text.old.items }
     ensures workers { length floor.new.seats ≡ length floor.old.seats }
     ensures tenants { length floor.new.books ≡ length floor.old.books }
     ensures room { (n : ℕ) → HasRoom floor.old (1 + n) → HasRoom floor.new n }
 {
     outputs_are_there();
-    let told = floor.step(alloc, step)?;
-    put_told(names, text, floor, &told)
+    if text.reserve(STEP_ROOM).is_err() {
+        return Err(Refusal::Before);
+    }
+    let Ok(told) = floor.step(alloc, step) else {
+        return Err(Refusal::Before);
+    };
+    let Ok(()) = put_told(names, text, floor, &told) else {
+        return Err(Refusal::Behind);
+    };
+    Ok(())
 }
 
 // Does what a line says that is not bad, and puts the lines of its output behind a text.
@@ -100,19 +131,24 @@ fn run_line(
     line: &[u8],
     room: &mut Vec<u8>,
     text: &mut Vec<u8>,
-) -> Result<(), AllocError>
+) -> Result<(), Refusal>
     requires good { ¬ (IsBad names.now workers line.now) }
     requires workers { length floor.old.seats ≡ workers }
     requires tenants { length floor.old.books ≡ length names.now }
     requires room { HasRoom floor.old 1 }
     ensures printed { OnOk result (Prints names.now (steps_in names.now workers (line.now ∷ []))
         (world_of floor.old) (world_of floor.new) text.old.items text.new.items) }
+    ensures undone { result ≡ Err Refusal.Before → floor.new ≡ floor.old }
+    ensures unprinted { result ≡ Err Refusal.Before → text.new.items ≡ text.old.items }
     ensures workers { length floor.new.seats ≡ length floor.old.seats }
     ensures tenants { length floor.new.books ≡ length floor.old.books }
     ensures room { (n : ℕ) → HasRoom floor.old (1 + n) → HasRoom floor.new n }
 {
     outputs_are_there();
-    match meaning_of(alloc, names, workers, line, room)? {
+    let Ok(meaning) = meaning_of(alloc, names, workers, line, room) else {
+        return Err(Refusal::Before);
+    };
+    match meaning {
         Meaning::Skipped => Ok(()),
         Meaning::Runs(step) => run_step(alloc, floor, names, &step, text),
         Meaning::Bad => unreachable!(),
@@ -141,7 +177,7 @@ fn write_if_long<W: Write + Device>(
 }
 
 // Does what the lines of a script say, none of which is bad, and writes the lines of the outputs, as soon as there are
-// many.
+// many. Where memory is refused, the lines of the steps that were done are written.
 fn run_lines<W: Write + Device>(
     alloc: Global,
     floor: &mut Floor,
@@ -150,14 +186,16 @@ fn run_lines<W: Write + Device>(
     script: &[u8],
     writer: &mut W,
     before: u64,
-) -> Result<(), StreamFault>
+) -> Result<Course, StreamFault>
     requires good { NoneIsBad names.now workers (lines_of script.now) }
     requires workers { length floor.old.seats ≡ workers }
     requires tenants { length floor.old.books ≡ length names.now }
     requires room { HasRoom floor.old (length script.now) }
     requires unfailed { W.failure_count writer.old ≤ before }
-    ensures written { OnOk result (WritesLines names.now (world_of floor.old)
-        (steps_in names.now workers (lines_of script.now)) (W.contents writer.old) (W.contents writer.new)) }
+    ensures written { result ≡ Ok Course.Whole → WritesLines names.now (world_of floor.old)
+        (steps_in names.now workers (lines_of script.now)) (W.contents writer.old) (W.contents writer.new) }
+    ensures done { result ≡ Ok Course.Cut → WritesDone names.now (world_of floor.old)
+        (steps_in names.now workers (lines_of script.now)) (world_of floor.new) (W.contents writer.old) (W.contents writer.new) }
     ensures front { WritesSome names.now (world_of floor.old)
         (steps_in names.now workers (lines_of script.now)) (W.contents writer.old) (W.contents writer.new) }
     ensures size { result ≢ Err StreamFault.Size }
@@ -170,13 +208,19 @@ fn run_lines<W: Write + Device>(
     let mut rest = script;
     while !rest.is_empty() {
         let (line, after) = first_line(rest);
-        let Ok(()) = run_line(alloc, floor, names, workers, line, &mut room, &mut text) else {
-            return Err(StreamFault::Memory);
-        };
+        match run_line(alloc, floor, names, workers, line, &mut room, &mut text) {
+            Ok(()) => {}
+            Err(Refusal::Before) => {
+                write_text(writer, text.as_slice(), before)?;
+                return Ok(Course::Cut);
+            }
+            Err(Refusal::Behind) => return Err(StreamFault::Memory),
+        }
         write_if_long(writer, &mut text, before)?;
         rest = after;
     }
-    write_text(writer, text.as_slice(), before)
+    write_text(writer, text.as_slice(), before)?;
+    Ok(Course::Whole)
 }
 
 // The script that the reader has left, for the setup's tenants.
@@ -237,9 +281,9 @@ fn run_script<W: Write + Device>(
         return Err(ReplayFault::Memory);
     };
     match run_lines(alloc, &mut floor, names, workers, script, writer, before) {
-        Ok(()) => Ok(()),
+        Ok(Course::Whole) => Ok(()),
         Err(StreamFault::Device) => Err(ReplayFault::Device),
-        Err(_) => Err(ReplayFault::Memory),
+        Ok(Course::Cut) | Err(_) => Err(ReplayFault::Memory),
     }
 }
 

@@ -1,10 +1,11 @@
 use Rattle.std.proofs.Common.{◌≡◌, ◌+◌, List, [], ◌∷◌, ◌++◌, length, sym, ap, subst, ◌∙◌, arith}
 use Rattle.std.proofs.lemmas.List.{nil_from_length}
 use Rattle.std.proofs.lemmas.Bool.{eqb-true}
-use Rattle.floor_core.specs.FloorView.{world_of}
+use Rattle.floor_core.specs.FloorView.{FloorState, world_of}
 use Rattle.floor_core.specs.declared.step.Step.{Step}
+use Rattle.replay_text.specs.Replay.{WritesDone}
 use Rattle.replay_text.specs.Script.{lines_of, steps_in, NoneIsBad}
-use Rattle.replay_text.proofs.Pieces.{Laws, Far, not_far, farther, written_farther, some_written, written_before, all_written_unless, room_for_fewer}
+use Rattle.replay_text.proofs.Pieces.{Laws, Far, not_far, farther, written_farther, some_written, written_before, all_written, done_written, room_for_fewer}
 use Rattle.replay_text.proofs.Scripts.{steps_behind}
 use Rattle.replay_text.proofs.replays.run_lines.Goals as goal
 
@@ -27,12 +28,6 @@ run_line-requires-clause-good g c = (subst (NoneIsBad c.args.names.now c.args.wo
 
 pub run_line-requires-clause-room : goal.run_line-requires-clause-room
 run_line-requires-clause-room g c = room_for_fewer c.loop-rest.floor 1 (length c.loop-rest.rest.now) (omega (arith, c.first_line.ensures.shorter)) c.loop-rest.invariant.room
-
-pub returns-in_default-clause-front : goal.returns-in_default-clause-front
-returns-in_default-clause-front g c =
-    let laws : Laws = record { outputs = c.one_after_the_other.ensures.outputs; left = c.one_after_the_other.ensures.left; replies = c.outputs_are_there.ensures.outputs; after = c.outputs_are_there.ensures.left } in
-    written_before laws c.args.names.now (world_of c.args.floor.now) (world_of c.loop-rest.floor) (steps_in c.args.names.now c.args.workers (lines_of c.args.script.now)) (steps_in c.args.names.now c.args.workers (lines_of c.loop-rest.rest.now)) c.loop-rest.text.items
-    (g.W.Write.contents c.args.writer.now) (g.W.Write.contents c.loop-rest.writer) c.loop-rest.invariant.far
 
 pub returns-in_err-write_if_long-clause-front : goal.returns-in_err-write_if_long-clause-front
 returns-in_err-write_if_long-clause-front g c =
@@ -73,18 +68,69 @@ loop-rest-preserved g c =
       unfailed = grind arith;
     }
 
+pub returns-in_err-write_text-in-Err-Before-clause-front : goal.returns-in_err-write_text-in-Err-Before-clause-front
+returns-in_err-write_text-in-Err-Before-clause-front g c =
+    let laws : Laws = record { outputs = c.one_after_the_other.ensures.outputs; left = c.one_after_the_other.ensures.left; replies = c.outputs_are_there.ensures.outputs; after = c.outputs_are_there.ensures.left } in
+    let names = c.args.names.now in
+    let workers = c.args.workers in
+    let old = g.W.Write.contents c.args.writer.now in
+    let between = g.W.Write.contents c.loop-rest.writer in
+    let steps : List Step = steps_in names workers (lines_of c.args.script.now) in
+    let rest : List Step = steps_in names workers (lines_of c.loop-rest.rest.now) in
+    let before = rw c.in-Err-Before.field-0-is at c.in-Err-Before.is in
+    let far = subst (λ t. Far names (world_of c.args.floor.now) (world_of c.loop-rest.floor) steps rest t old between) (sym (c.run_line.ensures.unprinted before)) c.loop-rest.invariant.far in
+    some_written laws names (world_of c.args.floor.now) (world_of c.loop-rest.floor) steps rest c.run_line.new.text.items old between (g.W.Write.contents c.write_text.new.writer) far (rw c.as_slice.ensures.value at c.write_text.ensures.front)
+
+pub returns-in-Err-Before-clause-front : goal.returns-in-Err-Before-clause-front
+returns-in-Err-Before-clause-front g c =
+    let laws : Laws = record { outputs = c.one_after_the_other.ensures.outputs; left = c.one_after_the_other.ensures.left; replies = c.outputs_are_there.ensures.outputs; after = c.outputs_are_there.ensures.left } in
+    let names = c.args.names.now in
+    let workers = c.args.workers in
+    let old = g.W.Write.contents c.args.writer.now in
+    let between = g.W.Write.contents c.loop-rest.writer in
+    let steps : List Step = steps_in names workers (lines_of c.args.script.now) in
+    let rest : List Step = steps_in names workers (lines_of c.loop-rest.rest.now) in
+    let before = rw c.in-Err-Before.field-0-is at c.in-Err-Before.is in
+    let far = subst (λ t. Far names (world_of c.args.floor.now) (world_of c.loop-rest.floor) steps rest t old between) (sym (c.run_line.ensures.unprinted before)) c.loop-rest.invariant.far in
+    some_written laws names (world_of c.args.floor.now) (world_of c.loop-rest.floor) steps rest c.run_line.new.text.items old between (g.W.Write.contents c.write_text.new.writer) far (rw c.as_slice.ensures.value at c.write_text.ensures.front)
+
+pub returns-in-Err-Before-clause-done : goal.returns-in-Err-Before-clause-done
+returns-in-Err-Before-clause-done g c = λ e.
+    let names = c.args.names.now in
+    let workers = c.args.workers in
+    let old = g.W.Write.contents c.args.writer.now in
+    let between = g.W.Write.contents c.loop-rest.writer in
+    let steps : List Step = steps_in names workers (lines_of c.args.script.now) in
+    let rest : List Step = steps_in names workers (lines_of c.loop-rest.rest.now) in
+    let before = rw c.in-Err-Before.field-0-is at c.in-Err-Before.is in
+    let far = subst (λ t. Far names (world_of c.args.floor.now) (world_of c.loop-rest.floor) steps rest t old between) (sym (c.run_line.ensures.unprinted before)) c.loop-rest.invariant.far in
+    let done = done_written names (world_of c.args.floor.now) (world_of c.loop-rest.floor) steps rest c.run_line.new.text.items old between (g.W.Write.contents c.write_text.new.writer) far (rw c.as_slice.ensures.value at c.in_ok-write_text-in-Err-Before.ensures.whole) in
+    subst (λ (f : FloorState). WritesDone names (world_of c.args.floor.now) steps (world_of f) old (g.W.Write.contents c.write_text.new.writer)) (sym (c.run_line.ensures.undone before)) done
+
+pub returns-in-Err-Behind-clause-front : goal.returns-in-Err-Behind-clause-front
+returns-in-Err-Behind-clause-front g c =
+    let laws : Laws = record { outputs = c.one_after_the_other.ensures.outputs; left = c.one_after_the_other.ensures.left; replies = c.outputs_are_there.ensures.outputs; after = c.outputs_are_there.ensures.left } in
+    written_before laws c.args.names.now (world_of c.args.floor.now) (world_of c.loop-rest.floor) (steps_in c.args.names.now c.args.workers (lines_of c.args.script.now)) (steps_in c.args.names.now c.args.workers (lines_of c.loop-rest.rest.now)) c.loop-rest.text.items
+    (g.W.Write.contents c.args.writer.now) (g.W.Write.contents c.loop-rest.writer) c.loop-rest.invariant.far
+
 pub returns-clause-written : goal.returns-clause-written
-returns-clause-written g c =
+returns-clause-written g c = λ e.
     let names = c.args.names.now in
     let workers = c.args.workers in
     let none : c.loop-rest.rest.now ≡ [] = nil_from_length _ (eqb-true _ _ (sym c.loop-rest-test.ensures)) in
     let steps : List Step = steps_in names workers (lines_of c.args.script.now) in
     let far = subst (λ t. Far names (world_of c.args.floor.now) (world_of c.loop-rest.floor) steps (steps_in names workers (lines_of t)) c.loop-rest.text.items (g.W.Write.contents c.args.writer.now) (g.W.Write.contents c.loop-rest.writer)) none c.loop-rest.invariant.far in
-    all_written_unless names (world_of c.args.floor.now) (world_of c.loop-rest.floor) steps c.loop-rest.text.items (g.W.Write.contents c.args.writer.now) (g.W.Write.contents c.loop-rest.writer) (g.W.Write.contents c.write_text.new.writer) c.write_text.result far
-    (rw c.as_slice.ensures.value at c.write_text.ensures.whole)
+    all_written names (world_of c.args.floor.now) (world_of c.loop-rest.floor) steps c.loop-rest.text.items (g.W.Write.contents c.args.writer.now) (g.W.Write.contents c.loop-rest.writer) (g.W.Write.contents c.write_text-2.new.writer) far
+    (rw c.as_slice-2.ensures.value at c.in_ok-write_text.ensures.whole)
+
+pub returns-in_err-write_text-clause-front : goal.returns-in_err-write_text-clause-front
+returns-in_err-write_text-clause-front g c =
+    let laws : Laws = record { outputs = c.one_after_the_other.ensures.outputs; left = c.one_after_the_other.ensures.left; replies = c.outputs_are_there.ensures.outputs; after = c.outputs_are_there.ensures.left } in
+    some_written laws c.args.names.now (world_of c.args.floor.now) (world_of c.loop-rest.floor) (steps_in c.args.names.now c.args.workers (lines_of c.args.script.now)) (steps_in c.args.names.now c.args.workers (lines_of c.loop-rest.rest.now)) c.loop-rest.text.items
+    (g.W.Write.contents c.args.writer.now) (g.W.Write.contents c.loop-rest.writer) (g.W.Write.contents c.write_text-2.new.writer) c.loop-rest.invariant.far (rw c.as_slice-2.ensures.value at c.write_text-2.ensures.front)
 
 pub returns-clause-front : goal.returns-clause-front
 returns-clause-front g c =
     let laws : Laws = record { outputs = c.one_after_the_other.ensures.outputs; left = c.one_after_the_other.ensures.left; replies = c.outputs_are_there.ensures.outputs; after = c.outputs_are_there.ensures.left } in
     some_written laws c.args.names.now (world_of c.args.floor.now) (world_of c.loop-rest.floor) (steps_in c.args.names.now c.args.workers (lines_of c.args.script.now)) (steps_in c.args.names.now c.args.workers (lines_of c.loop-rest.rest.now)) c.loop-rest.text.items
-    (g.W.Write.contents c.args.writer.now) (g.W.Write.contents c.loop-rest.writer) (g.W.Write.contents c.write_text.new.writer) c.loop-rest.invariant.far (rw c.as_slice.ensures.value at c.write_text.ensures.front)
+    (g.W.Write.contents c.args.writer.now) (g.W.Write.contents c.loop-rest.writer) (g.W.Write.contents c.write_text-2.new.writer) c.loop-rest.invariant.far (rw c.as_slice-2.ensures.value at c.write_text-2.ensures.front)
