@@ -29,6 +29,10 @@ fn prices_and_greatest_amounts(rt: HostRuntime) -> Result<(), Fail> {
             "{limit} and {max}"
         );
     }
+    assert!(rt; half_more.price_less(1_000, 500) == Some(1_000));
+    assert!(rt; half_more.price_less(1_000, 1_500) == Some(0));
+    assert!(rt; half_more.price_less(1_000, 1_501) == None);
+    assert!(rt; half_more.price_less(0, 0) == Some(0));
     let dearest = Rate::new(1_000_000_000_000, 1)?;
     assert!(rt; dearest.greatest(1 << 62, 1 << 62) == 4_611_686);
     Ok(())

@@ -1,7 +1,7 @@
 //! Routes: the longest prefix by whole segments (RFC 0015).
 
 use ilp_addr::{Address, Prefix};
-use route_table::{PeerNo, RouteFault, Routes};
+use route_table::{Fee, Hop, PeerNo, RouteFault, Routes};
 use std::alloc::Global;
 use std::process::Abort;
 use std::test::Fail;
@@ -12,7 +12,18 @@ fn prefix(alloc: Global, bytes: &[u8]) -> Result<Prefix, Fail> {
 
 fn peer_for(routes: &Routes, destination: &[u8]) -> Result<Option<PeerNo>, Fail> {
     let destination = Address::parse(destination).ok().ok_or("an address")?;
-    Ok(routes.find(&destination))
+    let Some(hop) = routes.find(&destination) else {
+        return Ok(None);
+    };
+    if hop.fee.get() != fee_of(hop.peer) {
+        return Err(Fail::from("its fee"));
+    }
+    Ok(Some(hop.peer))
+}
+
+// Each peer's routes have a fee of their own.
+fn fee_of(peer: PeerNo) -> u64 {
+    u64::from(peer).saturating_mul(10)
 }
 
 fn add(
@@ -21,7 +32,8 @@ fn add(
     bytes: &[u8],
     peer: PeerNo,
 ) -> Result<Result<(), RouteFault>, Fail> {
-    Ok(routes.add(prefix(alloc, bytes)?, peer))
+    let fee = Fee::new(fee_of(peer)).ok_or("a fee")?;
+    Ok(routes.add(prefix(alloc, bytes)?, Hop { peer, fee }))
 }
 
 fn remove(

@@ -23,7 +23,7 @@ use std::process::Abort;
 use std::sync::Wait;
 use std::test::Fail;
 use tenant_core::{
-    Balance, Book, BucketTerms, Level, Network, PeerLimits, PeerTerms, RateTerms, Role,
+    Balance, Book, BucketTerms, Fee, Hop, Level, Network, PeerLimits, PeerTerms, RateTerms, Role,
     TenantSetup, TenantTerms,
 };
 

@@ -7,7 +7,7 @@ use std::alloc::Global;
 use std::process::Abort;
 use std::test::Fail;
 use tenant_core::{
-    AnswerKey, Balance, Book, BookFault, BucketTerms, CommandFault, Expiry, HoldFault, Level,
+    AnswerKey, Balance, Book, BookFault, BucketTerms, CommandFault, Expiry, HoldFault, Hop, Level,
     Network, PeerLimits, PeerTerms, PrepareKey, RateTerms, RejectCode, Role, TenantSetup,
     TenantTerms, Verdict, number_named,
 };
