@@ -1,8 +1,11 @@
 //! How the program ends.
 
-ghost use Rattle.std.specs.Prelude.{◌≡◌};
+ghost use Rattle.std.specs.Prelude.{◌≡◌, ◌≢◌};
+ghost use Rattle.clap.specs.Values.{kind_of};
+ghost use Rattle.clap.specs.declared.error.kind.ErrorKind.TheVariants.{OutOfMemory};
 ghost use Rattle.ilpd.specs.Endings.{exit_status};
 
+use clap::error::ErrorKind;
 use replay_text::ReplayFault;
 
 /// Why the program ended early.
@@ -13,6 +16,18 @@ pub enum Ending {
     Fault(ReplayFault),
     /// The books that a service ended with are not what its workers counted.
     Differs,
+}
+
+/// How a run ends whose words were not taken: for want of memory where they were refused it, and else with the text for
+/// people.
+pub fn words_refused(error: clap::Error) -> Ending
+    ensures memory { kind_of error ≡ OutOfMemory → result ≡ Ending.Fault ReplayFault.Memory }
+    ensures text { kind_of error ≢ OutOfMemory → result ≡ Ending.Usage error }
+{
+    if error.kind() == ErrorKind::OutOfMemory {
+        return Ending::Fault(ReplayFault::Memory);
+    }
+    Ending::Usage(error)
 }
 
 /// The exit status of a run that ended so: 0 only where nothing went wrong.

@@ -29,7 +29,7 @@ use admin_text::{explain, read_setup};
 use clock::SystemClock;
 use command_line::{Task, arguments};
 use common_types::ReadError;
-use ending::{Ending, exit_status};
+use ending::{Ending, exit_status, words_refused};
 use oer_core::Counted;
 pub use replay_text::{ReplayFault, replay};
 pub use serving::{Extent, ServeFault, serve};
@@ -144,7 +144,7 @@ fn run<
         .map_err(fault_of)?
         .collect(alloc)
         .map_err(|_| Ending::Fault(ReplayFault::Memory))?;
-    let line = arguments(alloc, words.as_slice()).map_err(Ending::Usage)?;
+    let line = arguments(alloc, words.as_slice()).map_err(words_refused)?;
     let setup = fs::read(rt, line.setup).map_err(fault_of)?;
     match line.task {
         Task::Check => check(rt, setup.as_slice()),

@@ -1,0 +1,63 @@
+//! Why a trial ended early.
+
+use replay_text::ReplayFault;
+use std::alloc::{AllocError, AllocFailed};
+use std::io;
+use std::io::ErrorKind;
+use thiserror::Error;
+
+#[derive(Clone, Copy, Debug, PartialEq, Eq, Error)]
+pub enum Fault {
+    #[error("out of memory")]
+    Memory,
+    /// The words ask for no trial.
+    #[error("words: steps SETUP SCRIPT, or crowd ROUNDS STEPS, one after another")]
+    Words,
+    /// A file can't be read, or a line not be printed.
+    #[error("device")]
+    Device,
+    /// A setup or a script that is none.
+    #[error("{0}")]
+    Replay(ReplayFault),
+    /// A script whose steps make no list.
+    #[error("no such steps")]
+    Steps,
+    /// The round in which the calm tenant did not see what it sees alone.
+    #[error("round {0}: the calm tenant sees other lines than alone")]
+    Differs(u32),
+    /// Hostile tenants did not come to each kind of line.
+    #[error("the crowd is not hostile enough")]
+    Unseen,
+}
+
+impl From<AllocError> for Fault {
+    fn from(_error: AllocError) -> Fault {
+        Fault::Memory
+    }
+}
+
+impl<T: Drop> From<AllocFailed<T>> for Fault {
+    fn from(_error: AllocFailed<T>) -> Fault {
+        Fault::Memory
+    }
+}
+
+impl From<io::Error> for Fault {
+    fn from(error: io::Error) -> Fault {
+        if error.kind() == ErrorKind::OutOfMemory {
+            Fault::Memory
+        } else {
+            Fault::Device
+        }
+    }
+}
+
+impl From<ReplayFault> for Fault {
+    fn from(fault: ReplayFault) -> Fault {
+        if fault == ReplayFault::Memory {
+            Fault::Memory
+        } else {
+            Fault::Replay(fault)
+        }
+    }
+}

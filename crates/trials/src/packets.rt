@@ -1,0 +1,123 @@
+//! Packets of a crowd, and what comes back for them, in hexadecimal digits. (RFC 0027)
+
+use crate::draws::Draws;
+use std::alloc::{AllocError, Global};
+
+/// How many milliseconds a script's moments may go past its beginning: its dates are of one hour.
+pub const HOUR: u64 = 3_600_000;
+
+// The SHA-256 of 32 zero bytes.
+const CONDITION: [u8; 32] = [
+    0x66, 0x68, 0x7a, 0xad, 0xf8, 0x62, 0xbd, 0x77, 0x6c, 0x8f, 0xc1, 0x8b, 0x8e, 0x9f, 0x8e, 0x20,
+    0x08, 0x97, 0x14, 0x85, 0x6e, 0xe2, 0x33, 0xb3, 0x90, 0x2a, 0x59, 0x1d, 0x0d, 0x5f, 0x29, 0x25,
+];
+
+const ZEROS: &str = "00000000000000000000000000000000000000000000000000000000000000";
+
+/// A Prepare: what it is worth, how many milliseconds after 2030-01-01T00:00Z it expires, where it goes, and how many bytes of
+/// data it has.
+#[derive(Clone, Copy)]
+pub struct Prepare<'a> {
+    pub amount: u64,
+    pub expiry: u64,
+    pub destination: &'a str,
+    pub payload: usize,
+}
+
+fn part(number: u64, unit: u64, count: u64) -> u64 {
+    let units = number.checked_div(unit).unwrap_or(0);
+    units.checked_rem(count).unwrap_or(0)
+}
+
+// The 17 digits of a moment in the first hour of 2030.
+fn timestamp(alloc: Global, millis: u64) -> Result<String, AllocError> {
+    let minutes = part(millis, 60_000, 60);
+    let seconds = part(millis, 1_000, 60);
+    let rest = part(millis, 1, 1_000);
+    format!(in alloc; "2030010100{minutes:02}{seconds:02}{rest:03}")
+}
+
+fn put_string(out: &mut Vec<u8>, bytes: &[u8]) -> Result<(), AllocError> {
+    put_length(out, bytes.len())?;
+    out.extend_from_slice(bytes)
+}
+
+// A length up to 255 in its shortest spelling.
+fn put_length(out: &mut Vec<u8>, length: usize) -> Result<(), AllocError> {
+    let byte = u8::try_from(length).unwrap_or(255);
+    if byte >= 128 {
+        out.push(0x81)?;
+    }
+    out.push(byte)?;
+    Ok(())
+}
+
+fn contents(alloc: Global, prepare: &Prepare<'_>) -> Result<Vec<u8>, AllocError> {
+    let mut out = Vec::from_slice(alloc, &prepare.amount.to_be_bytes())?;
+    out.extend_from_slice(timestamp(alloc, prepare.expiry)?.as_bytes())?;
+    out.extend_from_slice(&CONDITION)?;
+    put_string(&mut out, prepare.destination.as_bytes())?;
+    let payload = vec![in alloc; 0xaa; prepare.payload.min(100)]?;
+    put_string(&mut out, payload.as_slice())?;
+    Ok(out)
+}
+
+/// The frame of a Prepare.
+pub fn frame_of(alloc: Global, prepare: &Prepare<'_>) -> Result<Vec<u8>, AllocError> {
+    let mut frame = Vec::from_slice(alloc, &[12])?;
+    put_string(&mut frame, contents(alloc, prepare)?.as_slice())?;
+    Ok(frame)
+}
+
+/// What a hostile peer sends: a packet that is none, is too late, too large, for nobody, for its own configuration, or good.
+pub fn hostile_frame(
+    alloc: Global,
+    draws: &mut Draws,
+    name: &str,
+    millis: u64,
+) -> Result<String, AllocError> {
+    let mut destination = format!(in alloc; "g.{name}.bob.x")?;
+    let mut prepare = Prepare {
+        amount: draws.below(1_200),
+        expiry: millis.saturating_add(draws.below(40_000)),
+        destination: "g.other",
+        payload: 0,
+    };
+    match draws.below(24) {
+        0 => return String::from_str(alloc, draws.one_of(&["0c80", "0c89", "-", "0d", "0cff"])),
+        1 => prepare.expiry = millis,
+        2 => prepare.amount = 1 << 63,
+        3 => destination = String::from_str(alloc, "g.other")?,
+        4 | 5 => destination = String::from_str(alloc, "peer.config")?,
+        6 | 11 => {
+            destination = String::from_str(alloc, "peer.config")?;
+            prepare.amount = 0;
+        }
+        12 => destination = format!(in alloc; "peer.{name}")?,
+        7..=9 => prepare.payload = 100,
+        10 => destination = String::from_str(alloc, "g..x")?,
+        _ => {}
+    }
+    prepare.destination = destination.as_str();
+    let mut frame = frame_of(alloc, &prepare)?;
+    match draws.below(40) {
+        0 => frame.push(0)?,
+        1 => {
+            let _ = frame.pop();
+        }
+        2 if draws.is_one_in(4) => frame = vec![in alloc; 12; 34_001]?,
+        _ => {}
+    }
+    hex::encode(alloc, frame.as_slice())
+}
+
+/// What comes back from a next peer: what fulfills, what does not, a Reject, bytes that are neither, or nothing.
+pub fn answer(alloc: Global, draws: &mut Draws) -> Result<String, AllocError> {
+    match draws.below(10) {
+        0 => String::from_str(alloc, "fault"),
+        1 => format!(in alloc; "0d21{ZEROS}0100"),
+        2 => String::from_str(alloc, "0e0746303001410000"),
+        3 => String::from_str(alloc, draws.one_of(&["-", "0d21", "0e80", "0c00"])),
+        _ => format!(in alloc; "0d21{ZEROS}0000"),
+    }
+}

@@ -1,0 +1,199 @@
+//! Scripts of a crowd: steps of hostile tenants and of a calm one, by the same workers.
+
+use crate::draws::Draws;
+use crate::orders::hostile_command;
+use crate::packets::{HOUR, Prepare, answer, frame_of, hostile_frame};
+use std::alloc::{AllocError, Global};
+
+// 2030-01-01T00:00:00Z, when all books begin, and the greatest moment.
+const START: u64 = 1_893_456_000_000;
+
+const LATEST: u64 = 253_400_000_000_000;
+
+/// The tenant whose lines are to be its own.
+pub const CALM: &str = "calm";
+
+static HOSTILE: [&str; 9] = ["h0", "h1", "h2", "h3", "h4", "h5", "h6", "h7", "h8"];
+
+// How many places the journal of each hostile tenant has.
+static JOURNALS: [u64; 9] = [2, 3, 5, 8, 13, 21, 34, 55, 89];
+
+const CALM_JOURNAL: u64 = 200;
+
+const PEER: &str = "url = \"http://127.0.0.1/\"\nout_token = \"out\"\nasset = \"USD\"\nscale = 2\n\
+cap = 1000000\nceiling = 1000000\ncredit = 1000000\nburst = 1000\nper_second = 1000\n";
+
+fn put_tenant(
+    alloc: Global,
+    setup: &mut String,
+    name: &str,
+    journal: u64,
+) -> Result<(), AllocError> {
+    let tenant = format!(in alloc;
+        "[[tenant]]\nname = \"{name}\"\naddress = \"g.{name}\"\nadmin = \"root\"\njournal = {journal}\n"
+    )?;
+    setup.push_str(tenant.as_str())?;
+    for (peer, role) in [("alice", "peer"), ("bob", "child")] {
+        let begin = format!(in alloc;
+            "[[tenant.peer]]\nname = \"{peer}\"\nrole = \"{role}\"\ntoken = \"tok-{peer}\"\n"
+        )?;
+        setup.push_str(begin.as_str())?;
+        setup.push_str(PEER)?;
+    }
+    let ways = format!(in alloc; "[[tenant.route]]\nprefix = \"g.{name}.bob\"\npeer = \"bob\"\n")?;
+    setup.push_str(ways.as_str())?;
+    setup.push_str("[[tenant.rate]]\nfrom = \"alice\"\nto = \"bob\"\nnum = 3\nden = 2\n")
+}
+
+fn begun(alloc: Global) -> Result<String, AllocError> {
+    String::from_str(alloc, "version = 1\nstart = 1893456000000\n")
+}
+
+/// The setup of the calm tenant alone.
+pub fn setup_alone(alloc: Global) -> Result<String, AllocError> {
+    let mut setup = begun(alloc)?;
+    put_tenant(alloc, &mut setup, CALM, CALM_JOURNAL)?;
+    Ok(setup)
+}
+
+/// The setup of all ten.
+pub fn setup_of_all(alloc: Global) -> Result<String, AllocError> {
+    let mut setup = begun(alloc)?;
+    for (name, journal) in HOSTILE.iter().zip(JOURNALS.iter()) {
+        put_tenant(alloc, &mut setup, name, *journal)?;
+    }
+    put_tenant(alloc, &mut setup, CALM, CALM_JOURNAL)?;
+    Ok(setup)
+}
+
+/// Where a script stands: what is drawn next, how many workers there are, and how many milliseconds have gone by.
+#[derive(Drop)]
+struct Course {
+    draws: Draws,
+    workers: u64,
+    millis: u64,
+}
+
+impl Course {
+    fn worker(&mut self) -> u64 {
+        self.draws.below(self.workers)
+    }
+
+    // The next moment: a little later, or seldom so late that all that is held is over.
+    fn moment(&mut self) -> u64 {
+        let more = if self.draws.is_one_in(150) && self.millis < HOUR / 2 {
+            40_000
+        } else {
+            self.draws.below(20)
+        };
+        self.millis = self.millis.saturating_add(more).min(HOUR - 60_000);
+        START.saturating_add(self.millis)
+    }
+
+    // A moment of a hostile tenant's operator: at times the last one, or one that was.
+    fn operators_moment(&mut self) -> u64 {
+        match self.draws.below(60) {
+            0 => LATEST,
+            1 | 2 => START,
+            _ => self.moment(),
+        }
+    }
+}
+
+// A packet comes for a hostile tenant.
+fn hostile_load(alloc: Global, course: &mut Course, name: &str) -> Result<String, AllocError> {
+    let token = course.draws.one_of(&[
+        "tok-alice",
+        "tok-alice",
+        "tok-alice",
+        "tok-bob",
+        "tok-bob",
+        "tok-carol",
+        "tok-none",
+    ]);
+    let frame = hostile_frame(alloc, &mut course.draws, name, course.millis)?;
+    let worker = course.worker();
+    format!(in alloc; "load {worker} {name} {token} {frame}\n")
+}
+
+// A packet comes for the calm tenant: most of them can go on.
+fn calm_load(alloc: Global, course: &mut Course) -> Result<String, AllocError> {
+    let prepare = Prepare {
+        amount: course.draws.below(500),
+        expiry: course.millis.saturating_add(30_000),
+        destination: course
+            .draws
+            .one_of(&["g.calm.bob.x", "g.calm.bob", "g.calm.bob.y.z"]),
+        payload: usize::try_from(course.draws.below(100)).unwrap_or(0),
+    };
+    let frame = hex::encode(alloc, frame_of(alloc, &prepare)?.as_slice())?;
+    let worker = course.worker();
+    format!(in alloc; "load {worker} {CALM} tok-alice {frame}\n")
+}
+
+// What no tenant is named in: whoever's packet the worker has.
+fn workers_step(alloc: Global, course: &mut Course) -> Result<String, AllocError> {
+    let now = course.moment();
+    let worker = course.worker();
+    if course.draws.is_one_in(2) {
+        return format!(in alloc; "decide {worker} {now}\n");
+    }
+    let answer = answer(alloc, &mut course.draws)?;
+    format!(in alloc; "answer {worker} {now} {answer}\n")
+}
+
+fn hostile_order(alloc: Global, course: &mut Course, name: &str) -> Result<String, AllocError> {
+    let now = course.operators_moment();
+    if course.draws.is_one_in(3) {
+        let more = if course.draws.is_one_in(3) { 40_000 } else { 0 };
+        let late = now.saturating_add(more).min(LATEST);
+        return format!(in alloc; "tick {name} {late}\n");
+    }
+    let command = hostile_command(alloc, &mut course.draws, name)?;
+    format!(in alloc; "do {name} {now} {command}\n")
+}
+
+fn calm_order(alloc: Global, course: &mut Course) -> Result<String, AllocError> {
+    let now = course.moment();
+    let command = course.draws.one_of(&[
+        "balances",
+        "roll",
+        "peer limits bob 1000000 1000000 1000000",
+        "settle in alice 100",
+        "settle out bob 150",
+    ]);
+    if course.draws.is_one_in(4) {
+        return format!(in alloc; "tick {CALM} {now}\n");
+    }
+    format!(in alloc; "do {CALM} {now} {command}\n")
+}
+
+fn step(alloc: Global, course: &mut Course) -> Result<String, AllocError> {
+    let name = course.draws.one_of(&HOSTILE);
+    match course.draws.below(100) {
+        0..=49 => workers_step(alloc, course),
+        50..=68 => hostile_load(alloc, course, name),
+        69..=76 => calm_load(alloc, course),
+        77..=96 => hostile_order(alloc, course, name),
+        _ => calm_order(alloc, course),
+    }
+}
+
+/// A script of so many steps by so many workers.
+pub fn script(
+    alloc: Global,
+    draws: Draws,
+    workers: usize,
+    steps: u32,
+) -> Result<String, AllocError> {
+    let mut course = Course {
+        draws,
+        workers: workers as u64,
+        millis: 0,
+    };
+    let mut script = String::new(alloc);
+    for _ in 0..steps {
+        script.push_str(step(alloc, &mut course)?.as_str())?;
+    }
+    Ok(script)
+}
