@@ -7,5 +7,5 @@ pub mod OneText
 pub mod Boundary
 pub mod Hosts
 pub mod Ends
-pub mod OneTarget
+pub mod Targets
 pub mod Addresses

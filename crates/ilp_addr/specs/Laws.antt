@@ -1,8 +1,8 @@
 -- What holds of addresses, of timestamps and of moments, in the terms of their definitions.
-use Rattle.std.specs.Prelude.{◌≡◌, ◌≢◌, ◌≤◌, ◌∷◌, ◌↔◌, ℕ, List, [], pos, Ok, IsTrue, true, not, ◌==◌}
+use Rattle.std.specs.Prelude.{◌≡◌, ◌≢◌, ◌≤◌, ◌∷◌, ◌↔◌, ℕ, List, [], pos, Some, Ok, IsTrue, true, not, ◌==◌}
 use Rattle.std.specs.List.{list_all}
 use Rattle.ilp_addr.specs.Address.{IsAddress, address_at, IsPrefix, prefix_at, without_last_dot, Begins, begins_with}
-use Rattle.ilp_addr.specs.Target.{Parts, IsTarget}
+use Rattle.ilp_addr.specs.Target.{Parts, IsTarget, target_in}
 use Rattle.ilp_addr.specs.Timestamp.{IsTimestamp, is_timestamp, instant_of, moment_of, latest_expiry, timestamp_at}
 use Rattle.ilp_addr.specs.Timestamp.{timestamp_of}
 
@@ -33,9 +33,14 @@ pub record PrefixWordLaws : Type 0 where
   -- It has no space.
   pub prefix_has_no_space : (prefix : List ℕ) → IsPrefix prefix → list_all (λ b. not (b == 32)) prefix ≡ true
 
--- Targets: a URL and a token have one target at most.
-abbrev pub TargetLaw : Type 0
-TargetLaw = (url token : List ℕ) (a b : Parts) → IsTarget url token a → IsTarget url token b → a ≡ b
+-- Targets: reading agrees with what they are, and a URL and a token have one target at most.
+pub record TargetLaws : Type 0 where
+  -- What is read is the target of the two.
+  pub read_is_target : (url token : List ℕ) (t : Parts) → target_in url token ≡ Some t → IsTarget url token t
+  -- Their target is read.
+  pub target_is_read : (url token : List ℕ) (t : Parts) → IsTarget url token t → target_in url token ≡ Some t
+  -- There is one at most.
+  pub one_target : (url token : List ℕ) (a b : Parts) → IsTarget url token a → IsTarget url token b → a ≡ b
 
 -- Timestamps: reading agrees with what they are, and one names each moment (RFC 0027, "ILP Prepare").
 pub record TimestampLaws : Type 0 where

@@ -1,6 +1,6 @@
 //! Laws of addresses, prefixes, targets and timestamps, each the contract of a function that does nothing.
 
-ghost use Rattle.ilp_addr.specs.Laws.{AddressLaws, PrefixLaws, PrefixWordLaws, TargetLaw, TimestampLaws};
+ghost use Rattle.ilp_addr.specs.Laws.{AddressLaws, PrefixLaws, PrefixWordLaws, TargetLaws, TimestampLaws};
 
 /// What is read as an address is one, and each address is read. (RFC 0015, "Address Requirements")
 pub fn addresses()
@@ -18,9 +18,9 @@ pub fn prefix_words()
     ensures { PrefixWordLaws }
 {}
 
-/// A URL and a token have one target at most. (RFC 0035)
+/// What is read as a target is one, and each target is read; a URL and a token have one at most. (RFC 0035)
 pub fn targets()
-    ensures { TargetLaw }
+    ensures { TargetLaws }
 {}
 
 /// What is read as an expiry is a timestamp, and each timestamp is read; one timestamp names each
