@@ -1,9 +1,7 @@
 pub mod Texts
 pub mod Readings
-pub mod Found
-pub mod Orders
-pub mod Only
+pub mod Verbs
 pub mod Spaces
-pub mod PrefixWords
+pub mod Spelled
 pub mod Few
 pub mod OwnTerms

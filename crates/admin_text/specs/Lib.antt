@@ -8,4 +8,5 @@ pub mod Tenants
 pub mod Setup
 pub mod Wrong
 pub mod Spaces
+pub mod Fields
 pub mod Commands

@@ -1,27 +1,21 @@
 //! Commands: lines of text by which an operator governs a tenant.
 
-ghost use Rattle.std.specs.Prelude.{◌≡◌, drop, Ok, IfOk};
+ghost use Rattle.std.specs.Prelude.{◌≡◌, ◌∷◌, ◌&&◌, Ok, IfOk};
+ghost use Rattle.std.specs.Str.{bytes_eq};
 ghost use Rattle.common_types.specs.Outcomes.{GivesUnlessMemory};
 ghost use Rattle.tenant_core.specs.declared.command.Command as spec;
-ghost use Rattle.admin_text.specs.Commands.{name_in, token_in, asset_in, role_in, prefix_in, number_within, taken};
-ghost use Rattle.admin_text.specs.Commands.{ended, peer_taken, target_taken, limits_taken, bucket_taken, peer_left};
-ghost use Rattle.admin_text.specs.Commands.{peer_behind, peer_at_target, added_peer, removed_peer, limited_peer};
-ghost use Rattle.admin_text.specs.Commands.{bucketed_peer, changed_peer, added_route, removed_route, other_name_in};
-ghost use Rattle.admin_text.specs.Commands.{set_rate, settled, peer_order, route_order, rate_order, settle_order};
-ghost use Rattle.admin_text.specs.Commands.{ordered, alone, other_command, command_of, command_in, IsCommandText};
-ghost use Rattle.admin_text.specs.Commands.{target_first, target_among};
-ghost use Rattle.admin_text.specs.Commands.{AreForTarget, AreForPeer, AreForVerb, HasTarget};
+ghost use Rattle.admin_text.specs.Fields.{NUMBER, ROLE, PREFIX, TARGET, PAIR, role_in, taken, ended};
+ghost use Rattle.admin_text.specs.Commands.{NAME, TOKEN, ASSET, two_word_verbs, verb_among, verb_taken, command_behind, command_among};
+ghost use Rattle.admin_text.specs.Commands.{command_in, IsCommandText};
+ghost use Rattle.admin_text.specs.declared.commands.Verb.TheVariants as verb;
 
+use crate::laws::commands;
 use crate::prefixes::written_prefix;
-use common_types::laws::numerals;
 use common_types::{AssetCode, Between, Name, NumberFault, ReadError, Token, Words, number_in};
-use ilp_addr::laws::{prefixes, targets};
 use ilp_addr::{Prefix, Target};
 use money_core::Rate;
 use std::alloc::Global;
-use tenant_core::{
-    Amount, BucketTerms, Command, Money, Order, Pair, PeerLimits, PeerTerms, Role, Side,
-};
+use tenant_core::{BucketTerms, Command, Order, Pair, PeerLimits, PeerTerms, Role, Side};
 use thiserror::Error;
 
 /// What is wrong with a command.
@@ -38,43 +32,47 @@ pub enum TextFault {
     Range,
 }
 
-#[tactic(auto, unfolding(crate::specs::Commands::taken))]
+/// What a command begins with.
+#[derive(Clone, Copy, Drop)]
+enum Verb {
+    Balances,
+    Roll,
+    PeerAdd,
+    PeerRemove,
+    PeerLimits,
+    PeerBucket,
+    RouteAdd,
+    RouteRemove,
+    RateSet,
+    SettleIn,
+    SettleOut,
+}
+
+#[tactic(auto, unfolding(crate::specs::Fields::taken))]
 fn next_name(words: Words<'_>) -> Result<(Name, Words<'_>), TextFault>
-    ensures { result ≡ taken name_in words.entry }
+    ensures { result ≡ taken NAME words.entry }
 {
-    let Some((word, words)) = words.split_first() else {
-        return Err(TextFault::Argument);
-    };
-    match Name::new(word) {
-        Some(value) => Ok((value, words)),
-        None => Err(TextFault::Argument),
-    }
+    let (word, words) = words.split_first().ok_or(TextFault::Argument)?;
+    let name = Name::new(word).ok_or(TextFault::Argument)?;
+    Ok((name, words))
 }
 
-#[tactic(auto, unfolding(crate::specs::Commands::taken))]
+#[tactic(auto, unfolding(crate::specs::Fields::taken))]
 fn next_token(words: Words<'_>) -> Result<(Token, Words<'_>), TextFault>
-    ensures { result ≡ taken token_in words.entry }
+    ensures { result ≡ taken TOKEN words.entry }
 {
-    let Some((word, words)) = words.split_first() else {
-        return Err(TextFault::Argument);
-    };
-    match Token::new(word) {
-        Some(value) => Ok((value, words)),
-        None => Err(TextFault::Argument),
-    }
+    let (word, words) = words.split_first().ok_or(TextFault::Argument)?;
+    let token = Token::new(word).ok_or(TextFault::Argument)?;
+    Ok((token, words))
 }
 
-#[tactic(auto, unfolding(crate::specs::Commands::taken))]
+#[tactic(auto, unfolding(crate::specs::Fields::taken))]
 fn next_asset(words: Words<'_>) -> Result<(AssetCode, Words<'_>), TextFault>
-    ensures { result ≡ taken asset_in words.entry }
+    ensures { result ≡ taken ASSET words.entry }
 {
-    let Some((word, words)) = words.split_first() else {
-        return Err(TextFault::Argument);
-    };
-    match AssetCode::new(word) {
-        Some(value) => Ok((value, words)),
-        None => Err(TextFault::Argument),
-    }
+    let (word, words) = words.split_first().ok_or(TextFault::Argument)?;
+    let asset = AssetCode::new(word).ok_or(TextFault::Argument)?;
+    Ok((asset, words))
 }
 
 fn role_of(word: &[u8]) -> Result<Role, TextFault>
@@ -89,25 +87,41 @@ fn role_of(word: &[u8]) -> Result<Role, TextFault>
     }
 }
 
-#[tactic(auto, unfolding(crate::specs::Commands::taken))]
+#[tactic(auto, unfolding(crate::specs::Fields::taken))]
 fn next_role(words: Words<'_>) -> Result<(Role, Words<'_>), TextFault>
-    ensures { result ≡ taken role_in words.entry }
+    ensures { result ≡ taken ROLE words.entry }
 {
-    let Some((word, words)) = words.split_first() else {
-        return Err(TextFault::Argument);
-    };
+    let (word, words) = words.split_first().ok_or(TextFault::Argument)?;
     Ok((role_of(word)?, words))
 }
 
-#[tactic(auto, unfolding(crate::specs::Commands::taken))]
+#[tactic(auto, unfolding(crate::specs::Fields::taken))]
+fn next_target(words: Words<'_>) -> Result<(Target, Words<'_>), TextFault>
+    ensures { result ≡ taken TARGET words.entry }
+{
+    let (url, words) = words.split_first().ok_or(TextFault::Argument)?;
+    let (token, words) = words.split_first().ok_or(TextFault::Argument)?;
+    let target = Target::new(url, token).ok_or(TextFault::Argument)?;
+    Ok((target, words))
+}
+
+#[tactic(auto, unfolding(crate::specs::Fields::taken))]
+fn next_pair(words: Words<'_>) -> Result<(Pair, Words<'_>), TextFault>
+    ensures { result ≡ taken PAIR words.entry }
+{
+    let (from, words) = next_name(words)?;
+    let (to, words) = next_name(words)?;
+    let pair = Pair::new(from, to).ok_or(TextFault::Argument)?;
+    Ok((pair, words))
+}
+
+#[tactic(auto, unfolding(crate::specs::Fields::taken))]
 fn next_number<const LOW: u64, const HIGH: u64>(
     words: Words<'_>,
 ) -> Result<(Between<LOW, HIGH>, Words<'_>), TextFault>
-    ensures { result ≡ taken (number_within LOW HIGH) words.entry }
+    ensures { result ≡ taken (NUMBER LOW HIGH) words.entry }
 {
-    let Some((word, words)) = words.split_first() else {
-        return Err(TextFault::Argument);
-    };
+    let (word, words) = words.split_first().ok_or(TextFault::Argument)?;
     match number_in(word) {
         Ok(number) => Ok((number, words)),
         Err(NumberFault::Malformed) => Err(TextFault::Argument),
@@ -115,9 +129,9 @@ fn next_number<const LOW: u64, const HIGH: u64>(
     }
 }
 
-#[tactic(auto, unfolding(crate::specs::Commands::taken))]
+#[tactic(auto, unfolding(crate::specs::Fields::taken))]
 fn next_prefix(alloc: Global, words: Words<'_>) -> Result<(Prefix, Words<'_>), ReadError<TextFault>>
-    ensures { GivesUnlessMemory (λ p. p) result (taken prefix_in words.entry) }
+    ensures { GivesUnlessMemory (λ p. p) result (taken PREFIX words.entry) }
 {
     let Some((word, words)) = words.split_first() else {
         return Err(ReadError::Fault(TextFault::Argument));
@@ -128,7 +142,7 @@ fn next_prefix(alloc: Global, words: Words<'_>) -> Result<(Prefix, Words<'_>), R
     }
 }
 
-#[tactic(auto, unfolding(crate::specs::Commands::ended))]
+#[tactic(auto, unfolding(crate::specs::Fields::ended))]
 fn end(words: Words<'_>) -> Result<(), TextFault>
     ensures { result ≡ ended words.entry }
 {
@@ -138,327 +152,237 @@ fn end(words: Words<'_>) -> Result<(), TextFault>
     }
 }
 
-#[tactic(auto, unfolding(crate::specs::Commands::peer_taken))]
-fn next_peer(words: Words<'_>) -> Result<((Name, Role, Token), Words<'_>), TextFault>
-    ensures { result ≡ peer_taken words.entry }
+#[tactic(auto, unfolding(crate::specs::Commands::command_behind))]
+fn added_peer(words: Words<'_>) -> Result<Command, TextFault>
+    ensures { result ≡ command_behind verb.PeerAdd words.entry }
 {
     let (name, words) = next_name(words)?;
     let (role, words) = next_role(words)?;
     let (token, words) = next_token(words)?;
-    Ok(((name, role, token), words))
-}
-
-#[tactic(auto, unfolding(crate::specs::Commands::limits_taken))]
-fn next_limits(words: Words<'_>) -> Result<(PeerLimits, Words<'_>), TextFault>
-    ensures { result ≡ limits_taken words.entry }
-{
+    let (target, words) = next_target(words)?;
+    let (asset, words) = next_asset(words)?;
+    let (scale, words) = next_number::<0, 255>(words)?;
     let (cap, words) = next_number(words)?;
     let (ceiling, words) = next_number(words)?;
     let (credit, words) = next_number(words)?;
-    let limits = PeerLimits {
-        cap,
-        ceiling,
-        credit,
-    };
-    Ok((limits, words))
-}
-
-#[tactic(auto, unfolding(crate::specs::Commands::bucket_taken))]
-fn next_bucket(words: Words<'_>) -> Result<(BucketTerms, Words<'_>), TextFault>
-    ensures { result ≡ bucket_taken words.entry }
-{
     let (burst, words) = next_number(words)?;
     let (per_second, words) = next_number(words)?;
-    Ok((BucketTerms { burst, per_second }, words))
-}
-
-#[tactic(auto, unfolding(crate::specs::Commands::removed_peer))]
-fn removed_peer(words: Words<'_>) -> Result<Order, TextFault>
-    ensures { result ≡ removed_peer words.entry }
-{
-    Ok(Order::RemovePeer(peer_left(words)?))
-}
-
-#[tactic(auto, unfolding(crate::specs::Commands::limited_peer))]
-fn limited_peer(words: Words<'_>) -> Result<Order, TextFault>
-    ensures { result ≡ limited_peer words.entry }
-{
-    let (peer, words) = next_name(words)?;
-    let (limits, words) = next_limits(words)?;
     end(words)?;
-    Ok(Order::SetLimits { peer, limits })
-}
-
-#[tactic(auto, unfolding(crate::specs::Commands::bucketed_peer))]
-fn bucketed_peer(words: Words<'_>) -> Result<Order, TextFault>
-    ensures { result ≡ bucketed_peer words.entry }
-{
-    let (peer, words) = next_name(words)?;
-    let (bucket, words) = next_bucket(words)?;
-    end(words)?;
-    Ok(Order::SetBucket { peer, bucket })
-}
-
-#[tactic(auto, unfolding(crate::specs::Commands::taken))]
-fn next_pair(from: Name, words: Words<'_>) -> Result<(Pair, Words<'_>), TextFault>
-    ensures { result ≡ taken (other_name_in from) words.entry }
-{
-    let Some((word, words)) = words.split_first() else {
-        return Err(TextFault::Argument);
-    };
-    let Some(to) = Name::new(word) else {
-        return Err(TextFault::Argument);
-    };
-    match Pair::new(from, to) {
-        Some(pair) => Ok((pair, words)),
-        None => Err(TextFault::Argument),
-    }
-}
-
-#[tactic(auto, unfolding(crate::specs::Commands::set_rate))]
-fn set_rate(words: Words<'_>) -> Result<Order, TextFault>
-    ensures { result ≡ set_rate words.entry }
-{
-    let (from, words) = next_name(words)?;
-    let (pair, words) = next_pair(from, words)?;
-    let (num, words) = next_number::<1, 1_000_000_000_000>(words)?;
-    let (den, words) = next_number::<1, 1_000_000_000_000>(words)?;
-    end(words)?;
-    let rate = Rate::new(num.get(), den.get())
-        .ok()
-        .ok_or(TextFault::Range)?;
-    Ok(Order::SetRate { pair, rate })
-}
-
-#[tactic(auto, unfolding(crate::specs::Commands::settled))]
-fn settled(side: Side, words: Words<'_>) -> Result<Order, TextFault>
-    ensures { result ≡ settled side words.entry }
-{
-    let (peer, words) = next_name(words)?;
-    let (amount, words) = next_number(words)?;
-    end(words)?;
-    Ok(Order::Settle { peer, side, amount })
-}
-
-#[tactic(auto, unfolding(crate::specs::Commands::removed_route))]
-fn removed_route(alloc: Global, words: Words<'_>) -> Result<Order, ReadError<TextFault>>
-    ensures { GivesUnlessMemory (λ o. o) result (removed_route words.entry) }
-{
-    let (prefix, words) = next_prefix(alloc, words)?;
-    match end(words) {
-        Ok(()) => Ok(Order::RemoveRoute(prefix)),
-        Err(fault) => Err(ReadError::Fault(fault)),
-    }
-}
-
-#[tactic(auto, unfolding(crate::specs::Commands::peer_left))]
-fn peer_left(words: Words<'_>) -> Result<Name, TextFault>
-    ensures { result ≡ peer_left words.entry }
-{
-    let (peer, words) = next_name(words)?;
-    end(words)?;
-    Ok(peer)
-}
-
-#[tactic(auto, unfolding(crate::specs::Commands::added_route))]
-fn added_route(alloc: Global, words: Words<'_>) -> Result<Order, ReadError<TextFault>>
-    ensures { GivesUnlessMemory (λ o. o) result (added_route words.entry) }
-{
-    let (prefix, words) = next_prefix(alloc, words)?;
-    match peer_left(words) {
-        Ok(peer) => Ok(Order::AddRoute { prefix, peer }),
-        Err(fault) => Err(ReadError::Fault(fault)),
-    }
-}
-
-#[tactic(auto, unfolding(crate::specs::Commands::target_taken))]
-fn next_target(words: Words<'_>) -> Result<(Target, Words<'_>), TextFault>
-    ensures target { AreForTarget (target_first words.entry) words.entry }
-    ensures exact { result ≡ target_taken (target_first words.entry) words.entry }
-{
-    let Some((url, words)) = words.split_first() else {
-        return Err(TextFault::Argument);
-    };
-    let Some((token, words)) = words.split_first() else {
-        return Err(TextFault::Argument);
-    };
-    match Target::new(url, token) {
-        Some(target) => Ok((target, words)),
-        None => Err(TextFault::Argument),
-    }
-}
-
-#[tactic(auto, unfolding(crate::specs::Commands::peer_behind))]
-fn peer_behind(
-    peer: (Name, Role, Token),
-    target: Target,
-    words: Words<'_>,
-) -> Result<Order, TextFault>
-    ensures { result ≡ peer_behind peer target words.entry }
-{
-    let (asset, words) = next_asset(words)?;
-    let (scale, words) = next_number::<0, 255>(words)?;
-    let (limits, words) = next_limits(words)?;
-    let (bucket, words) = next_bucket(words)?;
-    end(words)?;
-    let (name, role, token) = peer;
-    Ok(Order::AddPeer(PeerTerms {
+    Ok(Command::Order(Order::AddPeer(PeerTerms {
         name,
         role,
         token,
         target,
         asset,
         scale: scale.get() as u8,
-        limits,
-        bucket,
-    }))
+        limits: PeerLimits {
+            cap,
+            ceiling,
+            credit,
+        },
+        bucket: BucketTerms { burst, per_second },
+    })))
 }
 
-fn peer_at_target(peer: (Name, Role, Token), words: Words<'_>) -> Result<Order, TextFault>
-    ensures target { AreForTarget (target_first words.entry) words.entry }
-    ensures exact { result ≡ peer_at_target (target_first words.entry) peer words.entry }
+#[tactic(auto, unfolding(crate::specs::Commands::command_behind))]
+fn removed_peer(words: Words<'_>) -> Result<Command, TextFault>
+    ensures { result ≡ command_behind verb.PeerRemove words.entry }
 {
-    let (target, words) = next_target(words)?;
-    peer_behind(peer, target, words)
+    let (peer, words) = next_name(words)?;
+    end(words)?;
+    Ok(Command::Order(Order::RemovePeer(peer)))
 }
 
-fn added_peer(words: Words<'_>) -> Result<Order, TextFault>
-    ensures target { AreForPeer (target_first (drop 3 words.entry)) words.entry }
-    ensures exact { result ≡ added_peer (target_first (drop 3 words.entry)) words.entry }
+#[tactic(auto, unfolding(crate::specs::Commands::command_behind))]
+fn limited_peer(words: Words<'_>) -> Result<Command, TextFault>
+    ensures { result ≡ command_behind verb.PeerLimits words.entry }
 {
-    let (peer, words) = next_peer(words)?;
-    peer_at_target(peer, words)
-}
-
-#[tactic(auto, unfolding(crate::specs::Commands::changed_peer))]
-fn changed_peer(verb: &[u8], words: Words<'_>) -> Result<Order, TextFault>
-    ensures { result ≡ changed_peer verb.now words.entry }
-{
-    if verb == b"remove".as_slice() {
-        removed_peer(words)
-    } else if verb == b"limits".as_slice() {
-        limited_peer(words)
-    } else if verb == b"bucket".as_slice() {
-        bucketed_peer(words)
-    } else {
-        Err(TextFault::Verb)
-    }
-}
-
-fn peer_order(words: Words<'_>) -> Result<Order, TextFault>
-    ensures target { AreForVerb (target_first (drop 4 words.entry)) words.entry }
-    ensures exact { result ≡ peer_order (target_first (drop 4 words.entry)) words.entry }
-{
-    let Some((verb, words)) = words.split_first() else {
-        return Err(TextFault::Verb);
+    let (peer, words) = next_name(words)?;
+    let (cap, words) = next_number(words)?;
+    let (ceiling, words) = next_number(words)?;
+    let (credit, words) = next_number(words)?;
+    end(words)?;
+    let limits = PeerLimits {
+        cap,
+        ceiling,
+        credit,
     };
-    if verb == b"add".as_slice() {
-        added_peer(words)
-    } else {
-        changed_peer(verb, words)
-    }
+    Ok(Command::Order(Order::SetLimits { peer, limits }))
 }
 
-#[tactic(auto, unfolding(crate::specs::Commands::route_order))]
-fn route_order(alloc: Global, words: Words<'_>) -> Result<Order, ReadError<TextFault>>
-    ensures { GivesUnlessMemory (λ o. o) result (route_order words.entry) }
+#[tactic(auto, unfolding(crate::specs::Commands::command_behind))]
+fn bucketed_peer(words: Words<'_>) -> Result<Command, TextFault>
+    ensures { result ≡ command_behind verb.PeerBucket words.entry }
 {
-    let Some((verb, words)) = words.split_first() else {
-        return Err(ReadError::Fault(TextFault::Verb));
-    };
-    if verb == b"add".as_slice() {
-        added_route(alloc, words)
-    } else if verb == b"remove".as_slice() {
-        removed_route(alloc, words)
-    } else {
-        Err(ReadError::Fault(TextFault::Verb))
-    }
+    let (peer, words) = next_name(words)?;
+    let (burst, words) = next_number(words)?;
+    let (per_second, words) = next_number(words)?;
+    end(words)?;
+    let bucket = BucketTerms { burst, per_second };
+    Ok(Command::Order(Order::SetBucket { peer, bucket }))
 }
 
-#[tactic(auto, unfolding(crate::specs::Commands::rate_order))]
-fn rate_order(words: Words<'_>) -> Result<Order, TextFault>
-    ensures { result ≡ rate_order words.entry }
+#[tactic(auto, unfolding(crate::specs::Commands::command_behind))]
+fn set_rate(words: Words<'_>) -> Result<Command, TextFault>
+    ensures { result ≡ command_behind verb.RateSet words.entry }
 {
-    let Some((verb, words)) = words.split_first() else {
-        return Err(TextFault::Verb);
-    };
-    if verb == b"set".as_slice() {
-        set_rate(words)
-    } else {
-        Err(TextFault::Verb)
-    }
+    let (pair, words) = next_pair(words)?;
+    let (numerator, words) = next_number::<1, { Rate::MAX_TERM }>(words)?;
+    let (denominator, words) = next_number::<1, { Rate::MAX_TERM }>(words)?;
+    end(words)?;
+    let rate = Rate::new(numerator.get(), denominator.get())
+        .ok()
+        .ok_or(TextFault::Range)?;
+    Ok(Command::Order(Order::SetRate { pair, rate }))
 }
 
-#[tactic(auto, unfolding(crate::specs::Commands::settle_order))]
-fn settle_order(words: Words<'_>) -> Result<Order, TextFault>
-    ensures { result ≡ settle_order words.entry }
+#[tactic(auto, unfolding(crate::specs::Commands::command_behind))]
+fn settled_in(words: Words<'_>) -> Result<Command, TextFault>
+    ensures { result ≡ command_behind verb.SettleIn words.entry }
 {
-    let Some((verb, words)) = words.split_first() else {
-        return Err(TextFault::Verb);
-    };
-    if verb == b"in".as_slice() {
-        settled(Side::In, words)
-    } else if verb == b"out".as_slice() {
-        settled(Side::Out, words)
-    } else {
-        Err(TextFault::Verb)
-    }
+    let (peer, words) = next_name(words)?;
+    let (amount, words) = next_number(words)?;
+    end(words)?;
+    let side = Side::In;
+    Ok(Command::Order(Order::Settle { peer, side, amount }))
 }
 
-// An order as a command.
-fn ordered(order: Result<Order, TextFault>) -> Result<Command, ReadError<TextFault>>
-    ensures { GivesUnlessMemory (λ c. c) result (ordered order) }
+#[tactic(auto, unfolding(crate::specs::Commands::command_behind))]
+fn settled_out(words: Words<'_>) -> Result<Command, TextFault>
+    ensures { result ≡ command_behind verb.SettleOut words.entry }
 {
-    match order {
-        Ok(order) => Ok(Command::Order(order)),
+    let (peer, words) = next_name(words)?;
+    let (amount, words) = next_number(words)?;
+    end(words)?;
+    let side = Side::Out;
+    Ok(Command::Order(Order::Settle { peer, side, amount }))
+}
+
+#[tactic(auto, unfolding(crate::specs::Commands::command_behind))]
+fn balances(words: Words<'_>) -> Result<Command, TextFault>
+    ensures { result ≡ command_behind verb.Balances words.entry }
+{
+    end(words)?;
+    Ok(Command::Balances)
+}
+
+#[tactic(auto, unfolding(crate::specs::Commands::command_behind))]
+fn roll(words: Words<'_>) -> Result<Command, TextFault>
+    ensures { result ≡ command_behind verb.Roll words.entry }
+{
+    end(words)?;
+    Ok(Command::Roll)
+}
+
+// A reading that takes no memory, beside those that do.
+fn given<T>(read: Result<T, TextFault>) -> Result<T, ReadError<TextFault>>
+    ensures { GivesUnlessMemory (λ t. t) result read }
+{
+    match read {
+        Ok(value) => Ok(value),
         Err(fault) => Err(ReadError::Fault(fault)),
     }
 }
 
-fn alone(command: Command, words: Words<'_>) -> Result<Command, ReadError<TextFault>>
-    ensures { GivesUnlessMemory (λ c. c) result (alone command words.entry) }
+#[tactic(auto, unfolding(crate::specs::Commands::command_behind))]
+fn added_route(alloc: Global, words: Words<'_>) -> Result<Command, ReadError<TextFault>>
+    ensures { GivesUnlessMemory (λ c. c) result (command_behind verb.RouteAdd words.entry) }
 {
-    match end(words) {
-        Ok(()) => Ok(command),
-        Err(fault) => Err(ReadError::Fault(fault)),
+    let (prefix, words) = next_prefix(alloc, words)?;
+    let (peer, words) = given(next_name(words))?;
+    given(end(words))?;
+    Ok(Command::Order(Order::AddRoute { prefix, peer }))
+}
+
+#[tactic(auto, unfolding(crate::specs::Commands::command_behind))]
+fn removed_route(alloc: Global, words: Words<'_>) -> Result<Command, ReadError<TextFault>>
+    ensures { GivesUnlessMemory (λ c. c) result (command_behind verb.RouteRemove words.entry) }
+{
+    let (prefix, words) = next_prefix(alloc, words)?;
+    given(end(words))?;
+    Ok(Command::Order(Order::RemoveRoute(prefix)))
+}
+
+fn are(words: (&[u8], &[u8]), verb: (&[u8], &[u8])) -> bool
+    ensures { result ≡ (bytes_eq words.entry.1.now verb.entry.1.now && bytes_eq words.entry.0.now verb.entry.0.now) }
+{
+    words.0 == verb.0 && words.1 == verb.1
+}
+
+fn two_word_verb<'a>(
+    first: &[u8],
+    second: &[u8],
+    words: Words<'a>,
+) -> Result<(Verb, Words<'a>), TextFault>
+    ensures { result ≡ verb_among two_word_verbs (first.now ∷ second.now ∷ words.entry) }
+{
+    let found = (first, second);
+    if are(found, (b"peer", b"add")) {
+        Ok((Verb::PeerAdd, words))
+    } else if are(found, (b"peer", b"remove")) {
+        Ok((Verb::PeerRemove, words))
+    } else if are(found, (b"peer", b"limits")) {
+        Ok((Verb::PeerLimits, words))
+    } else if are(found, (b"peer", b"bucket")) {
+        Ok((Verb::PeerBucket, words))
+    } else if are(found, (b"route", b"add")) {
+        Ok((Verb::RouteAdd, words))
+    } else if are(found, (b"route", b"remove")) {
+        Ok((Verb::RouteRemove, words))
+    } else if are(found, (b"rate", b"set")) {
+        Ok((Verb::RateSet, words))
+    } else if are(found, (b"settle", b"in")) {
+        Ok((Verb::SettleIn, words))
+    } else if are(found, (b"settle", b"out")) {
+        Ok((Verb::SettleOut, words))
+    } else {
+        Err(TextFault::Verb)
     }
 }
 
-#[tactic(auto, unfolding(crate::specs::Commands::other_command))]
-fn other_command(
+#[tactic(auto, unfolding(crate::specs::Commands::verb_taken))]
+fn next_verb(words: Words<'_>) -> Result<(Verb, Words<'_>), TextFault>
+    ensures { result ≡ verb_taken words.entry }
+{
+    let (first, words) = words.split_first().ok_or(TextFault::Verb)?;
+    if first == b"balances".as_slice() {
+        Ok((Verb::Balances, words))
+    } else if first == b"roll".as_slice() {
+        Ok((Verb::Roll, words))
+    } else {
+        let (second, words) = words.split_first().ok_or(TextFault::Verb)?;
+        two_word_verb(first, second, words)
+    }
+}
+
+fn command_behind(
     alloc: Global,
-    verb: &[u8],
+    verb: Verb,
     words: Words<'_>,
 ) -> Result<Command, ReadError<TextFault>>
-    ensures { GivesUnlessMemory (λ c. c) result (other_command verb.now words.entry) }
+    ensures { GivesUnlessMemory (λ c. c) result (command_behind verb words.entry) }
 {
-    if verb == b"route".as_slice() {
-        Ok(Command::Order(route_order(alloc, words)?))
-    } else if verb == b"rate".as_slice() {
-        ordered(rate_order(words))
-    } else if verb == b"settle".as_slice() {
-        ordered(settle_order(words))
-    } else if verb == b"balances".as_slice() {
-        alone(Command::Balances, words)
-    } else if verb == b"roll".as_slice() {
-        alone(Command::Roll, words)
-    } else {
-        Err(ReadError::Fault(TextFault::Verb))
+    match verb {
+        Verb::Balances => given(balances(words)),
+        Verb::Roll => given(roll(words)),
+        Verb::PeerAdd => given(added_peer(words)),
+        Verb::PeerRemove => given(removed_peer(words)),
+        Verb::PeerLimits => given(limited_peer(words)),
+        Verb::PeerBucket => given(bucketed_peer(words)),
+        Verb::RouteAdd => added_route(alloc, words),
+        Verb::RouteRemove => removed_route(alloc, words),
+        Verb::RateSet => given(set_rate(words)),
+        Verb::SettleIn => given(settled_in(words)),
+        Verb::SettleOut => given(settled_out(words)),
     }
 }
 
-fn command_of(alloc: Global, words: Words<'_>) -> Result<Command, ReadError<TextFault>>
-    ensures target { HasTarget (target_among words.entry) words.entry }
-    ensures exact { GivesUnlessMemory (λ c. c) result (command_of (target_among words.entry) words.entry) }
+#[tactic(auto, unfolding(crate::specs::Commands::command_among))]
+fn command_among(alloc: Global, words: Words<'_>) -> Result<Command, ReadError<TextFault>>
+    ensures { GivesUnlessMemory (λ c. c) result (command_among words.entry) }
 {
-    let Some((verb, words)) = words.split_first() else {
-        return Err(ReadError::Fault(TextFault::Verb));
-    };
-    if verb == b"peer".as_slice() {
-        ordered(peer_order(words))
-    } else {
-        other_command(alloc, verb, words)
-    }
+    let (verb, words) = given(next_verb(words))?;
+    command_behind(alloc, verb, words)
 }
 
 /// The command that a text spells.
@@ -479,8 +403,6 @@ pub fn parse_command(alloc: Global, text: &[u8]) -> Result<Command, ReadError<Te
     // Which fault comes: that of the first word that fails.
     ensures exact { GivesUnlessMemory (λ c. c) result (command_in text.now) }
 {
-    numerals();
-    prefixes();
-    targets();
-    command_of(alloc, Words::of(text))
+    commands();
+    command_among(alloc, Words::of(text))
 }

@@ -4,13 +4,14 @@ ghost use Rattle.admin_text.specs.Commands.{CommandLaws};
 ghost use Rattle.admin_text.specs.Setup.{SetupLaw};
 
 use common_types::laws::numerals;
-use ilp_addr::laws::targets;
+use ilp_addr::laws::{prefixes, targets};
 
-/// A text spells one command at most.
+/// What spells a command is read as it, and what is read is spelled; a text spells one command at most.
 pub fn commands()
     ensures { CommandLaws }
 {
     numerals();
+    prefixes();
     targets();
 }
 

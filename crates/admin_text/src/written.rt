@@ -1,19 +1,15 @@
 //! The texts of commands.
 
-ghost use Rattle.std.specs.Prelude.{◌≡◌, ◌<◌, ◌^◌, ◌++◌, ◌∷◌, [], codes, IfOk, OnOk, true};
+ghost use Rattle.std.specs.Prelude.{◌≡◌, ◌++◌, ◌∷◌, [], IfOk, OnOk, true};
 ghost use Rattle.std.specs.Fmt.{decimal};
-ghost use Rattle.common_types.specs.Names.{is_name, is_asset_code};
-ghost use Rattle.common_types.specs.Numbers.{is_between};
-ghost use Rattle.common_types.specs.Token.{is_token};
 ghost use Rattle.common_types.specs.Words.{words_of};
-ghost use Rattle.ilp_addr.specs.Address.{IsPrefix};
-ghost use Rattle.ilp_addr.specs.Target.{IsTarget};
-ghost use Rattle.tenant_core.specs.declared.command.Order.TheVariants as spec;
-ghost use Rattle.admin_text.specs.Prefixes.{prefix_word};
 ghost use Rattle.admin_text.specs.Spaces.{is_spaceless};
-ghost use Rattle.admin_text.specs.Commands.{role_word, side_word, limits_words, bucket_words, terms_words, order_words};
-ghost use Rattle.admin_text.specs.Commands.{command_words, AreOrderWords, AreLimits, IsBucket, AreTerms, IsOrder};
-ghost use Rattle.admin_text.specs.Commands.{IsCommandText};
+ghost use Rattle.admin_text.specs.Fields.{NUMBER, ROLE, PREFIX, TARGET, PAIR, IsPut, ArePut};
+ghost use Rattle.admin_text.specs.Commands.{NAME, TOKEN, ASSET, MONEY, BURST, PERSECOND};
+ghost use Rattle.admin_text.specs.Commands.{command_words, IsWritten, IsCommandText};
+ghost use Rattle.tenant_core.specs.declared.command.Command.TheVariants as spec;
+ghost use Rattle.tenant_core.specs.declared.command.Order.TheVariants as order;
+ghost use Rattle.tenant_core.specs.declared.command.Side.TheVariants.{In, Out};
 
 use common_types::laws::numerals;
 use common_types::{AssetCode, Between, Name, Token};
@@ -34,38 +30,32 @@ fn put_word(out: &mut Vec<u8>, word: &[u8]) -> Result<(), AllocError>
 }
 
 fn put_name(out: &mut Vec<u8>, name: &Name) -> Result<(), AllocError>
-    ensures words { OnOk result (words_of out.new.items ≡ words_of out.old.items ++ name.now ∷ []) }
-    ensures name { is_name name.now ≡ true }
+    ensures { OnOk result (IsPut NAME name.now out.old.items out.new.items) }
 {
     put_word(out, name.as_bytes())
 }
 
 fn put_token(out: &mut Vec<u8>, token: &Token) -> Result<(), AllocError>
-    ensures words { OnOk result (words_of out.new.items ≡ words_of out.old.items ++ token.now ∷ []) }
-    ensures token { is_token token.now ≡ true }
+    ensures { OnOk result (IsPut TOKEN token.now out.old.items out.new.items) }
 {
     put_word(out, token.as_bytes())
 }
 
 fn put_asset(out: &mut Vec<u8>, asset: &AssetCode) -> Result<(), AllocError>
-    ensures words { OnOk result (words_of out.new.items ≡ words_of out.old.items ++ asset.now ∷ []) }
-    ensures asset { is_asset_code asset.now ≡ true }
+    ensures { OnOk result (IsPut ASSET asset.now out.old.items out.new.items) }
 {
     put_word(out, asset.as_bytes())
 }
 
 fn put_target(out: &mut Vec<u8>, target: &Target) -> Result<(), AllocError>
-    ensures words { OnOk result (words_of out.new.items
-        ≡ words_of out.old.items ++ target.now.url ∷ target.now.token ∷ []) }
-    ensures target { IsTarget target.now.url target.now.token target.now }
+    ensures { OnOk result (IsPut TARGET target.now out.old.items out.new.items) }
 {
     put_word(out, target.url())?;
     put_word(out, target.token())
 }
 
 fn put_prefix(out: &mut Vec<u8>, prefix: &Prefix) -> Result<(), AllocError>
-    ensures words { OnOk result (words_of out.new.items ≡ words_of out.old.items ++ prefix_word prefix.now ∷ []) }
-    ensures prefix { IsPrefix prefix.now }
+    ensures { OnOk result (IsPut PREFIX prefix.now out.old.items out.new.items) }
 {
     prefix_words();
     match prefix.bytes() {
@@ -74,8 +64,15 @@ fn put_prefix(out: &mut Vec<u8>, prefix: &Prefix) -> Result<(), AllocError>
     }
 }
 
+fn put_pair(out: &mut Vec<u8>, pair: &Pair) -> Result<(), AllocError>
+    ensures { OnOk result (IsPut PAIR pair.now out.old.items out.new.items) }
+{
+    put_name(out, pair.from())?;
+    put_name(out, pair.to())
+}
+
 fn put_role(out: &mut Vec<u8>, role: Role) -> Result<(), AllocError>
-    ensures { OnOk result (words_of out.new.items ≡ words_of out.old.items ++ role_word role ∷ []) }
+    ensures { OnOk result (IsPut ROLE role out.old.items out.new.items) }
 {
     match role {
         Role::Child => put_word(out, b"child"),
@@ -97,15 +94,14 @@ fn put_between<const LOW: u64, const HIGH: u64>(
     out: &mut Vec<u8>,
     number: Between<LOW, HIGH>,
 ) -> Result<(), AllocError>
-    ensures words { OnOk result (words_of out.new.items ≡ words_of out.old.items ++ decimal number.entry ∷ []) }
-    ensures within { is_between LOW HIGH number.entry ≡ true }
+    ensures { OnOk result (IsPut (NUMBER LOW HIGH) number.entry out.old.items out.new.items) }
 {
     put_number(alloc, out, number.get())
 }
 
 fn put_limits(alloc: Global, out: &mut Vec<u8>, limits: PeerLimits) -> Result<(), AllocError>
-    ensures words { OnOk result (words_of out.new.items ≡ words_of out.old.items ++ limits_words limits) }
-    ensures within { OnOk result (AreLimits limits) }
+    ensures { OnOk result (ArePut (MONEY ∷ MONEY ∷ MONEY ∷ []) (limits.cap, (limits.ceiling, (limits.credit, tt)))
+        out.old.items out.new.items) }
 {
     put_between(alloc, out, limits.cap)?;
     put_between(alloc, out, limits.ceiling)?;
@@ -113,50 +109,41 @@ fn put_limits(alloc: Global, out: &mut Vec<u8>, limits: PeerLimits) -> Result<()
 }
 
 fn put_bucket(alloc: Global, out: &mut Vec<u8>, bucket: BucketTerms) -> Result<(), AllocError>
-    ensures words { OnOk result (words_of out.new.items ≡ words_of out.old.items ++ bucket_words bucket) }
-    ensures within { OnOk result (IsBucket bucket) }
+    ensures { OnOk result (ArePut (BURST ∷ PERSECOND ∷ []) (bucket.burst, (bucket.per_second, tt))
+        out.old.items out.new.items) }
 {
     put_between(alloc, out, bucket.burst)?;
     put_between(alloc, out, bucket.per_second)
 }
 
-// The words of a peer to be added.
-fn put_terms(alloc: Global, out: &mut Vec<u8>, terms: &PeerTerms) -> Result<(), AllocError>
-    ensures words { OnOk result (words_of out.new.items ≡ words_of out.old.items ++ terms_words terms.now) }
-    ensures terms { OnOk result (AreTerms terms.now) }
-{
-    put_name(out, &terms.name)?;
-    put_role(out, terms.role)?;
-    put_token(out, &terms.token)?;
-    put_target(out, &terms.target)?;
-    put_asset(out, &terms.asset)?;
-    put_number(alloc, out, terms.scale as u64)?;
-    put_limits(alloc, out, terms.limits)?;
-    put_bucket(alloc, out, terms.bucket)
-}
-
+#[tactic(auto, unfolding(crate::specs::Commands::IsWritten))]
 fn added_peer(alloc: Global, terms: &PeerTerms) -> Result<Vec<u8>, AllocError>
-    ensures { IfOk result (λ text.
-        (words_of text.items ≡ order_words (spec.AddPeer terms.now)) × IsOrder (spec.AddPeer terms.now)) }
+    ensures { IfOk result (λ text. IsWritten (spec.Order (order.AddPeer terms.now)) text.items) }
 {
     let mut text = Vec::from_slice(alloc, b"peer add")?;
-    put_terms(alloc, &mut text, terms)?;
+    put_name(&mut text, &terms.name)?;
+    put_role(&mut text, terms.role)?;
+    put_token(&mut text, &terms.token)?;
+    put_target(&mut text, &terms.target)?;
+    put_asset(&mut text, &terms.asset)?;
+    put_number(alloc, &mut text, terms.scale as u64)?;
+    put_limits(alloc, &mut text, terms.limits)?;
+    put_bucket(alloc, &mut text, terms.bucket)?;
     Ok(text)
 }
 
+#[tactic(auto, unfolding(crate::specs::Commands::IsWritten))]
 fn removed_peer(alloc: Global, peer: &Name) -> Result<Vec<u8>, AllocError>
-    ensures { IfOk result (λ text.
-        (words_of text.items ≡ order_words (spec.RemovePeer peer.now)) × IsOrder (spec.RemovePeer peer.now)) }
+    ensures { IfOk result (λ text. IsWritten (spec.Order (order.RemovePeer peer.now)) text.items) }
 {
     let mut text = Vec::from_slice(alloc, b"peer remove")?;
     put_name(&mut text, peer)?;
     Ok(text)
 }
 
+#[tactic(auto, unfolding(crate::specs::Commands::IsWritten))]
 fn set_limits(alloc: Global, peer: &Name, limits: PeerLimits) -> Result<Vec<u8>, AllocError>
-    ensures { IfOk result (λ text.
-        (words_of text.items ≡ order_words (spec.SetLimits peer.now limits))
-        × IsOrder (spec.SetLimits peer.now limits)) }
+    ensures { IfOk result (λ text. IsWritten (spec.Order (order.SetLimits peer.now limits)) text.items) }
 {
     let mut text = Vec::from_slice(alloc, b"peer limits")?;
     put_name(&mut text, peer)?;
@@ -164,10 +151,9 @@ fn set_limits(alloc: Global, peer: &Name, limits: PeerLimits) -> Result<Vec<u8>,
     Ok(text)
 }
 
+#[tactic(auto, unfolding(crate::specs::Commands::IsWritten))]
 fn set_bucket(alloc: Global, peer: &Name, bucket: BucketTerms) -> Result<Vec<u8>, AllocError>
-    ensures { IfOk result (λ text.
-        (words_of text.items ≡ order_words (spec.SetBucket peer.now bucket))
-        × IsOrder (spec.SetBucket peer.now bucket)) }
+    ensures { IfOk result (λ text. IsWritten (spec.Order (order.SetBucket peer.now bucket)) text.items) }
 {
     let mut text = Vec::from_slice(alloc, b"peer bucket")?;
     put_name(&mut text, peer)?;
@@ -175,10 +161,9 @@ fn set_bucket(alloc: Global, peer: &Name, bucket: BucketTerms) -> Result<Vec<u8>
     Ok(text)
 }
 
+#[tactic(auto, unfolding(crate::specs::Commands::IsWritten))]
 fn added_route(alloc: Global, prefix: &Prefix, peer: &Name) -> Result<Vec<u8>, AllocError>
-    ensures { IfOk result (λ text.
-        (words_of text.items ≡ order_words (spec.AddRoute prefix.now peer.now))
-        × IsOrder (spec.AddRoute prefix.now peer.now)) }
+    ensures { IfOk result (λ text. IsWritten (spec.Order (order.AddRoute prefix.now peer.now)) text.items) }
 {
     let mut text = Vec::from_slice(alloc, b"route add")?;
     put_prefix(&mut text, prefix)?;
@@ -186,44 +171,48 @@ fn added_route(alloc: Global, prefix: &Prefix, peer: &Name) -> Result<Vec<u8>, A
     Ok(text)
 }
 
+#[tactic(auto, unfolding(crate::specs::Commands::IsWritten))]
 fn removed_route(alloc: Global, prefix: &Prefix) -> Result<Vec<u8>, AllocError>
-    ensures { IfOk result (λ text.
-        (words_of text.items ≡ order_words (spec.RemoveRoute prefix.now)) × IsOrder (spec.RemoveRoute prefix.now)) }
+    ensures { IfOk result (λ text. IsWritten (spec.Order (order.RemoveRoute prefix.now)) text.items) }
 {
     let mut text = Vec::from_slice(alloc, b"route remove")?;
     put_prefix(&mut text, prefix)?;
     Ok(text)
 }
 
+#[tactic(auto, unfolding(crate::specs::Commands::IsWritten))]
 fn set_rate(alloc: Global, pair: &Pair, rate: Rate) -> Result<Vec<u8>, AllocError>
-    ensures { IfOk result (λ text.
-        (words_of text.items ≡ order_words (spec.SetRate pair.now rate)) × IsOrder (spec.SetRate pair.now rate)) }
+    ensures { IfOk result (λ text. IsWritten (spec.Order (order.SetRate pair.now rate)) text.items) }
 {
     let mut text = Vec::from_slice(alloc, b"rate set")?;
-    put_name(&mut text, pair.from())?;
-    put_name(&mut text, pair.to())?;
+    put_pair(&mut text, pair)?;
     put_number(alloc, &mut text, rate.numerator())?;
     put_number(alloc, &mut text, rate.denominator())?;
     Ok(text)
 }
 
-fn settled(alloc: Global, peer: &Name, side: Side, amount: Amount) -> Result<Vec<u8>, AllocError>
-    ensures { IfOk result (λ text.
-        (words_of text.items ≡ order_words (spec.Settle peer.now side amount))
-        × IsOrder (spec.Settle peer.now side amount)) }
+#[tactic(auto, unfolding(crate::specs::Commands::IsWritten))]
+fn settled_in(alloc: Global, peer: &Name, amount: Amount) -> Result<Vec<u8>, AllocError>
+    ensures { IfOk result (λ text. IsWritten (spec.Order (order.Settle peer.now In amount)) text.items) }
 {
-    let mut text = match side {
-        Side::In => Vec::from_slice(alloc, b"settle in")?,
-        Side::Out => Vec::from_slice(alloc, b"settle out")?,
-    };
+    let mut text = Vec::from_slice(alloc, b"settle in")?;
     put_name(&mut text, peer)?;
     put_between(alloc, &mut text, amount)?;
     Ok(text)
 }
 
-// The words of an order, each part of which keeps its limits.
+#[tactic(auto, unfolding(crate::specs::Commands::IsWritten))]
+fn settled_out(alloc: Global, peer: &Name, amount: Amount) -> Result<Vec<u8>, AllocError>
+    ensures { IfOk result (λ text. IsWritten (spec.Order (order.Settle peer.now Out amount)) text.items) }
+{
+    let mut text = Vec::from_slice(alloc, b"settle out")?;
+    put_name(&mut text, peer)?;
+    put_between(alloc, &mut text, amount)?;
+    Ok(text)
+}
+
 fn order_text(alloc: Global, order: &Order) -> Result<Vec<u8>, AllocError>
-    ensures { IfOk result (λ text. (words_of text.items ≡ order_words order.now) × IsOrder order.now) }
+    ensures { IfOk result (λ text. IsWritten (spec.Order order.now) text.items) }
 {
     match order {
         Order::AddPeer(terms) => added_peer(alloc, terms),
@@ -233,17 +222,22 @@ fn order_text(alloc: Global, order: &Order) -> Result<Vec<u8>, AllocError>
         Order::AddRoute { prefix, peer } => added_route(alloc, prefix, peer),
         Order::RemoveRoute(prefix) => removed_route(alloc, prefix),
         Order::SetRate { pair, rate } => set_rate(alloc, pair, *rate),
-        Order::Settle { peer, side, amount } => settled(alloc, peer, *side, *amount),
+        Order::Settle { peer, side, amount } => match side {
+            Side::In => settled_in(alloc, peer, *amount),
+            Side::Out => settled_out(alloc, peer, *amount),
+        },
     }
 }
 
-fn write_order(alloc: Global, order: &Order) -> Result<Vec<u8>, AllocError>
-    ensures { IfOk result (λ text. (words_of text.items ≡ order_words order.now)
-        × AreOrderWords (words_of text.items) order.now × IsOrder order.now) }
+#[tactic(auto, unfolding(crate::specs::Commands::IsWritten))]
+fn command_text(alloc: Global, command: &Command) -> Result<Vec<u8>, AllocError>
+    ensures { IfOk result (λ text. IsWritten command.now text.items) }
 {
-    prefix_words();
-    let text = order_text(alloc, order)?;
-    Ok(text)
+    match command {
+        Command::Order(order) => order_text(alloc, order),
+        Command::Balances => Vec::from_slice(alloc, b"balances"),
+        Command::Roll => Vec::from_slice(alloc, b"roll"),
+    }
 }
 
 /// The text of a command, which [`parse_command`](crate::parse_command) reads as the same command: its prefix is
@@ -256,9 +250,7 @@ pub fn write_command(alloc: Global, command: &Command) -> Result<Vec<u8>, AllocE
     // They spell it.
     ensures spelled { IfOk result (λ text. IsCommandText text.items command.now) }
 {
-    match command {
-        Command::Order(order) => write_order(alloc, order),
-        Command::Balances => Vec::from_slice(alloc, b"balances"),
-        Command::Roll => Vec::from_slice(alloc, b"roll"),
-    }
+    prefix_words();
+    let text = command_text(alloc, command)?;
+    Ok(text)
 }
