@@ -2,14 +2,14 @@
 use Rattle.std.proofs.Common.{◌≡◌, ℕ, List, [], ◌∷◌, Option, Some, None, refl}
 use Rattle.common_types.specs.OptionChain.{◌>>=◌}
 use Rattle.std.specs.Result.{result_ok}
-use Rattle.admin_text.specs.Commands.{command_among, command_of}
+use Rattle.admin_text.specs.Commands.{command_among, verb_taken}
 use Rattle.floor_core.specs.declared.step.Step.{Step}
 use Rattle.floor_core.specs.declared.step.Step.TheVariants.{Govern}
 use Rattle.replay_text.specs.Script.{govern_of, moment_spelled, tenant_named}
 
 -- a tenant and a moment without a command are no step
 pub no_command : (names : List (List ℕ)) (tenant now : List ℕ) → govern_of names (tenant ∷ now ∷ []) ≡ None
-unfolding command_of
+unfolding command_among verb_taken
 no_command names tenant now = by (tenant_named names tenant) (moment_spelled now)
   where
     by : (o p : Option ℕ) → (◌>>=◌ {B = Step} o (λ t. p >>= (λ n. result_ok (command_among []) >>= (λ c. Some (Govern t n c))))) ≡ None
