@@ -4,6 +4,7 @@ ghost use Rattle.std.specs.Prelude.{◌≤◌};
 
 mod crowd;
 mod neighbours;
+mod patience;
 mod wire;
 
 use crate::serving::{Extent, ServeFault, serve};
