@@ -70,6 +70,33 @@ static TENANTS: [Row; 4] = [
     },
 ];
 
+static NEIGHBOURS: [Row; 1] = [Row {
+    title: "a neighbour whose journal is full, who goes to the last moment, and takes its peer and its route away",
+    changes: &[
+        ("acme", "journal", "2"),
+        ("beta", "", TENANT),
+        ("beta alice", "", PEER),
+        ("beta bob", "", PEER),
+        ("beta route", "", ROUTE),
+        ("beta rate", "", RATE),
+    ],
+    script: "load 1 acme tok-alice {wide}\nload 0 beta tok-alice {for beta}\ndecide 1 {T}\n\
+            tick acme 253400000000000\nload 1 acme tok-alice 0c80\ndecide 0 {T}\nload 0 acme tok-alice {base}\n\
+            load 0 acme tok-none {base}\ndecide 0 {T}\nanswer 1 {T} fault\nload 1 acme tok-alice 0c80\n\
+            load 1 acme tok-none {base}\ndecide 1 {T}\nload 1 acme tok-alice {wide}\ndecide 1 {T}\n\
+            do acme {T} peer limits alice 0 0 0\ndo acme {T} roll\ndo acme {T} peer limits alice 0 0 0\n\
+            tick acme 253400000000000\ndo acme {T} roll\ndo acme {T} route remove g.acme.bob\n\
+            do acme {T} peer remove bob\nanswer 0 {T} {fulfill}\nload 0 acme tok-alice {wide}\ndecide 0 {T}\n\
+            do beta {T} balances\n",
+    lines: "acme loaded 0\nbeta loaded 0\nacme send bob 0 {wide sent}\nacme refused full\n- busy\n\
+            beta send bob 0 {for beta sent}\n- busy\n- busy\n- idle\nacme reply {T01}\nacme bad oer\n\
+            acme loaded 1\nacme stranger\nacme loaded 2\nacme reply {T03}\nacme refused full\n\
+            acme balance alice 0 0 0\nacme balance bob 0 0 0\nacme rolled 0 3\nacme ok\nacme ticked 0\n\
+            acme balance alice 0 0 0\nacme balance bob 0 0 0\nacme rolled 1 3\nacme ok\nacme ok\n\
+            beta reply {fulfill}\nacme loaded 3\nacme reply {T03}\n\
+            beta balance alice 1000 0 0\nbeta balance bob -1500 0 0\nbeta ok\n",
+}];
+
 static WORKERS: [Row; 2] = [
     Row {
         title: "two calls crosswise",
@@ -96,6 +123,7 @@ fn tenants_and_workers_are_told_apart(rt: HostRuntime) -> Result<(), Fail> {
     let alloc = rt.alloc();
     expect_rows(&rt, alloc, &TENANTS)?;
     expect_rows_by(&rt, alloc, 2, &WORKERS)?;
+    expect_rows_by(&rt, alloc, 2, &NEIGHBOURS)?;
     Ok(())
 }
 

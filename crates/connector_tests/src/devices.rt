@@ -1,17 +1,20 @@
-//! Replays over devices that give and take one byte at a time and fail in mid-stream.
+//! Replays over devices that give and take one byte at a time, and of which each read and each write fails in turn.
 
 use oer_core::Device;
 use replay_text::{ReplayFault, replay};
+use std::alloc::Global;
 use std::io;
 use std::io::{ErrorKind, Read, Write};
+use std::process::Abort;
 use std::test::Fail;
 use test_texts::{filled, setup_with};
 
-/// Gives one byte at a time, and fails once that many were given.
+/// Gives one byte at a time, and fails once, after so many reads: the reads behind that go on.
 #[derive(Drop)]
 struct Dripping<'a> {
     bytes: &'a [u8],
-    left: usize,
+    fails_at: usize,
+    reads: usize,
     failures: u64,
 }
 
@@ -25,7 +28,9 @@ impl Device for Dripping<'_> {
 
 impl Read for Dripping<'_> {
     fn read(&mut self, buf: &mut [u8]) -> io::Result<usize> {
-        if self.left == 0 {
+        let number = self.reads;
+        self.reads = number.saturating_add(1);
+        if number == self.fails_at {
             self.failures = self.failures.saturating_add(1);
             return Err(io::Error::from(ErrorKind::ConnectionReset));
         }
@@ -33,7 +38,6 @@ impl Read for Dripping<'_> {
             (Some(place), Some((byte, rest))) => {
                 *place = *byte;
                 self.bytes = rest;
-                self.left -= 1;
                 Ok(1)
             }
             _ => Ok(0),
@@ -41,11 +45,12 @@ impl Read for Dripping<'_> {
     }
 }
 
-/// Takes one byte at a time, and fails once that many were taken.
+/// Takes one byte at a time, and fails once, after so many writes: the writes behind that go on.
 #[derive(Drop)]
 struct Narrow {
     bytes: Vec<u8>,
     fails_at: usize,
+    writes: usize,
     failures: u64,
 }
 
@@ -59,7 +64,9 @@ impl Device for Narrow {
 
 impl Write for Narrow {
     fn write(&mut self, buf: &[u8]) -> io::Result<usize> {
-        if self.bytes.len() >= self.fails_at {
+        let number = self.writes;
+        self.writes = number.saturating_add(1);
+        if number == self.fails_at {
             self.failures = self.failures.saturating_add(1);
             return Ok(0);
         }
@@ -77,41 +84,97 @@ impl Write for Narrow {
     }
 }
 
-const SCRIPT: &str = "load 0 acme tok-alice {base}\ndecide 0 {T}\n";
+const SCRIPT: &str =
+    "load 0 acme tok-alice {base}\ndecide 0 {T}\nanswer 0 {T} {fulfill}\ndo acme {T} roll\n";
 
-const LINES: &str = "acme loaded 0\nacme send bob 0 {sent}\n";
+const LINES: &str = "acme loaded 0\nacme send bob 0 {sent}\nacme reply {fulfill}\n\
+    acme balance alice 1000 0 0\nacme balance bob -1500 0 0\nacme rolled 0 3\n";
 
-// After how many bytes the reader and the writer fail, the fault, and how many bytes were written: the lines have 177.
-static FAILURES: [(usize, usize, Option<ReplayFault>, usize); 5] = [
-    (usize::MAX, usize::MAX, None, 177),
-    (0, usize::MAX, Some(ReplayFault::Device), 0),
-    (100, usize::MAX, Some(ReplayFault::Device), 0),
-    (usize::MAX, 0, Some(ReplayFault::Device), 0),
-    (usize::MAX, 30, Some(ReplayFault::Device), 30),
-];
+// No read or write fails.
+const NEVER: usize = usize::MAX;
+
+/// What a replay comes to over such devices: its fault, what was written, and how often the devices were asked.
+#[derive(Drop)]
+struct Come {
+    fault: Option<ReplayFault>,
+    written: Vec<u8>,
+    reads: usize,
+    writes: usize,
+}
+
+// The replay of a script of which one read and one write fail, if it comes to them.
+fn replayed(
+    alloc: Global,
+    setup: &str,
+    script: &str,
+    fails_read: usize,
+    fails_write: usize,
+) -> Come {
+    let mut reader = Dripping {
+        bytes: script.as_bytes(),
+        fails_at: fails_read,
+        reads: 0,
+        failures: 0,
+    };
+    let mut writer = Narrow {
+        bytes: Vec::new(alloc),
+        fails_at: fails_write,
+        writes: 0,
+        failures: 0,
+    };
+    let answer = replay(alloc, setup.as_bytes(), 1, &mut reader, &mut writer);
+    Come {
+        fault: answer.err(),
+        written: writer.bytes,
+        reads: reader.reads,
+        writes: writer.writes,
+    }
+}
+
+// The read of that number fails: nothing is written, and nothing is read or written behind it.
+fn expect_failed_read(rt: &impl Abort, alloc: Global, setup: &str, script: &str, number: usize) {
+    let come = replayed(alloc, setup, script, number, NEVER);
+    assert!(rt; come.fault == Some(ReplayFault::Device), "{number}");
+    assert!(rt; come.written.is_empty(), "{number}");
+    assert!(rt;
+        come.reads == number.saturating_add(1) && come.writes == 0,
+        "{number}"
+    );
+}
+
+// The write of that number fails: what was taken before it stays, and nothing is written behind it.
+fn expect_failed_write(
+    rt: &impl Abort,
+    alloc: Global,
+    setup: &str,
+    script: &str,
+    lines: &[u8],
+    number: usize,
+) -> Result<(), Fail> {
+    let come = replayed(alloc, setup, script, NEVER, number);
+    assert!(rt; come.fault == Some(ReplayFault::Device), "{number}");
+    let front = lines.get(..number).ok_or("a front")?;
+    assert!(rt; come.written.as_slice() == front, "{number}");
+    assert!(rt; come.writes == number.saturating_add(1), "{number}");
+    Ok(())
+}
 
 #[test]
-fn devices_fail_in_mid_stream(rt: HostRuntime) -> Result<(), Fail> {
+fn each_read_and_each_write_fails_in_turn(rt: HostRuntime) -> Result<(), Fail> {
     let alloc = rt.alloc();
     let setup = setup_with(alloc, &[])?;
     let script = filled(alloc, SCRIPT)?;
     let lines = filled(alloc, LINES)?;
-    for (reads, writes, fault, count) in FAILURES {
-        let mut reader = Dripping {
-            bytes: script.as_bytes(),
-            left: reads,
-            failures: 0,
-        };
-        let mut writer = Narrow {
-            bytes: Vec::new(alloc),
-            fails_at: writes,
-            failures: 0,
-        };
-        let answer = replay(alloc, setup.as_bytes(), 1, &mut reader, &mut writer);
-        assert!(rt; answer.err() == fault, "{reads} {writes}");
-        let front = lines.as_bytes().get(..count).ok_or("a front")?;
-        assert!(rt; writer.bytes.as_slice() == front, "{reads} {writes}");
+    // The last read is the one that finds the end.
+    for number in 0..script.len().saturating_add(1) {
+        expect_failed_read(&rt, alloc, setup.as_str(), script.as_str(), number);
     }
+    for number in 0..lines.len() {
+        let (setup, script, lines) = (setup.as_str(), script.as_str(), lines.as_bytes());
+        expect_failed_write(&rt, alloc, setup, script, lines, number)?;
+    }
+    let come = replayed(alloc, setup.as_str(), script.as_str(), NEVER, NEVER);
+    assert!(rt; come.fault.is_none() && come.written.as_slice() == lines.as_bytes());
     // Memory is a device that never fails.
     assert!(rt; script.as_bytes().failures() == 0);
     let memory: Vec<u8> = Vec::new(alloc);
