@@ -1,5 +1,5 @@
 -- What a known stream means as an answer, head by head.
-use Rattle.std.proofs.Common.{◌≡◌, ◌⊎◌, inl, inr, ℕ, zero, suc, ◌-◌, ◌<◌, Bool, true, false, List, [], ◌++◌, length, take, drop, refl, sym, map, ap, subst, ◌∙◌, arith, length-append, length-take, Option, Some, Result, Err}
+use Rattle.std.proofs.Common.{◌≡◌, ◌⊎◌, inl, inr, ℕ, zero, suc, ◌-◌, ◌<◌, Bool, true, false, List, [], ◌++◌, length, take, drop, refl, sym, map, ap, subst, ◌∙◌, arith, append-nil, length-append, length-take, Option, Some, Result, Err}
 use Rattle.common_types.specs.Numbers.{is_between}
 use Rattle.httparse.specs.declared.spans.HeaderSpan.{HeaderSpan}
 use Rattle.httparse.specs.declared.spans.ResponseSpans.{ResponseSpans}
@@ -11,7 +11,15 @@ use Rattle.httparse.specs.Spans.{IsResponseAt, header_bytes}
 use Rattle.http_link.specs.ReadingReplies.{ReplyIsTaken, HasNoReply}
 use Rattle.http_link.specs.declared.posting.PostFault.{PostFault}
 use Rattle.http_link.specs.declared.posting.PostFault.TheVariants.{Head, Cut}
-use Rattle.http_link.specs.Client.{Means, meaning_of, is_interim}
+use Rattle.http_link.specs.Client.{IsMeaning, Means, MeansCoded, is_interim, told_of}
+use Rattle.std.specs.Io.KnownBytes.{IsAtEnd}
+use Rattle.http_link.specs.Bodies.{IsChunked, bad, cut, whole}
+use Rattle.http_link.specs.BodyReading.{ReadsAs, body_read}
+use Rattle.http_link.specs.declared.bodies.BodyRead.{BodyRead}
+use Rattle.http_link.specs.declared.bodies.BodyRead.TheVariants.{Bad, Whole}
+use Rattle.http_link.specs.declared.bodies.BodyRead.TheVariants as bodies
+use Rattle.http_link.specs.declared.bodies.Framing.TheVariants.{Chunked}
+use Rattle.http_link.proofs.Growing.{bad_more, whole_more}
 use Rattle.http_link.proofs.Heads.{nothing_left, begins_with_taken}
 
 true_or_false : (b : Bool) → b ≡ true → b ≡ false → ⊥
@@ -51,7 +59,7 @@ passed (suc heads) stream head rest meaning some begins interim next =
 
 -- any other head is the last
 last : (heads : ℕ) (stream : List ℕ) (head : ResponseHead) (rest : List ℕ) (meaning : Result (List ℕ) PostFault) → 0 < heads → BeginsAnswer stream head rest
-    → is_interim (reply_of head) ≡ false → meaning ≡ meaning_of (reply_of head) rest → Means heads stream meaning
+    → is_interim (reply_of head) ≡ false → IsMeaning (reply_of head) rest meaning → Means heads stream meaning
 last zero stream head rest meaning some begins final is = absurd (omega arith)
 last (suc heads) stream head rest meaning some begins final is =
     inl (record {
@@ -78,18 +86,18 @@ none_begins known text stream lines head rest size room none e begins =
 
 -- what an answer's head says is read off its spans
 reply_said : (said : List Line) (text : List ℕ) (lines : List HeaderSpan) (spans : ResponseSpans) (head : ResponseHead)
-    → said ≡ map (header_bytes text) (take spans.headers lines) → IsResponseAt text lines spans head → record { status = spans.code; lines = said } ≡ reply_of head
-reply_said said text lines spans head says at = rw (says, at.code, at.fields) refl
+    → said ≡ map (header_bytes text) (take spans.headers lines) → IsResponseAt text lines spans head → record { status = spans.code; minor = spans.version; lines = said } ≡ reply_of head
+reply_said said text lines spans head says at = rw (says, at.code, at.version, at.fields) refl
 
 -- a final head that was taken, whose body means that, is what the stream means
 pub final_read : (heads : ℕ) (old new : Option (List ℕ)) (text stream : List ℕ) (lines : List HeaderSpan) (spans : ResponseSpans) (said : List Line) (meaning : Result (List ℕ) PostFault)
     → 0 < heads → length text ≡ 8192 → length lines ≡ 64 → ReplyIsTaken old new text lines spans → old ≡ Some stream → said ≡ map (header_bytes (take spans.len text)) (take spans.headers lines)
-    → is_between 100 199 spans.code ≡ false → ((rest : List ℕ) → new ≡ Some rest → meaning ≡ meaning_of (record { status = spans.code; lines = said }) rest) → Means heads stream meaning
+    → is_between 100 199 spans.code ≡ false → ((rest : List ℕ) → new ≡ Some rest → IsMeaning (record { status = spans.code; minor = spans.version; lines = said }) rest meaning) → Means heads stream meaning
 final_read heads old new text stream lines spans said meaning some size room taken e says final is =
     let front = reply_begins old new text stream lines spans size room taken e in
     let head = taken.is.head in
-    let same : record { status = spans.code; lines = said } ≡ reply_of head = reply_said said (take spans.len text) lines spans head says taken.is.at in
-    last heads stream head front.0 meaning some front.2 (ap (is_between 100 199) (sym taken.is.at.code) ∙ final) (is front.0 front.1 ∙ ap (λ (r : Reply). meaning_of r front.0) same)
+    let same : record { status = spans.code; minor = spans.version; lines = said } ≡ reply_of head = reply_said said (take spans.len text) lines spans head says taken.is.at in
+    last heads stream head front.0 meaning some front.2 (ap (is_between 100 199) (sym taken.is.at.code) ∙ final) (subst (λ (r : Reply). IsMeaning r front.0 meaning) same (is front.0 front.1))
 
 -- an interim head that was taken is passed over
 pub interim_read : (heads : ℕ) (old new : Option (List ℕ)) (text stream : List ℕ) (lines : List HeaderSpan) (spans : ResponseSpans) → 0 < heads → length text ≡ 8192 → length lines ≡ 64
@@ -104,3 +112,21 @@ pub none_read : (heads : ℕ) (known : Option (List ℕ)) (text stream : List �
     → HasNoReply known (length text) (length lines) → known ≡ Some stream → (meaning ≡ Err Head) ⊎ (meaning ≡ Err Cut) → Means heads stream meaning
 none_read heads known text stream lines meaning some size room none e fault =
     no_head heads stream meaning some (λ head rest begins. none_begins known text stream lines head rest size room none e begins) fault
+
+-- chunks that were read are what the bytes mean
+pub chunks_mean : (read : BodyRead) (old new : Option (List ℕ)) (has room rest : List ℕ) → ReadsAs [] old new has room (IsChunked 34_000) read → old ≡ Some rest
+    → MeansCoded true rest (told_of (body_read room has read))
+chunks_mean (Whole n) old new has room rest read e =
+    let front = begins_with_taken old new read.came rest read.consumed e in (
+      whole (take n room) (has ++ front.0),
+      subst (λ (w : List ℕ). IsChunked 34_000 w (whole (take n room) (has ++ front.0))) (sym front.2) (whole_more (Chunked 34_000) read.came front.0 (take n room) has read.so),
+      refl,
+    )
+chunks_mean bodies.Cut old new has room rest read e =
+    let front = begins_with_taken old new read.came rest read.consumed e in
+    let over : front.0 ≡ [] = subst IsAtEnd front.1 (read.ended refl).1 in
+    let all : rest ≡ read.came = front.2 ∙ ap (λ (w : List ℕ). read.came ++ w) over ∙ append-nil read.came in
+    (cut, subst (λ (w : List ℕ). IsChunked 34_000 w cut) (sym all) read.so, refl)
+chunks_mean (Bad fault) old new has room rest read e =
+    let front = begins_with_taken old new read.came rest read.consumed e in
+    (bad fault, subst (λ (w : List ℕ). IsChunked 34_000 w (bad fault)) (sym front.2) (bad_more (Chunked 34_000) read.came front.0 fault read.so), refl)

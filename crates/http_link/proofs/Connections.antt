@@ -1,12 +1,10 @@
 -- From a head that was found in what has come to what serving the next request of a connection does.
-use Rattle.std.proofs.Common.{◌≡◌, inl, inr, ℕ, ◌≤◌, List, [], ◌++◌, length, take, drop, refl, sym, ap, subst, ◌∙◌, arith, append_assoc, length-take, length-drop, take-append-drop, Option, Result, Ok, Err, IfOk, Bool, false, ◌∷◌, length-append}
+use Rattle.std.proofs.Common.{◌≡◌, inl, inr, ℕ, ◌≤◌, List, [], ◌++◌, length, take, drop, refl, sym, ap, subst, ◌∙◌, arith, append_assoc, length-take, length-drop, take-append-drop, Option, Result, Ok, Err, IfOk, Bool, false, ◌∷◌}
 use Rattle.std.proofs.KnownBytes.{Consumes-trans}
 use Rattle.httparse.specs.declared.spans.HeaderSpan.{HeaderSpan}
 use Rattle.httparse.specs.declared.spans.RequestSpans.{RequestSpans}
 use Rattle.httparse.specs.Grammar.{ReadsRequest}
 use Rattle.httparse.proofs.GrammarLemmas.{ReadsRequest-append}
-use lib.Seq.{drop-append-le}
-use Rattle.std.proofs.lemmas.List.{take-append-le}
 use Rattle.http_link.specs.Connections.{AreAskedBy, AsksIt, AsksNext, IsAskedBy, ServesNext}
 use Rattle.http_link.specs.Heads.{BeginsWith, Head, head_of}
 use Rattle.http_link.specs.Lines.{head_in}
@@ -17,6 +15,7 @@ use Rattle.http_link.specs.Serving.{Asked, IsAskedOnly, IsServed, Traces, asking
 use Rattle.http_link.specs.declared.head.Offered.TheVariants.{Whole}
 use Rattle.http_link.specs.declared.serve.Served.{Served}
 use Rattle.http_link.specs.declared.streams.LinkFault.{LinkFault}
+use Rattle.http_link.proofs.Growing.{whole_more}
 use Rattle.http_link.proofs.Heads.{nothing_left}
 use Rattle.http_link.proofs.Serving.{head_said}
 
@@ -64,7 +63,7 @@ found_next (Err fault) tenant_of had old mid new has text lines spans traces roo
 found_next (Ok served) tenant_of had old mid new has text lines spans traces room same found runs =
     record {
       came = found.came ++ runs.came;
-      taken = Consumes-trans old mid new found.came runs.came found.taken runs.taken.taken;
+      taken = Consumes-trans old mid new found.came runs.came found.taken runs.taken;
       so = inl (record {
         head = found.stands.2.head;
         rest = drop spans.len has ++ runs.came;
@@ -87,11 +86,11 @@ found_asks tenant_of had old mid new has text lines spans Unasked Asks room same
         → AsksIt tenant_of had old new Asks
     by_wanted (Err status) is asks = absurd asks
     by_wanted (Ok wanted) is (inl none) = absurd none
-    by_wanted (Ok wanted) is (inr asks) = record {
+    by_wanted (Ok wanted) is (inr (body, after, frames, asks)) = record {
       came = found.came ++ once.0;
-      taken = Consumes-trans old mid new found.came once.0 found.taken once.1.taken;
-      asked = asking wanted (take wanted.size (drop spans.len has ++ once.0)) asks.1.0;
-      left = drop wanted.size (drop spans.len has ++ once.0);
+      taken = Consumes-trans old mid new found.came once.0 found.taken once.1;
+      asked = asking wanted body asks.0;
+      left = after;
       last = closes (head_of found.stands.2.head);
       by = record {
         head = found.stands.2.head;
@@ -99,28 +98,27 @@ found_asks tenant_of had old mid new has text lines spans Unasked Asks room same
         begins = found_begins had old mid has once.0 lines spans room found;
         wanted = wanted;
         wants = is;
-        whole = asks.0;
+        body = body;
+        frames = frames;
         asks = refl;
-        behind = refl;
         is_last = refl;
       };
-      asks = asks.1.1;
+      asks = asks.1;
     }
 
 -- a request asks the same where more bytes follow
 asked_more : (tenant_of : List ℕ → Option ℕ) (bytes more : List ℕ) (asked : Asked) (left : List ℕ) (last : Bool) → IsAskedBy tenant_of bytes asked left last
     → IsAskedBy tenant_of (bytes ++ more) asked (left ++ more) last
 asked_more tenant_of bytes more asked left last h =
-    let whole = h.whole in
     record {
       head = h.head;
       rest = h.rest ++ more;
       begins = record { reads = ReadsRequest-append bytes h.head h.rest more h.begins.reads; short = h.begins.short; few = h.begins.few };
       wanted = h.wanted;
       wants = h.wants;
-      whole = omega (arith, length-append h.rest more);
-      asks = h.asks ∙ ap (λ (body : List ℕ). asking h.wanted body asked.status) (sym (take-append-le h.wanted.size h.rest more whole));
-      behind = ap (λ (w : List ℕ). w ++ more) h.behind ∙ sym (drop-append-le h.wanted.size h.rest more whole);
+      body = h.body;
+      frames = whole_more h.wanted.framing h.rest more h.body left h.frames;
+      asks = h.asks;
       is_last = h.is_last;
     }
 

@@ -1,7 +1,10 @@
 pub mod Known
 pub mod Heads
 pub mod ReplyHeads
+pub mod Growing
 pub mod Serving
 pub mod Client
+pub mod Takes
+pub mod ChunkedBodies
 pub mod Rooms
 pub mod Connections

@@ -1,18 +1,19 @@
 -- Bytes that are held in a room.
-use Rattle.std.proofs.Common.{◌≡◌, ◌≤◌, ◌+◌, ◌-◌, ◌++◌, Bool, true, false, nat_lt, ltb-true, ltb-false, List, [], ℕ, length, take, drop, Option, Some, Ok, sym, ap, subst, ◌∙◌, arith, length-take, length-drop}
+use Rattle.std.proofs.Common.{◌≡◌, ◌<◌, ◌≤◌, ◌+◌, ◌-◌, ◌++◌, nat_lt, ltb-true, ltb-false, List, [], ℕ, length, take, drop, Option, Some, sym, ap, subst, ◌∙◌, arith, length-take, length-drop, take-take}
 use lib.Seq.{paste}
 use Rattle.std.proofs.Math.Seq.{drop-append-add, take-append-add}
 use Rattle.std.proofs.lemmas.List.{drop-take}
 use Rattle.std.proofs.lemmas.List.Edits.{take-paste}
 use Rattle.http_link.specs.declared.held.Held.{Held}
-use Rattle.http_link.specs.Running.{Came, held_in}
-use Rattle.http_link.specs.Requests.{Wanted}
-use Rattle.http_link.specs.Serving.{kept_unless}
+use Rattle.http_link.specs.Running.{held_in}
 use Rattle.std.proofs.KnownBytes.{Consumes-trans}
 use Rattle.std.specs.Io.KnownBytes.{Consumes}
 use Rattle.http_link.specs.Connections.{Awaits}
 use Rattle.http_link.specs.Streams.{FillsOn, ReadsBehind}
-use Rattle.http_link.specs.declared.serve.Served.TheVariants.{Ended}
+use Rattle.http_link.specs.Bodies.{IsSized}
+use Rattle.http_link.specs.BodyReading.{ReadsAs}
+use Rattle.http_link.specs.declared.bodies.BodyRead.TheVariants.{Cut, Whole}
+use Rattle.http_link.proofs.Takes.{none_held}
 use Rattle.http_link.proofs.Heads.{nothing_left}
 
 -- what is held from the front on
@@ -25,22 +26,9 @@ pub filled_all : (old new : Option (List ℕ)) (room : List ℕ) (h : Held) (wan
 filled_all old new room h wanted n buffer zero fills =
     ap (λ (had : List ℕ). had ++ fills.came) (held_front room h zero) ∙ sym fills.grew
 
--- that came
-pub filled_came : (old new : Option (List ℕ)) (room : List ℕ) (h : Held) (wanted : Wanted) (n : ℕ) (buffer : List ℕ) → h.from ≡ 0
-    → (fills : FillsOn old new (take h.to room) wanted.size buffer n) → Came (Ok wanted) (held_in room h) old new fills.came
-filled_came old new room h wanted n buffer zero fills = record {
-  taken = fills.taken;
-  as_wanted = subst (λ (had : List ℕ). length fills.came ≤ wanted.size - length had) (sym (held_front room h zero)) fills.missing;
-}
-
 -- nothing of a front is left behind all of it
 pub all_used : (room : List ℕ) (n : ℕ) → n ≤ length room → drop n (take n room) ≡ []
 all_used room n le = nothing_left (drop n (take n room)) (omega (arith, length-drop n (take n room), length-take n room))
-
--- a connection that is kept or closed has not ended
-pub never_ended : (closed : Bool) → kept_unless closed ≡ Ended → ⊥
-never_ended true e = absurd cc
-never_ended false e = absurd cc
 
 -- what lies behind a front, of a longer front
 pub behind_front : (room : List ℕ) (n to : ℕ) → n ≤ to → take (to - n) (drop n room) ≡ drop n (take to room)
@@ -62,10 +50,6 @@ held_behind text rest len from to long =
     ap (λ n. drop (n + from) (take (n + to) (text ++ rest))) (sym long)
     ∙ ap (drop (length text + from)) (take-append-add text rest to) ∙ drop-append-add text (take to rest) from
 
--- nothing is held where the places are in no order
-pub none_held : (room : List ℕ) (h : Held) → h.to ≤ h.from → held_in room h ≡ []
-none_held room h le = nothing_left (held_in room h) (omega (arith, length-drop h.from (take h.to room), length-take h.to room))
-
 -- what came where nothing was held
 pub first_came : (old between new : Option (List ℕ)) (before room after : List ℕ) (h now : Held) (limit n : ℕ) → h.to ≤ h.from → now.from ≡ 0 → now.to ≡ n
     → limit ≤ length after → Consumes old between [] → ReadsBehind between new 0 limit room after (Some n) → Awaits (held_in before h) old new (held_in after now) (nat_lt 0 n)
@@ -82,4 +66,36 @@ first_came old between new before room after h now limit n none from to within k
       taken = Consumes-trans old between new [] read.2.0 kept read.2.2;
       some = λ more. let lt = ltb-true 0 n more in omega arith;
       ended = λ over. let le = ltb-false 0 n over in (nothing_left (held_in after now) (omega arith), read.1 (omega arith));
+    }
+
+-- a body of a stated length that was read, or is cut
+pub sized_whole : (old new : Option (List ℕ)) (before room : List ℕ) (h now : Held) (size there : ℕ) → h.from ≡ 0 → FillsOn old new (take h.to before) size room there
+    → size ≤ there → now ≡ record { from = size; to = there } → ReadsAs (held_in before h) old new (held_in room now) room (IsSized size) (Whole size)
+sized_whole old new before room h now size there zero fills ge same =
+    let all : held_in before h ++ fills.came ≡ take there room = filled_all old new before h size there room zero fills in
+    let bound = fills.bound in
+    record {
+      came = fills.came;
+      consumed = fills.taken;
+      so = (
+        subst (λ (w : List ℕ). size ≤ length w) (sym all) (omega (arith, length-take there room)),
+        sym (ap (take size) all ∙ take-take size there room (omega arith)),
+        ap (held_in room) same ∙ sym (ap (drop size) all),
+      );
+      ended = λ e. absurd (apart e);
+    }
+  where
+    apart : Whole size ≡ Cut → ⊥
+    apart e = absurd cc
+
+pub sized_cut : (old new : Option (List ℕ)) (before room : List ℕ) (h now : Held) (size there : ℕ) → h.from ≡ 0 → FillsOn old new (take h.to before) size room there
+    → there < size → now.to ≤ now.from → ReadsAs (held_in before h) old new (held_in room now) room (IsSized size) Cut
+sized_cut old new before room h now size there zero fills lt none =
+    let all : held_in before h ++ fills.came ≡ take there room = filled_all old new before h size there room zero fills in
+    let bound = fills.bound in
+    record {
+      came = fills.came;
+      consumed = fills.taken;
+      so = subst (λ (w : List ℕ). length w < size) (sym all) (omega (arith, length-take there room));
+      ended = λ e. (none_held room now none, fills.ended lt);
     }

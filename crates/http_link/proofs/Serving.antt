@@ -1,8 +1,7 @@
 -- From what is taken and written to what serving a known stream does.
-use Rattle.std.proofs.Common.{◌≡◌, ◌⊎◌, inl, inr, ℕ, ◌<◌, ◌≤◌, List, [], ◌++◌, length, take, drop, refl, sym, ap, subst, ◌∙◌, arith, append-nil, length-append, length-take, take_all, Option, Some, None, Result, Ok, Err, IfOk}
-use Rattle.std.proofs.Math.Seq.{take-append_seam, drop-append_seam}
-use Rattle.std.proofs.KnownBytes.{Consumes-nil}
-use Rattle.std.specs.Io.KnownBytes.{Consumes, IsAtEnd}
+use Rattle.std.proofs.Common.{◌≡◌, inl, inr, ℕ, List, [], ◌++◌, length, take, drop, refl, sym, ap, subst, ◌∙◌, arith, append-nil, length-append, length-take, Bool, true, false, Option, Some, None, Result, Ok, Err, IfOk}
+use Rattle.std.proofs.KnownBytes.{Appends-trans, Consumes-nil}
+use Rattle.std.specs.Io.KnownBytes.{Appends, Consumes, IsAtEnd}
 use Rattle.httparse.specs.declared.spans.HeaderSpan.{HeaderSpan}
 use Rattle.httparse.specs.declared.spans.RequestSpans.{RequestSpans}
 use Rattle.httparse.specs.Grammar.{RequestHead, print_request, ReadsRequest}
@@ -11,69 +10,67 @@ use Rattle.httparse.specs.Spans.{IsRequestAt}
 use Rattle.http_link.specs.Heads.{BeginsWith, Head, head_of}
 use Rattle.http_link.specs.Reading.{IsTaken, HasNoHead}
 use Rattle.http_link.specs.Lines.{head_in}
-use Rattle.http_link.specs.Requests.{Wanted, wanted_of}
-use Rattle.http_link.specs.Answers.{refusal_text}
+use Rattle.http_link.specs.Bodies.{Body, IsBody, bad, cut, refusal_of, whole}
+use Rattle.http_link.specs.BodyReading.{ReadsAs}
+use Rattle.http_link.specs.Requests.{Wanted, closes, waits, wanted_of}
+use Rattle.http_link.specs.Answers.{answer_text, continue_text, refusal_text}
+use Rattle.http_link.specs.declared.bodies.BodyFault.{BodyFault}
+use Rattle.http_link.specs.declared.bodies.BodyRead.TheVariants.{Bad, Cut, Whole}
 use Rattle.http_link.specs.declared.serve.Served.{Served}
 use Rattle.http_link.specs.declared.serve.Served.TheVariants.{Closed, Ended}
 use Rattle.http_link.specs.declared.streams.LinkFault.{LinkFault}
-use Rattle.http_link.specs.Serving.{Asked, Traces, IsServed, IsAskedOnly, AsksAtMostOnce, asking}
+use Rattle.http_link.specs.Serving.{Asked, Traces, IsServed, IsAskedOnly, AsksAtMostOnce, ServesBody, asking, kept_unless}
 use Rattle.http_link.specs.Running.{Runs, AsksWanted}
-use Rattle.http_link.proofs.Heads.{nothing_left, begins_with_taken, lt_or_ge}
+use Rattle.http_link.proofs.Growing.{bad_more, whole_more}
+use Rattle.http_link.proofs.Heads.{nothing_left, begins_with_taken}
 
 -- what is left behind what was taken
 taken_left : (rest body : List ℕ) (left : Option (List ℕ)) → Consumes (Some rest) left body → (ys : List ℕ) × (left ≡ Some ys) × (rest ≡ body ++ ys)
 taken_left rest body None c = absurd c
 taken_left rest body (Some ys) c = (ys, refl, c)
 
--- the front of a sum is its first part, and what follows its second
-front_of : (size : ℕ) (rest body ys : List ℕ) → rest ≡ body ++ ys → length body ≡ size → (take size rest ≡ body) × (drop size rest ≡ ys) × (size ≤ length rest)
-front_of size rest body ys e len =
-    let long = ap length e in (
-      subst (λ m. take m rest ≡ body) len (ap (take (length body)) e ∙ take-append_seam body ys),
-      subst (λ m. drop m rest ≡ ys) len (ap (drop (length body)) e ∙ drop-append_seam body ys),
-      omega (arith, length-append body ys),
-    )
-
 -- what serving is with that left
 abbrev pub leaving : Option (List ℕ) → Traces → Traces
 leaving left traces = record traces { left = left }
 
--- what is done with a head behind which nothing had come is what serving the stream does
+-- one value of what is left
+same_left : (one other : List ℕ) → Some one ≡ Some other → one ≡ other
+same_left one other e = cc
+
+-- what is done with a head behind which nothing had come, and nothing is held in the end, is what serving the stream does
 pub runs_served : (want : Result Wanted ℕ) (head : Head) (rest : List ℕ) (left : Option (List ℕ)) (traces : Traces) (served : Served)
-    → Runs want head [] (Some rest) left traces served → IsServed want head rest (leaving left traces) served
-runs_served (Err status) head rest left traces served runs =
-    let front = taken_left rest runs.came left runs.taken.taken in
-    let few = runs.taken.as_wanted in
-    let none : runs.came ≡ [] = nothing_left runs.came (omega arith) in
-    let same : rest ≡ front.0 = front.2 ∙ ap (λ (w : List ℕ). w ++ front.0) none in
+    → traces.left ≡ Some [] → Runs want head [] (Some rest) left traces served → IsServed want head rest (leaving left traces) served
+runs_served (Err status) head rest left traces served none runs =
+    let front = taken_left rest runs.came left runs.taken in
+    let nothing : runs.came ≡ [] = same_left runs.came [] (sym runs.so.left ∙ none) in
+    let same : rest ≡ front.0 = front.2 ∙ ap (λ (w : List ℕ). w ++ front.0) nothing in
     record { closed = runs.so.closed; unasked = runs.so.unasked; written = runs.so.written; left = front.1 ∙ ap Some (sym same) }
-runs_served (Ok wanted) head rest left traces served runs = by_length (lt_or_ge (length runs.came) wanted.size)
+runs_served (Ok wanted) head rest left traces served none runs = by_body runs.so.0 runs.so.1 runs.so.2
   where
-    by_length : (length runs.came < wanted.size) ⊎ (wanted.size ≤ length runs.came) → IsServed (Ok wanted) head rest (leaving left traces) served
-    by_length (inl lt) =
-        let front = taken_left rest runs.came left runs.taken.taken in
-        let cut = runs.so.0 lt in
-        let none : front.0 ≡ [] = subst IsAtEnd front.1 (runs.ended cut.ended) in
-        let long = ap length front.2 in
-        let zero = ap length none in (
-          λ short. record { ended = cut.ended; unasked = cut.unasked; written = cut.written; left = front.1 ∙ ap Some none },
-          λ ge. absurd (omega (arith, length-append runs.came front.0)),
+    front : (ys : List ℕ) × (left ≡ Some ys) × (rest ≡ runs.came ++ ys)
+    front = taken_left rest runs.came left runs.taken
+
+    by_body : (body : Body) → IsBody wanted.framing runs.came body → ServesBody wanted head traces served body → IsServed (Ok wanted) head rest (leaving left traces) served
+    by_body (whole bytes after) is asked =
+        let nothing : after ≡ [] = same_left after [] (sym asked.left ∙ none) in
+        let grown = whole_more wanted.framing runs.came front.0 bytes after is in (
+          whole bytes front.0,
+          subst (λ (w : List ℕ). IsBody wanted.framing w (whole bytes front.0)) (sym front.2)
+              (subst (λ (w : List ℕ). IsBody wanted.framing (runs.came ++ front.0) (whole bytes (w ++ front.0))) nothing grown),
+          record { status = asked.status; asked = asked.asked; written = asked.written; left = front.1; open_or_not = asked.open_or_not },
         )
-    by_length (inr ge) =
-        let front = taken_left rest runs.came left runs.taken.taken in
-        let few = runs.taken.as_wanted in
-        let asked = runs.so.1 ge in
-        let parts = front_of wanted.size rest runs.came front.0 front.2 (omega arith) in
-        let body : take wanted.size runs.came ≡ take wanted.size rest = take_all wanted.size runs.came (omega arith) ∙ sym parts.0 in (
-          λ lt. let whole = parts.2 in absurd (omega arith),
-          λ whole. record {
-            status = asked.status;
-            asked = subst (λ (w : List ℕ). traces.Asks (asking wanted w asked.status)) body asked.asked;
-            written = asked.written;
-            left = front.1 ∙ ap Some (sym parts.1);
-            open_or_not = asked.open_or_not;
-          },
+    by_body cut is so =
+        let over : front.0 ≡ [] = subst IsAtEnd front.1 (runs.ended so.ended) in
+        let all : rest ≡ runs.came = front.2 ∙ ap (λ (w : List ℕ). runs.came ++ w) over ∙ append-nil runs.came in (
+          cut,
+          subst (λ (w : List ℕ). IsBody wanted.framing w cut) (sym all) is,
+          record { ended = so.ended; unasked = so.unasked; written = so.written; left = front.1 ∙ ap Some over },
         )
+    by_body (bad fault) is so = (
+      bad fault,
+      subst (λ (w : List ℕ). IsBody wanted.framing w (bad fault)) (sym front.2) (bad_more wanted.framing runs.came front.0 fault is),
+      record { closed = so.closed; unasked = so.unasked; written = so.written },
+    )
 
 -- only what is wanted is asked
 pub asks_only : (want : Result Wanted ℕ) (rest : List ℕ) (left : Option (List ℕ)) (Unasked : Type 0) (Asks : Asked → Type 0)
@@ -81,17 +78,13 @@ pub asks_only : (want : Result Wanted ℕ) (rest : List ℕ) (left : Option (Lis
 asks_only (Err status) rest left Unasked Asks (inl none) = none
 asks_only (Err status) rest left Unasked Asks (inr once) = absurd once.2
 asks_only (Ok wanted) rest left Unasked Asks (inl none) = inl none
-asks_only (Ok wanted) rest left Unasked Asks (inr once) = whole once.2
+asks_only (Ok wanted) rest left Unasked Asks (inr once) = asked once.2
   where
-    whole : IsAskedOnly (Ok wanted) once.0 ⊥ Asks → IsAskedOnly (Ok wanted) rest Unasked Asks
-    whole (inl none) = absurd none
-    whole (inr asked) =
-        let front = taken_left rest once.0 left once.1.taken in
-        let few = once.1.as_wanted in
-        let ge = asked.0 in
-        let parts = front_of wanted.size rest once.0 front.0 front.2 (omega arith) in
-        let body : take wanted.size once.0 ≡ take wanted.size rest = take_all wanted.size once.0 (omega arith) ∙ sym parts.0 in
-        inr (parts.2, (asked.1.0, subst (λ (w : List ℕ). Asks (asking wanted w asked.1.0)) body asked.1.1))
+    asked : IsAskedOnly (Ok wanted) once.0 ⊥ Asks → IsAskedOnly (Ok wanted) rest Unasked Asks
+    asked (inl none) = absurd none
+    asked (inr (body, after, is, so)) =
+        let front = taken_left rest once.0 left once.1 in
+        inr (body, after ++ front.0, subst (λ (w : List ℕ). IsBody wanted.framing w (whole body (after ++ front.0))) (sym front.2) (whole_more wanted.framing once.0 front.0 body after is), so)
 
 -- at most one question is asked
 pub asks_once : (want : Result Wanted ℕ) (had : List ℕ) (old new : Option (List ℕ)) (Unasked : Type 0) (Asks : Asked → Type 0)
@@ -99,11 +92,11 @@ pub asks_once : (want : Result Wanted ℕ) (had : List ℕ) (old new : Option (L
 asks_once (Err status) had old new Unasked Asks (inl none) = inl none
 asks_once (Err status) had old new Unasked Asks (inr once) = absurd once.2
 asks_once (Ok wanted) had old new Unasked Asks (inl none) = inl none
-asks_once (Ok wanted) had old new Unasked Asks (inr once) = whole once.2
+asks_once (Ok wanted) had old new Unasked Asks (inr once) = asked once.2
   where
-    whole : IsAskedOnly (Ok wanted) (had ++ once.0) ⊥ Asks → AsksAtMostOnce Unasked Asks
-    whole (inl none) = absurd none
-    whole (inr asked) = inr (asking wanted (take wanted.size (had ++ once.0)) asked.1.0, asked.1.1)
+    asked : IsAskedOnly (Ok wanted) (had ++ once.0) ⊥ Asks → AsksAtMostOnce Unasked Asks
+    asked (inl none) = absurd none
+    asked (inr (body, after, is, so)) = inr (asking wanted body so.0, so.1)
 
 -- a head that was taken begins the stream
 pub taken_begins : (old new : Option (List ℕ)) (text stream : List ℕ) (lines : List HeaderSpan) (spans : RequestSpans) → length text ≡ 8192 → length lines ≡ 64
@@ -150,13 +143,13 @@ taken_is said old new text stream lines spans head rest size room taken says e b
 
 -- what is done with the head that was taken is what serving the stream does
 pub head_served : (result : Result Served LinkFault) (tenant_of : List ℕ → Option ℕ) (said : Head) (new left : Option (List ℕ)) (traces : Traces) (head : RequestHead) (rest : List ℕ)
-    → (said ≡ head_of head) × (new ≡ Some rest) → IfOk result (Runs (wanted_of tenant_of said) said [] new left traces)
+    → traces.left ≡ Some [] → (said ≡ head_of head) × (new ≡ Some rest) → IfOk result (Runs (wanted_of tenant_of said) said [] new left traces)
     → IfOk result (IsServed (wanted_of tenant_of (head_of head)) (head_of head) rest (leaving left traces))
-head_served (Ok served) tenant_of said new left traces head rest is runs =
-    runs_served (wanted_of tenant_of (head_of head)) (head_of head) rest left traces served
+head_served (Ok served) tenant_of said new left traces head rest none is runs =
+    runs_served (wanted_of tenant_of (head_of head)) (head_of head) rest left traces served none
     (subst (λ (known : Option (List ℕ)). Runs (wanted_of tenant_of (head_of head)) (head_of head) [] known left traces served) is.1
     (subst (λ (h : Head). Runs (wanted_of tenant_of h) h [] new left traces served) is.0 runs))
-head_served (Err fault) tenant_of said new left traces head rest is runs = tt
+head_served (Err fault) tenant_of said new left traces head rest none is runs = tt
 
 -- what is asked for the head that was taken is what the stream's head wants
 pub head_asked : (tenant_of : List ℕ → Option ℕ) (said : Head) (new left : Option (List ℕ)) (Unasked : Type 0) (Asks : Asked → Type 0) (head : RequestHead) (rest : List ℕ)
@@ -173,7 +166,7 @@ pub refused_runs : (r : Result Served LinkFault) (want : Result Wanted ℕ) (sta
 refused_runs (Ok served) want status head had known traces is left unasked refused =
     subst (λ (w : Result Wanted ℕ). Runs w head had known known traces served) (sym is) (record {
       came = [];
-      taken = record { taken = Consumes-nil known; as_wanted = omega arith };
+      taken = Consumes-nil known;
       so = record { closed = refused.0; unasked = unasked; written = refused.1; left = left ∙ ap Some (sym (append-nil had)) };
       ended = λ e. absurd (not_ended (sym refused.0 ∙ e));
     })
@@ -194,6 +187,70 @@ wanted_asks want other had old new Unasked Asks is asks = subst (λ (w : Result 
 -- what serving is, part by part
 abbrev pub traced : (Unasked : Type 0) → (Asked → Type 0) → (answer : List ℕ) → (Writes : List ℕ → Type 0) → (left : List ℕ) → Traces
 traced Unasked Asks answer Writes left = record { Unasked = Unasked; Asks = Asks; answer = answer; left = Some left; Writes = Writes }
+
+-- a connection that is kept or closed has not ended
+never_ended : (closed : Bool) → kept_unless closed ≡ Ended → ⊥
+never_ended true e = absurd cc
+never_ended false e = absurd cc
+
+-- a whole body was read, asked, and answered
+pub whole_runs : (r : Result Served LinkFault) (wanted : Wanted) (head : Head) (had : List ℕ) (old new : Option (List ℕ)) (has room : List ℕ) (n : ℕ) (Unasked : Type 0) (Asks : Asked → Type 0)
+    (told : List ℕ) (first mid last : Option (List ℕ)) → ReadsAs had old new has room (IsBody wanted.framing) (Whole n) → Appends first mid (continue_text (waits head))
+    → IfOk r (λ served. (served ≡ kept_unless (closes head)) × ((status : ℕ) × Asks (asking wanted (take n room) status) × Appends mid last (answer_text wanted.kind status told (closes head))))
+    → IfOk r (Runs (Ok wanted) head had old new (traced Unasked Asks told (λ text. Appends first last text) has))
+whole_runs (Ok served) wanted head had old new has room n Unasked Asks told first mid last read interim (kept, (status, asked, written)) = record {
+  came = read.came;
+  taken = read.consumed;
+  so = (
+    whole (take n room) has,
+    read.so,
+    record {
+      status = status;
+      asked = asked;
+      written = Appends-trans first mid last (continue_text (waits head)) (answer_text wanted.kind status told (closes head)) interim written;
+      left = refl;
+      open_or_not = kept;
+    },
+  );
+  ended = λ is. absurd (never_ended (closes head) (sym kept ∙ is));
+}
+whole_runs (Err fault) wanted head had old new has room n Unasked Asks told first mid last read interim answered = tt
+
+-- a body was cut
+pub cut_runs : (wanted : Wanted) (head : Head) (had : List ℕ) (old new : Option (List ℕ)) (has room : List ℕ) (Unasked : Type 0) (Asks : Asked → Type 0)
+    (told : List ℕ) (first last : Option (List ℕ)) → ReadsAs had old new has room (IsBody wanted.framing) Cut → Appends first last (continue_text (waits head)) → Unasked
+    → Runs (Ok wanted) head had old new (traced Unasked Asks told (λ text. Appends first last text) has) Ended
+cut_runs wanted head had old new has room Unasked Asks told first last read interim unasked = record {
+  came = read.came;
+  taken = read.consumed;
+  so = (cut, read.so, record { ended = refl; unasked = unasked; written = interim; left = ap Some (read.ended refl).0 });
+  ended = λ is. (read.ended refl).1;
+}
+
+-- a body was refused
+pub bad_runs : (r : Result Served LinkFault) (wanted : Wanted) (head : Head) (fault : BodyFault) (had : List ℕ) (old new : Option (List ℕ)) (has room : List ℕ) (Unasked : Type 0) (Asks : Asked → Type 0)
+    (told : List ℕ) (first mid last : Option (List ℕ)) → ReadsAs had old new has room (IsBody wanted.framing) (Bad fault) → Appends first mid (continue_text (waits head)) → Unasked
+    → IfOk r (λ served. (served ≡ Closed) × Appends mid last (refusal_text (refusal_of fault)))
+    → IfOk r (Runs (Ok wanted) head had old new (traced Unasked Asks told (λ text. Appends first last text) has))
+bad_runs (Ok served) wanted head fault had old new has room Unasked Asks told first mid last read interim unasked refused = record {
+  came = read.came;
+  taken = read.consumed;
+  so = (
+    bad fault,
+    read.so,
+    record { closed = refused.0; unasked = unasked; written = Appends-trans first mid last (continue_text (waits head)) (refusal_text (refusal_of fault)) interim refused.1 },
+  );
+  ended = λ is. absurd (not_ended (sym refused.0 ∙ is));
+}
+  where
+    not_ended : Closed ≡ Ended → ⊥
+    not_ended e = absurd cc
+bad_runs (Err fault') wanted head fault had old new has room Unasked Asks told first mid last read interim unasked refused = tt
+
+-- what was asked with a whole body
+pub whole_asks : (wanted : Wanted) (had : List ℕ) (old new : Option (List ℕ)) (has room : List ℕ) (n : ℕ) (Unasked : Type 0) (Asks : Asked → Type 0)
+    → ReadsAs had old new has room (IsBody wanted.framing) (Whole n) → (status : ℕ) × Asks (asking wanted (take n room) status) → AsksWanted (Ok wanted) had old new Unasked Asks
+whole_asks wanted had old new has room n Unasked Asks read asked = inr (read.came, read.consumed, inr (take n room, has, read.so, asked))
 
 -- what is done is the same where head, bytes and what is left are told otherwise
 pub told_runs : (r : Result Served LinkFault) (tenant_of : List ℕ → Option ℕ) (said other : Head) (had there : List ℕ) (old new : Option (List ℕ)) (left now : List ℕ)

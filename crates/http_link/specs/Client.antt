@@ -1,15 +1,17 @@
 -- What a link sends to a peer, and what the peer's answer means (RFC 0035).
-use Rattle.std.specs.Prelude.{◌≡◌, ◌≢◌, ◌⊎◌, ℕ, suc, zero, List, ◌++◌, length, take, Bool, ◌==◌, nat_lt, if◌then◌else◌}
+use Rattle.std.specs.Prelude.{◌≡◌, ◌≢◌, ◌⊎◌, ℕ, suc, zero, List, ◌++◌, length, take, Bool, true, false, ◌&&◌, ◌==◌, nat_lt, if◌then◌else◌}
 use Rattle.std.specs.Prelude.{codes, decimal, Option, Some, Result, Ok, Err, IsTrue, IsFalse}
 use Rattle.common_types.specs.Numbers.{is_between}
 use Rattle.ilp_addr.specs.Target.{Parts, authority_of, path_of}
 use Rattle.httparse.specs.Grammar.{ResponseHead}
+use Rattle.http_link.specs.Bodies.{Body, IsChunked, bad, cut, whole}
+use Rattle.http_link.specs.declared.bodies.BodyFault.TheVariants.{Malformed, TooLarge}
 use Rattle.http_link.specs.declared.posting.PostFault.{PostFault}
 use Rattle.http_link.specs.declared.posting.PostFault.TheVariants.{Read, Write, Turns, Cut, Head, Status, Unframed}
 use Rattle.http_link.specs.declared.posting.PostFault.TheVariants.{Size}
 use Rattle.http_link.specs.declared.streams.LinkFault.{LinkFault}
 use Rattle.http_link.specs.declared.streams.LinkFault.TheVariants as links
-use Rattle.http_link.specs.Fields.{Standing, missing, once, repeated, standing, value_of, is_length}
+use Rattle.http_link.specs.Fields.{Standing, missing, once, repeated, standing, value_of, is_chunked, is_length}
 use Rattle.http_link.specs.Heads.{BeginsAnswer, Reply, reply_of}
 use Rattle.http_link.specs.Answers.{line}
 
@@ -43,20 +45,39 @@ sized_body size rest =
 abbrev pub body_to_end : List ℕ → Result (List ℕ) PostFault
 body_to_end rest = if nat_lt max_answer (length rest) then Err Size else Ok rest
 
--- a body by the lines on its coding and its length (RFC 9112, 6.3)
-abbrev pub body_of : Standing → Standing → List ℕ → Result (List ℕ) PostFault
-body_of missing missing rest = body_to_end rest
-body_of missing (once text) rest = if is_length text then sized_body (value_of text) rest else Err Unframed
-body_of missing repeated rest = Err Unframed
-body_of (once coding) length rest = Err Unframed
-body_of repeated length rest = Err Unframed
+-- what a body in chunks means
+abbrev pub told_of : Body → Result (List ℕ) PostFault
+told_of (whole bytes after) = Ok bytes
+told_of cut = Err Cut
+told_of (bad Malformed) = Err Unframed
+told_of (bad TooLarge) = Err Size
 
--- what the last head of an answer and the bytes behind it mean (RFC 9110, 15.3.1)
-abbrev pub meaning_of : Reply → List ℕ → Result (List ℕ) PostFault
-meaning_of reply rest =
-    if reply.status == 200
-    then body_of (standing (codes "Transfer-Encoding") reply.lines) (standing (codes "Content-Length") reply.lines) rest
-    else Err Status
+-- a body of a coding: in chunks, or in another, which we don't read (RFC 9112, 6.1 and 7.1)
+abbrev pub MeansCoded : Bool → List ℕ → Result (List ℕ) PostFault → Type 0
+MeansCoded true rest meaning = (body : Body) × IsChunked max_answer rest body × (meaning ≡ told_of body)
+MeansCoded false rest meaning = meaning ≡ Err Unframed
+
+-- a body by the lines on its coding and its length (RFC 9112, 6.3)
+abbrev pub MeansBody : (minor : ℕ) → (coded length : Standing) → List ℕ → Result (List ℕ) PostFault → Type 0
+MeansBody minor missing missing rest meaning = meaning ≡ body_to_end rest
+MeansBody minor missing (once text) rest meaning =
+    meaning ≡ (if is_length text then sized_body (value_of text) rest else Err Unframed)
+MeansBody minor missing repeated rest meaning = meaning ≡ Err Unframed
+MeansBody minor (once coding) missing rest meaning = MeansCoded ((minor == 1) && is_chunked coding) rest meaning
+MeansBody minor (once coding) (once text) rest meaning = meaning ≡ Err Unframed
+MeansBody minor (once coding) repeated rest meaning = meaning ≡ Err Unframed
+MeansBody minor repeated length rest meaning = meaning ≡ Err Unframed
+
+-- what the last head of an answer and the bytes behind it mean, by its status (RFC 9110, 15.3.1)
+abbrev pub MeansFinal : Bool → Reply → List ℕ → Result (List ℕ) PostFault → Type 0
+MeansFinal true reply rest meaning =
+    MeansBody reply.minor (standing (codes "Transfer-Encoding") reply.lines) (standing (codes "Content-Length") reply.lines)
+    rest meaning
+MeansFinal false reply rest meaning = meaning ≡ Err Status
+
+-- what the last head of an answer and the bytes behind it mean
+abbrev pub IsMeaning : Reply → List ℕ → Result (List ℕ) PostFault → Type 0
+IsMeaning reply rest meaning = MeansFinal (reply.status == 200) reply rest meaning
 
 -- an interim answer (RFC 9110, 15.2)
 abbrev pub is_interim : Reply → Bool
@@ -69,7 +90,7 @@ pub record FirstMeans (next : List ℕ → Result (List ℕ) PostFault → Type 
   pub rest : List ℕ
   pub begins : BeginsAnswer stream head rest
   pub interim : IsTrue (is_interim (reply_of head)) → next rest meaning
-  pub final : IsFalse (is_interim (reply_of head)) → meaning ≡ meaning_of (reply_of head) rest
+  pub final : IsFalse (is_interim (reply_of head)) → IsMeaning (reply_of head) rest meaning
 
 -- no head within the limits begins the stream: it is cut inside one, or has none
 pub record HasNone (stream : List ℕ) (meaning : Result (List ℕ) PostFault) : Type 0 where
@@ -93,6 +114,11 @@ fault_of links.Write = Write
 fault_of links.Turns = Turns
 
 -- what is given is what the known bytes mean, unless the device failed or too many reads were made
+abbrev pub GivesAs : (List ℕ → Result (List ℕ) PostFault → Type 0) → Option (List ℕ) → Result ℕ PostFault → List ℕ → Type 0
+GivesAs Means known result out =
+    (rest : List ℕ) → known ≡ Some rest → result ≢ Err Read → result ≢ Err Turns → Means rest (given result out)
+
+-- the same of a meaning that is computed
 abbrev pub GivesOf : (List ℕ → Result (List ℕ) PostFault) → Option (List ℕ) → Result ℕ PostFault → List ℕ → Type 0
 GivesOf meaning known result out =
     (rest : List ℕ) → known ≡ Some rest → result ≢ Err Read → result ≢ Err Turns → given result out ≡ meaning rest

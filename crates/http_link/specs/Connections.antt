@@ -1,9 +1,11 @@
 -- Requests of a connection, one after another, on the bytes that come.
-use Rattle.std.specs.Prelude.{◌≡◌, ◌<◌, ◌≤◌, ◌⊎◌, ℕ, List, [], ◌∷◌, ◌++◌, length, take, drop, Bool, true, false, Option, Ok, Err}
+use Rattle.std.specs.Prelude.{◌≡◌, ◌<◌, ◌⊎◌, ℕ, List, [], ◌∷◌, ◌++◌, length, Bool, true, false, Option, Result, Ok, Err}
 use Rattle.std.specs.Io.KnownBytes.{Consumes, IsAtEnd}
 use Rattle.httparse.specs.Grammar.{RequestHead}
+use Rattle.http_link.specs.declared.bodies.BodyFault.{BodyFault}
 use Rattle.http_link.specs.declared.serve.Served.{Served}
 use Rattle.http_link.specs.declared.serve.Served.TheVariants.{Closed, Ended, Kept}
+use Rattle.http_link.specs.Bodies.{IsBody, bad, whole}
 use Rattle.http_link.specs.Heads.{BeginsWith, head_of}
 use Rattle.http_link.specs.Requests.{Wanted, closes, wanted_of}
 use Rattle.http_link.specs.Serving.{Asked, Traces, IsServed, WritesNothingOr400, asking}
@@ -41,9 +43,9 @@ pub record IsAskedBy (tenant_of : List ℕ → Option ℕ) (bytes : List ℕ) (a
   pub begins : BeginsWith bytes head rest
   pub wanted : Wanted
   pub wants : wanted_of tenant_of (head_of head) ≡ Ok wanted
-  pub whole : wanted.size ≤ length rest
-  pub asks : asked ≡ asking wanted (take wanted.size rest) asked.status
-  pub behind : left ≡ drop wanted.size rest
+  pub body : List ℕ
+  pub frames : IsBody wanted.framing rest (whole body left)
+  pub asks : asked ≡ asking wanted body asked.status
   pub is_last : last ≡ closes (head_of head)
 
 -- the request was asked that the bytes begin with, once more of them had come
@@ -69,12 +71,17 @@ AreAskedBy tenant_of bytes (asked ∷ earlier) left last =
 
 -- ---- the end
 
--- what bytes begin with is no head within the limits, or one that is refused
+-- a head is refused, or the body behind it is
+abbrev pub IsRefusedBy : Result Wanted ℕ → List ℕ → Type 0
+IsRefusedBy (Err status) rest = Unit {0}
+IsRefusedBy (Ok wanted) rest = (fault : BodyFault) × IsBody wanted.framing rest (bad fault)
+
+-- what bytes begin with is no head within the limits, or one that is refused, or whose body is
 abbrev pub IsTurnedAway : (List ℕ → Option ℕ) → List ℕ → Type 0
 IsTurnedAway tenant_of bytes =
     ((head : RequestHead) (rest : List ℕ) → BeginsWith bytes head rest → ⊥)
-    ⊎ ((head : RequestHead) × (rest : List ℕ) × (status : ℕ) × BeginsWith bytes head rest
-    × (wanted_of tenant_of (head_of head) ≡ Err status))
+    ⊎ ((head : RequestHead) × (rest : List ℕ) × BeginsWith bytes head rest
+    × IsRefusedBy (wanted_of tenant_of (head_of head)) rest)
 
 -- How a connection came to its end, on which that is left: no more bytes came; or its last request closed it, or the next one was
 -- turned away.

@@ -1,6 +1,6 @@
 -- The field lines of a head (RFC 9110, 5).
 use Rattle.std.specs.Prelude.{ℕ, ◌+◌, ◌-◌, ◌*◌, List, [], ◌∷◌, length, take, drop, map, filter, fold, Bool, ◌&&◌, ◌==◌}
-use Rattle.std.specs.Prelude.{if◌then◌else◌}
+use Rattle.std.specs.Prelude.{codes, if◌then◌else◌}
 use Rattle.std.specs.List.{list_all, list_any, slice_split}
 use Rattle.std.specs.Str.{str_eq_ignore_ascii_case}
 use Rattle.httparse.specs.Grammar.{is_ows, skip_ows}
@@ -38,6 +38,10 @@ is_element word part =
 -- a value is a list that has the word (RFC 9110, 5.6.1)
 abbrev pub has_element : List ℕ → List ℕ → Bool
 has_element word value = list_any (is_element word) (slice_split (λ b. b == 44) value)
+
+-- a body's coding is `chunked`, and no other beside it (RFC 9112, 7.1)
+abbrev pub is_chunked : List ℕ → Bool
+is_chunked coding = str_eq_ignore_ascii_case coding (codes "chunked")
 
 -- the value of decimal digits
 abbrev pub value_of : List ℕ → ℕ

@@ -39,8 +39,9 @@ head_of h = record { method = h.method; target = h.target; minor = h.minor; line
 -- what an answer's head says
 pub record Reply : Type 0 where
   pub status : ℕ
+  pub minor : ℕ
   pub lines : List Line
 
 -- what the head says, by the grammar
 abbrev pub reply_of : ResponseHead → Reply
-reply_of h = record { status = status_code h; lines = map name_and_value h.fields }
+reply_of h = record { status = status_code h; minor = h.minor; lines = map name_and_value h.fields }

@@ -1,5 +1,7 @@
 pub mod Fields
 pub mod Heads
+pub mod Bodies
+pub mod BodyReading
 pub mod Requests
 pub mod Lines
 pub mod Answers

@@ -39,4 +39,4 @@ head_in text lines spans = record {
 -- what a head asks for, without where its token lies
 abbrev pub wanted_at : WantedAt → Wanted
 wanted_at wanted =
-    record { kind = wanted.kind; tenant = wanted.tenant; token = wanted.token.now; size = wanted.size }
+    record { kind = wanted.kind; tenant = wanted.tenant; token = wanted.token.now; framing = wanted.framing }

@@ -6,9 +6,11 @@ use Rattle.std.specs.List.{list_any}
 use Rattle.std.specs.Str.{bytes_eq, str_eq_ignore_ascii_case}
 use Rattle.common_types.specs.ResultChain.{◌>>=◌}
 use Rattle.common_types.specs.Token.{is_token}
+use Rattle.http_link.specs.declared.bodies.Framing.{Framing}
+use Rattle.http_link.specs.declared.bodies.Framing.TheVariants.{Chunked, Sized}
 use Rattle.http_link.specs.declared.request.Kind.{Kind}
 use Rattle.http_link.specs.declared.request.Kind.TheVariants.{Ilp, Admin}
-use Rattle.http_link.specs.Fields.{Line, values_of, Standing, missing, once, repeated, standing, has_element, value_of}
+use Rattle.http_link.specs.Fields.{Line, values_of, Standing, missing, once, repeated, standing, has_element, is_chunked, value_of}
 use Rattle.http_link.specs.Fields.{is_length, skip_spaces}
 use Rattle.http_link.specs.Heads.{Head}
 
@@ -17,12 +19,12 @@ abbrev pub max_body : Kind → ℕ
 max_body Ilp = 34_000
 max_body Admin = 2048
 
--- what a head asks for that nothing refuses: whose tenant it is, with which token, and how long its body is
+-- what a head asks for that nothing refuses: whose tenant it is, with which token, and how its body is framed
 pub record Wanted : Type 0 where
   pub kind : Kind
   pub tenant : ℕ
   pub token : List ℕ
-  pub size : ℕ
+  pub framing : Framing
 
 -- a value, or a status where there is none
 abbrev pub or_status : {A : Type 0} → ℕ → Option A → Result A ℕ
@@ -43,22 +45,28 @@ place_of tenant_of target =
     if bytes_eq (take 5 target) (codes "/ilp/") then tenant_named tenant_of Ilp (drop 5 target)
     else (if bytes_eq (take 7 target) (codes "/admin/") then tenant_named tenant_of Admin (drop 7 target) else None)
 
--- the length of a body: 400 for a bad or a repeated one or one beside a coding, 411 for a coding alone or neither
--- (RFC 9112, 6.3)
-abbrev pub length_of : Standing → Standing → Result ℕ ℕ
-length_of coding missing = Err 411
-length_of missing (once text) = if is_length text then Ok (value_of text) else Err 400
-length_of (once text') (once text) = Err 400
-length_of repeated (once text) = Err 400
-length_of coding repeated = Err 400
-
 -- a length within the limit of its kind (RFC 9110, 15.5.14)
-abbrev pub within_limit : Kind → ℕ → Result ℕ ℕ
-within_limit kind size = if nat_lt (max_body kind) size then Err 413 else Ok size
+abbrev pub within_limit : Kind → ℕ → Result Framing ℕ
+within_limit kind size = if nat_lt (max_body kind) size then Err 413 else Ok (Sized size)
 
--- the size of a body
-abbrev pub size_of : Kind → Standing → Standing → Result ℕ ℕ
-size_of kind coded length = length_of coded length >>= within_limit kind
+-- a body of a stated length: 400 for a bad length (RFC 9112, 6.3)
+abbrev pub sized_in : Kind → List ℕ → Result Framing ℕ
+sized_in kind text = if is_length text then within_limit kind (value_of text) else Err 400
+
+-- a body in chunks: 400 for any other coding, and in version 1.0 (RFC 9112, 6.1 and 7.1)
+abbrev pub coded_in : Kind → (minor : ℕ) → List ℕ → Result Framing ℕ
+coded_in kind minor coding = if (minor == 1) && is_chunked coding then Ok (Chunked (max_body kind)) else Err 400
+
+-- How a body is framed, by the lines on its coding and on its length: 411 for neither, 400 for both, and for two of either
+-- (RFC 9112, 6.3).
+abbrev pub framing_of : Kind → (minor : ℕ) → (coded length : Standing) → Result Framing ℕ
+framing_of kind minor missing missing = Err 411
+framing_of kind minor missing (once text) = sized_in kind text
+framing_of kind minor missing repeated = Err 400
+framing_of kind minor (once coding) missing = coded_in kind minor coding
+framing_of kind minor (once coding) (once text) = Err 400
+framing_of kind minor (once coding) repeated = Err 400
+framing_of kind minor repeated length = Err 400
 
 -- the token of `Bearer TOKEN`, with one space or more between them (RFC 6750, 2.1; RFC 9110, 11.1)
 abbrev pub bearer_token : List ℕ → Option (List ℕ)
@@ -82,9 +90,9 @@ abbrev pub wanted_of : (List ℕ → Option ℕ) → Head → Result Wanted ℕ
 wanted_of tenant_of head = do
   posted ← if bytes_eq head.method (codes "POST") then Ok head.method else Err 405
   place ← or_status 404 (place_of tenant_of head.target)
-  size ← size_of place.0 (coding_of head.lines) (standing (codes "Content-Length") head.lines)
+  framing ← framing_of place.0 head.minor (coding_of head.lines) (standing (codes "Content-Length") head.lines)
   token ← or_status 401 (token_in (standing (codes "Authorization") head.lines))
-  Ok (record { kind = place.0; tenant = place.1; token = token; size = size })
+  Ok (record { kind = place.0; tenant = place.1; token = token; framing = framing })
 
 -- the client waits for `100 Continue` before it sends the body (RFC 9110, 10.1.1)
 abbrev pub waits : Head → Bool

@@ -1,5 +1,5 @@
 -- What is done with a head that was read, on the bytes behind it: some had come with it, and more may come.
-use Rattle.std.specs.Prelude.{◌≡◌, ◌≤◌, ◌-◌, ◌⊎◌, ℕ, List, ◌++◌, length, take, drop, Option, Result, Ok, Err}
+use Rattle.std.specs.Prelude.{◌≡◌, ◌⊎◌, ℕ, List, ◌++◌, take, drop, Option, Result}
 use Rattle.std.specs.Io.KnownBytes.{Consumes, IsAtEnd}
 use Rattle.http_link.specs.declared.held.Held.{Held}
 use Rattle.http_link.specs.declared.serve.Served.{Served}
@@ -12,26 +12,16 @@ use Rattle.http_link.specs.Serving.{Asked, Traces, IsServed, IsAskedOnly}
 abbrev pub held_in : List ℕ → Held → List ℕ
 held_in room held = drop held.from (take held.to room)
 
--- how many bytes behind a head are wanted
-abbrev pub size_wanted : Result Wanted ℕ → ℕ
-size_wanted (Err status) = 0
-size_wanted (Ok wanted) = wanted.size
-
--- these bytes came behind those that there were, and no more than were wanted
-pub record Came (want : Result Wanted ℕ) (had : List ℕ) (old new : Option (List ℕ)) (came : List ℕ) : Type 0 where
-  pub taken : Consumes old new came
-  pub as_wanted : length came ≤ size_wanted want - length had
-
 -- what is done with a head that asks for that: more bytes came, it was served on all that there were, and where they did not
 -- suffice no more are left
 pub record Runs (want : Result Wanted ℕ) (head : Head) (had : List ℕ) (old new : Option (List ℕ)) (traces : Traces)
     (served : Served) : Type 0 where
   pub came : List ℕ
-  pub taken : Came want had old new came
+  pub taken : Consumes old new came
   pub so : IsServed want head (had ++ came) traces served
   pub ended : served ≡ Ended → IsAtEnd new
 
 -- nothing is asked, or only what is wanted, with a whole body
 abbrev pub AsksWanted : Result Wanted ℕ → (had : List ℕ) → Option (List ℕ) → Option (List ℕ) → Type 0 → (Asked → Type 0) → Type 0
 AsksWanted want had old new Unasked Asks =
-    Unasked ⊎ ((came : List ℕ) × Came want had old new came × IsAskedOnly want (had ++ came) ⊥ Asks)
+    Unasked ⊎ ((came : List ℕ) × Consumes old new came × IsAskedOnly want (had ++ came) ⊥ Asks)

@@ -1,9 +1,11 @@
 -- What serving one request does: what is read, what a service is asked, what is written.
-use Rattle.std.specs.Prelude.{◌≡◌, ◌<◌, ◌≤◌, ◌⊎◌, ℕ, List, [], ◌++◌, length, take, drop, Bool, Option, Some, Result, Ok}
+use Rattle.std.specs.Prelude.{◌≡◌, ◌⊎◌, ℕ, List, [], ◌++◌, Bool, Option, Some, Result, Ok}
 use Rattle.std.specs.Prelude.{Err, if◌then◌else◌}
+use Rattle.http_link.specs.declared.bodies.BodyFault.{BodyFault}
 use Rattle.http_link.specs.declared.request.Kind.{Kind}
 use Rattle.http_link.specs.declared.serve.Served.{Served}
 use Rattle.http_link.specs.declared.serve.Served.TheVariants.{Kept, Closed, Ended}
+use Rattle.http_link.specs.Bodies.{Body, IsBody, bad, cut, refusal_of, whole}
 use Rattle.http_link.specs.Heads.{Head}
 use Rattle.http_link.specs.Requests.{Wanted, waits, closes}
 use Rattle.http_link.specs.Answers.{answer_text, refusal_text, continue_text}
@@ -42,12 +44,19 @@ pub record IsCut (head : Head) (traces : Traces) (served : Served) : Type 0 wher
   pub left : traces.left ≡ Some []
 
 -- the body is whole: exactly that is asked, once, and the answer is written
-pub record IsAsked (wanted : Wanted) (head : Head) (rest : List ℕ) (traces : Traces) (served : Served) : Type 0 where
+pub record IsAsked (wanted : Wanted) (head : Head) (body after : List ℕ) (traces : Traces) (served : Served) : Type 0 where
   pub status : ℕ
-  pub asked : traces.Asks (asking wanted (take wanted.size rest) status)
+  pub asked : traces.Asks (asking wanted body status)
   pub written : traces.Writes (continue_text (waits head) ++ answer_text wanted.kind status traces.answer (closes head))
-  pub left : traces.left ≡ Some (drop wanted.size rest)
+  pub left : traces.left ≡ Some after
   pub open_or_not : served ≡ kept_unless (closes head)
+
+-- the body is refused: nothing is asked, the status is written, and the connection is closed; what was read of the body is
+-- not said
+pub record IsBodyRefused (fault : BodyFault) (head : Head) (traces : Traces) (served : Served) : Type 0 where
+  pub closed : served ≡ Closed
+  pub unasked : traces.Unasked
+  pub written : traces.Writes (continue_text (waits head) ++ refusal_text (refusal_of fault))
 
 -- a head is refused: nothing is asked, the status is written, and the connection is closed
 pub record IsRefused (status : ℕ) (rest : List ℕ) (traces : Traces) (served : Served) : Type 0 where
@@ -56,12 +65,17 @@ pub record IsRefused (status : ℕ) (rest : List ℕ) (traces : Traces) (served 
   pub written : traces.Writes (refusal_text status)
   pub left : traces.left ≡ Some rest
 
+-- what serving a request does, by its body
+abbrev pub ServesBody : Wanted → Head → Traces → Served → Body → Type 0
+ServesBody wanted head traces served (whole body after) = IsAsked wanted head body after traces served
+ServesBody wanted head traces served cut = IsCut head traces served
+ServesBody wanted head traces served (bad fault) = IsBodyRefused fault head traces served
+
 -- what serving a stream does that begins with a head and goes on with rest, by what the head wants
 abbrev pub IsServed : Result Wanted ℕ → Head → List ℕ → Traces → Served → Type 0
 IsServed (Err status) head rest traces served = IsRefused status rest traces served
 IsServed (Ok wanted) head rest traces served =
-    (length rest < wanted.size → IsCut head traces served)
-    × (wanted.size ≤ length rest → IsAsked wanted head rest traces served)
+    (body : Body) × IsBody wanted.framing rest body × ServesBody wanted head traces served body
 
 -- what is written to a stream that begins with no head within the limits: nothing, or 400
 abbrev pub WritesNothingOr400 : (List ℕ → Type 0) → Served → Type 0
@@ -72,8 +86,13 @@ WritesNothingOr400 Writes served =
 abbrev pub AsksAtMostOnce : Type 0 → (Asked → Type 0) → Type 0
 AsksAtMostOnce Unasked Asks = Unasked ⊎ ((question : Asked) × Asks question)
 
+-- the whole body was asked that the bytes begin with
+abbrev pub AsksWhole : Wanted → List ℕ → (Asked → Type 0) → Type 0
+AsksWhole wanted rest Asks =
+    (body : List ℕ) × (after : List ℕ) × IsBody wanted.framing rest (whole body after)
+    × ((status : ℕ) × Asks (asking wanted body status))
+
 -- nothing is asked, or only what the head wants, with a whole body
 abbrev pub IsAskedOnly : Result Wanted ℕ → List ℕ → Type 0 → (Asked → Type 0) → Type 0
 IsAskedOnly (Err status) rest Unasked Asks = Unasked
-IsAskedOnly (Ok wanted) rest Unasked Asks =
-    Unasked ⊎ ((wanted.size ≤ length rest) × ((status : ℕ) × Asks (asking wanted (take wanted.size rest) status)))
+IsAskedOnly (Ok wanted) rest Unasked Asks = Unasked ⊎ AsksWhole wanted rest Asks

@@ -7,7 +7,7 @@ ghost use Rattle.httparse.specs.Grammar.{is_ows, skip_ows};
 ghost use Rattle.httparse.specs.Spans.{span_bytes};
 ghost use Rattle.common_types.specs.Numbers.{is_between};
 ghost use Rattle.http_link.specs.Fields.{values_of, standing, is_element, has_element};
-ghost use Rattle.http_link.specs.Fields.{value_of, is_length, skip_spaces};
+ghost use Rattle.http_link.specs.Fields.{value_of, is_chunked, is_length, skip_spaces};
 ghost use Rattle.http_link.specs.Lines.{lines_at, standing_at};
 
 use httparse::spans::{HeaderSpan, Span};
@@ -147,6 +147,13 @@ pub(crate) fn is_length(text: &[u8]) -> bool
     ensures { result ≡ is_length text.now }
 {
     1 <= text.len() && text.len() <= 10 && are_digits(text)
+}
+
+/// Whether a coding is `chunked`. (RFC 9112, 7.1)
+pub(crate) fn is_chunked(coding: &[u8]) -> bool
+    ensures { result ≡ is_chunked coding.now }
+{
+    is_same(coding, b"chunked")
 }
 
 /// The value of a length, or the bound where it is no less.

@@ -27,8 +27,8 @@ pub(crate) enum Offered<S> {
     Malformed,
 }
 
-// Whether an empty line ends the text, as it does each head.
-fn ends_empty_line(text: &[u8]) -> bool
+/// Whether an empty line ends the text, as it does each head.
+pub(crate) fn ends_empty_line(text: &[u8]) -> bool
     ensures { result ≡ ends_empty_line text.now }
 {
     text.ends_with(b"\n\n") || text.ends_with(b"\n\r\n")

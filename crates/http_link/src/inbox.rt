@@ -236,7 +236,7 @@ fn serve_found<R: Read + Device, W: Write + Device, S: Service>(
         from: 0,
         to: held.to - spans.len,
     };
-    let result = serve_head(r, w, service, rest, &mut behind, &head, before, turns);
+    let result = serve_head(r, w, service, rest, &mut behind, &head, true, before, turns);
     *held = Held {
         from: spans.len + behind.from,
         to: spans.len + behind.to,

@@ -7,10 +7,13 @@
 #![tactic(auto)]
 
 mod answer;
+mod bodies;
+mod chunks;
 mod fields;
 mod head;
 mod held;
 mod inbox;
+mod intake;
 pub mod laws;
 mod line_buffer;
 mod posting;

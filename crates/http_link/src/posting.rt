@@ -1,15 +1,18 @@
 //! A frame that is sent to a peer, and the peer's answer.
 
-ghost use Rattle.std.specs.Prelude.{◌≡◌, ◌≢◌, ◌↔◌, ◌<◌, ◌≤◌, List, ℕ, length, map, take, Some, Err, IfOk};
+ghost use Rattle.std.specs.Prelude.{◌≡◌, ◌≢◌, ◌↔◌, ◌<◌, ◌≤◌, List, ℕ, length, map, take, true, Some, Err, IfOk};
 ghost use Rattle.httparse.specs.Spans.{IsResponseWithin, header_bytes};
 ghost use Rattle.common_types.specs.Numbers.{is_between};
 ghost use Rattle.std.specs.Io.KnownBytes.{Appends};
-ghost use Rattle.http_link.specs.Lines.{lines_at};
-ghost use Rattle.http_link.specs.Client.{post_head, post_text, Means, given, GivesOf};
-ghost use Rattle.http_link.specs.Client.{meaning_of, sized_body, body_to_end};
+ghost use Rattle.http_link.specs.Lines.{lines_at, standing_at};
+ghost use Rattle.http_link.specs.Client.{post_head, post_text, Means, given, GivesAs, GivesOf};
+ghost use Rattle.http_link.specs.Client.{IsMeaning, MeansBody, MeansCoded, sized_body, body_to_end};
 
-use crate::fields::{Found, Lines, is_length, value_up_to};
+use crate::bodies::{BodyFault, BodyRead};
+use crate::chunks::read_chunks;
+use crate::fields::{Found, Lines, is_chunked, is_length, value_up_to};
 use crate::head::{MAX_HEAD, MAX_LINES, Offered, read_reply_head};
+use crate::held::Held;
 use crate::line_buffer::{LineBuffer, write_message};
 use crate::streams::{LinkFault, MAX_READS, has_ended, read_up_to};
 use httparse::spans::{EMPTY_HEADER_SPAN, HeaderSpan, ResponseSpans};
@@ -36,7 +39,7 @@ pub enum PostFault {
     /// 50,000 reads or writes did not suffice.
     #[error("too many reads or writes")]
     Turns,
-    /// The answer ended inside a head or before its stated length.
+    /// The answer ended inside a head or a body.
     #[error("the answer is cut")]
     Cut,
     /// A head is malformed or over the limits, or the fifth of status 1xx.
@@ -45,7 +48,7 @@ pub enum PostFault {
     /// The status is not 200.
     #[error("the answer's status is not 200")]
     Status,
-    /// The answer's length is bad, repeated, or coded.
+    /// The answer's length is bad or repeated, its coding is not `chunked` alone, or its chunks are malformed.
     #[error("the answer's length is not stated")]
     Unframed,
     /// The answer's body has more than 34,000 bytes.
@@ -73,9 +76,9 @@ impl From<LinkFault> for PostFault {
 ///
 /// Errors: `Read` and `Write` where the device failed in this call; `Turns` where 50,000 reads or writes did not
 /// suffice; of what the peer answers, `Head` for a malformed head, one of more than 8,192 bytes or 64 lines, or the
-/// fifth of status 1xx, `Status` for a status other than 200, `Unframed` for a coded body or a bad or repeated length,
-/// `Size` for a body of more than 34,000 bytes, and `Cut` where the stream ends inside a head or before a stated
-/// length.
+/// fifth of status 1xx, `Status` for a status other than 200, `Unframed` for a body of another coding than `chunked`, for
+/// malformed chunks, and for a bad or repeated length, `Size` for a body of more than 34,000 bytes, and `Cut` where the stream
+/// ends inside a head or a body.
 pub fn post<R: Read + Device, W: Write + Device>(
     r: &mut R,
     w: &mut W,
@@ -152,7 +155,7 @@ fn read_answer<R: Read + Device>(
             Offered::Whole(spans) => {
                 if !is_interim(spans.code) {
                     let fields = lines_in(&text[..spans.len], &lines, spans);
-                    return read_body(r, out, spans.code, fields, before, turns);
+                    return read_last(r, out, spans.code, spans.version, fields, before, turns);
                 }
             }
         }
@@ -178,17 +181,18 @@ fn lines_in<'b>(text: &'b [u8], lines: &'b [HeaderSpan], spans: ResponseSpans) -
 }
 
 // Reads the body behind the last head of an answer.
-fn read_body<R: Read + Device>(
+fn read_last<R: Read + Device>(
     r: &mut R,
     out: &mut [u8],
     status: u16,
+    minor: u8,
     fields: Lines<'_>,
     before: u64,
     turns: &mut u32,
 ) -> Result<usize, PostFault>
     requires room { 34_000 ≤ length out.old }
     requires unfailed { R.failure_count r.old ≤ before }
-    ensures gives { GivesOf (meaning_of (record { status = status; lines = lines_at fields.entry }))
+    ensures gives { GivesAs (IsMeaning (record { status = status; minor = minor; lines = lines_at fields.entry }))
         (R.remaining r.old) result out.new }
     ensures bound { IfOk result (λ n. n ≤ 34_000) }
     ensures len { length out.new ≡ length out.old }
@@ -199,15 +203,65 @@ fn read_body<R: Read + Device>(
     if status != 200 {
         return Err(PostFault::Status);
     }
-    match (
-        fields.find(b"Transfer-Encoding"),
-        fields.find(b"Content-Length"),
-    ) {
+    let coded = fields.find(b"Transfer-Encoding");
+    let stated = fields.find(b"Content-Length");
+    read_framed(r, out, minor, coded, stated, before, turns)
+}
+
+// Reads a body by the lines on its coding and its length.
+fn read_framed<R: Read + Device>(
+    r: &mut R,
+    out: &mut [u8],
+    minor: u8,
+    coded: Found<'_>,
+    stated: Found<'_>,
+    before: u64,
+    turns: &mut u32,
+) -> Result<usize, PostFault>
+    requires room { 34_000 ≤ length out.old }
+    requires unfailed { R.failure_count r.old ≤ before }
+    ensures gives { GivesAs (MeansBody minor (standing_at coded.entry) (standing_at stated.entry))
+        (R.remaining r.old) result out.new }
+    ensures bound { IfOk result (λ n. n ≤ 34_000) }
+    ensures len { length out.new ≡ length out.old }
+    ensures read { (result ≡ Err PostFault.Read) ↔ (before < R.failure_count r.new) }
+    ensures write { result ≢ Err PostFault.Write }
+    ensures spent { result ≡ Err PostFault.Turns → turns.new ≡ 0 }
+{
+    match (coded, stated) {
         (Found::Missing, Found::Missing) => read_to_end(r, out, before, turns),
         (Found::Missing, Found::Once(text)) if is_length(text) => {
             read_sized(r, out, value_up_to(text, 34_001) as usize, before, turns)
         }
+        (Found::Once(coding), Found::Missing) if minor == 1 && is_chunked(coding) => {
+            read_chunked(r, out, before, turns)
+        }
         _ => Err(PostFault::Unframed),
+    }
+}
+
+// Reads a body in chunks.
+fn read_chunked<R: Read + Device>(
+    r: &mut R,
+    out: &mut [u8],
+    before: u64,
+    turns: &mut u32,
+) -> Result<usize, PostFault>
+    requires room { 34_000 ≤ length out.old }
+    requires unfailed { R.failure_count r.old ≤ before }
+    ensures gives { GivesAs (MeansCoded true) (R.remaining r.old) result out.new }
+    ensures bound { IfOk result (λ n. n ≤ 34_000) }
+    ensures len { length out.new ≡ length out.old }
+    ensures read { (result ≡ Err PostFault.Read) ↔ (before < R.failure_count r.new) }
+    ensures write { result ≢ Err PostFault.Write }
+    ensures spent { result ≡ Err PostFault.Turns → turns.new ≡ 0 }
+{
+    let mut held = Held { from: 0, to: 0 };
+    match read_chunks(r, out, &mut held, MAX_ANSWER, true, before, turns)? {
+        BodyRead::Whole(n) => Ok(n),
+        BodyRead::Cut => Err(PostFault::Cut),
+        BodyRead::Bad(BodyFault::Malformed) => Err(PostFault::Unframed),
+        BodyRead::Bad(BodyFault::TooLarge) => Err(PostFault::Size),
     }
 }
 

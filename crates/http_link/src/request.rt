@@ -5,12 +5,14 @@ ghost use Rattle.std.specs.Prelude.{Some, None, if◌then◌else◌, codes, opti
 ghost use Rattle.std.specs.Str.{bytes_eq, str_eq_ignore_ascii_case};
 ghost use Rattle.std.specs.List.{list_any};
 ghost use Rattle.common_types.specs.Outcomes.{Gives};
+ghost use Rattle.http_link.specs.Bodies.{most_of};
 ghost use Rattle.http_link.specs.Fields.{value_of};
 ghost use Rattle.http_link.specs.Lines.{lines_at, standing_at, head_at, wanted_at};
-ghost use Rattle.http_link.specs.Requests.{place_of, tenant_named, size_of, within_limit, max_body};
+ghost use Rattle.http_link.specs.Requests.{place_of, tenant_named, framing_of, within_limit, max_body};
 ghost use Rattle.http_link.specs.Requests.{bearer_token, token_in, wanted_of, waits, closes};
 
-use crate::fields::{Found, Lines, is_length, is_same, value_up_to, without_spaces};
+use crate::bodies::Framing;
+use crate::fields::{Found, Lines, is_chunked, is_length, is_same, value_up_to, without_spaces};
 use crate::service::Service;
 use common_types::is_token;
 
@@ -44,7 +46,7 @@ pub(crate) struct Wanted<'b> {
     pub(crate) kind: Kind,
     pub(crate) tenant: usize,
     pub(crate) token: &'b [u8],
-    pub(crate) size: usize,
+    pub(crate) framing: Framing,
 }
 
 fn max_body(kind: Kind) -> usize
@@ -87,26 +89,29 @@ fn place_of<S: Service>(service: &S, target: &[u8]) -> Option<(Kind, usize)>
     }
 }
 
-fn size_of(kind: Kind, coded: Found, length: Found) -> Result<usize, u16>
-    ensures value { result ≡ size_of kind (standing_at coded.entry) (standing_at length.entry) }
-    ensures bound { IfOk result (λ size. size ≤ 34_000) }
+fn framing_of(kind: Kind, minor: u8, coded: Found, length: Found) -> Result<Framing, u16>
+    ensures value { result ≡ framing_of kind minor (standing_at coded.entry) (standing_at length.entry) }
+    ensures bound { IfOk result (λ framing. most_of framing ≤ 34_000) }
 {
     match (coded, length) {
-        (_, Found::Missing) => Err(411),
+        (Found::Missing, Found::Missing) => Err(411),
         (Found::Missing, Found::Once(text)) if is_length(text) => stated_size(kind, text),
+        (Found::Once(coding), Found::Missing) if minor == 1 && is_chunked(coding) => {
+            Ok(Framing::Chunked(max_body(kind)))
+        }
         _ => Err(400),
     }
 }
 
-fn stated_size(kind: Kind, text: &[u8]) -> Result<usize, u16>
+fn stated_size(kind: Kind, text: &[u8]) -> Result<Framing, u16>
     ensures value { result ≡ within_limit kind (value_of text.now) }
-    ensures bound { IfOk result (λ size. size ≤ 34_000) }
+    ensures bound { IfOk result (λ framing. most_of framing ≤ 34_000) }
 {
     let size = value_up_to(text, 34_001) as usize;
     if size > max_body(kind) {
         Err(413)
     } else {
-        Ok(size)
+        Ok(Framing::Sized(size))
     }
 }
 
@@ -146,7 +151,7 @@ pub(crate) fn wanted_of<'b, S: Service>(
     head: &RequestHead<'b>,
 ) -> Result<Wanted<'b>, u16>
     ensures value { Gives wanted_at result (wanted_of (S.tenant_of service.now) (head_at head.now)) }
-    ensures bound { IfOk result (λ wanted. wanted.size ≤ 34_000) }
+    ensures bound { IfOk result (λ wanted. most_of wanted.framing ≤ 34_000) }
 {
     if head.method != b"POST".as_slice() {
         return Err(405);
@@ -155,7 +160,7 @@ pub(crate) fn wanted_of<'b, S: Service>(
         return Err(404);
     };
     let coded = head.lines.find(b"Transfer-Encoding");
-    let size = size_of(kind, coded, head.lines.find(b"Content-Length"))?;
+    let framing = framing_of(kind, head.minor, coded, head.lines.find(b"Content-Length"))?;
     let Some(token) = token_in(head.lines.find(b"Authorization")) else {
         return Err(401);
     };
@@ -163,7 +168,7 @@ pub(crate) fn wanted_of<'b, S: Service>(
         kind,
         tenant,
         token,
-        size,
+        framing,
     })
 }
 

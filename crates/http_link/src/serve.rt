@@ -1,25 +1,28 @@
 //! One request of a connection.
 
-ghost use Rattle.std.specs.Prelude.{◌≡◌, ◌≢◌, ◌↔◌, ◌<◌, ◌≤◌, List, ℕ, length, min, Some, Ok, Err, IfOk, OnOk};
+ghost use Rattle.std.specs.Prelude.{◌≡◌, ◌≢◌, ◌↔◌, ◌<◌, ◌≤◌, List, ℕ, length, Some, Ok, Err, IfOk, OnOk};
 ghost use Rattle.std.specs.Io.KnownBytes.{Appends};
 ghost use Rattle.httparse.specs.Grammar as grammar;
 ghost use Rattle.httparse.specs.Spans.{IsRequestWithin};
+ghost use Rattle.http_link.specs.Bodies.{most_of, refusal_of};
+ghost use Rattle.http_link.specs.BodyReading.{ReadsNoFurther};
 ghost use Rattle.http_link.specs.Heads.{BeginsWith, head_of};
 ghost use Rattle.http_link.specs.Lines.{head_at, head_in, wanted_at};
-ghost use Rattle.http_link.specs.Requests.{wanted_of};
+ghost use Rattle.http_link.specs.Requests.{closes, wanted_of};
 ghost use Rattle.http_link.specs.Answers.{refusal_text, continue_text, answer_text, told_body};
 ghost use Rattle.http_link.specs.Serving.{IsServed, IsAskedOnly, AsksAtMostOnce, WritesNothingOr400};
 ghost use Rattle.http_link.specs.Serving.{asking, kept_unless};
 ghost use Rattle.http_link.specs.Running.{Runs, AsksWanted, held_in};
 
 use crate::answer::{answer_head, told};
+use crate::bodies::{BodyFault, BodyRead, read_body};
 use crate::fields::Lines;
 use crate::head::{MAX_HEAD, MAX_LINES, Offered, read_request_head};
 use crate::held::Held;
 use crate::line_buffer::write_message;
 use crate::request::{Kind, RequestHead, Wanted, closes, waits, wanted_of};
 use crate::service::Service;
-use crate::streams::{LinkFault, MAX_READS, read_on, write_all};
+use crate::streams::{LinkFault, MAX_READS, write_all};
 use httparse::spans::{EMPTY_HEADER_SPAN, HeaderSpan, RequestSpans};
 use oer_core::Device;
 use std::io::{Read, Write};
@@ -100,7 +103,9 @@ pub fn serve_one<R: Read + Device, W: Write + Device, S: Service>(
         Offered::Whole(spans) => {
             let head = head_in(&text[..spans.len], &lines, spans);
             let mut held = Held { from: 0, to: 0 };
-            serve_head(r, w, service, room, &mut held, &head, before, &mut turns)
+            serve_head(
+                r, w, service, room, &mut held, &head, false, before, &mut turns,
+            )
         }
     }
 }
@@ -143,7 +148,7 @@ pub(crate) fn refuse<W: Write + Device>(
 }
 
 /// Serves a request behind its head. At the front of the room stand the bytes that came with the head; in the end those are
-/// held that came behind the request.
+/// held that came behind the request. With leave to read `ahead` more may be taken from the reader than it has.
 pub(crate) fn serve_head<R: Read + Device, W: Write + Device, S: Service>(
     r: &mut R,
     w: &mut W,
@@ -151,6 +156,7 @@ pub(crate) fn serve_head<R: Read + Device, W: Write + Device, S: Service>(
     room: &mut [u8],
     held: &mut Held,
     head: &RequestHead,
+    ahead: bool,
     before: Failures,
     turns: &mut u32,
 ) -> Result<Served, LinkFault>
@@ -172,11 +178,14 @@ pub(crate) fn serve_head<R: Read + Device, W: Write + Device, S: Service>(
     ensures asks { AsksWanted (wanted_of (S.tenant_of service.old) (head_at head.now)) (held_in room.old held.old)
         (R.remaining r.old) (R.remaining r.new) (service.new ≡ service.old) (λ question. S.asks service.old question service.new) }
     ensures unread { result ≡ Err LinkFault.Read → service.new ≡ service.old }
+    ensures no_further { ReadsNoFurther ahead held.old held.new }
     ensures read { (result ≡ Err LinkFault.Read) ↔ (before.reads < R.failure_count r.new) }
     ensures write { (result ≡ Err LinkFault.Write) ↔ (before.writes < W.failure_count w.new) }
 {
     match wanted_of(service, head) {
-        Ok(wanted) => serve_wanted(r, w, service, room, held, head, &wanted, before, turns),
+        Ok(wanted) => serve_wanted(
+            r, w, service, room, held, head, &wanted, ahead, before, turns,
+        ),
         Err(status) => refuse(w, status, before.writes),
     }
 }
@@ -190,10 +199,11 @@ fn serve_wanted<R: Read + Device, W: Write + Device, S: Service>(
     held: &mut Held,
     head: &RequestHead,
     wanted: &Wanted,
+    ahead: bool,
     before: Failures,
     turns: &mut u32,
 ) -> Result<Served, LinkFault>
-    requires size { wanted.now.size ≤ length room.old }
+    requires size { most_of wanted.now.framing ≤ length room.old }
     requires front { held.old.from ≡ 0 }
     requires there { held.old.to ≤ length room.old }
     requires reads { R.failure_count r.old ≤ before.reads }
@@ -211,35 +221,49 @@ fn serve_wanted<R: Read + Device, W: Write + Device, S: Service>(
     ensures asks { AsksWanted (Ok (wanted_at wanted.now)) (held_in room.old held.old) (R.remaining r.old)
         (R.remaining r.new) (service.new ≡ service.old) (λ question. S.asks service.old question service.new) }
     ensures unread { result ≡ Err LinkFault.Read → service.new ≡ service.old }
+    ensures no_further { ReadsNoFurther ahead held.old held.new }
     ensures read { (result ≡ Err LinkFault.Read) ↔ (before.reads < R.failure_count r.new) }
     ensures write { (result ≡ Err LinkFault.Write) ↔ (before.writes < W.failure_count w.new) }
 {
     write_all(w, continue_text(waits(head)), before.writes)?;
-    let there = read_on(r, room, held.to, wanted.size, before.reads, turns)?;
-    *held = used(wanted.size, there);
-    if there < wanted.size {
-        return Ok(Served::Ended);
+    match read_body(r, room, held, wanted.framing, ahead, before.reads, turns)? {
+        BodyRead::Whole(size) => answer(w, service, head, wanted, &room[..size], before.writes),
+        BodyRead::Cut => Ok(Served::Ended),
+        BodyRead::Bad(fault) => refuse(w, refusal_of(fault), before.writes),
     }
-    let status = ask(service, wanted, &room[..wanted.size]);
+}
+
+// Asks the service what a head wants with its body, and writes the answer.
+fn answer<W: Write + Device, S: Service>(
+    w: &mut W,
+    service: &mut S,
+    head: &RequestHead,
+    wanted: &Wanted,
+    body: &[u8],
+    before: u64,
+) -> Result<Served, LinkFault>
+    requires unfailed { W.failure_count w.old ≤ before }
+    ensures answered { IfOk result (λ served. (served ≡ kept_unless (closes (head_at head.now)))
+        × ((status : ℕ) × S.asks service.old (asking (wanted_at wanted.now) body.now status) service.new
+        × Appends (W.contents w.old) (W.contents w.new)
+        (answer_text wanted.now.kind status (S.answer service.new) (closes (head_at head.now))))) }
+    ensures asked { (status : ℕ) × S.asks service.old (asking (wanted_at wanted.now) body.now status) service.new }
+    ensures write { (result ≡ Err LinkFault.Write) ↔ (before < W.failure_count w.new) }
+    ensures read { result ≢ Err LinkFault.Read }
+{
+    let status = ask(service, wanted, body);
     let closed = closes(head);
-    write_answer(
-        w,
-        wanted.kind,
-        status,
-        service.body(),
-        closed,
-        before.writes,
-    )?;
+    write_answer(w, wanted.kind, status, service.body(), closed, before)?;
     Ok(kept_unless(closed))
 }
 
-// What is held of so many bytes once so many of them, or all, were used.
-fn used(size: usize, there: usize) -> Held
-    ensures { result ≡ record { from = min size there; to = there } }
+// The status that refuses a body.
+fn refusal_of(fault: BodyFault) -> u16
+    ensures { result ≡ refusal_of fault }
 {
-    Held {
-        from: size.min(there),
-        to: there,
+    match fault {
+        BodyFault::Malformed => 400,
+        BodyFault::TooLarge => 413,
     }
 }
 

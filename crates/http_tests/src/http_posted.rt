@@ -87,7 +87,7 @@ static ROWS: [(usize, &[u8], Result<usize, PostFault>); 27] = [
     ),
     (
         0,
-        b"HTTP/1.1 200 OK\r\nTransfer-Encoding: chunked\r\n\r\n",
+        b"HTTP/1.1 200 OK\r\nTransfer-Encoding: gzip, chunked\r\n\r\n",
         Err(PostFault::Unframed),
     ),
     (

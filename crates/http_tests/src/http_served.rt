@@ -149,15 +149,11 @@ static REFUSED: [(&[u8], &[u8], &[u8]); 34] = [
     (b"POST /ilp/acme", b"Content-Length: 00000000005\r\n", BAD),
     (b"POST /ilp/acme", b"Content-Length: 99999999999\r\n", BAD),
     (b"POST /ilp/acme", b"", NO_LENGTH),
+    (b"POST /ilp/acme", b"Transfer-Encoding: gzip\r\n", BAD),
     (
         b"POST /ilp/acme",
-        b"Transfer-Encoding: chunked\r\n",
-        NO_LENGTH,
-    ),
-    (
-        b"POST /ilp/acme",
-        b"Transfer-Encoding: a\r\nTransfer-Encoding: b\r\n",
-        NO_LENGTH,
+        b"Transfer-Encoding: chunked\r\nTransfer-Encoding: chunked\r\n",
+        BAD,
     ),
     (b"POST /ilp/acme", b"Content-Length: 34001\r\n", LARGE),
     (b"POST /ilp/acme", b"Content-Length: 9999999999\r\n", LARGE),

@@ -4,6 +4,8 @@
 #[cfg(test)]
 mod http_books;
 #[cfg(test)]
+mod http_chunked;
+#[cfg(test)]
 mod http_connections;
 #[cfg(test)]
 mod http_devices;

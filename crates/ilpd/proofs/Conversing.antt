@@ -3,10 +3,11 @@ use Rattle.std.proofs.Common.{ℕ, ◌≡◌, ◌⊎◌, inl, inr, ◌<◌, ◌�
 use Rattle.std.proofs.KnownBytes.{Consumes-nil, Consumes-trans}
 use Rattle.std.specs.Io.KnownBytes.{Consumes, IsAtEnd}
 use Rattle.one_list.specs.declared.run.Run.{Ghosts}
-use Rattle.http_link.specs.Connections.{AreAskedBy, AsksNext, Awaits, HeadServed, IsAskedBy, IsOver, IsTurnedAway, ServesNext, TurnedAway}
+use Rattle.http_link.specs.Connections.{AreAskedBy, AsksNext, Awaits, HeadServed, IsAskedBy, IsOver, IsRefusedBy, IsTurnedAway, ServesNext, TurnedAway}
+use Rattle.http_link.specs.Bodies.{Body, IsBody, bad, cut, whole}
 use Rattle.http_link.specs.Heads.{head_of}
 use Rattle.http_link.specs.Requests.{Wanted, closes, wanted_of}
-use Rattle.http_link.specs.Serving.{Asked, IsServed, Traces, WritesNothingOr400, asking, kept_unless}
+use Rattle.http_link.specs.Serving.{Asked, IsServed, ServesBody, Traces, WritesNothingOr400, asking, kept_unless}
 use Rattle.http_link.specs.declared.serve.Served.{Served}
 use Rattle.http_link.specs.declared.serve.Served.TheVariants.{Closed, Ended, Kept}
 use Rattle.http_link.specs.declared.streams.LinkFault.{LinkFault}
@@ -37,13 +38,6 @@ pub record Stepped (tenant_of : List ℕ → Option ℕ) (had : List ℕ) (old n
   pub taken : Consumes old new came
   pub step : OneAsked tenant_of (had ++ came) traces served ⊎ NoneAsked tenant_of (had ++ came) traces served new
 
-lt_or_ge : (a b : ℕ) → (a < b) ⊎ (b ≤ a)
-lt_or_ge a b = by_test (ltb a b) refl
-  where
-    by_test : (t : Bool) → ltb a b ≡ t → (a < b) ⊎ (b ≤ a)
-    by_test true e = inl (ltb-true a b e)
-    by_test false e = inr (ltb-false a b e)
-
 -- a head within the limits
 stepped_head : (tenant_of : List ℕ → Option ℕ) (bytes : List ℕ) (known : Option (List ℕ)) (traces : Traces) (served : Served) → (served ≡ Ended → IsAtEnd known)
     → HeadServed tenant_of bytes traces served → OneAsked tenant_of bytes traces served ⊎ NoneAsked tenant_of bytes traces served known
@@ -51,16 +45,17 @@ stepped_head tenant_of bytes known traces served ended h = by_wanted (wanted_of 
   where
     by_wanted : (want : Result Wanted ℕ) → wanted_of tenant_of (head_of h.head) ≡ want → IsServed want (head_of h.head) h.rest traces served
         → OneAsked tenant_of bytes traces served ⊎ NoneAsked tenant_of bytes traces served known
-    by_wanted (Err status) is so = inr (so.unasked, inl (so.closed, inr (h.head, h.rest, status, h.begins, is)))
-    by_wanted (Ok wanted) is so = by_length (lt_or_ge (length h.rest) wanted.size)
+    by_wanted (Err status) is so = inr (so.unasked, inl (so.closed, inr (h.head, h.rest, h.begins, subst (λ (w : Result Wanted ℕ). IsRefusedBy w h.rest) (sym is) tt)))
+    by_wanted (Ok wanted) is so = by_body so.0 so.1 so.2
       where
-        by_length : (length h.rest < wanted.size) ⊎ (wanted.size ≤ length h.rest) → OneAsked tenant_of bytes traces served ⊎ NoneAsked tenant_of bytes traces served known
-        by_length (inl lt) = let cut = so.0 lt in inr (cut.unasked, inr (cut.ended, ended cut.ended))
-        by_length (inr ge) =
-            let whole = so.1 ge in
+        by_body : (body : Body) → IsBody wanted.framing h.rest body → ServesBody wanted (head_of h.head) traces served body → OneAsked tenant_of bytes traces served ⊎ NoneAsked tenant_of bytes traces served known
+        by_body cut frames so = inr (so.unasked, inr (so.ended, ended so.ended))
+        by_body (bad fault) frames so =
+            inr (so.unasked, inl (so.closed, inr (h.head, h.rest, h.begins, subst (λ (w : Result Wanted ℕ). IsRefusedBy w h.rest) (sym is) (fault, frames))))
+        by_body (whole body after) frames so =
             inl (record {
-              asked = asking wanted (take wanted.size h.rest) whole.status;
-              left = drop wanted.size h.rest;
+              asked = asking wanted body so.status;
+              left = after;
               last = closes (head_of h.head);
               by = record {
                 head = h.head;
@@ -68,14 +63,14 @@ stepped_head tenant_of bytes known traces served ended h = by_wanted (wanted_of 
                 begins = h.begins;
                 wanted = wanted;
                 wants = is;
-                whole = ge;
+                body = body;
+                frames = frames;
                 asks = refl;
-                behind = refl;
                 is_last = refl;
               };
-              asks = whole.asked;
-              kept = whole.left;
-              so = whole.open_or_not;
+              asks = so.asked;
+              kept = so.left;
+              so = so.open_or_not;
             })
 
 -- and none within them

@@ -33,10 +33,10 @@ returns-then-not-is_interim-clause-means g c stream e not_read not_turns =
     let spans = c.in-Whole.spans in
     let taken : ReplyIsTaken known left text lines spans = rw c.in-Whole.is at c.in_ok-read_reply_head.ensures.head in
     let so_far = c.loop-heads.invariant.means stream e in
-    so_far.2 (given c.read_body.result c.read_body.new.out)
-    (final_read c.loop-heads.heads known left text so_far.0 lines spans (lines_at c.lines_in-fields.result) (given c.read_body.result c.read_body.new.out)
+    so_far.2 (given c.read_last.result c.read_last.new.out)
+    (final_read c.loop-heads.heads known left text so_far.0 lines spans (lines_at c.lines_in-fields.result) (given c.read_last.result c.read_last.new.out)
     (omega arith) (omega arith) (omega arith) taken so_far.1 c.lines_in-fields.ensures (sym c.if-not-is_interim.ensures)
-    (λ rest is. c.read_body.ensures.gives rest is not_read not_turns))
+    (λ rest is. c.read_last.ensures.gives rest is not_read not_turns))
 
 pub loop-heads-preserved : goal.loop-heads-preserved
 loop-heads-preserved g c =

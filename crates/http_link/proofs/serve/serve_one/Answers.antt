@@ -1,5 +1,7 @@
-use Rattle.std.proofs.Common.{length, arith}
+use Rattle.std.proofs.Common.{◌≡◌, [], Some, ap, refl, length, arith}
+use Rattle.http_link.proofs.Takes.{none_held}
 use Rattle.http_link.specs.Lines.{head_at}
+use Rattle.http_link.specs.Requests.{wanted_of}
 use Rattle.http_link.specs.Reading.{HasNoHead, IsTaken}
 use Rattle.http_link.proofs.Serving.{none_begins, taken_begins, taken_is, head_served, head_asked, asks_once}
 use Rattle.http_link.proofs.serve.serve_one.Goals as goal
@@ -24,6 +26,7 @@ returns-in-Whole-clause-exact g c stream head rest e begins =
     let lines = c.read_request_head.new.lines in
     let taken : IsTaken (g.R.Read.remaining c.args.r.now) (g.R.Read.remaining c.read_request_head.new.r) text lines c.in-Whole.spans = rw c.in-Whole.is at c.in_ok-read_request_head.ensures.head in
     head_served c.serve_head.result (g.S.Service.tenant_of c.args.service.now) (head_at c.head_in-head.result) (g.R.Read.remaining c.read_request_head.new.r) (g.R.Read.remaining c.serve_head.new.r) _ head rest
+    (ap Some (none_held c.serve_head.new.room c.serve_head.new.held (c.serve_head.ensures.no_further refl (omega arith))))
     (taken_is (head_at c.head_in-head.result) (g.R.Read.remaining c.args.r.now) (g.R.Read.remaining c.read_request_head.new.r) text stream lines c.in-Whole.spans head rest
     (omega arith) (omega arith) taken c.head_in-head.ensures e begins) c.serve_head.ensures.runs
 
@@ -45,4 +48,6 @@ returns-in-Whole-clause-turned_away g c stream e none =
     absurd (none taken.is.head front.0 front.2)
 
 pub returns-in-Whole-clause-asked_once : goal.returns-in-Whole-clause-asked_once
-returns-in-Whole-clause-asked_once g c = asks_once _ _ _ _ _ _ c.serve_head.ensures.asks
+returns-in-Whole-clause-asked_once g c =
+    asks_once (wanted_of (g.S.Service.tenant_of c.args.service.now) (head_at c.head_in-head.result)) [] (g.R.Read.remaining c.read_request_head.new.r) (g.R.Read.remaining c.serve_head.new.r)
+    (c.serve_head.new.service ≡ c.args.service.now) (λ question. g.S.Service.asks c.args.service.now question c.serve_head.new.service) c.serve_head.ensures.asks

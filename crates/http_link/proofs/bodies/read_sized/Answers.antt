@@ -1,0 +1,16 @@
+use Rattle.std.proofs.Common.{◌∙◌, ◌≡◌, ◌≤◌, ℕ, min, refl, arith}
+use Rattle.http_link.proofs.Rooms.{sized_cut, sized_whole}
+use Rattle.http_link.proofs.bodies.read_sized.Goals as goal
+
+least : (size there : ℕ) → size ≤ there → min size there ≡ size
+least size there le = omega arith
+
+pub returns-then-there-size-clause-reads : goal.returns-then-there-size-clause-reads
+returns-then-there-size-clause-reads g c =
+    sized_cut _ _ c.args.room.now c.read_on.new.out c.args.held.now c.used.result c.args.size c.in_ok-there.there c.requires.front c.in_ok-there.ensures.filled c.if-there-size.true
+    (rw c.used.ensures (omega arith))
+
+pub returns-clause-reads : goal.returns-clause-reads
+returns-clause-reads g c =
+    sized_whole _ _ c.args.room.now c.read_on.new.out c.args.held.now c.used.result c.args.size c.in_ok-there.there c.requires.front c.in_ok-there.ensures.filled c.if-there-size.false
+    (c.used.ensures ∙ rw (least c.args.size c.in_ok-there.there c.if-there-size.false) refl)

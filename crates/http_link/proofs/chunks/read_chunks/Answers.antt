@@ -1,0 +1,41 @@
+use Rattle.std.proofs.Common.{rules, ◌+◌, refl, arith}
+use Rattle.http_link.specs.BodyReading.{LiesBehind, StepsTo, TakesStep}
+use Rattle.http_link.specs.Running.{held_in}
+use Rattle.http_link.specs.declared.chunks.Step.TheVariants.{More, Over}
+use Rattle.http_link.proofs.ChunkedBodies.{at_most, gathers_all, gathers_more, gathers_none}
+use Rattle.http_link.proofs.chunks.read_chunks.Goals as goal
+
+pub loop-size-init : goal.loop-size-init
+loop-size-init g c = record {
+  fits = omega arith;
+  chunks = gathers_none (held_in c.args.room.now c.args.held.now) (g.R.Read.remaining c.args.r.now) c.args.room.now;
+  len = refl;
+  lies = c.requires.lies;
+  exact = λ no none. none;
+  unfailed = c.requires.unfailed;
+}
+
+pub loop-size-preserved : goal.loop-size-preserved
+loop-size-preserved g c =
+    let step : TakesStep (held_in c.loop-size.room c.loop-size.held) (g.R.Read.remaining c.loop-size.r) (g.R.Read.remaining c.read_step.new.r) (held_in c.read_step.new.room c.read_step.new.held) c.args.most c.loop-size.done c.loop-size.room c.read_step.new.room (More c.in-More.size) =
+    rw c.in-More.is at c.in_ok-size.ensures.taken in
+    let lies : LiesBehind (c.loop-size.done + c.in-More.size) c.read_step.new.room c.read_step.new.held = rw c.in-More.is at c.in_ok-size.ensures.lies in
+    let few = step.3 in record {
+      fits = let fits = c.loop-size.invariant.fits in omega arith;
+      chunks = gathers_more _ _ _ _ _ _ c.loop-size.room c.read_step.new.room c.args.most c.loop-size.done c.in-More.size c.loop-size.invariant.chunks step;
+      len = search rules;
+      lies = lies;
+      exact = λ no none. c.in_ok-size.ensures.exact no (c.loop-size.invariant.exact no none);
+      unfailed = search rules;
+    }
+
+pub returns-in-Over-clause-reads : goal.returns-in-Over-clause-reads
+returns-in-Over-clause-reads g c =
+    let step : TakesStep (held_in c.loop-size.room c.loop-size.held) (g.R.Read.remaining c.loop-size.r) (g.R.Read.remaining c.read_step.new.r) (held_in c.read_step.new.room c.read_step.new.held) c.args.most c.loop-size.done c.loop-size.room c.read_step.new.room (Over c.in-Over.read) =
+    rw c.in-Over.is at c.in_ok-size.ensures.taken in
+    gathers_all _ _ _ _ _ _ c.loop-size.room c.read_step.new.room c.args.most c.loop-size.done c.in-Over.read c.loop-size.invariant.chunks c.loop-size.invariant.fits (omega arith) step
+
+pub returns-in-Over-clause-fits : goal.returns-in-Over-clause-fits
+returns-in-Over-clause-fits g c =
+    let step : StepsTo c.loop-size.done (Over c.in-Over.read) = rw c.in-Over.is at c.in_ok-size.ensures.fits in
+    at_most c.loop-size.done c.args.most c.in-Over.read c.loop-size.invariant.fits step

@@ -1,0 +1,46 @@
+use Rattle.std.proofs.Common.{◌∷◌, [], refl, arith}
+use Rattle.http_link.specs.BodyReading.{Takes, TakesAll}
+use Rattle.http_link.specs.Running.{held_in}
+use Rattle.http_link.proofs.Takes.{takes_all_then, takes_then}
+use Rattle.http_link.proofs.ChunkedBodies.{other_first, other_second}
+use Rattle.http_link.proofs.chunks.read_line_end.Goals as goal
+
+pub returns-in_default-2-clause-taken : goal.returns-in_default-2-clause-taken
+returns-in_default-2-clause-taken g c =
+    let one : Takes (held_in c.args.room.now c.args.held.now) (g.R.Read.remaining c.args.r.now) (g.R.Read.remaining c.next_byte.new.r) (c.in-Some.first ∷ []) (held_in c.next_byte.new.room c.next_byte.new.held) =
+    rw c.in-Some.is at c.in_ok-first.ensures.taken in
+    let none : TakesAll (held_in c.next_byte.new.room c.next_byte.new.held) (g.R.Read.remaining c.next_byte.new.r) (g.R.Read.remaining c.next_byte-2.new.r) [] (held_in c.next_byte-2.new.room c.next_byte-2.new.held) =
+    rw c.in_default-2.is at c.in_ok-second.ensures.taken in
+    (c.in-Some.first ∷ [], omega arith, takes_all_then _ _ _ _ (c.in-Some.first ∷ []) [] _ _ one none)
+
+pub returns-then-first-ne13-clause-taken : goal.returns-then-first-ne13-clause-taken
+returns-then-first-ne13-clause-taken g c =
+    let one : Takes (held_in c.args.room.now c.args.held.now) (g.R.Read.remaining c.args.r.now) (g.R.Read.remaining c.next_byte.new.r) (c.in-Some.first ∷ []) (held_in c.next_byte.new.room c.next_byte.new.held) =
+    rw c.in-Some.is at c.in_ok-first.ensures.taken in
+    let two : Takes (held_in c.next_byte.new.room c.next_byte.new.held) (g.R.Read.remaining c.next_byte.new.r) (g.R.Read.remaining c.next_byte-2.new.r) (c.in-Some-2.second ∷ []) (held_in c.next_byte-2.new.room c.next_byte-2.new.held) =
+    rw c.in-Some-2.is at c.in_ok-second.ensures.taken in (
+      c.in-Some.first ∷ c.in-Some-2.second ∷ [],
+      refl,
+      other_first c.in-Some.first c.in-Some-2.second c.if-first-ne13.true,
+      takes_then _ _ _ _ (c.in-Some.first ∷ []) (c.in-Some-2.second ∷ []) _ _ one two,
+    )
+
+pub returns-then-second-ne10-clause-taken : goal.returns-then-second-ne10-clause-taken
+returns-then-second-ne10-clause-taken g c =
+    let one : Takes (held_in c.args.room.now c.args.held.now) (g.R.Read.remaining c.args.r.now) (g.R.Read.remaining c.next_byte.new.r) (c.in-Some.first ∷ []) (held_in c.next_byte.new.room c.next_byte.new.held) =
+    rw c.in-Some.is at c.in_ok-first.ensures.taken in
+    let two : Takes (held_in c.next_byte.new.room c.next_byte.new.held) (g.R.Read.remaining c.next_byte.new.r) (g.R.Read.remaining c.next_byte-2.new.r) (c.in-Some-2.second ∷ []) (held_in c.next_byte-2.new.room c.next_byte-2.new.held) =
+    rw c.in-Some-2.is at c.in_ok-second.ensures.taken in (
+      c.in-Some.first ∷ c.in-Some-2.second ∷ [],
+      refl,
+      other_second c.in-Some.first c.in-Some-2.second c.if-second-ne10.true,
+      takes_then _ _ _ _ (c.in-Some.first ∷ []) (c.in-Some-2.second ∷ []) _ _ one two,
+    )
+
+pub returns-clause-taken : goal.returns-clause-taken
+returns-clause-taken g c =
+    let one : Takes (held_in c.args.room.now c.args.held.now) (g.R.Read.remaining c.args.r.now) (g.R.Read.remaining c.next_byte.new.r) (13 ∷ []) (held_in c.next_byte.new.room c.next_byte.new.held) =
+    rw (c.in-Some.is, c.if-first-ne13.false) at c.in_ok-first.ensures.taken in
+    let two : Takes (held_in c.next_byte.new.room c.next_byte.new.held) (g.R.Read.remaining c.next_byte.new.r) (g.R.Read.remaining c.next_byte-2.new.r) (10 ∷ []) (held_in c.next_byte-2.new.room c.next_byte-2.new.held) =
+    rw (c.in-Some-2.is, c.if-second-ne10.false) at c.in_ok-second.ensures.taken in
+    takes_then _ _ _ _ (13 ∷ []) (10 ∷ []) _ _ one two

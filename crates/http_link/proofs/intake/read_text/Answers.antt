@@ -1,0 +1,38 @@
+use Rattle.std.proofs.Common.{rules, ◌≡◌, ◌∷◌, [], true, false, take, ◌∙◌, arith, ◌+◌, slice_set}
+use Rattle.http_link.specs.BodyReading.{Takes, TakesAll, ends_sought}
+use Rattle.http_link.specs.Running.{held_in}
+use Rattle.http_link.proofs.Takes.{ends_now, takes_byte, text_cut, unended_yet}
+use Rattle.http_link.proofs.intake.read_text.Goals as goal
+
+pub returns-in_default-clause-taken : goal.returns-in_default-clause-taken
+returns-in_default-clause-taken g c =
+    let all : TakesAll (held_in c.loop-n.room c.loop-n.held) (g.R.Read.remaining c.loop-n.r) (g.R.Read.remaining c.next_byte.new.r) [] (held_in c.next_byte.new.room c.next_byte.new.held) =
+    rw c.in_default.is at c.in_ok-b.ensures.taken in
+    text_cut (ends_sought c.args.sought) _ _ _ _ c.loop-n.text c.loop-n.n _ _ (omega arith) c.loop-n.invariant.unended c.loop-n.invariant.takes all
+
+pub returns-then-is_ended-clause-taken : goal.returns-then-is_ended-clause-taken
+returns-then-is_ended-clause-taken g c =
+    let byte : Takes (held_in c.loop-n.room c.loop-n.held) (g.R.Read.remaining c.loop-n.r) (g.R.Read.remaining c.next_byte.new.r) (c.in-Some.b ∷ []) (held_in c.next_byte.new.room c.next_byte.new.held) =
+    rw c.in-Some.is at c.in_ok-b.ensures.taken in
+    let now : ends_sought c.args.sought (take (c.loop-n.n + 1) (slice_set c.loop-n.text c.loop-n.n c.in-Some.b)) ≡ true = search rules in (
+      search rules,
+      ends_now (ends_sought c.args.sought) c.loop-n.text c.loop-n.n c.in-Some.b (omega arith) c.loop-n.invariant.unended now,
+      takes_byte _ _ _ _ c.loop-n.text c.loop-n.n c.in-Some.b _ _ (omega arith) c.loop-n.invariant.takes byte,
+    )
+
+pub loop-n-preserved : goal.loop-n-preserved
+loop-n-preserved g c =
+    let byte : Takes (held_in c.loop-n.room c.loop-n.held) (g.R.Read.remaining c.loop-n.r) (g.R.Read.remaining c.next_byte.new.r) (c.in-Some.b ∷ []) (held_in c.next_byte.new.room c.next_byte.new.held) =
+    rw c.in-Some.is at c.in_ok-b.ensures.taken in
+    let kept = c.in_ok-b.ensures.kept in
+    let now : ends_sought c.args.sought (take (c.loop-n.n + 1) (slice_set c.loop-n.text c.loop-n.n c.in-Some.b)) ≡ false = search rules in record {
+      within = search rules;
+      size = search rules;
+      takes = takes_byte _ _ _ _ c.loop-n.text c.loop-n.n c.in-Some.b _ _ (omega arith) c.loop-n.invariant.takes byte;
+      unended = unended_yet (ends_sought c.args.sought) c.loop-n.text c.loop-n.n c.in-Some.b c.loop-n.invariant.unended now;
+      len = search rules;
+      kept = kept ∙ c.loop-n.invariant.kept;
+      lies = c.in_ok-b.ensures.lies;
+      exact = λ no none. c.in_ok-b.ensures.exact no (c.loop-n.invariant.exact no none);
+      unfailed = search rules;
+    }

@@ -1,0 +1,20 @@
+use Rattle.std.proofs.Common.{◌≡◌, ◌≤◌, ◌-◌, ℕ, false, take, length}
+use Rattle.http_link.specs.BodyReading.{LiesBehind, ReadsNoFurther, Takes, ends_sought}
+use Rattle.http_link.specs.Running.{held_in}
+use Rattle.http_link.proofs.intake.read_text.Given as goal
+
+abbrev pub invariant-loop-n : goal.invariant-loop-n
+invariant-loop-n g l = record {
+  within : l.n ≤ length l.text;
+  size : length l.text ≡ length l.fn.text;
+  takes : Takes (held_in l.fn.room l.fn.held) (g.R.Read.remaining l.fn.r) (g.R.Read.remaining l.r) (take l.n l.text) (held_in l.room l.held);
+  unended : (k : ℕ) → k ≤ l.n → ends_sought l.sought (take k l.text) ≡ false;
+  len : length l.room ≡ length l.fn.room;
+  kept : take l.done l.room ≡ take l.done l.fn.room;
+  lies : LiesBehind l.done l.room l.held;
+  exact : ReadsNoFurther l.ahead l.fn.held l.held;
+  unfailed : g.R.Device.failure_count l.r ≤ l.before;
+}
+
+abbrev pub decreases-loop-n : goal.decreases-loop-n
+decreases-loop-n g l = length l.text - l.n

@@ -1,0 +1,15 @@
+use Rattle.std.proofs.Common.{◌≡◌, ◌≤◌, [], take, length}
+use Rattle.std.specs.Io.KnownBytes.{Consumes}
+use Rattle.http_link.proofs.intake.refill.Given as goal
+
+abbrev pub invariant-loop-turns : goal.invariant-loop-turns
+invariant-loop-turns g l = record {
+  none : Consumes (g.R.Read.remaining l.fn.r) (g.R.Read.remaining l.r) [];
+  kept : take l.done l.room ≡ take l.done l.fn.room;
+  len : length l.room ≡ length l.fn.room;
+  held : l.held ≡ l.fn.held;
+  unfailed : g.R.Device.failure_count l.r ≤ l.before;
+}
+
+abbrev pub decreases-loop-turns : goal.decreases-loop-turns
+decreases-loop-turns g l = l.turns

@@ -1,0 +1,397 @@
+//! Bodies in chunks, decoded in place as they come. (RFC 9112, 7.1)
+
+ghost use Rattle.std.specs.Prelude.{◌≡◌, ◌≢◌, ◌↔◌, ◌+◌, ◌-◌, ◌<◌, ◌≤◌, ◌++◌, length, take, drop, min, false, Err, IfOk, IsTrue};
+ghost use Rattle.http_link.specs.Bodies.{IsChunked};
+ghost use Rattle.http_link.specs.BodyReading.{AreTrailersIn, IsStatedIn, LiesBehind, ReadsAs, ReadsAtMost, ReadsNoFurther};
+ghost use Rattle.http_link.specs.BodyReading.{TakesBytes, TakesChunk, TakesEnd, TakesLast, TakesSize, TakesStep, TakesTrailers};
+ghost use Rattle.http_link.specs.BodyReading.{StepsTo, done_after};
+ghost use Rattle.http_link.specs.Running.{held_in};
+
+use crate::bodies::{BodyFault, BodyRead};
+use crate::head::{MAX_HEAD, MAX_LINES};
+use crate::held::Held;
+use crate::intake::{Sought, Text, next_byte, read_text};
+use crate::streams::{LinkFault, read_on};
+use httparse::spans::{EMPTY_HEADER_SPAN, parse_headers};
+use httparse::{Status, parse_chunk_size};
+use oer_core::Device;
+use std::io::Read;
+
+/// The most bytes of a chunk's line, with its end.
+const MAX_CHUNK_LINE: usize = 256;
+
+/// What a chunk's line states.
+#[derive(Clone, Copy)]
+enum Stated {
+    /// The chunk has so many bytes.
+    Size(u64),
+    /// It is no chunk's line.
+    Malformed,
+    /// The stream ended inside it.
+    Short,
+}
+
+/// What came of the reading of bytes that only have to be right.
+#[derive(Clone, Copy)]
+enum Checked {
+    /// They are.
+    Right,
+    /// They are not.
+    Wrong,
+    /// The stream ended inside them.
+    Short,
+}
+
+/// What a chunk made of a body.
+#[derive(Clone, Copy)]
+enum Step {
+    /// It has so many bytes more, and goes on.
+    More(usize),
+    /// It is over.
+    Over(BodyRead),
+}
+
+/// Reads a body in chunks, which have so many bytes together at most, into the front of the room, where some bytes of it are
+/// held already. A chunk that passes that limit is refused by its line, before it is read.
+pub(crate) fn read_chunks<R: Read + Device>(
+    r: &mut R,
+    room: &mut [u8],
+    held: &mut Held,
+    most: usize,
+    ahead: bool,
+    before: u64,
+    turns: &mut u32,
+) -> Result<BodyRead, LinkFault>
+    requires lies { LiesBehind 0 room.old held.old }
+    requires wide { most ≤ length room.old }
+    requires unfailed { R.failure_count r.old ≤ before }
+    ensures len { length room.new ≡ length room.old }
+    ensures lies { LiesBehind 0 room.new held.new }
+    ensures reads { IfOk result (ReadsAs (held_in room.old held.old) (R.remaining r.old) (R.remaining r.new)
+        (held_in room.new held.new) room.new (IsChunked most)) }
+    ensures fits { IfOk result (ReadsAtMost most) }
+    ensures exact { ReadsNoFurther ahead held.old held.new }
+    ensures read { (result ≡ Err LinkFault.Read) ↔ (before < R.failure_count r.new) }
+    ensures write { result ≢ Err LinkFault.Write }
+    ensures spent { result ≡ Err LinkFault.Turns → turns.new ≡ 0 }
+{
+    let mut done = 0;
+    loop {
+        match read_step(r, room, held, most, done, ahead, before, turns)? {
+            Step::More(size) => done += size,
+            Step::Over(read) => return Ok(read),
+        }
+    }
+}
+
+// Reads a chunk behind those that are done, or what ends a body.
+fn read_step<R: Read + Device>(
+    r: &mut R,
+    room: &mut [u8],
+    held: &mut Held,
+    most: usize,
+    done: usize,
+    ahead: bool,
+    before: u64,
+    turns: &mut u32,
+) -> Result<Step, LinkFault>
+    requires lies { LiesBehind done room.old held.old }
+    requires fits { done ≤ most }
+    requires wide { most ≤ length room.old }
+    requires unfailed { R.failure_count r.old ≤ before }
+    ensures len { length room.new ≡ length room.old }
+    ensures held { LiesBehind 0 room.new held.new }
+    ensures lies { IfOk result (λ step. LiesBehind (done_after done step) room.new held.new) }
+    ensures fits { IfOk result (StepsTo done) }
+    ensures taken { IfOk result (TakesStep (held_in room.old held.old) (R.remaining r.old) (R.remaining r.new)
+        (held_in room.new held.new) most done room.old room.new) }
+    ensures exact { ReadsNoFurther ahead held.old held.new }
+    ensures read { (result ≡ Err LinkFault.Read) ↔ (before < R.failure_count r.new) }
+    ensures write { result ≢ Err LinkFault.Write }
+    ensures spent { result ≡ Err LinkFault.Turns → turns.new ≡ 0 }
+{
+    match read_size(r, room, held, done, ahead, before, turns)? {
+        Stated::Size(0) => read_end(r, room, held, done, ahead, before, turns),
+        Stated::Size(size) => {
+            if size > (most - done) as u64 {
+                return Ok(Step::Over(BodyRead::Bad(BodyFault::TooLarge)));
+            }
+            read_chunk(r, room, held, done, size as usize, ahead, before, turns)
+        }
+        Stated::Malformed => Ok(Step::Over(BodyRead::Bad(BodyFault::Malformed))),
+        Stated::Short => Ok(Step::Over(BodyRead::Cut)),
+    }
+}
+
+// Reads the line of a chunk.
+fn read_size<R: Read + Device>(
+    r: &mut R,
+    room: &mut [u8],
+    held: &mut Held,
+    done: usize,
+    ahead: bool,
+    before: u64,
+    turns: &mut u32,
+) -> Result<Stated, LinkFault>
+    requires lies { LiesBehind done room.old held.old }
+    requires unfailed { R.failure_count r.old ≤ before }
+    ensures len { length room.new ≡ length room.old }
+    ensures kept { IfOk result (λ given. take done room.new ≡ take done room.old) }
+    ensures lies { LiesBehind done room.new held.new }
+    ensures taken { IfOk result (TakesSize (held_in room.old held.old) (R.remaining r.old) (R.remaining r.new)
+        (held_in room.new held.new)) }
+    ensures exact { ReadsNoFurther ahead held.old held.new }
+    ensures read { (result ≡ Err LinkFault.Read) ↔ (before < R.failure_count r.new) }
+    ensures write { result ≢ Err LinkFault.Write }
+    ensures spent { result ≡ Err LinkFault.Turns → turns.new ≡ 0 }
+{
+    let mut line = [0u8; MAX_CHUNK_LINE];
+    match read_text(
+        r,
+        room,
+        held,
+        done,
+        ahead,
+        Sought::Line,
+        &mut line,
+        before,
+        turns,
+    )? {
+        Text::Found(n) => match size_in(&line[..n]) {
+            Some(size) => Ok(Stated::Size(size)),
+            None => Ok(Stated::Malformed),
+        },
+        Text::TooLong => Ok(Stated::Malformed),
+        Text::Ended => Ok(Stated::Short),
+    }
+}
+
+// The size that a chunk's line states.
+fn size_in(text: &[u8]) -> Option<u64>
+    ensures { IsStatedIn text.now result }
+{
+    match parse_chunk_size(text) {
+        Ok(Status::Complete((len, size))) => {
+            if len == text.len() {
+                return Some(size);
+            }
+            None
+        }
+        Ok(Status::Partial) => None,
+        Err(_) => None,
+    }
+}
+
+// Reads a chunk of that size and the line end behind it.
+fn read_chunk<R: Read + Device>(
+    r: &mut R,
+    room: &mut [u8],
+    held: &mut Held,
+    done: usize,
+    size: usize,
+    ahead: bool,
+    before: u64,
+    turns: &mut u32,
+) -> Result<Step, LinkFault>
+    requires lies { LiesBehind done room.old held.old }
+    requires wide { done + size ≤ length room.old }
+    requires unfailed { R.failure_count r.old ≤ before }
+    ensures len { length room.new ≡ length room.old }
+    ensures held { LiesBehind 0 room.new held.new }
+    ensures lies { IfOk result (λ step. LiesBehind (done_after done step) room.new held.new) }
+    ensures fits { IfOk result (StepsTo done) }
+    ensures taken { IfOk result (TakesChunk (held_in room.old held.old) (R.remaining r.old) (R.remaining r.new)
+        (held_in room.new held.new) size done room.old room.new) }
+    ensures exact { ReadsNoFurther ahead held.old held.new }
+    ensures read { (result ≡ Err LinkFault.Read) ↔ (before < R.failure_count r.new) }
+    ensures write { result ≢ Err LinkFault.Write }
+    ensures spent { result ≡ Err LinkFault.Turns → turns.new ≡ 0 }
+{
+    if !read_bytes(r, room, held, done, size, before, turns)? {
+        return Ok(Step::Over(BodyRead::Cut));
+    }
+    match read_line_end(r, room, held, done + size, ahead, before, turns)? {
+        Checked::Right => Ok(Step::More(size)),
+        Checked::Wrong => Ok(Step::Over(BodyRead::Bad(BodyFault::Malformed))),
+        Checked::Short => Ok(Step::Over(BodyRead::Cut)),
+    }
+}
+
+// Puts the bytes of a chunk behind those that are done: those that are held, and behind them those of the reader. Whether
+// there are as many.
+fn read_bytes<R: Read + Device>(
+    r: &mut R,
+    room: &mut [u8],
+    held: &mut Held,
+    done: usize,
+    size: usize,
+    before: u64,
+    turns: &mut u32,
+) -> Result<bool, LinkFault>
+    requires lies { LiesBehind done room.old held.old }
+    requires wide { done + size ≤ length room.old }
+    requires unfailed { R.failure_count r.old ≤ before }
+    ensures len { length room.new ≡ length room.old }
+    ensures held { LiesBehind done room.new held.new }
+    ensures lies { IfOk result (λ all. IsTrue all → LiesBehind (done + size) room.new held.new) }
+    ensures taken { IfOk result (TakesBytes (held_in room.old held.old) (R.remaining r.old) (R.remaining r.new)
+        (held_in room.new held.new) size done room.old room.new) }
+    ensures exact { ReadsNoFurther false held.old held.new }
+    ensures read { (result ≡ Err LinkFault.Read) ↔ (before < R.failure_count r.new) }
+    ensures write { result ≢ Err LinkFault.Write }
+    ensures spent { result ≡ Err LinkFault.Turns → turns.new ≡ 0 }
+{
+    let moved = move_bytes(room, held, done, size);
+    if moved == size {
+        return Ok(true);
+    }
+    let end = done + size;
+    let there = read_on(r, room, done + moved, end, before, turns)?;
+    *held = Held {
+        from: there,
+        to: there,
+    };
+    if there < end {
+        return Ok(false);
+    }
+    Ok(true)
+}
+
+// Moves so many of the bytes that are held, or all, behind those that are done, and says how many.
+fn move_bytes(room: &mut [u8], held: &mut Held, done: usize, size: usize) -> usize
+    requires lies { LiesBehind done room.old held.old }
+    ensures len { length room.new ≡ length room.old }
+    ensures count { result ≡ min size (held.old.to - held.old.from) }
+    ensures lies { LiesBehind (done + result) room.new held.new }
+    ensures left { (held.new.from ≡ held.old.from + result) × (held.new.to ≡ held.old.to) }
+    ensures moved { take (done + result) room.new ≡ take done room.old ++ take result (held_in room.old held.old) }
+    ensures rest { held_in room.new held.new ≡ drop result (held_in room.old held.old) }
+{
+    let moved = size.min(held.to - held.from);
+    room.copy_within(held.from..held.from + moved, done);
+    held.from += moved;
+    moved
+}
+
+// Reads the line end behind a chunk.
+fn read_line_end<R: Read + Device>(
+    r: &mut R,
+    room: &mut [u8],
+    held: &mut Held,
+    done: usize,
+    ahead: bool,
+    before: u64,
+    turns: &mut u32,
+) -> Result<Checked, LinkFault>
+    requires lies { LiesBehind done room.old held.old }
+    requires unfailed { R.failure_count r.old ≤ before }
+    ensures len { length room.new ≡ length room.old }
+    ensures kept { IfOk result (λ given. take done room.new ≡ take done room.old) }
+    ensures lies { LiesBehind done room.new held.new }
+    ensures taken { IfOk result (TakesEnd (held_in room.old held.old) (R.remaining r.old) (R.remaining r.new)
+        (held_in room.new held.new)) }
+    ensures exact { ReadsNoFurther ahead held.old held.new }
+    ensures read { (result ≡ Err LinkFault.Read) ↔ (before < R.failure_count r.new) }
+    ensures write { result ≢ Err LinkFault.Write }
+    ensures spent { result ≡ Err LinkFault.Turns → turns.new ≡ 0 }
+{
+    let Some(first) = next_byte(r, room, held, done, ahead, before, turns)? else {
+        return Ok(Checked::Short);
+    };
+    let Some(second) = next_byte(r, room, held, done, ahead, before, turns)? else {
+        return Ok(Checked::Short);
+    };
+    if first != b'\r' {
+        return Ok(Checked::Wrong);
+    }
+    if second != b'\n' {
+        return Ok(Checked::Wrong);
+    }
+    Ok(Checked::Right)
+}
+
+// Reads what stands behind the last chunk: the trailers, which are dropped.
+fn read_end<R: Read + Device>(
+    r: &mut R,
+    room: &mut [u8],
+    held: &mut Held,
+    done: usize,
+    ahead: bool,
+    before: u64,
+    turns: &mut u32,
+) -> Result<Step, LinkFault>
+    requires lies { LiesBehind done room.old held.old }
+    requires unfailed { R.failure_count r.old ≤ before }
+    ensures len { length room.new ≡ length room.old }
+    ensures held { LiesBehind done room.new held.new }
+    ensures lies { IfOk result (λ step. LiesBehind (done_after done step) room.new held.new) }
+    ensures fits { IfOk result (StepsTo done) }
+    ensures taken { IfOk result (TakesLast (held_in room.old held.old) (R.remaining r.old) (R.remaining r.new)
+        (held_in room.new held.new) done room.old room.new) }
+    ensures exact { ReadsNoFurther ahead held.old held.new }
+    ensures read { (result ≡ Err LinkFault.Read) ↔ (before < R.failure_count r.new) }
+    ensures write { result ≢ Err LinkFault.Write }
+    ensures spent { result ≡ Err LinkFault.Turns → turns.new ≡ 0 }
+{
+    match read_trailers(r, room, held, done, ahead, before, turns)? {
+        Checked::Right => Ok(Step::Over(BodyRead::Whole(done))),
+        Checked::Wrong => Ok(Step::Over(BodyRead::Bad(BodyFault::Malformed))),
+        Checked::Short => Ok(Step::Over(BodyRead::Cut)),
+    }
+}
+
+// Reads trailers and the empty line behind them.
+fn read_trailers<R: Read + Device>(
+    r: &mut R,
+    room: &mut [u8],
+    held: &mut Held,
+    done: usize,
+    ahead: bool,
+    before: u64,
+    turns: &mut u32,
+) -> Result<Checked, LinkFault>
+    requires lies { LiesBehind done room.old held.old }
+    requires unfailed { R.failure_count r.old ≤ before }
+    ensures len { length room.new ≡ length room.old }
+    ensures kept { IfOk result (λ given. take done room.new ≡ take done room.old) }
+    ensures lies { LiesBehind done room.new held.new }
+    ensures taken { IfOk result (TakesTrailers (held_in room.old held.old) (R.remaining r.old) (R.remaining r.new)
+        (held_in room.new held.new)) }
+    ensures exact { ReadsNoFurther ahead held.old held.new }
+    ensures read { (result ≡ Err LinkFault.Read) ↔ (before < R.failure_count r.new) }
+    ensures write { result ≢ Err LinkFault.Write }
+    ensures spent { result ≡ Err LinkFault.Turns → turns.new ≡ 0 }
+{
+    let mut text = [0u8; MAX_HEAD];
+    match read_text(
+        r,
+        room,
+        held,
+        done,
+        ahead,
+        Sought::Section,
+        &mut text,
+        before,
+        turns,
+    )? {
+        Text::Found(n) => {
+            if are_trailers(&text[..n]) {
+                return Ok(Checked::Right);
+            }
+            Ok(Checked::Wrong)
+        }
+        Text::TooLong => Ok(Checked::Wrong),
+        Text::Ended => Ok(Checked::Short),
+    }
+}
+
+// Whether a text is trailers and the empty line behind them.
+fn are_trailers(text: &[u8]) -> bool
+    ensures { AreTrailersIn text.now result }
+{
+    let mut fields = [EMPTY_HEADER_SPAN; MAX_LINES];
+    match parse_headers(text, &mut fields) {
+        Ok(Status::Complete((len, _))) => len == text.len(),
+        _ => false,
+    }
+}
