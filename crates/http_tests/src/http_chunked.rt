@@ -59,13 +59,11 @@ struct Outcome {
     text: Vec<u8>,
 }
 
-fn one(alloc: Global, reader: &mut Pieces, room: &mut [u8], kind: Kind) -> Outcome
-    requires { 34_000 ≤ length room.old }
-    ensures { length room.new ≡ length room.old }
-{
+fn one(alloc: Global, reader: &mut Pieces, kind: Kind) -> Outcome {
+    let mut room = [0; 34_000];
     let mut writer = Taken::whole(alloc);
     let mut desk = Desk::new(kind, 0);
-    let served = serve_one(reader, &mut writer, &mut desk, room);
+    let served = serve_one(reader, &mut writer, &mut desk, &mut room);
     Outcome {
         served,
         questions: desk.questions,
@@ -98,13 +96,11 @@ fn room(alloc: Global) -> Result<Vec<u8>, Fail> {
 
 #[test]
 fn whole_bodies(rt: HostRuntime) -> Result<(), Fail> {
-    let mut room = room(rt.alloc())?;
-    assert!(rt; room.len() >= 34_000);
     for (i, body) in WHOLE.iter().enumerate() {
         let stream = joined(rt.alloc(), &[HEAD, body, POSTED])?;
         for cut in 0..=stream.len() {
             let mut reader = Pieces::cut_at(stream.as_slice(), cut);
-            let first = one(rt.alloc(), &mut reader, &mut room, Kind::Ilp);
+            let first = one(rt.alloc(), &mut reader, Kind::Ilp);
             assert!(rt;
                 first.served == Ok(Served::Kept) && first.questions == 1,
                 "{i} {cut}"
@@ -139,9 +135,8 @@ fn whole_bodies_of_a_connection(rt: HostRuntime) -> Result<(), Fail> {
 
 #[test]
 fn a_body_that_is_asked(rt: HostRuntime) -> Result<(), Fail> {
-    let mut room = room(rt.alloc())?;
-    assert!(rt; room.len() >= 34_000);
     for body in [WHOLE[0], WHOLE[1], WHOLE[2], WHOLE[4]] {
+        let mut room = [0; 34_000];
         let stream = joined(rt.alloc(), &[HEAD, body])?;
         let mut reader = Pieces::cut_at(stream.as_slice(), 0);
         let mut writer = Taken::whole(rt.alloc());
@@ -154,15 +149,13 @@ fn a_body_that_is_asked(rt: HostRuntime) -> Result<(), Fail> {
 
 #[test]
 fn bodies_that_are_cut(rt: HostRuntime) -> Result<(), Fail> {
-    let mut room = room(rt.alloc())?;
-    assert!(rt; room.len() >= 34_000);
     let mut inbox = Inbox::new();
     for (i, body) in WHOLE.iter().enumerate() {
         let stream = joined(rt.alloc(), &[HEAD, body])?;
         for n in HEAD.len()..stream.len() {
             let (front, _) = stream.as_slice().split_at(n);
             let mut reader = Pieces::cut_at(front, 0);
-            let first = one(rt.alloc(), &mut reader, &mut room, Kind::Ilp);
+            let first = one(rt.alloc(), &mut reader, Kind::Ilp);
             assert!(rt;
                 first.served == Ok(Served::Ended) && first.questions == 0,
                 "{i} {n}"
@@ -182,14 +175,12 @@ fn bodies_that_are_cut(rt: HostRuntime) -> Result<(), Fail> {
 
 #[test]
 fn refused_bodies(rt: HostRuntime) -> Result<(), Fail> {
-    let mut room = room(rt.alloc())?;
-    assert!(rt; room.len() >= 34_000);
     let mut inbox = Inbox::new();
     for (i, (body, answer)) in REFUSED.iter().enumerate() {
         let stream = joined(rt.alloc(), &[HEAD, body])?;
         for cut in 0..=stream.len() {
             let mut reader = Pieces::cut_at(stream.as_slice(), cut);
-            let first = one(rt.alloc(), &mut reader, &mut room, Kind::Ilp);
+            let first = one(rt.alloc(), &mut reader, Kind::Ilp);
             assert!(rt;
                 first.served == Ok(Served::Closed) && first.questions == 0,
                 "{i} {cut}"
@@ -224,8 +215,6 @@ static HEADS: [(&[u8], &[u8], &[u8]); 6] = [
 
 #[test]
 fn heads_of_coded_bodies(rt: HostRuntime) -> Result<(), Fail> {
-    let mut room = room(rt.alloc())?;
-    assert!(rt; room.len() >= 34_000);
     for (i, (minor, fields, answer)) in HEADS.iter().enumerate() {
         let stream = joined(
             rt.alloc(),
@@ -239,7 +228,7 @@ fn heads_of_coded_bodies(rt: HostRuntime) -> Result<(), Fail> {
             ],
         )?;
         let mut reader = Pieces::cut_at(stream.as_slice(), 0);
-        let first = one(rt.alloc(), &mut reader, &mut room, Kind::Ilp);
+        let first = one(rt.alloc(), &mut reader, Kind::Ilp);
         assert!(rt; first.text.as_slice() == *answer, "{i}");
     }
     Ok(())
@@ -247,13 +236,11 @@ fn heads_of_coded_bodies(rt: HostRuntime) -> Result<(), Fail> {
 
 #[test]
 fn a_client_that_waits(rt: HostRuntime) -> Result<(), Fail> {
-    let mut room = room(rt.alloc())?;
-    assert!(rt; room.len() >= 34_000);
     for (body, answer) in [(WHOLE[0], KEPT), (REFUSED[0].0, BAD)] {
         let (front, _) = HEAD.split_at(HEAD.len().saturating_sub(2));
         let stream = joined(rt.alloc(), &[front, b"Expect: 100-continue\r\n\r\n", body])?;
         let mut reader = Pieces::cut_at(stream.as_slice(), 0);
-        let first = one(rt.alloc(), &mut reader, &mut room, Kind::Ilp);
+        let first = one(rt.alloc(), &mut reader, Kind::Ilp);
         let wanted = joined(rt.alloc(), &[CONTINUE, answer])?;
         assert!(rt; first.text.as_slice() == wanted.as_slice());
     }
@@ -279,8 +266,6 @@ const COMMANDED: &[u8] =
 
 #[test]
 fn bodies_at_their_limits(rt: HostRuntime) -> Result<(), Fail> {
-    let mut room = room(rt.alloc())?;
-    assert!(rt; room.len() >= 34_000);
     // The head, how many chunks there are, how many bytes each has, and whether they are served.
     let rows: [(&[u8], Kind, usize, usize, bool); 6] = [
         (HEAD, Kind::Ilp, 1, 34_000, true),
@@ -293,7 +278,7 @@ fn bodies_at_their_limits(rt: HostRuntime) -> Result<(), Fail> {
     for (head, kind, count, size, is_served) in rows {
         let stream = chunks(rt.alloc(), head, count, size)?;
         let mut reader = Pieces::cut_at(stream.as_slice(), 0);
-        let first = one(rt.alloc(), &mut reader, &mut room, kind);
+        let first = one(rt.alloc(), &mut reader, kind);
         assert!(rt; (first.questions == 1) == is_served, "{count} {size}");
         assert!(rt;
             (first.text.as_slice() == LARGE) != is_served,
@@ -310,10 +295,8 @@ fn one_byte_a_chunk(rt: HostRuntime) -> Result<(), Fail> {
     let mut reader = Pieces::cut_at(stream.as_slice(), 0);
     let next = next(rt.alloc(), &mut reader, &mut inbox);
     assert!(rt; next.served == Ok(Served::Kept) && next.questions == 1);
-    let mut room = room(rt.alloc())?;
-    assert!(rt; room.len() >= 34_000);
     let mut dripping = Pieces::failing_after(stream.as_slice(), usize::MAX);
-    let first = one(rt.alloc(), &mut dripping, &mut room, Kind::Ilp);
+    let first = one(rt.alloc(), &mut dripping, Kind::Ilp);
     assert!(rt; first.served == Err(LinkFault::Turns) && first.questions == 0);
     assert!(rt; stream.len() == 50_000 + dripping.bytes.len());
     Ok(())
@@ -329,21 +312,16 @@ fn filled(alloc: Global, front: &[u8], size: usize, end: &[u8]) -> Result<Vec<u8
     Ok(text)
 }
 
-fn answer_to(alloc: Global, stream: &[u8], room: &mut [u8]) -> Vec<u8>
-    requires { 34_000 ≤ length room.old }
-    ensures { length room.new ≡ length room.old }
-{
-    one(alloc, &mut Pieces::cut_at(stream, 0), room, Kind::Ilp).text
+fn answer_to(alloc: Global, stream: &[u8]) -> Vec<u8> {
+    one(alloc, &mut Pieces::cut_at(stream, 0), Kind::Ilp).text
 }
 
 #[test]
 fn lines_and_trailers_at_their_limits(rt: HostRuntime) -> Result<(), Fail> {
-    let mut room = room(rt.alloc())?;
-    assert!(rt; room.len() >= 34_000);
     for (size, answer) in [(256, KEPT), (257, BAD)] {
         let line = filled(rt.alloc(), b"5;", size, b"\r\n")?;
         let stream = joined(rt.alloc(), &[HEAD, line.as_slice(), b"frame\r\n0\r\n\r\n"])?;
-        let text = answer_to(rt.alloc(), stream.as_slice(), &mut room);
+        let text = answer_to(rt.alloc(), stream.as_slice());
         assert!(rt; text.as_slice() == answer, "{size}");
     }
     for (size, answer) in [(8_192, KEPT), (8_193, BAD)] {
@@ -352,7 +330,7 @@ fn lines_and_trailers_at_their_limits(rt: HostRuntime) -> Result<(), Fail> {
             rt.alloc(),
             &[HEAD, b"5\r\nframe\r\n0\r\n", trailers.as_slice()],
         )?;
-        let text = answer_to(rt.alloc(), stream.as_slice(), &mut room);
+        let text = answer_to(rt.alloc(), stream.as_slice());
         assert!(rt; text.as_slice() == answer, "{size}");
     }
     for (lines, answer) in [(64, KEPT), (65, BAD)] {
@@ -361,7 +339,7 @@ fn lines_and_trailers_at_their_limits(rt: HostRuntime) -> Result<(), Fail> {
             stream.extend_from_slice(b"A:\r\n")?;
         }
         stream.extend_from_slice(b"\r\n")?;
-        let text = answer_to(rt.alloc(), stream.as_slice(), &mut room);
+        let text = answer_to(rt.alloc(), stream.as_slice());
         assert!(rt; text.as_slice() == answer, "{lines}");
     }
     Ok(())
