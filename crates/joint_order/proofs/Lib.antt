@@ -1,0 +1,3 @@
+pub mod Stuck
+pub mod Looks
+pub mod Going

@@ -1,0 +1,92 @@
+-- How an order is found: by taking a point that is the next one of its list and of its group, as long as there is one.
+use Rattle.std.specs.Prelude.{◌≡◌, ◌≤◌, ◌<◌, ℕ, ◌+◌, ◌-◌, ◌^◌, ◌==◌, ◌&&◌, nat_lt, if◌then◌else◌, List, [], ◌∷◌, ◌++◌, length, Contains, IsSome}
+use Rattle.std.specs.Prelude.{Option, Some, None, slice_get, slice_index, slice_set}
+use Rattle.joint_order.specs.Orders.{IsTaken, at, list_at, none, one_more, point}
+use Rattle.joint_order.specs.declared.point.Point.{Point}
+
+-- the point, if it is the next one of its group
+abbrev pub if_next : (done : List ℕ) → Option Point → Option Point
+if_next done None = None
+if_next done (Some p) =
+    if nat_lt p.group (length done) && (slice_index done p.group == p.place) then Some p else None
+
+-- the next point of a list, if it is the next one of its group
+abbrev pub next_in : List Point → (taken : ℕ) → (done : List ℕ) → Option Point
+next_in list taken done = if_next done (slice_get list taken)
+
+-- the next point of the list of that number, if it is the next one of its group
+abbrev pub next_at : List (List Point) → (taken done : List ℕ) → ℕ → Option Point
+next_at lists taken done i = next_in (list_at lists i) (slice_index taken i) done
+
+-- what stands there, if anything does
+abbrev pub joined : {A : Type 0} → Option (Option A) → Option A
+joined None = None
+joined (Some o) = o
+
+-- the number of the list that holds the point of that place, if there is one
+abbrev pub holder_at : List (List (Option ℕ)) → (group place : ℕ) → Option ℕ
+holder_at holders group place = joined (slice_get (list_at holders group) place)
+
+-- no list has too many elements to be counted
+abbrev pub AreShort : {A : Type 0} → List (List A) → Type 0
+AreShort lists = (i : ℕ) → length (list_at lists i) < 2 ^ 63
+
+-- the next point of the list of that number is counted without going over
+pub record CanGoOn (taken done : List ℕ) (i : ℕ) (p : Point) : Type 0 where
+  pub list : i < length taken
+  pub group : p.group < length done
+  pub next : slice_index done p.group ≡ p.place
+  pub taken_fits : slice_index taken i + 1 < 2 ^ 64
+  pub place_fits : p.place + 1 < 2 ^ 64
+
+-- an element or none, as a list
+abbrev pub listed : {A : Type 0} → Option A → List A
+listed None = []
+listed (Some x) = x ∷ []
+
+-- one more at that number
+abbrev pub raised : List ℕ → ℕ → List ℕ
+raised counts i = slice_set counts i (slice_index counts i + 1)
+
+-- how many points were taken of each list and each group, in which order, and which lists are still to be looked at
+pub record Progress : Type 0 where
+  pub taken : List ℕ
+  pub done : List ℕ
+  pub order : List ℕ
+  pub waiting : List ℕ
+
+-- after a look at the list of that number: where its next point is the next of its group, it is taken, and the list is
+-- looked at again, and so is the one that holds the next point of the group
+abbrev pub looked : List (List (Option ℕ)) → (number : ℕ) → Option Point → Progress → Progress
+looked holders i None g = g
+looked holders i (Some p) g =
+    record {
+      taken = raised g.taken i;
+      done = raised g.done p.group;
+      order = g.order ++ i ∷ [];
+      waiting = (g.waiting ++ i ∷ []) ++ listed (holder_at holders p.group (p.place + 1));
+    }
+
+-- points that were taken by that order lead from one state to the other
+abbrev pub Runs : List (List Point) → (taken done : ℕ → ℕ) → List ℕ → (taken' done' : ℕ → ℕ) → Type 0
+Runs lists f d [] f' d' = (f' ≡ f) × (d' ≡ d)
+Runs lists f d (i ∷ order) f' d' =
+    (group : ℕ) × (slice_get (list_at lists i) (f i) ≡ Some (point group (d group)))
+    × Runs lists (one_more f i) (one_more d group) order f' d'
+
+-- where the search has come to
+pub record IsGoing (lists : List (List Point)) (holders : List (List (Option ℕ))) (g : Progress) : Type 0 where
+  pub wide : length g.taken ≡ length lists
+  pub all : length g.done ≡ length holders
+  pub within : (i : ℕ) → at g.taken i ≤ length (list_at lists i)
+  pub runs : Runs lists none none g.order (at g.taken) (at g.done)
+  pub prefix : (group place : ℕ) → place < at g.done group → IsTaken lists (at g.taken) (point group place)
+  pub no_more : (group place : ℕ) → IsTaken lists (at g.taken) (point group place) → place < at g.done group
+  -- a list that goes on is still to be looked at
+  pub waits : (i : ℕ) → IsSome (next_at lists g.taken g.done i) → Contains g.waiting i
+
+-- how many points are left
+abbrev pub left_of : List (List Point) → (taken : List ℕ) → ℕ
+left_of [] taken = 0
+left_of (l ∷ ls) [] = 0
+left_of (l ∷ ls) (n ∷ ns) = (length l - n) + left_of ls ns

@@ -1,0 +1,10 @@
+//! One order of the points of many lists, which keeps each list's own order and that of each group of points; or a front at
+//! which no list goes on, where there is none.
+#![tactic(auto)]
+
+mod joining;
+pub mod laws;
+mod point;
+
+pub use joining::{Joined, join};
+pub use point::Point;
