@@ -238,7 +238,7 @@ fn trace_command<J: Run>(
     match answer {
         Ok(Answered::Done) => share.record(chronicle, part, book.journal()),
         Ok(Answered::Rolled(period)) => {
-            share.record(chronicle, part, period.get().records.journal());
+            share.record(chronicle, part, period.records().journal());
         }
         Ok(Answered::Balances(_)) | Err(_) => {}
     }

@@ -136,13 +136,12 @@ fn put_governed(
             out.extend_from_slice(b" ok")
         }
         Ok(Answered::Rolled(period)) => {
-            let period = period.get();
-            put_rows(out, name, period.rows.as_slice())?;
+            put_rows(out, name, period.rows())?;
             out.extend_from_slice(name)?;
             out.extend_from_slice(b" rolled ")?;
-            put_decimal(out, period.opening.period)?;
+            put_decimal(out, period.number())?;
             out.push(b' ')?;
-            put_decimal(out, period.records.len() as u64)
+            put_decimal(out, period.len() as u64)
         }
         Err(fault) => {
             out.extend_from_slice(name)?;

@@ -4,6 +4,7 @@ pub mod Ticking
 pub mod Slots
 pub mod Replays
 pub mod Making
+pub mod Closings
 pub mod Purses
 pub mod Verdicts
 pub mod Soundness

@@ -34,6 +34,7 @@ pub mod Replay
 pub mod Made
 pub mod Setup
 pub mod Sound
+pub mod Closing
 pub mod OpenHolds
 pub mod Fates
 pub mod Staying

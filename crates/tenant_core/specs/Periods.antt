@@ -16,7 +16,7 @@ use Rattle.tenant_core.specs.declared.journal.Outcome.TheVariants.{Rolled}
 use Rattle.tenant_core.specs.declared.journal.Record.{Record}
 use Rattle.tenant_core.specs.declared.opening.Opening.{Opening}
 use Rattle.tenant_core.specs.declared.peer.Peer.{Peer}
-use Rattle.tenant_core.specs.declared.period.Period.{Period}
+use Rattle.tenant_core.specs.declared.period.PeriodParts.{PeriodParts}
 
 -- a roll is refused: a packet awaits its answer, or the period is the last one
 abbrev pub roll_refusal : State → Option CommandFault
@@ -50,17 +50,19 @@ next_opening s clock =
       network = carried_net s clock (network_of s);
     }
 
--- the period that a roll at that moment closes: its entries with that of the roll, and what each peer owes
-abbrev pub closed : State → ℕ → Period
+-- the period that a roll at that moment closes: its entries with that of the roll, what each peer owes, and what the next
+-- period begins with
+abbrev pub closed : State → ℕ → PeriodParts
 closed s now =
     record {
       opening = s.opening;
       records = s.records ++ roll_record now ∷ [];
       rows = map (row_of s) (network_of s).peers;
+      ending = next_opening s (max (clock_of s) now);
     }
 
 -- what became of a roll: the closed period and the state after it, or its refusal
-abbrev pub IsRolled : Result Period CommandFault → State → State → ℕ → Type 0
+abbrev pub IsRolled : Result PeriodParts CommandFault → State → State → ℕ → Type 0
 IsRolled (Ok period) before after now =
     (roll_refusal before ≡ None) × (period ≡ closed before now)
     × (after ≡ opened (next_opening before (max (clock_of before) now)))

@@ -14,7 +14,7 @@ use crate::moves::{begin_hold, end_hold, mark_overdue};
 use crate::network::Network;
 use crate::opening::Opening;
 use crate::orders::{change_of, place_changed};
-use crate::period::{Period, Records};
+use crate::period::{Period, PeriodParts, Records};
 use crate::periods::{next_opening, row_of, rows_of};
 use crate::record_view::decide_view;
 use crate::routing::{peer_numbered, peer_with_token};
@@ -414,7 +414,7 @@ impl Book {
     }
 
     // Ends the running period and begins the next one with what the book is at present. Gives the closed period.
-    fn roll(&mut self, alloc: Global, now: Moment) -> Result<Boxed<Period>, CommandFault>
+    fn roll(&mut self, alloc: Global, now: Moment) -> Result<Period, CommandFault>
         ensures { IsRolled result self.old self.new now }
     {
         if self.holds.awaited() > 0 {
@@ -428,23 +428,18 @@ impl Book {
         next.network.is_network();
         running();
         let opening = next_opening(&self.opening, clock, self.holds.len() as u64, next.network);
-        let period = Period {
-            opening,
-            records: Records::none(alloc),
-            rows: Items::from_vec(next.rows),
-        };
-        let mut closed = Boxed::new(alloc, period)?;
+        let mut closed = PeriodParts::begun(alloc, opening, next.rows)?;
         let mut journal = mem::replace(&mut self.journal, next.fresh.journal);
         journal.push_roll(RollEntry { now: now.millis() });
-        let period = closed.get_mut();
-        mem::swap(&mut self.opening, &mut period.opening);
-        period.records = Records::new(journal);
+        let parts = closed.get_mut();
+        mem::swap(&mut self.opening, &mut parts.opening);
+        parts.records = Records::new(journal);
         self.network = next.fresh.network;
         self.clock = clock;
         self.holds = next.fresh.holds;
         self.purses = next.fresh.purses;
         self.buckets = next.fresh.buckets;
-        Ok(closed)
+        Ok(Period::new(closed))
     }
 
     // What each peer owes, and what is held from it and for it. The one error is want of memory.

@@ -6,7 +6,7 @@ ghost use Rattle.std.specs.Str.{bytes_eq};
 use crate::period::Period;
 use crate::row::Row;
 use crate::terms::{BucketTerms, PeerLimits, PeerTerms};
-use common_types::{Between, Boxed, Items, Name};
+use common_types::{Between, Items, Name};
 use ilp_addr::Prefix;
 use money_core::Rate;
 use route_table::Fee;
@@ -128,5 +128,5 @@ pub enum Answered {
     /// What each peer owes, in the order of their numbers.
     Balances(Items<Row>),
     /// The period that was closed.
-    Rolled(Boxed<Period>),
+    Rolled(Period),
 }

@@ -1,6 +1,7 @@
 //! Laws of books and their states, each the contract of a function that does nothing.
 
 ghost use Rattle.tenant_core.specs.Calls.{CallLaws};
+ghost use Rattle.tenant_core.specs.Closing.{IsPeriod};
 ghost use Rattle.tenant_core.specs.Fates.{FateLaw};
 ghost use Rattle.tenant_core.specs.Made.{MadeLaws};
 ghost use Rattle.tenant_core.specs.OpenHolds.{OpenHoldLaws};
@@ -8,12 +9,20 @@ ghost use Rattle.tenant_core.specs.Sound.{IsSound};
 ghost use Rattle.tenant_core.specs.Staying.{StayingLaws};
 
 use crate::book::Book;
+use crate::period::Period;
 
 /// The state of a book is within its limits.
 pub fn book_is_sound(book: &Book)
     ensures { IsSound book.now }
 {
     book.is_sound();
+}
+
+/// A closed period is what a roll closed.
+pub fn period_is_kept(period: &Period)
+    ensures { IsPeriod period.now }
+{
+    period.is_kept();
 }
 
 /// A packet that goes on awaits its answer from then on, under the next number, under which none awaits one; its answer

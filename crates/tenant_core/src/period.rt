@@ -4,8 +4,8 @@ use crate::arena::Journal;
 use crate::opening::Opening;
 use crate::record_view::RecordView;
 use crate::row::Row;
-use common_types::Items;
-use std::alloc::Global;
+use common_types::{Boxed, Items};
+use std::alloc::{AllocError, Global};
 use std::marker::Model;
 
 /// The records of a closed period. Contracts see the list of them.
@@ -66,13 +66,136 @@ impl Records {
     }
 }
 
-/// A period that a roll closed.
+/// What a roll closes.
 #[derive(Drop)]
-pub struct Period {
+pub struct PeriodParts {
     /// What the period began with: the tenant and the number of the period are there.
     pub opening: Opening,
     /// Its entries with what each led to; the last is the roll's.
     pub records: Records,
     /// What each peer owed at its end, in the order of their numbers.
     pub rows: Items<Row>,
+    /// What the next period begins with.
+    pub ending: Opening,
+}
+
+impl PeriodParts {
+    ghost use Rattle.std.specs.Prelude.{◌≡◌, [], IfOk};
+
+    /// The place of what a roll is to close, with what each peer owed: the next opening is its ending, and stands where the old
+    /// one is to come. The one error is want of memory.
+    pub(crate) fn begun(
+        alloc: Global,
+        next: Opening,
+        rows: Vec<Row>,
+    ) -> Result<Boxed<PeriodParts>, AllocError>
+        ensures { IfOk result (λ parts. parts
+            ≡ record { opening = next; records = []; rows = rows.items; ending = next }) }
+    {
+        let ending = next.copy(alloc)?;
+        Boxed::new(
+            alloc,
+            PeriodParts {
+                opening: next,
+                records: Records::none(alloc),
+                rows: Items::from_vec(rows),
+                ending,
+            },
+        )
+    }
+}
+
+/// A period that a roll closed, of the size of a pointer. Only rolls make one, and its type keeps what each says: its records
+/// are what their entries lead to from its opening on, the roll's the last, and its ending is what the next period begins with.
+#[derive(Drop)]
+pub struct Period {
+    parts: Boxed<PeriodParts>,
+}
+
+impl Model for Period {
+    ghost use Rattle.tenant_core.specs.declared.period.PeriodParts.{PeriodParts};
+    ghost use Rattle.std.specs.Coded.{codes};
+    ghost use Rattle.route_table.specs.contracts.routes.Routes as routes;
+
+    ghost Value = { PeriodParts };
+
+    ghost coded = { Prim.hlevel (codes, routes.the_row.coded) };
+
+    ghost view = { λ p. p.parts };
+
+    ghost use Rattle.tenant_core.specs.Closing.{IsPeriod};
+
+    ghost invariant = { λ p. IsPeriod p.parts };
+}
+
+impl Period {
+    ghost use Rattle.std.specs.Prelude.{◌≡◌, ◌≤◌, ◌<◌, ◌+◌, length};
+    ghost use Rattle.tenant_core.specs.Closing.{IsPeriod};
+    ghost use Rattle.tenant_core.specs.Limits.{max_tenants, max_journal};
+
+    /// The period of what a roll closes.
+    pub(crate) fn new(parts: Boxed<PeriodParts>) -> Period
+        requires { IsPeriod parts }
+        ensures { result ≡ parts }
+    {
+        Period { parts }
+    }
+
+    /// The tenant's place among all tenants.
+    pub fn tenant(&self) -> usize
+        ensures value { result ≡ self.now.opening.tenant }
+        ensures few { result < max_tenants }
+    {
+        self.parts.get().opening.tenant
+    }
+
+    /// The number of the period: a tenant's first one has 0.
+    pub fn number(&self) -> u64
+        ensures { result ≡ self.now.opening.period }
+    {
+        self.parts.get().opening.period
+    }
+
+    /// What the period began with.
+    pub fn opening(&self) -> &Opening
+        ensures { result.now ≡ self.now.opening }
+    {
+        &self.parts.get().opening
+    }
+
+    /// What the next period begins with.
+    pub fn ending(&self) -> &Opening
+        ensures { result.now ≡ self.now.ending }
+    {
+        &self.parts.get().ending
+    }
+
+    /// Its entries with what each led to; the last is the roll's.
+    pub fn records(&self) -> &Records
+        ensures { result.now ≡ self.now.records }
+    {
+        &self.parts.get().records
+    }
+
+    /// How many records it has.
+    pub fn len(&self) -> usize
+        ensures value { result ≡ length self.now.records }
+        ensures few { result ≤ max_journal + 1 }
+    {
+        self.parts.get().records.len()
+    }
+
+    /// What each peer owed at its end, in the order of their numbers.
+    pub fn rows(&self) -> &[Row]
+        ensures { result.now ≡ self.now.rows }
+    {
+        self.parts.get().rows.as_slice()
+    }
+
+    // What the type keeps, for whoever holds a period.
+    pub(crate) fn is_kept(&self)
+        ensures { IsPeriod self.now }
+    {
+        let _parts = self.parts.get();
+    }
 }

@@ -21,21 +21,21 @@ fn fault_of_roll(alloc: Global, book: &mut Book) -> Result<Option<CommandFault>,
 
 fn closed(alloc: Global, book: &mut Book) -> Result<Period, Fail> {
     match roll(alloc, book)?? {
-        Answered::Rolled(period) => Ok(period.into_inner()),
+        Answered::Rolled(period) => Ok(period),
         Answered::Done | Answered::Balances(_) => Err(Fail::from("a period")),
     }
 }
 
 // Whether the period is the first one of the first tenant.
 fn is_first(period: &Period) -> bool {
-    let opening = &period.opening;
+    let opening = period.opening();
     opening.tenant == 0 && opening.period == 0 && opening.clock == START && opening.next_hold == 0
 }
 
 // What each peer owed at the end of the period, and what was held from it and for it.
 fn rows_of(alloc: Global, period: &Period) -> Result<Vec<(i64, u64, u64)>, Fail> {
     let mut rows = Vec::new(alloc);
-    for row in period.rows.as_slice() {
+    for row in period.rows() {
         rows.push((row.balance, row.held_in, row.held_out))?;
     }
     Ok(rows)
@@ -43,7 +43,7 @@ fn rows_of(alloc: Global, period: &Period) -> Result<Vec<(i64, u64, u64)>, Fail>
 
 fn expect_period(rt: &impl Abort, alloc: Global, period: &Period) -> Result<(), Fail> {
     assert!(rt; is_first(period));
-    assert!(rt; period.records.len() == 3);
+    assert!(rt; period.len() == 3);
     let rows = rows_of(alloc, period)?;
     assert!(rt; rows.as_slice() == [(1_000, 0, 0), (-1_500, 0, 0)].as_slice());
     Ok(())

@@ -18,7 +18,7 @@ use std::process::Abort;
 use std::test::Fail;
 use tenant_core::{
     AnswerKey, Answered, Balance, Book, BookFault, Command, CommandFault, Expiry, Network, Order,
-    Pair, PeerNo, PrepareKey, RejectCode, Row, TenantSetup, TenantTerms, Verdict,
+    Pair, PeerNo, Period, PrepareKey, RejectCode, Row, TenantSetup, TenantTerms, Verdict,
 };
 use told::{Priced, Sums, Told};
 use wanted::{Ask, HOLD, MARGIN, Packet, decided, has_place, refusal, settled};
@@ -282,14 +282,10 @@ fn expect_rows(rt: &impl Abort, alloc: Global, rows: &[Row], told: &Told) -> Res
     Ok(())
 }
 
-// The rows of the period that is closed.
-fn rolled(
-    alloc: Global,
-    book: &mut Book,
-    now: u64,
-) -> Result<Result<Vec<Row>, CommandFault>, Fail> {
+// The period that is closed.
+fn rolled(alloc: Global, book: &mut Book, now: u64) -> Result<Result<Period, CommandFault>, Fail> {
     match command(alloc, book, &Command::Roll, now)? {
-        Ok(Answered::Rolled(period)) => Ok(Ok(period.into_inner().rows.into_vec())),
+        Ok(Answered::Rolled(period)) => Ok(Ok(period)),
         Ok(_) => Err("a period".into()),
         Err(fault) => Ok(Err(fault)),
     }
@@ -305,9 +301,9 @@ fn expect_rolled(
     let now = course.draws.moment(course.told.clock);
     let is_awaited = course.told.awaited() > 0;
     match rolled(alloc, book, now)? {
-        Ok(rows) => {
+        Ok(period) => {
             assert!(rt; !is_awaited);
-            expect_rows(rt, alloc, rows.as_slice(), &course.told)?;
+            expect_rows(rt, alloc, period.rows(), &course.told)?;
             course.told.rolled(now);
             expect_sums(rt, alloc, book, &course.told)
         }

@@ -77,7 +77,7 @@ fn rolled<J: Run, R: Wait>(
     share: &mut Share<J>,
 ) -> Result<Option<usize>, Fail> {
     match governed(rt, alloc, books, share, &Command::Roll)?.0 {
-        Ok(Answered::Rolled(period)) => Ok(Some(period.get().records.len())),
+        Ok(Answered::Rolled(period)) => Ok(Some(period.len())),
         _ => Ok(None),
     }
 }
