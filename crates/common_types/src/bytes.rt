@@ -32,4 +32,11 @@ impl Bytes {
     {
         self.bytes.as_slice()
     }
+
+    /// Gives back the room that the bytes do not need, where the allocator takes it.
+    pub fn shrink(&mut self)
+        ensures { self.new ≡ self.old }
+    {
+        self.bytes.shrink_to_fit();
+    }
 }

@@ -1,6 +1,6 @@
 //! Small types that the connector's crates share: texts in fixed room, names, tokens and asset codes, numbers within
-//! limits, words and numerals of a text, values in a box, lists and bytes that contracts see as lists, and the errors of
-//! readers that take memory.
+//! limits, words and numerals of a text, values in a box, lists and bytes that contracts see as lists, room for bytes, and
+//! the errors of readers that take memory.
 #![tactic(auto)]
 
 mod between;
@@ -11,6 +11,7 @@ pub mod laws;
 mod names;
 mod numerals;
 mod read_error;
+mod spare;
 mod text;
 mod token;
 mod words;
@@ -22,6 +23,7 @@ pub use items::Items;
 pub use names::{AssetCode, MAX_ASSET_CODE, MAX_NAME, Name, Token, is_asset_code, is_name};
 pub use numerals::{NumberFault, are_digits, is_numeral, number_in, value_of};
 pub use read_error::ReadError;
+pub use spare::Spare;
 pub use text::Text;
 pub use token::{MAX_TOKEN, is_token};
 pub use words::{Words, first_word};

@@ -8,7 +8,7 @@ ghost use Rattle.ilp_addr.specs.Address.{max_address};
 use crate::address::MAX_ADDRESS;
 use crate::fault::AddrFault;
 use crate::segments::{Segments, are_segments, is_scheme, split_at_dot};
-use common_types::ReadError;
+use common_types::{ReadError, Spare};
 use std::alloc::{AllocError, Global};
 use std::marker::Model;
 
@@ -70,6 +70,23 @@ impl Prefix {
     {
         let bytes = Vec::from_slice(alloc, &self.bytes)?;
         Ok(Prefix { bytes })
+    }
+
+    /// The same prefix in that room. It takes no memory.
+    pub fn copy_into(&self, spare: Spare) -> Prefix
+        requires { max_address ≤ spare }
+        ensures { result ≡ self.now }
+    {
+        Prefix {
+            bytes: spare.fill(self.bytes()),
+        }
+    }
+
+    /// Gives back the room that the prefix does not need, where the allocator takes it.
+    pub fn shrink(&mut self)
+        ensures { self.new ≡ self.old }
+    {
+        self.bytes.shrink_to_fit();
     }
 }
 

@@ -123,6 +123,16 @@ impl Target {
         self.token.as_bytes()
     }
 
+    /// Whether the other is the same.
+    pub fn is_same(&self, other: &Target) -> bool
+        ensures { IsTrue result ↔ (self.now ≡ other.now) }
+    {
+        self.url() == other.url()
+            && self.token() == other.token()
+            && self.host == other.host
+            && self.port == other.port
+    }
+
     /// The host to connect to.
     pub fn address(&self) -> Host
         ensures { result ≡ self.now.host }

@@ -6,3 +6,4 @@ pub mod Places
 pub mod Rekeyed
 pub mod BestAtPath
 pub mod Named
+pub mod Included

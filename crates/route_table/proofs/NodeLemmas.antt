@@ -338,7 +338,7 @@ abbrev pub SomeChildNames : Wanted → Children → Type 0
 SomeChildNames wanted [] = ⊥
 SomeChildNames wanted (child ∷ children) = Names wanted child.1.routes ⊎ SomeChildNames wanted children
 
-distinct_keys : (children : Children) → IsStrictlySortedBy (slice_cmp nat_cmp) (keys_of children) → IsDistinct is_same (keys_of children)
+pub distinct_keys : (children : Children) → IsStrictlySortedBy (slice_cmp nat_cmp) (keys_of children) → IsDistinct is_same (keys_of children)
 distinct_keys children sorted = IsDistinct-from_sorted (slice_cmp nat_cmp) (keys_of children) sorted
 
 none_later : (k : List ℕ) (children : Children) → AllByRecursion (λ y. is_same k y ≡ false) (keys_of children) → child_of k children ≡ None

@@ -168,6 +168,13 @@ impl Routes {
         })
     }
 
+    /// Whether the others are the same: each prefix has the same hop in both, or in neither.
+    pub fn is_same(&self, other: &Routes) -> bool
+        ensures { IsTrue result ↔ (self.now ≡ other.now) }
+    {
+        self.root.is_within(&other.root) && other.root.is_within(&self.root)
+    }
+
     fn hop_of(&self, prefix: &Prefix) -> Option<Hop>
         ensures { result ≡ get self.now prefix.now }
     {

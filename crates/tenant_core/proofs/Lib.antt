@@ -5,6 +5,7 @@ pub mod Slots
 pub mod Replays
 pub mod Making
 pub mod Closings
+pub mod Lasts
 pub mod Purses
 pub mod Verdicts
 pub mod Soundness

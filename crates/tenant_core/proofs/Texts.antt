@@ -23,7 +23,7 @@ bytes_last text more = ap (take (length more)) (drop_at text more (length text) 
 entry_more : (text more : List ℕ) (e : SmallEntry) → IsWithin (length text) e → whole_entry (text ++ more) e ≡ whole_entry text e
 entry_more text more (Decide d) h =
     ap (λ bytes. entries.Decide (record { peer = d.peer; amount = d.amount; expiry = d.expiry; condition = d.condition; destination = bytes; now = d.now }))
-    (bytes_more text more d.from d.length h)
+    (bytes_more text more d.from d.length h.0)
 entry_more text more (Answer a) h = refl
 entry_more text more (Tick t) h = refl
 entry_more text more (Change c) h = refl

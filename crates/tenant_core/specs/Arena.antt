@@ -1,5 +1,6 @@
 -- What a journal keeps of its fields.
 use Rattle.std.specs.Prelude.{ℕ, ◌+◌, ◌*◌, ◌≤◌, List, length, map, take, drop, All, vec_capacity}
+use Rattle.ilp_addr.specs.Address.{max_address}
 use Rattle.tenant_core.specs.Journals.{Recorded}
 use Rattle.tenant_core.specs.Limits.{max_journal}
 use Rattle.tenant_core.specs.declared.arena.Journal.TheInside.{Inside}
@@ -34,9 +35,9 @@ whole_entry text (Roll r) = entries.Roll r
 abbrev pub whole : List ℕ → Small → Record
 whole text s = record { entry = whole_entry text s.entry; outcome = s.outcome }
 
--- the entry's bytes end within a text of that length
+-- the entry's bytes end within a text of that length, and are no more than an address has
 abbrev pub IsWithin : ℕ → SmallEntry → Type 0
-IsWithin n (Decide d) = d.from + d.length ≤ n
+IsWithin n (Decide d) = (d.from + d.length ≤ n) × (d.length ≤ max_address)
 IsWithin n (Answer a) = Unit {0}
 IsWithin n (Tick t) = Unit {0}
 IsWithin n (Change c) = Unit {0}

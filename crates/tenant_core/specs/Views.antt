@@ -1,4 +1,6 @@
 -- What a journal lends, without where it lies in memory.
+use Rattle.std.specs.Prelude.{◌≤◌, length}
+use Rattle.ilp_addr.specs.Address.{max_address}
 use Rattle.tenant_core.specs.declared.journal.DecideEntry.{DecideEntry}
 use Rattle.tenant_core.specs.declared.journal.Entry.{Entry}
 use Rattle.tenant_core.specs.declared.journal.Entry.TheVariants as entries
@@ -27,6 +29,14 @@ entry_of (Answer a) = entries.Answer a.now
 entry_of (Tick t) = entries.Tick t
 entry_of (Change c) = entries.Change c.now
 entry_of (Roll r) = entries.Roll r
+
+-- a Prepare's destination is no longer than an address may be
+abbrev pub IsShort : EntryView → Type 0
+IsShort (Decide v) = length v.destination.now ≤ max_address
+IsShort (Answer a) = Unit {0}
+IsShort (Tick t) = Unit {0}
+IsShort (Change c) = Unit {0}
+IsShort (Roll r) = Unit {0}
 
 -- the record that is lent
 abbrev pub record_of : RecordView → Record

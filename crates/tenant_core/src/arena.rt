@@ -2,7 +2,7 @@
 
 ghost use Rattle.std.specs.Prelude.{◌≡◌, ◌≤◌, length, IfOk, vec_capacity};
 ghost use Rattle.tenant_core.specs.Arena.{IsWithin, whole};
-ghost use Rattle.tenant_core.specs.Views.{record_of};
+ghost use Rattle.tenant_core.specs.Views.{record_of, IsShort};
 
 use crate::journal::{AnswerEntry, ChangeEntry, Outcome, RollEntry, TickEntry};
 use crate::record_view::{DecideView, EntryView, RecordView};
@@ -98,7 +98,8 @@ impl Model for Journal {
 // A record, its bytes lent from the text.
 fn lent<'a>(small: &'a Small, text: &'a [u8]) -> RecordView<'a>
     requires { IsWithin (length text.now) small.now.entry }
-    ensures { record_of result ≡ whole text.now small.now }
+    ensures value { record_of result ≡ whole text.now small.now }
+    ensures short { IsShort result.entry }
 {
     let entry = match &small.entry {
         SmallEntry::Decide(decide) => {
@@ -138,11 +139,11 @@ fn copied_records(alloc: Global, records: &[Small], room: usize) -> Result<Vec<S
 }
 
 impl Journal {
-    ghost use Rattle.std.specs.Prelude.{◌≡◌, ◌<◌, ◌≤◌, ◌+◌, length, IfOk, option_map};
+    ghost use Rattle.std.specs.Prelude.{◌≡◌, ◌<◌, ◌≤◌, ◌+◌, length, IfOk, IfSome, option_map};
     ghost use Rattle.std.specs.List.{slice_get};
     ghost use Rattle.tenant_core.specs.Arena.{max_places};
-    ghost use Rattle.tenant_core.specs.Journals.{no_records, with_record};
-    ghost use Rattle.tenant_core.specs.Views.{decide_of, record_of};
+    ghost use Rattle.tenant_core.specs.Journals.{last_of, no_records, with_record};
+    ghost use Rattle.tenant_core.specs.Views.{decide_of, record_of, IsShort};
     ghost use Rattle.tenant_core.specs.declared.journal.Entry.TheVariants.{Decide, Answer, Tick, Change, Roll};
     ghost use Rattle.tenant_core.specs.declared.journal.Outcome.TheVariants.{Packet, Ticked, Done, Rolled};
 
@@ -195,12 +196,21 @@ impl Journal {
 
     /// The record at that place.
     pub fn get(&self, place: usize) -> Option<RecordView<'_>>
-        ensures { option_map record_of result ≡ slice_get self.now.records place }
+        ensures value { option_map record_of result ≡ slice_get self.now.records place }
+        ensures short { IfSome result (λ r. IsShort r.entry) }
     {
         if place >= self.records.len() {
             return None;
         }
         Some(lent(&self.records[place], &self.text))
+    }
+
+    /// The last record.
+    pub fn last(&self) -> Option<RecordView<'_>>
+        ensures value { option_map record_of result ≡ last_of self.now.records }
+        ensures short { IfSome result (λ r. IsShort r.entry) }
+    {
+        self.get(self.len().checked_sub(1)?)
     }
 
     /// The verdict of a Prepare more.

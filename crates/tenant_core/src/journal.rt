@@ -3,7 +3,7 @@
 use crate::command::{Amount, Side};
 use crate::terms::{BucketTerms, PeerLimits, PeerTerms, RateTerms};
 use crate::verdict::Verdict;
-use common_types::{Between, Bytes};
+use common_types::{Between, Bytes, Spare};
 use ilp_addr::{Address, Prefix};
 use route_table::{Hop, PeerNo};
 use std::alloc::{AllocError, Global};
@@ -144,7 +144,8 @@ pub struct Record {
 }
 
 impl ChangeEntry {
-    ghost use Rattle.std.specs.Prelude.{◌≡◌, IfOk};
+    ghost use Rattle.std.specs.Prelude.{◌≡◌, ◌≤◌, IfOk};
+    ghost use Rattle.ilp_addr.specs.Address.{max_address};
 
     /// The same entry once more. The one error is want of memory.
     pub fn copy(&self, alloc: Global) -> Result<ChangeEntry, AllocError>
@@ -155,10 +156,22 @@ impl ChangeEntry {
             now: self.now,
         })
     }
+
+    /// The same entry once more, a prefix in that room. It takes no memory.
+    pub fn copy_into(&self, spare: Spare) -> ChangeEntry
+        requires { max_address ≤ spare }
+        ensures { result ≡ self.entry.now }
+    {
+        ChangeEntry {
+            change: self.change.copy_into(spare),
+            now: self.now,
+        }
+    }
 }
 
 impl Change {
-    ghost use Rattle.std.specs.Prelude.{◌≡◌, IfOk};
+    ghost use Rattle.std.specs.Prelude.{◌≡◌, ◌≤◌, IfOk};
+    ghost use Rattle.ilp_addr.specs.Address.{max_address};
 
     /// The same change once more. The one error is want of memory.
     pub fn copy(&self, alloc: Global) -> Result<Change, AllocError>
@@ -187,5 +200,61 @@ impl Change {
                 amount: *amount,
             },
         })
+    }
+
+    /// The same change once more, a prefix in that room. It takes no memory.
+    pub fn copy_into(&self, spare: Spare) -> Change
+        requires { max_address ≤ spare }
+        ensures { result ≡ self.now }
+    {
+        match self {
+            Change::PeerAdded(terms) => Change::PeerAdded(terms.copy()),
+            Change::PeerRemoved(peer) => Change::PeerRemoved(*peer),
+            Change::LimitsSet { peer, limits } => Change::LimitsSet {
+                peer: *peer,
+                limits: *limits,
+            },
+            Change::BucketSet { peer, bucket } => Change::BucketSet {
+                peer: *peer,
+                bucket: *bucket,
+            },
+            Change::RouteAdded { prefix, hop } => Change::RouteAdded {
+                prefix: prefix.copy_into(spare),
+                hop: *hop,
+            },
+            Change::RouteRemoved(prefix) => Change::RouteRemoved(prefix.copy_into(spare)),
+            Change::RateSet(rate) => Change::RateSet(*rate),
+            Change::Settled { peer, side, amount } => Change::Settled {
+                peer: *peer,
+                side: *side,
+                amount: *amount,
+            },
+        }
+    }
+
+    /// Gives back the room that a prefix does not need, where the allocator takes it.
+    pub fn shrink(&mut self)
+        ensures { self.new ≡ self.old }
+    {
+        match self {
+            Change::RouteAdded { prefix, .. } => prefix.shrink(),
+            Change::RouteRemoved(prefix) => prefix.shrink(),
+            _ => {}
+        }
+    }
+}
+
+impl Entry {
+    ghost use Rattle.std.specs.Prelude.{◌≡◌};
+
+    /// Gives back the room that an address or a prefix does not need, where the allocator takes it.
+    pub fn shrink(&mut self)
+        ensures { self.new ≡ self.old }
+    {
+        match self {
+            Entry::Decide(decide) => decide.destination.shrink(),
+            Entry::Change(entry) => entry.change.shrink(),
+            _ => {}
+        }
     }
 }

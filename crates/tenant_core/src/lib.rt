@@ -27,6 +27,7 @@ mod refusals;
 mod routing;
 mod row;
 mod running;
+mod same;
 mod settle;
 mod setup;
 mod terms;

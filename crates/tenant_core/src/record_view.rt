@@ -6,7 +6,10 @@ ghost use Rattle.tenant_core.specs.Key.{key_of};
 ghost use Rattle.tenant_core.specs.Replay.{is_sayable};
 ghost use Rattle.tenant_core.specs.Views.{decide_of};
 
-use crate::journal::{AnswerEntry, ChangeEntry, Outcome, PrepareKey, RollEntry, TickEntry};
+use crate::journal::{
+    AnswerEntry, ChangeEntry, DecideEntry, Entry, Outcome, PrepareKey, RollEntry, TickEntry,
+};
+use common_types::{Bytes, Spare};
 use ilp_addr::Moment;
 use ilp_addr::laws::addresses;
 use route_table::PeerNo;
@@ -42,6 +45,47 @@ pub enum EntryView<'a> {
 pub struct RecordView<'a> {
     pub entry: EntryView<'a>,
     pub outcome: Outcome,
+}
+
+impl DecideView<'_> {
+    ghost use Rattle.std.specs.Prelude.{◌≡◌, ◌≤◌, length};
+    ghost use Rattle.tenant_core.specs.Views.{decide_of};
+
+    // The same in memory of its own, the destination in that room.
+    fn to_entry(&self, spare: Spare) -> DecideEntry
+        requires { length self.now.destination.now ≤ spare }
+        ensures { result ≡ decide_of self.entry.now }
+    {
+        DecideEntry {
+            peer: self.peer,
+            amount: self.amount,
+            expiry: self.expiry,
+            condition: *self.condition,
+            destination: Bytes::from_vec(spare.fill(self.destination)),
+            now: self.now,
+        }
+    }
+}
+
+impl EntryView<'_> {
+    ghost use Rattle.std.specs.Prelude.{◌≡◌, ◌≤◌};
+    ghost use Rattle.ilp_addr.specs.Address.{max_address};
+    ghost use Rattle.tenant_core.specs.Views.{entry_of, IsShort};
+
+    /// The same entry in memory of its own, the address or the prefix in it in that room. It takes no memory.
+    pub fn to_entry(&self, spare: Spare) -> Entry
+        requires room { max_address ≤ spare }
+        requires short { IsShort self.now }
+        ensures { result ≡ entry_of self.now }
+    {
+        match self {
+            EntryView::Decide(decide) => Entry::Decide(decide.to_entry(spare)),
+            EntryView::Answer(answer) => Entry::Answer(**answer),
+            EntryView::Tick(tick) => Entry::Tick(*tick),
+            EntryView::Change(change) => Entry::Change(change.copy_into(spare)),
+            EntryView::Roll(roll) => Entry::Roll(*roll),
+        }
+    }
 }
 
 /// The entry of a Prepare of that peer.
