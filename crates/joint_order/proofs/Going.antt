@@ -4,10 +4,11 @@ use Rattle.std.proofs.lemmas.Bool.Decides.{nat_tests}
 use Rattle.std.proofs.lemmas.Option.{slice_get_within, slice_get_past}
 use Rattle.std.proofs.lemmas.List.Elements.{Contains-append_left, Contains-append_right, Contains-append_cases}
 use Rattle.std.proofs.lemmas.List.{length-append, length-replicate}
+use Rattle.std.proofs.lemmas.List.Sums.{sum_by-cons}
 use mathlib.Core.Logic.{dite}
 use native.Mathlib.Decide.{ℕ_discrete, dec_le}
 use Rattle.joint_order.specs.declared.point.Point.{Point}
-use Rattle.joint_order.specs.Orders.{AreHeld, IsStuck, IsTaken, TakesAll, TakesOn, at, list_at, none, one_more, point}
+use Rattle.joint_order.specs.Orders.{AreHeld, IsStuck, IsTaken, TakesAll, TakesOn, at, list_at, none, one_more, point, points_count}
 use Rattle.joint_order.specs.Steps.{CanGoOn, IsGoing, Progress, Runs, holder_at, if_next, left_of, joined, listed, looked, next_at, raised}
 use Rattle.joint_order.proofs.Stuck.{done_taken, more_here, more_there, no_less}
 use Rattle.joint_order.proofs.Looks.{found, has_list, is_next, some_is}
@@ -179,6 +180,39 @@ waits_with lists holders taken done rest i p held can waits j goes = dite (ℕ_d
     let went : IsSome (next_at lists taken done j) = subst N (sym there) (subst S (sym (is_next done q (omega arith) (sym same_done ∙ next))) refl) in
     Contains-append_left (rest ++ i ∷ []) _ j (waits j went)))
 
+left_at : (lists : List (List Point)) (taken : List ℕ) (i : ℕ) → i < length taken → slice_index taken i < length (list_at lists i)
+    → left_of lists (raised taken i) + 1 ≡ left_of lists taken
+left_at [] taken i below less = absurd (omega arith)
+left_at (l ∷ ls) [] i below less = absurd (omega arith)
+left_at (l ∷ ls) (n ∷ ns) zero below less = omega arith
+left_at (l ∷ ls) (n ∷ ns) (suc i) below less = let e = left_at ls ns i (omega arith) less in omega arith
+
+-- at first all are left
+none_left_out : (lists : List (List Point)) → 0 + left_of lists (replicate (length lists) 0) ≡ points_count lists
+none_left_out [] = refl
+none_left_out (l ∷ ls) =
+    let others = none_left_out ls in
+    let sum = sum_by-cons (λ (list : List Point). length list) l ls in
+    omega arith
+
+-- where all were taken, none is left
+none_left : (lists : List (List Point)) (taken : List ℕ) → length taken ≡ length lists
+    → ((i : ℕ) → i < length lists → length (list_at lists i) ≤ slice_index taken i) → left_of lists taken ≡ 0
+none_left [] taken wide all = refl
+none_left (l ∷ ls) [] wide all = refl
+none_left (l ∷ ls) (n ∷ ns) wide all =
+    let here = all 0 (omega arith) in
+    let others = none_left ls ns (omega arith) (λ i below. all (suc i) (omega arith)) in
+    omega arith
+
+-- where all is taken, the order has as many numbers as there are points
+pub all_counted : (lists : List (List Point)) (holders : List (List (Option ℕ))) (g : Progress) → IsGoing lists holders g
+    → ((i : ℕ) → i < length lists → nat_le (length (list_at lists i)) (slice_index g.taken i) ≡ true) → length g.order ≡ points_count lists
+all_counted lists holders g going taken =
+    let none = none_left lists g.taken going.wide (λ i below. let t = taken i below in let most : length (list_at lists i) ≤ slice_index g.taken i = grind (arith, nat_tests) in most) in
+    let all = going.counted in
+    omega arith
+
 -- where the search stands after a look
 pub look_on : (lists : List (List Point)) (holders : List (List (Option ℕ))) (taken done order rest : List ℕ) (i : ℕ) (o : Option Point)
     → AreHeld lists holders → next_at lists taken done i ≡ o → ((p : Point) → o ≡ Some p → CanGoOn taken done i p)
@@ -191,6 +225,7 @@ look_on lists holders taken done order rest i None held e can g = record {
   runs = g.runs;
   prefix = g.prefix;
   no_more = g.no_more;
+  counted = g.counted;
   waits = waits_without lists taken done rest i e g.waits;
 }
 look_on lists holders taken done order rest i (Some p) held e can g =
@@ -216,6 +251,12 @@ look_on lists holders taken done order rest i (Some p) held e can g =
           let P : (ℕ → ℕ) → (ℕ → ℕ) → Type 0 = λ a b. (u n : ℕ) → IsTaken lists a (point u n) → n < b u in
           subst (λ b. P (at (raised taken i)) b) (sym d)
           (subst (λ a. P a (one_more (at done) p.group)) (sym f) (no_more_taken lists (at taken) (at done) i p.group next g.no_more));
+      counted =
+          let below = slice_get_within (list_at lists i) (slice_index taken i) p at_p.0 in
+          let less = left_at lists taken i c.list below in
+          let one = length-append order (i ∷ []) in
+          let was = g.counted in
+          omega arith;
       waits = waits_with lists holders taken done rest i p held c g.waits;
     }
 
@@ -260,6 +301,7 @@ starts lists holders numbers all = record {
   runs = (nothing_taken (length lists), nothing_taken (length holders));
   prefix = λ t n below. let e = at_none (length holders) t in absurd (omega arith);
   no_more = λ t n taken. let e = at_none (length lists) taken.0 in let below = taken.2 in absurd (omega arith);
+  counted = none_left_out lists;
   waits = λ i goes. all i (
       let q = some_is (next_at lists (replicate (length lists) 0) (replicate (length holders) 0) i) goes in
       let at_q = found (replicate (length holders) 0) (slice_get (list_at lists i) (slice_index (replicate (length lists) 0) i)) q.0 q.1 in
@@ -273,15 +315,6 @@ one_number_more numbers n all k below = dite (ℕ_discrete k n)
     let P : ℕ → Type 0 = λ j. Contains (numbers ++ n ∷ []) j in
     subst P (sym same) (Contains-append_right numbers (n ∷ []) n (here_alone n)))
     (λ other. Contains-append_left numbers (n ∷ []) k (all k (omega arith)))
-
--- ---- how much is left
-
-left_at : (lists : List (List Point)) (taken : List ℕ) (i : ℕ) → i < length taken → slice_index taken i < length (list_at lists i)
-    → left_of lists (raised taken i) + 1 ≡ left_of lists taken
-left_at [] taken i below less = absurd (omega arith)
-left_at (l ∷ ls) [] i below less = absurd (omega arith)
-left_at (l ∷ ls) (n ∷ ns) zero below less = omega arith
-left_at (l ∷ ls) (n ∷ ns) (suc i) below less = let e = left_at ls ns i (omega arith) less in omega arith
 
 -- a look leaves less to do: each point that is left brings two looks at most, and each list that waits one
 pub look_smaller : (lists : List (List Point)) (holders : List (List (Option ℕ))) (g : Progress) (i : ℕ) (o : Option Point)

@@ -1,5 +1,5 @@
 -- Lists of points, each a place of a group, and the orders in which they can be taken.
-use Rattle.std.specs.Prelude.{◌≡◌, ◌≢◌, ℕ, ◌+◌, ◌<◌, ◌==◌, if◌then◌else◌, List, [], ◌∷◌, length, Option, Some, slice_get, slice_index, unwrap_or, ⊤}
+use Rattle.std.specs.Prelude.{◌≡◌, ◌≢◌, ℕ, ◌+◌, ◌<◌, ◌==◌, if◌then◌else◌, List, [], ◌∷◌, length, Option, Some, slice_get, slice_index, sum_by, unwrap_or, ⊤}
 use Rattle.joint_order.specs.declared.point.Point.{Point}
 use Rattle.joint_order.specs.declared.joining.Joined.{Joined}
 use Rattle.joint_order.specs.declared.joining.Joined.TheVariants.{Order, Stuck}
@@ -11,6 +11,10 @@ point group place = record { group = group; place = place }
 -- the list of that number, and an empty one where there is none
 abbrev pub list_at : {A : Type 0} → List (List A) → ℕ → List A
 list_at lists i = unwrap_or (slice_get lists i) []
+
+-- how many points there are
+abbrev pub points_count : List (List Point) → ℕ
+points_count lists = sum_by (λ list. length list) lists
 
 -- ---- orders
 

@@ -1,7 +1,7 @@
 -- How an order is found: by taking a point that is the next one of its list and of its group, as long as there is one.
 use Rattle.std.specs.Prelude.{◌≡◌, ◌≤◌, ◌<◌, ℕ, ◌+◌, ◌-◌, ◌^◌, ◌==◌, ◌&&◌, nat_lt, if◌then◌else◌, List, [], ◌∷◌, ◌++◌, length, Contains, IsSome}
 use Rattle.std.specs.Prelude.{Option, Some, None, slice_get, slice_index, slice_set}
-use Rattle.joint_order.specs.Orders.{IsTaken, at, list_at, none, one_more, point}
+use Rattle.joint_order.specs.Orders.{IsTaken, at, list_at, none, one_more, point, points_count}
 use Rattle.joint_order.specs.declared.point.Point.{Point}
 
 -- the point, if it is the next one of its group
@@ -74,6 +74,12 @@ Runs lists f d (i ∷ order) f' d' =
     (group : ℕ) × (slice_get (list_at lists i) (f i) ≡ Some (point group (d group)))
     × Runs lists (one_more f i) (one_more d group) order f' d'
 
+-- how many points are left
+abbrev pub left_of : List (List Point) → (taken : List ℕ) → ℕ
+left_of [] taken = 0
+left_of (l ∷ ls) [] = 0
+left_of (l ∷ ls) (n ∷ ns) = (length l - n) + left_of ls ns
+
 -- where the search has come to
 pub record IsGoing (lists : List (List Point)) (holders : List (List (Option ℕ))) (g : Progress) : Type 0 where
   pub wide : length g.taken ≡ length lists
@@ -82,11 +88,7 @@ pub record IsGoing (lists : List (List Point)) (holders : List (List (Option ℕ
   pub runs : Runs lists none none g.order (at g.taken) (at g.done)
   pub prefix : (group place : ℕ) → place < at g.done group → IsTaken lists (at g.taken) (point group place)
   pub no_more : (group place : ℕ) → IsTaken lists (at g.taken) (point group place) → place < at g.done group
+  -- what is left and what was taken are all points
+  pub counted : length g.order + left_of lists g.taken ≡ points_count lists
   -- a list that goes on is still to be looked at
   pub waits : (i : ℕ) → IsSome (next_at lists g.taken g.done i) → Contains g.waiting i
-
--- how many points are left
-abbrev pub left_of : List (List Point) → (taken : List ℕ) → ℕ
-left_of [] taken = 0
-left_of (l ∷ ls) [] = 0
-left_of (l ∷ ls) (n ∷ ns) = (length l - n) + left_of ls ns

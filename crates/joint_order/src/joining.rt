@@ -1,7 +1,7 @@
 //! The search for an order.
 
 ghost use Rattle.std.specs.Prelude.{◌≡◌, ◌≤◌, ◌<◌, ◌+◌, ℕ, length, nat_le, slice_get, slice_index, vec_len, Contains, IfOk, IfSome, OnOk, false, true};
-ghost use Rattle.joint_order.specs.Orders.{AreHeld, IsStuck, OnOrder, OnStuck, TakesAll, list_at};
+ghost use Rattle.joint_order.specs.Orders.{AreHeld, IsStuck, OnOrder, OnStuck, TakesAll, list_at, points_count};
 ghost use Rattle.joint_order.specs.Steps.{AreShort, CanGoOn, Progress, holder_at, if_next, looked, next_at};
 
 use crate::point::Point;
@@ -160,6 +160,7 @@ pub fn join(
 ) -> Result<Joined, AllocError>
     requires { AreHeld lists.now holders.now }
     ensures order { IfOk result (OnOrder (TakesAll lists.now)) }
+    ensures count { IfOk result (OnOrder (λ order. length order ≡ points_count lists.now)) }
     ensures stuck { IfOk result (OnStuck (IsStuck lists.now)) }
 {
     lists_are_short(lists);

@@ -2,7 +2,7 @@ use Rattle.std.proofs.Common.{◌≡◌, ◌+◌, ◌*◌, ◌<◌, ℕ, true, f
 use Rattle.joint_order.specs.Orders.{list_at}
 use Rattle.joint_order.specs.Steps.{IsGoing, Progress, left_of, next_at}
 use Rattle.joint_order.proofs.Looks.{can_go_on}
-use Rattle.joint_order.proofs.Going.{all_end, look_on, look_smaller, no_elements, stands_still, starts}
+use Rattle.joint_order.proofs.Going.{all_counted, all_end, look_on, look_smaller, no_elements, stands_still, starts}
 use Rattle.joint_order.proofs.joining.join.Goals as goal
 
 pub loop-i-init : goal.loop-i-init
@@ -64,3 +64,10 @@ returns-else-all_taken-clause-stuck c =
     let none_left = c.in_default.ensures.cases.0 in
     let nothing : c.loop-i.waiting.items ≡ [] = no_elements c.loop-i.waiting.items (omega arith) in
     stands_still lists c.args.holders.now g c.requires c.loop-i.invariant nothing (subst P c.as_slice.ensures.value (c.if-all_taken.ensures.no refl))
+
+pub returns-then-all_taken-clause-count : goal.returns-then-all_taken-clause-count
+returns-then-all_taken-clause-count c =
+    let lists = c.args.lists.now in
+    let g : Progress = record { taken = c.loop-i.taken.items; done = c.loop-i.done.items; order = c.loop-i.order.items; waiting = c.loop-i.waiting.items } in
+    let P : List ℕ → Type 0 = λ taken. (k : ℕ) → k < length lists → nat_le (length (list_at lists k)) (slice_index taken k) ≡ true in
+    all_counted lists c.args.holders.now g c.loop-i.invariant (subst P c.as_slice.ensures.value (c.if-all_taken.ensures.yes refl))

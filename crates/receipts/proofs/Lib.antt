@@ -1,0 +1,4 @@
+pub mod Places
+pub mod Joins
+pub mod Lays
+pub mod Naming

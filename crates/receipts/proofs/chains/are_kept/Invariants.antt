@@ -1,0 +1,7 @@
+use Rattle.std.proofs.Common.{◌≡◌, ◌<◌, ℕ, Some, slice_get}
+use Rattle.tenant_core.specs.Closing.{IsPeriod}
+use Rattle.tenant_core.specs.declared.period.PeriodParts.{PeriodParts}
+use Rattle.receipts.proofs.chains.are_kept.Given as goal
+
+abbrev pub invariant-loop-k : goal.invariant-loop-k
+invariant-loop-k l = (j : ℕ) (p : PeriodParts) → j < l.k → slice_get l.periods j ≡ Some p → IsPeriod p

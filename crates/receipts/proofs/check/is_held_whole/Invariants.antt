@@ -1,0 +1,7 @@
+use Rattle.std.proofs.Common.{◌≡◌, ◌<◌, ℕ, Some, slice_get}
+use Rattle.tenant_core.specs.declared.period.PeriodParts.{PeriodParts}
+use Rattle.receipts.specs.Layout.{IsHeldAt}
+use Rattle.receipts.proofs.check.is_held_whole.Given as goal
+
+abbrev pub invariant-loop-n : goal.invariant-loop-n
+invariant-loop-n l = (m : ℕ) (p : PeriodParts) → m < l.n → slice_get l.periods l.k ≡ Some p → IsHeldAt l.periods l.holders p m

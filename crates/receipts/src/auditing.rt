@@ -1,0 +1,91 @@
+//! The audit.
+
+ghost use Rattle.std.specs.Prelude.{◌≡◌, length, map, count_by, ◌==◌, IfOk, IfErr};
+ghost use Rattle.receipts.specs.Audits.{AreMatched, IsComplete, points_of, receipts_of, tenants_of};
+ghost use Rattle.joint_order.specs.Orders.{AreHeld};
+ghost use Rattle.receipts.specs.Layout.{IsFault};
+
+use crate::chains::{are_kept, check_joined, index_of};
+use crate::check::{are_held_whole, note_lists};
+use crate::fault::AuditFault;
+use crate::layout::lay_out;
+use crate::receipt::Receipt;
+use common_types::Items;
+use joint_order::{Joined, Point, join};
+use std::alloc::Global;
+use tenant_core::Period;
+
+/// What an audit found right.
+#[derive(Drop)]
+pub struct Audited {
+    /// How many tenants have a period.
+    pub tenants: usize,
+    /// How many periods there are.
+    pub periods: usize,
+    /// How many receipts there are.
+    pub receipts: usize,
+    /// The numbers of the lists, in an order in which each takes its next receipt.
+    pub order: Items<usize>,
+}
+
+fn tenants_of(periods: &[Period]) -> usize
+    ensures { result ≡ tenants_of periods.now }
+{
+    let mut count = 0;
+    for period in periods {
+        if period.number() == 0 {
+            count += 1;
+        }
+    }
+    count
+}
+
+// Checks that receipts and periods fit, but for an order, and gives the places of all receipts, and of each entry the list that
+// holds its receipt.
+fn matched(
+    alloc: Global,
+    periods: &[Period],
+    lists: &[&[Receipt]],
+) -> Result<(Vec<Items<Point>>, Vec<Items<Option<usize>>>), AuditFault>
+    ensures matched { IfOk result (λ found. AreMatched periods.now (map (λ list. list.now) lists.now)) }
+    ensures points { IfOk result (λ found. found.0.items ≡ points_of periods.now (map (λ list. list.now) lists.now)) }
+    ensures held { IfOk result (λ found. AreHeld found.0.items found.1.items) }
+    ensures fault { IfErr result (IsFault periods.now (map (λ list. list.now) lists.now)) }
+{
+    are_kept(periods);
+    let index = index_of(alloc, periods)?;
+    check_joined(&index, periods)?;
+    let (offsets, mut holders) = lay_out(alloc, &index, periods)?;
+    let points = note_lists(alloc, periods, &index, &offsets, &mut holders, lists)?;
+    if !are_held_whole(periods, &index, &offsets, &holders) {
+        return Err(AuditFault::Missing);
+    }
+    let holders = holders.into_items(alloc)?;
+    Ok((points, holders))
+}
+
+/// Checks receipts, a list for each worker, against closed periods: that each tenant's periods are all there from the first
+/// on, and join; that each record of them has one receipt that shows just it; and that there is an order of all receipts which
+/// keeps each tenant's journal and each list. Periods and lists may stand in any order. Who kept the receipts is not trusted;
+/// a `Period` says what a roll closed, by its type. It takes time in proportion to the receipts, but for a search of the
+/// period of each.
+///
+/// The errors come only where that fault is there, and `Order` only where none of the others is. Where several are there, any
+/// of them may be told. `Memory` where memory was refused.
+pub fn audit(alloc: Global, periods: &[Period], lists: &[&[Receipt]]) -> Result<Audited, AuditFault>
+    ensures complete { IfOk result (λ audited. IsComplete periods.now (map (λ list. list.now) lists.now) audited.order) }
+    ensures counts { IfOk result (λ audited. (audited.tenants ≡ tenants_of periods.now) × (audited.periods ≡ length periods.now)
+        × (audited.receipts ≡ receipts_of (map (λ list. list.now) lists.now))) }
+    ensures fault { IfErr result (IsFault periods.now (map (λ list. list.now) lists.now)) }
+{
+    let (points, holders) = matched(alloc, periods, lists)?;
+    match join(alloc, &points, &holders)? {
+        Joined::Order(order) => Ok(Audited {
+            tenants: tenants_of(periods),
+            periods: periods.len(),
+            receipts: order.len(),
+            order: Items::from_vec(order),
+        }),
+        Joined::Stuck(front) => Err(AuditFault::Order(front)),
+    }
+}

@@ -1,0 +1,17 @@
+//! Receipts of the entries of many tenants, and their audit: the check of all workers' receipts against the closed periods,
+//! which trusts neither the workers nor who kept the receipts.
+#![tactic(auto)]
+
+mod auditing;
+mod chains;
+mod check;
+mod fault;
+mod holders;
+mod index;
+pub mod laws;
+mod layout;
+mod receipt;
+
+pub use auditing::{Audited, audit};
+pub use fault::AuditFault;
+pub use receipt::Receipt;
