@@ -1,7 +1,8 @@
 //! Books of tenants: the limits of their setups and networks, verdicts at the bounds of what was agreed, what comes back,
-//! closed periods, copies, and random lists of all of these.
+//! closed periods, copies, entries of one's own, and random lists of all of these.
 
 mod limits;
+mod owned;
 mod periods;
 mod random_lists;
 mod returns;

@@ -1,5 +1,6 @@
 pub mod Courses
 pub mod Fates
+pub mod PeersTold
 pub mod Ticking
 pub mod Slots
 pub mod Replays

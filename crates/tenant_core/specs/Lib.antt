@@ -37,6 +37,7 @@ pub mod Sound
 pub mod Closing
 pub mod OpenHolds
 pub mod Fates
+pub mod Peers
 pub mod Staying
 pub mod Calls
 pub mod Standing

@@ -5,6 +5,7 @@ ghost use Rattle.tenant_core.specs.Closing.{IsPeriod};
 ghost use Rattle.tenant_core.specs.Fates.{FateLaw};
 ghost use Rattle.tenant_core.specs.Made.{MadeLaws};
 ghost use Rattle.tenant_core.specs.OpenHolds.{OpenHoldLaws};
+ghost use Rattle.tenant_core.specs.Peers.{PeerLaw};
 ghost use Rattle.tenant_core.specs.Sound.{IsSound};
 ghost use Rattle.tenant_core.specs.Staying.{StayingLaws};
 
@@ -36,6 +37,12 @@ pub fn open_holds()
 /// amounts are held.
 pub fn fates()
     ensures { FateLaw }
+{}
+
+/// The peers of a state are those of its opening and those that its records added, in this order, less those that a record
+/// behind took away. Each has the limits and the bucket of the last record that set them, else those that it came with.
+pub fn peers()
+    ensures { PeerLaw }
 {}
 
 /// Packets, answers and ticks leave whom a tenant deals with, and how; commands leave the tenant's number, and

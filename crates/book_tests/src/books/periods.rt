@@ -19,7 +19,7 @@ fn fault_of_roll(alloc: Global, book: &mut Book) -> Result<Option<CommandFault>,
     Ok(roll(alloc, book)?.err())
 }
 
-fn closed(alloc: Global, book: &mut Book) -> Result<Period, Fail> {
+pub fn closed(alloc: Global, book: &mut Book) -> Result<Period, Fail> {
     match roll(alloc, book)?? {
         Answered::Rolled(period) => Ok(period),
         Answered::Done | Answered::Balances(_) => Err(Fail::from("a period")),
