@@ -49,7 +49,7 @@ pub enum PostFault {
     #[error("the answer's status is not 200")]
     Status,
     /// The answer's length is bad or repeated, its coding is not `chunked` alone, or its chunks are malformed.
-    #[error("the answer's length is not stated")]
+    #[error("the answer's body is not framed as it should be")]
     Unframed,
     /// The answer's body has more than 34,000 bytes.
     #[error("the answer is too large")]
