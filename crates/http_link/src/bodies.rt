@@ -1,15 +1,15 @@
 //! Bodies that are read: of a stated length, or in chunks.
 
 ghost use Rattle.std.specs.Prelude.{◌≡◌, ◌≢◌, ◌↔◌, ◌<◌, ◌≤◌, length, min, false, Err, IfOk};
+ghost use Rattle.http_link.specs.Counts.{Spends};
 ghost use Rattle.http_link.specs.Bodies.{IsBody, IsSized, most_of};
 ghost use Rattle.http_link.specs.BodyReading.{ReadsAs, ReadsAtMost, ReadsNoFurther};
 ghost use Rattle.http_link.specs.Running.{held_in};
 
 use crate::chunks::read_chunks;
+use crate::devices::Source;
 use crate::held::Held;
 use crate::streams::{LinkFault, read_on};
-use oer_core::Device;
-use std::io::Read;
 
 /// How the end of a body is known. (RFC 9112, 6.3)
 #[derive(Clone, Copy, Debug, PartialEq, Eq)]
@@ -42,7 +42,7 @@ pub(crate) enum BodyRead {
 
 /// Reads a body into the front of the room, where some bytes of it are held already. Those that came behind it are held in
 /// the end. With leave to read `ahead` more may be taken from the reader than it has.
-pub(crate) fn read_body<R: Read + Device>(
+pub(crate) fn read_body<R: Source>(
     r: &mut R,
     room: &mut [u8],
     held: &mut Held,
@@ -64,6 +64,7 @@ pub(crate) fn read_body<R: Read + Device>(
     ensures read { (result ≡ Err LinkFault.Read) ↔ (before < R.failure_count r.new) }
     ensures write { result ≢ Err LinkFault.Write }
     ensures spent { result ≡ Err LinkFault.Turns → turns.new ≡ 0 }
+    ensures made { Spends R.was_read r.old r.new turns.old turns.new }
 {
     match framing {
         Framing::Sized(size) => read_sized(r, room, held, size, before, turns),
@@ -72,7 +73,7 @@ pub(crate) fn read_body<R: Read + Device>(
 }
 
 // Reads a body of a stated length.
-fn read_sized<R: Read + Device>(
+fn read_sized<R: Source>(
     r: &mut R,
     room: &mut [u8],
     held: &mut Held,
@@ -93,6 +94,7 @@ fn read_sized<R: Read + Device>(
     ensures read { (result ≡ Err LinkFault.Read) ↔ (before < R.failure_count r.new) }
     ensures write { result ≢ Err LinkFault.Write }
     ensures spent { result ≡ Err LinkFault.Turns → turns.new ≡ 0 }
+    ensures made { Spends R.was_read r.old r.new turns.old turns.new }
 {
     let there = read_on(r, room, held.to, size, before, turns)?;
     *held = used(size, there);

@@ -1,6 +1,7 @@
 //! Bodies in chunks, decoded in place as they come. (RFC 9112, 7.1)
 
 ghost use Rattle.std.specs.Prelude.{◌≡◌, ◌≢◌, ◌↔◌, ◌+◌, ◌-◌, ◌<◌, ◌≤◌, ◌++◌, length, take, drop, min, false, Err, IfOk, IsTrue};
+ghost use Rattle.http_link.specs.Counts.{Spends};
 ghost use Rattle.http_link.specs.Bodies.{IsChunked};
 ghost use Rattle.http_link.specs.BodyReading.{AreTrailersIn, IsStatedIn, LiesBehind, ReadsAs, ReadsAtMost, ReadsNoFurther};
 ghost use Rattle.http_link.specs.BodyReading.{TakesBytes, TakesChunk, TakesEnd, TakesLast, TakesSize, TakesStep, TakesTrailers};
@@ -8,14 +9,13 @@ ghost use Rattle.http_link.specs.BodyReading.{StepsTo, done_after};
 ghost use Rattle.http_link.specs.Running.{held_in};
 
 use crate::bodies::{BodyFault, BodyRead};
+use crate::devices::Source;
 use crate::head::{MAX_HEAD, MAX_LINES};
 use crate::held::Held;
 use crate::intake::{Sought, Text, next_byte, read_text};
 use crate::streams::{LinkFault, read_on};
 use httparse::spans::{EMPTY_HEADER_SPAN, parse_headers};
 use httparse::{Status, parse_chunk_size};
-use oer_core::Device;
-use std::io::Read;
 
 /// The most bytes of a chunk's line, with its end.
 const MAX_CHUNK_LINE: usize = 256;
@@ -53,7 +53,7 @@ enum Step {
 
 /// Reads a body in chunks, which have so many bytes together at most, into the front of the room, where some bytes of it are
 /// held already. A chunk that passes that limit is refused by its line, before it is read.
-pub(crate) fn read_chunks<R: Read + Device>(
+pub(crate) fn read_chunks<R: Source>(
     r: &mut R,
     room: &mut [u8],
     held: &mut Held,
@@ -74,6 +74,7 @@ pub(crate) fn read_chunks<R: Read + Device>(
     ensures read { (result ≡ Err LinkFault.Read) ↔ (before < R.failure_count r.new) }
     ensures write { result ≢ Err LinkFault.Write }
     ensures spent { result ≡ Err LinkFault.Turns → turns.new ≡ 0 }
+    ensures made { Spends R.was_read r.old r.new turns.old turns.new }
 {
     let mut done = 0;
     loop {
@@ -85,7 +86,7 @@ pub(crate) fn read_chunks<R: Read + Device>(
 }
 
 // Reads a chunk behind those that are done, or what ends a body.
-fn read_step<R: Read + Device>(
+fn read_step<R: Source>(
     r: &mut R,
     room: &mut [u8],
     held: &mut Held,
@@ -109,6 +110,7 @@ fn read_step<R: Read + Device>(
     ensures read { (result ≡ Err LinkFault.Read) ↔ (before < R.failure_count r.new) }
     ensures write { result ≢ Err LinkFault.Write }
     ensures spent { result ≡ Err LinkFault.Turns → turns.new ≡ 0 }
+    ensures made { Spends R.was_read r.old r.new turns.old turns.new }
 {
     match read_size(r, room, held, done, ahead, before, turns)? {
         Stated::Size(0) => read_end(r, room, held, done, ahead, before, turns),
@@ -124,7 +126,7 @@ fn read_step<R: Read + Device>(
 }
 
 // Reads the line of a chunk.
-fn read_size<R: Read + Device>(
+fn read_size<R: Source>(
     r: &mut R,
     room: &mut [u8],
     held: &mut Held,
@@ -144,6 +146,7 @@ fn read_size<R: Read + Device>(
     ensures read { (result ≡ Err LinkFault.Read) ↔ (before < R.failure_count r.new) }
     ensures write { result ≢ Err LinkFault.Write }
     ensures spent { result ≡ Err LinkFault.Turns → turns.new ≡ 0 }
+    ensures made { Spends R.was_read r.old r.new turns.old turns.new }
 {
     let mut line = [0u8; MAX_CHUNK_LINE];
     match read_text(
@@ -183,7 +186,7 @@ fn size_in(text: &[u8]) -> Option<u64>
 }
 
 // Reads a chunk of that size and the line end behind it.
-fn read_chunk<R: Read + Device>(
+fn read_chunk<R: Source>(
     r: &mut R,
     room: &mut [u8],
     held: &mut Held,
@@ -206,6 +209,7 @@ fn read_chunk<R: Read + Device>(
     ensures read { (result ≡ Err LinkFault.Read) ↔ (before < R.failure_count r.new) }
     ensures write { result ≢ Err LinkFault.Write }
     ensures spent { result ≡ Err LinkFault.Turns → turns.new ≡ 0 }
+    ensures made { Spends R.was_read r.old r.new turns.old turns.new }
 {
     if !read_bytes(r, room, held, done, size, before, turns)? {
         return Ok(Step::Over(BodyRead::Cut));
@@ -219,7 +223,7 @@ fn read_chunk<R: Read + Device>(
 
 // Puts the bytes of a chunk behind those that are done: those that are held, and behind them those of the reader. Whether
 // there are as many.
-fn read_bytes<R: Read + Device>(
+fn read_bytes<R: Source>(
     r: &mut R,
     room: &mut [u8],
     held: &mut Held,
@@ -240,6 +244,7 @@ fn read_bytes<R: Read + Device>(
     ensures read { (result ≡ Err LinkFault.Read) ↔ (before < R.failure_count r.new) }
     ensures write { result ≢ Err LinkFault.Write }
     ensures spent { result ≡ Err LinkFault.Turns → turns.new ≡ 0 }
+    ensures made { Spends R.was_read r.old r.new turns.old turns.new }
 {
     let moved = move_bytes(room, held, done, size);
     if moved == size {
@@ -274,7 +279,7 @@ fn move_bytes(room: &mut [u8], held: &mut Held, done: usize, size: usize) -> usi
 }
 
 // Reads the line end behind a chunk.
-fn read_line_end<R: Read + Device>(
+fn read_line_end<R: Source>(
     r: &mut R,
     room: &mut [u8],
     held: &mut Held,
@@ -294,6 +299,7 @@ fn read_line_end<R: Read + Device>(
     ensures read { (result ≡ Err LinkFault.Read) ↔ (before < R.failure_count r.new) }
     ensures write { result ≢ Err LinkFault.Write }
     ensures spent { result ≡ Err LinkFault.Turns → turns.new ≡ 0 }
+    ensures made { Spends R.was_read r.old r.new turns.old turns.new }
 {
     let Some(first) = next_byte(r, room, held, done, ahead, before, turns)? else {
         return Ok(Checked::Short);
@@ -311,7 +317,7 @@ fn read_line_end<R: Read + Device>(
 }
 
 // Reads what stands behind the last chunk: the trailers, which are dropped.
-fn read_end<R: Read + Device>(
+fn read_end<R: Source>(
     r: &mut R,
     room: &mut [u8],
     held: &mut Held,
@@ -332,6 +338,7 @@ fn read_end<R: Read + Device>(
     ensures read { (result ≡ Err LinkFault.Read) ↔ (before < R.failure_count r.new) }
     ensures write { result ≢ Err LinkFault.Write }
     ensures spent { result ≡ Err LinkFault.Turns → turns.new ≡ 0 }
+    ensures made { Spends R.was_read r.old r.new turns.old turns.new }
 {
     match read_trailers(r, room, held, done, ahead, before, turns)? {
         Checked::Right => Ok(Step::Over(BodyRead::Whole(done))),
@@ -341,7 +348,7 @@ fn read_end<R: Read + Device>(
 }
 
 // Reads trailers and the empty line behind them.
-fn read_trailers<R: Read + Device>(
+fn read_trailers<R: Source>(
     r: &mut R,
     room: &mut [u8],
     held: &mut Held,
@@ -361,6 +368,7 @@ fn read_trailers<R: Read + Device>(
     ensures read { (result ≡ Err LinkFault.Read) ↔ (before < R.failure_count r.new) }
     ensures write { result ≢ Err LinkFault.Write }
     ensures spent { result ≡ Err LinkFault.Turns → turns.new ≡ 0 }
+    ensures made { Spends R.was_read r.old r.new turns.old turns.new }
 {
     let mut text = [0u8; MAX_HEAD];
     match read_text(

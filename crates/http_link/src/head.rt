@@ -1,14 +1,14 @@
 //! Heads of requests and of answers: read one byte at a time, so that no byte behind them is taken, or found in what has come.
 
 ghost use Rattle.std.specs.Prelude.{◌≡◌, ◌≢◌, ◌↔◌, ◌+◌, ◌-◌, ◌<◌, ◌≤◌, ◌++◌, ◌∷◌, [], length, take, false, Ok, Err, IfOk};
+ghost use Rattle.http_link.specs.Counts.{Spends};
 ghost use Rattle.http_link.specs.Reading.{ends_empty_line, Decides, GoesOn, HeadIsFound, HeadIsRead, Sees};
 ghost use Rattle.http_link.specs.ReadingReplies.{DecidesReply, ReplyGoesOn, ReplyIsRead};
 
+use crate::devices::Source;
 use crate::streams::{LinkFault, Pulled, pull, read_some};
 use httparse::Status;
 use httparse::spans::{HeaderSpan, RequestSpans, ResponseSpans, parse_request, parse_response};
-use oer_core::Device;
-use std::io::Read;
 
 /// The most bytes of a head.
 pub(crate) const MAX_HEAD: usize = 8192;
@@ -112,7 +112,7 @@ fn scan_request(
 
 /// Reads on until a head stands at the front of the room, where some bytes stand already, or none can, and counts how many
 /// stand there. Where the stream has ended, the answer is `Partial`.
-pub(crate) fn find_request_head<R: Read + Device>(
+pub(crate) fn find_request_head<R: Source>(
     r: &mut R,
     room: &mut [u8],
     had: &mut usize,
@@ -131,11 +131,11 @@ pub(crate) fn find_request_head<R: Read + Device>(
     ensures read { (result ≡ Err LinkFault.Read) ↔ (before < R.failure_count r.new) }
     ensures write { result ≢ Err LinkFault.Write }
     ensures spent { result ≡ Err LinkFault.Turns → turns.new ≡ 0 }
+    ensures made { Spends R.was_read r.old r.new turns.old turns.new }
 {
     let mut seen = 0;
     let mut parsed = 0;
     while *turns > 0 {
-        *turns -= 1;
         let end = (*had).min(MAX_HEAD);
         match scan_request(&room[..end], &mut seen, &mut parsed, lines) {
             Offered::Partial => {}
@@ -145,6 +145,7 @@ pub(crate) fn find_request_head<R: Read + Device>(
         if end == MAX_HEAD {
             return Ok(Offered::Malformed);
         }
+        *turns -= 1;
         let limit = room.len();
         match read_some(r, room, end, limit, before)? {
             Some(0) => return Ok(Offered::Partial),
@@ -157,7 +158,7 @@ pub(crate) fn find_request_head<R: Read + Device>(
 
 /// Reads the head of a request. It has as many bytes as the text at most, and as many field lines as there are lines.
 /// Where the stream has ended, the answer is `Partial`.
-pub(crate) fn read_request_head<R: Read + Device>(
+pub(crate) fn read_request_head<R: Source>(
     r: &mut R,
     text: &mut [u8],
     lines: &mut [HeaderSpan],
@@ -171,14 +172,15 @@ pub(crate) fn read_request_head<R: Read + Device>(
     ensures read { (result ≡ Err LinkFault.Read) ↔ (before < R.failure_count r.new) }
     ensures write { result ≢ Err LinkFault.Write }
     ensures spent { result ≡ Err LinkFault.Turns → turns.new ≡ 0 }
+    ensures made { Spends R.was_read r.old r.new turns.old turns.new }
 {
     let mut n = 0;
     let mut parsed = 0;
     while *turns > 0 {
-        *turns -= 1;
         if n >= text.len() {
             return Ok(Offered::Malformed);
         }
+        *turns -= 1;
         match pull(r, before)? {
             Pulled::Nothing => {}
             Pulled::End => return Ok(Offered::Partial),
@@ -229,7 +231,7 @@ fn offer_reply(
 
 /// Reads the head of an answer. It has as many bytes as the text at most, and as many field lines as there are lines.
 /// Where the stream has ended, the answer is `Partial`.
-pub(crate) fn read_reply_head<R: Read + Device>(
+pub(crate) fn read_reply_head<R: Source>(
     r: &mut R,
     text: &mut [u8],
     lines: &mut [HeaderSpan],
@@ -243,14 +245,15 @@ pub(crate) fn read_reply_head<R: Read + Device>(
     ensures read { (result ≡ Err LinkFault.Read) ↔ (before < R.failure_count r.new) }
     ensures write { result ≢ Err LinkFault.Write }
     ensures spent { result ≡ Err LinkFault.Turns → turns.new ≡ 0 }
+    ensures made { Spends R.was_read r.old r.new turns.old turns.new }
 {
     let mut n = 0;
     let mut parsed = 0;
     while *turns > 0 {
-        *turns -= 1;
         if n >= text.len() {
             return Ok(Offered::Malformed);
         }
+        *turns -= 1;
         match pull(r, before)? {
             Pulled::Nothing => {}
             Pulled::End => return Ok(Offered::Partial),

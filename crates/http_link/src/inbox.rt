@@ -1,13 +1,15 @@
 //! The requests of a connection, one after another.
 
-ghost use Rattle.std.specs.Prelude.{◌≡◌, ◌≢◌, ◌↔◌, ◌+◌, ◌<◌, ◌≤◌, List, ℕ, length, take, drop, Some, Ok, Err, IfOk};
+ghost use Rattle.std.specs.Prelude.{◌≡◌, ◌≢◌, ◌↔◌, ◌+◌, ◌<◌, ◌≤◌, ◌⊎◌, List, ℕ, length, take, drop, Some, Ok, Err, IfOk};
 ghost use Rattle.std.specs.Io.KnownBytes.{Appends};
+ghost use Rattle.http_link.specs.Counts.{MadeAll, Spends};
 ghost use Rattle.http_link.specs.Connections.{AsksNext, Awaits, ServesNext};
 ghost use Rattle.http_link.specs.Lines.{head_in};
 ghost use Rattle.http_link.specs.Reading.{IsRequest};
 ghost use Rattle.http_link.specs.Requests.{wanted_of};
 ghost use Rattle.http_link.specs.Running.{AsksWanted, Runs, held_in};
 
+use crate::devices::{Sink, Source};
 use crate::head::{MAX_HEAD, MAX_LINES, Offered, find_request_head};
 use crate::held::Held;
 use crate::request::MAX_BODY;
@@ -15,8 +17,6 @@ use crate::serve::{Failures, Served, head_in, refuse, serve_head};
 use crate::service::Service;
 use crate::streams::{LinkFault, MAX_READS, read_some};
 use httparse::spans::{EMPTY_HEADER_SPAN, HeaderSpan, RequestSpans};
-use oer_core::Device;
-use std::io::{Read, Write};
 use std::marker::Model;
 
 /// As many bytes as a request has at most: its head and its body.
@@ -44,6 +44,7 @@ impl Model for Inbox {
 impl Inbox {
     ghost use Rattle.std.specs.Prelude.{◌≡◌, ◌≢◌, ◌↔◌, ◌<◌, [], Ok, Err, IfOk};
     ghost use Rattle.http_link.specs.Connections.{Awaits};
+    ghost use Rattle.http_link.specs.Counts.{MadeAll};
 
     /// An inbox in which nothing is.
     pub fn new() -> Inbox
@@ -65,10 +66,11 @@ impl Inbox {
     /// Waits until something has come, unless something is there already; `false` where the stream has ended.
     ///
     /// Errors: `Read` where the device failed in this call, and `Turns` where 50,000 reads did not suffice.
-    pub fn await_more<R: Read + Device>(&mut self, r: &mut R) -> Result<bool, LinkFault>
+    pub fn await_more<R: Source>(&mut self, r: &mut R) -> Result<bool, LinkFault>
         ensures awaited { IfOk result (Awaits self.old (R.remaining r.old) (R.remaining r.new) self.new) }
         ensures read { (result ≡ Err LinkFault.Read) ↔ (R.failure_count r.old < R.failure_count r.new) }
         ensures only { result ≢ Err LinkFault.Write }
+        ensures turns { result ≡ Err LinkFault.Turns → MadeAll R.was_read r.old r.new }
     {
         let mut held = self.held;
         let result = await_any(r, &mut self.room, &mut held);
@@ -80,7 +82,7 @@ impl Inbox {
 /// Serves the next request of a connection, of which some bytes may be in the inbox: it is read, the service is asked where
 /// nothing refuses it, and the answer is written, as by [`serve_one`](crate::serve_one), whose limits and errors are these
 /// too. What came behind it stays in the inbox.
-pub fn serve_next<R: Read + Device, W: Write + Device, S: Service>(
+pub fn serve_next<R: Source, W: Sink, S: Service>(
     r: &mut R,
     w: &mut W,
     service: &mut S,
@@ -102,6 +104,9 @@ pub fn serve_next<R: Read + Device, W: Write + Device, S: Service>(
     // A device's fault is told exactly where the device failed.
     ensures read { (result ≡ Err LinkFault.Read) ↔ (R.failure_count r.old < R.failure_count r.new) }
     ensures write { (result ≡ Err LinkFault.Write) ↔ (W.failure_count w.old < W.failure_count w.new) }
+    // The limit is told only where it was reached.
+    ensures turns { result ≡ Err LinkFault.Turns
+        → MadeAll R.was_read r.old r.new ⊎ MadeAll W.was_written w.old w.new }
 {
     let mut held = inbox.held;
     let result = serve_held(r, w, service, &mut inbox.room, &mut held);
@@ -110,11 +115,7 @@ pub fn serve_next<R: Read + Device, W: Write + Device, S: Service>(
 }
 
 // Waits until something is held.
-fn await_any<R: Read + Device>(
-    r: &mut R,
-    room: &mut [u8],
-    held: &mut Held,
-) -> Result<bool, LinkFault>
+fn await_any<R: Source>(r: &mut R, room: &mut [u8], held: &mut Held) -> Result<bool, LinkFault>
     requires some { 0 < length room.old }
     requires within { (held.old.from ≤ held.old.to) × (held.old.to ≤ length room.old) }
     ensures len { length room.new ≡ length room.old }
@@ -122,6 +123,7 @@ fn await_any<R: Read + Device>(
     ensures awaited { IfOk result (Awaits (held_in room.old held.old) (R.remaining r.old) (R.remaining r.new) (held_in room.new held.new)) }
     ensures read { (result ≡ Err LinkFault.Read) ↔ (R.failure_count r.old < R.failure_count r.new) }
     ensures only { result ≢ Err LinkFault.Write }
+    ensures turns { result ≡ Err LinkFault.Turns → MadeAll R.was_read r.old r.new }
 {
     if held.from < held.to {
         return Ok(true);
@@ -129,7 +131,9 @@ fn await_any<R: Read + Device>(
     *held = Held { from: 0, to: 0 };
     let before = r.failures();
     let limit = room.len();
-    for _ in 0..MAX_READS {
+    let mut turns = MAX_READS;
+    while turns > 0 {
+        turns -= 1;
         if let Some(n) = read_some(r, room, 0, limit, before)? {
             held.to = n;
             return Ok(n > 0);
@@ -155,7 +159,7 @@ fn move_to_front(room: &mut [u8], held: &mut Held)
 }
 
 // Serves the next request, of which some bytes are held in the room.
-fn serve_held<R: Read + Device, W: Write + Device, S: Service>(
+fn serve_held<R: Source, W: Sink, S: Service>(
     r: &mut R,
     w: &mut W,
     service: &mut S,
@@ -178,6 +182,8 @@ fn serve_held<R: Read + Device, W: Write + Device, S: Service>(
     ensures unread { result ≡ Err LinkFault.Read → service.new ≡ service.old }
     ensures read { (result ≡ Err LinkFault.Read) ↔ (R.failure_count r.old < R.failure_count r.new) }
     ensures write { (result ≡ Err LinkFault.Write) ↔ (W.failure_count w.old < W.failure_count w.new) }
+    ensures turns { result ≡ Err LinkFault.Turns
+        → MadeAll R.was_read r.old r.new ⊎ MadeAll W.was_written w.old w.new }
 {
     let before = Failures {
         reads: r.failures(),
@@ -196,7 +202,7 @@ fn serve_held<R: Read + Device, W: Write + Device, S: Service>(
 }
 
 // Serves the request whose head was found at the front of what is held.
-fn serve_found<R: Read + Device, W: Write + Device, S: Service>(
+fn serve_found<R: Source, W: Sink, S: Service>(
     r: &mut R,
     w: &mut W,
     service: &mut S,
@@ -229,6 +235,8 @@ fn serve_found<R: Read + Device, W: Write + Device, S: Service>(
     ensures unread { result ≡ Err LinkFault.Read → service.new ≡ service.old }
     ensures read { (result ≡ Err LinkFault.Read) ↔ (before.reads < R.failure_count r.new) }
     ensures write { (result ≡ Err LinkFault.Write) ↔ (before.writes < W.failure_count w.new) }
+    ensures turns { result ≡ Err LinkFault.Turns
+        → Spends R.was_read r.old r.new turns.old 0 ⊎ MadeAll W.was_written w.old w.new }
 {
     let (text, rest) = room.split_at_mut(spans.len);
     let head = head_in(text, lines, spans);

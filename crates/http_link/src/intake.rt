@@ -1,15 +1,15 @@
 //! What follows a head, byte by byte: bytes that have come, and behind them those of the reader.
 
 ghost use Rattle.std.specs.Prelude.{◌≡◌, ◌≢◌, ◌↔◌, ◌<◌, ◌≤◌, length, take, Err, IfOk};
+ghost use Rattle.http_link.specs.Counts.{Spends};
 ghost use Rattle.http_link.specs.Reading.{ends_empty_line};
 ghost use Rattle.http_link.specs.BodyReading.{LiesBehind, PullsNext, ReadsNoFurther, TakesNext, TakesText, ends_sought};
 ghost use Rattle.http_link.specs.Running.{held_in};
 
+use crate::devices::Source;
 use crate::head::ends_empty_line;
 use crate::held::Held;
 use crate::streams::{LinkFault, Pulled, pull, read_some};
-use oer_core::Device;
-use std::io::Read;
 
 /// A text that is looked for.
 #[derive(Clone, Copy, Debug, PartialEq, Eq)]
@@ -33,7 +33,7 @@ pub(crate) enum Text {
 
 /// Takes the next byte: of those that are held in the room, else of the reader. Only with leave to read `ahead` more bytes
 /// may come, into the room behind those that are `done`.
-pub(crate) fn next_byte<R: Read + Device>(
+pub(crate) fn next_byte<R: Source>(
     r: &mut R,
     room: &mut [u8],
     held: &mut Held,
@@ -53,6 +53,7 @@ pub(crate) fn next_byte<R: Read + Device>(
     ensures read { (result ≡ Err LinkFault.Read) ↔ (before < R.failure_count r.new) }
     ensures write { result ≢ Err LinkFault.Write }
     ensures spent { result ≡ Err LinkFault.Turns → turns.new ≡ 0 }
+    ensures made { Spends R.was_read r.old r.new turns.old turns.new }
 {
     if held.from < held.to {
         let b = room[held.from];
@@ -66,7 +67,7 @@ pub(crate) fn next_byte<R: Read + Device>(
 }
 
 // Reads into the room behind those bytes that are done, and takes the first that came.
-fn refill<R: Read + Device>(
+fn refill<R: Source>(
     r: &mut R,
     room: &mut [u8],
     held: &mut Held,
@@ -86,6 +87,7 @@ fn refill<R: Read + Device>(
     ensures read { (result ≡ Err LinkFault.Read) ↔ (before < R.failure_count r.new) }
     ensures write { result ≢ Err LinkFault.Write }
     ensures spent { result ≡ Err LinkFault.Turns → turns.new ≡ 0 }
+    ensures made { Spends R.was_read r.old r.new turns.old turns.new }
 {
     while *turns > 0 {
         *turns -= 1;
@@ -106,7 +108,7 @@ fn refill<R: Read + Device>(
 }
 
 /// Takes the next byte of the reader.
-pub(crate) fn pull_next<R: Read + Device>(
+pub(crate) fn pull_next<R: Source>(
     r: &mut R,
     before: u64,
     turns: &mut u32,
@@ -116,6 +118,7 @@ pub(crate) fn pull_next<R: Read + Device>(
     ensures read { (result ≡ Err LinkFault.Read) ↔ (before < R.failure_count r.new) }
     ensures write { result ≢ Err LinkFault.Write }
     ensures spent { result ≡ Err LinkFault.Turns → turns.new ≡ 0 }
+    ensures made { Spends R.was_read r.old r.new turns.old turns.new }
 {
     while *turns > 0 {
         *turns -= 1;
@@ -140,7 +143,7 @@ fn is_ended(sought: Sought, text: &[u8]) -> bool
 }
 
 /// Takes a text, byte by byte, and copies it to the front of the buffer.
-pub(crate) fn read_text<R: Read + Device>(
+pub(crate) fn read_text<R: Source>(
     r: &mut R,
     room: &mut [u8],
     held: &mut Held,
@@ -163,6 +166,7 @@ pub(crate) fn read_text<R: Read + Device>(
     ensures read { (result ≡ Err LinkFault.Read) ↔ (before < R.failure_count r.new) }
     ensures write { result ≢ Err LinkFault.Write }
     ensures spent { result ≡ Err LinkFault.Turns → turns.new ≡ 0 }
+    ensures made { Spends R.was_read r.old r.new turns.old turns.new }
 {
     let mut n = 0;
     while n < text.len() {

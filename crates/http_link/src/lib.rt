@@ -9,6 +9,7 @@
 mod answer;
 mod bodies;
 mod chunks;
+mod devices;
 mod fields;
 mod head;
 mod held;
@@ -22,6 +23,7 @@ mod serve;
 mod service;
 mod streams;
 
+pub use devices::{Sink, Source};
 pub use inbox::{Inbox, serve_next};
 pub use posting::{MAX_ANSWER, PostFault, post};
 pub use request::{Kind, MAX_BODY};

@@ -2,12 +2,12 @@
 
 ghost use Rattle.std.specs.Prelude.{◌≡◌, ◌≢◌, ◌↔◌, ◌+◌, ◌<◌, ◌≤◌, ◌++◌, [], length, decimal, Err, OnOk};
 ghost use Rattle.std.specs.Io.KnownBytes.{Appends};
+ghost use Rattle.http_link.specs.Counts.{MadeAll};
 ghost use Rattle.http_link.specs.Answers.{line};
 
+use crate::devices::Sink;
 use crate::streams::{LinkFault, write_all};
 use itoa::Buffer;
-use oer_core::Device;
-use std::io::Write;
 use std::marker::Model;
 
 /// The most bytes of a head that is written.
@@ -94,7 +94,7 @@ impl LineBuffer {
 }
 
 /// Writes a head and the body behind it, in one text where both fit into 1,024 bytes, else one after the other.
-pub(crate) fn write_message<W: Write + Device>(
+pub(crate) fn write_message<W: Sink>(
     w: &mut W,
     mut head: LineBuffer,
     body: &[u8],
@@ -104,6 +104,7 @@ pub(crate) fn write_message<W: Write + Device>(
     ensures whole { OnOk result (Appends (W.contents w.old) (W.contents w.new) (head ++ body.now)) }
     ensures write { (result ≡ Err LinkFault.Write) ↔ (before < W.failure_count w.new) }
     ensures read { result ≢ Err LinkFault.Read }
+    ensures turns { result ≡ Err LinkFault.Turns → MadeAll W.was_written w.old w.new }
 {
     if body.len() <= head.room() {
         head.push(body);

@@ -1,15 +1,17 @@
 //! A frame that is sent to a peer, and the peer's answer.
 
-ghost use Rattle.std.specs.Prelude.{◌≡◌, ◌≢◌, ◌↔◌, ◌<◌, ◌≤◌, List, ℕ, length, map, take, true, Some, Err, IfOk};
+ghost use Rattle.std.specs.Prelude.{◌≡◌, ◌≢◌, ◌↔◌, ◌<◌, ◌≤◌, ◌⊎◌, List, ℕ, length, map, take, true, Some, Err, IfOk};
 ghost use Rattle.httparse.specs.Spans.{IsResponseWithin, header_bytes};
 ghost use Rattle.common_types.specs.Numbers.{is_between};
 ghost use Rattle.std.specs.Io.KnownBytes.{Appends};
+ghost use Rattle.http_link.specs.Counts.{MadeAll, Spends};
 ghost use Rattle.http_link.specs.Lines.{lines_at, standing_at};
 ghost use Rattle.http_link.specs.Client.{post_head, post_text, Means, given, GivesAs, GivesOf};
 ghost use Rattle.http_link.specs.Client.{IsMeaning, MeansBody, MeansCoded, sized_body, body_to_end};
 
 use crate::bodies::{BodyFault, BodyRead};
 use crate::chunks::read_chunks;
+use crate::devices::{Sink, Source};
 use crate::fields::{Found, Lines, is_chunked, is_length, value_up_to};
 use crate::head::{MAX_HEAD, MAX_LINES, Offered, read_reply_head};
 use crate::held::Held;
@@ -17,8 +19,6 @@ use crate::line_buffer::{LineBuffer, write_message};
 use crate::streams::{LinkFault, MAX_READS, has_ended, read_up_to};
 use httparse::spans::{EMPTY_HEADER_SPAN, HeaderSpan, ResponseSpans};
 use ilp_addr::Target;
-use oer_core::Device;
-use std::io::{Read, Write};
 use thiserror::Error;
 
 /// The most bytes of an answer's body.
@@ -49,7 +49,7 @@ pub enum PostFault {
     #[error("the answer's status is not 200")]
     Status,
     /// The answer's length is bad or repeated, its coding is not `chunked` alone, or its chunks are malformed.
-    #[error("the answer's length is not stated")]
+    #[error("the answer's body is not framed as it should be")]
     Unframed,
     /// The answer's body has more than 34,000 bytes.
     #[error("the answer is too large")]
@@ -79,7 +79,7 @@ impl From<LinkFault> for PostFault {
 /// fifth of status 1xx, `Status` for a status other than 200, `Unframed` for a body of another coding than `chunked`, for
 /// malformed chunks, and for a bad or repeated length, `Size` for a body of more than 34,000 bytes, and `Cut` where the stream
 /// ends inside a head or a body.
-pub fn post<R: Read + Device, W: Write + Device>(
+pub fn post<R: Source, W: Sink>(
     r: &mut R,
     w: &mut W,
     target: &Target,
@@ -101,6 +101,9 @@ pub fn post<R: Read + Device, W: Write + Device>(
     // A device's fault is told exactly where the device failed.
     ensures read { (result ≡ Err PostFault.Read) ↔ (R.failure_count r.old < R.failure_count r.new) }
     ensures write { (result ≡ Err PostFault.Write) ↔ (W.failure_count w.old < W.failure_count w.new) }
+    // The limit is told only where it was reached.
+    ensures turns { result ≡ Err PostFault.Turns
+        → MadeAll R.was_read r.old r.new ⊎ MadeAll W.was_written w.old w.new }
 {
     let (reads, writes) = (r.failures(), w.failures());
     write_message(w, post_head(target, frame.len()), frame, writes)?;
@@ -128,7 +131,7 @@ fn post_head(target: &Target, size: usize) -> LineBuffer
 }
 
 // Reads an answer: its heads and its body.
-fn read_answer<R: Read + Device>(
+fn read_answer<R: Source>(
     r: &mut R,
     out: &mut [u8],
     before: u64,
@@ -143,6 +146,7 @@ fn read_answer<R: Read + Device>(
     ensures read { (result ≡ Err PostFault.Read) ↔ (before < R.failure_count r.new) }
     ensures write { result ≢ Err PostFault.Write }
     ensures spent { result ≡ Err PostFault.Turns → turns.new ≡ 0 }
+    ensures made { Spends R.was_read r.old r.new turns.old turns.new }
 {
     let mut text = [0u8; MAX_HEAD];
     let mut lines = [EMPTY_HEADER_SPAN; MAX_LINES];
@@ -181,7 +185,7 @@ fn lines_in<'b>(text: &'b [u8], lines: &'b [HeaderSpan], spans: ResponseSpans) -
 }
 
 // Reads the body behind the last head of an answer.
-fn read_last<R: Read + Device>(
+fn read_last<R: Source>(
     r: &mut R,
     out: &mut [u8],
     status: u16,
@@ -199,6 +203,7 @@ fn read_last<R: Read + Device>(
     ensures read { (result ≡ Err PostFault.Read) ↔ (before < R.failure_count r.new) }
     ensures write { result ≢ Err PostFault.Write }
     ensures spent { result ≡ Err PostFault.Turns → turns.new ≡ 0 }
+    ensures made { Spends R.was_read r.old r.new turns.old turns.new }
 {
     if status != 200 {
         return Err(PostFault::Status);
@@ -209,7 +214,7 @@ fn read_last<R: Read + Device>(
 }
 
 // Reads a body by the lines on its coding and its length.
-fn read_framed<R: Read + Device>(
+fn read_framed<R: Source>(
     r: &mut R,
     out: &mut [u8],
     minor: u8,
@@ -227,6 +232,7 @@ fn read_framed<R: Read + Device>(
     ensures read { (result ≡ Err PostFault.Read) ↔ (before < R.failure_count r.new) }
     ensures write { result ≢ Err PostFault.Write }
     ensures spent { result ≡ Err PostFault.Turns → turns.new ≡ 0 }
+    ensures made { Spends R.was_read r.old r.new turns.old turns.new }
 {
     match (coded, stated) {
         (Found::Missing, Found::Missing) => read_to_end(r, out, before, turns),
@@ -241,7 +247,7 @@ fn read_framed<R: Read + Device>(
 }
 
 // Reads a body in chunks.
-fn read_chunked<R: Read + Device>(
+fn read_chunked<R: Source>(
     r: &mut R,
     out: &mut [u8],
     before: u64,
@@ -255,6 +261,7 @@ fn read_chunked<R: Read + Device>(
     ensures read { (result ≡ Err PostFault.Read) ↔ (before < R.failure_count r.new) }
     ensures write { result ≢ Err PostFault.Write }
     ensures spent { result ≡ Err PostFault.Turns → turns.new ≡ 0 }
+    ensures made { Spends R.was_read r.old r.new turns.old turns.new }
 {
     let mut held = Held { from: 0, to: 0 };
     match read_chunks(r, out, &mut held, MAX_ANSWER, true, before, turns)? {
@@ -266,7 +273,7 @@ fn read_chunked<R: Read + Device>(
 }
 
 // Reads a body of a stated length.
-fn read_sized<R: Read + Device>(
+fn read_sized<R: Source>(
     r: &mut R,
     out: &mut [u8],
     size: usize,
@@ -281,6 +288,7 @@ fn read_sized<R: Read + Device>(
     ensures read { (result ≡ Err PostFault.Read) ↔ (before < R.failure_count r.new) }
     ensures write { result ≢ Err PostFault.Write }
     ensures spent { result ≡ Err PostFault.Turns → turns.new ≡ 0 }
+    ensures made { Spends R.was_read r.old r.new turns.old turns.new }
 {
     if size > MAX_ANSWER {
         return Err(PostFault::Size);
@@ -290,7 +298,7 @@ fn read_sized<R: Read + Device>(
 }
 
 // Reads a body that goes to the end of the stream.
-fn read_to_end<R: Read + Device>(
+fn read_to_end<R: Source>(
     r: &mut R,
     out: &mut [u8],
     before: u64,
@@ -304,6 +312,7 @@ fn read_to_end<R: Read + Device>(
     ensures read { (result ≡ Err PostFault.Read) ↔ (before < R.failure_count r.new) }
     ensures write { result ≢ Err PostFault.Write }
     ensures spent { result ≡ Err PostFault.Turns → turns.new ≡ 0 }
+    ensures made { Spends R.was_read r.old r.new turns.old turns.new }
 {
     let n = read_up_to(r, out, MAX_ANSWER, before, turns)?;
     if n < MAX_ANSWER || has_ended(r, before, turns)? {

@@ -1,9 +1,10 @@
 //! One request of a connection.
 
-ghost use Rattle.std.specs.Prelude.{◌≡◌, ◌≢◌, ◌↔◌, ◌<◌, ◌≤◌, List, ℕ, length, Some, Ok, Err, IfOk, OnOk};
+ghost use Rattle.std.specs.Prelude.{◌≡◌, ◌≢◌, ◌↔◌, ◌<◌, ◌≤◌, ◌⊎◌, List, ℕ, length, Some, Ok, Err, IfOk, OnOk};
 ghost use Rattle.std.specs.Io.KnownBytes.{Appends};
 ghost use Rattle.httparse.specs.Grammar as grammar;
 ghost use Rattle.httparse.specs.Spans.{IsRequestWithin};
+ghost use Rattle.http_link.specs.Counts.{MadeAll, Spends};
 ghost use Rattle.http_link.specs.Bodies.{most_of, refusal_of};
 ghost use Rattle.http_link.specs.BodyReading.{ReadsNoFurther};
 ghost use Rattle.http_link.specs.Heads.{BeginsWith, head_of};
@@ -16,6 +17,7 @@ ghost use Rattle.http_link.specs.Running.{Runs, AsksWanted, held_in};
 
 use crate::answer::{answer_head, told};
 use crate::bodies::{BodyFault, BodyRead, read_body};
+use crate::devices::{Sink, Source};
 use crate::fields::Lines;
 use crate::head::{MAX_HEAD, MAX_LINES, Offered, read_request_head};
 use crate::held::Held;
@@ -24,8 +26,6 @@ use crate::request::{Kind, RequestHead, Wanted, closes, waits, wanted_of};
 use crate::service::Service;
 use crate::streams::{LinkFault, MAX_READS, write_all};
 use httparse::spans::{EMPTY_HEADER_SPAN, HeaderSpan, RequestSpans};
-use oer_core::Device;
-use std::io::{Read, Write};
 
 /// What became of a connection.
 #[derive(Clone, Copy, Debug, PartialEq, Eq)]
@@ -53,7 +53,7 @@ pub(crate) struct Failures {
 /// Errors: `Read` and `Write` where the device failed in this call, and `Turns` where 50,000 reads or writes did not
 /// suffice. Each ends the connection. Before a `Write` or a `Turns` the service may have been asked, before a `Read`
 /// not.
-pub fn serve_one<R: Read + Device, W: Write + Device, S: Service>(
+pub fn serve_one<R: Source, W: Sink, S: Service>(
     r: &mut R,
     w: &mut W,
     service: &mut S,
@@ -89,6 +89,9 @@ pub fn serve_one<R: Read + Device, W: Write + Device, S: Service>(
     // A device's fault is told exactly where the device failed.
     ensures read { (result ≡ Err LinkFault.Read) ↔ (R.failure_count r.old < R.failure_count r.new) }
     ensures write { (result ≡ Err LinkFault.Write) ↔ (W.failure_count w.old < W.failure_count w.new) }
+    // The limit is told only where it was reached.
+    ensures turns { result ≡ Err LinkFault.Turns
+        → MadeAll R.was_read r.old r.new ⊎ MadeAll W.was_written w.old w.new }
 {
     let before = Failures {
         reads: r.failures(),
@@ -131,16 +134,13 @@ pub(crate) fn head_in<'b>(
 }
 
 /// Writes the answer that refuses a request.
-pub(crate) fn refuse<W: Write + Device>(
-    w: &mut W,
-    status: u16,
-    before: u64,
-) -> Result<Served, LinkFault>
+pub(crate) fn refuse<W: Sink>(w: &mut W, status: u16, before: u64) -> Result<Served, LinkFault>
     requires unfailed { W.failure_count w.old ≤ before }
     ensures refused { IfOk result (λ served. (served ≡ Served.Closed)
         × Appends (W.contents w.old) (W.contents w.new) (refusal_text status)) }
     ensures write { (result ≡ Err LinkFault.Write) ↔ (before < W.failure_count w.new) }
     ensures read { result ≢ Err LinkFault.Read }
+    ensures turns { result ≡ Err LinkFault.Turns → MadeAll W.was_written w.old w.new }
 {
     let answer = answer_head(Kind::Ilp, status, 0, true);
     write_all(w, answer.as_slice(), before)?;
@@ -149,7 +149,7 @@ pub(crate) fn refuse<W: Write + Device>(
 
 /// Serves a request behind its head. At the front of the room stand the bytes that came with the head; in the end those are
 /// held that came behind the request. With leave to read `ahead` more may be taken from the reader than it has.
-pub(crate) fn serve_head<R: Read + Device, W: Write + Device, S: Service>(
+pub(crate) fn serve_head<R: Source, W: Sink, S: Service>(
     r: &mut R,
     w: &mut W,
     service: &mut S,
@@ -181,6 +181,8 @@ pub(crate) fn serve_head<R: Read + Device, W: Write + Device, S: Service>(
     ensures no_further { ReadsNoFurther ahead held.old held.new }
     ensures read { (result ≡ Err LinkFault.Read) ↔ (before.reads < R.failure_count r.new) }
     ensures write { (result ≡ Err LinkFault.Write) ↔ (before.writes < W.failure_count w.new) }
+    ensures turns { result ≡ Err LinkFault.Turns
+        → Spends R.was_read r.old r.new turns.old 0 ⊎ MadeAll W.was_written w.old w.new }
 {
     match wanted_of(service, head) {
         Ok(wanted) => serve_wanted(
@@ -191,7 +193,7 @@ pub(crate) fn serve_head<R: Read + Device, W: Write + Device, S: Service>(
 }
 
 // Serves a request that nothing refuses.
-fn serve_wanted<R: Read + Device, W: Write + Device, S: Service>(
+fn serve_wanted<R: Source, W: Sink, S: Service>(
     r: &mut R,
     w: &mut W,
     service: &mut S,
@@ -224,6 +226,8 @@ fn serve_wanted<R: Read + Device, W: Write + Device, S: Service>(
     ensures no_further { ReadsNoFurther ahead held.old held.new }
     ensures read { (result ≡ Err LinkFault.Read) ↔ (before.reads < R.failure_count r.new) }
     ensures write { (result ≡ Err LinkFault.Write) ↔ (before.writes < W.failure_count w.new) }
+    ensures turns { result ≡ Err LinkFault.Turns
+        → Spends R.was_read r.old r.new turns.old 0 ⊎ MadeAll W.was_written w.old w.new }
 {
     write_all(w, continue_text(waits(head)), before.writes)?;
     match read_body(r, room, held, wanted.framing, ahead, before.reads, turns)? {
@@ -234,7 +238,7 @@ fn serve_wanted<R: Read + Device, W: Write + Device, S: Service>(
 }
 
 // Asks the service what a head wants with its body, and writes the answer.
-fn answer<W: Write + Device, S: Service>(
+fn answer<W: Sink, S: Service>(
     w: &mut W,
     service: &mut S,
     head: &RequestHead,
@@ -250,6 +254,7 @@ fn answer<W: Write + Device, S: Service>(
     ensures asked { (status : ℕ) × S.asks service.old (asking (wanted_at wanted.now) body.now status) service.new }
     ensures write { (result ≡ Err LinkFault.Write) ↔ (before < W.failure_count w.new) }
     ensures read { result ≢ Err LinkFault.Read }
+    ensures turns { result ≡ Err LinkFault.Turns → MadeAll W.was_written w.old w.new }
 {
     let status = ask(service, wanted, body);
     let closed = closes(head);
@@ -294,7 +299,7 @@ fn ask<S: Service>(service: &mut S, wanted: &Wanted, body: &[u8]) -> u16
 }
 
 // Writes the answer with a service's status.
-fn write_answer<W: Write + Device>(
+fn write_answer<W: Sink>(
     w: &mut W,
     kind: Kind,
     status: u16,
@@ -307,6 +312,7 @@ fn write_answer<W: Write + Device>(
         (answer_text kind status body.now closes)) }
     ensures write { (result ≡ Err LinkFault.Write) ↔ (before < W.failure_count w.new) }
     ensures read { result ≢ Err LinkFault.Read }
+    ensures turns { result ≡ Err LinkFault.Turns → MadeAll W.was_written w.old w.new }
 {
     let shown = told_body(status, body);
     let head = answer_head(kind, told(status), shown.len(), closes);

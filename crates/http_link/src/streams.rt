@@ -2,10 +2,10 @@
 
 ghost use Rattle.std.specs.Prelude.{◌≡◌, ◌≢◌, ◌↔◌, ◌<◌, ◌≤◌, length, take, Ok, Err, IfOk, OnOk};
 ghost use Rattle.std.specs.Io.KnownBytes.{Appends};
+ghost use Rattle.http_link.specs.Counts.{MadeMore, MadeAll, NoFewer, Spends};
 ghost use Rattle.http_link.specs.Streams.{AppendsFront, PullsByte, ReadsBehind, Fills, FillsOn, EndsOrNot};
 
-use oer_core::Device;
-use std::io::{Read, Write};
+use crate::devices::{Sink, Source};
 use thiserror::Error;
 
 /// The most reads for one request or one answer, and the most writes for one text.
@@ -37,15 +37,16 @@ pub(crate) enum Pulled {
 }
 
 /// Reads one byte. Before the stream was begun, the reader had failed that often, and it has not failed since.
-pub(crate) fn pull<R: Read + Device>(r: &mut R, before: u64) -> Result<Pulled, LinkFault>
+pub(crate) fn pull<R: Source>(r: &mut R, before: u64) -> Result<Pulled, LinkFault>
     requires unfailed { R.failure_count r.old ≤ before }
     ensures pulled { IfOk result (PullsByte (R.remaining r.old) (R.remaining r.new)) }
     ensures read { (result ≡ Err LinkFault.Read) ↔ (before < R.failure_count r.new) }
     ensures only { result ≢ Err LinkFault.Write }
     ensures turns { result ≢ Err LinkFault.Turns }
+    ensures one { MadeMore R.was_read r.old r.new 1 }
 {
     let mut one = [0u8; 1];
-    let read = r.read(&mut one);
+    let read = r.read_once(&mut one);
     if r.failures() > before {
         return Err(LinkFault::Read);
     }
@@ -58,7 +59,7 @@ pub(crate) fn pull<R: Read + Device>(r: &mut R, before: u64) -> Result<Pulled, L
 
 /// Reads once into a place of the buffer, and gives how many bytes came, or nothing after an error that the device did
 /// not count. At 0 the stream has ended.
-pub(crate) fn read_some<R: Read + Device>(
+pub(crate) fn read_some<R: Source>(
     r: &mut R,
     out: &mut [u8],
     at: usize,
@@ -73,8 +74,9 @@ pub(crate) fn read_some<R: Read + Device>(
     ensures read { (result ≡ Err LinkFault.Read) ↔ (before < R.failure_count r.new) }
     ensures write { result ≢ Err LinkFault.Write }
     ensures turns { result ≢ Err LinkFault.Turns }
+    ensures one { MadeMore R.was_read r.old r.new 1 }
 {
-    let read = r.read(&mut out[at..limit]);
+    let read = r.read_once(&mut out[at..limit]);
     if r.failures() > before {
         return Err(LinkFault::Read);
     }
@@ -86,7 +88,7 @@ pub(crate) fn read_some<R: Read + Device>(
 
 /// Reads until so many bytes stand at the front of the buffer, where some stand already, or the stream has ended, and gives
 /// how many stand there.
-pub(crate) fn read_on<R: Read + Device>(
+pub(crate) fn read_on<R: Source>(
     r: &mut R,
     out: &mut [u8],
     had: usize,
@@ -102,6 +104,7 @@ pub(crate) fn read_on<R: Read + Device>(
     ensures read { (result ≡ Err LinkFault.Read) ↔ (before < R.failure_count r.new) }
     ensures write { result ≢ Err LinkFault.Write }
     ensures spent { result ≡ Err LinkFault.Turns → turns.new ≡ 0 }
+    ensures made { Spends R.was_read r.old r.new turns.old turns.new }
 {
     let mut done = had;
     while done < wanted {
@@ -119,7 +122,7 @@ pub(crate) fn read_on<R: Read + Device>(
 }
 
 /// Reads until so many bytes have come or the stream has ended, and gives how many came.
-pub(crate) fn read_up_to<R: Read + Device>(
+pub(crate) fn read_up_to<R: Source>(
     r: &mut R,
     out: &mut [u8],
     limit: usize,
@@ -133,12 +136,13 @@ pub(crate) fn read_up_to<R: Read + Device>(
     ensures read { (result ≡ Err LinkFault.Read) ↔ (before < R.failure_count r.new) }
     ensures write { result ≢ Err LinkFault.Write }
     ensures spent { result ≡ Err LinkFault.Turns → turns.new ≡ 0 }
+    ensures made { Spends R.was_read r.old r.new turns.old turns.new }
 {
     read_on(r, out, 0, limit, before, turns)
 }
 
 /// Whether the stream has ended. One byte more is taken from it at most.
-pub(crate) fn has_ended<R: Read + Device>(
+pub(crate) fn has_ended<R: Source>(
     r: &mut R,
     before: u64,
     turns: &mut u32,
@@ -148,6 +152,7 @@ pub(crate) fn has_ended<R: Read + Device>(
     ensures read { (result ≡ Err LinkFault.Read) ↔ (before < R.failure_count r.new) }
     ensures write { result ≢ Err LinkFault.Write }
     ensures spent { result ≡ Err LinkFault.Turns → turns.new ≡ 0 }
+    ensures made { Spends R.was_read r.old r.new turns.old turns.new }
 {
     while *turns > 0 {
         *turns -= 1;
@@ -161,7 +166,7 @@ pub(crate) fn has_ended<R: Read + Device>(
 }
 
 // Writes once, and gives how many bytes were taken.
-fn write_some<W: Write + Device>(w: &mut W, bytes: &[u8], before: u64) -> Result<usize, LinkFault>
+fn write_some<W: Sink>(w: &mut W, bytes: &[u8], before: u64) -> Result<usize, LinkFault>
     requires unfailed { W.failure_count w.old ≤ before }
     ensures taken { IfOk result (λ n. (n ≤ length bytes.now)
         × Appends (W.contents w.old) (W.contents w.new) (take n bytes.now)) }
@@ -169,8 +174,9 @@ fn write_some<W: Write + Device>(w: &mut W, bytes: &[u8], before: u64) -> Result
     ensures write { (result ≡ Err LinkFault.Write) ↔ (before < W.failure_count w.new) }
     ensures read { result ≢ Err LinkFault.Read }
     ensures turns { result ≢ Err LinkFault.Turns }
+    ensures one { MadeMore W.was_written w.old w.new 1 }
 {
-    let written = w.write(bytes);
+    let written = w.write_once(bytes);
     if w.failures() > before {
         return Err(LinkFault::Write);
     }
@@ -181,16 +187,14 @@ fn write_some<W: Write + Device>(w: &mut W, bytes: &[u8], before: u64) -> Result
 }
 
 /// Writes all bytes, in at most 50,000 writes.
-pub(crate) fn write_all<W: Write + Device>(
-    w: &mut W,
-    bytes: &[u8],
-    before: u64,
-) -> Result<(), LinkFault>
+pub(crate) fn write_all<W: Sink>(w: &mut W, bytes: &[u8], before: u64) -> Result<(), LinkFault>
     requires unfailed { W.failure_count w.old ≤ before }
     ensures whole { OnOk result (Appends (W.contents w.old) (W.contents w.new) bytes.now) }
     ensures front { AppendsFront bytes.now (W.contents w.old) (W.contents w.new) }
     ensures write { (result ≡ Err LinkFault.Write) ↔ (before < W.failure_count w.new) }
     ensures read { result ≢ Err LinkFault.Read }
+    ensures kept { NoFewer W.was_written w.old w.new }
+    ensures turns { result ≡ Err LinkFault.Turns → MadeAll W.was_written w.old w.new }
 {
     let mut done = 0;
     let mut turns = MAX_READS;

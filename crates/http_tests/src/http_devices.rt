@@ -1,5 +1,6 @@
 //! Devices that give and take bytes in pieces, and fail at a read or a write.
 
+use http_link::{Sink, Source};
 use oer_core::Device;
 use std::alloc::Global;
 use std::io;
@@ -66,6 +67,14 @@ impl Read for Pieces<'_> {
     }
 }
 
+impl Source for Pieces<'_> {
+    ghost was_read = { λ _ _. Unit {0} };
+
+    fn read_once(&mut self, buf: &mut [u8]) -> io::Result<usize> {
+        self.read(buf)
+    }
+}
+
 /// Takes some bytes a write at most, and fails after some writes.
 #[derive(Drop)]
 pub struct Taken {
@@ -119,5 +128,13 @@ impl Write for Taken {
 
     fn flush(&mut self) -> io::Result<()> {
         Ok(())
+    }
+}
+
+impl Sink for Taken {
+    ghost was_written = { λ _ _. Unit {0} };
+
+    fn write_once(&mut self, buf: &[u8]) -> io::Result<usize> {
+        self.write(buf)
     }
 }

@@ -2,6 +2,7 @@
 
 ghost use Rattle.std.specs.Prelude.{◌≤◌};
 
+use http_link::Source;
 use oer_core::Device;
 use std::io;
 use std::io::Read;
@@ -87,5 +88,14 @@ impl<R: Read> Read for Ahead<R> {
         }
         self.fill()?;
         Ok(self.give(buf))
+    }
+}
+
+impl<R: Read + Device> Source for Ahead<R> {
+    // No field counts the reads.
+    ghost was_read = { λ _ _. Unit {0} };
+
+    fn read_once(&mut self, buf: &mut [u8]) -> io::Result<usize> {
+        self.read(buf)
     }
 }

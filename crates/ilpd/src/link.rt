@@ -1,21 +1,21 @@
 //! The way to the next peers.
 
-ghost use Rattle.std.specs.Prelude.{◌≡◌, ◌≢◌, ◌↔◌, ◌+◌, ◌≤◌, ◌<◌, ◌^◌, List, ℕ, length, Some, Err, IfOk};
+ghost use Rattle.std.specs.Prelude.{◌≡◌, ◌≢◌, ◌↔◌, ◌+◌, ◌≤◌, ◌<◌, ◌^◌, ◌⊎◌, List, ℕ, length, Some, Err, IfOk};
 ghost use Rattle.std.specs.Io.KnownBytes.{Appends};
 ghost use Rattle.ilp_view.specs.Reading.{prepare_at};
 ghost use Rattle.http_link.specs.Client.{Means, given, post_text};
+ghost use Rattle.http_link.specs.Counts.{MadeAll};
 ghost use Rattle.ilpd.specs.Exchanges.{exchange_time};
 
 use crate::ahead::Ahead;
 use crate::office::Terms;
 use crate::timed::Timed;
 use floor_core::Got;
-use http_link::{PostFault, post};
+use http_link::{PostFault, Sink, Source, post};
 use ilp_addr::{Host, Target};
 use ilp_view::PrepareView;
-use oer_core::Device;
 use std::io;
-use std::io::{ErrorKind, Read, Write};
+use std::io::ErrorKind;
 use std::net::{IpAddr, Ipv4Addr, Ipv6Addr, Net, SocketAddr, TcpStream};
 use std::sync::Wait;
 use std::time::{Clock, Duration, Instant};
@@ -65,7 +65,7 @@ fn exchange_time(hold: u64, frame: &[u8], now: u64) -> u64
 }
 
 // Sends a frame over a connection that is open, and reads the answer into `out`, as `post` does.
-fn exchange<R: Read + Device, W: Write + Device>(
+fn exchange<R: Source, W: Sink>(
     r: &mut R,
     w: &mut W,
     target: &Target,
@@ -82,6 +82,8 @@ fn exchange<R: Read + Device, W: Write + Device>(
     ensures len { length out.new ≡ length out.old }
     ensures read { (result ≡ Err PostFault.Read) ↔ (R.failure_count r.old < R.failure_count r.new) }
     ensures write { (result ≡ Err PostFault.Write) ↔ (W.failure_count w.old < W.failure_count w.new) }
+    ensures turns { result ≡ Err PostFault.Turns
+        → MadeAll R.was_read r.old r.new ⊎ MadeAll W.was_written w.old w.new }
 {
     post(r, w, target, frame, out)
 }

@@ -6,6 +6,7 @@ ghost use Rattle.std.specs.Io.KnownBytes.{ReadConsumes, WriteAppends};
 ghost use Rattle.oer_core.specs.Devices.{count_after, takes_nothing};
 
 use crate::door::Door;
+use http_link::{Sink, Source};
 use oer_core::Device;
 use std::io;
 use std::io::{Error, ErrorKind, Read, Write};
@@ -153,7 +154,7 @@ impl<H: Wait + Clock> Side<'_, H> {
 }
 
 /// A side of a connection whose reads or writes have a limit of time.
-pub trait Paced: Read + Write + Device {
+pub trait Paced: Source + Sink {
     /// Gives its reads or writes so much time from now on, in all. The last part of it, as long as `favour`, is given only
     /// while no other connection waits for the thread of this one.
     fn allow(&mut self, time: Duration, favour: Duration)
@@ -263,5 +264,23 @@ impl<H: Wait + Clock> Write for Timed<'_, H> {
 
     fn flush(&mut self) -> io::Result<()> {
         Ok(())
+    }
+}
+
+impl<H: Wait + Clock> Source for Timed<'_, H> {
+    // No field counts the reads.
+    ghost was_read = { λ _ _. Unit {0} };
+
+    fn read_once(&mut self, buf: &mut [u8]) -> io::Result<usize> {
+        self.read(buf)
+    }
+}
+
+impl<H: Wait + Clock> Sink for Timed<'_, H> {
+    // No field counts the writes.
+    ghost was_written = { λ _ _. Unit {0} };
+
+    fn write_once(&mut self, buf: &[u8]) -> io::Result<usize> {
+        self.write(buf)
     }
 }

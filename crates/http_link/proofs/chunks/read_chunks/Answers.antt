@@ -13,6 +13,7 @@ loop-size-init g c = record {
   lies = c.requires.lies;
   exact = λ no none. none;
   unfailed = c.requires.unfailed;
+  made = λ all least. least;
 }
 
 pub loop-size-preserved : goal.loop-size-preserved
@@ -27,6 +28,7 @@ loop-size-preserved g c =
       lies = lies;
       exact = λ no none. c.in_ok-size.ensures.exact no (c.loop-size.invariant.exact no none);
       unfailed = search rules;
+      made = search rules;
     }
 
 pub returns-in-Over-clause-reads : goal.returns-in-Over-clause-reads

@@ -1,4 +1,5 @@
 use Rattle.std.proofs.Common.{◌≡◌, ◌≤◌, ◌-◌, length}
+use Rattle.http_link.specs.Counts.{Spends}
 use Rattle.http_link.proofs.ChunkedBodies.{Gathers}
 use Rattle.http_link.specs.BodyReading.{LiesBehind, ReadsNoFurther}
 use Rattle.http_link.specs.Running.{held_in}
@@ -12,6 +13,7 @@ invariant-loop-size g l = record {
   lies : LiesBehind l.done l.room l.held;
   exact : ReadsNoFurther l.ahead l.fn.held l.held;
   unfailed : g.R.Device.failure_count l.r ≤ l.before;
+  made : Spends g.R.Source.was_read l.fn.r l.r l.fn.turns l.turns;
 }
 
 abbrev pub decreases-loop-size : goal.decreases-loop-size

@@ -19,6 +19,7 @@ loop-turns-init g c = record {
   few = omega arith;
   goes_on = nothing_goes_on (length c.args.lines.now);
   unfailed = c.requires.unfailed;
+  made = λ all least. least;
 }
 
 pub returns-in-Whole-clause-found : goal.returns-in-Whole-clause-found
@@ -115,4 +116,5 @@ loop-turns-preserved-in-Some g c =
       goes_on = λ head more rest reads few. subst (λ (t : List ℕ). length t < length (print_request head)) (sym same)
           (sees.0 head more rest (subst (λ (t : List ℕ). ReadsRequest (t ++ more) head rest) same reads) (omega arith));
       unfailed = search rules;
+      made = search rules;
     }

@@ -1,5 +1,6 @@
 use Rattle.std.proofs.Common.{◌≡◌, ◌≤◌, ◌++◌, List, ℕ, length, take}
 use Rattle.std.specs.Io.KnownBytes.{Consumes}
+use Rattle.http_link.specs.Counts.{Spends}
 use Rattle.http_link.specs.Reading.{GoesOn}
 use Rattle.http_link.proofs.head.find_request_head.Given as goal
 
@@ -13,6 +14,7 @@ invariant-loop-turns g l = record {
   few : l.seen ≤ 8192;
   goes_on : GoesOn (take l.seen l.room) (length l.lines);
   unfailed : g.R.Device.failure_count l.r ≤ l.before;
+  made : Spends g.R.Source.was_read l.fn.r l.r l.fn.turns l.turns;
 }
 
 abbrev pub decreases-loop-turns : goal.decreases-loop-turns

@@ -1,5 +1,6 @@
 use Rattle.std.proofs.Common.{◌≡◌, ◌≤◌, length, take}
 use Rattle.std.specs.Io.KnownBytes.{Consumes}
+use Rattle.http_link.specs.Counts.{Spends}
 use Rattle.http_link.specs.ReadingReplies.{ReplyGoesOn}
 use Rattle.http_link.proofs.head.read_reply_head.Given as goal
 
@@ -11,6 +12,7 @@ invariant-loop-turns g l = record {
   taken : Consumes (g.R.Read.remaining l.fn.r) (g.R.Read.remaining l.r) (take l.n l.text);
   goes_on : ReplyGoesOn (take l.n l.text) (length l.lines);
   unfailed : g.R.Device.failure_count l.r ≤ l.before;
+  made : Spends g.R.Source.was_read l.fn.r l.r l.fn.turns l.turns;
 }
 
 abbrev pub decreases-loop-turns : goal.decreases-loop-turns

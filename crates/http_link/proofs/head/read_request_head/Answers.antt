@@ -14,6 +14,7 @@ loop-turns-init g c = record {
   taken = Consumes-nil (g.R.Read.remaining c.args.r.now);
   goes_on = nothing_goes_on (length c.args.lines.now);
   unfailed = c.requires.unfailed;
+  made = λ all least. least;
 }
 
 pub returns-in-Malformed-clause-head : goal.returns-in-Malformed-clause-head

@@ -1,8 +1,9 @@
-use Rattle.std.proofs.Common.{List, ℕ, take, subst, sym, arith, length-take, take-take}
+use Rattle.std.proofs.Common.{List, ℕ, take, subst, sym, arith, length-take, take-take, rules, inl, inr}
 use Rattle.http_link.specs.Reading.{HeadIsFound}
 use Rattle.http_link.specs.Running.{held_in}
 use Rattle.http_link.specs.declared.head.Offered.TheVariants.{Whole}
 use Rattle.http_link.proofs.Connections.{found_asks, found_next}
+use Rattle.http_link.proofs.Counting.{spent_all, spent_in_two}
 use Rattle.http_link.proofs.inbox.serve_held.Goals as goal
 
 pub returns-in-Whole-clause-serves : goal.returns-in-Whole-clause-serves
@@ -32,3 +33,15 @@ returns-in-Whole-clause-asks g c =
     let bound = found.stands.0 in
     found_asks (g.S.Service.tenant_of c.args.service.now) _ _ _ _ (take there room) (take spans.len room) lines spans _ _ (omega arith)
     (sym (take-take spans.len there room (omega (arith, length-take there room)))) found c.serve_found.ensures.asks
+
+pub returns-in_err-find_request_head-clause-turns : goal.returns-in_err-find_request_head-clause-turns
+returns-in_err-find_request_head-clause-turns g c told =
+    inl (spent_all g.R.Source.was_read c.args.r.now c.find_request_head.new.r 50_000 c.find_request_head.new.turns c.find_request_head.ensures.made (search rules))
+
+pub returns-in-Malformed-clause-turns : goal.returns-in-Malformed-clause-turns
+returns-in-Malformed-clause-turns g c told = inr (c.refuse.ensures.turns told)
+
+pub returns-in-Whole-clause-turns : goal.returns-in-Whole-clause-turns
+returns-in-Whole-clause-turns g c told =
+    spent_in_two g.R.Source.was_read c.args.r.now c.find_request_head.new.r c.serve_found.new.r 50_000 c.find_request_head.new.turns
+    c.find_request_head.ensures.made (c.serve_found.ensures.turns told)

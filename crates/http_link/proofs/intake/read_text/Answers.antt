@@ -35,4 +35,5 @@ loop-n-preserved g c =
       lies = c.in_ok-b.ensures.lies;
       exact = λ no none. c.in_ok-b.ensures.exact no (c.loop-n.invariant.exact no none);
       unfailed = search rules;
+      made = search rules;
     }

@@ -1,4 +1,5 @@
 use Rattle.std.proofs.Common.{◌≡◌, ◌≤◌, ◌-◌, ℕ, false, take, length}
+use Rattle.http_link.specs.Counts.{Spends}
 use Rattle.http_link.specs.BodyReading.{LiesBehind, ReadsNoFurther, Takes, ends_sought}
 use Rattle.http_link.specs.Running.{held_in}
 use Rattle.http_link.proofs.intake.read_text.Given as goal
@@ -14,6 +15,7 @@ invariant-loop-n g l = record {
   lies : LiesBehind l.done l.room l.held;
   exact : ReadsNoFurther l.ahead l.fn.held l.held;
   unfailed : g.R.Device.failure_count l.r ≤ l.before;
+  made : Spends g.R.Source.was_read l.fn.r l.r l.fn.turns l.turns;
 }
 
 abbrev pub decreases-loop-n : goal.decreases-loop-n

@@ -1,5 +1,6 @@
 use Rattle.std.proofs.Common.{◌≡◌, ◌≤◌, [], take, length}
 use Rattle.std.specs.Io.KnownBytes.{Consumes}
+use Rattle.http_link.specs.Counts.{Spends}
 use Rattle.http_link.proofs.intake.refill.Given as goal
 
 abbrev pub invariant-loop-turns : goal.invariant-loop-turns
@@ -9,6 +10,7 @@ invariant-loop-turns g l = record {
   len : length l.room ≡ length l.fn.room;
   held : l.held ≡ l.fn.held;
   unfailed : g.R.Device.failure_count l.r ≤ l.before;
+  made : Spends g.R.Source.was_read l.fn.r l.r l.fn.turns l.turns;
 }
 
 abbrev pub decreases-loop-turns : goal.decreases-loop-turns

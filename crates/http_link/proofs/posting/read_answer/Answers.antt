@@ -52,6 +52,7 @@ loop-heads-preserved g c =
           let next = interim_read c.loop-heads.heads known left text so_far.0 lines spans (omega arith) (omega arith) (omega arith) taken so_far.1 (sym c.if-not-is_interim.ensures) in
           (next.0, next.1, λ meaning means. so_far.2 meaning (next.2 meaning means));
       unfailed = search rules;
+      made = search rules;
       out = c.loop-heads.invariant.out;
       text = omega arith;
       lines = omega arith;

@@ -1,4 +1,5 @@
 use Rattle.std.proofs.Common.{◌≡◌, ◌≤◌, ℕ, List, length, Some, Result}
+use Rattle.http_link.specs.Counts.{Spends}
 use Rattle.http_link.specs.declared.posting.PostFault.{PostFault}
 use Rattle.http_link.specs.Client.{Means}
 use Rattle.http_link.proofs.posting.read_answer.Given as goal
@@ -11,6 +12,7 @@ invariant-loop-heads g l = record {
   out : l.out ≡ l.fn.out;
   text : length l.text ≡ 8192;
   lines : length l.lines ≡ 64;
+  made : Spends g.R.Source.was_read l.fn.r l.r l.fn.turns l.turns;
 }
 
 abbrev pub decreases-loop-heads : goal.decreases-loop-heads

@@ -1,9 +1,10 @@
-use Rattle.std.proofs.Common.{◌≡◌, [], Some, ap, refl, length, arith}
+use Rattle.std.proofs.Common.{◌≡◌, [], Some, ap, refl, length, arith, rules, inl}
 use Rattle.http_link.proofs.Takes.{none_held}
 use Rattle.http_link.specs.Lines.{head_at}
 use Rattle.http_link.specs.Requests.{wanted_of}
 use Rattle.http_link.specs.Reading.{HasNoHead, IsTaken}
 use Rattle.http_link.proofs.Serving.{none_begins, taken_begins, taken_is, head_served, head_asked, asks_once}
+use Rattle.http_link.proofs.Counting.{spent_all, spent_in_two}
 use Rattle.http_link.proofs.serve.serve_one.Goals as goal
 
 pub returns-in-Partial-clause-exact : goal.returns-in-Partial-clause-exact
@@ -51,3 +52,12 @@ pub returns-in-Whole-clause-asked_once : goal.returns-in-Whole-clause-asked_once
 returns-in-Whole-clause-asked_once g c =
     asks_once (wanted_of (g.S.Service.tenant_of c.args.service.now) (head_at c.head_in-head.result)) [] (g.R.Read.remaining c.read_request_head.new.r) (g.R.Read.remaining c.serve_head.new.r)
     (c.serve_head.new.service ≡ c.args.service.now) (λ question. g.S.Service.asks c.args.service.now question c.serve_head.new.service) c.serve_head.ensures.asks
+
+pub returns-in_err-read_request_head-clause-turns : goal.returns-in_err-read_request_head-clause-turns
+returns-in_err-read_request_head-clause-turns g c told =
+    inl (spent_all g.R.Source.was_read c.args.r.now c.read_request_head.new.r 50_000 c.read_request_head.new.turns c.read_request_head.ensures.made (search rules))
+
+pub returns-in-Whole-clause-turns : goal.returns-in-Whole-clause-turns
+returns-in-Whole-clause-turns g c told =
+    spent_in_two g.R.Source.was_read c.args.r.now c.read_request_head.new.r c.serve_head.new.r 50_000 c.read_request_head.new.turns
+    c.read_request_head.ensures.made (c.serve_head.ensures.turns told)

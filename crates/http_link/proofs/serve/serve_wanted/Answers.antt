@@ -1,4 +1,4 @@
-use Rattle.std.proofs.Common.{◌≡◌, refl}
+use Rattle.std.proofs.Common.{◌≡◌, refl, inr}
 use Rattle.std.specs.Io.KnownBytes.{Appends}
 use Rattle.http_link.specs.Answers.{continue_text}
 use Rattle.http_link.specs.Lines.{head_at, wanted_at}
@@ -41,3 +41,9 @@ returns-in-Whole-clause-asks g c =
     rw c.in-Whole.is at c.in_ok-size.ensures.reads in
     whole_asks (wanted_at c.args.wanted.now) _ _ _ _ c.read_body.new.room c.in-Whole.size
     (c.answer.new.service ≡ c.args.service.now) (λ question. g.S.Service.asks c.args.service.now question c.answer.new.service) read c.answer.ensures.asked
+
+pub returns-in-Whole-clause-turns : goal.returns-in-Whole-clause-turns
+returns-in-Whole-clause-turns g c told = inr (λ n least. c.answer.ensures.turns told n (c.write_all.ensures.kept n least))
+
+pub returns-in-Bad-clause-turns : goal.returns-in-Bad-clause-turns
+returns-in-Bad-clause-turns g c told = inr (λ n least. c.refuse.ensures.turns told n (c.write_all.ensures.kept n least))

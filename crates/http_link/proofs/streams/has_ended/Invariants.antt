@@ -1,11 +1,13 @@
 use Rattle.std.proofs.Common.{◌≤◌}
 use Rattle.std.specs.Io.KnownBytes.{Keeps}
+use Rattle.http_link.specs.Counts.{Spends}
 use Rattle.http_link.proofs.streams.has_ended.Given as goal
 
 abbrev pub invariant-loop-turns : goal.invariant-loop-turns
 invariant-loop-turns g l = record {
   keeps : Keeps (g.R.Read.remaining l.fn.r) (g.R.Read.remaining l.r);
   unfailed : g.R.Device.failure_count l.r ≤ l.before;
+  made : Spends g.R.Source.was_read l.fn.r l.r l.fn.turns l.turns;
 }
 
 abbrev pub decreases-loop-turns : goal.decreases-loop-turns

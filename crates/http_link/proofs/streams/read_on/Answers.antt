@@ -28,4 +28,5 @@ loop-done-preserved-in-Some g c =
       bound = omega arith;
       len = search rules;
       unfailed = search rules;
+      made = search rules;
     }

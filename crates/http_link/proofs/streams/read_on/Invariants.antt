@@ -1,4 +1,5 @@
 use Rattle.std.proofs.Common.{◌≡◌, ◌≤◌, length, take}
+use Rattle.http_link.specs.Counts.{Spends}
 use Rattle.http_link.proofs.Known.{CameBehind}
 use Rattle.http_link.proofs.streams.read_on.Given as goal
 
@@ -8,6 +9,7 @@ invariant-loop-done g l = record {
   bound : l.done ≤ length l.out;
   len : length l.out ≡ length l.fn.out;
   unfailed : g.R.Device.failure_count l.r ≤ l.before;
+  made : Spends g.R.Source.was_read l.fn.r l.r l.fn.turns l.turns;
 }
 
 abbrev pub decreases-loop-done : goal.decreases-loop-done

@@ -1,5 +1,6 @@
-use Rattle.std.proofs.Common.{rules, ◌+◌}
+use Rattle.std.proofs.Common.{rules, ◌+◌, arith}
 use Rattle.http_link.proofs.Known.{Appends-more}
+use Rattle.http_link.proofs.Counting.{spent_all}
 use Rattle.http_link.proofs.streams.write_all.Goals as goal
 
 pub returns-in_err-done-clause-front : goal.returns-in_err-done-clause-front
@@ -14,4 +15,10 @@ loop-done-preserved g c =
       written = Appends-more _ _ _ c.args.bytes.now c.loop-done.done c.in_ok-done.field-0 c.loop-done.invariant.written taken.1;
       bound = search rules;
       unfailed = search rules;
+      kept = search rules;
+      made = search rules;
     }
+
+pub returns-then-turns-eq0-clause-turns : goal.returns-then-turns-eq0-clause-turns
+returns-then-turns-eq0-clause-turns g c told =
+    spent_all g.W.Sink.was_written c.args.w.now c.loop-done.w 50_000 c.loop-done.turns c.loop-done.invariant.made (omega arith)

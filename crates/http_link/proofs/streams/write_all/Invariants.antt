@@ -1,5 +1,6 @@
 use Rattle.std.proofs.Common.{◌≤◌, length, take}
 use Rattle.std.specs.Io.KnownBytes.{Appends}
+use Rattle.http_link.specs.Counts.{NoFewer, Spends}
 use Rattle.http_link.proofs.streams.write_all.Given as goal
 
 abbrev pub invariant-loop-done : goal.invariant-loop-done
@@ -7,6 +8,8 @@ invariant-loop-done g l = record {
   written : Appends (g.W.Write.contents l.fn.w) (g.W.Write.contents l.w) (take l.done l.bytes);
   bound : l.done ≤ length l.bytes;
   unfailed : g.W.Device.failure_count l.w ≤ l.before;
+  kept : NoFewer g.W.Sink.was_written l.fn.w l.w;
+  made : Spends g.W.Sink.was_written l.fn.w l.w 50_000 l.turns;
 }
 
 abbrev pub decreases-loop-done : goal.decreases-loop-done
