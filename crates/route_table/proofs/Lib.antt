@@ -6,3 +6,5 @@ pub mod Places
 pub mod Rekeyed
 pub mod BestAtPath
 pub mod Named
+mod Listed
+mod AllListed

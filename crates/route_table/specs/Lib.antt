@@ -4,3 +4,4 @@ pub mod Paths
 pub mod Nodes
 pub mod Children
 pub mod Kept
+pub mod Listing
