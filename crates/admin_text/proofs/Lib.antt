@@ -5,3 +5,9 @@ pub mod Spaces
 pub mod Spelled
 pub mod Few
 pub mod OwnTerms
+pub mod MadeTables
+pub mod TellsPeers
+pub mod TellsRoutes
+pub mod TellsTenants
+pub mod SetupsAnew
+pub mod SetupsAgain

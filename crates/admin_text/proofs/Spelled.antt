@@ -21,7 +21,7 @@ no_star : IsPrefix (codes "*") → ⊥
 unfolding is_scheme
 no_star h = let k = h.parts.0 in absurd cc
 
-prefix_again : PrefixWordLaws → (p : List ℕ) → IsPrefix p → written_prefix (prefix_word p) ≡ Some p
+pub prefix_again : PrefixWordLaws → (p : List ℕ) → IsPrefix p → written_prefix (prefix_word p) ≡ Some p
 unfolding written_prefix
 prefix_again laws [] h = refl
 prefix_again laws (b ∷ bytes) h =

@@ -11,3 +11,7 @@ pub mod Wrong
 pub mod Spaces
 pub mod Fields
 pub mod Commands
+pub mod Made
+pub mod Anew
+pub mod Told
+pub mod Again

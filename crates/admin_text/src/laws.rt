@@ -1,5 +1,6 @@
 //! Laws of the definitions, each the contract of a function that does nothing.
 
+ghost use Rattle.admin_text.specs.Again.{SetupAgainLaw};
 ghost use Rattle.admin_text.specs.Commands.{CommandLaws};
 ghost use Rattle.admin_text.specs.Setup.{SetupLaw};
 
@@ -18,4 +19,10 @@ pub fn commands()
 /// A setup has a tenant, and 64 at most.
 pub fn setups()
     ensures { SetupLaw }
+{}
+
+/// What is read as a setup may be written, and its text is read as the same setup: its tenants are 1 to 64 of different names,
+/// and numbered as they would be anew.
+pub fn setups_again()
+    ensures { SetupAgainLaw }
 {}

@@ -9,6 +9,8 @@ mod networks;
 mod places;
 mod prefixes;
 mod setup;
+mod setup_text;
+mod tables;
 mod version;
 mod wanted;
 mod written;
@@ -16,5 +18,7 @@ mod wrong;
 
 pub use commands::{TextFault, parse_command};
 pub use explained::{Explained, explain};
-pub use setup::{MAX_TENANTS, Setup, SetupFault, read_setup};
+pub use setup::{Setup, SetupFault, read_setup};
+pub use setup_text::write_setup;
+pub use tenant_core::limits::MAX_TENANTS;
 pub use written::write_command;

@@ -26,7 +26,7 @@ use crate::wrong::{Key, SetupWrong, TenantWrong, Wrong};
 use common_types::{Between, Items, Name, ReadError, Token};
 use ilp_addr::{Moment, OwnAddress};
 use std::alloc::Global;
-use tenant_core::limits::{MAX_HOLD, MAX_JOURNAL, MAX_MARGIN};
+use tenant_core::limits::{MAX_HOLD, MAX_JOURNAL, MAX_MARGIN, MAX_TENANTS};
 use tenant_core::{Network, TenantSetup, TenantTerms};
 use thiserror::Error;
 use toml::{Table, Value};
@@ -54,9 +54,6 @@ pub struct Setup {
     pub start: Moment,
     pub tenants: Items<TenantSetup>,
 }
-
-/// The most tenants of a setup.
-pub const MAX_TENANTS: usize = 64;
 
 // What the keys of a tenant's table say, but for whom it deals with.
 #[derive(Drop)]

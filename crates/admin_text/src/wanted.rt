@@ -1,9 +1,8 @@
 //! What each key of a setup wants, and its words for people.
 
 use crate::places::Kind;
-use crate::setup::MAX_TENANTS;
 use std::fmt;
-use tenant_core::limits::MAX_MONEY;
+use tenant_core::limits::{MAX_MONEY, MAX_TENANTS};
 use toml::Value;
 
 /// What may stand at a key.

@@ -1,13 +1,13 @@
 //! What is wrong with a setup, and its words for people.
 
 use crate::places::{Kind, Place};
-use crate::setup::{MAX_TENANTS, SetupFault};
+use crate::setup::SetupFault;
 use crate::wanted::{Right, Shown, Wanted};
 use common_types::ReadError;
 use route_table::MAX_ROUTES;
 use std::fmt;
 use tenant_core::CommandFault;
-use tenant_core::limits::{MAX_PEERS, MAX_RATES};
+use tenant_core::limits::{MAX_PEERS, MAX_RATES, MAX_TENANTS};
 use toml::{Table, Value};
 
 /// A key of a table, and what stands there.

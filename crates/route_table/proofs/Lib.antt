@@ -7,3 +7,5 @@ pub mod Rekeyed
 pub mod BestAtPath
 pub mod Named
 pub mod Included
+mod Listed
+mod AllListed

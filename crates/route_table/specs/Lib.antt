@@ -5,3 +5,4 @@ pub mod Nodes
 pub mod Children
 pub mod Kept
 pub mod Within
+pub mod Listing

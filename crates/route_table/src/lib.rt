@@ -3,6 +3,7 @@
 //!
 //! - [`Routes`] maps at most [`MAX_ROUTES`] prefixes to a [`Hop`], a peer's number and a fee;
 //!   [`Routes::find`] gives the hop of the longest prefix that begins an address.
+//! - [`Routes::list`] gives each [`Route`] once.
 //! - [`RouteFault`] says why a route was not added or not removed; [`laws`] what the best route is.
 #![tactic(auto)]
 
@@ -10,8 +11,10 @@ mod fault;
 mod hop;
 pub mod laws;
 mod node;
+mod route;
 mod routes;
 
 pub use fault::RouteFault;
 pub use hop::{Fee, Hop, PeerNo};
+pub use route::Route;
 pub use routes::{MAX_ROUTES, Routes};

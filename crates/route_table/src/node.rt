@@ -12,6 +12,7 @@ ghost use Rattle.route_table.specs.Paths.{Path, longest_at};
 ghost use Rattle.route_table.specs.Nodes.{hop_in, Names, HasWanted};
 
 mod within;
+mod listing;
 
 use crate::hop::{Hop, PeerNo};
 use ilp_addr::Segments;

@@ -6,6 +6,8 @@ ghost use Rattle.std.specs.FinMap.{empty, get, contains_key, insert, remove, len
 ghost use Rattle.std.specs.List.{list_all, list_any};
 ghost use Rattle.route_table.specs.Routes.{RouteMap, IsBestRoute, HasNoRoute, NamesPeer, best_route, max_routes};
 
+mod listing;
+
 use crate::fault::RouteFault;
 use crate::hop::{Hop, PeerNo};
 use crate::node::{Node, Wanted};
@@ -97,6 +99,7 @@ impl Routes {
         if self.count == MAX_ROUTES {
             return Err(RouteFault::Full);
         }
+        let _ = prefix.bytes();
         if self.root.add(self.alloc, prefix.segments(), hop).is_err() {
             return Err(RouteFault::Memory);
         }

@@ -42,3 +42,4 @@ pub mod Staying
 pub mod Calls
 pub mod Standing
 pub mod Kept
+pub mod PresentSetup

@@ -1,11 +1,11 @@
 -- The limits of tenants.
 use Rattle.std.specs.Prelude.{ℕ}
-use Rattle.tenant_core.specs.declared.limits.TheConstants.{MAX_PEERS, MAX_RATES, MAX_JOURNAL, MAX_HOLDS, MAX_MONEY, MAX_MARGIN}
-use Rattle.tenant_core.specs.declared.limits.TheConstants.{MAX_HOLD, MAX_BURST, MAX_PER_SECOND, MAX_PERIOD, MAX_PEER_NUMBERS}
+use Rattle.tenant_core.specs.declared.limits.TheConstants.{MAX_TENANTS, MAX_PEERS, MAX_RATES, MAX_JOURNAL, MAX_HOLDS}
+use Rattle.tenant_core.specs.declared.limits.TheConstants.{MAX_MONEY, MAX_MARGIN, MAX_HOLD, MAX_BURST, MAX_PER_SECOND, MAX_PERIOD, MAX_PEER_NUMBERS}
 
 -- how many tenants there are
 abbrev pub max_tenants : ℕ
-max_tenants = 64
+max_tenants = MAX_TENANTS
 
 -- peers of a tenant
 abbrev pub max_peers : ℕ

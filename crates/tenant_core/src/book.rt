@@ -1,5 +1,7 @@
 //! Books: an opening and the records since.
 
+mod present;
+
 use crate::arena::Journal;
 use crate::command::{Answered, Command, Order};
 use crate::faults::{BookFault, CommandFault, HoldFault};

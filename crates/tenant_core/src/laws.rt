@@ -6,6 +6,7 @@ ghost use Rattle.tenant_core.specs.Fates.{FateLaw};
 ghost use Rattle.tenant_core.specs.Made.{MadeLaws};
 ghost use Rattle.tenant_core.specs.OpenHolds.{OpenHoldLaws};
 ghost use Rattle.tenant_core.specs.Peers.{PeerLaw};
+ghost use Rattle.tenant_core.specs.PresentSetup.{PresentSetupLaw};
 ghost use Rattle.tenant_core.specs.Sound.{IsSound};
 ghost use Rattle.tenant_core.specs.Staying.{StayingLaws};
 
@@ -59,4 +60,10 @@ pub fn calls()
 /// Each record has the outcome that its entry led to in the state before it.
 pub fn records_are_made()
     ensures { MadeLaws }
+{}
+
+/// A book of a tenant's present setup begins as the tenant's next period would, but for its place, its clock, the numbers of
+/// the period and of the next hold, and its buckets, which are full.
+pub fn present_setups()
+    ensures { PresentSetupLaw }
 {}

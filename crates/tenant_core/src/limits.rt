@@ -1,5 +1,8 @@
 //! The limits of tenants.
 
+/// The most tenants.
+pub const MAX_TENANTS: usize = 64;
+
 /// The most peers of a tenant.
 pub const MAX_PEERS: usize = 256;
 

@@ -125,7 +125,7 @@ impl Network {
     ghost use Rattle.tenant_core.specs.Present.{changed};
     ghost use Rattle.tenant_core.specs.Network.{route_refusal, no_route_refusal, rate_refusal};
     ghost use Rattle.tenant_core.specs.Network.{peer_numbered, peer_with_token};
-    ghost use Rattle.tenant_core.specs.Places.{token};
+    ghost use Rattle.tenant_core.specs.Places.{token, ArePairsApart};
     ghost use Rattle.tenant_core.specs.Routing.{rate_between};
 
     /// Nobody.
@@ -199,9 +199,10 @@ impl Network {
         &self.routes
     }
 
-    /// The rates between them.
+    /// The rates between them, one for an ordered pair.
     pub fn rates(&self) -> &[RateTerms]
-        ensures { result.now ≡ self.now.rates }
+        ensures value { result.now ≡ self.now.rates }
+        ensures apart { ArePairsApart self.now.rates }
     {
         self.rates.as_slice()
     }

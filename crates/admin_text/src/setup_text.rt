@@ -1,0 +1,273 @@
+//! The texts of setups.
+
+ghost use Rattle.std.specs.Prelude.{◌≡◌, IfOk, Ok, map, option_copied, string_bytes};
+ghost use Rattle.toml.specs.View.{view, items_view, table_view};
+ghost use Rattle.tenant_core.specs.Network.{peer_numbered};
+ghost use Rattle.admin_text.specs.Anew.{anew, AreTenants};
+ghost use Rattle.admin_text.specs.Fields.{role_word};
+ghost use Rattle.admin_text.specs.Made.{peer_members, route_members, rate_members, tenant_members, setup_members};
+ghost use Rattle.admin_text.specs.Prefixes.{prefix_word};
+ghost use Rattle.admin_text.specs.Setup.{setup_of};
+ghost use Rattle.admin_text.specs.Told.{AllTold, IsKnown, TellsPeer, TellsRoute, TellsRate, TellsTenant};
+
+use crate::tables::{no_keys, put_integer, put_number, put_tables, put_text};
+use common_types::Name;
+use ilp_addr::laws::{prefix_words, targets};
+use ilp_addr::{Moment, Prefix};
+use money_core::Rate;
+use route_table::Route;
+use std::alloc::{AllocError, Global};
+use tenant_core::{Fee, Network, Peer, PeerNo, RateTerms, Role, TenantSetup, TenantTerms};
+use toml::{Table, Value};
+
+fn prefix_text(prefix: &Prefix) -> &[u8]
+    ensures { result.now ≡ prefix_word prefix.now }
+{
+    match prefix.bytes() {
+        [] => b"*",
+        bytes => bytes,
+    }
+}
+
+fn role_text(role: Role) -> &'static [u8]
+    ensures { result.now ≡ role_word role }
+{
+    match role {
+        Role::Child => b"child",
+        Role::Peer => b"peer",
+    }
+}
+
+#[tactic(auto, unfolding(crate::specs::Made::peer_members))]
+fn peer_members(alloc: Global, peer: &Peer) -> Result<Table, AllocError>
+    ensures { IfOk result (λ table. table_view table ≡ peer_members peer.now) }
+{
+    let terms = &peer.terms;
+    let mut table = no_keys(alloc);
+    put_text(alloc, &mut table, "name", terms.name.as_bytes())?;
+    put_text(alloc, &mut table, "role", role_text(terms.role))?;
+    put_text(alloc, &mut table, "token", terms.token.as_bytes())?;
+    put_text(alloc, &mut table, "url", terms.target.url())?;
+    put_text(alloc, &mut table, "out_token", terms.target.token())?;
+    put_text(alloc, &mut table, "asset", terms.asset.as_bytes())?;
+    put_number(alloc, &mut table, "scale", terms.scale as u64)?;
+    put_number(alloc, &mut table, "cap", terms.limits.cap.get())?;
+    put_number(alloc, &mut table, "ceiling", terms.limits.ceiling.get())?;
+    put_number(alloc, &mut table, "credit", terms.limits.credit.get())?;
+    put_number(alloc, &mut table, "burst", terms.bucket.burst.get())?;
+    put_number(
+        alloc,
+        &mut table,
+        "per_second",
+        terms.bucket.per_second.get(),
+    )?;
+    put_integer(alloc, &mut table, "balance", peer.balance.get())?;
+    Ok(table)
+}
+
+#[tactic(auto, unfolding(crate::specs::Made::route_members))]
+fn route_members(alloc: Global, prefix: &Prefix, peer: &Name, fee: Fee) -> Result<Table, AllocError>
+    ensures { IfOk result (λ table. table_view table ≡ route_members prefix.now peer.now fee) }
+{
+    let mut table = no_keys(alloc);
+    put_text(alloc, &mut table, "prefix", prefix_text(prefix))?;
+    put_text(alloc, &mut table, "peer", peer.as_bytes())?;
+    put_number(alloc, &mut table, "fee", fee.get())?;
+    Ok(table)
+}
+
+#[tactic(auto, unfolding(crate::specs::Made::rate_members))]
+fn rate_members(alloc: Global, from: &Name, to: &Name, rate: Rate) -> Result<Table, AllocError>
+    ensures { IfOk result (λ table. table_view table ≡ rate_members from.now to.now rate) }
+{
+    let mut table = no_keys(alloc);
+    put_text(alloc, &mut table, "from", from.as_bytes())?;
+    put_text(alloc, &mut table, "to", to.as_bytes())?;
+    put_number(alloc, &mut table, "num", rate.numerator())?;
+    put_number(alloc, &mut table, "den", rate.denominator())?;
+    Ok(table)
+}
+
+#[tactic(auto, unfolding(crate::specs::Made::tenant_members))]
+fn tenant_members(
+    alloc: Global,
+    terms: &TenantTerms,
+    peers: Vec<Value>,
+    routes: Vec<Value>,
+    rates: Vec<Value>,
+) -> Result<Table, AllocError>
+    ensures { IfOk result (λ table. table_view table
+        ≡ tenant_members terms.now (items_view peers.items) (items_view routes.items) (items_view rates.items)) }
+{
+    let mut table = no_keys(alloc);
+    put_text(alloc, &mut table, "name", terms.name.as_bytes())?;
+    put_text(alloc, &mut table, "address", terms.address.as_bytes())?;
+    put_text(alloc, &mut table, "admin", terms.admin.as_bytes())?;
+    put_number(alloc, &mut table, "journal", terms.journal)?;
+    put_number(alloc, &mut table, "margin", terms.margin)?;
+    put_number(alloc, &mut table, "hold", terms.hold)?;
+    put_tables(alloc, &mut table, "peer", peers)?;
+    put_tables(alloc, &mut table, "route", routes)?;
+    put_tables(alloc, &mut table, "rate", rates)?;
+    Ok(table)
+}
+
+#[tactic(auto, unfolding(crate::specs::Made::setup_members))]
+fn setup_members(alloc: Global, start: Moment, tenants: Vec<Value>) -> Result<Table, AllocError>
+    ensures { IfOk result (λ table. table_view table ≡ setup_members start (items_view tenants.items)) }
+{
+    let mut table = no_keys(alloc);
+    put_number(alloc, &mut table, "version", 2)?;
+    put_number(alloc, &mut table, "start", start.millis())?;
+    put_tables(alloc, &mut table, "tenant", tenants)?;
+    Ok(table)
+}
+
+// What the types of a peer's parts keep.
+fn is_known(peer: &Peer)
+    ensures { IsKnown peer.now }
+{
+    let terms = &peer.terms;
+    let _ = terms.name.as_bytes();
+    let _ = terms.token.as_bytes();
+    let _ = terms.target.url();
+    let _ = terms.asset.as_bytes();
+    let _scale = terms.scale;
+    let _ = terms.limits.cap.get();
+    let _ = terms.limits.ceiling.get();
+    let _ = terms.limits.credit.get();
+    let _ = terms.bucket.burst.get();
+    let _ = terms.bucket.per_second.get();
+    let _ = peer.balance.get();
+}
+
+fn peer_value(alloc: Global, peer: &Peer) -> Result<Value, AllocError>
+    ensures { IfOk result (λ value. TellsPeer (view value) peer.now) }
+{
+    is_known(peer);
+    Ok(Value::Table(peer_members(alloc, peer)?))
+}
+
+fn peer_values(alloc: Global, peers: &[Peer]) -> Result<Vec<Value>, AllocError>
+    ensures { IfOk result (λ values. AllTold TellsPeer (items_view values.items) peers.now) }
+{
+    let mut values = Vec::new(alloc);
+    for peer in peers {
+        values.push(peer_value(alloc, peer)?)?;
+    }
+    Ok(values)
+}
+
+// The peer of that number, which is there.
+fn peer_numbered(network: &Network, number: PeerNo) -> Option<&Peer>
+    ensures { option_copied result ≡ peer_numbered number network.now.peers }
+{
+    let place = network.place_numbered(number)?;
+    Some(&network.peers()[place])
+}
+
+fn route_value(alloc: Global, network: &Network, route: &Route) -> Result<Value, AllocError>
+    ensures { IfOk result (λ value. TellsRoute network.now.peers (view value) route.now) }
+{
+    let Some(peer) = peer_numbered(network, route.hop.peer) else {
+        return Err(AllocError);
+    };
+    let fee = route.hop.fee;
+    let _ = route.prefix.bytes();
+    let _ = peer.terms.name.as_bytes();
+    let _ = fee.get();
+    let table = route_members(alloc, &route.prefix, &peer.terms.name, fee)?;
+    Ok(Value::Table(table))
+}
+
+fn route_values(
+    alloc: Global,
+    network: &Network,
+    routes: &[Route],
+) -> Result<Vec<Value>, AllocError>
+    ensures { IfOk result (λ values. AllTold (TellsRoute network.now.peers) (items_view values.items) routes.now) }
+{
+    let mut values = Vec::new(alloc);
+    for route in routes {
+        values.push(route_value(alloc, network, route)?)?;
+    }
+    Ok(values)
+}
+
+fn rate_value(alloc: Global, network: &Network, rate: &RateTerms) -> Result<Value, AllocError>
+    ensures { IfOk result (λ value. TellsRate network.now.peers (view value) rate.now) }
+{
+    let Some(from) = peer_numbered(network, rate.from) else {
+        return Err(AllocError);
+    };
+    let Some(to) = peer_numbered(network, rate.to) else {
+        return Err(AllocError);
+    };
+    let _ = from.terms.name.as_bytes();
+    let _ = to.terms.name.as_bytes();
+    let _ = rate.rate.numerator();
+    let table = rate_members(alloc, &from.terms.name, &to.terms.name, rate.rate)?;
+    Ok(Value::Table(table))
+}
+
+fn rate_values(
+    alloc: Global,
+    network: &Network,
+    rates: &[RateTerms],
+) -> Result<Vec<Value>, AllocError>
+    ensures { IfOk result (λ values. AllTold (TellsRate network.now.peers) (items_view values.items) rates.now) }
+{
+    let mut values = Vec::new(alloc);
+    for rate in rates {
+        values.push(rate_value(alloc, network, rate)?)?;
+    }
+    Ok(values)
+}
+
+fn tenant_value(alloc: Global, tenant: &TenantSetup) -> Result<Value, AllocError>
+    ensures { IfOk result (λ value. TellsTenant (view value) tenant.now) }
+{
+    let terms = tenant.terms();
+    let network = &terms.network;
+    let peers = peer_values(alloc, network.peers())?;
+    let list = network.routes().list(alloc)?;
+    let routes = route_values(alloc, network, list.as_slice())?;
+    let rates = rate_values(alloc, network, network.rates())?;
+    let _ = terms.name.as_bytes();
+    let _ = terms.address.as_bytes();
+    let _ = terms.admin.as_bytes();
+    let table = tenant_members(alloc, terms, peers, routes, rates)?;
+    Ok(Value::Table(table))
+}
+
+fn tenant_values(alloc: Global, tenants: &[TenantSetup]) -> Result<Vec<Value>, AllocError>
+    ensures { IfOk result (λ values. AllTold TellsTenant (items_view values.items) tenants.now) }
+{
+    let mut values = Vec::new(alloc);
+    for tenant in tenants {
+        values.push(tenant_value(alloc, tenant)?)?;
+    }
+    Ok(values)
+}
+
+/// The text of a setup of version 2, which starts at that moment: where the tenants are 1 to 64 of different names,
+/// [`read_setup`](crate::read_setup) reads them back. Their peers are numbered anew then, from 0 in their order, and their
+/// buckets hold nothing before a period begins. The one error is want of memory.
+pub fn write_setup(
+    alloc: Global,
+    start: Moment,
+    tenants: &[TenantSetup],
+) -> Result<String, AllocError>
+    ensures read_back { IfOk result (λ text. AreTenants tenants.now
+        → setup_of (string_bytes text) ≡ Ok (record { start = start; tenants = map anew tenants.now })) }
+{
+    prefix_words();
+    targets();
+    let _ = start.millis();
+    let tenants = tenant_values(alloc, tenants)?;
+    let table = setup_members(alloc, start, tenants)?;
+    match toml::table_to_string(alloc, &table) {
+        Ok(text) => Ok(text),
+        Err(_) => Err(AllocError),
+    }
+}
