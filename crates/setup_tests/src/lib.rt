@@ -9,3 +9,5 @@ mod setup_limits;
 mod setup_texts;
 #[cfg(test)]
 mod setup_words;
+#[cfg(test)]
+mod written_setups;
