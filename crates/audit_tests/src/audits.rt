@@ -69,7 +69,10 @@ fn receipts_of_one_packet(rt: HostRuntime) -> Result<(), Fail> {
 #[test]
 fn receipts_in_two_lists(rt: HostRuntime) -> Result<(), Fail> {
     let alloc = rt.alloc();
-    assert_eq!(rt; said_of_two_lists(alloc, &[1], &[0, 2])?, Said::Yes(1, 1, 3));
+    assert_eq!(rt;
+        said_of_two_lists(alloc, &[1], &[0, 2])?,
+        Said::Yes(1, 1, 3)
+    );
     assert_eq!(rt; said_of_two_lists(alloc, &[0], &[0, 1, 2])?, Said::Twice);
     assert_eq!(rt; said_of_two_lists(alloc, &[2, 0], &[1])?, Said::Order);
     Ok(())
@@ -84,7 +87,15 @@ fn no_periods_and_no_lists(rt: HostRuntime) -> Result<(), Fail> {
 // The receipt of the packet, with another amount.
 fn with_amount(alloc: Global, period: &Period, amount: u64) -> Result<Receipt, Fail> {
     let mut shown = receipt(alloc, period, 0)?;
-    if let Outcome::Packet(Verdict::Forward { hold, peer, expiry, .. }) = shown.verdict {
+    if let Outcome::Packet(
+        Verdict::Forward {
+            hold,
+            peer,
+            expiry,
+            ..
+        },
+    ) = shown.verdict
+    {
         shown.verdict = Outcome::Packet(Verdict::Forward {
             hold,
             peer,
@@ -137,14 +148,22 @@ fn receipts_that_name_nothing(rt: HostRuntime) -> Result<(), Fail> {
 }
 
 // The second period without the first, then both, the later one first.
-fn expect_joined(rt: &impl Abort, alloc: Global, first: Period, second: Period) -> Result<(), Fail> {
+fn expect_joined(
+    rt: &impl Abort,
+    alloc: Global,
+    first: Period,
+    second: Period,
+) -> Result<(), Fail> {
     let late = receipts(alloc, &second, &[0])?;
     let early = receipts(alloc, &first, &[0, 1, 2])?;
     let alone = [second];
     assert_eq!(rt; outcome_of(alloc, &alone, &[late.as_slice()]), Said::Gap);
     let [second] = alone;
     let both = [second, first];
-    assert_eq!(rt; outcome_of(alloc, &both, &[late.as_slice(), early.as_slice()]), Said::Yes(1, 2, 4));
+    assert_eq!(rt;
+        outcome_of(alloc, &both, &[late.as_slice(), early.as_slice()]),
+        Said::Yes(1, 2, 4)
+    );
     Ok(())
 }
 
