@@ -11,8 +11,8 @@ ghost use Rattle.ilp_addr.specs.Segments.{segments_left};
 ghost use Rattle.route_table.specs.Paths.{Path, longest_at};
 ghost use Rattle.route_table.specs.Nodes.{hop_in, Names, HasWanted};
 
-mod within;
 mod listing;
+mod within;
 
 use crate::hop::{Hop, PeerNo};
 use ilp_addr::Segments;
