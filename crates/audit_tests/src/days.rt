@@ -82,7 +82,7 @@ pub fn roll(alloc: Global, book: &mut Book) -> Result<Period, Fail> {
 /// The receipt of the period's record of that number.
 pub fn receipt(alloc: Global, period: &Period, number: usize) -> Result<Receipt, Fail> {
     let spare = Spare::new(alloc, MAX_ADDRESS)?;
-    let record = period.records().get(number).ok_or("a record")?;
+    let record = period.records().journal().get(number).ok_or("a record")?;
     Ok(Receipt {
         tenant: period.tenant(),
         period: period.number(),

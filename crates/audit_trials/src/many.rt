@@ -53,7 +53,7 @@ fn period(alloc: Global, tenant: usize, ticks: u32) -> Result<Period, Fault> {
 
 fn receipt(alloc: Global, period: &Period, number: usize) -> Result<Receipt, Fault> {
     let spare = Spare::new(alloc, MAX_ADDRESS)?;
-    let Some(record) = period.records().get(number) else {
+    let Some(record) = period.records().journal().get(number) else {
         return Err(Fault::Words);
     };
     Ok(Receipt {
