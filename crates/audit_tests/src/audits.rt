@@ -3,7 +3,6 @@
 use super::days::{book_of, fulfil, receipt, receipts, roll, send, tick};
 use receipts::{AuditFault, Receipt, audit};
 use std::alloc::Global;
-use std::process::Abort;
 use std::test::Fail;
 use tenant_core::{Outcome, Period, Verdict};
 
@@ -84,6 +83,12 @@ fn no_periods_and_no_lists(rt: HostRuntime) -> Result<(), Fail> {
     Ok(())
 }
 
+// Puts a receipt behind others.
+fn add(list: &mut Vec<Receipt>, receipt: Receipt) -> Result<(), Fail> {
+    list.push(receipt)?;
+    Ok(())
+}
+
 // The receipt of the packet, with another amount.
 fn with_amount(alloc: Global, period: &Period, amount: u64) -> Result<Receipt, Fail> {
     let mut shown = receipt(alloc, period, 0)?;
@@ -108,11 +113,11 @@ fn with_amount(alloc: Global, period: &Period, amount: u64) -> Result<Receipt, F
 
 fn said_with_amount(alloc: Global, amount: u64) -> Result<Said, Fail> {
     let period = day(alloc)?;
-    let shown = with_amount(alloc, &period, amount)?;
-    let mut list = receipts(alloc, &period, &[1, 2])?;
-    list.push(shown)?;
+    let mut shown = Vec::new(alloc);
+    add(&mut shown, with_amount(alloc, &period, amount)?)?;
+    let rest = receipts(alloc, &period, &[1, 2])?;
     let periods = [period];
-    Ok(outcome_of(alloc, &periods, &[&list[2..], &list[..2]]))
+    Ok(outcome_of(alloc, &periods, &[shown.as_slice(), rest.as_slice()]))
 }
 
 #[test]
@@ -147,35 +152,38 @@ fn receipts_that_name_nothing(rt: HostRuntime) -> Result<(), Fail> {
     Ok(())
 }
 
-// The second period without the first, then both, the later one first.
-fn expect_joined(
-    rt: &impl Abort,
-    alloc: Global,
-    first: Period,
-    second: Period,
-) -> Result<(), Fail> {
-    let late = receipts(alloc, &second, &[0])?;
-    let early = receipts(alloc, &first, &[0, 1, 2])?;
-    let alone = [second];
-    assert_eq!(rt; outcome_of(alloc, &alone, &[late.as_slice()]), Said::Gap);
-    let [second] = alone;
-    let both = [second, first];
-    assert_eq!(rt;
-        outcome_of(alloc, &both, &[late.as_slice(), early.as_slice()]),
-        Said::Yes(1, 2, 4)
-    );
-    Ok(())
-}
-
-#[test]
-fn periods_that_join(rt: HostRuntime) -> Result<(), Fail> {
-    let alloc = rt.alloc();
+// A period of a packet that was fulfilled, and the next one of the same book.
+fn two_periods(alloc: Global) -> Result<(Period, Period), Fail> {
     let mut book = book_of(alloc, 0)?;
     send(&mut book)?;
     fulfil(&mut book)?;
     let first = roll(alloc, &mut book)?;
     let second = roll(alloc, &mut book)?;
-    expect_joined(&rt, alloc, first, second)
+    Ok((first, second))
+}
+
+fn said_of_the_second_alone(alloc: Global) -> Result<Said, Fail> {
+    let (_, second) = two_periods(alloc)?;
+    let late = receipts(alloc, &second, &[0])?;
+    let periods = [second];
+    Ok(outcome_of(alloc, &periods, &[late.as_slice()]))
+}
+
+// The later one comes first.
+fn said_of_both(alloc: Global) -> Result<Said, Fail> {
+    let (first, second) = two_periods(alloc)?;
+    let late = receipts(alloc, &second, &[0])?;
+    let early = receipts(alloc, &first, &[0, 1, 2])?;
+    let periods = [second, first];
+    Ok(outcome_of(alloc, &periods, &[late.as_slice(), early.as_slice()]))
+}
+
+#[test]
+fn periods_that_join(rt: HostRuntime) -> Result<(), Fail> {
+    let alloc = rt.alloc();
+    assert_eq!(rt; said_of_the_second_alone(alloc)?, Said::Gap);
+    assert_eq!(rt; said_of_both(alloc)?, Said::Yes(1, 2, 4));
+    Ok(())
 }
 
 // A first period of the same tenant, of another book, beside the second one of this.
@@ -200,12 +208,6 @@ fn ticked_twice(alloc: Global, tenant: usize) -> Result<Period, Fail> {
     tick(&mut book)?;
     tick(&mut book)?;
     roll(alloc, &mut book)
-}
-
-// Puts a receipt behind others.
-fn add(list: &mut Vec<Receipt>, receipt: Receipt) -> Result<(), Fail> {
-    list.push(receipt)?;
-    Ok(())
 }
 
 // Each list waits for the other.
