@@ -158,7 +158,7 @@ fn peer_values(alloc: Global, peers: &[Peer]) -> Result<Vec<Value>, AllocError>
     Ok(values)
 }
 
-// The peer of that number, which is there.
+// The peer of that number.
 fn peer_numbered(network: &Network, number: PeerNo) -> Option<&Peer>
     ensures { option_copied result ≡ peer_numbered number network.now.peers }
 {
