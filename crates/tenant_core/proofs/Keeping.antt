@@ -13,11 +13,13 @@ use Rattle.tenant_core.specs.declared.peer.Peer.{Peer}
 use Rattle.tenant_core.specs.declared.verdict.Verdict.{Verdict}
 use Rattle.tenant_core.specs.Answer.{settle_answer, answer_record, tick_record, tick_count, has_no_place}
 use Rattle.tenant_core.specs.Holds.{holds_of, is_open_under, is_overdue, is_fulfill, is_relay, hold_ended, hold_ticked, begun_by}
-use Rattle.tenant_core.specs.Judge.{decide_entry, decide_record, is_full, verdict_for_sender}
+use Rattle.tenant_core.specs.Called.{is_answer}
+use Rattle.tenant_core.specs.declared.command.Order.{Order}
+use Rattle.tenant_core.specs.Judge.{decide_entry, decide_record, is_full, is_recorded, verdict_for_sender}
 use Rattle.tenant_core.specs.Journals.{Recorded, with_record}
 use Rattle.tenant_core.specs.Kept.{state_of, IsKept}
 use Rattle.tenant_core.specs.declared.journal.Change.{Change as Changed}
-use Rattle.tenant_core.specs.Orders.{change_record, change_refusal, names_present}
+use Rattle.tenant_core.specs.Orders.{change_of, change_record, change_refusal, names_present}
 use Rattle.tenant_core.specs.Key.{Key}
 use Rattle.tenant_core.specs.Sound.{IsSound}
 use Rattle.tenant_core.specs.Network.{Net, IsNetwork, peer_with_token, peer_numbered}
@@ -178,13 +180,13 @@ named_stays s r i o net holds is =
       got = λ n late. sum_by_push (settled_out n) s.records r ∙ (ap (λ k. sum_by (settled_out n) s.records + k) (o n) ∙ (add-zero (sum_by (settled_out n) s.records) ∙ is.got n (subst (λ m. m ≤ n) (sym next) late)));
     }
 
-pub answered_kept : (b c : Inside) (n now clock : ℕ) (key : AnswerKey) (v : Verdict) → IsKept b → now ≤ last_moment → clock ≡ max b.clock now
+pub answered_kept : (b c : Inside) (n now clock : ℕ) (key : AnswerKey) (v : Verdict) → IsKept b → is_answer key ≡ true → now ≤ last_moment → clock ≡ max b.clock now
     → Follows b c (answer_record n now key v)
     → Some v ≡ option_map (λ h. settle_answer h clock key) (find (is_open_under n) b.holds.holds)
     → c.holds.holds ≡ map (hold_ended n (is_fulfill key && is_relay v)) b.holds.holds
     → c.purses.items ≡ map (purse_by (state_of b) c.holds.holds) b.network.peers
     → c.buckets.items ≡ b.buckets.items → IsKept c
-answered_kept b c n now clock key v k early at f settled ended moved same =
+answered_kept b c n now clock key v k answer early at f settled ended moved same =
     let s : State = state_of b in
     let r : Record = answer_record n now key v in
     let found = mapped (λ h. settle_answer h clock key) (find (is_open_under n) b.holds.holds) v settled in
@@ -193,7 +195,7 @@ answered_kept b c n now clock key v k early at f settled ended moved same =
     let clock_is : clock ≡ max (clock_of s) now = at ∙ ap (λ x. max x now) k.clock in
     let verdict : v ≡ settle_answer h (max (clock_of s) now) key = found.2 ∙ ap (λ x. settle_answer h x key) clock_is in
     let sound : IsSound (recorded s (Some r)) =
-    subst (λ (w : Verdict). IsSound (recorded s (Some (answer_record n now key w)))) (sym verdict) (answered_sound s n now key h k.sound is early) in
+    subst (λ (w : Verdict). IsSound (recorded s (Some (answer_record n now key w)))) (sym verdict) (answered_sound s n now key h k.sound is answer early) in
     let after : holds_of (recorded s (Some r)) ≡ map (hold_ended n (is_fulfill key && is_relay v)) (holds_of s) = holds_of-answer s n now key v in
     let holds : c.holds.holds ≡ holds_of (recorded s (Some r)) =
     ended ∙ (ap (map (hold_ended n (is_fulfill key && is_relay v))) k.holds ∙ sym after) in
@@ -230,19 +232,19 @@ begun_named s from key now (Forward hold peer price expiry) net known can all =
 pub decided_kept : (laws : RunningLaws) (b c : Inside) (token : List ℕ) (key : Key) (now clock place : ℕ) (from : Peer) (v : Verdict) → IsKept b → now ≤ last_moment → clock ≡ max b.clock now
     → IsNetwork (network_of (state_of b))
     → peer_with_token token (network_of (state_of b)).peers ≡ Some from → slice_get (network_of (state_of b)).peers place ≡ Some from → is_full (state_of b) ≡ false
-    → is_sayable key ≡ true → v ≡ verdict_for_sender (state_of b) from key clock
+    → is_sayable key ≡ true → v ≡ verdict_for_sender (state_of b) from key clock → is_recorded v ≡ true
     → is_limited v ≡ not (is_admitted (stretch_of (state_of b) from) clock) → CanGoOn (state_of b) from key.amount v
     → Follows b c (decide_record from.number key now v)
     → c.holds.holds ≡ extended b.holds.holds (begun_by (decide_entry from.number key now) v)
     → c.purses.items ≡ map (purse_by (state_of b) c.holds.holds) b.network.peers
     → c.buckets.items ≡ changed_at (charged clock) b.buckets.items place → IsKept c
-decided_kept laws b c token key now clock place from v k early at network is stands room sayable verdict limited can f begun moved charges =
+decided_kept laws b c token key now clock place from v k early at network is stands room sayable verdict told limited can f begun moved charges =
     let s : State = state_of b in
     let r : Record = decide_record from.number key now v in
     let clock_is : clock ≡ max (clock_of s) now = at ∙ ap (λ x. max x now) k.clock in
     let sure : v ≡ verdict_for_sender s from key (max (clock_of s) now) = verdict ∙ ap (verdict_for_sender s from key) clock_is in
     let sound : IsSound (recorded s (Some r)) =
-    subst (λ (w : Verdict). IsSound (recorded s (Some (decide_record from.number key now w)))) (sym sure) (decided_sound s token key now from k.sound is room sayable early) in
+    subst (λ (w : Verdict). IsSound (recorded s (Some (decide_record from.number key now w)))) (sym sure) (decided_sound s token key now from k.sound is room sayable early (ap is_recorded (sym sure) ∙ told)) in
     let after : holds_of (recorded s (Some r)) ≡ extended (holds_of s) (begun_by (decide_entry from.number key now) v) = holds_of-decide s from.number key now v in
     let holds : c.holds.holds ≡ holds_of (recorded s (Some r)) =
     begun ∙ (ap (λ hs. extended hs (begun_by (decide_entry from.number key now) v)) k.holds ∙ sym after) in
@@ -292,16 +294,17 @@ ticked_kept b c now clock count k early at room counted f marked moved same =
     } in
     kept b c r k f (record { few = omega arith; holds = holds }) run sound
 
-pub changed_kept : (b c : Inside) (change : Changed) (now clock : ℕ) → IsKept b → now ≤ last_moment → clock ≡ max b.clock now
-    → has_no_place (state_of b) ≡ false → names_present b.network change ≡ true → change_refusal (state_of b) b.network change ≡ None
+pub changed_kept : (b c : Inside) (order : Order) (change : Changed) (now clock : ℕ) → IsKept b → now ≤ last_moment → clock ≡ max b.clock now
+    → has_no_place (state_of b) ≡ false → change_of b.network order ≡ Some change → names_present b.network change ≡ true → change_refusal (state_of b) b.network change ≡ None
     → IsNetwork c.network → Follows b c (change_record change now) → c.holds.holds ≡ b.holds.holds → RunningFollows b c (change_record change now) → IsKept c
-changed_kept b c change now clock k early at room present allowed is f same run =
+changed_kept b c order change now clock k early at room found present allowed is f same run =
     let s : State = state_of b in
     let r : Record = change_record change now in
     let network : IsNetwork (network_of (recorded s (Some r))) = subst (λ (n : Net). IsNetwork n) (network_follows b c r k f) is in
     let there : names_present (network_of s) change ≡ true = ap (λ (n : Net). names_present n change) (sym k.network) ∙ present in
     let free : change_refusal s (network_of s) change ≡ None = ap (λ (n : Net). change_refusal s n change) (sym k.network) ∙ allowed in
-    let sound : IsSound (recorded s (Some r)) = changed_sound s change now k.sound room early there free network in
+    let ordered : change_of (network_of s) order ≡ Some change = ap (λ (n : Net). change_of n order) (sym k.network) ∙ found in
+    let sound : IsSound (recorded s (Some r)) = changed_sound s order change now k.sound room early ordered there free network in
     let holds : c.holds.holds ≡ holds_of (recorded s (Some r)) = same ∙ (k.holds ∙ sym (holds_of-change s change now)) in
     let long : length c.holds.holds ≡ length b.holds.holds = ap length same in
     kept b c r k f (record { few = omega arith; holds = holds }) run sound

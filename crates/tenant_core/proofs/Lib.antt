@@ -9,6 +9,7 @@ pub mod Closings
 pub mod Lasts
 pub mod Purses
 pub mod Verdicts
+pub mod Calling
 pub mod Soundness
 mod Texts
 pub mod Keeping

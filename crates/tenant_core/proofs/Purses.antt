@@ -54,7 +54,7 @@ small (negsuc n) e = (omega (arith, ints), omega (arith, ints))
 
 pub has_limits : (p : PeerTerms) → are_terms_within p ≡ true → HasLimits p
 has_limits p e =
-    let money = (and_parts _ _ e).0 in
+    let money = (and_parts _ _ (and_parts _ _ e).0).0 in
     let others = (and_parts _ _ money).0 in
     record { ceiling = leb-true _ _ (and_parts _ _ others).1; credit = leb-true _ _ (and_parts _ _ money).1 }
 

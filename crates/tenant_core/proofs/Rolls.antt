@@ -24,6 +24,7 @@ use Rattle.tenant_core.proofs.Openings.{purses_opened, named_opened, AreFresh, c
 use Rattle.tenant_core.specs.Fresh.{IsFresh}
 use Rattle.tenant_core.specs.HoldTables.{Table}
 use Rattle.tenant_core.specs.declared.fresh.Fresh.{Fresh}
+use Rattle.tenant_core.proofs.Calling.{calls_opened}
 use Rattle.tenant_core.proofs.Courses.{holds_of-opened}
 use Rattle.tenant_core.proofs.Presents.{network_of-opened}
 use Rattle.tenant_core.proofs.Purses.{opened_within}
@@ -63,6 +64,7 @@ opened_sound o s clock sound few is before early network =
     let r8 = sound.margin in
     record {
       replay = opened_replay t refl;
+      calls = calls_opened t refl;
       tenant = omega arith;
       network = subst (λ (n : Net). IsNetwork n) (sym (network_of-opened t refl)) network;
       room = omega arith;

@@ -55,7 +55,7 @@ set_cases {X} xs i k y z e = elim (cases_eq k i) [
 ]
 
 -- what is read of a list that got one more is the last, or was there
-push_cases : {X : Type 0} (xs : List X) (k : ℕ) (y z : X) → slice_get (xs ++ y ∷ []) k ≡ Some z
+pub push_cases : {X : Type 0} (xs : List X) (k : ℕ) (y z : X) → slice_get (xs ++ y ∷ []) k ≡ Some z
     → ((k ≡ length xs) × (y ≡ z)) ⊎ ((k < length xs) × (slice_get xs k ≡ Some z))
 push_cases {X} xs k y z e = elim (cases_eq k (length xs)) [
   | inl same ↦ let read = push_last xs y k same in inl (same, cc)

@@ -9,6 +9,7 @@ use Rattle.std.proofs.lemmas.List.{length_push}
 use Rattle.std.proofs.lemmas.List.Folds.{find_at}
 use Rattle.std.proofs.lemmas.List.Sums.{sum_by_push, fold_push}
 use Rattle.std.proofs.lemmas.Option.{slice_get_within, get_or_from_slice_get}
+use Rattle.tenant_core.specs.declared.command.Order.{Order}
 use Rattle.tenant_core.specs.declared.hold.Fate.{Fate}
 use Rattle.tenant_core.specs.declared.hold.Fate.TheVariants.{Held, Marked, Ended}
 use Rattle.tenant_core.specs.declared.hold.Hold.{Hold}
@@ -19,6 +20,7 @@ use Rattle.tenant_core.specs.declared.verdict.RejectCode.TheVariants.{TimedOut, 
 use Rattle.tenant_core.specs.declared.verdict.Verdict.{Verdict}
 use Rattle.tenant_core.specs.declared.verdict.Verdict.TheVariants.{Unknown, NoRoom, Refuse, Forward, Fulfil, Relay}
 use Rattle.tenant_core.specs.Answer.{settle_answer, is_marked, is_misfit, is_fault, answer_record, tick_record, tick_count, has_no_place}
+use Rattle.tenant_core.specs.Called.{is_answer}
 use Rattle.tenant_core.specs.Holds.{holds_of, open_holds, open_hold, is_open, is_open_under, is_fulfill, is_relay, awaits_answer, holds_amounts}
 use Rattle.tenant_core.specs.Holds.{hold_ended, hold_ticked, with_fate, begun_by, AreNumbered}
 use Rattle.tenant_core.specs.Key.{Key}
@@ -27,9 +29,10 @@ use Rattle.tenant_core.specs.Present.{network_of}
 use Rattle.tenant_core.specs.Replay.{is_sayable}
 use Rattle.tenant_core.specs.State.{State, clock_of, recorded, extended, later}
 use Rattle.tenant_core.specs.declared.journal.Change.{Change as Changed}
-use Rattle.tenant_core.specs.Orders.{change_record, change_refusal, names_present}
-use Rattle.tenant_core.specs.Judge.{is_full, refuse, verdict_for_sender, decide_entry, decide_record}
+use Rattle.tenant_core.specs.Orders.{change_of, change_record, change_refusal, names_present}
+use Rattle.tenant_core.specs.Judge.{is_full, is_recorded, refuse, verdict_for_sender, decide_entry, decide_record}
 use Rattle.tenant_core.specs.Sound.{IsSound}
+use Rattle.tenant_core.proofs.Calling.{calls_on, decided_called, answered_called, ticked_called, ordered_called}
 use Rattle.tenant_core.proofs.Courses.{holds_of-decide, holds_of-answer, holds_of-tick, holds_of-change, numbered-map, numbered-push, ended_is_set, count-ended, find_passes}
 use Rattle.tenant_core.proofs.Purses.{has_terms_within, has_limits, found_passes, IsPaid, decided_within, changed_within, moved_within, ended_moves, ticked_moves, ticked_count}
 use Rattle.tenant_core.proofs.Presents.{network_of-decide, network_of-answer, network_of-tick}
@@ -66,8 +69,9 @@ decided_numbers s peer key now (Forward hold to price expiry) paid e =
 
 pub decided_sound : (s : State) (token : List ℕ) (key : Key) (now : ℕ) (from : Peer) → IsSound s
     → peer_with_token token (network_of s).peers ≡ Some from → is_full s ≡ false → is_sayable key ≡ true → now ≤ last_moment
+    → is_recorded (verdict_for_sender s from key (max (clock_of s) now)) ≡ true
     → IsSound (recorded s (Some (decide_record from.number key now (verdict_for_sender s from key (max (clock_of s) now)))))
-decided_sound s token key now from sound is room sayable early =
+decided_sound s token key now from sound is room sayable early told =
     let v : Verdict = verdict_for_sender s from key (max (clock_of s) now) in
     let r : Record = decide_record from.number key now v in
     let fits : length s.records + open_holds s + 2 ≤ s.opening.journal = ltb-false _ _ room in
@@ -80,6 +84,7 @@ decided_sound s token key now from sound is room sayable early =
     let last = sound.clock in
     record {
       replay = decided_replay s token key now from sound.replay sound.network.numbers is room sayable early;
+      calls = calls_on s r sound.calls (decided_called s token key now from sound.network is room sayable told);
       tenant = sound.tenant;
       network = subst (λ (x : Net). IsNetwork x) (sym (network_of-decide s from.number key now v)) sound.network;
       room = omega arith;
@@ -109,9 +114,9 @@ relayed_held h clock key «open» taken =
     by Marked rest e relayed = absurd cc
     by (Ended b) rest e relayed = absurd cc
 
-pub answered_sound : (s : State) (n now : ℕ) (key : AnswerKey) (h : Hold) → IsSound s → open_hold s n ≡ Some h → now ≤ last_moment
+pub answered_sound : (s : State) (n now : ℕ) (key : AnswerKey) (h : Hold) → IsSound s → open_hold s n ≡ Some h → is_answer key ≡ true → now ≤ last_moment
     → IsSound (recorded s (Some (answer_record n now key (settle_answer h (max (clock_of s) now) key))))
-answered_sound s n now key h sound is early =
+answered_sound s n now key h sound is answer early =
     let v : Verdict = settle_answer h (max (clock_of s) now) key in
     let b : Bool = is_fulfill key && is_relay v in
     let r : Record = answer_record n now key v in
@@ -133,6 +138,7 @@ answered_sound s n now key h sound is early =
     let last = sound.clock in
     record {
       replay = answered_replay s n now key h sound.replay is early;
+      calls = calls_on s r sound.calls (answered_called s n now key h is answer);
       tenant = sound.tenant;
       network = subst (λ (x : Net). IsNetwork x) (sym (network_of-answer s n now key v)) sound.network;
       room = omega arith;
@@ -163,6 +169,7 @@ ticked_sound s now sound room early =
     let last = sound.clock in
     record {
       replay = ticked_replay s now sound.replay room early;
+      calls = calls_on s r sound.calls (ticked_called s now room);
       tenant = sound.tenant;
       network = subst (λ (x : Net). IsNetwork x) (sym (network_of-tick s now (tick_count s clock))) sound.network;
       room = omega arith;
@@ -180,9 +187,10 @@ ticked_sound s now sound room early =
 
 -- ---- an order was accepted
 
-pub changed_sound : (s : State) (c : Changed) (now : ℕ) → IsSound s → has_no_place s ≡ false → now ≤ last_moment → names_present (network_of s) c ≡ true
+pub changed_sound : (s : State) (order : Order) (c : Changed) (now : ℕ) → IsSound s → has_no_place s ≡ false → now ≤ last_moment
+    → change_of (network_of s) order ≡ Some c → names_present (network_of s) c ≡ true
     → change_refusal s (network_of s) c ≡ None → IsNetwork (network_of (recorded s (Some (change_record c now)))) → IsSound (recorded s (Some (change_record c now)))
-changed_sound s c now sound room early present allowed network =
+changed_sound s order c now sound room early found present allowed network =
     let r : Record = change_record c now in
     let holds : holds_of (recorded s (Some r)) ≡ holds_of s = holds_of-change s c now in
     let counted : open_holds (recorded s (Some r)) ≡ open_holds s = ap (count_by is_open) holds in
@@ -191,6 +199,7 @@ changed_sound s c now sound room early present allowed network =
     let last = sound.clock in
     record {
       replay = changed_replay s c now sound.replay room present allowed early;
+      calls = calls_on s r sound.calls (ordered_called s order c now room found allowed);
       tenant = sound.tenant;
       network = network;
       room = omega arith;

@@ -32,6 +32,7 @@ pub mod Periods
 pub mod Governed
 pub mod Replay
 pub mod Made
+pub mod Called
 pub mod Setup
 pub mod Sound
 pub mod Closing

@@ -1,5 +1,5 @@
 -- Replays: the outcomes that a journal's entries lead to, from its opening on.
-use Rattle.std.specs.Prelude.{◌≡◌, ◌||◌, ◌&&◌, Bool, not, is_ok, is_some, nat_le, List, fold, map, max, Option, Some, None, option_map, option_and_then, if◌then◌else◌}
+use Rattle.std.specs.Prelude.{◌≡◌, ◌||◌, ◌&&◌, ◌==◌, ◌^◌, Bool, not, is_ok, is_some, nat_le, nat_lt, length, List, fold, map, max, Option, Some, None, option_map, option_and_then, if◌then◌else◌}
 use Rattle.ilp_addr.specs.Address.{address_at}
 use Rattle.ilp_addr.specs.Timestamp.{latest_expiry, last_moment}
 use Rattle.tenant_core.specs.Answer.{settle_answer, has_no_place, tick_count}
@@ -25,9 +25,12 @@ use Rattle.tenant_core.specs.declared.opening.Opening.{Opening}
 abbrev pub key_entered : DecideEntry → Key
 key_entered d = record { amount = d.amount; expiry = d.expiry; condition = d.condition; destination = d.destination }
 
--- a Prepare can say that: its destination is an address, and its expiry the moment of a timestamp (RFC 0027, "ILP Prepare")
+-- a Prepare can say that: its amount has 64 bits, its expiry is the moment of a timestamp, its condition has 32 bytes, and its
+-- destination is an address (RFC 0027, "ILP Prepare")
 abbrev pub is_sayable : Key → Bool
-is_sayable key = is_ok (address_at key.destination) && nat_le key.expiry latest_expiry
+is_sayable key =
+    nat_lt key.amount (2 ^ 64) && nat_le key.expiry latest_expiry && length key.condition == 32
+    && is_ok (address_at key.destination)
 
 -- what the Prepare of the entry's peer leads to, where the journal has room for it
 abbrev pub decide_outcome : State → DecideEntry → Option Outcome

@@ -1,6 +1,7 @@
 -- What a book keeps of its state, whatever it was told.
 use Rattle.std.specs.Prelude.{ℕ, ◌<◌, ◌≤◌, ◌+◌, ◌*◌, length}
 use Rattle.ilp_addr.specs.Timestamp.{last_moment}
+use Rattle.tenant_core.specs.Called.{AreCalled}
 use Rattle.tenant_core.specs.Holds.{holds_of, open_holds, AreNumbered}
 use Rattle.tenant_core.specs.Limits.{max_tenants, max_journal, max_margin, max_hold, max_period}
 use Rattle.tenant_core.specs.Network.{IsNetwork}
@@ -13,6 +14,8 @@ use Rattle.tenant_core.specs.State.{State, clock_of}
 pub record IsSound (s : State) : Type 0 where
   -- each record is what its entry led to
   pub replay : IsReplay s
+  -- and what a call made
+  pub calls : AreCalled s
   -- the tenant is one of 64
   pub tenant : s.opening.tenant < max_tenants
   -- whom it names, and by what

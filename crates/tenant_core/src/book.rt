@@ -348,6 +348,7 @@ impl Book {
         ) else {
             return Err(HoldFault::NoSuchHold);
         };
+        key.is_answer();
         self.clock = clock;
         let entry = AnswerEntry {
             hold,

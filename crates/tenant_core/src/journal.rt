@@ -1,5 +1,7 @@
 //! What a tenant's journal is made of.
 
+ghost use Rattle.std.specs.Prelude.{◌≡◌, length};
+
 use crate::command::{Amount, Side};
 use crate::terms::{BucketTerms, PeerLimits, PeerTerms, RateTerms};
 use crate::verdict::Verdict;
@@ -45,15 +47,30 @@ pub enum AnswerKey {
     Fault,
 }
 
+// What the type of a fulfillment keeps.
+fn has_32_bytes(fulfillment: &[u8; 32])
+    ensures { length fulfillment.now ≡ 32 }
+{}
+
 impl AnswerKey {
-    ghost use Rattle.std.specs.Prelude.{◌≡◌};
+    ghost use Rattle.std.specs.Prelude.{◌≡◌, true};
     ghost use Rattle.tenant_core.specs.Holds.{is_fulfill};
+    ghost use Rattle.tenant_core.specs.Called.{is_answer};
 
     /// Whether it is a Fulfill.
     pub fn is_fulfill(&self) -> bool
         ensures { result ≡ is_fulfill self.now }
     {
         matches!(self, AnswerKey::Fulfilled(_))
+    }
+
+    // What its type keeps: a fulfillment has 32 bytes.
+    pub(crate) fn is_answer(&self)
+        ensures { is_answer self.now ≡ true }
+    {
+        if let AnswerKey::Fulfilled(fulfillment) = self {
+            has_32_bytes(fulfillment);
+        }
     }
 }
 

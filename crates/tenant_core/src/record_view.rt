@@ -7,11 +7,11 @@ ghost use Rattle.tenant_core.specs.Replay.{is_sayable};
 ghost use Rattle.tenant_core.specs.Views.{decide_of};
 
 use crate::journal::{
-    AnswerEntry, ChangeEntry, DecideEntry, Entry, Outcome, PrepareKey, RollEntry, TickEntry,
+    AnswerEntry, ChangeEntry, DecideEntry, Entry, Expiry, Outcome, PrepareKey, RollEntry, TickEntry,
 };
 use common_types::{Bytes, Spare};
-use ilp_addr::Moment;
 use ilp_addr::laws::addresses;
+use ilp_addr::{Address, Moment};
 use route_table::PeerNo;
 
 /// A Prepare that a peer brought, and the moment; its bytes lie elsewhere.
@@ -88,13 +88,27 @@ impl EntryView<'_> {
     }
 }
 
+// What the types of a Prepare's parts keep.
+fn is_sayable(amount: u64, expiry: Expiry, condition: &[u8; 32], destination: &Address<'_>)
+    ensures { is_sayable (record {
+      amount = amount;
+      expiry = expiry;
+      condition = condition.now;
+      destination = destination.now;
+    }) ≡ true }
+{
+    addresses();
+    expiry.get();
+    destination.bytes();
+}
+
 /// The entry of a Prepare of that peer.
 pub fn decide_view<'a>(peer: PeerNo, key: &PrepareKey<'a>, now: Moment) -> DecideView<'a>
     ensures value { decide_of result ≡ decide_entry peer (key_of key.now) now }
     ensures short { length result.destination.now ≤ 1023 }
     ensures sayable { is_sayable (key_of key.now) ≡ true }
 {
-    addresses();
+    is_sayable(key.amount, key.expiry, key.condition, key.destination);
     DecideView {
         peer,
         amount: key.amount,

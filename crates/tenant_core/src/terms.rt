@@ -130,6 +130,7 @@ impl PeerTerms {
     {
         self.limits.are_within();
         self.bucket.is_within();
+        self.token.as_bytes();
     }
 
     /// The same terms once more.

@@ -22,7 +22,7 @@ invariant_of-self-2 c =
     let after : Inside = record { opening = b.opening; network = b.network; journal = c.push_answer.new.self; clock = c.max-clock.result; holds = c.end_hold.new.holds; purses = c.end_hold.new.purses; buckets = b.buckets } in
     let early = subst (λ n. n ≤ last_moment) c.millis.ensures.value c.millis.ensures.bound in
     let clock = c.max-clock.ensures ∙ ap (λ n. max b.clock n) c.millis.ensures.value in
-    answered_kept b after c.args.hold c.args.now c.max-clock.result c.args.key c.in-Some.verdict c.self.invariant early clock
+    answered_kept b after c.args.hold c.args.now c.max-clock.result c.args.key c.in-Some.verdict c.self.invariant c.is_answer.ensures early clock
     (record {
       opening = refl;
       journal = c.push_answer.ensures ∙ ap (λ (n : ℕ). with_record (answer_record c.args.hold n c.args.key c.in-Some.verdict) b.journal) c.millis-2.ensures.value;

@@ -10,6 +10,7 @@ use Rattle.tenant_core.specs.Network.{Net, IsNetwork}
 use Rattle.tenant_core.specs.Setup.{is_tenant_setup}
 use Rattle.tenant_core.specs.Sound.{IsSound}
 use Rattle.tenant_core.specs.State.{State, opened}
+use Rattle.tenant_core.proofs.Calling.{calls_opened}
 use Rattle.tenant_core.proofs.Courses.{holds_of-opened}
 use Rattle.tenant_core.proofs.Openings.{AreFresh, begun_fresh}
 use Rattle.tenant_core.proofs.Presents.{network_of-opened}
@@ -45,6 +46,7 @@ first_sound o tenant within period first clock network =
     let places = within.journal_least in
     record {
       replay = opened_replay s refl;
+      calls = calls_opened s refl;
       tenant = tenant;
       network = subst (λ (n : Net). IsNetwork n) (sym (network_of-opened s refl)) network;
       room = omega arith;

@@ -84,7 +84,7 @@ invariant_of-self-2 c =
     let buckets : c.follow_buckets.new.buckets.items ≡ levels_after change place clock b.buckets.items =
     c.follow_buckets.ensures
     ∙ (ap (λ (x : Changed). levels_after x place clock c.reserve-2.new.self.items) same ∙ ap (levels_after change place clock) c.reserve-2.ensures.items) in
-    changed_kept b after change c.args.now clock c.self.invariant early at room present allowed c.is_network.ensures
+    changed_kept b after c.args.order.now change c.args.now clock c.self.invariant early at room found present allowed c.is_network.ensures
     (record {
       opening = refl;
       journal = c.push_change.ensures

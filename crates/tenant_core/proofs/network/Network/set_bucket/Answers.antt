@@ -16,7 +16,7 @@ invariant_of-self c =
     record {
       network = is_network _ (with_bucket net c.args.number c.args.bucket.now c.args.level) (ap others c.change_bucket.ensures)
           (one_changed_is net c.args.number change (λ p. refl) (λ p. refl) (λ p. refl)
-          (λ p e. and_from _ _ (and_parts _ _ e).0 c.is_within.ensures) (λ p. refl) c.self.invariant.network);
+          (λ p e. and_from _ _ (and_from _ _ (and_parts _ _ (and_parts _ _ e).0).0 c.is_within.ensures) (and_parts _ _ e).1) (λ p. refl) c.self.invariant.network);
       tokens = same_tokens net.peers _ c.self.inside.by_token.items (ap (map token) c.change_bucket.ensures ∙ token_stays change c.args.number (λ p. refl) net.peers) c.self.invariant.tokens;
       pairs = c.self.invariant.pairs;
       apart = c.self.invariant.apart;
