@@ -35,6 +35,13 @@ pub fn what_is_read_is_a_prepare()
     laws_below();
 }
 
+/// Each Prepare is read, as its parts. (RFC 0027, "ILP Prepare")
+pub fn each_prepare_is_read()
+    ensures { (frame : List ℕ) (p : Prepare) → IsPrepare frame p → prepare_at frame ≡ Ok p }
+{
+    laws_below();
+}
+
 /// A frame that goes on differs from the one that came in its amount and its expiry at most: so does
 /// a Prepare with any 8 and 17 other bytes in their places, and one with another amount and another
 /// date in their place is a Prepare of the same parts but for these. (RFC 0027, "ILP Prepare")
