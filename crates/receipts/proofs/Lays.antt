@@ -145,7 +145,7 @@ before_later (q ∷ qs) t n p (suc k) m at numbered less =
     omega arith
 
 -- nothing comes before the first period
-none_first : (periods : List PeriodParts) (t : ℕ) → records_before periods t 0 ≡ 0
+pub none_first : (periods : List PeriodParts) (t : ℕ) → records_before periods t 0 ≡ 0
 none_first [] t = refl
 none_first (p ∷ ps) t =
     let others = none_first ps t in

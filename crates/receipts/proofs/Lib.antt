@@ -2,3 +2,5 @@ pub mod Places
 pub mod Joins
 pub mod Lays
 pub mod Naming
+pub mod Causes
+pub mod Runs

@@ -1,2 +1,3 @@
 pub mod Audits
 pub mod Layout
+pub mod Runs

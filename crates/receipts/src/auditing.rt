@@ -3,11 +3,13 @@
 ghost use Rattle.std.specs.Prelude.{◌≡◌, length, map, count_by, ◌==◌, IfOk, IfErr};
 ghost use Rattle.receipts.specs.Audits.{AreMatched, IsComplete, points_of, receipts_of, tenants_of};
 ghost use Rattle.joint_order.specs.Orders.{AreHeld};
-ghost use Rattle.receipts.specs.Layout.{IsFault};
+ghost use Rattle.receipts.specs.Layout.{AreKept, IsFault};
+ghost use Rattle.receipts.specs.Runs.{AreOfRun};
 
 use crate::chains::{are_kept, check_joined, index_of};
 use crate::check::{are_held_whole, note_lists};
 use crate::fault::AuditFault;
+use crate::laws::complete_receipts_are_a_run;
 use crate::layout::lay_out;
 use crate::receipt::Receipt;
 use common_types::Items;
@@ -47,12 +49,12 @@ fn matched(
     periods: &[Period],
     lists: &[&[Receipt]],
 ) -> Result<(Vec<Items<Point>>, Vec<Items<Option<usize>>>), AuditFault>
+    requires kept { AreKept periods.now }
     ensures matched { IfOk result (λ found. AreMatched periods.now (map (λ list. list.now) lists.now)) }
     ensures points { IfOk result (λ found. found.0.items ≡ points_of periods.now (map (λ list. list.now) lists.now)) }
     ensures held { IfOk result (λ found. AreHeld found.0.items found.1.items) }
     ensures fault { IfErr result (IsFault periods.now (map (λ list. list.now) lists.now)) }
 {
-    are_kept(periods);
     let index = index_of(alloc, periods)?;
     check_joined(&index, periods)?;
     let (offsets, mut holders) = lay_out(alloc, &index, periods)?;
@@ -66,7 +68,8 @@ fn matched(
 
 /// Checks receipts, a list for each worker, against closed periods: that each tenant's periods are all there from the first
 /// on, and join; that each record of them has one receipt that shows just it; and that there is an order of all receipts which
-/// keeps each tenant's journal and each list. Periods and lists may stand in any order. Who kept the receipts is not trusted;
+/// keeps each tenant's journal and each list. Then the receipts, in that order, are the records of a run from the tenants' first
+/// periods on, which ends as the last ones did. Periods and lists may stand in any order. Who kept the receipts is not trusted;
 /// a `Period` says what a roll closed, by its type. It takes time in proportion to the receipts, but for a search of the
 /// period of each.
 ///
@@ -74,10 +77,13 @@ fn matched(
 /// of them may be told. `Memory` where memory was refused.
 pub fn audit(alloc: Global, periods: &[Period], lists: &[&[Receipt]]) -> Result<Audited, AuditFault>
     ensures complete { IfOk result (λ audited. IsComplete periods.now (map (λ list. list.now) lists.now) audited.order) }
+    ensures run { IfOk result (λ audited. AreOfRun periods.now (map (λ list. list.now) lists.now) audited.order) }
     ensures counts { IfOk result (λ audited. (audited.tenants ≡ tenants_of periods.now) × (audited.periods ≡ length periods.now)
         × (audited.receipts ≡ receipts_of (map (λ list. list.now) lists.now))) }
     ensures fault { IfErr result (IsFault periods.now (map (λ list. list.now) lists.now)) }
 {
+    are_kept(periods);
+    complete_receipts_are_a_run();
     let (points, holders) = matched(alloc, periods, lists)?;
     match join(alloc, &points, &holders)? {
         Joined::Order(order) => Ok(Audited {

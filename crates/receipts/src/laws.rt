@@ -3,6 +3,8 @@
 ghost use Rattle.std.specs.Prelude.{List, ℕ};
 ghost use Rattle.tenant_core.specs.declared.period.PeriodParts.{PeriodParts};
 ghost use Rattle.receipts.specs.Audits.{AreMatched, IsComplete, IsStuckAt};
+ghost use Rattle.receipts.specs.Layout.{AreKept};
+ghost use Rattle.receipts.specs.Runs.{AreOfRun};
 ghost use Rattle.receipts.specs.declared.receipt.Receipt.{Receipt};
 
 /// Where receipts that match the periods are stuck at a front, no order completes them. So an audit says yes exactly where some
@@ -12,4 +14,21 @@ pub fn no_order_where_stuck()
         → AreMatched periods lists → IsStuckAt periods lists front → IsComplete periods lists order → ⊥ }
 {
     joint_order::laws::no_order_behind_a_stuck_front();
+}
+
+/// Where receipts are complete, and rolls closed the periods, the receipts are the records of a run: there are steps that, run from
+/// the openings of the tenants' first periods on, make just the records that the receipts show, as the order takes them, and leave
+/// each tenant's book as its last period ended. In which frame a packet or an answer came no receipt tells: the run has some that
+/// say the same.
+pub fn complete_receipts_are_a_run()
+    ensures { (periods : List PeriodParts) (lists : List (List Receipt)) (order : List ℕ)
+        → AreKept periods → IsComplete periods lists order → AreOfRun periods lists order }
+{
+    oer_core::laws::lengths();
+    ilp_addr::laws::addresses();
+    ilp_addr::laws::timestamps();
+    ilp_view::laws::each_prepare_is_read();
+    ilp_view::laws::written_is_read_back();
+    ilp_view::laws::written_frames_are_short();
+    floor_core::laws::records_are_a_run();
 }
