@@ -1,14 +1,14 @@
 -- What a known stream means as an answer, head by head.
-use Rattle.std.proofs.Common.{◌≡◌, ◌⊎◌, inl, inr, ℕ, zero, suc, ◌-◌, ◌<◌, Bool, true, false, List, [], ◌++◌, length, take, drop, refl, sym, map, ap, subst, ◌∙◌, arith, append-nil, length-append, length-take, Option, Some, Result, Err}
+use Rattle.std.proofs.Common.{◌≡◌, ◌⊎◌, inl, inr, ℕ, zero, suc, ◌-◌, ◌<◌, Bool, true, false, List, [], ◌++◌, length, take, refl, sym, map, ap, subst, ◌∙◌, arith, append-nil, take-take, Option, Some, Result, Err}
 use Rattle.common_types.specs.Numbers.{is_between}
 use Rattle.httparse.specs.declared.spans.HeaderSpan.{HeaderSpan}
 use Rattle.httparse.specs.declared.spans.ResponseSpans.{ResponseSpans}
-use Rattle.httparse.specs.Grammar.{ResponseHead, print_response, ReadsResponse}
-use Rattle.httparse.proofs.GrammarLemmas.{ReadsResponse-append}
+use Rattle.httparse.specs.Grammar.{ResponseHead, print_response}
 use Rattle.http_link.specs.Fields.{Line}
 use Rattle.http_link.specs.Heads.{BeginsAnswer, Reply, reply_of}
 use Rattle.httparse.specs.Spans.{IsResponseAt, header_bytes}
-use Rattle.http_link.specs.ReadingReplies.{ReplyIsTaken, HasNoReply}
+use Rattle.http_link.specs.Grammars.{replies}
+use Rattle.http_link.specs.Reading.{IsTaken, HasNoHead}
 use Rattle.http_link.specs.declared.posting.PostFault.{PostFault}
 use Rattle.http_link.specs.declared.posting.PostFault.TheVariants.{Head, Cut}
 use Rattle.http_link.specs.Client.{IsMeaning, Means, MeansCoded, is_interim, told_of}
@@ -20,7 +20,8 @@ use Rattle.http_link.specs.declared.bodies.BodyRead.TheVariants.{Bad, Whole}
 use Rattle.http_link.specs.declared.bodies.BodyRead.TheVariants as bodies
 use Rattle.http_link.specs.declared.bodies.Framing.TheVariants.{Chunked}
 use Rattle.http_link.proofs.Growing.{bad_more, whole_more}
-use Rattle.http_link.proofs.Heads.{nothing_left, begins_with_taken}
+use Rattle.http_link.specs.GrammarLaws.{reply_printed}
+use Rattle.http_link.proofs.Heads.{begins_with_taken}
 
 true_or_false : (b : Bool) → b ≡ true → b ≡ false → ⊥
 true_or_false true t f = cc
@@ -28,20 +29,15 @@ true_or_false false t f = cc
 
 -- a head that was taken begins the stream
 reply_begins : (old new : Option (List ℕ)) (text stream : List ℕ) (lines : List HeaderSpan) (spans : ResponseSpans) → length text ≡ 8192 → length lines ≡ 64
-    → (taken : ReplyIsTaken old new text lines spans) → old ≡ Some stream → (rest : List ℕ) × (new ≡ Some rest) × BeginsAnswer stream taken.is.head rest
+    → (taken : IsTaken replies old new text lines spans) → old ≡ Some stream → (rest : List ℕ) × (new ≡ Some rest) × BeginsAnswer stream taken.is.head rest
 reply_begins old new text stream lines spans size room taken e =
     let front = begins_with_taken old new (take spans.len text) stream taken.taken e in
     let at = taken.is.at in
-    let behind = drop spans.len (take spans.len text) in
-    let long = ap length at.reads.1 in
+    let front_is : take spans.len text ≡ print_response taken.is.head = sym (take-take spans.len spans.len text (omega arith)) ∙ reply_printed (take spans.len text) lines spans taken.is in
     let printed = at.len in
     let bound = taken.bound in
     let few = taken.is.few in
-    let none : behind ≡ [] = nothing_left behind (omega (arith, length-append (print_response taken.is.head) behind, length-take spans.len text)) in
-    let whole = ReadsResponse-append (take spans.len text) taken.is.head behind front.0 at.reads in
-    let reads : ReadsResponse stream taken.is.head front.0 =
-    subst (λ (w : List ℕ). ReadsResponse w taken.is.head front.0) (sym front.2) (subst (λ (w : List ℕ). ReadsResponse (take spans.len text ++ front.0) taken.is.head (w ++ front.0)) none whole) in
-    (front.0, front.1, record { reads = reads; short = omega arith; few = omega arith })
+    (front.0, front.1, record { reads = (at.reads.0, front.2 ∙ ap (λ (w : List ℕ). w ++ front.0) front_is); short = omega arith; few = omega arith })
 
 -- an interim head is passed over
 passed : (heads : ℕ) (stream : List ℕ) (head : ResponseHead) (rest : List ℕ) (meaning : Result (List ℕ) PostFault) → 0 < heads → BeginsAnswer stream head rest
@@ -78,11 +74,11 @@ no_head (suc heads) stream meaning some none fault = inr (record { none = none; 
 
 -- where no head within the limits was read, none begins the stream
 none_begins : (known : Option (List ℕ)) (text stream : List ℕ) (lines : List HeaderSpan) (head : ResponseHead) (rest : List ℕ) → length text ≡ 8192 → length lines ≡ 64
-    → HasNoReply known (length text) (length lines) → known ≡ Some stream → BeginsAnswer stream head rest → ⊥
+    → HasNoHead replies known (length text) (length lines) → known ≡ Some stream → BeginsAnswer stream head rest → ⊥
 none_begins known text stream lines head rest size room none e begins =
     let short = begins.short in
     let few = begins.few in
-    none stream head rest e begins.reads (omega arith) (omega arith)
+    none stream (print_response head) rest e (record { head = head; is = begins.reads.0; printed = refl; few = omega arith }) begins.reads.1 (omega arith)
 
 -- what an answer's head says is read off its spans
 reply_said : (said : List Line) (text : List ℕ) (lines : List HeaderSpan) (spans : ResponseSpans) (head : ResponseHead)
@@ -91,7 +87,7 @@ reply_said said text lines spans head says at = rw (says, at.code, at.version, a
 
 -- a final head that was taken, whose body means that, is what the stream means
 pub final_read : (heads : ℕ) (old new : Option (List ℕ)) (text stream : List ℕ) (lines : List HeaderSpan) (spans : ResponseSpans) (said : List Line) (meaning : Result (List ℕ) PostFault)
-    → 0 < heads → length text ≡ 8192 → length lines ≡ 64 → ReplyIsTaken old new text lines spans → old ≡ Some stream → said ≡ map (header_bytes (take spans.len text)) (take spans.headers lines)
+    → 0 < heads → length text ≡ 8192 → length lines ≡ 64 → IsTaken replies old new text lines spans → old ≡ Some stream → said ≡ map (header_bytes (take spans.len text)) (take spans.headers lines)
     → is_between 100 199 spans.code ≡ false → ((rest : List ℕ) → new ≡ Some rest → IsMeaning (record { status = spans.code; minor = spans.version; lines = said }) rest meaning) → Means heads stream meaning
 final_read heads old new text stream lines spans said meaning some size room taken e says final is =
     let front = reply_begins old new text stream lines spans size room taken e in
@@ -101,7 +97,7 @@ final_read heads old new text stream lines spans said meaning some size room tak
 
 -- an interim head that was taken is passed over
 pub interim_read : (heads : ℕ) (old new : Option (List ℕ)) (text stream : List ℕ) (lines : List HeaderSpan) (spans : ResponseSpans) → 0 < heads → length text ≡ 8192 → length lines ≡ 64
-    → ReplyIsTaken old new text lines spans → old ≡ Some stream → is_between 100 199 spans.code ≡ true
+    → IsTaken replies old new text lines spans → old ≡ Some stream → is_between 100 199 spans.code ≡ true
     → (rest : List ℕ) × (new ≡ Some rest) × ((meaning : Result (List ℕ) PostFault) → Means (heads - 1) rest meaning → Means heads stream meaning)
 interim_read heads old new text stream lines spans some size room taken e interim =
     let front = reply_begins old new text stream lines spans size room taken e in
@@ -109,7 +105,7 @@ interim_read heads old new text stream lines spans some size room taken e interi
 
 -- no head that was read means a fault
 pub none_read : (heads : ℕ) (known : Option (List ℕ)) (text stream : List ℕ) (lines : List HeaderSpan) (meaning : Result (List ℕ) PostFault) → 0 < heads → length text ≡ 8192 → length lines ≡ 64
-    → HasNoReply known (length text) (length lines) → known ≡ Some stream → (meaning ≡ Err Head) ⊎ (meaning ≡ Err Cut) → Means heads stream meaning
+    → HasNoHead replies known (length text) (length lines) → known ≡ Some stream → (meaning ≡ Err Head) ⊎ (meaning ≡ Err Cut) → Means heads stream meaning
 none_read heads known text stream lines meaning some size room none e fault =
     no_head heads stream meaning some (λ head rest begins. none_begins known text stream lines head rest size room none e begins) fault
 

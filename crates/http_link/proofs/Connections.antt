@@ -1,39 +1,39 @@
 -- From a head that was found in what has come to what serving the next request of a connection does.
-use Rattle.std.proofs.Common.{◌≡◌, inl, inr, ℕ, ◌≤◌, List, [], ◌++◌, length, take, drop, refl, sym, ap, subst, ◌∙◌, arith, append_assoc, length-take, length-drop, take-append-drop, Option, Result, Ok, Err, IfOk, Bool, false, ◌∷◌}
+use Rattle.std.proofs.Common.{◌≡◌, inl, inr, ℕ, ◌≤◌, List, [], ◌++◌, length, take, drop, refl, sym, ap, subst, ◌∙◌, arith, append_assoc, take-append-drop, take-take, Option, Result, Ok, Err, IfOk, Bool, false, ◌∷◌}
 use Rattle.std.proofs.KnownBytes.{Consumes-trans}
 use Rattle.httparse.specs.declared.spans.HeaderSpan.{HeaderSpan}
 use Rattle.httparse.specs.declared.spans.RequestSpans.{RequestSpans}
-use Rattle.httparse.specs.Grammar.{ReadsRequest}
+use Rattle.httparse.specs.Grammar.{RequestHead, print_request}
 use Rattle.httparse.proofs.GrammarLemmas.{ReadsRequest-append}
+use Rattle.http_link.specs.Answers.{refusal_text}
 use Rattle.http_link.specs.Connections.{AreAskedBy, AsksIt, AsksNext, IsAskedBy, ServesNext}
 use Rattle.http_link.specs.Heads.{BeginsWith, Head, head_of}
 use Rattle.http_link.specs.Lines.{head_in}
-use Rattle.http_link.specs.Reading.{HeadIsFound, IsRequest}
+use Rattle.http_link.specs.Grammars.{IsRequest, requests}
+use Rattle.http_link.specs.Reading.{HeadIsFound}
 use Rattle.http_link.specs.Requests.{Wanted, closes, wanted_of}
 use Rattle.http_link.specs.Running.{AsksWanted, Runs}
 use Rattle.http_link.specs.Serving.{Asked, IsAskedOnly, IsServed, Traces, asking}
-use Rattle.http_link.specs.declared.head.Offered.TheVariants.{Whole}
+use Rattle.http_link.specs.declared.grammar.Offered.TheVariants.{Malformed, Whole}
 use Rattle.http_link.specs.declared.serve.Served.{Served}
+use Rattle.http_link.specs.declared.serve.Served.TheVariants.{Closed, Ended}
 use Rattle.http_link.specs.declared.streams.LinkFault.{LinkFault}
 use Rattle.http_link.proofs.Growing.{whole_more}
-use Rattle.http_link.proofs.Heads.{nothing_left}
-use Rattle.http_link.proofs.Serving.{head_said}
+use Rattle.http_link.specs.GrammarLaws.{request_printed}
+use Rattle.http_link.proofs.Serving.{begun_is, head_said}
 
 -- a head that stands at the front of bytes begins them, with whatever follows
 begins_here : (has more : List ℕ) (lines : List HeaderSpan) (spans : RequestSpans) → spans.len ≤ length has → spans.len ≤ 8192 → length lines ≡ 64
     → (is : IsRequest (take spans.len has) lines spans) → BeginsWith (has ++ more) is.head (drop spans.len has ++ more)
 begins_here has more lines spans bound small room is =
-    let len = spans.len in
-    let text : List ℕ = take len has in
     let at = is.at in
     let few = is.few in
     let printed = at.len in
-    let behind : drop len text ≡ [] = nothing_left (drop len text) (omega (arith, length-drop len text, length-take len has)) in
-    let whole = ReadsRequest-append text is.head (drop len text) (drop len has ++ more) at.reads in
-    let parts : text ++ (drop len has ++ more) ≡ has ++ more = sym (append_assoc text (drop len has) more) ∙ ap (λ (w : List ℕ). w ++ more) (take-append-drop len has) in
+    let front : take spans.len has ≡ print_request is.head = sym (take-take spans.len spans.len has (omega arith)) ∙ request_printed (take spans.len has) lines spans is in
+    let parts : has ++ more ≡ take spans.len has ++ (drop spans.len has ++ more) =
+    ap (λ (w : List ℕ). w ++ more) (sym (take-append-drop spans.len has)) ∙ append_assoc (take spans.len has) (drop spans.len has) more in
     record {
-      reads = subst (λ (w : List ℕ). ReadsRequest w is.head (drop len has ++ more)) parts
-          (subst (λ (w : List ℕ). ReadsRequest (text ++ (drop len has ++ more)) is.head (w ++ (drop len has ++ more))) behind whole);
+      reads = (at.reads.0, parts ∙ ap (λ (w : List ℕ). w ++ (drop spans.len has ++ more)) front);
       short = omega arith;
       few = omega arith;
     }
@@ -44,20 +44,20 @@ in_all had has one other e = ap (λ (w : List ℕ). w ++ other) e ∙ append_ass
 
 -- the head that was found begins all that came
 found_begins : (had : List ℕ) (old mid : Option (List ℕ)) (has other : List ℕ) (lines : List HeaderSpan) (spans : RequestSpans) → length lines ≡ 64
-    → (found : HeadIsFound had old mid has lines (Whole spans)) → BeginsWith (had ++ (found.came ++ other)) found.stands.2.head (drop spans.len has ++ other)
+    → (found : HeadIsFound requests had old mid has lines (Whole spans)) → BeginsWith (had ++ (found.came ++ other)) found.stands.2.head (drop spans.len has ++ other)
 found_begins had old mid has other lines spans room found =
     subst (λ (w : List ℕ). BeginsWith w found.stands.2.head (drop spans.len has ++ other)) (in_all had has found.came other found.grew)
     (begins_here has other lines spans found.stands.0 found.stands.1 room found.stands.2)
 
 -- what it says
 found_says : (had : List ℕ) (old mid : Option (List ℕ)) (has text : List ℕ) (lines : List HeaderSpan) (spans : RequestSpans) → text ≡ take spans.len has
-    → (found : HeadIsFound had old mid has lines (Whole spans)) → head_in text lines spans ≡ head_of found.stands.2.head
+    → (found : HeadIsFound requests had old mid has lines (Whole spans)) → head_in text lines spans ≡ head_of found.stands.2.head
 found_says had old mid has text lines spans same found =
     head_said (head_in text lines spans) (take spans.len has) lines spans found.stands.2.head (ap (λ (t : List ℕ). head_in t lines spans) same) found.stands.2.at
 
 -- what is done with the head that was found is what serving the next request does
 pub found_next : (r : Result Served LinkFault) (tenant_of : List ℕ → Option ℕ) (had : List ℕ) (old mid new : Option (List ℕ)) (has text : List ℕ) (lines : List HeaderSpan)
-    (spans : RequestSpans) (traces : Traces) → length lines ≡ 64 → text ≡ take spans.len has → HeadIsFound had old mid has lines (Whole spans)
+    (spans : RequestSpans) (traces : Traces) → length lines ≡ 64 → text ≡ take spans.len has → HeadIsFound requests had old mid has lines (Whole spans)
     → IfOk r (Runs (wanted_of tenant_of (head_in text lines spans)) (head_in text lines spans) (drop spans.len has) mid new traces) → IfOk r (ServesNext tenant_of had old new traces)
 found_next (Err fault) tenant_of had old mid new has text lines spans traces room same found runs = tt
 found_next (Ok served) tenant_of had old mid new has text lines spans traces room same found runs =
@@ -73,9 +73,28 @@ found_next (Ok served) tenant_of had old mid new has text lines spans traces roo
       ended = runs.ended;
     }
 
+-- where none was found, it is turned away
+pub none_found : (r : Result Served LinkFault) (tenant_of : List ℕ → Option ℕ) (had : List ℕ) (old mid : Option (List ℕ)) (has : List ℕ) (lines : List HeaderSpan) (traces : Traces)
+    → length lines ≡ 64 → HeadIsFound requests had old mid has lines Malformed → traces.Unasked → IfOk r (λ served. (served ≡ Closed) × traces.Writes (refusal_text 400))
+    → IfOk r (ServesNext tenant_of had old mid traces)
+none_found (Err fault) tenant_of had old mid has lines traces room found unasked refused = tt
+none_found (Ok served) tenant_of had old mid has lines traces room found unasked refused =
+    record {
+      came = found.came;
+      taken = found.taken;
+      so = inr (record { none = none; unasked = unasked; written = inr refused });
+      ended = λ e. absurd (not_ended (sym refused.0 ∙ e));
+    }
+  where
+    none : (head : RequestHead) (rest : List ℕ) → BeginsWith (had ++ found.came) head rest → ⊥
+    none head rest begins = found.stands (print_request head) rest (begun_is (had ++ found.came) head rest (length lines) room begins) (found.grew ∙ begins.reads.1) begins.short
+
+    not_ended : Closed ≡ Ended → ⊥
+    not_ended e = absurd cc
+
 -- and what is asked for it is what the next request asks
 pub found_asks : (tenant_of : List ℕ → Option ℕ) (had : List ℕ) (old mid new : Option (List ℕ)) (has text : List ℕ) (lines : List HeaderSpan) (spans : RequestSpans)
-    (Unasked : Type 0) (Asks : Asked → Type 0) → length lines ≡ 64 → text ≡ take spans.len has → HeadIsFound had old mid has lines (Whole spans)
+    (Unasked : Type 0) (Asks : Asked → Type 0) → length lines ≡ 64 → text ≡ take spans.len has → HeadIsFound requests had old mid has lines (Whole spans)
     → AsksWanted (wanted_of tenant_of (head_in text lines spans)) (drop spans.len has) mid new Unasked Asks → AsksNext tenant_of had old new Unasked Asks
 found_asks tenant_of had old mid new has text lines spans Unasked Asks room same found (inl none) = inl none
 found_asks tenant_of had old mid new has text lines spans Unasked Asks room same found (inr once) =

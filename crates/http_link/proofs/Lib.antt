@@ -1,7 +1,7 @@
 pub mod Counting
 pub mod Known
 pub mod Heads
-pub mod ReplyHeads
+pub mod Grammars
 pub mod Growing
 pub mod Serving
 pub mod Client

@@ -1,13 +1,14 @@
 -- From what is taken and written to what serving a known stream does.
-use Rattle.std.proofs.Common.{◌≡◌, inl, inr, ℕ, List, [], ◌++◌, length, take, drop, refl, sym, ap, subst, ◌∙◌, arith, append-nil, length-append, length-take, Bool, true, false, Option, Some, None, Result, Ok, Err, IfOk}
+use Rattle.std.proofs.Common.{◌≡◌, inl, inr, ℕ, List, [], ◌++◌, length, take, refl, sym, ap, subst, ◌∙◌, arith, append-nil, take-take, Bool, true, false, Option, Some, None, Result, Ok, Err, IfOk}
 use Rattle.std.proofs.KnownBytes.{Appends-trans, Consumes-nil}
 use Rattle.std.specs.Io.KnownBytes.{Appends, Consumes, IsAtEnd}
 use Rattle.httparse.specs.declared.spans.HeaderSpan.{HeaderSpan}
 use Rattle.httparse.specs.declared.spans.RequestSpans.{RequestSpans}
-use Rattle.httparse.specs.Grammar.{RequestHead, print_request, ReadsRequest}
-use Rattle.httparse.proofs.GrammarLemmas.{request_unique, ReadsRequest-append}
+use Rattle.httparse.specs.Grammar.{RequestHead, print_request}
+use Rattle.httparse.proofs.GrammarLemmas.{request_unique}
 use Rattle.httparse.specs.Spans.{IsRequestAt}
 use Rattle.http_link.specs.Heads.{BeginsWith, Head, head_of}
+use Rattle.http_link.specs.Grammars.{IsRequestText, requests}
 use Rattle.http_link.specs.Reading.{IsTaken, HasNoHead}
 use Rattle.http_link.specs.Lines.{head_in}
 use Rattle.http_link.specs.Bodies.{Body, IsBody, bad, cut, refusal_of, whole}
@@ -22,7 +23,8 @@ use Rattle.http_link.specs.declared.streams.LinkFault.{LinkFault}
 use Rattle.http_link.specs.Serving.{Asked, Traces, IsServed, IsAskedOnly, AsksAtMostOnce, ServesBody, asking, kept_unless}
 use Rattle.http_link.specs.Running.{Runs, AsksWanted}
 use Rattle.http_link.proofs.Growing.{bad_more, whole_more}
-use Rattle.http_link.proofs.Heads.{nothing_left, begins_with_taken}
+use Rattle.http_link.specs.GrammarLaws.{request_printed}
+use Rattle.http_link.proofs.Heads.{begins_with_taken}
 
 -- what is left behind what was taken
 taken_left : (rest body : List ℕ) (left : Option (List ℕ)) → Consumes (Some rest) left body → (ys : List ℕ) × (left ≡ Some ys) × (rest ≡ body ++ ys)
@@ -100,32 +102,32 @@ asks_once (Ok wanted) had old new Unasked Asks (inr once) = asked once.2
 
 -- a head that was taken begins the stream
 pub taken_begins : (old new : Option (List ℕ)) (text stream : List ℕ) (lines : List HeaderSpan) (spans : RequestSpans) → length text ≡ 8192 → length lines ≡ 64
-    → (taken : IsTaken old new text lines spans) → old ≡ Some stream → (rest : List ℕ) × (new ≡ Some rest) × BeginsWith stream taken.is.head rest
+    → (taken : IsTaken requests old new text lines spans) → old ≡ Some stream → (rest : List ℕ) × (new ≡ Some rest) × BeginsWith stream taken.is.head rest
 taken_begins old new text stream lines spans size room taken e =
     let front = begins_with_taken old new (take spans.len text) stream taken.taken e in
     let at = taken.is.at in
-    let behind = drop spans.len (take spans.len text) in
-    let long = ap length at.reads.1 in
+    let front_is : take spans.len text ≡ print_request taken.is.head = sym (take-take spans.len spans.len text (omega arith)) ∙ request_printed (take spans.len text) lines spans taken.is in
     let printed = at.len in
     let bound = taken.bound in
     let few = taken.is.few in
-    let none : behind ≡ [] = nothing_left behind (omega (arith, length-append (print_request taken.is.head) behind, length-take spans.len text)) in
-    let whole = ReadsRequest-append (take spans.len text) taken.is.head behind front.0 at.reads in
-    let reads : ReadsRequest stream taken.is.head front.0 =
-    subst (λ (w : List ℕ). ReadsRequest w taken.is.head front.0) (sym front.2) (subst (λ (w : List ℕ). ReadsRequest (take spans.len text ++ front.0) taken.is.head (w ++ front.0)) none whole) in
-    (front.0, front.1, record { reads = reads; short = omega arith; few = omega arith })
+    (front.0, front.1, record { reads = (at.reads.0, front.2 ∙ ap (λ (w : List ℕ). w ++ front.0) front_is); short = omega arith; few = omega arith })
 
 -- one head begins a stream
 pub one_head : (stream : List ℕ) (h k : RequestHead) (r q : List ℕ) → BeginsWith stream h r → BeginsWith stream k q → (h ≡ k) × (r ≡ q)
 one_head stream h k r q a b = request_unique stream h k r q a.reads b.reads
 
+-- a head within the limits is a text of the grammar
+pub begun_is : (stream : List ℕ) (head : RequestHead) (rest : List ℕ) (lines : ℕ) → lines ≡ 64 → BeginsWith stream head rest → IsRequestText (print_request head) lines
+begun_is stream head rest lines room begins =
+    let few = begins.few in
+    record { head = head; is = begins.reads.0; printed = refl; few = omega arith }
+
 -- where no head within the limits was read, none begins the stream
 pub none_begins : (known : Option (List ℕ)) (text stream : List ℕ) (lines : List HeaderSpan) (head : RequestHead) (rest : List ℕ) → length text ≡ 8192 → length lines ≡ 64
-    → HasNoHead known (length text) (length lines) → known ≡ Some stream → BeginsWith stream head rest → ⊥
+    → HasNoHead requests known (length text) (length lines) → known ≡ Some stream → BeginsWith stream head rest → ⊥
 none_begins known text stream lines head rest size room none e begins =
     let short = begins.short in
-    let few = begins.few in
-    none stream head rest e begins.reads (omega arith) (omega arith)
+    none stream (print_request head) rest e (begun_is stream head rest (length lines) room begins) begins.reads.1 (omega arith)
 
 -- what a head says is read off its spans
 pub head_said : (said : Head) (text : List ℕ) (lines : List HeaderSpan) (spans : RequestSpans) (head : RequestHead)
@@ -134,7 +136,7 @@ head_said said text lines spans head says at = says ∙ rw (at.method, at.path, 
 
 -- the head that was taken is the one that begins the stream, and what is left is what follows it
 pub taken_is : (said : Head) (old new : Option (List ℕ)) (text stream : List ℕ) (lines : List HeaderSpan) (spans : RequestSpans) (head : RequestHead) (rest : List ℕ)
-    → length text ≡ 8192 → length lines ≡ 64 → IsTaken old new text lines spans
+    → length text ≡ 8192 → length lines ≡ 64 → IsTaken requests old new text lines spans
     → said ≡ head_in (take spans.len text) lines spans → old ≡ Some stream → BeginsWith stream head rest → (said ≡ head_of head) × (new ≡ Some rest)
 taken_is said old new text stream lines spans head rest size room taken says e begins =
     let front = taken_begins old new text stream lines spans size room taken e in

@@ -7,7 +7,7 @@ use Rattle.httparse.specs.Ascii.{crlf_bytes}
 use Rattle.httparse.specs.Grammar.{ChunkLine, IsChunkLine, ReadsChunkLine, chunk_size, print_chunk_line}
 use Rattle.httparse.specs.Grammar.{Field, LineEnd, ReadsSection, print_section}
 use Rattle.http_link.specs.Heads.{max_head, max_lines}
-use Rattle.http_link.specs.Reading.{ends_empty_line}
+use Rattle.http_link.specs.Grammars.{ends_empty_line}
 use Rattle.http_link.specs.declared.bodies.BodyFault.{BodyFault}
 use Rattle.http_link.specs.declared.bodies.BodyFault.TheVariants.{Malformed, TooLarge}
 use Rattle.http_link.specs.declared.bodies.Framing.{Framing}

@@ -7,8 +7,9 @@ pub mod Requests
 pub mod Lines
 pub mod Answers
 pub mod Streams
+pub mod Grammars
+pub mod GrammarLaws
 pub mod Reading
-pub mod ReadingReplies
 pub mod Serving
 pub mod Running
 pub mod Connections

@@ -1,31 +1,20 @@
-//! Heads of requests and of answers: read one byte at a time, so that no byte behind them is taken, or found in what has come.
+//! The readers of heads: one byte at a time, so that no byte behind them is taken, or in what has come.
 
 ghost use Rattle.std.specs.Prelude.{◌≡◌, ◌≢◌, ◌↔◌, ◌+◌, ◌-◌, ◌<◌, ◌≤◌, ◌++◌, ◌∷◌, [], length, take, false, Ok, Err, IfOk};
 ghost use Rattle.http_link.specs.Counts.{Spends};
-ghost use Rattle.http_link.specs.Reading.{ends_empty_line, Decides, GoesOn, HeadIsFound, HeadIsRead, Sees};
-ghost use Rattle.http_link.specs.ReadingReplies.{DecidesReply, ReplyGoesOn, ReplyIsRead};
+ghost use Rattle.http_link.specs.Grammars.{ends_empty_line};
+ghost use Rattle.http_link.specs.Reading.{Decides, GoesOn, HeadIsFound, HeadIsRead, Sees};
 
 use crate::devices::Source;
+use crate::grammar::{HeadSpans, Offered};
 use crate::streams::{LinkFault, Pulled, pull, read_some};
-use httparse::Status;
-use httparse::spans::{HeaderSpan, RequestSpans, ResponseSpans, parse_request, parse_response};
+use httparse::spans::HeaderSpan;
 
 /// The most bytes of a head.
 pub(crate) const MAX_HEAD: usize = 8192;
 
 /// The most field lines of a head.
 pub(crate) const MAX_LINES: usize = 64;
-
-/// What a byte more made of a head.
-#[derive(Drop)]
-pub(crate) enum Offered<S> {
-    /// It is whole.
-    Whole(S),
-    /// It may go on.
-    Partial,
-    /// It is no head, or goes over the limits.
-    Malformed,
-}
 
 /// Whether an empty line ends the text, as it does each head.
 pub(crate) fn ends_empty_line(text: &[u8]) -> bool
@@ -35,73 +24,62 @@ pub(crate) fn ends_empty_line(text: &[u8]) -> bool
 }
 
 // Whether a text is parsed of which so many bytes were parsed before: where a head can end, and, so that a malformed one
-// is told soon, where the text has doubled.
+// is told soon, where a line ends and the text has doubled.
 fn is_due(text: &[u8], parsed: usize) -> bool
     ensures { result ≡ false → ends_empty_line text.now ≡ false }
 {
-    text.len() / 2 >= parsed || ends_empty_line(text)
+    text.ends_with(b"\n") && (text.len() / 2 >= parsed || ends_empty_line(text))
 }
 
-// Parses a text whose last byte has just come, of which so many were parsed before, where a line ends and it is due.
-fn examine_request(
-    text: &[u8],
-    parsed: &mut usize,
-    lines: &mut [HeaderSpan],
-) -> Offered<RequestSpans>
+// Parses a text whose last byte has just come, of which so many were parsed before, where it is due.
+fn examine<H: HeadSpans>(text: &[u8], parsed: &mut usize, lines: &mut [HeaderSpan]) -> Offered<H>
     requires some { 0 < length text.now }
-    requires inside { GoesOn (take (length text.now - 1) text.now) (length lines.old) }
+    requires inside { GoesOn H.grammar (take (length text.now - 1) text.now) (length lines.old) }
     ensures lines { length lines.new ≡ length lines.old }
-    ensures decides { Decides text.now (length lines.old) lines.new result }
+    ensures decides { Decides H.grammar text.now (length lines.old) lines.new result }
 {
-    if text[text.len() - 1] != b'\n' {
-        return Offered::Partial;
-    }
     if !is_due(text, *parsed) {
         return Offered::Partial;
     }
     *parsed = text.len();
-    match parse_request(text, lines) {
-        Ok(Status::Complete(spans)) => Offered::Whole(spans),
-        Ok(Status::Partial) => Offered::Partial,
-        Err(_) => Offered::Malformed,
-    }
+    H::parse(text, lines)
 }
 
 // Puts a byte behind the first n, of which so many were parsed before, and examines them.
-fn offer_request(
+fn offer<H: HeadSpans>(
     text: &mut [u8],
     n: usize,
     b: u8,
     parsed: &mut usize,
     lines: &mut [HeaderSpan],
-) -> Offered<RequestSpans>
+) -> Offered<H>
     requires room { n < length text.old }
-    requires inside { GoesOn (take n text.old) (length lines.old) }
+    requires inside { GoesOn H.grammar (take n text.old) (length lines.old) }
     ensures grows { take (n + 1) text.new ≡ take n text.old ++ b ∷ [] }
     ensures len { length text.new ≡ length text.old }
     ensures lines { length lines.new ≡ length lines.old }
-    ensures decides { Decides (take (n + 1) text.new) (length lines.old) lines.new result }
+    ensures decides { Decides H.grammar (take (n + 1) text.new) (length lines.old) lines.new result }
 {
     text[n] = b;
-    examine_request(&text[..n + 1], parsed, lines)
+    examine(&text[..n + 1], parsed, lines)
 }
 
 // Looks for the end of a head in a text, of which so many bytes were looked at before, and so many parsed.
-fn scan_request(
+fn scan<H: HeadSpans>(
     text: &[u8],
     seen: &mut usize,
     parsed: &mut usize,
     lines: &mut [HeaderSpan],
-) -> Offered<RequestSpans>
+) -> Offered<H>
     requires seen { seen.old ≤ length text.now }
-    requires inside { GoesOn (take seen.old text.now) (length lines.old) }
+    requires inside { GoesOn H.grammar (take seen.old text.now) (length lines.old) }
     ensures lines { length lines.new ≡ length lines.old }
     ensures seen { seen.new ≤ length text.now }
-    ensures sees { Sees text.now seen.new (length lines.old) lines.new result }
+    ensures sees { Sees H.grammar text.now seen.new (length lines.old) lines.new result }
 {
     while *seen < text.len() {
         *seen += 1;
-        match examine_request(&text[..*seen], parsed, lines) {
+        match examine(&text[..*seen], parsed, lines) {
             Offered::Partial => {}
             Offered::Whole(spans) => return Offered::Whole(spans),
             Offered::Malformed => return Offered::Malformed,
@@ -112,21 +90,21 @@ fn scan_request(
 
 /// Reads on until a head stands at the front of the room, where some bytes stand already, or none can, and counts how many
 /// stand there. Where the stream has ended, the answer is `Partial`.
-pub(crate) fn find_request_head<R: Source>(
+pub(crate) fn find_head<H: HeadSpans, R: Source>(
     r: &mut R,
     room: &mut [u8],
     had: &mut usize,
     lines: &mut [HeaderSpan],
     before: u64,
     turns: &mut u32,
-) -> Result<Offered<RequestSpans>, LinkFault>
+) -> Result<Offered<H>, LinkFault>
     requires there { had.old ≤ length room.old }
     requires wide { 8192 ≤ length room.old }
     requires unfailed { R.failure_count r.old ≤ before }
     ensures len { length room.new ≡ length room.old }
     ensures lines { length lines.new ≡ length lines.old }
     ensures there { had.new ≤ length room.new }
-    ensures found { IfOk result (HeadIsFound (take had.old room.old) (R.remaining r.old) (R.remaining r.new)
+    ensures found { IfOk result (HeadIsFound H.grammar (take had.old room.old) (R.remaining r.old) (R.remaining r.new)
         (take had.new room.new) lines.new) }
     ensures read { (result ≡ Err LinkFault.Read) ↔ (before < R.failure_count r.new) }
     ensures write { result ≢ Err LinkFault.Write }
@@ -137,7 +115,7 @@ pub(crate) fn find_request_head<R: Source>(
     let mut parsed = 0;
     while *turns > 0 {
         let end = (*had).min(MAX_HEAD);
-        match scan_request(&room[..end], &mut seen, &mut parsed, lines) {
+        match scan(&room[..end], &mut seen, &mut parsed, lines) {
             Offered::Partial => {}
             Offered::Whole(spans) => return Ok(Offered::Whole(spans)),
             Offered::Malformed => return Ok(Offered::Malformed),
@@ -156,19 +134,19 @@ pub(crate) fn find_request_head<R: Source>(
     Err(LinkFault::Turns)
 }
 
-/// Reads the head of a request. It has as many bytes as the text at most, and as many field lines as there are lines.
+/// Reads a head. It has as many bytes as the text at most, and as many field lines as there are lines.
 /// Where the stream has ended, the answer is `Partial`.
-pub(crate) fn read_request_head<R: Source>(
+pub(crate) fn read_head<H: HeadSpans, R: Source>(
     r: &mut R,
     text: &mut [u8],
     lines: &mut [HeaderSpan],
     before: u64,
     turns: &mut u32,
-) -> Result<Offered<RequestSpans>, LinkFault>
+) -> Result<Offered<H>, LinkFault>
     requires unfailed { R.failure_count r.old ≤ before }
     ensures len { length text.new ≡ length text.old }
     ensures lines { length lines.new ≡ length lines.old }
-    ensures head { IfOk result (HeadIsRead (R.remaining r.old) (R.remaining r.new) text.new lines.new) }
+    ensures head { IfOk result (HeadIsRead H.grammar (R.remaining r.old) (R.remaining r.new) text.new lines.new) }
     ensures read { (result ≡ Err LinkFault.Read) ↔ (before < R.failure_count r.new) }
     ensures write { result ≢ Err LinkFault.Write }
     ensures spent { result ≡ Err LinkFault.Turns → turns.new ≡ 0 }
@@ -185,80 +163,7 @@ pub(crate) fn read_request_head<R: Source>(
             Pulled::Nothing => {}
             Pulled::End => return Ok(Offered::Partial),
             Pulled::Byte(b) => {
-                let offered = offer_request(text, n, b, &mut parsed, lines);
-                n += 1;
-                match offered {
-                    Offered::Partial => {}
-                    Offered::Whole(spans) => return Ok(Offered::Whole(spans)),
-                    Offered::Malformed => return Ok(Offered::Malformed),
-                }
-            }
-        }
-    }
-    Err(LinkFault::Turns)
-}
-
-// Puts a byte behind the first n, of which so many were parsed before, and parses them where a line ends and they are due.
-fn offer_reply(
-    text: &mut [u8],
-    n: usize,
-    b: u8,
-    parsed: &mut usize,
-    lines: &mut [HeaderSpan],
-) -> Offered<ResponseSpans>
-    requires room { n < length text.old }
-    requires inside { ReplyGoesOn (take n text.old) (length lines.old) }
-    ensures grows { take (n + 1) text.new ≡ take n text.old ++ b ∷ [] }
-    ensures len { length text.new ≡ length text.old }
-    ensures lines { length lines.new ≡ length lines.old }
-    ensures decides { DecidesReply (take (n + 1) text.new) (length lines.old) lines.new result }
-{
-    text[n] = b;
-    if b != b'\n' {
-        return Offered::Partial;
-    }
-    let size = n + 1;
-    if !is_due(&text[..size], *parsed) {
-        return Offered::Partial;
-    }
-    *parsed = size;
-    match parse_response(&text[..size], lines) {
-        Ok(Status::Complete(spans)) => Offered::Whole(spans),
-        Ok(Status::Partial) => Offered::Partial,
-        Err(_) => Offered::Malformed,
-    }
-}
-
-/// Reads the head of an answer. It has as many bytes as the text at most, and as many field lines as there are lines.
-/// Where the stream has ended, the answer is `Partial`.
-pub(crate) fn read_reply_head<R: Source>(
-    r: &mut R,
-    text: &mut [u8],
-    lines: &mut [HeaderSpan],
-    before: u64,
-    turns: &mut u32,
-) -> Result<Offered<ResponseSpans>, LinkFault>
-    requires unfailed { R.failure_count r.old ≤ before }
-    ensures len { length text.new ≡ length text.old }
-    ensures lines { length lines.new ≡ length lines.old }
-    ensures head { IfOk result (ReplyIsRead (R.remaining r.old) (R.remaining r.new) text.new lines.new) }
-    ensures read { (result ≡ Err LinkFault.Read) ↔ (before < R.failure_count r.new) }
-    ensures write { result ≢ Err LinkFault.Write }
-    ensures spent { result ≡ Err LinkFault.Turns → turns.new ≡ 0 }
-    ensures made { Spends R.was_read r.old r.new turns.old turns.new }
-{
-    let mut n = 0;
-    let mut parsed = 0;
-    while *turns > 0 {
-        if n >= text.len() {
-            return Ok(Offered::Malformed);
-        }
-        *turns -= 1;
-        match pull(r, before)? {
-            Pulled::Nothing => {}
-            Pulled::End => return Ok(Offered::Partial),
-            Pulled::Byte(b) => {
-                let offered = offer_reply(text, n, b, &mut parsed, lines);
+                let offered = offer(text, n, b, &mut parsed, lines);
                 n += 1;
                 match offered {
                     Offered::Partial => {}

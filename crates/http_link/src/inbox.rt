@@ -5,12 +5,13 @@ ghost use Rattle.std.specs.Io.KnownBytes.{Appends};
 ghost use Rattle.http_link.specs.Counts.{MadeAll, Spends};
 ghost use Rattle.http_link.specs.Connections.{AsksNext, Awaits, ServesNext};
 ghost use Rattle.http_link.specs.Lines.{head_in};
-ghost use Rattle.http_link.specs.Reading.{IsRequest};
+ghost use Rattle.http_link.specs.Grammars.{IsRequest};
 ghost use Rattle.http_link.specs.Requests.{wanted_of};
 ghost use Rattle.http_link.specs.Running.{AsksWanted, Runs, held_in};
 
 use crate::devices::{Sink, Source};
-use crate::head::{MAX_HEAD, MAX_LINES, Offered, find_request_head};
+use crate::grammar::Offered;
+use crate::head::{MAX_HEAD, MAX_LINES, find_head};
 use crate::held::Held;
 use crate::request::MAX_BODY;
 use crate::serve::{Failures, Served, head_in, refuse, serve_head};
@@ -192,7 +193,14 @@ fn serve_held<R: Source, W: Sink, S: Service>(
     move_to_front(room, held);
     let mut turns = MAX_READS;
     let mut lines = [EMPTY_HEADER_SPAN; MAX_LINES];
-    match find_request_head(r, room, &mut held.to, &mut lines, before.reads, &mut turns)? {
+    match find_head::<RequestSpans, _>(
+        r,
+        room,
+        &mut held.to,
+        &mut lines,
+        before.reads,
+        &mut turns,
+    )? {
         Offered::Partial => Ok(Served::Ended),
         Offered::Malformed => refuse(w, 400, before.writes),
         Offered::Whole(spans) => {

@@ -2,7 +2,7 @@
 
 ghost use Rattle.std.specs.Prelude.{◌≡◌, ◌≢◌, ◌↔◌, ◌<◌, ◌≤◌, length, take, Err, IfOk};
 ghost use Rattle.http_link.specs.Counts.{Spends};
-ghost use Rattle.http_link.specs.Reading.{ends_empty_line};
+ghost use Rattle.http_link.specs.Grammars.{ends_empty_line};
 ghost use Rattle.http_link.specs.BodyReading.{LiesBehind, PullsNext, ReadsNoFurther, TakesNext, TakesText, ends_sought};
 ghost use Rattle.http_link.specs.Running.{held_in};
 

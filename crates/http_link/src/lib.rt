@@ -11,6 +11,7 @@ mod bodies;
 mod chunks;
 mod devices;
 mod fields;
+mod grammar;
 mod head;
 mod held;
 mod inbox;

@@ -13,7 +13,8 @@ use crate::bodies::{BodyFault, BodyRead};
 use crate::chunks::read_chunks;
 use crate::devices::{Sink, Source};
 use crate::fields::{Found, Lines, is_chunked, is_length, value_up_to};
-use crate::head::{MAX_HEAD, MAX_LINES, Offered, read_reply_head};
+use crate::grammar::Offered;
+use crate::head::{MAX_HEAD, MAX_LINES, read_head};
 use crate::held::Held;
 use crate::line_buffer::{LineBuffer, write_message};
 use crate::streams::{LinkFault, MAX_READS, has_ended, read_up_to};
@@ -153,7 +154,7 @@ fn read_answer<R: Source>(
     let mut heads = MAX_HEADS;
     while heads > 0 {
         heads -= 1;
-        match read_reply_head(r, &mut text, &mut lines, before, turns)? {
+        match read_head::<ResponseSpans, _>(r, &mut text, &mut lines, before, turns)? {
             Offered::Partial => return Err(PostFault::Cut),
             Offered::Malformed => return Err(PostFault::Head),
             Offered::Whole(spans) => {

@@ -19,7 +19,8 @@ use crate::answer::{answer_head, told};
 use crate::bodies::{BodyFault, BodyRead, read_body};
 use crate::devices::{Sink, Source};
 use crate::fields::Lines;
-use crate::head::{MAX_HEAD, MAX_LINES, Offered, read_request_head};
+use crate::grammar::Offered;
+use crate::head::{MAX_HEAD, MAX_LINES, read_head};
 use crate::held::Held;
 use crate::line_buffer::write_message;
 use crate::request::{Kind, RequestHead, Wanted, closes, waits, wanted_of};
@@ -100,7 +101,7 @@ pub fn serve_one<R: Source, W: Sink, S: Service>(
     let mut turns = MAX_READS;
     let mut text = [0u8; MAX_HEAD];
     let mut lines = [EMPTY_HEADER_SPAN; MAX_LINES];
-    match read_request_head(r, &mut text, &mut lines, before.reads, &mut turns)? {
+    match read_head::<RequestSpans, _>(r, &mut text, &mut lines, before.reads, &mut turns)? {
         Offered::Partial => Ok(Served::Ended),
         Offered::Malformed => refuse(w, 400, before.writes),
         Offered::Whole(spans) => {

@@ -1,13 +1,12 @@
-use Rattle.std.proofs.Common.{rules, ◌≡◌, ◌+◌, ◌<◌, ◌≤◌, ◌++◌, [], List, ℕ, length, take, drop, inl, inr, refl, sym, ap, subst, ◌∙◌, Some, arith, append-nil, length-take, take-take, take_all}
+use Rattle.std.proofs.Common.{rules, ◌≡◌, ◌+◌, ◌≤◌, ◌++◌, [], List, ℕ, length, take, drop, inl, inr, refl, sym, ap, subst, ◌∙◌, Some, arith, append-nil, length-take, take-take, take_all}
 use Rattle.std.proofs.KnownBytes.{Consumes-nil}
-use Rattle.http_link.specs.Reading.{Sees}
+use Rattle.http_link.specs.Reading.{GoesOn, Sees}
 use Rattle.http_link.specs.Streams.{ReadsBehind}
-use Rattle.http_link.specs.declared.head.Offered.TheVariants.{Malformed, Partial, Whole}
-use Rattle.httparse.specs.Grammar.{ReadsRequest, print_request}
+use Rattle.http_link.specs.declared.grammar.Offered.TheVariants.{Malformed, Partial, Whole}
 use Rattle.std.proofs.lemmas.List.{take-append-le}
 use Rattle.http_link.proofs.Heads.{going_on_begins_not, looked_at, none_begins_all, nothing_goes_on, stands_whole}
 use Rattle.http_link.proofs.Known.{came_more}
-use Rattle.http_link.proofs.head.find_request_head.Goals as goal
+use Rattle.http_link.proofs.head.find_head.Goals as goal
 
 pub loop-turns-init : goal.loop-turns-init
 loop-turns-init g c = record {
@@ -17,7 +16,7 @@ loop-turns-init g c = record {
   came = ([], sym (append-nil (take c.args.had.now c.args.room.now)), Consumes-nil (g.R.Read.remaining c.args.r.now));
   seen = omega arith;
   few = omega arith;
-  goes_on = nothing_goes_on (length c.args.lines.now);
+  goes_on = nothing_goes_on g.H.HeadSpans.grammar g.met.H.HeadSpans.laws (length c.args.lines.now);
   unfailed = c.requires.unfailed;
   made = λ all least. least;
 }
@@ -26,43 +25,43 @@ pub returns-in-Whole-clause-found : goal.returns-in-Whole-clause-found
 returns-in-Whole-clause-found g c =
     let room : List ℕ = c.loop-turns.room in
     let came = c.loop-turns.invariant.came in
-    let sees : Sees (take c.min-end.result room) c.scan_request.new.seen (length c.loop-turns.lines) c.scan_request.new.lines (Whole c.in-Whole.spans) = rw c.in-Whole.is at c.scan_request.ensures.sees in
+    let sees : Sees g.H.HeadSpans.grammar (take c.min-end.result room) c.scan.new.seen (length c.loop-turns.lines) c.scan.new.lines (Whole c.in-Whole.spans) = rw c.in-Whole.is at c.scan.ensures.sees in
     record {
       came = came.0;
       grew = came.1;
       taken = came.2;
-      stands = stands_whole room c.loop-turns.had c.min-end.result c.scan_request.new.seen c.scan_request.new.lines c.in-Whole.spans (g.R.Read.remaining c.loop-turns.r) (omega arith) (omega arith) (omega arith) c.scan_request.ensures.seen sees.0 sees.1;
+      stands = stands_whole g.H.HeadSpans.grammar room c.loop-turns.had c.min-end.result c.scan.new.seen c.scan.new.lines c.in-Whole.spans (g.R.Read.remaining c.loop-turns.r) (omega arith) (omega arith) (omega arith) c.scan.ensures.seen sees.0 sees.1;
     }
 
 pub returns-in-Malformed-clause-found : goal.returns-in-Malformed-clause-found
 returns-in-Malformed-clause-found g c =
     let room : List ℕ = c.loop-turns.room in
     let came = c.loop-turns.invariant.came in
-    let sees : Sees (take c.min-end.result room) c.scan_request.new.seen (length c.loop-turns.lines) c.scan_request.new.lines Malformed = rw c.in-Malformed.is at c.scan_request.ensures.sees in
-    let none = none_begins_all room c.loop-turns.had c.min-end.result c.scan_request.new.seen (length c.loop-turns.lines) (omega arith) c.scan_request.ensures.seen sees in
+    let sees : Sees g.H.HeadSpans.grammar (take c.min-end.result room) c.scan.new.seen (length c.loop-turns.lines) c.scan.new.lines Malformed = rw c.in-Malformed.is at c.scan.ensures.sees in
+    let none = none_begins_all g.H.HeadSpans.grammar room c.loop-turns.had c.min-end.result c.scan.new.seen (length c.loop-turns.lines) (length c.scan.new.lines) (omega arith) (omega arith) c.scan.ensures.seen sees in
     record {
       came = came.0;
       grew = came.1;
       taken = came.2;
-      stands = λ head rest reads short few. none head rest reads short (omega arith);
+      stands = none;
     }
 
 pub returns-then-end-eq-MAX_HEAD-clause-found : goal.returns-then-end-eq-MAX_HEAD-clause-found
 returns-then-end-eq-MAX_HEAD-clause-found g c =
     let room : List ℕ = c.loop-turns.room in
     let end = c.min-end.result in
-    let seen = c.scan_request.new.seen in
+    let seen = c.scan.new.seen in
     let came = c.loop-turns.invariant.came in
-    let sees : Sees (take end room) seen (length c.loop-turns.lines) c.scan_request.new.lines Partial = rw c.in-Partial.is at c.scan_request.ensures.sees in
+    let sees : Sees g.H.HeadSpans.grammar (take end room) seen (length c.loop-turns.lines) c.scan.new.lines Partial = rw c.in-Partial.is at c.scan.ensures.sees in
     let all = sees.1 in
     let long : 8192 ≤ length (take seen (take end room)) = omega (arith, length-take end room, length-take seen (take end room)) in
-    let parts = looked_at room c.loop-turns.had end seen (omega arith) c.scan_request.ensures.seen in
-    let none = going_on_begins_not (take c.loop-turns.had room) (take seen (take end room)) (drop seen (take c.loop-turns.had room)) (length c.loop-turns.lines) parts sees.0 (inr long) in
+    let parts = looked_at room c.loop-turns.had end seen (omega arith) c.scan.ensures.seen in
+    let none = going_on_begins_not g.H.HeadSpans.grammar (take c.loop-turns.had room) (take seen (take end room)) (drop seen (take c.loop-turns.had room)) (length c.loop-turns.lines) (length c.scan.new.lines) (omega arith) parts sees.0 (inr long) in
     record {
       came = came.0;
       grew = came.1;
       taken = came.2;
-      stands = λ head rest reads short few. none head rest reads short (omega arith);
+      stands = none;
     }
 
 pub returns-in-Some-eq0-clause-found : goal.returns-in-Some-eq0-clause-found
@@ -71,10 +70,10 @@ returns-in-Some-eq0-clause-found g c =
     let out : List ℕ = c.read_some.new.out in
     let had = c.loop-turns.had in
     let end = c.min-end.result in
-    let seen = c.scan_request.new.seen in
+    let seen = c.scan.new.seen in
     let k = c.in-Some-eq0.field-0 in
     let came = c.loop-turns.invariant.came in
-    let sees : Sees (take end room) seen (length c.loop-turns.lines) c.scan_request.new.lines Partial = rw c.in-Partial.is at c.scan_request.ensures.sees in
+    let sees : Sees g.H.HeadSpans.grammar (take end room) seen (length c.loop-turns.lines) c.scan.new.lines Partial = rw c.in-Partial.is at c.scan.ensures.sees in
     let read : ReadsBehind (g.R.Read.remaining c.loop-turns.r) (g.R.Read.remaining c.read_some.new.r) end (length room) room out (Some k) = rw c.in-Some-eq0.is at c.in_ok-read_some.ensures.some in
     let zero = c.in-Some-eq0.field-0-test in
     let whole : end ≡ had = omega arith in
@@ -83,12 +82,12 @@ returns-in-Some-eq0-clause-found g c =
     let parts : take had out ≡ take seen (take end room) ++ read.2.0 =
     ap (λ n. take n out) (omega arith) ∙ read.2.1 ∙ ap (λ (w : List ℕ). w ++ read.2.0) (sym all) in
     let long : length (take had out) ≤ length (take seen (take end room)) = let s = sees.1 in omega (arith, length-take had out, length-take end room, length-take seen (take end room)) in
-    let none = going_on_begins_not (take had out) (take seen (take end room)) read.2.0 (length c.loop-turns.lines) parts sees.0 (inl long) in
+    let none = going_on_begins_not g.H.HeadSpans.grammar (take had out) (take seen (take end room)) read.2.0 (length c.loop-turns.lines) (length c.scan.new.lines) (omega arith) parts sees.0 (inl long) in
     record {
       came = more.0;
       grew = ap (λ n. take n out) (omega arith) ∙ more.1;
       taken = more.2;
-      stands = ((λ head rest reads short few. none head rest reads short (omega arith)), read.1 zero);
+      stands = (none, read.1 zero);
     }
 
 pub loop-turns-preserved-in-Some : goal.loop-turns-preserved-in-Some
@@ -97,15 +96,16 @@ loop-turns-preserved-in-Some g c =
     let out : List ℕ = c.read_some.new.out in
     let had = c.loop-turns.had in
     let end = c.min-end.result in
-    let seen = c.scan_request.new.seen in
+    let seen = c.scan.new.seen in
     let k = c.in-Some.n in
-    let sees : Sees (take end room) seen (length c.loop-turns.lines) c.scan_request.new.lines Partial = rw c.in-Partial.is at c.scan_request.ensures.sees in
+    let sees : Sees g.H.HeadSpans.grammar (take end room) seen (length c.loop-turns.lines) c.scan.new.lines Partial = rw c.in-Partial.is at c.scan.ensures.sees in
     let read : ReadsBehind (g.R.Read.remaining c.loop-turns.r) (g.R.Read.remaining c.read_some.new.r) end (length room) room out (Some k) = rw c.in-Some.is at c.in_ok-read_some.ensures.some in
     let whole : end ≡ had = omega arith in
-    let most : seen ≤ end = let s = c.scan_request.ensures.seen in omega (arith, length-take end room) in
+    let most : seen ≤ end = let s = c.scan.ensures.seen in omega (arith, length-take end room) in
     let same : take seen out ≡ take seen (take end room) =
-    sym (take-take seen (end + k) out (omega arith)) ∙ ap (take seen) read.2.1 ∙ take-append-le seen (take end room) read.2.0 c.scan_request.ensures.seen in
+    sym (take-take seen (end + k) out (omega arith)) ∙ ap (take seen) read.2.1 ∙ take-append-le seen (take end room) read.2.0 c.scan.ensures.seen in
     let fits = read.0 in
+    let lines : length c.loop-turns.lines ≡ length c.scan.new.lines = omega arith in
     record {
       there = omega arith;
       len = omega arith;
@@ -113,8 +113,7 @@ loop-turns-preserved-in-Some g c =
       came = came_more (g.R.Read.remaining c.args.r.now) (g.R.Read.remaining c.loop-turns.r) (g.R.Read.remaining c.read_some.new.r) (take c.args.had.now c.args.room.now) room out had end k whole c.loop-turns.invariant.came read.2;
       seen = omega arith;
       few = omega arith;
-      goes_on = λ head more rest reads few. subst (λ (t : List ℕ). length t < length (print_request head)) (sym same)
-          (sees.0 head more rest (subst (λ (t : List ℕ). ReadsRequest (t ++ more) head rest) same reads) (omega arith));
+      goes_on = subst (λ (t : List ℕ). GoesOn g.H.HeadSpans.grammar t (length c.scan.new.lines)) (sym same) (subst (λ (room : ℕ). GoesOn g.H.HeadSpans.grammar (take seen (take end c.loop-turns.room)) room) lines sees.0);
       unfailed = search rules;
       made = search rules;
     }
