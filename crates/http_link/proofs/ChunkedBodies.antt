@@ -14,6 +14,7 @@ use Rattle.httparse.specs.Grammar.{ChunkLine, ReadsChunkLine, NeverHasChunkLine,
 use Rattle.httparse.specs.Spans.{IsChunkLineAt}
 use Rattle.httparse.proofs.ChunkLemmas.{ReadsChunkLine-append, chunk_line_unique}
 use Rattle.httparse.proofs.GrammarLemmas.{ReadsSection-append}
+use Rattle.http_link.specs.Limits.{max_chunk_line, max_head}
 use Rattle.http_link.specs.Bodies.{BeginsChunk, BeginsNothing, BeginsTrailers, BeginsWrong, Body, Chunk, EndsBody, EndsFirst, IsChunk, IsChunked, IsCutShort, IsMalformed, IsSizeLine, IsTrailerText, NoneEnds, bad, contents, cut, ends_line, ends_section, print_chunk}
 use Rattle.http_link.specs.BodyReading.{Takes, TakesAll, Makes, MakesAll, IsSizeOf, ReadsAs, ReadsAtMost, TakesChunk, TakesLast, TakesStep, TakesBytes, body_read}
 use Rattle.http_link.specs.Running.{held_in}
@@ -178,7 +179,7 @@ chunk_unended had old mid new bytes two between has size long short other one th
     }
 
 -- the line of a chunk, and what stands behind it
-begins_chunk : (had : List ℕ) (old mid : Option (List ℕ)) (text between : List ℕ) (size : ℕ) (more : List ℕ) → IsSizeOf text size → length text ≤ 256
+begins_chunk : (had : List ℕ) (old mid : Option (List ℕ)) (text between : List ℕ) (size : ℕ) (more : List ℕ) → IsSizeOf text size → length text ≤ max_chunk_line
     → (takes : Takes had old mid text between) → BeginsChunk (had ++ (takes.came ++ more)) size (between ++ more)
 begins_chunk had old mid text between size more is short takes =
     let parts : had ++ (takes.came ++ more) ≡ text ++ (between ++ more) =
@@ -214,7 +215,7 @@ reads_cut had old new has room Is makes none ended = record { came = makes.came;
 
 -- behind the line of a chunk that fits
 pub fitting_step : (had : List ℕ) (old mid new : Option (List ℕ)) (text between has : List ℕ) (size most done : ℕ) (before middle after : List ℕ) (s : Step)
-    → IsSizeOf text size → length text ≤ 256 → Takes had old mid text between → 0 < size → size ≤ most - done → take done middle ≡ take done before
+    → IsSizeOf text size → length text ≤ max_chunk_line → Takes had old mid text between → 0 < size → size ≤ most - done → take done middle ≡ take done before
     → TakesChunk between mid new has size done middle after s → TakesStep had old new has most done before after s
 fitting_step had old mid new text between has size most done before middle after (More n) is short takes some fits kept (same, (bytes, long, put, then)) =
     let line = is.reads.1 ∙ append-nil (print_chunk_line is.line) in
@@ -240,7 +241,7 @@ fitting_step had old mid new text between has size most done before middle after
 fitting_step had old mid new text between has size most done before middle after (Over (Whole n)) is short takes some fits kept none = absurd none
 
 -- trailers that were taken
-begins_trailers : (text more : List ℕ) → IsTrailerText text → length text ≤ 8192 → BeginsTrailers (text ++ more) more
+begins_trailers : (text more : List ℕ) → IsTrailerText text → length text ≤ max_head → BeginsTrailers (text ++ more) more
 begins_trailers text more is short =
     let parts = is.2.1 ∙ append-nil (print_section is.0 is.1) in
     let long = ap length parts in
@@ -254,7 +255,7 @@ begins_trailers text more is short =
 
 -- behind the line of the last chunk
 pub last_step : (had : List ℕ) (old mid new : Option (List ℕ)) (text between has : List ℕ) (most done : ℕ) (before middle after : List ℕ) (s : Step)
-    → IsSizeOf text 0 → length text ≤ 256 → Takes had old mid text between → take done middle ≡ take done before
+    → IsSizeOf text 0 → length text ≤ max_chunk_line → Takes had old mid text between → take done middle ≡ take done before
     → TakesLast between mid new has done middle after s → TakesStep had old new has most done before after s
 last_step had old mid new text between has most done before middle after (More n) is short takes kept none = absurd none
 last_step had old mid new text between has most done before middle after (Over (Whole n)) is short takes kept (same, put, (trailers, are, few, then)) =
@@ -276,16 +277,16 @@ last_step had old mid new text between has most done before middle after (Over (
     apart e = absurd cc
 last_step had old mid new text between has most done before middle after (Over Cut) is short takes kept all =
     reads_cut had old new has after (EndsBody (most - done) (take done before))
-    (makes_behind had old mid new text between (BeginsNothing ends_section 8192) (IsCutShort (most - done)) takes all.makes
+    (makes_behind had old mid new text between (BeginsNothing ends_section max_head) (IsCutShort (most - done)) takes all.makes
     (λ more so. inr (inr (between ++ more, begins_chunk had old mid text between 0 more is short takes, so)))) all.none all.ended
 last_step had old mid new text between has most done before middle after (Over (Bad Malformed)) is short takes kept makes =
     reads_bad had old new has after (EndsBody (most - done) (take done before)) Malformed
-    (makes_behind had old mid new text between (BeginsWrong ends_section 8192 IsTrailerText) (IsMalformed (most - done)) takes makes
+    (makes_behind had old mid new text between (BeginsWrong ends_section max_head IsTrailerText) (IsMalformed (most - done)) takes makes
     (λ more so. inr (inr (between ++ more, begins_chunk had old mid text between 0 more is short takes, so))))
 last_step had old mid new text between has most done before middle after (Over (Bad TooLarge)) is short takes kept none = absurd none
 
 -- a chunk with more bytes than there is room for
-pub too_large : (had : List ℕ) (old new : Option (List ℕ)) (text has room : List ℕ) (size most done : ℕ) (content : List ℕ) → IsSizeOf text size → length text ≤ 256 → Takes had old new text has
+pub too_large : (had : List ℕ) (old new : Option (List ℕ)) (text has room : List ℕ) (size most done : ℕ) (content : List ℕ) → IsSizeOf text size → length text ≤ max_chunk_line → Takes had old new text has
     → most - done < size → ReadsAs had old new has room (EndsBody (most - done) content) (Bad TooLarge)
 too_large had old new text has room size most done content is short takes large =
     let plain : had ++ (takes.came ++ []) ≡ had ++ takes.came = ap (λ (w : List ℕ). had ++ w) (append-nil takes.came) in
@@ -297,12 +298,12 @@ too_large had old new text has room size most done content is short takes large 
     })
 
 -- no line of a chunk
-pub no_line : (had : List ℕ) (old new : Option (List ℕ)) (has room : List ℕ) (space : ℕ) (content : List ℕ) → Makes had old new (BeginsWrong ends_line 256 IsSizeLine)
+pub no_line : (had : List ℕ) (old new : Option (List ℕ)) (has room : List ℕ) (space : ℕ) (content : List ℕ) → Makes had old new (BeginsWrong ends_line max_chunk_line IsSizeLine)
     → ReadsAs had old new has room (EndsBody space content) (Bad Malformed)
 no_line had old new has room space content makes =
     reads_bad had old new has room (EndsBody space content) Malformed (record { came = makes.came; consumed = makes.consumed; so = inl makes.so })
 
-pub line_cut : (had : List ℕ) (old new : Option (List ℕ)) (has room : List ℕ) (space : ℕ) (content : List ℕ) → MakesAll had old new has (BeginsNothing ends_line 256)
+pub line_cut : (had : List ℕ) (old new : Option (List ℕ)) (has room : List ℕ) (space : ℕ) (content : List ℕ) → MakesAll had old new has (BeginsNothing ends_line max_chunk_line)
     → ReadsAs had old new has room (EndsBody space content) Cut
 line_cut had old new has room space content all =
     reads_cut had old new has room (EndsBody space content) (record { came = all.makes.came; consumed = all.makes.consumed; so = inl all.makes.so }) all.none all.ended
@@ -381,14 +382,14 @@ gathers_none had known room = ([], All-nil IsChunk, refl, takes_none had known)
 -- ---- steps
 
 pub fitting_read : (r : Result Step LinkFault) (had : List ℕ) (old mid new : Option (List ℕ)) (text between has : List ℕ) (size most done : ℕ) (before middle after : List ℕ)
-    → IsSizeOf text size → length text ≤ 256 → Takes had old mid text between → 0 < size → size ≤ most - done → take done middle ≡ take done before
+    → IsSizeOf text size → length text ≤ max_chunk_line → Takes had old mid text between → 0 < size → size ≤ most - done → take done middle ≡ take done before
     → IfOk r (TakesChunk between mid new has size done middle after) → IfOk r (TakesStep had old new has most done before after)
 fitting_read (Ok s) had old mid new text between has size most done before middle after is short takes some fits kept then =
     fitting_step had old mid new text between has size most done before middle after s is short takes some fits kept then
 fitting_read (Err fault) had old mid new text between has size most done before middle after is short takes some fits kept then = tt
 
 pub last_read : (r : Result Step LinkFault) (had : List ℕ) (old mid new : Option (List ℕ)) (text between has : List ℕ) (most done : ℕ) (before middle after : List ℕ)
-    → IsSizeOf text 0 → length text ≤ 256 → Takes had old mid text between → take done middle ≡ take done before
+    → IsSizeOf text 0 → length text ≤ max_chunk_line → Takes had old mid text between → take done middle ≡ take done before
     → IfOk r (TakesLast between mid new has done middle after) → IfOk r (TakesStep had old new has most done before after)
 last_read (Ok s) had old mid new text between has most done before middle after is short takes kept then =
     last_step had old mid new text between has most done before middle after s is short takes kept then

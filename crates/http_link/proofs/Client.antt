@@ -4,6 +4,7 @@ use Rattle.common_types.specs.Numbers.{is_between}
 use Rattle.httparse.specs.declared.spans.HeaderSpan.{HeaderSpan}
 use Rattle.httparse.specs.declared.spans.ResponseSpans.{ResponseSpans}
 use Rattle.httparse.specs.Grammar.{ResponseHead, print_response}
+use Rattle.http_link.specs.Limits.{max_answer, max_head, max_lines}
 use Rattle.http_link.specs.Fields.{Line}
 use Rattle.http_link.specs.Heads.{BeginsAnswer, Reply, reply_of}
 use Rattle.httparse.specs.Spans.{IsResponseAt, header_bytes}
@@ -28,7 +29,7 @@ true_or_false true t f = cc
 true_or_false false t f = cc
 
 -- a head that was taken begins the stream
-reply_begins : (old new : Option (List ℕ)) (text stream : List ℕ) (lines : List HeaderSpan) (spans : ResponseSpans) → length text ≡ 8192 → length lines ≡ 64
+reply_begins : (old new : Option (List ℕ)) (text stream : List ℕ) (lines : List HeaderSpan) (spans : ResponseSpans) → length text ≡ max_head → length lines ≡ max_lines
     → (taken : IsTaken replies old new text lines spans) → old ≡ Some stream → (rest : List ℕ) × (new ≡ Some rest) × BeginsAnswer stream taken.is.head rest
 reply_begins old new text stream lines spans size room taken e =
     let front = begins_with_taken old new (take spans.len text) stream taken.taken e in
@@ -73,7 +74,7 @@ no_head zero stream meaning some none fault = absurd (omega arith)
 no_head (suc heads) stream meaning some none fault = inr (record { none = none; fault = fault })
 
 -- where no head within the limits was read, none begins the stream
-none_begins : (known : Option (List ℕ)) (text stream : List ℕ) (lines : List HeaderSpan) (head : ResponseHead) (rest : List ℕ) → length text ≡ 8192 → length lines ≡ 64
+none_begins : (known : Option (List ℕ)) (text stream : List ℕ) (lines : List HeaderSpan) (head : ResponseHead) (rest : List ℕ) → length text ≡ max_head → length lines ≡ max_lines
     → HasNoHead replies known (length text) (length lines) → known ≡ Some stream → BeginsAnswer stream head rest → ⊥
 none_begins known text stream lines head rest size room none e begins =
     let short = begins.short in
@@ -87,7 +88,7 @@ reply_said said text lines spans head says at = rw (says, at.code, at.version, a
 
 -- a final head that was taken, whose body means that, is what the stream means
 pub final_read : (heads : ℕ) (old new : Option (List ℕ)) (text stream : List ℕ) (lines : List HeaderSpan) (spans : ResponseSpans) (said : List Line) (meaning : Result (List ℕ) PostFault)
-    → 0 < heads → length text ≡ 8192 → length lines ≡ 64 → IsTaken replies old new text lines spans → old ≡ Some stream → said ≡ map (header_bytes (take spans.len text)) (take spans.headers lines)
+    → 0 < heads → length text ≡ max_head → length lines ≡ max_lines → IsTaken replies old new text lines spans → old ≡ Some stream → said ≡ map (header_bytes (take spans.len text)) (take spans.headers lines)
     → is_between 100 199 spans.code ≡ false → ((rest : List ℕ) → new ≡ Some rest → IsMeaning (record { status = spans.code; minor = spans.version; lines = said }) rest meaning) → Means heads stream meaning
 final_read heads old new text stream lines spans said meaning some size room taken e says final is =
     let front = reply_begins old new text stream lines spans size room taken e in
@@ -96,7 +97,7 @@ final_read heads old new text stream lines spans said meaning some size room tak
     last heads stream head front.0 meaning some front.2 (ap (is_between 100 199) (sym taken.is.at.code) ∙ final) (subst (λ (r : Reply). IsMeaning r front.0 meaning) same (is front.0 front.1))
 
 -- an interim head that was taken is passed over
-pub interim_read : (heads : ℕ) (old new : Option (List ℕ)) (text stream : List ℕ) (lines : List HeaderSpan) (spans : ResponseSpans) → 0 < heads → length text ≡ 8192 → length lines ≡ 64
+pub interim_read : (heads : ℕ) (old new : Option (List ℕ)) (text stream : List ℕ) (lines : List HeaderSpan) (spans : ResponseSpans) → 0 < heads → length text ≡ max_head → length lines ≡ max_lines
     → IsTaken replies old new text lines spans → old ≡ Some stream → is_between 100 199 spans.code ≡ true
     → (rest : List ℕ) × (new ≡ Some rest) × ((meaning : Result (List ℕ) PostFault) → Means (heads - 1) rest meaning → Means heads stream meaning)
 interim_read heads old new text stream lines spans some size room taken e interim =
@@ -104,25 +105,25 @@ interim_read heads old new text stream lines spans some size room taken e interi
     (front.0, front.1, λ meaning next. passed heads stream taken.is.head front.0 meaning some front.2 (ap (is_between 100 199) (sym taken.is.at.code) ∙ interim) next)
 
 -- no head that was read means a fault
-pub none_read : (heads : ℕ) (known : Option (List ℕ)) (text stream : List ℕ) (lines : List HeaderSpan) (meaning : Result (List ℕ) PostFault) → 0 < heads → length text ≡ 8192 → length lines ≡ 64
+pub none_read : (heads : ℕ) (known : Option (List ℕ)) (text stream : List ℕ) (lines : List HeaderSpan) (meaning : Result (List ℕ) PostFault) → 0 < heads → length text ≡ max_head → length lines ≡ max_lines
     → HasNoHead replies known (length text) (length lines) → known ≡ Some stream → (meaning ≡ Err Head) ⊎ (meaning ≡ Err Cut) → Means heads stream meaning
 none_read heads known text stream lines meaning some size room none e fault =
     no_head heads stream meaning some (λ head rest begins. none_begins known text stream lines head rest size room none e begins) fault
 
 -- chunks that were read are what the bytes mean
-pub chunks_mean : (read : BodyRead) (old new : Option (List ℕ)) (has room rest : List ℕ) → ReadsAs [] old new has room (IsChunked 34_000) read → old ≡ Some rest
+pub chunks_mean : (read : BodyRead) (old new : Option (List ℕ)) (has room rest : List ℕ) → ReadsAs [] old new has room (IsChunked max_answer) read → old ≡ Some rest
     → MeansCoded true rest (told_of (body_read room has read))
 chunks_mean (Whole n) old new has room rest read e =
     let front = begins_with_taken old new read.came rest read.consumed e in (
       whole (take n room) (has ++ front.0),
-      subst (λ (w : List ℕ). IsChunked 34_000 w (whole (take n room) (has ++ front.0))) (sym front.2) (whole_more (Chunked 34_000) read.came front.0 (take n room) has read.so),
+      subst (λ (w : List ℕ). IsChunked max_answer w (whole (take n room) (has ++ front.0))) (sym front.2) (whole_more (Chunked max_answer) read.came front.0 (take n room) has read.so),
       refl,
     )
 chunks_mean bodies.Cut old new has room rest read e =
     let front = begins_with_taken old new read.came rest read.consumed e in
     let over : front.0 ≡ [] = subst IsAtEnd front.1 (read.ended refl).1 in
     let all : rest ≡ read.came = front.2 ∙ ap (λ (w : List ℕ). read.came ++ w) over ∙ append-nil read.came in
-    (cut, subst (λ (w : List ℕ). IsChunked 34_000 w cut) (sym all) read.so, refl)
+    (cut, subst (λ (w : List ℕ). IsChunked max_answer w cut) (sym all) read.so, refl)
 chunks_mean (Bad fault) old new has room rest read e =
     let front = begins_with_taken old new read.came rest read.consumed e in
-    (bad fault, subst (λ (w : List ℕ). IsChunked 34_000 w (bad fault)) (sym front.2) (bad_more (Chunked 34_000) read.came front.0 fault read.so), refl)
+    (bad fault, subst (λ (w : List ℕ). IsChunked max_answer w (bad fault)) (sym front.2) (bad_more (Chunked max_answer) read.came front.0 fault read.so), refl)

@@ -5,6 +5,7 @@ use Rattle.httparse.specs.declared.spans.HeaderSpan.{HeaderSpan}
 use Rattle.httparse.specs.declared.spans.RequestSpans.{RequestSpans}
 use Rattle.httparse.specs.Grammar.{RequestHead, print_request}
 use Rattle.httparse.proofs.GrammarLemmas.{ReadsRequest-append}
+use Rattle.http_link.specs.Limits.{max_head, max_lines}
 use Rattle.http_link.specs.Answers.{refusal_text}
 use Rattle.http_link.specs.Connections.{AreAskedBy, AsksIt, AsksNext, IsAskedBy, ServesNext}
 use Rattle.http_link.specs.Heads.{BeginsWith, Head, head_of}
@@ -23,7 +24,7 @@ use Rattle.http_link.specs.GrammarLaws.{request_printed}
 use Rattle.http_link.proofs.Serving.{begun_is, head_said}
 
 -- a head that stands at the front of bytes begins them, with whatever follows
-begins_here : (has more : List ℕ) (lines : List HeaderSpan) (spans : RequestSpans) → spans.len ≤ length has → spans.len ≤ 8192 → length lines ≡ 64
+begins_here : (has more : List ℕ) (lines : List HeaderSpan) (spans : RequestSpans) → spans.len ≤ length has → spans.len ≤ max_head → length lines ≡ max_lines
     → (is : IsRequest (take spans.len has) lines spans) → BeginsWith (has ++ more) is.head (drop spans.len has ++ more)
 begins_here has more lines spans bound small room is =
     let at = is.at in
@@ -43,7 +44,7 @@ in_all : (had has one other : List ℕ) → has ≡ had ++ one → has ++ other 
 in_all had has one other e = ap (λ (w : List ℕ). w ++ other) e ∙ append_assoc had one other
 
 -- the head that was found begins all that came
-found_begins : (had : List ℕ) (old mid : Option (List ℕ)) (has other : List ℕ) (lines : List HeaderSpan) (spans : RequestSpans) → length lines ≡ 64
+found_begins : (had : List ℕ) (old mid : Option (List ℕ)) (has other : List ℕ) (lines : List HeaderSpan) (spans : RequestSpans) → length lines ≡ max_lines
     → (found : HeadIsFound requests had old mid has lines (Whole spans)) → BeginsWith (had ++ (found.came ++ other)) found.stands.2.head (drop spans.len has ++ other)
 found_begins had old mid has other lines spans room found =
     subst (λ (w : List ℕ). BeginsWith w found.stands.2.head (drop spans.len has ++ other)) (in_all had has found.came other found.grew)
@@ -57,7 +58,7 @@ found_says had old mid has text lines spans same found =
 
 -- what is done with the head that was found is what serving the next request does
 pub found_next : (r : Result Served LinkFault) (tenant_of : List ℕ → Option ℕ) (had : List ℕ) (old mid new : Option (List ℕ)) (has text : List ℕ) (lines : List HeaderSpan)
-    (spans : RequestSpans) (traces : Traces) → length lines ≡ 64 → text ≡ take spans.len has → HeadIsFound requests had old mid has lines (Whole spans)
+    (spans : RequestSpans) (traces : Traces) → length lines ≡ max_lines → text ≡ take spans.len has → HeadIsFound requests had old mid has lines (Whole spans)
     → IfOk r (Runs (wanted_of tenant_of (head_in text lines spans)) (head_in text lines spans) (drop spans.len has) mid new traces) → IfOk r (ServesNext tenant_of had old new traces)
 found_next (Err fault) tenant_of had old mid new has text lines spans traces room same found runs = tt
 found_next (Ok served) tenant_of had old mid new has text lines spans traces room same found runs =
@@ -75,7 +76,7 @@ found_next (Ok served) tenant_of had old mid new has text lines spans traces roo
 
 -- where none was found, it is turned away
 pub none_found : (r : Result Served LinkFault) (tenant_of : List ℕ → Option ℕ) (had : List ℕ) (old mid : Option (List ℕ)) (has : List ℕ) (lines : List HeaderSpan) (traces : Traces)
-    → length lines ≡ 64 → HeadIsFound requests had old mid has lines Malformed → traces.Unasked → IfOk r (λ served. (served ≡ Closed) × traces.Writes (refusal_text 400))
+    → length lines ≡ max_lines → HeadIsFound requests had old mid has lines Malformed → traces.Unasked → IfOk r (λ served. (served ≡ Closed) × traces.Writes (refusal_text 400))
     → IfOk r (ServesNext tenant_of had old mid traces)
 none_found (Err fault) tenant_of had old mid has lines traces room found unasked refused = tt
 none_found (Ok served) tenant_of had old mid has lines traces room found unasked refused =
@@ -94,7 +95,7 @@ none_found (Ok served) tenant_of had old mid has lines traces room found unasked
 
 -- and what is asked for it is what the next request asks
 pub found_asks : (tenant_of : List ℕ → Option ℕ) (had : List ℕ) (old mid new : Option (List ℕ)) (has text : List ℕ) (lines : List HeaderSpan) (spans : RequestSpans)
-    (Unasked : Type 0) (Asks : Asked → Type 0) → length lines ≡ 64 → text ≡ take spans.len has → HeadIsFound requests had old mid has lines (Whole spans)
+    (Unasked : Type 0) (Asks : Asked → Type 0) → length lines ≡ max_lines → text ≡ take spans.len has → HeadIsFound requests had old mid has lines (Whole spans)
     → AsksWanted (wanted_of tenant_of (head_in text lines spans)) (drop spans.len has) mid new Unasked Asks → AsksNext tenant_of had old new Unasked Asks
 found_asks tenant_of had old mid new has text lines spans Unasked Asks room same found (inl none) = inl none
 found_asks tenant_of had old mid new has text lines spans Unasked Asks room same found (inr once) =

@@ -4,6 +4,7 @@ use Rattle.std.specs.List.{flat_map}
 use Rattle.std.proofs.lemmas.List.{drop-append-le, take-append-le}
 use Rattle.httparse.proofs.ChunkLemmas.{ReadsChunkLine-append}
 use Rattle.httparse.proofs.GrammarLemmas.{ReadsSection-append}
+use Rattle.http_link.specs.Limits.{max_chunk_line, max_head}
 use Rattle.http_link.specs.Bodies.{BeginsChunk, BeginsFitting, BeginsTrailers, BeginsWrong, Body, EndsBody, IsBody, IsChunked, IsMalformed, IsSizeLine, IsTrailerText, NoneEnds, bad, contents, ends_line, ends_section, print_chunk, whole}
 use Rattle.http_link.specs.declared.bodies.BodyFault.{BodyFault}
 use Rattle.http_link.specs.declared.bodies.BodyFault.TheVariants.{Malformed, TooLarge}
@@ -37,7 +38,7 @@ fitting_more : (room : ℕ) (bytes : List ℕ) (size : ℕ) (rest more : List �
 fitting_more room bytes size rest more begins = record { begins = chunk_more bytes size rest more begins.begins; some = begins.some; fits = begins.fits }
 
 malformed_more : (room : ℕ) (bytes more : List ℕ) → IsMalformed room bytes → IsMalformed room (bytes ++ more)
-malformed_more room bytes more (inl wrong) = inl (wrong_more ends_line 256 IsSizeLine bytes more wrong)
+malformed_more room bytes more (inl wrong) = inl (wrong_more ends_line max_chunk_line IsSizeLine bytes more wrong)
 malformed_more room bytes more (inr (inl (size, rest, begins, long, other))) =
     let few : size ≤ length rest = omega arith in
     let enough : 2 ≤ length (drop size rest) = omega (arith, length-drop size rest) in
@@ -45,7 +46,7 @@ malformed_more room bytes more (inr (inl (size, rest, begins, long, other))) =
     ap (take 2) (drop-append-le size rest more few) ∙ take-append-le 2 (drop size rest) more enough in
     inr (inl (size, rest ++ more, fitting_more room bytes size rest more begins, omega (arith, length-append rest more), λ is. other (sym same ∙ is)))
 malformed_more room bytes more (inr (inr (rest, begins, wrong))) =
-    inr (inr (rest ++ more, chunk_more bytes 0 rest more begins, wrong_more ends_section 8192 IsTrailerText rest more wrong))
+    inr (inr (rest ++ more, chunk_more bytes 0 rest more begins, wrong_more ends_section max_head IsTrailerText rest more wrong))
 
 -- a body in chunks behind which more follows
 chunked_more : (most : ℕ) (bytes more : List ℕ) (body other : Body) → (h : IsChunked most bytes body)

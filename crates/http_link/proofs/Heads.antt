@@ -8,6 +8,7 @@ use Rattle.std.specs.Prelude.{slice_index}
 use Rattle.std.specs.List.{ends_with}
 use Rattle.std.specs.Io.KnownBytes.{Consumes}
 use Rattle.httparse.specs.declared.spans.HeaderSpan.{HeaderSpan}
+use Rattle.http_link.specs.Limits.{max_head}
 use Rattle.http_link.proofs.Known.{Consumes-more}
 use Rattle.http_link.specs.Grammars.{Grammar, IsGrammar, ends_empty_line}
 use Rattle.http_link.specs.Reading.{IsTaken, GoesOn, BeginsNone, BeginsNot, HasNoHead, StandsIn}
@@ -150,7 +151,7 @@ module _ {S : Type 0} (grammar : Grammar S) where
   -- ---- heads in what has come
 
   -- a head that was seen in a front stands at the front of all
-  pub stands_whole : (room : List ℕ) (had end seen : ℕ) (lines : List HeaderSpan) (spans : S) (left : Option (List ℕ)) → end ≤ had → end ≤ 8192 → had ≤ length room
+  pub stands_whole : (room : List ℕ) (had end seen : ℕ) (lines : List HeaderSpan) (spans : S) (left : Option (List ℕ)) → end ≤ had → end ≤ max_head → had ≤ length room
       → seen ≤ length (take end room) → grammar.Covers (take seen (take end room)) lines spans → grammar.len spans ≡ seen → StandsIn grammar (take had room) lines left (Whole spans)
   stands_whole room had end seen lines spans left le small there inside covers len =
       let most : seen ≤ end = omega (arith, length-take end room) in
@@ -169,7 +170,7 @@ module _ {S : Type 0} (grammar : Grammar S) where
 
   -- where a front goes on that is all there is, or as long as a head may be, no head begins all
   pub going_on_begins_not : (bytes front back : List ℕ) (lines other : ℕ) → lines ≡ other → bytes ≡ front ++ back → GoesOn grammar front lines
-      → (length bytes ≤ length front) ⊎ (8192 ≤ length front) → BeginsNot grammar bytes other
+      → (length bytes ≤ length front) ⊎ (max_head ≤ length front) → BeginsNot grammar bytes other
   going_on_begins_not bytes front back lines other same parts on (inl all) head rest is reads short =
       let lt = on head back rest (subst (λ n. grammar.IsHead head n) (sym same) is) (sym parts ∙ reads) in
       let long = ap length reads in

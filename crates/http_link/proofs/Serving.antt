@@ -7,6 +7,7 @@ use Rattle.httparse.specs.declared.spans.RequestSpans.{RequestSpans}
 use Rattle.httparse.specs.Grammar.{RequestHead, print_request}
 use Rattle.httparse.proofs.GrammarLemmas.{request_unique}
 use Rattle.httparse.specs.Spans.{IsRequestAt}
+use Rattle.http_link.specs.Limits.{max_head, max_lines}
 use Rattle.http_link.specs.Heads.{BeginsWith, Head, head_of}
 use Rattle.http_link.specs.Grammars.{IsRequestText, requests}
 use Rattle.http_link.specs.Reading.{IsTaken, HasNoHead}
@@ -101,7 +102,7 @@ asks_once (Ok wanted) had old new Unasked Asks (inr once) = asked once.2
     asked (inr (body, after, is, so)) = inr (asking wanted body so.0, so.1)
 
 -- a head that was taken begins the stream
-pub taken_begins : (old new : Option (List ℕ)) (text stream : List ℕ) (lines : List HeaderSpan) (spans : RequestSpans) → length text ≡ 8192 → length lines ≡ 64
+pub taken_begins : (old new : Option (List ℕ)) (text stream : List ℕ) (lines : List HeaderSpan) (spans : RequestSpans) → length text ≡ max_head → length lines ≡ max_lines
     → (taken : IsTaken requests old new text lines spans) → old ≡ Some stream → (rest : List ℕ) × (new ≡ Some rest) × BeginsWith stream taken.is.head rest
 taken_begins old new text stream lines spans size room taken e =
     let front = begins_with_taken old new (take spans.len text) stream taken.taken e in
@@ -117,13 +118,13 @@ pub one_head : (stream : List ℕ) (h k : RequestHead) (r q : List ℕ) → Begi
 one_head stream h k r q a b = request_unique stream h k r q a.reads b.reads
 
 -- a head within the limits is a text of the grammar
-pub begun_is : (stream : List ℕ) (head : RequestHead) (rest : List ℕ) (lines : ℕ) → lines ≡ 64 → BeginsWith stream head rest → IsRequestText (print_request head) lines
+pub begun_is : (stream : List ℕ) (head : RequestHead) (rest : List ℕ) (lines : ℕ) → lines ≡ max_lines → BeginsWith stream head rest → IsRequestText (print_request head) lines
 begun_is stream head rest lines room begins =
     let few = begins.few in
     record { head = head; is = begins.reads.0; printed = refl; few = omega arith }
 
 -- where no head within the limits was read, none begins the stream
-pub none_begins : (known : Option (List ℕ)) (text stream : List ℕ) (lines : List HeaderSpan) (head : RequestHead) (rest : List ℕ) → length text ≡ 8192 → length lines ≡ 64
+pub none_begins : (known : Option (List ℕ)) (text stream : List ℕ) (lines : List HeaderSpan) (head : RequestHead) (rest : List ℕ) → length text ≡ max_head → length lines ≡ max_lines
     → HasNoHead requests known (length text) (length lines) → known ≡ Some stream → BeginsWith stream head rest → ⊥
 none_begins known text stream lines head rest size room none e begins =
     let short = begins.short in
@@ -136,7 +137,7 @@ head_said said text lines spans head says at = says ∙ rw (at.method, at.path, 
 
 -- the head that was taken is the one that begins the stream, and what is left is what follows it
 pub taken_is : (said : Head) (old new : Option (List ℕ)) (text stream : List ℕ) (lines : List HeaderSpan) (spans : RequestSpans) (head : RequestHead) (rest : List ℕ)
-    → length text ≡ 8192 → length lines ≡ 64 → IsTaken requests old new text lines spans
+    → length text ≡ max_head → length lines ≡ max_lines → IsTaken requests old new text lines spans
     → said ≡ head_in (take spans.len text) lines spans → old ≡ Some stream → BeginsWith stream head rest → (said ≡ head_of head) × (new ≡ Some rest)
 taken_is said old new text stream lines spans head rest size room taken says e begins =
     let front = taken_begins old new text stream lines spans size room taken e in

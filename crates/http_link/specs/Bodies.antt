@@ -6,7 +6,7 @@ use Rattle.std.specs.Str.{bytes_eq}
 use Rattle.httparse.specs.Ascii.{crlf_bytes}
 use Rattle.httparse.specs.Grammar.{ChunkLine, IsChunkLine, ReadsChunkLine, chunk_size, print_chunk_line}
 use Rattle.httparse.specs.Grammar.{Field, LineEnd, ReadsSection, print_section}
-use Rattle.http_link.specs.Heads.{max_head, max_lines}
+use Rattle.http_link.specs.Limits.{max_chunk_line, max_head, max_lines}
 use Rattle.http_link.specs.Grammars.{ends_empty_line}
 use Rattle.http_link.specs.declared.bodies.BodyFault.{BodyFault}
 use Rattle.http_link.specs.declared.bodies.BodyFault.TheVariants.{Malformed, TooLarge}
@@ -25,10 +25,6 @@ most_of (Sized size) = size
 most_of (Chunked most) = most
 
 -- ---- chunks
-
--- the most bytes of a chunk's line, with its end
-abbrev pub max_chunk_line : ℕ
-max_chunk_line = 256
 
 -- a chunk: the line that states its size, and its bytes
 pub record Chunk : Type 0 where

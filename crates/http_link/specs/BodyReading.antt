@@ -5,8 +5,8 @@ use Rattle.httparse.specs.Ascii.{crlf_bytes}
 use Rattle.httparse.specs.Grammar.{ChunkLine, ReadsChunkLine, chunk_size}
 use Rattle.http_link.specs.Bodies.{Body, whole, cut, bad, Chunk, IsChunk, print_chunk, EndsBody}
 use Rattle.http_link.specs.Bodies.{BeginsNothing, BeginsWrong, EndsFirst, NoneEnds, ends_line, ends_section}
-use Rattle.http_link.specs.Bodies.{IsSizeLine, IsTrailerText, max_chunk_line}
-use Rattle.http_link.specs.Heads.{max_head}
+use Rattle.http_link.specs.Bodies.{IsSizeLine, IsTrailerText}
+use Rattle.http_link.specs.Limits.{max_chunk_line, max_head}
 use Rattle.http_link.specs.declared.held.Held.{Held}
 use Rattle.http_link.specs.declared.bodies.BodyFault.TheVariants.{Malformed, TooLarge}
 use Rattle.http_link.specs.declared.bodies.BodyRead.{BodyRead}

@@ -12,6 +12,7 @@ use Rattle.http_link.specs.declared.posting.PostFault.TheVariants.{Size}
 use Rattle.http_link.specs.declared.streams.LinkFault.{LinkFault}
 use Rattle.http_link.specs.declared.streams.LinkFault.TheVariants as links
 use Rattle.http_link.specs.Fields.{Standing, missing, once, repeated, standing, value_of, is_chunked, is_length}
+use Rattle.http_link.specs.Limits.{max_answer}
 use Rattle.http_link.specs.Heads.{BeginsAnswer, Reply, reply_of}
 use Rattle.http_link.specs.Answers.{line}
 
@@ -30,10 +31,6 @@ post_head target size =
 -- the request that posts a frame
 abbrev pub post_text : Parts → List ℕ → List ℕ
 post_text target frame = post_head target (length frame) ++ frame
-
--- the most bytes of an answer's body
-abbrev pub max_answer : ℕ
-max_answer = 34_000
 
 -- a body of a stated length (RFC 9112, 6.2)
 abbrev pub sized_body : ℕ → List ℕ → Result (List ℕ) PostFault

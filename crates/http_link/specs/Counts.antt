@@ -1,6 +1,6 @@
 -- How many reads or writes were made of a device, of which it is known that each makes one more.
 use Rattle.std.specs.Prelude.{ℕ, ◌≤◌, ◌+◌, ◌-◌}
-use Rattle.http_link.specs.declared.streams.TheConstants.{MAX_READS}
+use Rattle.http_link.specs.Limits.{max_turns}
 
 -- so many were made, or more
 pub record AtLeast {D : Type 0} (Made : D → ℕ → Type 0) (least : ℕ) (device : D) : Type 0 where
@@ -22,4 +22,4 @@ Spends Made old new before after = (all : ℕ) → AtLeast Made (all - before) o
 
 -- as many more were made as a call may make of a reader, or for a text of a writer
 abbrev pub MadeAll : {D : Type 0} → (Made : D → ℕ → Type 0) → (old new : D) → Type 0
-MadeAll Made old new = MadeMore Made old new MAX_READS
+MadeAll Made old new = MadeMore Made old new max_turns

@@ -4,14 +4,7 @@ use Rattle.httparse.specs.Grammar.{RequestHead, ReadsRequest, print_request, Res
 use Rattle.httparse.specs.Grammar.{print_response, status_code}
 use Rattle.httparse.specs.Spans.{name_and_value}
 use Rattle.http_link.specs.Fields.{Line}
-
--- the most bytes of a head, with the empty lines before it and the one that ends it
-abbrev pub max_head : ℕ
-max_head = 8192
-
--- the most field lines of a head
-abbrev pub max_lines : ℕ
-max_lines = 64
+use Rattle.http_link.specs.Limits.{max_head, max_lines}
 
 -- the stream is that request's head and then rest
 pub record BeginsWith (stream : List ℕ) (head : RequestHead) (rest : List ℕ) : Type 0 where

@@ -1,5 +1,6 @@
 -- What contracts see of an inbox, and what it keeps.
 use Rattle.std.specs.Prelude.{ℕ, ◌≤◌, List}
+use Rattle.http_link.specs.Limits.{max_request}
 use Rattle.http_link.specs.Running.{held_in}
 use Rattle.http_link.specs.declared.inbox.Inbox.TheInside.{Inside}
 
@@ -10,4 +11,4 @@ waiting_in i = held_in i.room i.held
 -- they stand in the room
 pub record IsKept (i : Inside) : Type 0 where
   pub ordered : i.held.from ≤ i.held.to
-  pub within : i.held.to ≤ 42_192
+  pub within : i.held.to ≤ max_request

@@ -3,7 +3,7 @@ use Rattle.std.specs.Prelude.{◌≡◌, ℕ, ◌<◌, ◌≤◌, List, ◌++◌
 use Rattle.std.specs.Io.KnownBytes.{Consumes, IsAtEnd}
 use Rattle.httparse.specs.declared.spans.HeaderSpan.{HeaderSpan}
 use Rattle.http_link.specs.Grammars.{Grammar}
-use Rattle.http_link.specs.Heads.{max_head}
+use Rattle.http_link.specs.Limits.{max_head}
 use Rattle.http_link.specs.declared.grammar.Offered.{Offered}
 use Rattle.http_link.specs.declared.grammar.Offered.TheVariants.{Whole, Partial, Malformed}
 

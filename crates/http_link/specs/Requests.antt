@@ -13,11 +13,12 @@ use Rattle.http_link.specs.declared.request.Kind.TheVariants.{Ilp, Admin}
 use Rattle.http_link.specs.Fields.{Line, values_of, Standing, missing, once, repeated, standing, has_element, is_chunked, value_of}
 use Rattle.http_link.specs.Fields.{is_length, skip_spaces}
 use Rattle.http_link.specs.Heads.{Head}
+use Rattle.http_link.specs.Limits.{max_body, max_command}
 
 -- the most bytes of a request's body
-abbrev pub max_body : Kind → ℕ
-max_body Ilp = 34_000
-max_body Admin = 2048
+abbrev pub body_limit : Kind → ℕ
+body_limit Ilp = max_body
+body_limit Admin = max_command
 
 -- what a head asks for that nothing refuses: whose tenant it is, with which token, and how its body is framed
 pub record Wanted : Type 0 where
@@ -47,7 +48,7 @@ place_of tenant_of target =
 
 -- a length within the limit of its kind (RFC 9110, 15.5.14)
 abbrev pub within_limit : Kind → ℕ → Result Framing ℕ
-within_limit kind size = if nat_lt (max_body kind) size then Err 413 else Ok (Sized size)
+within_limit kind size = if nat_lt (body_limit kind) size then Err 413 else Ok (Sized size)
 
 -- a body of a stated length: 400 for a bad length (RFC 9112, 6.3)
 abbrev pub sized_in : Kind → List ℕ → Result Framing ℕ
@@ -55,7 +56,7 @@ sized_in kind text = if is_length text then within_limit kind (value_of text) el
 
 -- a body in chunks: 400 for any other coding, and in version 1.0 (RFC 9112, 6.1 and 7.1)
 abbrev pub coded_in : Kind → (minor : ℕ) → List ℕ → Result Framing ℕ
-coded_in kind minor coding = if (minor == 1) && is_chunked coding then Ok (Chunked (max_body kind)) else Err 400
+coded_in kind minor coding = if (minor == 1) && is_chunked coding then Ok (Chunked (body_limit kind)) else Err 400
 
 -- How a body is framed, by the lines on its coding and on its length: 411 for neither, 400 for both, and for two of either
 -- (RFC 9112, 6.3).

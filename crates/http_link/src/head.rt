@@ -4,6 +4,7 @@ ghost use Rattle.std.specs.Prelude.{◌≡◌, ◌≢◌, ◌↔◌, ◌+◌, �
 ghost use Rattle.http_link.specs.Counts.{Spends};
 ghost use Rattle.http_link.specs.Grammars.{ends_empty_line};
 ghost use Rattle.http_link.specs.Reading.{Decides, GoesOn, HeadIsFound, HeadIsRead, Sees};
+ghost use Rattle.http_link.specs.Limits.{max_head};
 
 use crate::devices::Source;
 use crate::grammar::{HeadSpans, Offered};
@@ -99,7 +100,7 @@ pub(crate) fn find_head<H: HeadSpans, R: Source>(
     turns: &mut u32,
 ) -> Result<Offered<H>, LinkFault>
     requires there { had.old ≤ length room.old }
-    requires wide { 8192 ≤ length room.old }
+    requires wide { max_head ≤ length room.old }
     requires unfailed { R.failure_count r.old ≤ before }
     ensures len { length room.new ≡ length room.old }
     ensures lines { length lines.new ≡ length lines.old }

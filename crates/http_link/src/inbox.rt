@@ -8,6 +8,7 @@ ghost use Rattle.http_link.specs.Lines.{head_in};
 ghost use Rattle.http_link.specs.Grammars.{IsRequest};
 ghost use Rattle.http_link.specs.Requests.{wanted_of};
 ghost use Rattle.http_link.specs.Running.{AsksWanted, Runs, held_in};
+ghost use Rattle.http_link.specs.Limits.{max_body, max_request};
 
 use crate::devices::{Sink, Source};
 use crate::grammar::Offered;
@@ -167,7 +168,7 @@ fn serve_held<R: Source, W: Sink, S: Service>(
     room: &mut [u8],
     held: &mut Held,
 ) -> Result<Served, LinkFault>
-    requires wide { 42_192 ≤ length room.old }
+    requires wide { max_request ≤ length room.old }
     requires within { (held.old.from ≤ held.old.to) × (held.old.to ≤ length room.old) }
     ensures len { length room.new ≡ length room.old }
     ensures within { (held.new.from ≤ held.new.to) × (held.new.to ≤ length room.new) }
@@ -221,7 +222,7 @@ fn serve_found<R: Source, W: Sink, S: Service>(
     before: Failures,
     turns: &mut u32,
 ) -> Result<Served, LinkFault>
-    requires wide { spans.len + 34_000 ≤ length room.old }
+    requires wide { spans.len + max_body ≤ length room.old }
     requires front { held.old.from ≡ 0 }
     requires there { (spans.len ≤ held.old.to) × (held.old.to ≤ length room.old) }
     requires head { IsRequest (take spans.len room.old) lines.now spans }

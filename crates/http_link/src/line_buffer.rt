@@ -4,6 +4,7 @@ ghost use Rattle.std.specs.Prelude.{◌≡◌, ◌≢◌, ◌↔◌, ◌+◌, �
 ghost use Rattle.std.specs.Io.KnownBytes.{Appends};
 ghost use Rattle.http_link.specs.Counts.{MadeAll};
 ghost use Rattle.http_link.specs.Answers.{line};
+ghost use Rattle.http_link.specs.Limits.{max_written};
 
 use crate::devices::Sink;
 use crate::streams::{LinkFault, write_all};
@@ -16,9 +17,9 @@ pub(crate) const MAX_WRITTEN: usize = 1024;
 /// Bytes that grow in place, at most 1,024.
 #[derive(Drop)]
 pub(crate) struct LineBuffer {
-    bytes: [u8; 1024],
+    bytes: [u8; MAX_WRITTEN],
     len: usize,
-    ghost within: { len ≤ 1024 },
+    ghost within: { len ≤ max_written },
 }
 
 impl Model for LineBuffer {
@@ -34,7 +35,7 @@ impl LineBuffer {
         ensures { result ≡ [] }
     {
         LineBuffer {
-            bytes: [0u8; 1024],
+            bytes: [0u8; MAX_WRITTEN],
             len: 0,
         }
     }
@@ -47,13 +48,13 @@ impl LineBuffer {
 
     // How many bytes more it has room for.
     fn room(&self) -> usize
-        ensures { length self.now + result ≡ 1024 }
+        ensures { length self.now + result ≡ max_written }
     {
         MAX_WRITTEN - self.len
     }
 
     pub(crate) fn push(&mut self, text: &[u8])
-        requires { length self.old + length text.now ≤ 1024 }
+        requires { length self.old + length text.now ≤ max_written }
         ensures value { self.new ≡ self.old ++ text.now }
         ensures len { length self.new ≡ length self.old + length text.now }
     {
@@ -62,7 +63,7 @@ impl LineBuffer {
     }
 
     pub(crate) fn push_number(&mut self, number: usize)
-        requires { length self.old + 20 ≤ 1024 }
+        requires { length self.old + 20 ≤ max_written }
         ensures value { self.new ≡ self.old ++ decimal number }
         ensures len { length self.new ≤ length self.old + 20 }
     {
@@ -72,7 +73,7 @@ impl LineBuffer {
 
     /// Pushes a line.
     pub(crate) fn push_line(&mut self, label: &[u8], text: &[u8])
-        requires { length self.old + length label.now + length text.now + 2 ≤ 1024 }
+        requires { length self.old + length label.now + length text.now + 2 ≤ max_written }
         ensures value { self.new ≡ self.old ++ line (label.now ++ text.now) }
         ensures len { length self.new ≡ length self.old + length label.now + length text.now + 2 }
     {
@@ -83,7 +84,7 @@ impl LineBuffer {
 
     /// Pushes a line that states a number.
     pub(crate) fn push_stated(&mut self, label: &[u8], number: usize)
-        requires { length self.old + length label.now + 22 ≤ 1024 }
+        requires { length self.old + length label.now + 22 ≤ max_written }
         ensures value { self.new ≡ self.old ++ line (label.now ++ decimal number) }
         ensures len { length self.new ≤ length self.old + length label.now + 22 }
     {

@@ -8,6 +8,7 @@ ghost use Rattle.http_link.specs.Counts.{MadeAll, Spends};
 ghost use Rattle.http_link.specs.Lines.{lines_at, standing_at};
 ghost use Rattle.http_link.specs.Client.{post_head, post_text, Means, given, GivesAs, GivesOf};
 ghost use Rattle.http_link.specs.Client.{IsMeaning, MeansBody, MeansCoded, sized_body, body_to_end};
+ghost use Rattle.http_link.specs.Limits.{max_answer, max_heads};
 
 use crate::bodies::{BodyFault, BodyRead};
 use crate::chunks::read_chunks;
@@ -87,7 +88,7 @@ pub fn post<R: Source, W: Sink>(
     frame: &[u8],
     out: &mut [u8],
 ) -> Result<usize, PostFault>
-    requires { 34_000 ≤ length out.old }
+    requires { max_answer ≤ length out.old }
 
     // The request is written whole, unless a write fails.
     ensures sent { result ≢ Err PostFault.Write → result ≢ Err PostFault.Turns
@@ -95,8 +96,8 @@ pub fn post<R: Source, W: Sink>(
     // What is given is what the stream means, however it is cut.
     ensures exact { (stream : List ℕ) → R.remaining r.old ≡ Some stream
         → result ≢ Err PostFault.Read → result ≢ Err PostFault.Write → result ≢ Err PostFault.Turns
-        → Means 5 stream (given result out.new) }
-    ensures bound { IfOk result (λ n. n ≤ 34_000) }
+        → Means max_heads stream (given result out.new) }
+    ensures bound { IfOk result (λ n. n ≤ max_answer) }
     ensures len { length out.new ≡ length out.old }
 
     // A device's fault is told exactly where the device failed.
@@ -138,11 +139,11 @@ fn read_answer<R: Source>(
     before: u64,
     turns: &mut u32,
 ) -> Result<usize, PostFault>
-    requires room { 34_000 ≤ length out.old }
+    requires room { max_answer ≤ length out.old }
     requires unfailed { R.failure_count r.old ≤ before }
     ensures means { (stream : List ℕ) → R.remaining r.old ≡ Some stream
-        → result ≢ Err PostFault.Read → result ≢ Err PostFault.Turns → Means 5 stream (given result out.new) }
-    ensures bound { IfOk result (λ n. n ≤ 34_000) }
+        → result ≢ Err PostFault.Read → result ≢ Err PostFault.Turns → Means max_heads stream (given result out.new) }
+    ensures bound { IfOk result (λ n. n ≤ max_answer) }
     ensures len { length out.new ≡ length out.old }
     ensures read { (result ≡ Err PostFault.Read) ↔ (before < R.failure_count r.new) }
     ensures write { result ≢ Err PostFault.Write }
@@ -195,11 +196,11 @@ fn read_last<R: Source>(
     before: u64,
     turns: &mut u32,
 ) -> Result<usize, PostFault>
-    requires room { 34_000 ≤ length out.old }
+    requires room { max_answer ≤ length out.old }
     requires unfailed { R.failure_count r.old ≤ before }
     ensures gives { GivesAs (IsMeaning (record { status = status; minor = minor; lines = lines_at fields.entry }))
         (R.remaining r.old) result out.new }
-    ensures bound { IfOk result (λ n. n ≤ 34_000) }
+    ensures bound { IfOk result (λ n. n ≤ max_answer) }
     ensures len { length out.new ≡ length out.old }
     ensures read { (result ≡ Err PostFault.Read) ↔ (before < R.failure_count r.new) }
     ensures write { result ≢ Err PostFault.Write }
@@ -224,11 +225,11 @@ fn read_framed<R: Source>(
     before: u64,
     turns: &mut u32,
 ) -> Result<usize, PostFault>
-    requires room { 34_000 ≤ length out.old }
+    requires room { max_answer ≤ length out.old }
     requires unfailed { R.failure_count r.old ≤ before }
     ensures gives { GivesAs (MeansBody minor (standing_at coded.entry) (standing_at stated.entry))
         (R.remaining r.old) result out.new }
-    ensures bound { IfOk result (λ n. n ≤ 34_000) }
+    ensures bound { IfOk result (λ n. n ≤ max_answer) }
     ensures len { length out.new ≡ length out.old }
     ensures read { (result ≡ Err PostFault.Read) ↔ (before < R.failure_count r.new) }
     ensures write { result ≢ Err PostFault.Write }
@@ -238,7 +239,8 @@ fn read_framed<R: Source>(
     match (coded, stated) {
         (Found::Missing, Found::Missing) => read_to_end(r, out, before, turns),
         (Found::Missing, Found::Once(text)) if is_length(text) => {
-            read_sized(r, out, value_up_to(text, 34_001) as usize, before, turns)
+            let size = value_up_to(text, MAX_ANSWER as u64 + 1) as usize;
+            read_sized(r, out, size, before, turns)
         }
         (Found::Once(coding), Found::Missing) if minor == 1 && is_chunked(coding) => {
             read_chunked(r, out, before, turns)
@@ -254,10 +256,10 @@ fn read_chunked<R: Source>(
     before: u64,
     turns: &mut u32,
 ) -> Result<usize, PostFault>
-    requires room { 34_000 ≤ length out.old }
+    requires room { max_answer ≤ length out.old }
     requires unfailed { R.failure_count r.old ≤ before }
     ensures gives { GivesAs (MeansCoded true) (R.remaining r.old) result out.new }
-    ensures bound { IfOk result (λ n. n ≤ 34_000) }
+    ensures bound { IfOk result (λ n. n ≤ max_answer) }
     ensures len { length out.new ≡ length out.old }
     ensures read { (result ≡ Err PostFault.Read) ↔ (before < R.failure_count r.new) }
     ensures write { result ≢ Err PostFault.Write }
@@ -281,10 +283,10 @@ fn read_sized<R: Source>(
     before: u64,
     turns: &mut u32,
 ) -> Result<usize, PostFault>
-    requires room { 34_000 ≤ length out.old }
+    requires room { max_answer ≤ length out.old }
     requires unfailed { R.failure_count r.old ≤ before }
     ensures gives { GivesOf (sized_body size) (R.remaining r.old) result out.new }
-    ensures bound { IfOk result (λ n. n ≤ 34_000) }
+    ensures bound { IfOk result (λ n. n ≤ max_answer) }
     ensures len { length out.new ≡ length out.old }
     ensures read { (result ≡ Err PostFault.Read) ↔ (before < R.failure_count r.new) }
     ensures write { result ≢ Err PostFault.Write }
@@ -305,10 +307,10 @@ fn read_to_end<R: Source>(
     before: u64,
     turns: &mut u32,
 ) -> Result<usize, PostFault>
-    requires room { 34_000 ≤ length out.old }
+    requires room { max_answer ≤ length out.old }
     requires unfailed { R.failure_count r.old ≤ before }
     ensures gives { GivesOf body_to_end (R.remaining r.old) result out.new }
-    ensures bound { IfOk result (λ n. n ≤ 34_000) }
+    ensures bound { IfOk result (λ n. n ≤ max_answer) }
     ensures len { length out.new ≡ length out.old }
     ensures read { (result ≡ Err PostFault.Read) ↔ (before < R.failure_count r.new) }
     ensures write { result ≢ Err PostFault.Write }

@@ -8,8 +8,9 @@ ghost use Rattle.common_types.specs.Outcomes.{Gives};
 ghost use Rattle.http_link.specs.Bodies.{most_of};
 ghost use Rattle.http_link.specs.Fields.{value_of};
 ghost use Rattle.http_link.specs.Lines.{lines_at, standing_at, head_at, wanted_at};
-ghost use Rattle.http_link.specs.Requests.{place_of, tenant_named, framing_of, within_limit, max_body};
+ghost use Rattle.http_link.specs.Requests.{place_of, tenant_named, framing_of, within_limit, body_limit};
 ghost use Rattle.http_link.specs.Requests.{bearer_token, token_in, wanted_of, waits, closes};
+ghost use Rattle.http_link.specs.Limits.{max_body};
 
 use crate::bodies::Framing;
 use crate::fields::{Found, Lines, is_chunked, is_length, is_same, value_up_to, without_spaces};
@@ -49,9 +50,9 @@ pub(crate) struct Wanted<'b> {
     pub(crate) framing: Framing,
 }
 
-fn max_body(kind: Kind) -> usize
-    ensures value { result ≡ max_body kind }
-    ensures bound { result ≤ 34_000 }
+fn body_limit(kind: Kind) -> usize
+    ensures value { result ≡ body_limit kind }
+    ensures bound { result ≤ max_body }
 {
     match kind {
         Kind::Ilp => MAX_BODY,
@@ -91,13 +92,13 @@ fn place_of<S: Service>(service: &S, target: &[u8]) -> Option<(Kind, usize)>
 
 fn framing_of(kind: Kind, minor: u8, coded: Found, length: Found) -> Result<Framing, u16>
     ensures value { result ≡ framing_of kind minor (standing_at coded.entry) (standing_at length.entry) }
-    ensures bound { IfOk result (λ framing. most_of framing ≤ 34_000) }
+    ensures bound { IfOk result (λ framing. most_of framing ≤ max_body) }
 {
     match (coded, length) {
         (Found::Missing, Found::Missing) => Err(411),
         (Found::Missing, Found::Once(text)) if is_length(text) => stated_size(kind, text),
         (Found::Once(coding), Found::Missing) if minor == 1 && is_chunked(coding) => {
-            Ok(Framing::Chunked(max_body(kind)))
+            Ok(Framing::Chunked(body_limit(kind)))
         }
         _ => Err(400),
     }
@@ -105,10 +106,10 @@ fn framing_of(kind: Kind, minor: u8, coded: Found, length: Found) -> Result<Fram
 
 fn stated_size(kind: Kind, text: &[u8]) -> Result<Framing, u16>
     ensures value { result ≡ within_limit kind (value_of text.now) }
-    ensures bound { IfOk result (λ framing. most_of framing ≤ 34_000) }
+    ensures bound { IfOk result (λ framing. most_of framing ≤ max_body) }
 {
-    let size = value_up_to(text, 34_001) as usize;
-    if size > max_body(kind) {
+    let size = value_up_to(text, MAX_BODY as u64 + 1) as usize;
+    if size > body_limit(kind) {
         Err(413)
     } else {
         Ok(Framing::Sized(size))
@@ -151,7 +152,7 @@ pub(crate) fn wanted_of<'b, S: Service>(
     head: &RequestHead<'b>,
 ) -> Result<Wanted<'b>, u16>
     ensures value { Gives wanted_at result (wanted_of (S.tenant_of service.now) (head_at head.now)) }
-    ensures bound { IfOk result (λ wanted. most_of wanted.framing ≤ 34_000) }
+    ensures bound { IfOk result (λ wanted. most_of wanted.framing ≤ max_body) }
 {
     if head.method != b"POST".as_slice() {
         return Err(405);

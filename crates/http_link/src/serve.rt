@@ -14,6 +14,7 @@ ghost use Rattle.http_link.specs.Answers.{refusal_text, continue_text, answer_te
 ghost use Rattle.http_link.specs.Serving.{IsServed, IsAskedOnly, AsksAtMostOnce, WritesNothingOr400};
 ghost use Rattle.http_link.specs.Serving.{asking, kept_unless};
 ghost use Rattle.http_link.specs.Running.{Runs, AsksWanted, held_in};
+ghost use Rattle.http_link.specs.Limits.{max_body};
 
 use crate::answer::{answer_head, told};
 use crate::bodies::{BodyFault, BodyRead, read_body};
@@ -60,7 +61,7 @@ pub fn serve_one<R: Source, W: Sink, S: Service>(
     service: &mut S,
     room: &mut [u8],
 ) -> Result<Served, LinkFault>
-    requires { 34_000 ≤ length room.old }
+    requires { max_body ≤ length room.old }
 
     // A stream that begins with a head within the limits is served by what the head wants, however it is cut.
     ensures exact { (stream : List ℕ) (head : grammar.RequestHead) (rest : List ℕ)
@@ -161,7 +162,7 @@ pub(crate) fn serve_head<R: Source, W: Sink, S: Service>(
     before: Failures,
     turns: &mut u32,
 ) -> Result<Served, LinkFault>
-    requires room { 34_000 ≤ length room.old }
+    requires room { max_body ≤ length room.old }
     requires front { held.old.from ≡ 0 }
     requires there { held.old.to ≤ length room.old }
     requires reads { R.failure_count r.old ≤ before.reads }

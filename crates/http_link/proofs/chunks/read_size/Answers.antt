@@ -1,4 +1,5 @@
 use Rattle.std.proofs.Common.{arith, take}
+use Rattle.http_link.specs.Limits.{max_chunk_line}
 use Rattle.http_link.specs.Bodies.{IsSizeLine, ends_line}
 use Rattle.http_link.specs.BodyReading.{TakesText}
 use Rattle.http_link.specs.Running.{held_in}
@@ -11,10 +12,10 @@ pub returns-in-None-clause-taken : goal.returns-in-None-clause-taken
 returns-in-None-clause-taken g c =
     let taken : TakesText Line (held_in c.args.room.now c.args.held.now) (g.R.Read.remaining c.args.r.now) (g.R.Read.remaining c.read_text.new.r) (held_in c.read_text.new.room c.read_text.new.held) c.read_text.new.text (Found c.in-Found.n) =
     rw c.in-Found.is at c.in_ok-n.ensures.taken in
-    makes_wrong ends_line 256 IsSizeLine _ _ _ (take c.in-Found.n c.read_text.new.text) _ taken.1 taken.2 c.in-None.ensures
+    makes_wrong ends_line max_chunk_line IsSizeLine _ _ _ (take c.in-Found.n c.read_text.new.text) _ taken.1 taken.2 c.in-None.ensures
 
 pub returns-in-TooLong-clause-taken : goal.returns-in-TooLong-clause-taken
 returns-in-TooLong-clause-taken g c =
     let taken : TakesText Line (held_in c.args.room.now c.args.held.now) (g.R.Read.remaining c.args.r.now) (g.R.Read.remaining c.read_text.new.r) (held_in c.read_text.new.room c.read_text.new.held) c.read_text.new.text TooLong =
     rw c.in-TooLong.is at c.in_ok-n.ensures.taken in
-    makes_long ends_line 256 IsSizeLine _ _ _ c.read_text.new.text _ (omega arith) taken.0 taken.1
+    makes_long ends_line max_chunk_line IsSizeLine _ _ _ c.read_text.new.text _ (omega arith) taken.0 taken.1

@@ -1,5 +1,6 @@
 use Rattle.std.proofs.Common.{rules, ◌≡◌, ◌+◌, ◌≤◌, ◌++◌, [], List, ℕ, length, take, drop, inl, inr, refl, sym, ap, subst, ◌∙◌, Some, arith, append-nil, length-take, take-take, take_all}
 use Rattle.std.proofs.KnownBytes.{Consumes-nil}
+use Rattle.http_link.specs.Limits.{max_head}
 use Rattle.http_link.specs.Reading.{GoesOn, Sees}
 use Rattle.http_link.specs.Streams.{ReadsBehind}
 use Rattle.http_link.specs.declared.grammar.Offered.TheVariants.{Malformed, Partial, Whole}
@@ -54,7 +55,7 @@ returns-then-end-eq-MAX_HEAD-clause-found g c =
     let came = c.loop-turns.invariant.came in
     let sees : Sees g.H.HeadSpans.grammar (take end room) seen (length c.loop-turns.lines) c.scan.new.lines Partial = rw c.in-Partial.is at c.scan.ensures.sees in
     let all = sees.1 in
-    let long : 8192 ≤ length (take seen (take end room)) = omega (arith, length-take end room, length-take seen (take end room)) in
+    let long : max_head ≤ length (take seen (take end room)) = omega (arith, length-take end room, length-take seen (take end room)) in
     let parts = looked_at room c.loop-turns.had end seen (omega arith) c.scan.ensures.seen in
     let none = going_on_begins_not g.H.HeadSpans.grammar (take c.loop-turns.had room) (take seen (take end room)) (drop seen (take c.loop-turns.had room)) (length c.loop-turns.lines) (length c.scan.new.lines) (omega arith) parts sees.0 (inr long) in
     record {

@@ -1,5 +1,6 @@
 use Rattle.std.proofs.Common.{◌≡◌, ◌≤◌, ◌++◌, List, ℕ, length, take}
 use Rattle.std.specs.Io.KnownBytes.{Consumes}
+use Rattle.http_link.specs.Limits.{max_head}
 use Rattle.http_link.specs.Counts.{Spends}
 use Rattle.http_link.specs.Reading.{GoesOn}
 use Rattle.http_link.proofs.head.find_head.Given as goal
@@ -11,7 +12,7 @@ invariant-loop-turns g l = record {
   lines : length l.lines ≡ length l.fn.lines;
   came : (came : List ℕ) × (take l.had l.room ≡ take l.fn.had l.fn.room ++ came) × Consumes (g.R.Read.remaining l.fn.r) (g.R.Read.remaining l.r) came;
   seen : l.seen ≤ l.had;
-  few : l.seen ≤ 8192;
+  few : l.seen ≤ max_head;
   goes_on : GoesOn g.H.HeadSpans.grammar (take l.seen l.room) (length l.lines);
   unfailed : g.R.Device.failure_count l.r ≤ l.before;
   made : Spends g.R.Source.was_read l.fn.r l.r l.fn.turns l.turns;

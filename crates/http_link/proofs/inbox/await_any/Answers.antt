@@ -1,4 +1,5 @@
 use Rattle.std.proofs.Common.{length, Some, arith, ◌≡◌, [], take, true, false, sym, append-nil, length-drop, length-take}
+use Rattle.http_link.specs.Limits.{max_turns}
 use Rattle.http_link.specs.Streams.{ReadsBehind}
 use Rattle.http_link.proofs.Rooms.{first_came}
 use Rattle.std.proofs.KnownBytes.{Consumes-nil}
@@ -24,4 +25,4 @@ returns-then-held-clause-awaited g c =
 
 pub returns-clause-turns : goal.returns-clause-turns
 returns-clause-turns g c told =
-    spent_all g.R.Source.was_read c.args.r.now c.loop-turns.r 50_000 c.loop-turns.turns c.loop-turns.invariant.made (omega arith)
+    spent_all g.R.Source.was_read c.args.r.now c.loop-turns.r max_turns c.loop-turns.turns c.loop-turns.invariant.made (omega arith)

@@ -1,5 +1,6 @@
 use Rattle.std.proofs.Common.{◌≡◌, ◌≤◌, [], length}
 use Rattle.std.specs.Io.KnownBytes.{Consumes}
+use Rattle.http_link.specs.Limits.{max_turns}
 use Rattle.http_link.specs.Counts.{Spends}
 use Rattle.http_link.proofs.inbox.await_any.Given as goal
 
@@ -10,7 +11,7 @@ invariant-loop-turns g l = record {
   to : l.held.to ≡ 0;
   len : length l.room ≡ length l.fn.room;
   unfailed : g.R.Device.failure_count l.r ≤ l.before;
-  made : Spends g.R.Source.was_read l.fn.r l.r 50_000 l.turns;
+  made : Spends g.R.Source.was_read l.fn.r l.r max_turns l.turns;
   counted : l.before ≡ g.R.Device.failure_count l.fn.r;
 }
 

@@ -1,4 +1,5 @@
 use Rattle.std.proofs.Common.{List, ℕ, take, subst, sym, arith, length-take, take-take, rules, inl, inr, refl}
+use Rattle.http_link.specs.Limits.{max_turns}
 use Rattle.http_link.specs.Grammars.{requests}
 use Rattle.http_link.specs.Reading.{HeadIsFound}
 use Rattle.http_link.specs.Running.{held_in}
@@ -47,12 +48,12 @@ returns-in-Whole-clause-asks g c =
 
 pub returns-in_err-find_head-clause-turns : goal.returns-in_err-find_head-clause-turns
 returns-in_err-find_head-clause-turns g c told =
-    inl (spent_all g.R.Source.was_read c.args.r.now c.find_head.new.r 50_000 c.find_head.new.turns c.find_head.ensures.made (search rules))
+    inl (spent_all g.R.Source.was_read c.args.r.now c.find_head.new.r max_turns c.find_head.new.turns c.find_head.ensures.made (search rules))
 
 pub returns-in-Malformed-clause-turns : goal.returns-in-Malformed-clause-turns
 returns-in-Malformed-clause-turns g c told = inr (c.refuse.ensures.turns told)
 
 pub returns-in-Whole-clause-turns : goal.returns-in-Whole-clause-turns
 returns-in-Whole-clause-turns g c told =
-    spent_in_two g.R.Source.was_read c.args.r.now c.find_head.new.r c.serve_found.new.r 50_000 c.find_head.new.turns
+    spent_in_two g.R.Source.was_read c.args.r.now c.find_head.new.r c.serve_found.new.r max_turns c.find_head.new.turns
     c.find_head.ensures.made (c.serve_found.ensures.turns told)

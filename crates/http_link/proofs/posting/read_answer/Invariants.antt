@@ -1,4 +1,5 @@
 use Rattle.std.proofs.Common.{◌≡◌, ◌≤◌, ℕ, List, length, Some, Result}
+use Rattle.http_link.specs.Limits.{max_head, max_heads, max_lines}
 use Rattle.http_link.specs.Counts.{Spends}
 use Rattle.http_link.specs.declared.posting.PostFault.{PostFault}
 use Rattle.http_link.specs.Client.{Means}
@@ -7,11 +8,11 @@ use Rattle.http_link.proofs.posting.read_answer.Given as goal
 abbrev pub invariant-loop-heads : goal.invariant-loop-heads
 invariant-loop-heads g l = record {
   means : (stream : List ℕ) → g.R.Read.remaining l.fn.r ≡ Some stream → (rest : List ℕ) × (g.R.Read.remaining l.r ≡ Some rest)
-      × ((meaning : Result (List ℕ) PostFault) → Means l.heads rest meaning → Means 5 stream meaning);
+      × ((meaning : Result (List ℕ) PostFault) → Means l.heads rest meaning → Means max_heads stream meaning);
   unfailed : g.R.Device.failure_count l.r ≤ l.before;
   out : l.out ≡ l.fn.out;
-  text : length l.text ≡ 8192;
-  lines : length l.lines ≡ 64;
+  text : length l.text ≡ max_head;
+  lines : length l.lines ≡ max_lines;
   made : Spends g.R.Source.was_read l.fn.r l.r l.fn.turns l.turns;
 }
 

@@ -1,4 +1,5 @@
 use Rattle.std.proofs.Common.{◌≡◌, [], Some, ap, refl, length, arith, rules, inl}
+use Rattle.http_link.specs.Limits.{max_turns}
 use Rattle.http_link.proofs.Takes.{none_held}
 use Rattle.http_link.specs.Lines.{head_at}
 use Rattle.http_link.specs.Requests.{wanted_of}
@@ -56,9 +57,9 @@ returns-in-Whole-clause-asked_once g c =
 
 pub returns-in_err-read_head-clause-turns : goal.returns-in_err-read_head-clause-turns
 returns-in_err-read_head-clause-turns g c told =
-    inl (spent_all g.R.Source.was_read c.args.r.now c.read_head.new.r 50_000 c.read_head.new.turns c.read_head.ensures.made (search rules))
+    inl (spent_all g.R.Source.was_read c.args.r.now c.read_head.new.r max_turns c.read_head.new.turns c.read_head.ensures.made (search rules))
 
 pub returns-in-Whole-clause-turns : goal.returns-in-Whole-clause-turns
 returns-in-Whole-clause-turns g c told =
-    spent_in_two g.R.Source.was_read c.args.r.now c.read_head.new.r c.serve_head.new.r 50_000 c.read_head.new.turns
+    spent_in_two g.R.Source.was_read c.args.r.now c.read_head.new.r c.serve_head.new.r max_turns c.read_head.new.turns
     c.read_head.ensures.made (c.serve_head.ensures.turns told)

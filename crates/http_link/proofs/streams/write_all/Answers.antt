@@ -1,4 +1,5 @@
 use Rattle.std.proofs.Common.{rules, ◌+◌, arith}
+use Rattle.http_link.specs.Limits.{max_turns}
 use Rattle.http_link.proofs.Known.{Appends-more}
 use Rattle.http_link.proofs.Counting.{spent_all}
 use Rattle.http_link.proofs.streams.write_all.Goals as goal
@@ -21,4 +22,4 @@ loop-done-preserved g c =
 
 pub returns-then-turns-eq0-clause-turns : goal.returns-then-turns-eq0-clause-turns
 returns-then-turns-eq0-clause-turns g c told =
-    spent_all g.W.Sink.was_written c.args.w.now c.loop-done.w 50_000 c.loop-done.turns c.loop-done.invariant.made (omega arith)
+    spent_all g.W.Sink.was_written c.args.w.now c.loop-done.w max_turns c.loop-done.turns c.loop-done.invariant.made (omega arith)

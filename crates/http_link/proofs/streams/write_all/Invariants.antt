@@ -1,5 +1,6 @@
 use Rattle.std.proofs.Common.{◌≤◌, length, take}
 use Rattle.std.specs.Io.KnownBytes.{Appends}
+use Rattle.http_link.specs.Limits.{max_turns}
 use Rattle.http_link.specs.Counts.{NoFewer, Spends}
 use Rattle.http_link.proofs.streams.write_all.Given as goal
 
@@ -9,7 +10,7 @@ invariant-loop-done g l = record {
   bound : l.done ≤ length l.bytes;
   unfailed : g.W.Device.failure_count l.w ≤ l.before;
   kept : NoFewer g.W.Sink.was_written l.fn.w l.w;
-  made : Spends g.W.Sink.was_written l.fn.w l.w 50_000 l.turns;
+  made : Spends g.W.Sink.was_written l.fn.w l.w max_turns l.turns;
 }
 
 abbrev pub decreases-loop-done : goal.decreases-loop-done
