@@ -11,3 +11,5 @@ pub mod TellsRoutes
 pub mod TellsTenants
 pub mod SetupsAnew
 pub mod SetupsAgain
+pub mod CountingKeys
+pub mod IgnoredWalks

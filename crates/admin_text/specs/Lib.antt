@@ -15,3 +15,6 @@ pub mod Made
 pub mod Anew
 pub mod Told
 pub mod Again
+pub mod Ignored
+pub mod IgnoredKeys
+pub mod KeyLaws

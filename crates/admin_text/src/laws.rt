@@ -2,6 +2,7 @@
 
 ghost use Rattle.admin_text.specs.Again.{SetupAgainLaw};
 ghost use Rattle.admin_text.specs.Commands.{CommandLaws};
+ghost use Rattle.admin_text.specs.KeyLaws.{KeyLaws};
 ghost use Rattle.admin_text.specs.Setup.{SetupLaw};
 
 use common_types::laws::numerals;
@@ -25,4 +26,10 @@ pub fn setups()
 /// and numbered as they would be anew.
 pub fn setups_again()
     ensures { SetupAgainLaw }
+{}
+
+/// No key of a setup counts but those that [`ignored_keys`](crate::ignored_keys) passes over: tables that have the same at
+/// these say the same, whatever else they have.
+pub fn keys_that_count()
+    ensures { KeyLaws }
 {}

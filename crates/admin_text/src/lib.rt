@@ -3,6 +3,7 @@
 
 mod commands;
 mod explained;
+mod ignored;
 mod keys;
 pub mod laws;
 mod networks;
@@ -18,6 +19,8 @@ mod wrong;
 
 pub use commands::{TextFault, parse_command};
 pub use explained::{Explained, explain};
+pub use ignored::{IgnoredKey, ignored_keys};
+pub use places::{Kind, TablePlace};
 pub use setup::{Setup, SetupFault, read_setup};
 pub use setup_text::write_setup;
 pub use tenant_core::limits::MAX_TENANTS;

@@ -2,6 +2,7 @@
 //! from 1, each with the names that it gives itself.
 
 ghost use Rattle.std.specs.Prelude.{◌≡◌};
+ghost use Rattle.admin_text.specs.Ignored.{place_of};
 
 use crate::keys::string_under;
 use crate::wanted::Shown;
@@ -9,8 +10,8 @@ use std::fmt;
 use toml::{Table, Value};
 
 /// What a setup, or a tenant, has several of.
-#[derive(Clone, Copy)]
-pub(crate) enum Kind {
+#[derive(Clone, Copy, Debug, PartialEq, Eq)]
+pub enum Kind {
     Tenant,
     Peer,
     Route,
@@ -55,14 +56,15 @@ impl Kind {
 /// One of a kind, by its number and what stands there.
 #[derive(Clone, Copy)]
 pub(crate) struct Place<'a> {
-    kind: Kind,
+    pub(crate) kind: Kind,
     pub(crate) number: usize,
     value: &'a Value,
 }
 
 impl<'a> Place<'a> {
     pub(crate) fn new(kind: Kind, number: usize, value: &'a Value) -> Place<'a>
-        ensures { result.number ≡ number }
+        ensures kind { result.kind ≡ kind }
+        ensures number { result.number ≡ number }
     {
         Place {
             kind,
@@ -96,6 +98,50 @@ impl fmt::Display for Place<'_> {
         match self.value {
             Value::Table(table) => self.kind.write_names(f, table),
             value => write!(f, "{}", Shown(value)),
+        }
+    }
+}
+
+/// Which table of a setup.
+#[derive(Clone, Copy, Debug, PartialEq, Eq)]
+pub enum TablePlace {
+    /// The setup's own.
+    Top,
+    /// That of the tenant of that number, from 0.
+    Tenant(usize),
+    /// Of the tenant of the first number, from 0, that of the peer, route or rate of the second, from 1.
+    Part(usize, Kind, usize),
+}
+
+/// A table of a setup, as people find it.
+#[derive(Clone, Copy)]
+pub(crate) enum Spot<'a> {
+    Top,
+    Tenant(Place<'a>),
+    /// One of the peers, routes or rates of a tenant.
+    Part(Place<'a>, Place<'a>),
+}
+
+impl Spot<'_> {
+    /// Which table it is.
+    pub(crate) fn table(self) -> TablePlace
+        ensures { result ≡ place_of self.entry }
+    {
+        match self {
+            Spot::Top => TablePlace::Top,
+            Spot::Tenant(tenant) => TablePlace::Tenant(tenant.number),
+            Spot::Part(tenant, part) => TablePlace::Part(tenant.number, part.kind, part.number),
+        }
+    }
+}
+
+/// Writes the place before what is said of it.
+impl fmt::Display for Spot<'_> {
+    fn fmt<W: fmt::Write>(&self, f: &mut fmt::Formatter<W>) -> fmt::Result {
+        match self {
+            Spot::Top => Ok(()),
+            Spot::Tenant(tenant) => write!(f, "{tenant}: "),
+            Spot::Part(tenant, part) => write!(f, "{tenant}: {part}: "),
         }
     }
 }

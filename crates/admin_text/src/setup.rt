@@ -1,12 +1,13 @@
 //! Setups: what a TOML document says of the tenants.
 
-ghost use Rattle.std.specs.Prelude.{◌≡◌, ◌≢◌, ◌∷◌, ◌++◌, [], Some, Err, MatchResult, codes, option_and_then, IfSome};
+ghost use Rattle.std.specs.Prelude.{◌≡◌, ◌≢◌, ◌∷◌, ◌++◌, [], Some, None, Err, MatchResult, codes, option_and_then, IfSome};
 ghost use Rattle.std.specs.Result.{result_ok};
 ghost use Rattle.std.specs.Str.{bytes_eq};
 ghost use Rattle.toml.specs.Data.{as_table};
 ghost use Rattle.toml.specs.View.{view, items_view, table_view};
 ghost use Rattle.common_types.specs.declared.read_error.ReadError.TheVariants.{Memory};
 ghost use Rattle.common_types.specs.Outcomes.{GivesUnlessMemory};
+ghost use Rattle.admin_text.specs.Ignored.{document_in};
 ghost use Rattle.admin_text.specs.Keys.{array_under};
 ghost use Rattle.admin_text.specs.Outcomes.{known};
 ghost use Rattle.admin_text.specs.OwnTerms.{own_terms_of, terms_with};
@@ -237,8 +238,10 @@ pub(crate) fn setup_of_table(
 
 /// The TOML document that a text is.
 pub(crate) fn document_of(alloc: Global, text: &[u8]) -> Result<Table, ReadError<toml::de::Error>>
-    ensures { MatchResult result (λ table. setup_of text.now ≡ setup_of_table (table_view table))
+    ensures setup { MatchResult result (λ table. setup_of text.now ≡ setup_of_table (table_view table))
         (λ e. e ≢ Memory → setup_of text.now ≡ Err SetupFault.Toml) }
+    ensures document { MatchResult result (λ table. document_in text.now ≡ Some (table_view table))
+        (λ e. e ≢ Memory → document_in text.now ≡ None) }
 {
     match toml::table_from_slice(alloc, text) {
         Ok(table) => Ok(table),

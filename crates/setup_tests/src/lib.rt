@@ -4,6 +4,8 @@
 #[cfg(test)]
 mod commands;
 #[cfg(test)]
+mod ignored_keys;
+#[cfg(test)]
 mod setup_limits;
 #[cfg(test)]
 mod setup_texts;

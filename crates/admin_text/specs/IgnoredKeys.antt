@@ -1,0 +1,12 @@
+-- Keys that were found to be ignored.
+use Rattle.std.specs.Prelude.{List, map, string_bytes}
+use Rattle.admin_text.specs.Ignored.{KeyAt}
+use Rattle.admin_text.specs.declared.ignored.IgnoredKey.{IgnoredKey}
+
+-- such a key, and where its table stands
+abbrev pub key_at : IgnoredKey → KeyAt
+key_at k = (k.place, string_bytes k.name)
+
+-- such keys
+abbrev pub seen : List IgnoredKey → List KeyAt
+seen keys = map key_at keys

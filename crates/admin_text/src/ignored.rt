@@ -1,0 +1,315 @@
+//! The keys of a good setup that nobody reads, and their words for people.
+
+ghost use Rattle.std.specs.Prelude.{◌≡◌, ◌∷◌, ◌++◌, [], codes, if◌then◌else◌, IfOk, OnOk, string_bytes};
+ghost use Rattle.std.specs.List.{list_any};
+ghost use Rattle.std.specs.Option.{option_map_or};
+ghost use Rattle.std.specs.Str.{bytes_eq};
+ghost use Rattle.toml.specs.Data.{as_table};
+ghost use Rattle.toml.specs.View.{view, items_view, table_view};
+ghost use Rattle.admin_text.specs.Ignored.{items_of, is_key, keys_of, place_of, top_keys, ignored_at, ignored_by, ignored_in};
+ghost use Rattle.admin_text.specs.Ignored.{ignored_in_parts, ignored_in_tenant, ignored_in_tenant_value, ignored_in_tenants, ignored_in_value};
+ghost use Rattle.admin_text.specs.Ignored.{ignored_in_document};
+ghost use Rattle.admin_text.specs.IgnoredKeys.{seen};
+
+use crate::keys::{items_under, version_of};
+use crate::places::{Kind, Place, Spot, TablePlace};
+use crate::setup::{document_of, setup_of_table};
+use crate::version::{Version, has_fees};
+use crate::wanted::Shown;
+use common_types::{Items, ReadError};
+use std::alloc::{AllocError, Global};
+use std::fmt;
+use toml::{Table, Value};
+
+/// A key of a good setup that nobody reads.
+#[derive(Drop)]
+pub struct IgnoredKey {
+    /// The table that has it.
+    pub place: TablePlace,
+    pub name: String,
+    /// A line that says where it stands, and what stands there.
+    pub words: String,
+}
+
+fn is_top_key(key: &str) -> bool
+    ensures { result ≡ list_any (λ known. bytes_eq key.now known) top_keys }
+{
+    matches!(key, "version" | "start" | "tenant")
+}
+
+fn is_key_of(version: Version, kind: Kind, key: &str) -> bool
+    ensures { result ≡ list_any (λ known. bytes_eq key.now known) (keys_of version kind) }
+{
+    match kind {
+        Kind::Tenant => {
+            matches!(
+                key,
+                "name"
+                    | "address"
+                    | "admin"
+                    | "journal"
+                    | "margin"
+                    | "hold"
+                    | "peer"
+                    | "route"
+                    | "rate"
+            )
+        }
+        Kind::Peer => {
+            matches!(
+                key,
+                "name"
+                    | "role"
+                    | "token"
+                    | "url"
+                    | "out_token"
+                    | "asset"
+                    | "scale"
+                    | "cap"
+                    | "ceiling"
+                    | "credit"
+                    | "burst"
+                    | "per_second"
+                    | "balance"
+            )
+        }
+        Kind::Route => matches!(key, "prefix" | "peer") || (has_fees(version) && key == "fee"),
+        Kind::Rate => matches!(key, "from" | "to" | "num" | "den"),
+    }
+}
+
+// Whether a key counts in that table of a setup of a version.
+fn is_key(version: Version, place: TablePlace, key: &str) -> bool
+    ensures { result ≡ is_key version place key.now }
+{
+    match place {
+        TablePlace::Top => is_top_key(key),
+        TablePlace::Tenant(_) => is_key_of(version, Kind::Tenant, key),
+        TablePlace::Part(_, kind, _) => is_key_of(version, kind, key),
+    }
+}
+
+// The most bytes of a key that is shown.
+const MAX_SHOWN: usize = 64;
+
+// A key in one word, quoted where it is none.
+#[derive(Clone, Copy)]
+struct Named<'a>(&'a str);
+
+impl fmt::Display for Named<'_> {
+    fn fmt<W: fmt::Write>(&self, f: &mut fmt::Formatter<W>) -> fmt::Result {
+        let name = self.0;
+        if name.len() > MAX_SHOWN {
+            write!(f, "a key of {} bytes", name.len())
+        } else if !name.is_empty()
+            && name
+                .bytes()
+                .all(|b| b.is_ascii_alphanumeric() || b == b'_' || b == b'-')
+        {
+            f.write_str(name)
+        } else {
+            write!(f, "{name:?}")
+        }
+    }
+}
+
+// Why a key of that table is ignored.
+fn reason(place: TablePlace, name: &str) -> &'static str {
+    if is_key(Version::Two, place, name) {
+        "a key of version 2, ignored in version 1"
+    } else {
+        "an unknown key, ignored"
+    }
+}
+
+fn ignored_key(
+    alloc: Global,
+    spot: Spot<'_>,
+    name: &str,
+    value: &Value,
+) -> Result<IgnoredKey, AllocError>
+    ensures { IfOk result (λ key. seen (key ∷ []) ≡ (place_of spot.entry, name.now) ∷ []) }
+{
+    let place = spot.table();
+    let why = reason(place, name);
+    let words = format!(in alloc; "{spot}{}{}: {why}", Named(name), Shown(value))?;
+    Ok(IgnoredKey {
+        place,
+        name: String::from_str(alloc, name)?,
+        words,
+    })
+}
+
+// Puts a key behind those that were found, if it is ignored.
+fn put_key(
+    alloc: Global,
+    version: Version,
+    spot: Spot<'_>,
+    name: &str,
+    value: &Value,
+    found: &mut Vec<IgnoredKey>,
+) -> Result<(), AllocError>
+    ensures { OnOk result (seen found.new.items ≡ seen found.old.items
+        ++ (if is_key version (place_of spot.entry) name.now then [] else (place_of spot.entry, name.now) ∷ [])) }
+{
+    if !is_key(version, spot.table(), name) {
+        found.push(ignored_key(alloc, spot, name, value)?)?;
+    }
+    Ok(())
+}
+
+fn put_table(
+    alloc: Global,
+    version: Version,
+    spot: Spot<'_>,
+    table: &Table,
+    found: &mut Vec<IgnoredKey>,
+) -> Result<(), AllocError>
+    ensures { OnOk result (seen found.new.items ≡ seen found.old.items
+        ++ ignored_at version (place_of spot.entry) (table_view table.now)) }
+{
+    for (name, value) in table.iter() {
+        put_key(alloc, version, spot, name.as_str(), value, found)?;
+    }
+    Ok(())
+}
+
+fn put_value(
+    alloc: Global,
+    version: Version,
+    spot: Spot<'_>,
+    value: &Value,
+    found: &mut Vec<IgnoredKey>,
+) -> Result<(), AllocError>
+    ensures { OnOk result (seen found.new.items ≡ seen found.old.items
+        ++ ignored_in_value version (place_of spot.entry) (view value.now)) }
+{
+    match value.as_table() {
+        Some(table) => put_table(alloc, version, spot, table, found),
+        None => Ok(()),
+    }
+}
+
+// The values of the array of tables of a kind, which stands at that key.
+fn items_of<'a>(table: &'a Table, key: &'a str, kind: Kind) -> &'a [Value]
+    ensures { items_view result.now ≡ items_of key.now (table_view table.now) }
+{
+    match items_under(table, key, kind) {
+        Ok(values) => values,
+        Err(_) => &[],
+    }
+}
+
+// Those of a tenant's peers, routes or rates.
+fn put_parts(
+    alloc: Global,
+    version: Version,
+    tenant: Place<'_>,
+    kind: Kind,
+    values: &[Value],
+    found: &mut Vec<IgnoredKey>,
+) -> Result<(), AllocError>
+    ensures { OnOk result (seen found.new.items ≡ seen found.old.items
+        ++ ignored_in_parts version tenant.entry.number kind 1 (items_view values.now)) }
+{
+    for (at, value) in values.iter().enumerate() {
+        let part = Place::new(kind, at + 1, value);
+        put_value(alloc, version, Spot::Part(tenant, part), value, found)?;
+    }
+    Ok(())
+}
+
+// Those of the table of a tenant, and of its peers, its routes and its rates.
+fn put_tenant(
+    alloc: Global,
+    version: Version,
+    tenant: Place<'_>,
+    table: &Table,
+    found: &mut Vec<IgnoredKey>,
+) -> Result<(), AllocError>
+    ensures { OnOk result (seen found.new.items ≡ seen found.old.items
+        ++ ignored_in_tenant version tenant.entry.number (table_view table.now)) }
+{
+    let peers = items_of(table, "peer", Kind::Peer);
+    let routes = items_of(table, "route", Kind::Route);
+    let rates = items_of(table, "rate", Kind::Rate);
+    put_table(alloc, version, Spot::Tenant(tenant), table, found)?;
+    put_parts(alloc, version, tenant, Kind::Peer, peers, found)?;
+    put_parts(alloc, version, tenant, Kind::Route, routes, found)?;
+    put_parts(alloc, version, tenant, Kind::Rate, rates, found)
+}
+
+fn put_tenant_in(
+    alloc: Global,
+    version: Version,
+    number: usize,
+    value: &Value,
+    found: &mut Vec<IgnoredKey>,
+) -> Result<(), AllocError>
+    ensures { OnOk result (seen found.new.items ≡ seen found.old.items
+        ++ ignored_in_tenant_value version number (view value.now)) }
+{
+    match value.as_table() {
+        Some(table) => {
+            let tenant = Place::new(Kind::Tenant, number, value);
+            put_tenant(alloc, version, tenant, table, found)
+        }
+        None => Ok(()),
+    }
+}
+
+fn put_tenants(
+    alloc: Global,
+    version: Version,
+    values: &[Value],
+    found: &mut Vec<IgnoredKey>,
+) -> Result<(), AllocError>
+    ensures { OnOk result (seen found.new.items ≡ seen found.old.items
+        ++ ignored_in_tenants version 0 (items_view values.now)) }
+{
+    for (number, value) in values.iter().enumerate() {
+        put_tenant_in(alloc, version, number, value, found)?;
+    }
+    Ok(())
+}
+
+// Those of a setup of a version.
+fn ignored_by(alloc: Global, version: Version, table: &Table) -> Result<Vec<IgnoredKey>, AllocError>
+    ensures { IfOk result (λ found. seen found.items ≡ ignored_by version (table_view table.now)) }
+{
+    let mut found = Vec::new(alloc);
+    put_table(alloc, version, Spot::Top, table, &mut found)?;
+    let tenants = items_of(table, "tenant", Kind::Tenant);
+    put_tenants(alloc, version, tenants, &mut found)?;
+    Ok(found)
+}
+
+// Those of a document, none where it is no good setup.
+#[tactic(auto, unfolding(crate::specs::Ignored::ignored_in_document))]
+fn ignored_in(alloc: Global, table: &Table) -> Result<Vec<IgnoredKey>, AllocError>
+    ensures { IfOk result (λ found. seen found.items ≡ ignored_in_document (table_view table.now)) }
+{
+    match setup_of_table(alloc, table) {
+        Ok(_) => match version_of(table) {
+            Ok(version) => ignored_by(alloc, version, table),
+            Err(_) => Ok(Vec::new(alloc)),
+        },
+        Err(ReadError::Memory) => Err(AllocError),
+        Err(ReadError::Fault(_)) => Ok(Vec::new(alloc)),
+    }
+}
+
+/// The keys of a good setup that nobody reads, in the order in which people find them: those at the top, and then of each
+/// tenant those of its own table, of its peers, its routes and its rates; in one table by their names. The key `fee` of a
+/// route is one in a setup of version 1. A setup that is wrong has none: [`explain`](crate::explain) says what is wrong
+/// with it. The one error is want of memory.
+pub fn ignored_keys(alloc: Global, text: &[u8]) -> Result<Items<IgnoredKey>, AllocError>
+    ensures exact { IfOk result (λ found. seen found ≡ ignored_in text.now) }
+{
+    let found = match document_of(alloc, text) {
+        Ok(table) => ignored_in(alloc, &table)?,
+        Err(ReadError::Memory) => return Err(AllocError),
+        Err(ReadError::Fault(_)) => Vec::new(alloc),
+    };
+    Ok(Items::from_vec(found))
+}
