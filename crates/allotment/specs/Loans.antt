@@ -1,13 +1,14 @@
 -- Places that are lent to tenants: how many each tenant uses, and how many are still owed.
 use Rattle.std.specs.Prelude.{ℕ, ◌+◌, ◌-◌, ◌*◌, ◌/◌, ◌≤◌, Bool, ◌||◌, List, max, sum, sum_by, if◌then◌else◌, nat_lt, slice_index, slice_set}
+use Rattle.allotment.specs.declared.allotted.TheConstants.{MAX_TENANTS, MAX_PLACES}
 
 -- at most as many tenants
 abbrev pub max_tenants : ℕ
-max_tenants = 64
+max_tenants = MAX_TENANTS
 
 -- at most as many places
 abbrev pub max_places : ℕ
-max_places = 64
+max_places = MAX_PLACES
 
 -- Of how many places each of so many tenants is sure: half of an equal part, so that the rest is for whoever comes, but one at
 -- least; and of none where there are fewer places than tenants.
