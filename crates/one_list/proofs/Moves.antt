@@ -9,12 +9,12 @@ use Rattle.std.proofs.lemmas.List.Elements.{filter-append, All-append, All-cons,
 use Rattle.std.proofs.lemmas.List.Sums.{sum_by-cons, sum_by-append}
 use Rattle.std.proofs.lemmas.List.{append-nil}
 use Rattle.std.proofs.lemmas.Bool.Decides.{nat_tests}
-use Rattle.tenant_core.specs.Journals.{Recorded}
+use Rattle.tenant_core.specs.Journals.{Recorded, last_of}
 use Rattle.tenant_core.specs.declared.journal.Record.{Record}
 use Rattle.one_list.specs.declared.step.Done.{Done}
 use Rattle.one_list.specs.declared.step.Size.{Size}
 use Rattle.one_list.specs.declared.rule.Claim.{Claim}
-use Rattle.one_list.specs.Steps.{done, done_by, done_last, last_of}
+use Rattle.one_list.specs.Steps.{Place, done, done_by, done_last, last_place}
 use Rattle.one_list.specs.Rules.{new_claims, first_view, claim, concerns, Fits, AllFit, is_kind, is_of, count_of, AreBelow, IsKept, steps_by, claim_after, claims_after, Adds, Looks, first_claim, other_claims, claims_of}
 
 -- ---- sums over all views
@@ -85,16 +85,16 @@ all_else log e (c ∷ cs) p q f = (by (concerns c e) refl, all_else log e cs (re
     by false is = fits_else log e c is f.0
 
 -- the same for the step of a record, if there is one
-none_else : (log : List Done) (w t : ℕ) (m : Option Record) (v : List Claim) → count_of true w v ≡ 0 → count_of false t v ≡ 0 → AllFit log v → AllFit (log ++ done_by w t m) v
-none_else log w t None v p q f = subst (λ l. AllFit l v) (sym (append-nil log)) f
-none_else log w t (Some r) v p q f = all_else log (done w t r) v p q f
+none_else : (log : List Done) (w : ℕ) (at : Place) (m : Option Record) (v : List Claim) → count_of true w v ≡ 0 → count_of false at.tenant v ≡ 0 → AllFit log v → AllFit (log ++ done_by w at m) v
+none_else log w at None v p q f = subst (λ l. AllFit l v) (sym (append-nil log)) f
+none_else log w at (Some r) v p q f = all_else log (done w at r) v p q f
 
 -- the step of a record is of that tenant by that worker
-all_below : (size : Size) (log : List Done) (w t : ℕ) (m : Option Record) → AreBelow size log → t < size.tenants → w < size.workers → AreBelow size (log ++ done_by w t m)
-all_below size log w t None b p q = subst (AreBelow size) (sym (append-nil log)) b
-all_below size log w t (Some r) b p q =
+all_below : (size : Size) (log : List Done) (w : ℕ) (at : Place) (m : Option Record) → AreBelow size log → at.tenant < size.tenants → w < size.workers → AreBelow size (log ++ done_by w at m)
+all_below size log w at None b p q = subst (AreBelow size) (sym (append-nil log)) b
+all_below size log w at (Some r) b p q =
     let P : Done → Type 0 = λ e. (e.tenant < size.tenants) × (e.worker < size.workers) in
-    All-append P log (done w t r ∷ []) b (All-cons P (done w t r) [] (p, q) (All-nil P))
+    All-append P log (done w at r ∷ []) b (All-cons P (done w at r) [] (p, q) (All-nil P))
 
 -- ---- the views after a change of one
 
@@ -106,12 +106,13 @@ fit_set log views id w others mine j u e =
 
 -- ---- a step
 
-adds : (size : Size) (slots id word w t : ℕ) (v : List Claim) (j : Recorded) (f : ℕ → ℕ) → steps_by v j.records ≡ done_last w t j.records → 0 < count_of true w v → 0 < count_of false t v
+adds : (size : Size) (slots id word w t period : ℕ) (v : List Claim) (j : Recorded) (f : ℕ → ℕ) → steps_by v period j.records ≡ done_last w t period j.records → 0 < count_of true w v → 0 < count_of false t v
     → t < size.tenants → w < size.workers
-    → Allows (λ (s : State Recorded (List Claim)). IsKept size s.views) slots id (v, []) word f (Adds (step slots word 0 0 (some j)) (v, []))
-adds size slots id word w t v j f by p q tenant worker s k homes at small =
+    → Allows (λ (s : State Recorded (List Claim)). IsKept size s.views) slots id (v, []) word f (Adds (step slots word 0 period (some j)) (v, []))
+adds size slots id word w t period v j f by p q tenant worker s k homes at small =
     let m = last_of j.records in
-    let es = done_by w t m in
+    let place = last_place t period j.records in
+    let es = done_by w place m in
     let u = map (claim_after es) v in
     let none_of : (b : Bool) (n : ℕ) → 0 < count_of b n v → (i : ℕ) (x : List Claim) → i ≢ id → get_elem? s.views i ≡ some x → count_of b n x ≡ 0
     = λ b n some_here i x apart there. omega (arith, k.once b n, two_of_sum (count_of b n) s.views id i v x at there apart) in (
@@ -121,10 +122,10 @@ adds size slots id word w t v j f by p q tenant worker s k homes at small =
       record {
         log = k.log ++ es;
         fits = fit_set (k.log ++ es) s.views id u
-            (λ i x apart there. none_else k.log w t m x (none_of true w p i x apart there) (none_of false t q i x apart there) (k.fits i x there))
+            (λ i x apart there. none_else k.log w place m x (none_of true w p i x apart there) (none_of false t q i x apart there) (k.fits i x there))
             (all_after k.log es v (k.fits id v at));
         once = λ b n. omega (arith, k.once b n, sum_set (count_of b n) s.views id v u at, count_after b n es v);
-        below = all_below size k.log w t m k.below tenant worker;
+        below = all_below size k.log w place m k.below tenant worker;
       },
       ap (λ z. (map (claim_after z) v, [])) (sym by),
     )
@@ -133,32 +134,35 @@ self_equal : (n : ℕ) → (n == n) ≡ true
 self_equal n = grind (arith, nat_tests)
 
 -- a step of the worker and the tenant that are claimed
-pub adds_as : (size : Size) (slots id word : ℕ) (me : Me Recorded (List Claim)) (worker tenant : ℕ) (j : Recorded) (f : ℕ → ℕ) (ls js : List Done)
+pub adds_as : (size : Size) (slots id word : ℕ) (me : Me Recorded (List Claim)) (worker tenant period : ℕ) (j : Recorded) (f : ℕ → ℕ) (ls js : List Done)
     → me ≡ (claim true worker ls ∷ claim false tenant js ∷ [], []) → tenant < size.tenants → worker < size.workers
-    → Allows (λ (s : State Recorded (List Claim)). IsKept size s.views) slots id me word f (Adds (step slots word 0 0 (some j)) me)
-adds_as size slots id word me worker tenant j f ls js is t w =
+    → Allows (λ (s : State Recorded (List Claim)). IsKept size s.views) slots id me word f (Adds (step slots word 0 period (some j)) me)
+adds_as size slots id word me worker tenant period j f ls js is t w =
     let v = claim true worker ls ∷ claim false tenant js ∷ [] in
     let here : 0 < count_of true worker v = rw (self_equal worker) (omega arith) in
     let there : 0 < count_of false tenant v = rw (self_equal tenant) (omega arith) in
-    subst (λ (m : Me Recorded (List Claim)). Allows (λ (s : State Recorded (List Claim)). IsKept size s.views) slots id m word f (Adds (step slots word 0 0 (some j)) m)) (sym is)
-    (adds size slots id word worker tenant v j f refl here there t w)
+    subst (λ (m : Me Recorded (List Claim)). Allows (λ (s : State Recorded (List Claim)). IsKept size s.views) slots id m word f (Adds (step slots word 0 period (some j)) m)) (sym is)
+    (adds size slots id word worker tenant period v j f refl here there t w)
 
 -- what the step of a record made of both claims
-both_by : (w t : ℕ) (m : Option Record) (ls js : List Done) → map (claim_after (done_by w t m)) (claim true w ls ∷ claim false t js ∷ []) ≡ claim true w (ls ++ done_by w t m) ∷ claim false t (js ++ done_by w t m) ∷ []
-both_by w t None ls js = refl
-both_by w t (Some r) ls js = λ i. claim true w (ls ++ cond (self_equal w i) (done w t r ∷ []) []) ∷ claim false t (js ++ cond (self_equal t i) (done w t r ∷ []) []) ∷ []
+both_by : (w : ℕ) (at : Place) (m : Option Record) (ls js : List Done)
+    → map (claim_after (done_by w at m)) (claim true w ls ∷ claim false at.tenant js ∷ []) ≡ claim true w (ls ++ done_by w at m) ∷ claim false at.tenant (js ++ done_by w at m) ∷ []
+both_by w at None ls js = refl
+both_by w at (Some r) ls js =
+    λ i. claim true w (ls ++ cond (self_equal w i) (done w at r ∷ []) []) ∷ claim false at.tenant (js ++ cond (self_equal at.tenant i) (done w at r ∷ []) []) ∷ []
 
-both_after : (w t : ℕ) (records : List Record) (ls js : List Done)
-    → map (claim_after (done_last w t records)) (claim true w ls ∷ claim false t js ∷ []) ≡ claim true w (ls ++ done_last w t records) ∷ claim false t (js ++ done_last w t records) ∷ []
-both_after w t records ls js = both_by w t (last_of records) ls js
+both_after : (w t period : ℕ) (records : List Record) (ls js : List Done)
+    → map (claim_after (done_last w t period records)) (claim true w ls ∷ claim false t js ∷ [])
+    ≡ claim true w (ls ++ done_last w t period records) ∷ claim false t (js ++ done_last w t period records) ∷ []
+both_after w t period records ls js = both_by w (last_place t period records) (last_of records) ls js
 
 -- both passes were put together, and the last record was told
-pub after_add : (w t : ℕ) (j : Recorded) (ls js : List Done) (theirs mine both after : Me Recorded (List Claim)) → theirs ≡ (claim true w ls ∷ [], []) → mine ≡ (claim false t js ∷ [], [])
-    → both ≡ (theirs.0 ++ mine.0, theirs.1) → after ≡ (claims_after (some j) both.0, both.1)
-    → after ≡ (claim true w (ls ++ done_last w t j.records) ∷ claim false t (js ++ done_last w t j.records) ∷ [], [])
-after_add w t j ls js theirs mine both after a b joined told =
+pub after_add : (w t period : ℕ) (j : Recorded) (ls js : List Done) (theirs mine both after : Me Recorded (List Claim)) → theirs ≡ (claim true w ls ∷ [], []) → mine ≡ (claim false t js ∷ [], [])
+    → both ≡ (theirs.0 ++ mine.0, theirs.1) → after ≡ (claims_after period (some j) both.0, both.1)
+    → after ≡ (claim true w (ls ++ done_last w t period j.records) ∷ claim false t (js ++ done_last w t period j.records) ∷ [], [])
+after_add w t period j ls js theirs mine both after a b joined told =
     let is : both ≡ (claim true w ls ∷ claim false t js ∷ [], []) = joined ∙ (λ i. ((a i).0 ++ (b i).0, (a i).1)) in
-    told ∙ (ap (λ (m : Me Recorded (List Claim)). (claims_after (some j) m.0, m.1)) is ∙ (λ i. (both_after w t j.records ls js i, [])))
+    told ∙ (ap (λ (m : Me Recorded (List Claim)). (claims_after period (some j) m.0, m.1)) is ∙ (λ i. (both_after w t period j.records ls js i, [])))
 
 -- a look
 pub looks_as : (size : Size) (slots id word : ℕ) (me : Me Recorded (List Claim)) (known : Size) → size ≡ known

@@ -84,19 +84,19 @@ first_view size = new_claims false 0 size.tenants ++ new_claims true 0 size.work
 abbrev pub claim_after : List Done → Claim → Claim
 claim_after es c = claim c.of_worker c.number (c.steps ++ filter (concerns c) es)
 
--- the step of the last of these records, by the worker and for the tenant that are claimed
-abbrev pub steps_by : List Claim → List Record → List Done
-steps_by (w ∷ t ∷ cs) records = done_last w.number t.number records
-steps_by _ records = []
+-- the step of the last of a period's records, by the worker and for the tenant that are claimed
+abbrev pub steps_by : List Claim → (period : ℕ) → List Record → List Done
+steps_by (w ∷ t ∷ cs) period records = done_last w.number t.number period records
+steps_by _ period records = []
 
--- the claims after the journal's last record was told
-abbrev pub claims_after : Option Recorded → List Claim → List Claim
-claims_after none v = v
-claims_after (some j) v = map (claim_after (steps_by v j.records)) v
+-- the claims after the last record of that period's journal was told
+abbrev pub claims_after : (period : ℕ) → Option Recorded → List Claim → List Claim
+claims_after period none v = v
+claims_after period (some j) v = map (claim_after (steps_by v period j.records)) v
 
--- the step was added to the list
+-- the step was added to the list: the number that the word is offered is that of the period
 abbrev pub Adds : Step Recorded → Me Recorded (List Claim) → ℕ → Me Recorded (List Claim) → Type 0
-Adds st me n me' = me' ≡ (claims_after st.said me.0, me.1)
+Adds st me n me' = me' ≡ (claims_after st.second st.said me.0, me.1)
 
 -- none speaks of a worker or a tenant of which another does
 abbrev pub AreOnce : List Claim → Type 0

@@ -1,27 +1,39 @@
 -- One list of steps, and what it says of tenants and workers.
-use Rattle.std.specs.Prelude.{ℕ, ◌≡◌, ◌==◌, ◌<◌, ◌≤◌, List, [], ◌∷◌, ◌++◌, count_by, filter, fold, All, Option, Some, None}
+use Rattle.std.specs.Prelude.{ℕ, ◌≡◌, ◌==◌, ◌<◌, ◌≤◌, ◌-◌, List, [], ◌∷◌, ◌++◌, count_by, filter, length, All, Option, Some, None}
+use Rattle.tenant_core.specs.Journals.{last_of}
+use Rattle.tenant_core.specs.State.{State}
 use Rattle.tenant_core.specs.declared.journal.Record.{Record}
 use Rattle.one_list.specs.declared.step.Done.{Done}
 use Rattle.one_list.specs.declared.step.Size.{Size}
 
 -- ---- steps
 
--- the step of that worker for that tenant, of which this is the record
-abbrev pub done : ℕ → ℕ → Record → Done
-done worker tenant r = record { worker = worker; tenant = tenant; made = r }
+-- where a record stands: in the journal of that tenant, in the period of that number, behind so many records of it
+pub record Place : Type 0 where
+  pub tenant : ℕ
+  pub period : ℕ
+  pub number : ℕ
+
+-- where the next record of a state comes to stand
+abbrev pub next_place : State → Place
+next_place s = record { tenant = s.opening.tenant; period = s.opening.period; number = length s.records }
+
+-- the step of that worker, of which this is the record, at that place
+abbrev pub done : ℕ → Place → Record → Done
+done worker p r = record { worker = worker; tenant = p.tenant; period = p.period; number = p.number; made = r }
 
 -- the step of a record, if there is one
-abbrev pub done_by : ℕ → ℕ → Option Record → List Done
-done_by worker tenant None = []
-done_by worker tenant (Some r) = done worker tenant r ∷ []
+abbrev pub done_by : ℕ → Place → Option Record → List Done
+done_by worker p None = []
+done_by worker p (Some r) = done worker p r ∷ []
 
--- the last record, if there is one
-abbrev pub last_of : List Record → Option Record
-last_of records = fold (λ o r. Some r) None records
+-- where the last of a period's records stands
+abbrev pub last_place : (tenant period : ℕ) → List Record → Place
+last_place tenant period records = record { tenant = tenant; period = period; number = length records - 1 }
 
--- the step of the last record, if there is one
-abbrev pub done_last : ℕ → ℕ → List Record → List Done
-done_last worker tenant records = done_by worker tenant (last_of records)
+-- the step of the last of a period's records, if there is one
+abbrev pub done_last : (worker tenant period : ℕ) → List Record → List Done
+done_last worker tenant period records = done_by worker (last_place tenant period records) (last_of records)
 
 -- the steps of that tenant, in their order
 abbrev pub of_tenant : ℕ → List Done → List Done

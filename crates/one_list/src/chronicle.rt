@@ -111,26 +111,33 @@ impl<J: Run> Chronicle<J> {
         WorkerPart::new(number, pass)
     }
 
-    /// Adds the journal's last record to the list, as a step of this tenant by this worker. It can't fail and takes no
-    /// memory.
-    pub fn record(&self, tenant: &mut TenantPart<J>, worker: &mut WorkerPart<J>, journal: &Journal)
-        ensures tenant { tenant.new ≡ grown tenant.old (done_last worker.old.number tenant.old.number journal.now.records) }
-        ensures worker { worker.new ≡ grown worker.old (done_last worker.old.number tenant.old.number journal.now.records) }
+    /// Adds the last record of the journal of that period to the list, as a step of this tenant by this worker. It can't fail
+    /// and takes no memory.
+    pub fn record(
+        &self,
+        tenant: &mut TenantPart<J>,
+        worker: &mut WorkerPart<J>,
+        period: u64,
+        journal: &Journal,
+    )
+        ensures tenant { tenant.new ≡ grown tenant.old (done_last worker.old.number tenant.old.number period journal.now.records) }
+        ensures worker { worker.new ≡ grown worker.old (done_last worker.old.number tenant.old.number period journal.now.records) }
     {
         let mine = mem::replace(&mut tenant.pass, Badge::blank()).into_seat();
         let theirs = mem::replace(&mut worker.pass, Badge::blank()).into_seat();
-        let (mine, theirs) = self.add(worker.number, tenant.number, mine, theirs, journal);
+        let (mine, theirs) = self.add(worker.number, tenant.number, mine, theirs, period, journal);
         tenant.pass = mine.into_badge();
         worker.pass = theirs.into_badge();
     }
 
-    // Adds the journal's last record to the list, for the tenant and the worker whose passes these are.
+    // Adds the last record of the journal of that period to the list, for the tenant and the worker whose passes these are.
     fn add(
         &self,
         worker: u64,
         tenant: u64,
         mine: Pass,
         theirs: Pass,
+        period: u64,
         journal: &Journal,
     ) -> (Pass, Pass)
         requires tables { (mine.table_id ≡ J.table) × (theirs.table_id ≡ J.table) }
@@ -140,15 +147,15 @@ impl<J: Run> Chronicle<J> {
         ensures tables { (result.0.table_id ≡ J.table) × (result.1.table_id ≡ J.table) }
         ensures free { (result.0.me.1 ≡ []) × (result.1.me.1 ≡ []) }
         ensures mine { (steps : List Done) → mine.me ≡ (claim false tenant steps ∷ [], [])
-            → result.0.me ≡ (claim false tenant (steps ++ done_last worker tenant journal.now.records) ∷ [], []) }
+            → result.0.me ≡ (claim false tenant (steps ++ done_last worker tenant period journal.now.records) ∷ [], []) }
         ensures theirs { (steps : List Done) → theirs.me ≡ (claim true worker steps ∷ [], [])
-            → result.1.me ≡ (claim true worker (steps ++ done_last worker tenant journal.now.records) ∷ [], []) }
+            → result.1.me ≡ (claim true worker (steps ++ done_last worker tenant period journal.now.records) ∷ [], []) }
     {
         let words = &self.words.shared;
         let mut both = theirs;
         words.join_seat::<Both>(&mut both, mine);
         let word = (tenant as usize + 1) * LINE_WORDS;
-        words.compare_exchange_with::<Add>(&mut both, word, 0, 0, journal);
+        words.compare_exchange_with::<Add>(&mut both, word, 0, period, journal);
         let theirs = words.split_seat::<First>(&mut both);
         (both, theirs)
     }

@@ -1,6 +1,7 @@
 //! A list in which nothing stands yet.
 
 ghost use Rattle.std.specs.Prelude.{◌≡◌, ◌≤◌, IfOk};
+ghost use Rattle.tenant_core.specs.Limits.{max_tenants};
 
 use crate::chronicle::{Chronicle, Unclaimed};
 use crate::rule::{Pass, Words};
@@ -8,12 +9,10 @@ use crate::run::Run;
 use crate::step::Size;
 use std::alloc::{AllocError, Global};
 use std::marker::Model;
+use tenant_core::limits::MAX_TENANTS;
 
 /// How many words a cache line has: no two tenants have words on the same one.
 pub(crate) const LINE_WORDS: usize = 8;
-
-/// How many tenants there may be.
-const MAX_TENANTS: usize = 64;
 
 /// A line for each tenant, and one before them.
 const TABLE_WORDS: usize = (MAX_TENANTS + 1) * LINE_WORDS;
@@ -41,7 +40,7 @@ impl Model for Opened {
 impl Opened {
     /// A list of so many tenants and workers. The one error is want of memory.
     pub fn new(alloc: Global, tenants: usize, workers: usize) -> Result<Opened, AllocError>
-        requires few { tenants ≤ 64 }
+        requires few { tenants ≤ max_tenants }
         ensures size { IfOk result (λ o. o.size ≡ record { tenants = tenants; workers = workers }) }
     {
         let size = Size {

@@ -22,7 +22,7 @@ pub type View = LinkedList<Claim>;
 /// Leave to add the steps of those that it claims. It has no bytes.
 pub type Pass = Seat<Journal, View>;
 
-/// The words that the steps are added by. Their values never change.
+/// The words that the steps are added by. What they hold says nothing.
 pub type Words = Table<Journal, View, Size, OneList, Global>;
 
 /// There is one list by which all claims are right.
@@ -36,7 +36,8 @@ impl TableRule<Journal, View, Size> for OneList {
     ghost first = { first_view };
 }
 
-/// A journal's last record is told, as a step of the worker and the tenant that are claimed.
+/// The last record of a period's journal is told, as a step of the worker and the tenant that are claimed. The word is offered
+/// the number of the period.
 pub struct Add;
 
 impl Play<Journal, View> for Add {
