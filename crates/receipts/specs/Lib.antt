@@ -1,3 +1,4 @@
 pub mod Audits
 pub mod Layout
 pub mod Runs
+pub mod Ledgers

@@ -18,10 +18,10 @@ use std::alloc::Global;
 use tenant_core::{Period, RecordView};
 
 // Whether a receipt shows that record.
-fn shows(record: &RecordView<'_>, receipt: &Receipt) -> bool
-    ensures { IsTrue result ↔ (shown_by record.entry.now ≡ record_of receipt.now) }
+fn shows(stands: &RecordView<'_>, receipt: &Receipt) -> bool
+    ensures { IsTrue result ↔ (shown_by stands.entry.now ≡ record_of receipt.now) }
 {
-    record.entry.is_same(&receipt.entry) && record.outcome.is_same(&receipt.verdict)
+    stands.entry.is_same(&receipt.entry) && stands.outcome.is_same(&receipt.verdict)
 }
 
 // Where the period stands in which the receipt names the record that it shows. `NoPeriod` where it names none, `Differs` where

@@ -5,9 +5,7 @@ ghost use Rattle.tenant_core.specs.Limits.{max_tenants};
 
 use std::alloc::{AllocError, Global};
 use std::collections::BTreeMap;
-
-// How many tenants there may be.
-const MAX_TENANTS: usize = 64;
+use tenant_core::limits::MAX_TENANTS;
 
 /// Of each tenant's periods, by their numbers, the places at which they stand.
 #[derive(Drop)]

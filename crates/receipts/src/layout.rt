@@ -9,10 +9,7 @@ use crate::holders::Holders;
 use crate::index::Index;
 use std::alloc::{AllocError, Global};
 use tenant_core::Period;
-use tenant_core::limits::MAX_PERIOD;
-
-// How many tenants there may be.
-const MAX_TENANTS: usize = 64;
+use tenant_core::limits::{MAX_PERIOD, MAX_TENANTS};
 
 // Lays out the tenant's period of that number, behind so many entries of those before it, and gives how many there are then;
 // nothing where there is no such period.

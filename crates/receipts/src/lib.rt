@@ -1,5 +1,5 @@
-//! Receipts of the entries of many tenants, and their audit: the check of all workers' receipts against the closed periods,
-//! which trusts neither the workers nor who kept the receipts.
+//! Receipts of the entries of many tenants, a ledger in which a worker keeps them, and their audit: the check of all workers'
+//! receipts against the closed periods, which trusts neither the workers nor who kept the receipts.
 #![tactic(auto)]
 
 mod auditing;
@@ -10,8 +10,10 @@ mod holders;
 mod index;
 pub mod laws;
 mod layout;
+mod ledger;
 mod receipt;
 
 pub use auditing::{Audited, audit};
 pub use fault::AuditFault;
+pub use ledger::Ledger;
 pub use receipt::Receipt;
