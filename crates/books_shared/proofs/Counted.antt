@@ -27,8 +27,8 @@ none_full limit (x ∷ xs) some h zero =
 none_full limit (x ∷ xs) some h (suc t) =
     none_full limit xs some (or-false (nat_le limit x) (list_any (nat_le limit) xs) h).1 t
 
-pub fresh_shares-next : (n : ℕ) → fresh_shares (n + 1) ≡ fresh_shares n ++ fresh n ∷ []
-fresh_shares-next n = rw add-one refl
+pub fresh_shares-next : (audited : Bool) (n : ℕ) → fresh_shares audited (n + 1) ≡ fresh_shares audited n ++ fresh audited n ∷ []
+fresh_shares-next audited n = rw add-one refl
 
 pub each_has_one-next : (n : ℕ) (shares : List ShareView) → each_has_one (n + 1) shares ≡ (each_has_one n shares && eqb (shares_of n shares) 1)
 each_has_one-next n shares = rw add-one refl
@@ -63,29 +63,30 @@ all_there workers shares = (
 
 -- ---- the shares of new books
 
-length-fresh : (n : ℕ) → length (fresh_shares n) ≡ n
-length-fresh zero = refl
-length-fresh (suc n) = let shorter = length-fresh n in omega (arith, length-append (fresh_shares n) (fresh n ∷ []))
+length-fresh : (audited : Bool) (n : ℕ) → length (fresh_shares audited n) ≡ n
+length-fresh audited zero = refl
+length-fresh audited (suc n) =
+    let shorter = length-fresh audited n in omega (arith, length-append (fresh_shares audited n) (fresh audited n ∷ []))
 
 pushed : (worker : ℕ) (shares : List ShareView) (s : ShareView)
     → shares_of worker (shares ++ s ∷ []) ≡ shares_of worker shares + cond (eqb s.worker worker) 1 0
 pushed worker shares s = sum_by_push (λ (x : ShareView). cond (eqb x.worker worker) 1 0) shares s
 
-none_above : (n worker : ℕ) → n ≤ worker → shares_of worker (fresh_shares n) ≡ 0
-none_above zero worker above = refl
-none_above (suc n) worker above =
+none_above : (audited : Bool) (n worker : ℕ) → n ≤ worker → shares_of worker (fresh_shares audited n) ≡ 0
+none_above audited zero worker above = refl
+none_above audited (suc n) worker above =
     let other : n ≢ worker = omega arith in
-    rw (pushed worker (fresh_shares n) (fresh n), ne_eqb n worker other, none_above n worker (omega arith)) refl
+    rw (pushed worker (fresh_shares audited n) (fresh audited n), ne_eqb n worker other, none_above audited n worker (omega arith)) refl
 
-one_below : (n worker : ℕ) → worker < n → shares_of worker (fresh_shares n) ≡ 1
-one_below zero worker below = absurd (omega arith)
-one_below (suc n) worker below =
+one_below : (audited : Bool) (n worker : ℕ) → worker < n → shares_of worker (fresh_shares audited n) ≡ 1
+one_below audited zero worker below = absurd (omega arith)
+one_below audited (suc n) worker below =
     elim (eqb_tells n worker) [
-      | inl a ↦ rw (pushed worker (fresh_shares n) (fresh n), a.0, none_above n worker (let e = a.1 in omega arith)) refl
-      | inr a ↦ rw (pushed worker (fresh_shares n) (fresh n), a.0, one_below n worker (let e = a.1 in omega arith)) refl
+      | inl a ↦ rw (pushed worker (fresh_shares audited n) (fresh audited n), a.0, none_above audited n worker (let e = a.1 in omega arith)) refl
+      | inr a ↦ rw (pushed worker (fresh_shares audited n) (fresh audited n), a.0, one_below audited n worker (let e = a.1 in omega arith)) refl
     ]
 
 -- each worker has one of them
-pub fresh_there : (workers : ℕ) → IsTrue (are_all_there workers (fresh_shares workers))
-fresh_there workers =
-    (all_there workers (fresh_shares workers)).1 (length-fresh workers, one_below workers)
+pub fresh_there : (audited : Bool) (workers : ℕ) → IsTrue (are_all_there workers (fresh_shares audited workers))
+fresh_there audited workers =
+    (all_there workers (fresh_shares audited workers)).1 (length-fresh audited workers, one_below audited workers)

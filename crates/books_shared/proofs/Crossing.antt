@@ -23,7 +23,7 @@ use Rattle.books_shared.specs.contracts.books.Books as Books
 routes_send : IsSend Routes.the_row
 routes_send = search (sendable, std.crosses, maps.crosses, of_node.crosses) depth 40
 
-network_send : IsSend Network.the_row
+pub network_send : IsSend Network.the_row
 network_send = search (sendable, std.crosses, routes_send, of_peer.the_send, of_rate.the_send) depth 40
 
 book_send : IsSend Book.the_row

@@ -5,7 +5,9 @@ use Rattle.tenant_core.specs.declared.journal.Record.{Record}
 use Rattle.floor_core.specs.Work.{Called}
 use Rattle.floor_core.specs.declared.parts.Turn.{Turn}
 use Rattle.floor_core.specs.declared.parts.Turn.TheVariants.{Idle, Stray, Stranger, Reply, Send}
-use Rattle.books_shared.specs.Rises.{IsSmall, entries_of, rise_of, rise_of_turn}
+use Rattle.std.specs.Prelude.{Result, Ok, Err}
+use Rattle.tenant_core.specs.declared.faults.BookFault.{BookFault}
+use Rattle.books_shared.specs.Rises.{IsSmall, entries_of, rise_of, rise_of_turn, tick_rise}
 
 -- a book has the entries that were made
 pub longer : (s : State) (made : Option Record) → length (recorded s made).records ≡ length s.records + entries_of made
@@ -46,3 +48,7 @@ small Reply None = record { entries = omega arith; strangers = omega arith; full
 small Reply (Some r) = record { entries = omega arith; strangers = omega arith; full = omega arith }
 small (Send peer hold) None = record { entries = omega arith; strangers = omega arith; full = omega arith }
 small (Send peer hold) (Some r) = record { entries = omega arith; strangers = omega arith; full = omega arith }
+
+pub tick_small : (count : Result ℕ BookFault) → IsSmall (tick_rise count)
+tick_small (Ok count) = record { entries = omega arith; strangers = omega arith; full = omega arith }
+tick_small (Err fault) = record { entries = omega arith; strangers = omega arith; full = omega arith }

@@ -5,3 +5,4 @@ pub mod Counted
 pub mod Crossing
 pub mod Causes
 pub mod Gathering
+pub mod Keeping

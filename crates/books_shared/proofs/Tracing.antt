@@ -1,6 +1,6 @@
 -- The one list goes on with each call: what the call appended is what its entry led to, and leads to the state after it.
-use Rattle.std.proofs.Common.{◌≡◌, ◌==◌, ◌≤◌, ℕ, ◌+◌, zero, suc, Bool, true, false, List, [], ◌∷◌, ◌++◌, length, map, refl, sym, ap, subst, ◌∙◌}
-use Rattle.std.proofs.Common.{arith, append-nil, add-zero}
+use Rattle.std.proofs.Common.{◌≡◌, ◌==◌, ◌≤◌, ◌<◌, ℕ, ◌+◌, ◌-◌, zero, suc, Bool, true, false, List, [], ◌∷◌, ◌++◌, length, map, refl, sym, ap, subst, ◌∙◌}
+use Rattle.std.proofs.Common.{arith, append-nil, add-zero, length-append}
 use Rattle.std.specs.Prelude.{max, Option, Some, None, IfSome, Result, Ok, Err, slice_get, option_map, if◌then◌else◌}
 use Rattle.ilp_addr.specs.Timestamp.{last_moment}
 use Rattle.ilp_view.specs.Packet.{Prepare}
@@ -44,15 +44,15 @@ use Rattle.std.specs.List.{enumerate_from}
 use Rattle.std.proofs.lemmas.List.{length-map}
 use Rattle.std.proofs.lemmas.List.FromFn.{length-enumerate_from}
 use Rattle.one_list.proofs.History.{laws}
-use Rattle.one_list.specs.Steps.{PartView, done, done_by, done_last, grown}
+use Rattle.one_list.specs.Steps.{PartView, Place, done, done_by, done_last, grown, next_place}
 use Rattle.one_list.specs.declared.step.Done.{Done}
 use Rattle.books_shared.specs.Rises.{entries_of, tick_rise}
 use Rattle.books_shared.specs.declared.rise.Rise.{Rise}
-use Rattle.books_shared.specs.Shares.{ShareView, with_steps}
+use Rattle.books_shared.specs.Shares.{ShareView, raised, with_steps}
 use Rattle.floor_core.specs.Causes.{HasCause}
-use Rattle.books_shared.specs.Traced.{IsLedTo, IsTraced, after_made, openings_of}
+use Rattle.books_shared.specs.Traced.{IsLedTo, IsTraced, after_made, counted, openings_of}
 use Rattle.books_shared.proofs.Causes.{causes_on, governed_cause}
-use Rattle.books_shared.specs.Tracing.{told_by, told_of}
+use Rattle.books_shared.specs.Tracing.{HasAppended, told_by, told_of}
 
 -- ---- which records a call appends: none is a roll's
 
@@ -182,7 +182,7 @@ governed_made (Ok answered) c before after now governed sound =
     command_is_made before c now (subst (λ (x : State). IsSound x) governed.1 sound)
 governed_made (Err fault) c before after now governed sound = tt
 
-governed_tenant : (r : Result Answered CommandFault) (c : Command) (before after : State) (now : ℕ)
+pub governed_tenant : (r : Result Answered CommandFault) (c : Command) (before after : State) (now : ℕ)
     → IsGoverned r c before after now → after.opening.tenant ≡ before.opening.tenant
 governed_tenant (Ok answered) c before after now governed =
     ap (λ (x : State). x.opening.tenant) governed.1 ∙ (call_laws.same_commanded before c now).number
@@ -190,73 +190,114 @@ governed_tenant (Err fault) c before after now governed = ap (λ (x : State). x.
 
 -- ---- what the list is told
 
-one_told : (s : State) (r : Record) (worker tenant : ℕ) → done_last worker tenant (recorded s (Some r)).records ≡ done worker tenant r ∷ []
-one_told s r worker tenant = rw (laws.last s.records r) refl
+-- where the next record of that state comes to stand, in the part of that number
+abbrev pub place_at : ℕ → State → Place
+place_at tenant s = record { tenant = tenant; period = s.opening.period; number = length s.records }
+
+-- a record that was appended stands there
+one_told : (s : State) (r : Record) (worker tenant : ℕ)
+    → done_last worker tenant s.opening.period (s.records ++ r ∷ []) ≡ done worker (place_at tenant s) r ∷ []
+one_told s r worker tenant =
+    let behind : length (s.records ++ r ∷ []) - 1 ≡ length s.records = omega (arith, length-append s.records (r ∷ [])) in
+    (λ i. done_by worker (record { tenant = tenant; period = s.opening.period; number = behind i }) (laws.last s.records r i))
 
 pub told_did : (s : State) (made : Option Record) (n worker tenant : ℕ) → n ≡ entries_of made
-    → told_by n worker tenant (recorded s made).records ≡ done_by worker tenant made
+    → told_by n worker tenant s.opening.period (recorded s made).records ≡ done_by worker (place_at tenant s) made
 told_did s None n worker tenant e = rw e refl
 told_did s (Some r) n worker tenant e = rw e (one_told s r worker tenant)
 
 order_told : (s : State) (r : Result Changed CommandFault) (now worker tenant : ℕ)
-    → told_of (order_answer r) worker tenant (order_left s r now).records ≡ done_by worker tenant (order_made r now)
+    → told_of (order_answer r) worker tenant (order_left s r now) ≡ done_by worker (place_at tenant s) (order_made r now)
 order_told s (Ok change) now worker tenant = one_told s _ worker tenant
 order_told s (Err fault) now worker tenant = refl
 
 roll_told : (s : State) (o : Option CommandFault) (now worker tenant : ℕ)
-    → told_of (roll_answer s o now) worker tenant (roll_left s o now).records ≡ done_by worker tenant (roll_made o now)
+    → told_of (roll_answer s o now) worker tenant (roll_left s o now) ≡ done_by worker (place_at tenant s) (roll_made o now)
 roll_told s None now worker tenant = one_told s (roll_record now) worker tenant
 roll_told s (Some fault) now worker tenant = refl
 
 command_told : (s : State) (c : Command) (now worker tenant : ℕ)
-    → told_of (command_answer s c now) worker tenant (commanded s c now).records ≡ done_by worker tenant (command_made s c now)
+    → told_of (command_answer s c now) worker tenant (commanded s c now) ≡ done_by worker (place_at tenant s) (command_made s c now)
 command_told s (command.Order order) now worker tenant = order_told s (ordered s order) now worker tenant
 command_told s command.Balances now worker tenant = refl
 command_told s command.Roll now worker tenant = roll_told s (roll_refusal s) now worker tenant
 
 pub governed_told : (r : Result Answered CommandFault) (c : Command) (before after : State) (now worker tenant : ℕ)
-    → IsGoverned r c before after now → told_of r worker tenant after.records ≡ done_by worker tenant (made_by r before c now)
+    → IsGoverned r c before after now
+    → told_of r worker tenant after ≡ done_by worker (place_at tenant before) (made_by r before c now)
 governed_told (Ok answered) c before after now worker tenant governed =
-    (λ k. told_of (governed.0 k) worker tenant (governed.1 k).records) ∙ command_told before c now worker tenant
+    (λ k. told_of (governed.0 k) worker tenant (governed.1 k)) ∙ command_told before c now worker tenant
 governed_told (Err fault) c before after now worker tenant governed = refl
+
+-- of a command that appended an entry there is a record
+
+some_behind : (records : List Record) (r : Record) → 0 < length (records ++ r ∷ [])
+some_behind records r = omega (arith, length-append records (r ∷ []))
+
+order_appends : (s : State) (r : Result Changed CommandFault) (now : ℕ) → HasAppended (order_answer r) (order_left s r now)
+order_appends s (Ok change) now = some_behind s.records _
+order_appends s (Err fault) now = tt
+
+roll_appends : (s : State) (o : Option CommandFault) (now : ℕ) → HasAppended (roll_answer s o now) (roll_left s o now)
+roll_appends s None now = some_behind s.records _
+roll_appends s (Some fault) now = tt
+
+command_appends : (s : State) (c : Command) (now : ℕ) → HasAppended (command_answer s c now) (commanded s c now)
+command_appends s (command.Order order) now = order_appends s (ordered s order) now
+command_appends s command.Balances now = tt
+command_appends s command.Roll now = roll_appends s (roll_refusal s) now
+
+pub governed_appends : (r : Result Answered CommandFault) (c : Command) (before after : State) (now : ℕ)
+    → IsGoverned r c before after now → HasAppended r after
+governed_appends (Ok answered) c before after now governed =
+    subst (λ (x : Result Answered CommandFault × State). HasAppended x.0 x.1)
+    (λ k. (sym governed.0 k, sym governed.1 k)) (command_appends before c now)
+governed_appends (Err fault) c before after now governed = tt
 
 -- ---- the book's part of it
 
 led_on : (openings : List Opening) (s : State) (steps : List Done) (worker : ℕ) (made : Option Record) → IsLedTo openings s steps
     → (after_made s made).opening.tenant ≡ s.opening.tenant → IfSome made (λ r. IsMade s r) → IfSome made (λ r. HasCause s r)
-    → IsLedTo openings (after_made s made) (steps ++ done_by worker s.opening.tenant made)
+    → IsLedTo openings (after_made s made) (steps ++ done_by worker (next_place s) made)
 led_on openings s steps worker None led same is caused = subst (λ x. IsLedTo openings s x) (sym (append-nil steps)) led
 led_on openings s steps worker (Some r) led same is caused =
     record {
       first = led.first;
       opens = rw same led.opens;
-      history = laws.goes_on led.first steps s (done worker s.opening.tenant r) led.history is;
-      causes = causes_on _ s steps (done worker s.opening.tenant r) led.history led.causes caused;
+      history = laws.goes_on led.first steps s (done worker (next_place s) r) led.history
+          (record { made = is; period = refl; number = refl });
+      causes = causes_on _ s steps (done worker (next_place s) r) led.history led.causes caused;
     }
 
 -- a book after a call, whose part has the record that the call made
 pub traced_on : (openings : List Opening) (s after : State) (part left : PartView) (worker : ℕ) (made : Option Record)
     → IsTraced openings s part → after ≡ after_made s made → after.opening.tenant ≡ s.opening.tenant → IfSome made (λ r. IsMade s r)
-    → IfSome made (λ r. HasCause s r) → left ≡ grown part (done_by worker part.number made) → IsTraced openings after left
+    → IfSome made (λ r. HasCause s r) → left ≡ grown part (done_by worker (place_at part.number s) made) → IsTraced openings after left
 traced_on openings s after part left worker made traced e same is caused grew =
     record {
       number = ap (λ (p : PartView). p.number) grew ∙ (traced.number ∙ sym same);
       led = subst (λ (x : List Done). IsLedTo openings after x)
-          (ap (λ (n : ℕ). part.steps ++ done_by worker n made) (sym traced.number) ∙ sym (ap (λ (p : PartView). p.steps) grew))
-          (subst (λ (x : State). IsLedTo openings x (part.steps ++ done_by worker s.opening.tenant made)) (sym e)
+          (ap (λ (n : ℕ). part.steps ++ done_by worker (place_at n s) made) (sym traced.number) ∙ sym (ap (λ (p : PartView). p.steps) grew))
+          (subst (λ (x : State). IsLedTo openings x (part.steps ++ done_by worker (next_place s) made)) (sym e)
           (led_on openings s part.steps worker made traced.led (ap (λ (x : State). x.opening.tenant) (sym e) ∙ same) is caused));
     }
 
+-- the same, where the opening stays
+told_kept : (s : State) (made : Option Record) (n worker tenant : ℕ) → n ≡ entries_of made
+    → told_by n worker tenant (recorded s made).opening.period (recorded s made).records ≡ done_by worker (place_at tenant s) made
+told_kept s None n worker tenant is = told_did s None n worker tenant is
+told_kept s (Some r) n worker tenant is = told_did s (Some r) n worker tenant is
+
 -- what the list is told of a call that made that record, if it made one
 pub told_call : (s after : State) (made : Option Record) (n worker tenant : ℕ) → after ≡ recorded s made → n ≡ entries_of made
-    → told_by n worker tenant after.records ≡ done_by worker tenant made
+    → told_by n worker tenant after.opening.period after.records ≡ done_by worker (place_at tenant s) made
 told_call s after made n worker tenant e is =
-    ap (λ (x : State). told_by n worker tenant x.records) e ∙ told_did s made n worker tenant is
+    ap (λ (x : State). told_by n worker tenant x.opening.period x.records) e ∙ told_kept s made n worker tenant is
 
 -- a book after a call of a slot, or a tick
 pub traced_call : (openings : List Opening) (s after : State) (part left : PartView) (worker : ℕ) (made : Option Record) (n : ℕ)
     → IsTraced openings s part → Stays made → IfSome made (λ r. HasCause s r) → after ≡ recorded s made → IsReplay after → n ≡ entries_of made
-    → left ≡ grown part (told_by n worker part.number after.records) → IsTraced openings after left
+    → left ≡ grown part (told_by n worker part.number after.opening.period after.records) → IsTraced openings after left
 traced_call openings s after part left worker made n traced stays caused e replay is grew =
     traced_on openings s after part left worker made traced (e ∙ sym (stays s)) (ap (λ (x : State). x.opening.tenant) e)
     (made_of s made (subst IsReplay e replay)) caused
@@ -265,23 +306,26 @@ traced_call openings s after part left worker made n traced stays caused e repla
 -- a book after a command
 pub traced_command : (openings : List Opening) (s after : State) (part left : PartView) (worker : ℕ) (r : Result Answered CommandFault) (c : Command) (now : ℕ)
     → IsTraced openings s part → IsGoverned r c s after now → IsSound after
-    → left ≡ grown part (told_of r worker part.number after.records) → IsTraced openings after left
+    → left ≡ grown part (told_of r worker part.number after) → IsTraced openings after left
 traced_command openings s after part left worker r c now traced governed sound grew =
     traced_on openings s after part left worker (made_by r s c now) traced (governed_leaves r c s after now governed)
     (governed_tenant r c s after now governed) (governed_made r c s after now governed sound) (governed_cause r s c now)
     (grew ∙ ap (λ (ds : List Done). grown part ds) (governed_told r c s after now worker part.number governed))
 
 -- the steps of a part after a call, and of a share
-pub steps_told : (part left : PartView) (worker tenant : ℕ) (made : Option Record) (ds : List Done) → left ≡ grown part ds
-    → ds ≡ done_by worker part.number made → part.number ≡ tenant → left.steps ≡ part.steps ++ done_by worker tenant made
-steps_told part left worker tenant made ds grew told own =
+pub steps_told : (part left : PartView) (worker : ℕ) (s : State) (made : Option Record) (ds : List Done) → left ≡ grown part ds
+    → ds ≡ done_by worker (place_at part.number s) made → part.number ≡ s.opening.tenant
+    → left.steps ≡ part.steps ++ done_by worker (next_place s) made
+steps_told part left worker s made ds grew told own =
     ap (λ (p : PartView). p.steps) grew
-    ∙ ap (λ (es : List Done). part.steps ++ es) (told ∙ ap (λ (n : ℕ). done_by worker n made) own)
+    ∙ ap (λ (es : List Done). part.steps ++ es) (told ∙ ap (λ (n : ℕ). done_by worker (place_at n s) made) own)
 
-pub share_told : (share left : ShareView) (number tenant : ℕ) (made : Option Record) (ds : List Done) → left ≡ with_steps ds share
-    → ds ≡ done_by share.worker number made → number ≡ tenant → left ≡ with_steps (done_by share.worker tenant made) share
-share_told share left number tenant made ds grew told own =
-    grew ∙ ap (λ (es : List Done). with_steps es share) (told ∙ ap (λ (n : ℕ). done_by share.worker n made) own)
+pub share_told : (share left : ShareView) (rise same : Rise) (number : ℕ) (s : State) (made : Option Record) (ds : List Done)
+    → left ≡ raised rise number (with_steps ds share) → ds ≡ done_by share.worker (place_at number s) made
+    → number ≡ s.opening.tenant → rise ≡ same → left ≡ counted same (next_place s) made share
+share_told share left rise same number s made ds grew told own is =
+    grew ∙ ((λ i. raised (is i) (own i) (with_steps (told i) share))
+    ∙ ap (λ (n : ℕ). raised same s.opening.tenant (with_steps (done_by share.worker (place_at n s) made) share)) own)
 
 -- a book in which nothing has happened, at its place among the openings
 pub traced_first : (openings : List Opening) (o : Opening) (part : PartView) → part ≡ record { number = o.tenant; steps = [] }

@@ -1,14 +1,18 @@
 -- What a worker has counted for each tenant.
-use Rattle.std.specs.Prelude.{ℕ, ◌+◌, ◌-◌, ◌^◌, Bool, ◌||◌, List, [], ◌∷◌, ◌++◌, replicate, slice_index, slice_set, zero, suc, nat_le}
-use Rattle.std.specs.Prelude.{Result, Ok, Err, if◌then◌else◌}
+use Rattle.std.specs.Prelude.{ℕ, ◌≡◌, ◌+◌, ◌-◌, ◌^◌, Bool, true, false, ◌||◌, List, [], ◌∷◌, ◌++◌, map, replicate, slice_index, slice_set, zero, suc, nat_le}
+use Rattle.std.specs.Prelude.{Option, Some, None, Result, Ok, Err, if◌then◌else◌}
 use Rattle.std.specs.List.{list_any}
 use Rattle.tenant_core.specs.Limits.{max_tenants}
 use Rattle.one_list.specs.declared.step.Done.{Done}
 use Rattle.books_shared.specs.declared.rise.Rise.{Rise}
-use Rattle.books_shared.specs.declared.share.Spent.{Spent}
+use Rattle.books_shared.specs.declared.share.RoomFault.{RoomFault}
+use Rattle.books_shared.specs.declared.share.RoomFault.TheVariants.{Spent, Memory}
+use Rattle.receipts.specs.Ledgers.{receipt_of}
+use Rattle.receipts.specs.declared.receipt.Receipt.{Receipt}
 
 -- a worker's number; of each tenant, how many entries it appended, how many tokens were no peer's, and how many packets
--- found the journal full; for how many calls there is room; and the worker's steps in the one list
+-- found the journal full; for how many calls there is room; the worker's steps in the one list; and whether it keeps a
+-- receipt of each of them
 pub record ShareView : Type 0 where
   pub worker : ℕ
   pub counts : List ℕ
@@ -16,6 +20,7 @@ pub record ShareView : Type 0 where
   pub full : List ℕ
   pub room : ℕ
   pub steps : List Done
+  pub audited : Bool
 
 -- ---- new shares
 
@@ -24,14 +29,22 @@ abbrev pub no_counts : List ℕ
 no_counts = replicate max_tenants 0
 
 -- the share of a worker that has counted nothing
-abbrev pub fresh : ℕ → ShareView
-fresh worker =
-    record { worker = worker; counts = no_counts; strangers = no_counts; full = no_counts; room = 0; steps = [] }
+abbrev pub fresh : (audited : Bool) (worker : ℕ) → ShareView
+fresh audited worker =
+    record {
+      worker = worker;
+      counts = no_counts;
+      strangers = no_counts;
+      full = no_counts;
+      room = 0;
+      steps = [];
+      audited = audited;
+    }
 
 -- the shares of so many workers, in order
-abbrev pub fresh_shares : ℕ → List ShareView
-fresh_shares zero = []
-fresh_shares (suc n) = fresh_shares n ++ fresh n ∷ []
+abbrev pub fresh_shares : (audited : Bool) (workers : ℕ) → List ShareView
+fresh_shares audited zero = []
+fresh_shares audited (suc n) = fresh_shares audited n ++ fresh audited n ∷ []
 
 -- ---- counting
 
@@ -42,13 +55,11 @@ added counts tenant n = slice_set counts tenant (slice_index counts tenant + n)
 -- the share after a call that counts so much for that tenant
 abbrev pub raised : Rise → ℕ → ShareView → ShareView
 raised rise tenant s =
-    record {
-      worker = s.worker;
+    record s {
       counts = added s.counts tenant rise.entries;
       strangers = added s.strangers tenant rise.strangers;
       full = added s.full tenant rise.full;
       room = s.room - 1;
-      steps = s.steps;
     }
 
 -- the share with these steps more
@@ -69,10 +80,23 @@ has_full counts = list_any (nat_le max_count) counts
 abbrev pub is_spent : ShareView → Bool
 is_spent s = has_full s.counts || has_full s.strangers || has_full s.full
 
--- what a share is told that asks for room
-abbrev pub room_result : ShareView → Result (Unit {0}) Spent
-room_result s = if is_spent s then Err (record {}) else Ok tt
+-- what came of asking for room: there is room for two calls; or nothing has changed, since a count is full, or since memory
+-- for receipts was refused
+abbrev pub IsRoomMade : Result (Unit {0}) RoomFault → (before after : ShareView) → Type 0
+IsRoomMade (Ok made) before after = (is_spent before ≡ false) × (after ≡ record before { room = 2 })
+IsRoomMade (Err Spent) before after = (is_spent before ≡ true) × (after ≡ before)
+IsRoomMade (Err Memory) before after = (is_spent before ≡ false) × (before.audited ≡ true) × (after ≡ before)
 
--- the share after that
-abbrev pub with_room : ShareView → ShareView
-with_room s = if is_spent s then s else record s { room = 2 }
+-- ---- receipts
+
+-- the receipt of a step
+abbrev pub receipt_told : Done → Receipt
+receipt_told e = receipt_of e.tenant e.period e.number e.made
+
+-- the receipts of steps, in their order
+abbrev pub receipts_told : List Done → List Receipt
+receipts_told steps = map receipt_told steps
+
+-- the receipts that a worker has, where it keeps them: of each of its steps, in their order
+abbrev pub receipts_in : ShareView → Option (List Receipt)
+receipts_in s = if s.audited then Some (receipts_told s.steps) else None

@@ -6,7 +6,7 @@ use Rattle.tenant_core.specs.declared.journal.Record.{Record}
 use Rattle.tenant_core.specs.declared.opening.Opening.{Opening}
 use Rattle.tenant_core.specs.declared.terms.TenantTerms.{TenantTerms}
 use Rattle.one_list.specs.History.{IsHistory, after_record}
-use Rattle.one_list.specs.Steps.{PartView, done_by, of_tenant, of_worker}
+use Rattle.one_list.specs.Steps.{PartView, Place, done_by, of_tenant, of_worker}
 use Rattle.one_list.specs.declared.step.Done.{Done}
 use Rattle.one_list.specs.declared.step.Size.{Size}
 use Rattle.floor_core.specs.Causes.{AreRun, Entered, HasCause}
@@ -16,9 +16,9 @@ use Rattle.books_shared.specs.declared.rise.Rise.{Rise}
 
 -- ---- a call
 
--- the share of a worker after a call that counts so much for that tenant, and made that record
-abbrev pub counted : Rise → (tenant : ℕ) → Option Record → ShareView → ShareView
-counted rise tenant made s = raised rise tenant (with_steps (done_by s.worker tenant made) s)
+-- the share of a worker after a call that counts so much, and made that record at that place
+abbrev pub counted : Rise → Place → Option Record → ShareView → ShareView
+counted rise at made s = raised rise at.tenant (with_steps (done_by s.worker at made) s)
 
 -- the state after it
 abbrev pub after_made : State → Option Record → State

@@ -54,14 +54,15 @@ impl<J: Run> Books<J> {
 
     /// The books of these tenants, in which nothing has happened and whose first periods begin at `start`, and the shares
     /// of so many workers, in order: their numbers are 0, 1 and so on, all counts are 0, and there is no room for a
-    /// call. There are 1 to 64 tenants and 1 to 4,096 workers. The list of what is done to them has just been opened, for so many
-    /// tenants and workers. The one error is want of memory.
+    /// call; they keep receipts where the run is audited. There are 1 to 64 tenants and 1 to 4,096 workers. The list of what is
+    /// done to them has just been opened, for so many tenants and workers. The one error is want of memory.
     pub fn new(
         alloc: Global,
         opened: Opened,
         setups: &[TenantSetup],
         start: Moment,
         workers: usize,
+        audited: bool,
     ) -> Result<(Books<J>, Vec<Share<J>>), AllocError>
         requires list { (opened.table ≡ J.table) × (opened.size ≡ J.size) }
         requires size { J.size ≡ record { tenants = length setups.now; workers = workers } }
@@ -69,11 +70,11 @@ impl<J: Run> Books<J> {
         requires tenants { (1 ≤ length setups.now) × (length setups.now ≤ max_tenants) }
         requires workers { (1 ≤ workers) × (workers ≤ max_workers) }
         ensures books { IfOk result (λ made. made.0 ≡ record { tenants = length setups.now; workers = workers }) }
-        ensures shares { IfOk result (λ made. made.1.items ≡ fresh_shares workers) }
+        ensures shares { IfOk result (λ made. made.1.items ≡ fresh_shares audited workers) }
     {
         let (chronicle, mut unclaimed) = opened.named::<J>();
         let locks = locks_of(alloc, &chronicle, &mut unclaimed, setups, start)?;
-        let shares = fresh_shares(alloc, &chronicle, &mut unclaimed, workers)?;
+        let shares = fresh_shares(alloc, &chronicle, &mut unclaimed, workers, audited)?;
         let books = Books {
             chronicle,
             locks,
@@ -161,14 +162,16 @@ fn fresh_shares<J: Run>(
     chronicle: &Chronicle<J>,
     unclaimed: &mut Unclaimed<J>,
     workers: usize,
+    audited: bool,
 ) -> Result<Vec<Share<J>>, AllocError>
     requires none { unclaimed.old.workers ≡ 0 }
     requires many { J.size.workers ≡ workers }
-    ensures { IfOk result (λ shares. shares.items ≡ fresh_shares workers) }
+    ensures { IfOk result (λ shares. shares.items ≡ fresh_shares audited workers) }
 {
     let mut shares: Vec<Share<J>> = Vec::with_capacity(alloc, workers)?;
     for _worker in 0..workers {
-        shares.push_reserved(Share::fresh(chronicle.worker_part(unclaimed)));
+        let part = chronicle.worker_part(unclaimed);
+        shares.push_reserved(Share::fresh(alloc, part, audited));
     }
     Ok(shares)
 }

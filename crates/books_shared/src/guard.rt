@@ -55,7 +55,7 @@ impl<J: Run> Guard<'_, J> {
     ghost use Rattle.books_shared.specs.Kept.{IsKept, number_of};
     ghost use Rattle.books_shared.specs.Rises.{command_rise, entries_closed, rise_of, tick_rise};
     ghost use Rattle.books_shared.specs.Traced.{IsLedTo, counted};
-    ghost use Rattle.one_list.specs.Steps.{done_by};
+    ghost use Rattle.one_list.specs.Steps.{done_by, next_place};
     ghost use Rattle.books_shared.specs.Turns.{IsLeft, IsEnded};
 
     // What the type keeps.
@@ -87,7 +87,7 @@ impl<J: Run> Guard<'_, J> {
     }
 
     /// Decides the frame of the slot by the book at this moment, as `Slot::decide` does, and counts what that adds: the
-    /// entry; or the token that is no peer's (`Stranger`); or the packet for which the journal has no room (one of
+    /// entry, of which a share of an audited run keeps a receipt; or the token that is no peer's (`Stranger`); or the packet for which the journal has no room (one of
     /// `Reply`). After `Idle` and `Stray` nothing has changed but that the call was used up.
     ///
     /// The share has room for a call, which this one uses up.
@@ -98,19 +98,15 @@ impl<J: Run> Guard<'_, J> {
         ensures book { self.new.state ≡ recorded self.old.state (decide_call slot.old self.old.state now).made }
         ensures closed { self.new.closed ≡ self.old.closed }
         ensures steps { self.new.steps ≡ self.old.steps
-            ++ done_by share.old.worker self.old.state.opening.tenant (decide_call slot.old self.old.state now).made }
-        ensures share { share.new ≡ counted (rise_of (decide_call slot.old self.old.state now)) self.old.state.opening.tenant
+            ++ done_by share.old.worker (next_place self.old.state) (decide_call slot.old self.old.state now).made }
+        ensures share { share.new ≡ counted (rise_of (decide_call slot.old self.old.state now)) (next_place self.old.state)
             (decide_call slot.old self.old.state now).made share.old }
         ensures number { number_of self.new
             ≡ number_of self.old + (rise_of (decide_call slot.old self.old.state now)).entries }
         // What is known of the slot from the turn alone.
         ensures left { IsLeft result slot.old slot.new }
     {
-        self.kept.is_kept();
-        let tenant = self.kept.book().tenant();
-        let (turn, rise) = self.kept.decide(self.chronicle, share, slot, now);
-        share.raise(tenant, rise);
-        turn
+        self.kept.decide(self.chronicle, share, slot, now)
     }
 
     /// Settles the packet of the slot by the book and what came back, as `Slot::answer` does, and counts the entry that
@@ -124,19 +120,15 @@ impl<J: Run> Guard<'_, J> {
         ensures book { self.new.state ≡ recorded self.old.state (answer_call slot.old self.old.state now got).made }
         ensures closed { self.new.closed ≡ self.old.closed }
         ensures steps { self.new.steps ≡ self.old.steps
-            ++ done_by share.old.worker self.old.state.opening.tenant (answer_call slot.old self.old.state now got).made }
-        ensures share { share.new ≡ counted (rise_of (answer_call slot.old self.old.state now got)) self.old.state.opening.tenant
+            ++ done_by share.old.worker (next_place self.old.state) (answer_call slot.old self.old.state now got).made }
+        ensures share { share.new ≡ counted (rise_of (answer_call slot.old self.old.state now got)) (next_place self.old.state)
             (answer_call slot.old self.old.state now got).made share.old }
         ensures number { number_of self.new
             ≡ number_of self.old + (rise_of (answer_call slot.old self.old.state now got)).entries }
         // What is known of the slot from the turn alone.
         ensures left { IsEnded result slot.old slot.new }
     {
-        self.kept.is_kept();
-        let tenant = self.kept.book().tenant();
-        let (turn, rise) = self.kept.answer(self.chronicle, share, slot, now, got);
-        share.raise(tenant, rise);
-        turn
+        self.kept.answer(self.chronicle, share, slot, now, got)
     }
 
     /// Records this moment in the book, as `Book::tick` does, and counts the entry. After `Full` nothing has changed but
@@ -149,16 +141,12 @@ impl<J: Run> Guard<'_, J> {
         ensures book { self.new.state ≡ ticked self.old.state now }
         ensures closed { self.new.closed ≡ self.old.closed }
         ensures steps { self.new.steps ≡ self.old.steps
-            ++ done_by share.old.worker self.old.state.opening.tenant (tick_made self.old.state now) }
-        ensures share { share.new ≡ counted (tick_rise result) self.old.state.opening.tenant
+            ++ done_by share.old.worker (next_place self.old.state) (tick_made self.old.state now) }
+        ensures share { share.new ≡ counted (tick_rise result) (next_place self.old.state)
             (tick_made self.old.state now) share.old }
         ensures number { number_of self.new ≡ number_of self.old + (tick_rise result).entries }
     {
-        self.kept.is_kept();
-        let tenant = self.kept.book().tenant();
-        let (count, rise) = self.kept.tick(self.chronicle, share, now);
-        share.raise(tenant, rise);
-        count
+        self.kept.tick(self.chronicle, share, now)
     }
 
     /// Does what an operator commands at this moment, as `Book::command` does, and counts the entry of an order or a roll.
@@ -178,17 +166,12 @@ impl<J: Run> Guard<'_, J> {
         ensures closed { self.new.closed
             ≡ self.old.closed + entries_closed result (length self.old.state.records) }
         ensures steps { self.new.steps ≡ self.old.steps
-            ++ done_by share.old.worker self.old.state.opening.tenant (made_by result self.old.state command.now now) }
-        ensures share { share.new ≡ counted (command_rise result) self.old.state.opening.tenant
+            ++ done_by share.old.worker (next_place self.old.state) (made_by result self.old.state command.now now) }
+        ensures share { share.new ≡ counted (command_rise result) (next_place self.old.state)
             (made_by result self.old.state command.now now) share.old }
         ensures number { number_of self.new ≡ number_of self.old + (command_rise result).entries }
     {
-        self.kept.is_kept();
-        let tenant = self.kept.book().tenant();
-        let (answer, rise) = self
-            .kept
-            .command(alloc, self.chronicle, share, command, now);
-        share.raise(tenant, rise);
-        answer
+        self.kept
+            .command(alloc, self.chronicle, share, command, now)
     }
 }

@@ -1,15 +1,16 @@
 //! What lies under a tenant's lock.
 
-ghost use Rattle.std.specs.Prelude.{◌≡◌, ◌+◌, ◌≤◌, length};
+ghost use Rattle.std.specs.Prelude.{◌≡◌, ◌+◌, ◌<◌, ◌≤◌, length};
 ghost use Rattle.floor_core.specs.Work.{decide_call, answer_call};
 ghost use Rattle.one_list.specs.Steps.{grown};
 ghost use Rattle.tenant_core.specs.Answer.{tick_result, ticked};
 ghost use Rattle.tenant_core.specs.Governed.{IsGoverned};
+ghost use Rattle.tenant_core.specs.Limits.{max_tenants};
 ghost use Rattle.tenant_core.specs.State.{recorded};
-ghost use Rattle.books_shared.specs.Rises.{command_rise, entries_closed, rise_of, tick_rise};
+ghost use Rattle.books_shared.specs.Rises.{IsSmall, command_rise, entries_closed, rise_of, tick_rise};
 ghost use Rattle.books_shared.specs.Kept.{most_entries};
-ghost use Rattle.books_shared.specs.Shares.{with_steps};
-ghost use Rattle.books_shared.specs.Tracing.{told_by, told_of};
+ghost use Rattle.books_shared.specs.Shares.{raised, with_steps};
+ghost use Rattle.books_shared.specs.Tracing.{HasAppended, told_by, told_of};
 
 use crate::rise::{Rise, command_rise, entries_closed, rise_of_turn, tick_rise};
 use crate::share::Share;
@@ -54,9 +55,8 @@ impl<J: Run> Kept<J> {
     ghost use Rattle.tenant_core.specs.State.{opened, recorded};
     ghost use Rattle.books_shared.specs.Kept.{IsKept, number_of};
     ghost use Rattle.books_shared.specs.Rises.{command_rise, entries_closed, rise_of, tick_rise};
-    ghost use Rattle.books_shared.specs.Shares.{with_steps};
-    ghost use Rattle.books_shared.specs.Traced.{IsLedTo, IsTraced};
-    ghost use Rattle.one_list.specs.Steps.{done_by};
+    ghost use Rattle.books_shared.specs.Traced.{IsLedTo, IsTraced, counted};
+    ghost use Rattle.one_list.specs.Steps.{done_by, next_place};
 
     /// A book in which nothing has happened, and the part of the one list of its tenant.
     pub fn new(book: Book, part: TenantPart<J>) -> Kept<J>
@@ -105,33 +105,33 @@ impl<J: Run> Kept<J> {
         ((book, number), part)
     }
 
-    /// What `Slot::decide` does, and what it adds.
+    /// What `Slot::decide` does, counted.
     pub fn decide(
         &mut self,
         chronicle: &Chronicle<J>,
         share: &mut Share<J>,
         slot: &mut Slot,
         now: Moment,
-    ) -> (Turn, Rise)
-        ensures turn { result.0 ≡ (decide_call slot.old self.old.state now).turn }
+    ) -> Turn
+        requires room { 0 < share.old.room }
+        ensures turn { result ≡ (decide_call slot.old self.old.state now).turn }
         ensures slot { slot.new ≡ (decide_call slot.old self.old.state now).work }
         ensures book { self.new.state ≡ recorded self.old.state (decide_call slot.old self.old.state now).made }
         ensures closed { self.new.closed ≡ self.old.closed }
         ensures steps { self.new.steps ≡ self.old.steps
-            ++ done_by share.old.worker self.old.state.opening.tenant (decide_call slot.old self.old.state now).made }
-        ensures share { share.new ≡ with_steps
-            (done_by share.old.worker self.old.state.opening.tenant (decide_call slot.old self.old.state now).made) share.old }
-        ensures rise { result.1 ≡ rise_of (decide_call slot.old self.old.state now) }
-        ensures number { number_of self.new ≡ number_of self.old + result.1.entries }
+            ++ done_by share.old.worker (next_place self.old.state) (decide_call slot.old self.old.state now).made }
+        ensures share { share.new ≡ counted (rise_of (decide_call slot.old self.old.state now)) (next_place self.old.state)
+            (decide_call slot.old self.old.state now).made share.old }
+        ensures number { number_of self.new ≡ number_of self.old + (rise_of (decide_call slot.old self.old.state now)).entries }
     {
         slot.is_work();
         let (turn, rise) = decide_in(&mut self.book, slot, now);
         book_is_sound(&self.book);
-        trace(chronicle, &mut self.part, share, &self.book, rise.entries);
-        (turn, rise)
+        trace(chronicle, &mut self.part, share, &self.book, rise);
+        turn
     }
 
-    /// What `Slot::answer` does, and what it adds.
+    /// What `Slot::answer` does, counted.
     pub fn answer(
         &mut self,
         chronicle: &Chronicle<J>,
@@ -139,48 +139,48 @@ impl<J: Run> Kept<J> {
         slot: &mut Slot,
         now: Moment,
         got: Got,
-    ) -> (Turn, Rise)
-        ensures turn { result.0 ≡ (answer_call slot.old self.old.state now got).turn }
+    ) -> Turn
+        requires room { 0 < share.old.room }
+        ensures turn { result ≡ (answer_call slot.old self.old.state now got).turn }
         ensures slot { slot.new ≡ (answer_call slot.old self.old.state now got).work }
         ensures book { self.new.state ≡ recorded self.old.state (answer_call slot.old self.old.state now got).made }
         ensures closed { self.new.closed ≡ self.old.closed }
         ensures steps { self.new.steps ≡ self.old.steps
-            ++ done_by share.old.worker self.old.state.opening.tenant (answer_call slot.old self.old.state now got).made }
-        ensures share { share.new ≡ with_steps
-            (done_by share.old.worker self.old.state.opening.tenant (answer_call slot.old self.old.state now got).made) share.old }
-        ensures rise { result.1 ≡ rise_of (answer_call slot.old self.old.state now got) }
-        ensures number { number_of self.new ≡ number_of self.old + result.1.entries }
+            ++ done_by share.old.worker (next_place self.old.state) (answer_call slot.old self.old.state now got).made }
+        ensures share { share.new ≡ counted (rise_of (answer_call slot.old self.old.state now got)) (next_place self.old.state)
+            (answer_call slot.old self.old.state now got).made share.old }
+        ensures number { number_of self.new ≡ number_of self.old + (rise_of (answer_call slot.old self.old.state now got)).entries }
     {
         let (turn, rise) = answer_in(&mut self.book, slot, now, got);
         book_is_sound(&self.book);
-        trace(chronicle, &mut self.part, share, &self.book, rise.entries);
-        (turn, rise)
+        trace(chronicle, &mut self.part, share, &self.book, rise);
+        turn
     }
 
-    /// What `Book::tick` does, and what it adds.
+    /// What `Book::tick` does, counted.
     pub fn tick(
         &mut self,
         chronicle: &Chronicle<J>,
         share: &mut Share<J>,
         now: Moment,
-    ) -> (Result<u32, BookFault>, Rise)
-        ensures count { result.0 ≡ tick_result self.old.state now }
+    ) -> Result<u32, BookFault>
+        requires room { 0 < share.old.room }
+        ensures count { result ≡ tick_result self.old.state now }
         ensures book { self.new.state ≡ ticked self.old.state now }
         ensures closed { self.new.closed ≡ self.old.closed }
         ensures steps { self.new.steps ≡ self.old.steps
-            ++ done_by share.old.worker self.old.state.opening.tenant (tick_made self.old.state now) }
-        ensures share { share.new ≡ with_steps
-            (done_by share.old.worker self.old.state.opening.tenant (tick_made self.old.state now)) share.old }
-        ensures rise { result.1 ≡ tick_rise result.0 }
-        ensures number { number_of self.new ≡ number_of self.old + result.1.entries }
+            ++ done_by share.old.worker (next_place self.old.state) (tick_made self.old.state now) }
+        ensures share { share.new ≡ counted (tick_rise result) (next_place self.old.state)
+            (tick_made self.old.state now) share.old }
+        ensures number { number_of self.new ≡ number_of self.old + (tick_rise result).entries }
     {
         let (count, rise) = tick_in(&mut self.book, now);
         book_is_sound(&self.book);
-        trace(chronicle, &mut self.part, share, &self.book, rise.entries);
-        (count, rise)
+        trace(chronicle, &mut self.part, share, &self.book, rise);
+        count
     }
 
-    /// What `Book::command` does, and what it adds.
+    /// What `Book::command` does, counted.
     pub fn command(
         &mut self,
         alloc: Global,
@@ -188,43 +188,47 @@ impl<J: Run> Kept<J> {
         share: &mut Share<J>,
         command: &Command,
         now: Moment,
-    ) -> (Result<Answered, CommandFault>, Rise)
-        ensures answer { IsGoverned result.0 command.now self.old.state self.new.state now }
+    ) -> Result<Answered, CommandFault>
+        requires room { 0 < share.old.room }
+        ensures answer { IsGoverned result command.now self.old.state self.new.state now }
         ensures closed { self.new.closed
-            ≡ self.old.closed + entries_closed result.0 (length self.old.state.records) }
+            ≡ self.old.closed + entries_closed result (length self.old.state.records) }
         ensures steps { self.new.steps ≡ self.old.steps
-            ++ done_by share.old.worker self.old.state.opening.tenant (made_by result.0 self.old.state command.now now) }
-        ensures share { share.new ≡ with_steps
-            (done_by share.old.worker self.old.state.opening.tenant (made_by result.0 self.old.state command.now now)) share.old }
-        ensures rise { result.1 ≡ command_rise result.0 }
-        ensures number { number_of self.new ≡ number_of self.old + result.1.entries }
+            ++ done_by share.old.worker (next_place self.old.state) (made_by result self.old.state command.now now) }
+        ensures share { share.new ≡ counted (command_rise result) (next_place self.old.state)
+            (made_by result self.old.state command.now now) share.old }
+        ensures number { number_of self.new ≡ number_of self.old + (command_rise result).entries }
     {
         let (answer, closed) = command_in(&mut self.book, alloc, command, now);
         book_is_sound(&self.book);
         self.closed += closed;
         trace_command(chronicle, &mut self.part, share, &self.book, &answer);
-        let rise = command_rise(&answer);
-        (answer, rise)
+        answer
     }
 }
 
-// Adds the record that a call made to the one list, which appended so many entries: one or none.
+// Counts what a call added that left the book so: where it appended an entry, the book's last record is a step of the one list.
 fn trace<J: Run>(
     chronicle: &Chronicle<J>,
     part: &mut TenantPart<J>,
     share: &mut Share<J>,
     book: &Book,
-    entries: u64,
+    rise: Rise,
 )
-    ensures part { part.new ≡ grown part.old (told_by entries share.old.worker part.old.number book.now.records) }
-    ensures share { share.new ≡ with_steps (told_by entries share.old.worker part.old.number book.now.records) share.old }
+    requires tenant { part.old.number < max_tenants }
+    requires room { 0 < share.old.room }
+    requires small { IsSmall rise }
+    requires appended { rise.entries ≤ length book.now.records }
+    ensures part { part.new ≡ grown part.old
+        (told_by rise.entries share.old.worker part.old.number book.now.opening.period book.now.records) }
+    ensures share { share.new ≡ raised rise part.old.number (with_steps
+        (told_by rise.entries share.old.worker part.old.number book.now.opening.period book.now.records) share.old) }
 {
-    if entries != 0 {
-        share.record(chronicle, part, book.journal());
-    }
+    share.add(chronicle, part, rise, book.period(), book.journal());
 }
 
-// Adds the record that a command made to the one list: a roll's is the last one of the period that it closed.
+// Counts what a command added that was answered so, and left the book so: the step of a roll is the last record of the period
+// that it closed.
 fn trace_command<J: Run>(
     chronicle: &Chronicle<J>,
     part: &mut TenantPart<J>,
@@ -232,15 +236,27 @@ fn trace_command<J: Run>(
     book: &Book,
     answer: &Result<Answered, CommandFault>,
 )
-    ensures part { part.new ≡ grown part.old (told_of answer.now share.old.worker part.old.number book.now.records) }
-    ensures share { share.new ≡ with_steps (told_of answer.now share.old.worker part.old.number book.now.records) share.old }
+    requires tenant { part.old.number < max_tenants }
+    requires room { 0 < share.old.room }
+    requires appended { HasAppended answer.now book.now }
+    ensures part { part.new ≡ grown part.old (told_of answer.now share.old.worker part.old.number book.now) }
+    ensures share { share.new ≡ raised (command_rise answer.now) part.old.number
+        (with_steps (told_of answer.now share.old.worker part.old.number book.now) share.old) }
 {
+    let rise = command_rise(answer);
     match answer {
-        Ok(Answered::Done) => share.record(chronicle, part, book.journal()),
         Ok(Answered::Rolled(period)) => {
-            share.record(chronicle, part, period.records().journal());
+            share.add(
+                chronicle,
+                part,
+                rise,
+                period.number(),
+                period.records().journal(),
+            );
         }
-        Ok(Answered::Balances(_)) | Err(_) => {}
+        Ok(Answered::Done | Answered::Balances(_)) | Err(_) => {
+            share.add(chronicle, part, rise, book.period(), book.journal());
+        }
     }
 }
 
@@ -294,6 +310,7 @@ fn command_in(
     ensures closed { result.1 ≡ entries_closed result.0 (length book.old.records) }
     ensures number { result.1 + length book.new.records ≡ length book.old.records + (command_rise result.0).entries }
     ensures most { most_entries book.old.opening.period + result.1 ≤ most_entries book.new.opening.period }
+    ensures appended { HasAppended result.0 book.new }
 {
     book_is_sound(book);
     let entries = book.entries() as u64;

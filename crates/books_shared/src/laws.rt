@@ -1,6 +1,6 @@
 //! Laws of books that are shared, each the contract of a function that does nothing.
 
-ghost use Rattle.std.specs.Prelude.{◌≡◌, ◌<◌, ◌↔◌, ℕ, List, IsTrue, length};
+ghost use Rattle.std.specs.Prelude.{◌≡◌, ◌<◌, ◌↔◌, ℕ, Bool, List, IsTrue, length};
 ghost use Rattle.tenant_core.specs.Sound.{IsSound};
 ghost use Rattle.books_shared.specs.Gathers.{are_all_there, shares_of};
 ghost use Rattle.books_shared.specs.Shares.{ShareView, fresh_shares, raised};
@@ -30,7 +30,7 @@ pub fn all_there()
 
 /// The shares that `Books::new` gives are all there, and what calls count leaves them so: a share stays its worker's.
 pub fn fresh_shares_are_all_there()
-    ensures fresh { (workers : ℕ) → IsTrue (are_all_there workers (fresh_shares workers)) }
+    ensures fresh { (audited : Bool) (workers : ℕ) → IsTrue (are_all_there workers (fresh_shares audited workers)) }
     ensures same { (rise : Rise) (tenant : ℕ) (share : ShareView) → (raised rise tenant share).worker ≡ share.worker }
 {}
 

@@ -12,4 +12,4 @@ mod share;
 pub use books::Books;
 pub use gather::GatherFault;
 pub use guard::Guard;
-pub use share::{Share, Spent};
+pub use share::{RoomFault, Share};

@@ -1,35 +1,60 @@
 //! What a worker counts.
 
-ghost use Rattle.std.specs.Prelude.{◌≡◌};
-ghost use Rattle.books_shared.specs.Shares.{has_full};
+ghost use Rattle.std.specs.Prelude.{◌≡◌, ◌<◌, [], IfSome, is_some};
+ghost use Rattle.one_list.specs.Steps.{grown};
+ghost use Rattle.receipts.specs.Ledgers.{last_receipt};
+ghost use Rattle.books_shared.specs.ShareKept.{HasKept, HasMadeRoom, IsLedgerOf};
+ghost use Rattle.books_shared.specs.Shares.{has_full, receipts_told};
+ghost use Rattle.books_shared.specs.Tracing.{told_by};
 
 use crate::rise::Rise;
 use one_list::{Chronicle, Run, TenantPart, WorkerPart};
+use receipts::{Ledger, Receipt};
+use std::alloc::{AllocError, Global};
 use std::marker::Model;
+use tenant_core::limits::MAX_TENANTS;
 use tenant_core::{Command, Journal};
 use thiserror::Error;
 
 // A count that is full.
 const MAX_COUNT: u64 = 1 << 47;
 
-/// One of a worker's counts is full: 2^47 or more. Nothing has changed then.
+/// Why a share has no room for calls. Nothing has changed then.
 #[derive(Clone, Copy, Debug, PartialEq, Eq, Error)]
-#[error("a worker's count is full")]
-pub struct Spent;
+pub enum RoomFault {
+    /// One of the worker's counts is full: 2^47 or more.
+    #[error("a worker's count is full")]
+    Spent,
+    /// Memory for receipts was refused. It is answered where they are kept alone.
+    #[error("out of memory")]
+    Memory,
+}
+
+impl From<AllocError> for RoomFault {
+    ghost use Rattle.std.specs.Prelude.{◌≡◌};
+    ghost use Rattle.books_shared.specs.declared.share.RoomFault.TheVariants.{Memory};
+
+    ghost from_gives = { λ error told. told ≡ Memory };
+
+    fn from(_error: AllocError) -> RoomFault {
+        RoomFault::Memory
+    }
+}
 
 /// What one worker has counted for each of 64 tenants: the entries that it appended to the tenant's book, the tokens that
-/// were no peer's, and the packets that found the journal full; and, for the proofs alone, its steps in the one list of all
-/// that is done to the books. Contracts see it as a `ShareView`.
+/// were no peer's, and the packets that found the journal full; for the proofs alone, its steps in the one list of all that is
+/// done to the books; and, where the run is audited, a receipt of each of these steps. Contracts see it as a `ShareView`.
 ///
 /// It has room for a number of calls of a `Guard`, each of which uses one up; `make_room` makes room for two. So no
-/// count passes 2^47 + 1.
+/// count passes 2^47 + 1. A share that keeps no receipts does not grow.
 #[derive(Drop)]
 pub struct Share<J: Run> {
     part: WorkerPart<J>,
-    counts: [u64; 64],
-    strangers: [u64; 64],
-    full: [u64; 64],
+    counts: [u64; MAX_TENANTS],
+    strangers: [u64; MAX_TENANTS],
+    full: [u64; MAX_TENANTS],
     room: u64,
+    ledger: Option<Ledger>,
 }
 
 impl<J: Run> Model for Share<J> {
@@ -37,7 +62,8 @@ impl<J: Run> Model for Share<J> {
 
     ghost Value = { ShareView };
 
-    ghost use Rattle.books_shared.specs.ShareKept.{IsRoomy};
+    ghost use Rattle.std.specs.Prelude.{is_some};
+    ghost use Rattle.books_shared.specs.ShareKept.{IsShare};
 
     ghost view = { λ s. record {
       worker = s.part.number;
@@ -46,30 +72,33 @@ impl<J: Run> Model for Share<J> {
       full = s.full;
       room = s.room;
       steps = s.part.steps;
+      audited = is_some s.ledger;
     } };
 
-    ghost invariant = { λ s. IsRoomy s.counts s.strangers s.full s.room };
+    ghost invariant = { λ s. IsShare s.counts s.strangers s.full s.room s.part.steps s.ledger };
 }
 
 impl<J: Run> Share<J> {
-    ghost use Rattle.std.specs.Prelude.{◌≡◌, ◌+◌, ◌<◌, ◌≤◌, [], slice_index};
+    ghost use Rattle.std.specs.Prelude.{◌≡◌, ◌+◌, ◌<◌, ◌≤◌, ◌==◌, Bool, [], count_by, length, option_map, slice_index};
     ghost use Rattle.tenant_core.specs.Limits.{max_tenants};
     ghost use Rattle.books_shared.specs.Rises.{IsSmall};
-    ghost use Rattle.books_shared.specs.Shares.{fresh, max_count, raised, room_result, with_room, with_steps};
+    ghost use Rattle.books_shared.specs.Shares.{IsRoomMade, fresh, max_count, raised, receipts_in, with_steps};
     ghost use Rattle.books_shared.specs.Traced.{part_of};
-    ghost use Rattle.one_list.specs.Steps.{done_last, grown};
+    ghost use Rattle.books_shared.specs.Tracing.{told_by};
+    ghost use Rattle.one_list.specs.Steps.{grown};
 
-    // The share of a worker that has counted nothing.
-    pub(crate) fn fresh(part: WorkerPart<J>) -> Share<J>
+    // The share of a worker that has counted nothing. It keeps receipts where that is asked.
+    pub(crate) fn fresh(alloc: Global, part: WorkerPart<J>, audited: bool) -> Share<J>
         requires { part ≡ record { number = part.number; steps = [] } }
-        ensures { result ≡ fresh part.number }
+        ensures { result ≡ fresh audited part.number }
     {
         Share {
             part,
-            counts: [0; 64],
-            strangers: [0; 64],
-            full: [0; 64],
+            counts: [0; MAX_TENANTS],
+            strangers: [0; MAX_TENANTS],
+            full: [0; MAX_TENANTS],
             room: 0,
+            ledger: new_ledger(alloc, audited),
         }
     }
 
@@ -80,10 +109,12 @@ impl<J: Run> Share<J> {
         self.part.number() as usize
     }
 
-    /// How many entries the worker appended to the book of that tenant, below 64: at most 2^47 + 1.
+    /// How many entries the worker appended to the book of that tenant, below 64: at most 2^47 + 1. It is how many of its
+    /// steps, and so of its receipts, are of that tenant.
     pub fn count(&self, tenant: usize) -> u64
         requires { tenant < max_tenants }
         ensures value { result ≡ slice_index self.now.counts tenant }
+        ensures steps { result ≡ count_by (λ e. e.tenant == tenant) self.now.steps }
         ensures within { result ≤ max_count + 1 }
     {
         self.counts[tenant]
@@ -107,45 +138,73 @@ impl<J: Run> Share<J> {
         self.full[tenant]
     }
 
-    /// Makes room for two calls of a `Guard`, before the lock is taken. The command is the one that is to be done under the
-    /// lock, if there is one; nothing is kept of it.
+    /// Whether the worker keeps receipts.
+    pub fn is_audited(&self) -> bool
+        ensures { result ≡ self.now.audited }
+    {
+        self.ledger.is_some()
+    }
+
+    /// The receipts of all that the worker did to the books, in its order, where the run is audited: of each of its steps in the
+    /// one list, and nothing else.
+    pub fn receipts(&self) -> Option<&[Receipt]>
+        ensures { option_map (λ list. list.now) result ≡ receipts_in self.now }
+    {
+        match &self.ledger {
+            Some(ledger) => Some(ledger.receipts()),
+            None => None,
+        }
+    }
+
+    /// Makes room for two calls of a `Guard`, and for two receipts where they are kept, before the lock is taken. The command
+    /// is the one that is to be done under the lock, if there is one; nothing is kept of it.
     ///
-    /// `Spent` exactly where one of the counts is 2^47 or more, and nothing has changed then.
-    pub fn make_room(&mut self, _command: Option<&Command>) -> Result<(), Spent>
-        ensures result { result ≡ room_result self.old }
-        ensures share { self.new ≡ with_room self.old }
+    /// `Spent` exactly where one of the counts is 2^47 or more. `Memory` where memory for receipts was refused, which a share
+    /// that keeps none does not answer. Nothing has changed then.
+    pub fn make_room(&mut self, alloc: Global, _command: Option<&Command>) -> Result<(), RoomFault>
+        ensures { IsRoomMade result self.old self.new }
     {
         if has_full(&self.counts) || has_full(&self.strangers) || has_full(&self.full) {
-            return Err(Spent);
+            return Err(RoomFault::Spent);
         }
+        make_room(&mut self.ledger, alloc)?;
         self.room = 2;
         Ok(())
     }
 
-    // Counts what a call adds for a tenant.
-    pub(crate) fn raise(&mut self, tenant: usize, rise: Rise)
-        requires tenant { tenant < max_tenants }
-        requires room { 0 < self.old.room }
-        requires small { IsSmall rise }
-        ensures { self.new ≡ raised rise tenant self.old }
-    {
-        self.counts[tenant] += rise.entries;
-        self.strangers[tenant] += rise.strangers;
-        self.full[tenant] += rise.full;
-        self.room -= 1;
-    }
-
-    // Adds the journal's last record to the one list.
-    pub(crate) fn record(
+    // Counts what a call adds for a tenant. Where it appended an entry, the last record of that period's journal is added to
+    // the one list, and its receipt is kept where receipts are.
+    pub(crate) fn add(
         &mut self,
         chronicle: &Chronicle<J>,
         tenant: &mut TenantPart<J>,
+        rise: Rise,
+        period: u64,
         journal: &Journal,
     )
-        ensures tenant { tenant.new ≡ grown tenant.old (done_last self.old.worker tenant.old.number journal.now.records) }
-        ensures share { self.new ≡ with_steps (done_last self.old.worker tenant.old.number journal.now.records) self.old }
+        requires tenant { tenant.old.number < max_tenants }
+        requires room { 0 < self.old.room }
+        requires small { IsSmall rise }
+        requires appended { rise.entries ≤ length journal.now.records }
+        ensures tenant { tenant.new
+            ≡ grown tenant.old (told_by rise.entries self.old.worker tenant.old.number period journal.now.records) }
+        ensures share { self.new ≡ raised rise tenant.old.number
+            (with_steps (told_by rise.entries self.old.worker tenant.old.number period journal.now.records) self.old) }
     {
-        chronicle.record(tenant, &mut self.part, journal);
+        let number = tenant.number() as usize;
+        tell(
+            chronicle,
+            tenant,
+            &mut self.part,
+            &mut self.ledger,
+            rise.entries,
+            period,
+            journal,
+        );
+        self.counts[number] += rise.entries;
+        self.strangers[number] += rise.strangers;
+        self.full[number] += rise.full;
+        self.room -= 1;
     }
 
     // The worker's part of the one list.
@@ -154,6 +213,64 @@ impl<J: Run> Share<J> {
     {
         let Share { part, .. } = self;
         part
+    }
+}
+
+// A ledger without receipts, where they are to be kept.
+fn new_ledger(alloc: Global, audited: bool) -> Option<Ledger>
+    ensures there { is_some result ≡ audited }
+    ensures none { IsLedgerOf result [] 0 }
+{
+    if audited {
+        Some(Ledger::new(alloc))
+    } else {
+        None
+    }
+}
+
+// Makes room for two receipts, where they are kept.
+fn make_room(ledger: &mut Option<Ledger>, alloc: Global) -> Result<(), AllocError>
+    ensures { HasMadeRoom result ledger.old ledger.new }
+{
+    match ledger {
+        Some(ledger) => ledger.make_room(alloc),
+        None => Ok(()),
+    }
+}
+
+// Keeps the receipt of the last record of that period's journal, where receipts are kept.
+fn keep(ledger: &mut Option<Ledger>, tenant: usize, period: u64, journal: &Journal)
+    requires { IfSome ledger.old (λ kept. 0 < kept.room) }
+    ensures { HasKept ledger.old ledger.new (last_receipt tenant period journal.now.records) }
+{
+    if let Some(ledger) = ledger {
+        ledger.keep(tenant, period, journal);
+    }
+}
+
+// Adds the last record of that period's journal to the one list, where a call appended an entry, and keeps its receipt, where
+// receipts are kept.
+fn tell<J: Run>(
+    chronicle: &Chronicle<J>,
+    tenant: &mut TenantPart<J>,
+    worker: &mut WorkerPart<J>,
+    ledger: &mut Option<Ledger>,
+    entries: u64,
+    period: u64,
+    journal: &Journal,
+)
+    requires { IfSome ledger.old (λ kept. 0 < kept.room) }
+    ensures tenant { tenant.new
+        ≡ grown tenant.old (told_by entries worker.old.number tenant.old.number period journal.now.records) }
+    ensures worker { worker.new
+        ≡ grown worker.old (told_by entries worker.old.number tenant.old.number period journal.now.records) }
+    ensures ledger { HasKept ledger.old ledger.new
+        (receipts_told (told_by entries worker.old.number tenant.old.number period journal.now.records)) }
+{
+    if entries != 0 {
+        let number = tenant.number() as usize;
+        chronicle.record(tenant, worker, period, journal);
+        keep(ledger, number, period, journal);
     }
 }
 

@@ -4,5 +4,5 @@ use Rattle.books_shared.proofs.books.fresh_shares.Given as goal
 
 abbrev pub invariant-loop-worker : goal.invariant-loop-worker
 invariant-loop-worker g l =
-    (l.shares.items ≡ fresh_shares l._worker) × (length l.shares.items ≡ l._worker) × (l.workers ≤ vec_capacity l.shares)
+    (l.shares.items ≡ fresh_shares l.audited l._worker) × (length l.shares.items ≡ l._worker) × (l.workers ≤ vec_capacity l.shares)
     × (l.unclaimed.workers ≡ l._worker)

@@ -1,17 +1,29 @@
-use Rattle.std.proofs.Common.{◌≡◌, ◌≤◌, ◌++◌, ◌∙◌, ap, subst, sym}
+use Rattle.std.proofs.Common.{◌≡◌, ◌≤◌, ◌<◌, ◌++◌, ◌∙◌, length, ap, subst, sym, arith}
+use Rattle.tenant_core.specs.Limits.{max_tenants}
 use Rattle.tenant_core.specs.declared.opening.Opening.{Opening}
 use Rattle.floor_core.specs.Work.{Called, answer_call}
-use Rattle.one_list.specs.Steps.{done_by}
+use Rattle.one_list.specs.Steps.{done_by, next_place}
 use Rattle.books_shared.specs.Kept.{Kept, most_entries}
-use Rattle.books_shared.specs.Rises.{entries_of}
-use Rattle.books_shared.specs.Shares.{with_steps}
+use Rattle.books_shared.specs.Rises.{IsSmall, entries_of, rise_of}
+use Rattle.books_shared.specs.Traced.{counted}
 use Rattle.books_shared.specs.Tracing.{told_by}
 use Rattle.books_shared.specs.declared.rise.Rise.{Rise}
-use Rattle.books_shared.proofs.Entries.{entries_told}
+use Rattle.books_shared.proofs.Entries.{entries_told, small}
 use Rattle.books_shared.proofs.Causes.{answer_cause}
-use Rattle.books_shared.proofs.Tracing.{answer_stays, share_told, steps_told, told_call, traced_call}
+use Rattle.books_shared.proofs.Tracing.{answer_stays, place_at, share_told, steps_told, told_call, traced_call}
 use Rattle.books_shared.proofs.kept.Kept.answer.Goals as goal
 use Rattle.books_shared.proofs.kept.Kept.answer.Given.{Over}
+
+pub trace-requires-clause-tenant : goal.trace-requires-clause-tenant
+trace-requires-clause-tenant g c =
+    let own = c.self.invariant.1.number in
+    let sound = c.book_is_sound.ensures.tenant in
+    subst (λ n. n < max_tenants) (ap (λ (o : Opening). o.tenant) c.answer_in-turn.ensures.opening ∙ sym own) sound
+
+pub trace-requires-clause-small : goal.trace-requires-clause-small
+trace-requires-clause-small g c =
+    let call = answer_call c.args.slot.now c.self.inside.book c.args.now c.args.got in
+    subst (λ (r : Rise). IsSmall r) (sym c.answer_in-turn.ensures.rise) (small call.turn call.made)
 
 abbrev call : (g : Over) → goal.After-trace g → Called
 call g c = answer_call c.args.slot.now c.self.inside.book c.args.now c.args.got
@@ -20,8 +32,8 @@ many : (g : Over) (c : goal.After-trace g) → c.answer_in-turn.result.1.entries
 many g c = ap (λ (r : Rise). r.entries) c.answer_in-turn.ensures.rise ∙ entries_told (call g c).turn (entries_of (call g c).made)
 
 told : (g : Over) (c : goal.After-trace g)
-    → told_by c.answer_in-turn.result.1.entries c.args.share.now.worker c.self.inside.part.number c.answer_in-turn.new.book.records
-    ≡ done_by c.args.share.now.worker c.self.inside.part.number (call g c).made
+    → told_by c.answer_in-turn.result.1.entries c.args.share.now.worker c.self.inside.part.number c.answer_in-turn.new.book.opening.period c.answer_in-turn.new.book.records
+    ≡ done_by c.args.share.now.worker (place_at c.self.inside.part.number c.self.inside.book) (call g c).made
 told g c =
     told_call c.self.inside.book c.answer_in-turn.new.book (call g c).made c.answer_in-turn.result.1.entries c.args.share.now.worker c.self.inside.part.number
     c.answer_in-turn.ensures.book (many g c)
@@ -37,14 +49,14 @@ invariant_of-self g c = (
 
 pub returns-clause-steps : goal.returns-clause-steps
 returns-clause-steps g c =
-    subst (λ (k : Kept). c.trace.new.part.steps ≡ k.steps ++ done_by c.args.share.now.worker k.state.opening.tenant (answer_call c.args.slot.now k.state c.args.now c.args.got).made)
+    subst (λ (k : Kept). c.trace.new.part.steps ≡ k.steps ++ done_by c.args.share.now.worker (next_place k.state) (answer_call c.args.slot.now k.state c.args.now c.args.got).made)
     c.self.view_is
-    (steps_told c.self.inside.part c.trace.new.part c.args.share.now.worker c.self.inside.book.opening.tenant (call g c).made _ c.trace.ensures.part
+    (steps_told c.self.inside.part c.trace.new.part c.args.share.now.worker c.self.inside.book (call g c).made _ c.trace.ensures.part
     (told g c) c.self.invariant.1.number)
 
 pub returns-clause-share : goal.returns-clause-share
 returns-clause-share g c =
-    subst (λ (k : Kept). c.trace.new.share ≡ with_steps (done_by c.args.share.now.worker k.state.opening.tenant (answer_call c.args.slot.now k.state c.args.now c.args.got).made) c.args.share.now)
+    subst (λ (k : Kept). c.trace.new.share ≡ counted (rise_of (answer_call c.args.slot.now k.state c.args.now c.args.got)) (next_place k.state) (answer_call c.args.slot.now k.state c.args.now c.args.got).made c.args.share.now)
     c.self.view_is
-    (share_told c.args.share.now c.trace.new.share c.self.inside.part.number c.self.inside.book.opening.tenant (call g c).made _ c.trace.ensures.share
-    (told g c) c.self.invariant.1.number)
+    (share_told c.args.share.now c.trace.new.share _ (rise_of (call g c)) c.self.inside.part.number c.self.inside.book (call g c).made _ c.trace.ensures.share
+    (told g c) c.self.invariant.1.number c.answer_in-turn.ensures.rise)
