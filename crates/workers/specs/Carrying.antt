@@ -11,13 +11,14 @@ use Rattle.floor_core.specs.Work.{Job, Work, Called, answer_call, carrying, deci
 use Rattle.floor_core.specs.declared.parts.Got.{Got}
 use Rattle.floor_core.specs.declared.parts.Turn.{Turn}
 use Rattle.floor_core.specs.declared.parts.Turn.TheVariants as turn
+use Rattle.one_list.specs.Steps.{Place, next_place}
 use Rattle.books_shared.specs.Rises.{command_rise, rise_of}
 use Rattle.books_shared.specs.Shares.{ShareView}
 use Rattle.books_shared.specs.Traced.{counted}
 use Rattle.books_shared.specs.declared.rise.Rise.{Rise}
 use Rattle.workers.specs.Replies.{Sending}
 use Rattle.workers.specs.declared.governing.GovernFault.{GovernFault}
-use Rattle.workers.specs.declared.governing.GovernFault.TheVariants.{Spent, Stray, Refused}
+use Rattle.workers.specs.declared.governing.GovernFault.TheVariants.{Spent, Memory, Stray, Refused}
 use Rattle.workers.specs.declared.reply.Reply.{Reply}
 use Rattle.workers.specs.declared.reply.Reply.TheVariants as reply
 
@@ -47,13 +48,13 @@ pub record Growth : Type 0 where
 abbrev pub growth : ℕ → (before after : ShareView) → Growth
 growth owner before after = record { owner = owner; before = before; after = after }
 
--- the same worker, with the same counts and steps: for how many calls there is room is left open
+-- the same worker, with the same counts, steps and receipts: for how many calls there is room is left open
 abbrev pub AreAlike : (one other : ShareView) → Type 0
 AreAlike one other = other ≡ record one { room = other.room }
 
--- the share has grown by one call, with that rise and that record
-abbrev pub HasGrown : Rise → Option Record → Growth → Type 0
-HasGrown rise made g = AreAlike (counted rise g.owner made g.before) g.after
+-- the share has grown by one call, with that rise, and that record at that place
+abbrev pub HasGrown : Rise → Place → Option Record → Growth → Type 0
+HasGrown rise at made g = AreAlike (counted rise at made g.before) g.after
 
 -- it has not grown
 abbrev pub IsSame : Growth → Type 0
@@ -74,7 +75,7 @@ pub record WasCalled (Gives : ℕ → Type 0) (g : Growth) (call : State → ℕ
   pub own : IsOf g.owner found
   pub told : (call found.book found.now).turn ≡ turn
   pub left : after ≡ (call found.book found.now).work
-  pub grew : HasGrown (rise_of (call found.book found.now)) (call found.book found.now).made g
+  pub grew : HasGrown (rise_of (call found.book found.now)) (next_place found.book) (call found.book found.now).made g
 
 -- the tenant's book held the packet of the slot, to send it on to a peer
 pub record WasForwarded (Gives : ℕ → Type 0) (g : Growth) (before after : Work) : Type 0 where
@@ -138,6 +139,7 @@ IsCarried Gives reply.Malformed g before after So = (after ≡ before) × IsSame
 IsCarried Gives reply.Nameless g before after So = (after ≡ before) × IsSame g
 IsCarried Gives reply.Stranger g before after So = WasCalled Gives g (decide_call before) turn.Stranger after
 IsCarried Gives reply.Spent g before after So = (after ≡ carrying Job.NoJob before.room) × IsSame g
+IsCarried Gives reply.Memory g before after So = (after ≡ carrying Job.NoJob before.room) × IsSame g
 IsCarried Gives reply.Stray g before after So = ⊥
 IsCarried Gives reply.Decided g before after So = WasCalled Gives g (decide_call before) turn.Reply after
 IsCarried Gives (reply.Settled got) g before after So = CameBack Gives g before got after So
@@ -159,6 +161,7 @@ IsAnswered Gives _ g came before after = WasMissed Gives g before came × (after
 -- the slot in the end: where the answer is that nothing was to be had, the call is dropped
 abbrev pub closed : Reply → Work → Work
 closed reply.Spent left = carrying Job.NoJob left.room
+closed reply.Memory left = carrying Job.NoJob left.room
 closed reply.Stray left = carrying Job.NoJob left.room
 closed (reply.Lost got) left = carrying Job.NoJob left.room
 closed _ left = left
@@ -171,11 +174,12 @@ pub record WasCommanded (Gives : ℕ → Type 0) (g : Growth) (given : Command) 
   pub own : IsOf g.owner found
   pub after : State
   pub governed : IsGoverned answer given found.book after found.now
-  pub grew : HasGrown (command_rise answer) (made_by answer found.book given found.now) g
+  pub grew : HasGrown (command_rise answer) (next_place found.book) (made_by answer found.book given found.now) g
 
 -- what became of a command, by its answer: `Stray` is never answered
 abbrev pub IsDone : (Gives : ℕ → Type 0) → Result Answered GovernFault → Growth → Command → Type 0
 IsDone Gives (Ok answered) g given = WasCommanded Gives g given (Ok answered)
 IsDone Gives (Err Spent) g given = IsSame g
+IsDone Gives (Err Memory) g given = IsSame g
 IsDone Gives (Err Stray) g given = ⊥
 IsDone Gives (Err (Refused fault)) g given = WasCommanded Gives g given (Err fault)

@@ -39,6 +39,7 @@ reply_tallied tenant reply seat =
 abbrev pub command_kind : Result Answered GovernFault → Kind
 command_kind (Ok answered) = kind.Answered
 command_kind (Err govern.Spent) = kind.Unavailable
+command_kind (Err govern.Memory) = kind.Unavailable
 command_kind (Err govern.Stray) = kind.Unavailable
 command_kind (Err (govern.Refused Memory)) = kind.Unavailable
 command_kind (Err (govern.Refused fault)) = kind.Answered

@@ -13,10 +13,11 @@ ghost use Rattle.workers.specs.declared.reply.Reply.TheVariants as reply;
 
 use crate::reply::{Reply, Status};
 use crate::traits::{Clock, Gate, Link, Point};
-use books_shared::{Books, Share};
+use books_shared::{Books, RoomFault, Share};
 use floor_core::{Got, LoadFault, Slot, Turn};
 use meters::{Kind, MeterSeat, Meters};
 use one_list::Run;
+use std::alloc::Global;
 use std::sync::Wait;
 
 /// A link that has sent so many packets sends no more.
@@ -37,7 +38,8 @@ pub struct Job<'a> {
 /// after each of these steps, or while the link sends. The slot is idle in the end.
 ///
 /// `Spent` is answered exactly where token and frame are good, and one of the share's counts is full or the link has sent
-/// 2^62 packets.
+/// 2^62 packets. `Memory` is answered where memory for the packet's receipts was refused: nothing was decided then, and a share
+/// that keeps no receipts never comes to it.
 ///
 /// By the reply (`IsCarried`), the packet was judged by the tenant's book, sound at that moment, which the clock gave; where
 /// the verdict was to send it on, what was sent is the packet with the verdict's amount and expiry, to the target of the
@@ -49,6 +51,7 @@ pub struct Job<'a> {
 /// the sender is told is the slot's reply where the status is 200, and nothing where it is 503.
 pub fn carry<J: Run, R: Wait, L: Link, G: Gate, C: Clock>(
     rt: &R,
+    alloc: Global,
     books: &Books<J>,
     meters: &Meters,
     seat: &mut MeterSeat,
@@ -68,6 +71,7 @@ pub fn carry<J: Run, R: Wait, L: Link, G: Gate, C: Clock>(
         ↔ (is_token job.entry.token.now ≡ true) × (is_ok (prepare_at job.entry.frame.now) ≡ false) }
     ensures spent { result ≡ reply.Spent ↔ (is_token job.entry.token.now ≡ true)
         × (is_ok (prepare_at job.entry.frame.now) ≡ true) × IsSpent share.old (L.sent link.old) }
+    ensures memory { result ≡ reply.Memory → share.old.audited ≡ true }
     ensures sends { L.sent link.new ≡ L.sent link.old + sends_of result }
     ensures sent { IsSentSo result job.entry.tenant
         (λ sending. L.sends_so link.old sending link.new) (link.new ≡ link.old) }
@@ -78,7 +82,7 @@ pub fn carry<J: Run, R: Wait, L: Link, G: Gate, C: Clock>(
     ensures same_meters { seat.new.meters ≡ seat.old.meters }
     ensures idle { slot.new.job ≡ NoJob }
 {
-    let reply = carried(rt, books, slot, share, link, gate, clock, job);
+    let reply = carried(rt, alloc, books, slot, share, link, gate, clock, job);
     close(slot, reply);
     tally(meters, seat, job.tenant, reply.status().kind());
     if reply.got() == Some(Got::Fault) {
@@ -109,6 +113,7 @@ pub(crate) fn tally(meters: &Meters, seat: &mut MeterSeat, tenant: usize, kind: 
 // Carries a packet, and leaves the call in the slot where the answer is that nothing was to be had.
 fn carried<J: Run, R: Wait, L: Link, G: Gate, C: Clock>(
     rt: &R,
+    alloc: Global,
     books: &Books<J>,
     slot: &mut Slot,
     share: &mut Share<J>,
@@ -124,6 +129,7 @@ fn carried<J: Run, R: Wait, L: Link, G: Gate, C: Clock>(
         ↔ (is_token job.entry.token.now ≡ true) × (is_ok (prepare_at job.entry.frame.now) ≡ false) }
     ensures spent { result ≡ reply.Spent ↔ (is_token job.entry.token.now ≡ true)
         × (is_ok (prepare_at job.entry.frame.now) ≡ true) × IsSpent share.old (L.sent link.old) }
+    ensures memory { result ≡ reply.Memory → share.old.audited ≡ true }
     ensures sends { L.sent link.new ≡ L.sent link.old + sends_of result }
     ensures sent { IsSentSo result job.entry.tenant
         (λ sending. L.sends_so link.old sending link.new) (link.new ≡ link.old) }
@@ -139,12 +145,13 @@ fn carried<J: Run, R: Wait, L: Link, G: Gate, C: Clock>(
         Err(LoadFault::Busy) => unreachable!(),
     }
     gate.pass(share.worker(), Point::Loaded);
-    exchanged(rt, books, slot, share, link, gate, clock, job.tenant)
+    exchanged(rt, alloc, books, slot, share, link, gate, clock, job.tenant)
 }
 
 // Lets the tenant decide the packet of the slot, sends it on, and lets the tenant settle what comes back.
 fn exchanged<J: Run, R: Wait, L: Link, G: Gate, C: Clock>(
     rt: &R,
+    alloc: Global,
     books: &Books<J>,
     slot: &mut Slot,
     share: &mut Share<J>,
@@ -158,6 +165,7 @@ fn exchanged<J: Run, R: Wait, L: Link, G: Gate, C: Clock>(
     requires tenant { tenant_in slot.old.job ≡ Some tenant }
     ensures loaded { IsOfPrepare result }
     ensures spent { result ≡ reply.Spent ↔ IsSpent share.old (L.sent link.old) }
+    ensures memory { result ≡ reply.Memory → share.old.audited ≡ true }
     ensures sends { L.sent link.new ≡ L.sent link.old + sends_of result }
     ensures sent { IsSentSo result tenant
         (λ sending. L.sends_so link.old sending link.new) (link.new ≡ link.old) }
@@ -165,8 +173,13 @@ fn exchanged<J: Run, R: Wait, L: Link, G: Gate, C: Clock>(
         (λ sending. L.sends_so link.old sending link.new) }
     ensures over { IsOver result slot.new.job }
 {
-    if link.sends() >= MAX_SENDS || share.make_room(None).is_err() {
+    if link.sends() >= MAX_SENDS {
         return Reply::Spent;
+    }
+    match share.make_room(alloc, None) {
+        Ok(()) => {}
+        Err(RoomFault::Spent) => return Reply::Spent,
+        Err(RoomFault::Memory) => return Reply::Memory,
     }
     let turn = decide(rt, books, slot, share, clock, tenant);
     gate.pass(share.worker(), Point::Decided);

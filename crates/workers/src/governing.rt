@@ -8,7 +8,7 @@ ghost use Rattle.workers.specs.declared.governing.GovernFault.TheVariants as gov
 
 use crate::carrying::tally;
 use crate::traits::Clock;
-use books_shared::{Books, Share};
+use books_shared::{Books, RoomFault, Share};
 use meters::{Kind, MeterSeat, Meters};
 use one_list::Run;
 use std::alloc::Global;
@@ -22,6 +22,9 @@ pub enum GovernFault {
     /// One of the worker's counts is full.
     #[error("a worker's count is full")]
     Spent,
+    /// Memory for the receipt was refused. It is answered where receipts are kept alone.
+    #[error("out of memory")]
+    Memory,
     /// The book under the lock is another tenant's. It is never answered: a lock is entered for its own tenant alone.
     #[error("the book is another tenant's")]
     Stray,
@@ -32,14 +35,15 @@ pub enum GovernFault {
 
 /// Does what the operator of a tenant of the books and of the meters commands, under the lock of the tenant's book, and
 /// counts it through a seat of these meters, unless the seat's count is full: as answered, also where the book refuses it;
-/// or as unavailable where the fault is `Spent` or want of memory.
+/// or as unavailable where the fault is `Spent` or want of memory, for the command or for its receipt.
 ///
 /// What is answered, or refused, is what the tenant's book, sound at that moment, which the clock gave, answers to this
 /// command (`IsDone`). The share has grown by just that: by the entry for the tenant, if there is one, and by its record, as
 /// the next step of the worker's part of the one list.
 ///
-/// The errors are, in the order in which they are looked for: `Spent`, exactly where one of the share's counts is full, and
-/// what `Book::command` refuses. Nothing has changed then in the book and in the share's counts.
+/// The errors are, in the order in which they are looked for: `Spent`, exactly where one of the share's counts is full;
+/// `Memory`, where memory for the receipt was refused, to which a share that keeps none never comes; and what `Book::command`
+/// refuses. Nothing has changed then in the book and in the share's counts.
 pub fn govern<J: Run, R: Wait, C: Clock>(
     rt: &R,
     alloc: Global,
@@ -56,6 +60,7 @@ pub fn govern<J: Run, R: Wait, C: Clock>(
     requires meters { tenant < meters.now.tenants }
     ensures done { IsDone (C.gives clock.now) result (growth tenant share.old share.new) command.now }
     ensures spent { result ≡ Err governing.Spent ↔ is_spent share.old ≡ true }
+    ensures memory { result ≡ Err governing.Memory → share.old.audited ≡ true }
     ensures seat { seat.new ≡ tallied tenant (command_kind result) seat.old }
     ensures same_meters { seat.new.meters ≡ seat.old.meters }
 {
@@ -69,8 +74,8 @@ fn kind_of(answer: &Result<Answered, GovernFault>) -> Kind
 {
     match answer {
         Ok(_) => Kind::Answered,
-        Err(GovernFault::Spent | GovernFault::Stray | GovernFault::Refused(CommandFault::Memory)) =>
-            Kind::Unavailable,
+        Err(GovernFault::Spent | GovernFault::Memory | GovernFault::Stray) => Kind::Unavailable,
+        Err(GovernFault::Refused(CommandFault::Memory)) => Kind::Unavailable,
         Err(GovernFault::Refused(_)) => Kind::Answered,
     }
 }
@@ -87,9 +92,12 @@ fn commanded<J: Run, R: Wait, C: Clock>(
     requires { tenant < books.now.tenants }
     ensures done { IsDone (C.gives clock.now) result (growth tenant share.old share.new) command.now }
     ensures spent { result ≡ Err governing.Spent ↔ is_spent share.old ≡ true }
+    ensures memory { result ≡ Err governing.Memory → share.old.audited ≡ true }
 {
-    if share.make_room(Some(command)).is_err() {
-        return Err(GovernFault::Spent);
+    match share.make_room(alloc, Some(command)) {
+        Ok(()) => {}
+        Err(RoomFault::Spent) => return Err(GovernFault::Spent),
+        Err(RoomFault::Memory) => return Err(GovernFault::Memory),
     }
     let mut guard = books.enter(rt, tenant);
     let answer = guard.command(alloc, share, command, clock.now());

@@ -55,6 +55,8 @@ pub enum Reply {
     Stranger,
     /// One of the worker's counts is full, or its link has sent 2^62 packets (503). Nothing was decided.
     Spent,
+    /// Memory for receipts was refused (503). Nothing was decided. It is answered where they are kept alone.
+    Memory,
     /// The book under the lock is another tenant's (503). It is never answered: a lock is entered for its own tenant alone.
     Stray,
     /// The tenant has decided, and its book has the answer (200).
@@ -76,7 +78,7 @@ impl Reply {
         match self {
             Reply::Malformed => Status::Malformed,
             Reply::Nameless | Reply::Stranger => Status::Unauthorized,
-            Reply::Spent | Reply::Stray | Reply::Lost(_) => Status::Unavailable,
+            Reply::Spent | Reply::Memory | Reply::Stray | Reply::Lost(_) => Status::Unavailable,
             Reply::Decided | Reply::Settled(_) => Status::Answered,
         }
     }

@@ -3,6 +3,7 @@
 ghost use Rattle.std.specs.Prelude.{◌≡◌, ◌<◌, ◌≤◌, length};
 ghost use Rattle.books_shared.specs.Traced.{openings_of};
 
+mod audits;
 mod commands;
 mod locks;
 mod packets;
@@ -132,7 +133,7 @@ fn two_setups(alloc: Global, journal: u64) -> Result<[TenantSetup; 2], Fail> {
     ])
 }
 
-// The books of these two tenants, of which `J` is the list, and the shares of two workers.
+// The books of these two tenants, of which `J` is the list, and the shares of two workers, who keep receipts.
 fn two_books<J: Run>(
     alloc: Global,
     opened: Opened,
@@ -143,7 +144,7 @@ fn two_books<J: Run>(
     requires size { J.size ≡ record { tenants = 2; workers = 2 } }
     requires openings { J.openings ≡ openings_of setups.now start }
 {
-    let (books, mut shares) = Books::<J>::new(alloc, opened, setups, start, 2)?;
+    let (books, mut shares) = Books::<J>::new(alloc, opened, setups, start, 2, true)?;
     let second = shares.pop().ok_or("the second share")?;
     let first = shares.pop().ok_or("the first share")?;
     Ok((books, first, second))

@@ -10,7 +10,7 @@ use std::alloc::Global;
 use std::process::Abort;
 use std::sync::Wait;
 use std::test::Fail;
-use tenant_core::{Answered, Command, CommandFault, Order};
+use tenant_core::{Answered, Command, CommandFault, Order, Period};
 
 // Does a command of acme's operator, with meters of its own: its answer, and what the meters have counted.
 fn governed<J: Run, R: Wait>(
@@ -69,16 +69,16 @@ fn balances<J: Run, R: Wait>(
     }
 }
 
-// How many records the period has that a roll closes.
-fn rolled<J: Run, R: Wait>(
+/// The period that a roll closes.
+pub(super) fn closed<J: Run, R: Wait>(
     rt: &R,
     alloc: Global,
     books: &Books<J>,
     share: &mut Share<J>,
-) -> Result<Option<usize>, Fail> {
+) -> Result<Period, Fail> {
     match governed(rt, alloc, books, share, &Command::Roll)?.0 {
-        Ok(Answered::Rolled(period)) => Ok(Some(period.len())),
-        _ => Ok(None),
+        Ok(Answered::Rolled(period)) => Ok(period),
+        _ => Err("a period".into()),
     }
 }
 
@@ -100,7 +100,7 @@ impl Trial for Commands {
         assert!(rt; is_absent(rt, alloc, &books, &mut first, &command)?);
         assert!(rt; balances(rt, alloc, &books, &mut first)? == Some(2));
         assert!(rt; entries_of(&first) == Some(1));
-        assert!(rt; rolled(rt, alloc, &books, &mut first)? == Some(2));
+        assert!(rt; closed(rt, alloc, &books, &mut first)?.len() == 2);
         assert!(rt; entries_of(&first) == Some(2));
         Ok(())
     }

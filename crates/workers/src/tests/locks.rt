@@ -9,11 +9,16 @@ use std::sync::Wait;
 use std::test::Fail;
 
 // Ticks acme's book. Whether its lock was held over that, and beta's was free.
-fn ticked<J: Run, R: Wait>(rt: &R, books: &Books<J>, share: &mut Share<J>) -> Result<bool, Fail> {
+fn ticked<J: Run, R: Wait>(
+    rt: &R,
+    alloc: Global,
+    books: &Books<J>,
+    share: &mut Share<J>,
+) -> Result<bool, Fail> {
     if books.tenants() < 2 {
         return Err("two tenants".into());
     }
-    share.make_room(None)?;
+    share.make_room(alloc, None)?;
     let mut guard = books.enter(rt, 0);
     guard.tick(share, start()?)?;
     Ok(books.try_enter(0).is_none() && books.try_enter(1).is_some())
@@ -43,12 +48,12 @@ impl Trial for OwnLock {
     fn act<J: Run, R: Wait + Abort>(
         &self,
         rt: &R,
-        _alloc: Global,
+        alloc: Global,
         books: Books<J>,
         mut first: Share<J>,
         _second: Share<J>,
     ) -> Result<(), Fail> {
-        assert!(rt; ticked(rt, &books, &mut first)?);
+        assert!(rt; ticked(rt, alloc, &books, &mut first)?);
         assert!(rt; entries(rt, &books) == Some(1));
         assert!(rt; entries_at_once(&books) == Some(1));
         Ok(())

@@ -24,7 +24,7 @@ const SENT: &[u8; 73] = b"\x0cG\0\0\0\0\0\0\x05\xdc20300101000009000\
 
 /// A packet for acme, what becomes of it, and what the share has counted then.
 #[derive(Clone, Copy)]
-struct Packet {
+pub(super) struct Packet {
     title: &'static str,
     token: &'static [u8],
     frame: &'static [u8],
@@ -44,7 +44,7 @@ struct Packet {
     gathered: (i64, i64, u64, u64, u64),
 }
 
-const FULFILLED: Packet = Packet {
+pub(super) const FULFILLED: Packet = Packet {
     title: "fulfilled",
     token: b"tok-alice",
     frame: BASE,
@@ -183,7 +183,7 @@ impl Link for Looking {
 }
 
 // Carries the packet from the start on, with meters and in a slot of its own, and looks at what becomes of it.
-fn is_carried<J: Run, R: Wait>(
+pub(super) fn is_carried<J: Run, R: Wait>(
     rt: &R,
     alloc: Global,
     books: &Books<J>,
@@ -233,7 +233,7 @@ fn carried<J: Run, R: Wait>(
         frame: packet.frame,
     };
     let reply = carry(
-        rt, books, &meters, &mut seat, &mut slot, share, link, &Open, &clock, job,
+        rt, alloc, books, &meters, &mut seat, &mut slot, share, link, &Open, &clock, job,
     );
     let told = slot.reply().to_vec(alloc)?;
     Ok((reply, told, counts_of(&meters.close(seat))))

@@ -134,7 +134,7 @@ fn carried_by<J: Run, R: Wait>(
         frame: if tenant == 0 { BASE } else { BETA },
     };
     Some(carry(
-        rt, books, &meters, &mut seat, &mut slot, share, &mut link, meeting, &clock, job,
+        rt, alloc, books, &meters, &mut seat, &mut slot, share, &mut link, meeting, &clock, job,
     ))
 }
 

@@ -2,7 +2,7 @@ use Rattle.std.proofs.Common.{◌≡◌, ℕ, ap, rules}
 use Rattle.floor_core.specs.Work.{Job, Work, carrying, decide_call}
 use Rattle.floor_core.specs.declared.parts.Got.{Got}
 use Rattle.floor_core.specs.declared.parts.Turn.TheVariants as turn
-use Rattle.books_shared.specs.Shares.{ShareView, with_room}
+use Rattle.books_shared.specs.Shares.{ShareView}
 use Rattle.workers.specs.Carrying.{WasCalled, WasExchanged, WentOn, growth}
 use Rattle.workers.specs.Replies.{Sending}
 use Rattle.workers.proofs.Growing.{called_roomy}
@@ -10,7 +10,7 @@ use Rattle.workers.proofs.Whose.{unanswered}
 use Rattle.workers.proofs.carrying.exchanged.Goals as goal
 
 -- a packet went on once room was made
-went_on : {Gives : ℕ → Type 0} (t peer hold : ℕ) (before waiting left : Work) (came : Got) (So : Sending → Type 0) (s roomy after : ShareView) → roomy ≡ with_room s
+went_on : {Gives : ℕ → Type 0} (t peer hold : ℕ) (before waiting left : Work) (came : Got) (So : Sending → Type 0) (s roomy after : ShareView) → roomy ≡ record s { room = 2 }
     → WasCalled Gives (growth t roomy after) (decide_call before) (turn.Send peer hold) waiting → WasExchanged t waiting came left So
     → WentOn Gives (growth t s after) before came left So
 went_on t peer hold before waiting left came So s roomy after is decided sent = record {
@@ -26,19 +26,19 @@ went_on t peer hold before waiting left came So s roomy after is decided sent = 
 pub returns-in-Stranger-clause-carried : goal.returns-in-Stranger-clause-carried
 returns-in-Stranger-clause-carried g c =
     called_roomy (decide_call c.args.slot.now) c.args.tenant turn.Stranger c.decide-turn.new.slot c.args.share.now c.make_room.new.self c.decide-turn.new.share
-    c.make_room.ensures.share c.in-Stranger.ensures.decided
+    c.in-Ok.ensures.1 c.in-Stranger.ensures.decided
 
 pub returns-in-Reply-clause-carried : goal.returns-in-Reply-clause-carried
 returns-in-Reply-clause-carried g c =
     called_roomy (decide_call c.args.slot.now) c.args.tenant turn.Reply c.decide-turn.new.slot c.args.share.now c.make_room.new.self c.decide-turn.new.share
-    c.make_room.ensures.share c.in-Reply.ensures.decided
+    c.in-Ok.ensures.1 c.in-Reply.ensures.decided
 
 pub returns-in-Reply-turn-clause-carried : goal.returns-in-Reply-turn-clause-carried
 returns-in-Reply-turn-clause-carried g c = record {
   between = c.decide-turn.new.share;
   answered = c.send-got.new.slot;
   went = went_on c.args.tenant c.in-Send.peer c.in-Send.hold c.args.slot.now c.decide-turn.new.slot c.send-got.new.slot c.send-got.result (λ (sending : Sending). g.L.Link.sends_so c.args.link.now sending c.send-got.new.link) c.args.share.now c.make_room.new.self c.decide-turn.new.share
-      c.make_room.ensures.share c.in-Send.ensures.decided c.send-got.ensures.exchanged;
+      c.in-Ok.ensures.1 c.in-Send.ensures.decided c.send-got.ensures.exchanged;
   settled = c.in-Reply-turn.ensures.answered;
 }
 
@@ -48,6 +48,7 @@ returns-in_default g c =
     c.in_default.not-Reply c.answer-turn.ensures.answered in
     record {
       loaded = tt;
+      memory = λ is. absurd cc;
       spent = search rules;
       sends = c.send-got.ensures.sends;
       sent = c.send-got.ensures.sent;
@@ -55,7 +56,7 @@ returns-in_default g c =
         between = c.decide-turn.new.share;
         answered = c.send-got.new.slot;
         went = went_on c.args.tenant c.in-Send.peer c.in-Send.hold c.args.slot.now c.decide-turn.new.slot c.send-got.new.slot c.send-got.result (λ (sending : Sending). g.L.Link.sends_so c.args.link.now sending c.send-got.new.link) c.args.share.now c.make_room.new.self c.decide-turn.new.share
-            c.make_room.ensures.share c.in-Send.ensures.decided c.send-got.ensures.exchanged;
+            c.in-Ok.ensures.1 c.in-Send.ensures.decided c.send-got.ensures.exchanged;
         missed = missed.0;
         left = ap (λ (w : Work). carrying Job.NoJob w.room) missed.1;
       };

@@ -1,4 +1,5 @@
 use Rattle.tenant_core.specs.Governed.{made_by}
+use Rattle.one_list.specs.Steps.{next_place}
 use Rattle.books_shared.specs.Rises.{command_rise}
 use Rattle.workers.specs.Carrying.{growth}
 use Rattle.workers.proofs.Growing.{counted_grows, grew_roomy}
@@ -8,6 +9,7 @@ use Rattle.workers.proofs.governing.commanded.Goals as goal
 pub returns-clause-done : goal.returns-clause-done
 returns-clause-done g c =
     let rise = command_rise c.command-answer.result in
+    let at = next_place c.enter-guard.result.state in
     let made = made_by c.command-answer.result c.enter-guard.result.state c.args.command.now c.now.result in
     is_done c.command-answer.result c.map_err.result (growth c.args.tenant c.args.share.now c.command-answer.new.share) c.args.command.now c.map_err.ensures.cases
     (record {
@@ -15,7 +17,6 @@ returns-clause-done g c =
       own = c.enter-guard.ensures.own;
       after = c.command-answer.new.self.state;
       governed = c.command-answer.ensures.answer;
-      grew = grew_roomy rise made c.args.tenant c.args.share.now c.make_room.new.self c.command-answer.new.share c.make_room.ensures.share
-          (counted_grows rise made c.args.tenant c.enter-guard.result.state.opening.tenant c.make_room.new.self c.command-answer.new.share
-          c.enter-guard.ensures.own c.command-answer.ensures.share);
+      grew = grew_roomy rise at made c.args.tenant c.args.share.now c.make_room.new.self c.command-answer.new.share c.in-Ok.ensures.1
+          (counted_grows rise at made c.args.tenant c.make_room.new.self c.command-answer.new.share c.command-answer.ensures.share);
     })
