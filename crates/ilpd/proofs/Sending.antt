@@ -5,6 +5,11 @@ use Rattle.std.proofs.Crossing as std
 use Rattle.floor_core.specs.contracts.slot.Slot as Slot
 use Rattle.one_list.specs.declared.run.Run as Run
 use Rattle.one_list.proofs.parts.WorkerPart.TheSendSync as of_part
+use Rattle.tenant_core.specs.contracts.period.Period as Period
+use Rattle.tenant_core.proofs.arena.Small.TheSendSync as of_small
+use Rattle.tenant_core.proofs.peer.Peer.TheSendSync as of_peer
+use Rattle.tenant_core.proofs.terms.RateTerms.TheSendSync as of_rate
+use Rattle.books_shared.proofs.Crossing.{network_send}
 use Rattle.books_shared.specs.contracts.books.Books as Books
 use Rattle.books_shared.specs.contracts.share.Share as Share
 use Rattle.meters.specs.contracts.meters.Meters as Meters
@@ -19,8 +24,11 @@ use Rattle.ilpd.specs.contracts.office.Terms as Terms
 use Rattle.ilpd.specs.contracts.door.Door as Door
 use Rattle.workers.specs.contracts.places.Places as Places
 
+pub period_send : IsSend Period.the_row
+period_send = search (sendable, std.crosses, network_send, of_small.the_send) depth 40
+
 pub share_send : (J : RattleType) (r : Run.Ghosts J.Denot) → IsSend (Share.the_row J r)
-share_send J r = search (sendable, std.crosses, of_part.the_send) depth 40
+share_send J r = search (sendable, std.crosses, of_part.the_send, of_peer.the_send, of_rate.the_send) depth 60
 
 pub slot_send : IsSend Slot.the_row
 slot_send = search (sendable, std.crosses) depth 40
@@ -48,7 +56,7 @@ office_sync J r books meters =
 
 pub desk_send : (J : RattleType) (r : Run.Ghosts J.Denot) → IsSend MeterSeat.the_row → IsSend (Desk.the_field J r).row
 desk_send J r seat = struct_send (shape (Desk.the_type J r))
-    (share_send J r, (seat, (slot_send, (search (sendable, std.crosses) depth 40, (search (sendable, std.crosses) depth 40, (search (sendable, std.crosses) depth 40, tt))))))
+    (share_send J r, (seat, (slot_send, (search (sendable, std.crosses) depth 40, (search (sendable, std.crosses) depth 40, (search (sendable, std.crosses) depth 40, (search (sendable, std.crosses, period_send) depth 40, tt)))))))
 
 pub worker_send : (κ : NamedLft) (H C J : RattleType) (r : Run.Ghosts J.Denot) → IsSync H → IsSync C
     → IsSync (Office.the_row J r) → IsSend MeterSeat.the_row → IsSend (Worker.the_row κ H C J r)

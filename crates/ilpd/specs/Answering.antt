@@ -26,6 +26,7 @@ use Rattle.workers.specs.Counting.{IsSpent, command_kind, reply_tallied, tallied
 use Rattle.workers.specs.Replies.{code_of, sends_of, status_of}
 use Rattle.workers.specs.declared.governing.GovernFault.{GovernFault}
 use Rattle.workers.specs.declared.governing.GovernFault.TheVariants.{Spent, Stray, Refused}
+use Rattle.workers.specs.declared.governing.GovernFault.TheVariants as govern
 use Rattle.workers.specs.declared.reply.Reply.{Reply}
 use Rattle.workers.specs.declared.reply.Reply.TheVariants.{Nameless, Malformed}
 use Rattle.workers.specs.declared.reply.Reply.TheVariants as replies
@@ -43,6 +44,8 @@ use Rattle.http_link.specs.declared.serve.Served.{Served}
 use Rattle.http_link.specs.declared.streams.LinkFault.{LinkFault}
 use Rattle.ilpd.specs.declared.desk.Desk.{Desk}
 use Rattle.ilpd.specs.declared.office.Office.{Office}
+use Rattle.ilpd.specs.Auditing.{HaveEnded, IsAudited}
+use Rattle.ilpd.specs.declared.serving.Report.{Report}
 use Rattle.ilpd.specs.Served.{lines_upto, tenant_named}
 use Rattle.ilpd.specs.Standing.{balance_lines}
 
@@ -58,7 +61,8 @@ pub record IsUntouched {J : Type 0} {r : Ghosts J} (before after : Desk J r) : T
 -- A packet was carried, by the book of its tenant, counted at the meters, and answered with the status of its reply. The
 -- books' share has grown by each call of the book: it counts what the book did, and each record that the book made is the next
 -- step of the worker's part of the one list; no other step came to that part. A token that is none and a frame that is no Prepare get no further, and nothing does where
--- no more may be counted or sent. Books were asked at moments that the clock gave.
+-- no more may be counted or sent, nor, in an audited run, where memory for receipts was refused. Books were asked at moments
+-- that the clock gave.
 pub record WasCarried {J : Type 0} {r : Ghosts J} (Gives : ℕ → Type 0) (before : Desk J r) (tenant : ℕ) (token frame : List ℕ) (told : Status)
     (after : Desk J r) : Type 0 where
   pub reply : Reply
@@ -67,6 +71,7 @@ pub record WasCarried {J : Type 0} {r : Ghosts J} (Gives : ℕ → Type 0) (befo
   pub malformed : reply ≡ Malformed ↔ (is_token token ≡ true) × (is_ok (prepare_at frame) ≡ false)
   pub spent : reply ≡ replies.Spent ↔ (is_token token ≡ true) × (is_ok (prepare_at frame) ≡ true)
       × IsSpent before.share before.sent
+  pub memory : reply ≡ replies.Memory → before.share.audited ≡ true
   pub sent : after.sent ≡ before.sent + sends_of reply
   pub carried : IsCarried Gives reply (growth tenant before.share after.share) (loaded before.slot tenant token frame) after.slot
       (λ sending. Unit {0})
@@ -88,17 +93,20 @@ IsPrinted office tenant answer told printed =
 abbrev pub IsTold : {J : Type 0} {r : Ghosts J} → Office J r → ℕ → Result Answered GovernFault → Status → List ℕ → Type 0
 IsTold office tenant (Ok answered) told printed = IsPrinted office tenant (Ok answered) told printed
 IsTold office tenant (Err Spent) told printed = told ≡ status.Unavailable
+IsTold office tenant (Err govern.Memory) told printed = told ≡ status.Unavailable
 IsTold office tenant (Err Stray) told printed = told ≡ status.Unavailable
 IsTold office tenant (Err (Refused Memory)) told printed = told ≡ status.Unavailable
 IsTold office tenant (Err (Refused fault)) told printed = IsPrinted office tenant (Err fault) told printed
 
 -- A command was done, or refused, by the book of the tenant, counted at the meters, and told. The books' share has grown by
 -- it: the record that the book made is the next step of the worker's part of the one list, and no other step came to it. No
--- book was asked exactly where no more may be counted, and else at a moment that the clock gave.
+-- book was asked where no more may be counted, nor, in an audited run, where memory for the receipt was refused; and else one
+-- was, at a moment that the clock gave.
 pub record WasGoverned {J : Type 0} {r : Ghosts J} (Gives : ℕ → Type 0) (office : Office J r) (before : Desk J r) (tenant : ℕ) (given : Command) (told : Status)
     (after : Desk J r) : Type 0 where
   pub answer : Result Answered GovernFault
   pub spent : answer ≡ Err Spent ↔ is_spent before.share ≡ true
+  pub memory : answer ≡ Err govern.Memory → before.share.audited ≡ true
   pub done : IsDone Gives answer (growth tenant before.share after.share) given
   pub metered : after.seat ≡ tallied tenant (command_kind answer) before.seat
   pub slot : after.slot ≡ before.slot
@@ -195,7 +203,7 @@ pub record HasServed {J : Type 0} {r : Ghosts J} (Gives : ℕ → Type 0) (offic
 
 -- a share in which nothing is counted
 abbrev pub IsFresh : ShareView → Type 0
-IsFresh share = (worker : ℕ) × (share ≡ fresh worker)
+IsFresh share = (audited : Bool) × (worker : ℕ) × (share ≡ fresh audited worker)
 
 -- a desk at which nothing was asked: its worker has counted nothing
 pub record IsNew {J : Type 0} {r : Ghosts J} (desk : Desk J r) : Type 0 where
@@ -226,20 +234,24 @@ pub record IsOfficeOf {J : Type 0} {r : Ghosts J} (setup : Setup) (office : Offi
   pub holds : map (λ terms. terms.hold) office.terms.items ≡ map (λ t. t.hold) setup.tenants
   pub books : office.books.tenants ≡ length setup.tenants
 
--- A service of a setup, of which that is the run, has written the balances of the books in the end, where they are wanted, and a
+-- A service of a setup, of which that is the run, has written the balances of the books in the end, where they are wanted, a
 -- line for each tenant, of what so many workers have counted, as the connections that each served left it, at moments that the
--- clock gave. And of all that
+-- clock gave, and what an audit found, where one is wanted, for which one worker has rolled each tenant. And of all that
 -- was done to the tenants' books there is one list, of which each worker's share has its part, and which is a run of a floor
 -- from the openings of the setup to the books in the end.
-pub record HasToldCountsIn {J : Type 0} (run : Ghosts J) (Gives : ℕ → Type 0) (setup : Setup) (workers : ℕ) (balances : Bool) (old new : Option (List ℕ)) : Type 0 where
+pub record HasToldCountsIn {J : Type 0} (run : Ghosts J) (Gives : ℕ → Type 0) (setup : Setup) (workers : ℕ) (report : Report) (old new : Option (List ℕ)) : Type 0 where
   pub office : Office J run
   pub known : IsOfficeOf setup office
   pub totals : TotalsState
+  pub worked : List ShareView
+  pub counted : HaveCounted Gives office workers worked (λ tenant kind. total_of tenant kind totals)
   pub shares : List ShareView
-  pub counted : HaveCounted Gives office workers shares (λ tenant kind. total_of tenant kind totals)
+  pub ended : HaveEnded Gives report.audit (length setup.tenants) worked shares
   pub books : List (State × ℕ)
-  pub told : Appends old new ((if balances then balance_lines office.names.items books else [])
-      ++ lines_upto (length setup.tenants) office.names.items totals)
+  pub audit : List ℕ
+  pub audited : IsAudited report.audit shares audit
+  pub told : Appends old new ((if report.balances then balance_lines office.names.items books else [])
+      ++ lines_upto (length setup.tenants) office.names.items totals ++ audit)
   pub one_list : HaveListOf run.size run.openings books shares
 
 -- the run of a service of a setup, whose list stands behind that table
@@ -250,9 +262,9 @@ run_of table setup workers = record {
   openings = openings_of setup.tenants setup.start;
 }
 
--- A service of a setup has written the balances in the end, where they are wanted, and a line for each tenant, of what so many
--- workers have counted, as the connections that each served left it; and all that they did is one list, a run of a floor from the
--- setup to the books in the end.
-abbrev pub HasToldCounts : (Gives : ℕ → Type 0) → Setup → (workers : ℕ) → (balances : Bool) → (old new : Option (List ℕ)) → Type 0
-HasToldCounts Gives setup workers balances old new =
-    (table : TableId) × HasToldCountsIn (run_of table setup workers) Gives setup workers balances old new
+-- A service of a setup has written the balances in the end, where they are wanted, a line for each tenant, of what so many
+-- workers have counted, as the connections that each served left it, and what an audit found, where one is wanted; and all that
+-- they did is one list, a run of a floor from the setup to the books in the end.
+abbrev pub HasToldCounts : (Gives : ℕ → Type 0) → Setup → (workers : ℕ) → Report → (old new : Option (List ℕ)) → Type 0
+HasToldCounts Gives setup workers report old new =
+    (table : TableId) × HasToldCountsIn (run_of table setup workers) Gives setup workers report old new

@@ -7,5 +7,5 @@ use Rattle.ilpd.specs.declared.command_line.Task.TheVariants.{Replay, Check, Ser
 abbrev pub IsBounded : Task → Type 0
 IsBounded Replay = Unit {0}
 IsBounded Check = Unit {0}
-IsBounded (Serve connections rounds balances) =
+IsBounded (Serve connections rounds report) =
     (1 ≤ connections) × (connections ≤ 4_096) × IfSome rounds (λ n. (1 ≤ n) × (n ≤ 1_000_000))

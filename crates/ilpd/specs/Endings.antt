@@ -2,7 +2,7 @@
 use Rattle.std.specs.Prelude.{ℕ, Result, Ok, Err}
 use Rattle.replay_text.specs.Replay.{status_of}
 use Rattle.ilpd.specs.declared.ending.Ending.{Ending}
-use Rattle.ilpd.specs.declared.ending.Ending.TheVariants.{Usage, Fault, Differs}
+use Rattle.ilpd.specs.declared.ending.Ending.TheVariants.{Usage, Fault, Differs, Audit}
 
 -- 0 where nothing went wrong, 2 for a bad command line, and else by the fault
 abbrev pub exit_status : Result (Unit {0}) Ending → ℕ
@@ -10,3 +10,4 @@ exit_status (Ok done) = 0
 exit_status (Err (Usage error)) = 2
 exit_status (Err (Fault fault)) = status_of fault
 exit_status (Err Differs) = 6
+exit_status (Err Audit) = 6

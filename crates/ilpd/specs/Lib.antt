@@ -5,3 +5,4 @@ pub mod Answering
 pub mod Exchanges
 pub mod Endings
 pub mod Ahead
+pub mod Auditing

@@ -2,7 +2,7 @@
 
 ghost use Rattle.std.specs.Prelude.{◌≡◌, ◌<◌};
 ghost use Rattle.admin_text.specs.Commands.{command_in};
-ghost use Rattle.ilpd.specs.Answering.{IsPrinted, WasCarried, WasGoverned, WasObeyed, command_line};
+ghost use Rattle.ilpd.specs.Answering.{IsPrinted, IsTold, WasCarried, WasGoverned, WasObeyed, command_line};
 
 use crate::desk::Desk;
 use crate::link::PeerLink;
@@ -14,8 +14,9 @@ use one_list::Run;
 use replay_text::print_lines;
 use std::alloc::Global;
 use std::net::{Net, TcpStream};
+use std::slice;
 use std::sync::Wait;
-use tenant_core::{Answered, Command, CommandFault};
+use tenant_core::{Answered, Command, CommandFault, Period};
 use workers::{Clock, Gate, GovernFault, Job, Link, Point, Status, carry, govern};
 
 /// A gate that stands open.
@@ -30,6 +31,7 @@ impl<J: Run> Desk<J> {
     pub fn carry<H: Wait + Net<Stream = TcpStream> + std::time::Clock, C: Clock>(
         &mut self,
         handle: &H,
+        alloc: Global,
         office: &Office<J>,
         clock: &C,
         tenant: usize,
@@ -51,6 +53,7 @@ impl<J: Run> Desk<J> {
         };
         let reply = carry(
             handle,
+            alloc,
             &office.books,
             &office.meters,
             &mut self.seat,
@@ -81,11 +84,15 @@ impl<J: Run> Desk<J> {
         ensures same_meters { self.new.seat.meters ≡ self.old.seat.meters }
         ensures told { self.new.told ≡ self.old.told }
     {
-        match parse_command(alloc, command_line(body)) {
-            Ok(command) => self.govern(handle, alloc, office, clock, tenant, &command),
-            Err(ReadError::Fault(_)) => Status::Malformed,
-            Err(ReadError::Memory) => Status::Unavailable,
+        let command = match parse_command(alloc, command_line(body)) {
+            Ok(command) => command,
+            Err(ReadError::Fault(_)) => return Status::Malformed,
+            Err(ReadError::Memory) => return Status::Unavailable,
+        };
+        if self.make_room().is_err() {
+            return Status::Unavailable;
         }
+        self.govern(handle, alloc, office, clock, tenant, &command)
     }
 
     // Governs a tenant of the office, and keeps what is printed of the answer.
@@ -115,38 +122,62 @@ impl<J: Run> Desk<J> {
             tenant,
             command,
         );
-        match answer {
-            Ok(answered) => print(alloc, office, tenant, Ok(answered), &mut self.printed),
-            Err(GovernFault::Spent | GovernFault::Stray) => Status::Unavailable,
-            Err(GovernFault::Refused(CommandFault::Memory)) => Status::Unavailable,
-            Err(GovernFault::Refused(fault)) => print(
-                alloc,
-                office,
-                tenant,
-                Err(fault),
-                &mut self.printed,
-            ),
-        }
+        let (status, closed) = tell(alloc, office, tenant, answer, &mut self.printed);
+        self.keep(closed);
+        status
     }
 }
 
-// Keeps what is printed of a command's answer, and gives the status.
+// Keeps what is printed of the answer of a command, and gives the status, and the period that the command closed.
+fn tell<J: Run>(
+    alloc: Global,
+    office: &Office<J>,
+    tenant: usize,
+    answer: Result<Answered, GovernFault>,
+    printed: &mut Vec<u8>,
+) -> (Status, Option<Period>)
+    ensures { IsTold office.now tenant answer result.0 printed.new.items }
+{
+    match answer {
+        Ok(answered) => print(alloc, office, tenant, Ok(answered), printed),
+        Err(GovernFault::Spent | GovernFault::Memory | GovernFault::Stray) => (
+            Status::Unavailable,
+            None,
+        ),
+        Err(GovernFault::Refused(CommandFault::Memory)) => (Status::Unavailable, None),
+        Err(GovernFault::Refused(fault)) => print(alloc, office, tenant, Err(fault), printed),
+    }
+}
+
+// Keeps what is printed of what a tenant's book answered, and gives the status, and the period that was closed.
 fn print<J: Run>(
     alloc: Global,
     office: &Office<J>,
     tenant: usize,
     answer: Result<Answered, CommandFault>,
     printed: &mut Vec<u8>,
-) -> Status
-    ensures { IsPrinted office.now tenant answer result printed.new.items }
+) -> (Status, Option<Period>)
+    ensures { IsPrinted office.now tenant answer result.0 printed.new.items }
 {
-    let outputs = [Output::Governed { tenant, answer }];
-    match print_lines(alloc, office.names.as_slice(), &outputs) {
+    let output = Output::Governed { tenant, answer };
+    let status = match print_lines(alloc, office.names.as_slice(), slice::from_ref(&output)) {
         Ok(text) => {
             *printed = text;
             Status::Answered
         }
         Err(_) => Status::Unavailable,
+    };
+    (status, closed_by(output))
+}
+
+// The period that a command closed, if it did.
+fn closed_by(output: Output) -> Option<Period> {
+    match output {
+        Output::Governed {
+            answer: Ok(Answered::Rolled(period)),
+            ..
+        } => Some(period),
+        _ => None,
     }
 }
 

@@ -3,6 +3,7 @@
 ghost use Rattle.std.specs.Prelude.{◌≡◌, ◌≤◌, IfOk, IfSome};
 ghost use Rattle.ilpd.specs.CommandLine.{IsBounded};
 
+use crate::serving::Report;
 use clap::{Arg, ArgAction, ArgMatches, Command, Error, value_parser};
 use std::alloc::{AllocError, Global};
 
@@ -14,11 +15,11 @@ pub enum Task {
     /// To say whether it is good.
     Check,
     /// To serve so many connections at once, each on a thread of its own, and to end once as many were served for each worker,
-    /// if it is to end; and whether to print the balances then.
+    /// if it is to end; and what to tell then.
     Serve {
         connections: usize,
         rounds: Option<u32>,
-        balances: bool,
+        report: Report,
     },
 }
 
@@ -48,7 +49,7 @@ pub struct CommandLine<'a> {
 const ADDRESS: &str = "127.0.0.1:7768";
 
 const USAGE: &str = "ilpd replay SETUP [--workers W] < SCRIPT\n       ilpd check SETUP\n       \
-ilpd serve SETUP --workers W [--connections C] [--rounds N] [--balances] [--listen ADDR]";
+ilpd serve SETUP --workers W [--connections C] [--rounds N] [--balances] [--audit] [--listen ADDR]";
 
 const WHERE: &str =
     "docs/FORMATS.md describes setups, scripts and what is printed; examples/ has some of each";
@@ -105,6 +106,10 @@ fn serve_of<'a>(alloc: Global) -> Result<Command<'a>, AllocError> {
         .long("balances")
         .help("To print in the end what each peer owes, as the command balances does")
         .action(ArgAction::SetTrue);
+    let audit = Arg::new(alloc, "audit")
+        .long("audit")
+        .help("To keep a receipt of all that is done, and to audit the receipts in the end")
+        .action(ArgAction::SetTrue);
     let listen = Arg::new(alloc, "listen")
         .long("listen")
         .value_name("ADDR")
@@ -115,7 +120,7 @@ fn serve_of<'a>(alloc: Global) -> Result<Command<'a>, AllocError> {
             "Serves packets and commands over HTTP, and prints in the end how many were answered how",
         )
         .override_usage(
-            "ilpd serve SETUP --workers W [--connections C] [--rounds N] [--balances] [--listen ADDR]",
+            "ilpd serve SETUP --workers W [--connections C] [--rounds N] [--balances] [--audit] [--listen ADDR]",
         )
         .after_help("Example: ilpd serve examples/serve.toml --workers 4")
         .arg(setup_of(alloc))?
@@ -123,6 +128,7 @@ fn serve_of<'a>(alloc: Global) -> Result<Command<'a>, AllocError> {
         .arg(connections)?
         .arg(rounds)?
         .arg(balances)?
+        .arg(audit)?
         .arg(listen)
 }
 
@@ -188,7 +194,10 @@ fn line_in<'a>(matches: &ArgMatches<'a>) -> CommandLine<'a>
             let task = Task::Serve {
                 connections: connections_of(serve),
                 rounds: rounds_of(serve),
-                balances: serve.get_flag("balances"),
+                report: Report {
+                    balances: serve.get_flag("balances"),
+                    audit: serve.get_flag("audit"),
+                },
             };
             let address = serve.get_str("listen").unwrap_or(ADDRESS);
             line_of(task, serve, workers_of(serve), address)
@@ -199,7 +208,7 @@ fn line_in<'a>(matches: &ArgMatches<'a>) -> CommandLine<'a>
 }
 
 /// Reads the words of `ilpd replay SETUP [--workers W]`, `ilpd check SETUP` or
-/// `ilpd serve SETUP --workers W [--connections C] [--rounds N] [--balances] [--listen ADDR]`, the program's name first. W is 1 to 64, and
+/// `ilpd serve SETUP --workers W [--connections C] [--rounds N] [--balances] [--audit] [--listen ADDR]`, the program's name first. W is 1 to 64, and
 /// 1 for a replay where it is left out; C is 1 to 4,096, and 256 where it is left out; N is 1 to 1,000,000; ADDR is
 /// 127.0.0.1:7768 where it is left out.
 ///

@@ -16,6 +16,8 @@ pub enum Ending {
     Fault(ReplayFault),
     /// The books that a service ended with are not what its workers counted.
     Differs,
+    /// An audit found a fault, which a service has told.
+    Audit,
 }
 
 /// How a run ends whose words were not taken: for want of memory where they were refused it, and else with the text for
@@ -38,6 +40,6 @@ pub fn exit_status(ended: &Result<(), Ending>) -> u8
         Ok(()) => 0,
         Err(Ending::Usage(_)) => 2,
         Err(Ending::Fault(fault)) => fault.status(),
-        Err(Ending::Differs) => 6,
+        Err(Ending::Differs | Ending::Audit) => 6,
     }
 }

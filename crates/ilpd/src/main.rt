@@ -7,6 +7,7 @@ ghost use Rattle.admin_text.specs.Setup.{setup_of};
 
 mod ahead;
 mod answering;
+mod auditing;
 mod clock;
 mod command_line;
 mod desk;
@@ -32,7 +33,7 @@ use common_types::ReadError;
 use ending::{Ending, exit_status, words_refused};
 use oer_core::Counted;
 pub use replay_text::{ReplayFault, replay};
-pub use serving::{Extent, ServeFault, serve};
+pub use serving::{Extent, Report, ServeFault, serve};
 use std::io::ErrorKind;
 use std::net::{Net, SocketAddr, TcpListener, TcpStream};
 use std::process::ExitCode;
@@ -90,7 +91,7 @@ fn serve_at<
         + Eprint
         + AllocGlobal
         + Sync,
->(rt: &R, setup: &[u8], extent: Extent, balances: bool, address: &str) -> Result<(), Ending>
+>(rt: &R, setup: &[u8], extent: Extent, report: Report, address: &str) -> Result<(), Ending>
     requires workers { (1 ≤ extent.workers) × (extent.workers ≤ 64) }
     requires connections { (1 ≤ extent.connections) × (extent.connections ≤ 4_096) }
 {
@@ -114,7 +115,7 @@ fn serve_at<
         alloc,
         &setup,
         extent,
-        balances,
+        report,
         &listener,
         &clock,
         &mut writer,
@@ -123,6 +124,7 @@ fn serve_at<
         ServeFault::Memory => Ending::Fault(ReplayFault::Memory),
         ServeFault::Device => Ending::Fault(ReplayFault::Device),
         ServeFault::Differs => Ending::Differs,
+        ServeFault::Audit => Ending::Audit,
     })
 }
 
@@ -151,14 +153,14 @@ fn run<
         Task::Serve {
             connections,
             rounds,
-            balances,
+            report,
         } => {
             let extent = Extent {
                 workers: line.workers,
                 connections,
                 rounds,
             };
-            serve_at(rt, setup.as_slice(), extent, balances, line.address)
+            serve_at(rt, setup.as_slice(), extent, report, line.address)
         }
         Task::Replay => {
             let mut reader = Counted::new(rt.reader());
@@ -172,7 +174,7 @@ fn run<
 fn main(rt: HostRuntime) -> ExitCode {
     let ended = run(&rt);
     match &ended {
-        Ok(()) => {}
+        Ok(()) | Err(Ending::Audit) => {}
         Err(Ending::Usage(error)) => {
             let _ = rt.eprint(error);
         }

@@ -29,13 +29,15 @@ pub struct Begun<J: Run> {
     pub shares: Vec<Share<J>>,
 }
 
-/// The office of the tenants of a setup, to whom nothing has happened, for so many workers, with these ways in and out. The list of what is done to their
-/// books has just been opened, for so many tenants and workers.
+/// The office of the tenants of a setup, to whom nothing has happened, for so many workers, who keep receipts where the run is
+/// audited, with these ways in and out. The list of what is done to their books has just been opened, for so many tenants and
+/// workers.
 pub fn open_office<J: Run>(
     alloc: Global,
     opened: Opened,
     setup: &Setup,
     workers: usize,
+    audited: bool,
     places: Places,
     door: Door,
 ) -> Result<Begun<J>, AllocError>
@@ -51,7 +53,7 @@ pub fn open_office<J: Run>(
     ensures fresh { IfOk result (λ begun. All IsFresh begun.shares.items) }
 {
     let tenants = setup.tenants.as_slice();
-    let (books, shares) = Books::new(alloc, opened, tenants, setup.start, workers)?;
+    let (books, shares) = Books::new(alloc, opened, tenants, setup.start, workers, audited)?;
     let (meters, first) = Meters::new(alloc, tenants.len())?;
     let office = Office {
         names: names_of(alloc, tenants)?,

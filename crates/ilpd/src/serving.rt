@@ -13,6 +13,7 @@ ghost use Rattle.meters.specs.declared.kind.Kind as meter;
 ghost use Rattle.ilpd.specs.Answering.{HasToldCounts, HasToldCountsIn, HasWorked, HaveCounted, IsFresh, IsNew};
 ghost use Rattle.ilpd.specs.Served.{line_of, lines_upto};
 
+use crate::auditing::{Found, audited, bad_line, roll_all};
 use crate::desk::Desk;
 use crate::door::Door;
 use crate::office::Office;
@@ -33,6 +34,7 @@ use std::marker::Brand;
 use std::net::{Net, TcpListener, TcpStream};
 use std::sync::Wait;
 use std::thread::Threads;
+use tenant_core::Period;
 use thiserror::Error;
 use workers::{Places, run_workers};
 
@@ -48,6 +50,9 @@ pub enum ServeFault {
     /// The books in the end are not what the workers have counted. No lock that hands out what was left in it comes to this.
     #[error("books differ")]
     Differs,
+    /// An audit found a fault, which its line tells.
+    #[error("audit")]
+    Audit,
 }
 
 impl From<AllocError> for ServeFault {
@@ -56,10 +61,12 @@ impl From<AllocError> for ServeFault {
     }
 }
 
-/// What workers leave: what each has counted in books, and whether one of them could not accept a connection.
+/// What workers leave: what each has counted in books, the periods that they closed, where the run is audited, and whether one
+/// of them could not accept a connection.
 #[derive(Drop)]
 pub struct Done<J: Run> {
     pub shares: Vec<Share<J>>,
+    pub periods: Vec<Period>,
     pub failed: bool,
 }
 
@@ -115,21 +122,41 @@ fn dismissed<H, C, J: Run>(
     ensures first { first.new.first ≡ first.old.first }
     ensures splits { first.new.splits ≡ first.old.splits }
     ensures joined { OnOk result (first.new.joins ≡ first.old.joins + length lanes.entry.items) }
+    ensures each { IfOk result (λ done. vec_len done.shares ≡ length lanes.entry.items) }
     ensures shares { IfOk result (λ done. done.shares.items ≡ map (λ lane. lane.desk.share) lanes.entry.items) }
     ensures counts { OnOk result ((tenant : ℕ) (kind : meter.Kind)
         → count_of tenant kind first.new ≡ count_of tenant kind first.old
         + sum_by (λ lane. count_of tenant kind lane.desk.seat) lanes.entry.items) }
 {
     let mut shares = Vec::with_capacity(alloc, lanes.len())?;
+    let mut periods = Vec::new(alloc);
     let mut failed = false;
     for lane in lanes {
         let (desk, broken) = lane.into_desk();
-        let Desk { seat, share, .. } = desk;
+        let Desk {
+            seat,
+            share,
+            periods: closed,
+            ..
+        } = desk;
         office.meters.join(first, seat);
         shares.push_reserved(share);
+        append(&mut periods, closed)?;
         failed |= broken;
     }
-    Ok(Done { shares, failed })
+    Ok(Done {
+        shares,
+        periods,
+        failed,
+    })
+}
+
+// Puts periods behind others.
+fn append(periods: &mut Vec<Period>, more: Vec<Period>) -> Result<(), AllocError> {
+    for period in more {
+        periods.push(period)?;
+    }
+    Ok(())
 }
 
 // Lets all workers serve, on threads.
@@ -181,6 +208,7 @@ pub fn run_all<
     requires new { All IsFresh shares.items }
     ensures here { first.new.meters ≡ office.now.meters.id }
     ensures joined { OnOk result (first.new.joins ≡ first.new.splits) }
+    ensures each { IfOk result (λ done. vec_len done.shares ≡ vec_len shares) }
     ensures first { first.new.first ≡ true }
     ensures counted { IfOk result (λ done. HaveCounted (C.gives clock.now) office.now (vec_len shares) done.shares.items
         (λ tenant kind. count_of tenant kind first.new)) }
@@ -239,20 +267,22 @@ fn fault_of(error: io::Error) -> ServeFault {
     }
 }
 
-// Writes a text, and the lines of the tenants after it.
+// Writes a text, the lines of the tenants, and what is last.
 fn tell<W: Write>(
     alloc: Global,
     mut text: Vec<u8>,
     names: &[Name],
     totals: &Totals,
+    last: &[u8],
     writer: &mut W,
 ) -> Result<(), ServeFault>
     requires { length names.now ≤ totals.now.tenants }
     ensures { OnOk result (Appends (W.contents writer.old) (W.contents writer.new)
-        (text.items ++ lines_upto (length names.now) names.now totals.now)) }
+        (text.items ++ lines_upto (length names.now) names.now totals.now ++ last.now)) }
 {
     let lines = lines_of(alloc, names, totals)?;
     text.extend_from_slice(lines.as_slice())?;
+    text.extend_from_slice(last)?;
     match writer.write_all(text.as_slice()) {
         Ok(()) => Ok(()),
         Err(error) => Err(fault_of(error)),
@@ -268,6 +298,15 @@ pub struct Extent {
     pub connections: usize,
     /// How many connections are served for each of `workers` before the service ends, if it does.
     pub rounds: Option<u32>,
+}
+
+/// What a service tells in the end beside the lines of its tenants.
+#[derive(Clone, Copy, Debug, PartialEq, Eq)]
+pub struct Report {
+    /// What the command `balances` would tell of each tenant, before these lines.
+    pub balances: bool,
+    /// Whether receipts are kept of all that is done, and audited; and what the audit found, after these lines.
+    pub audit: bool,
 }
 
 // How many connections are served in all.
@@ -286,7 +325,8 @@ fn room_of(extent: Extent, tenants: usize) -> usize
 }
 
 /// Serves connections, each on a thread of its own, joins the threads once as many were served as are to be, and writes what
-/// the command `balances` would tell of each tenant, where that is wanted, and a line for each tenant.
+/// the command `balances` would tell of each tenant, where that is wanted, a line for each tenant, and what an audit found, where
+/// one is wanted.
 ///
 /// A connection that brings no byte is none of those that are served. A packet that goes on takes one of the places
 /// that the tenants share while it is exchanged with the next peer.
@@ -300,9 +340,13 @@ fn room_of(extent: Extent, tenants: usize) -> usize
 /// the setup to the tenant's book, of each worker what it did, and nothing else; and it is a run of a `Floor` from the setup on
 /// (`Books::gather`).
 ///
+/// Where an audit is wanted, each worker keeps a receipt of each entry that it appends, and the periods that it closes, so that
+/// memory grows with what is done. In the end one worker rolls each tenant, and all receipts are checked against all periods:
+/// `audit ok N` tells that these N receipts are complete, and `audit WORD` what is wrong.
+///
 /// `Memory` where memory was refused; `Device` where a thread could not be started, a connection not be accepted, or the
 /// lines not be written; `Differs` where the books in the end are not what the workers have counted, which comes of no lock
-/// that hands out what was left in it. The lines are written first, unless no thread was started or memory was refused.
+/// that hands out what was left in it; `Audit` where an audit found a fault, or the books differ. The lines are written first, unless no thread was started or memory was refused.
 pub fn serve<
     H: Threads + Wait + Net<Listener = TcpListener, Stream = TcpStream> + std::time::Clock + Sync,
     C: workers::Clock + Sync,
@@ -312,7 +356,7 @@ pub fn serve<
     alloc: Global,
     setup: &Setup,
     extent: Extent,
-    balances: bool,
+    report: Report,
     listener: &TcpListener,
     clock: &C,
     writer: &mut W,
@@ -320,7 +364,7 @@ pub fn serve<
     requires tenants { (1 ≤ length setup.now.tenants) × (length setup.now.tenants ≤ max_tenants) }
     requires workers { (1 ≤ extent.workers) × (extent.workers ≤ max_places) }
     requires connections { (1 ≤ extent.connections) × (extent.connections ≤ max_workers) }
-    ensures { OnOk result (HasToldCounts (C.gives clock.now) setup.now extent.connections balances (W.contents writer.old) (W.contents writer.new)) }
+    ensures { OnOk result (HasToldCounts (C.gives clock.now) setup.now extent.connections report (W.contents writer.old) (W.contents writer.new)) }
 {
     let tenants = setup.tenants.as_slice().len();
     let opened = Opened::new(alloc, tenants, extent.connections)?;
@@ -328,7 +372,7 @@ pub fn serve<
     let door = Door::new(total_of(extent));
     let workers = extent.connections;
     serve_run::<Brand, _, _, _>(
-        handle, alloc, opened, setup, workers, balances, places, door, listener, clock, writer,
+        handle, alloc, opened, setup, workers, report, places, door, listener, clock, writer,
     )
 }
 
@@ -344,7 +388,7 @@ fn serve_run<
     opened: Opened,
     setup: &Setup,
     workers: usize,
-    balances: bool,
+    report: Report,
     places: Places,
     door: Door,
     listener: &TcpListener,
@@ -356,15 +400,34 @@ fn serve_run<
     requires openings { J.openings ≡ openings_of setup.now.tenants setup.now.start }
     requires tenants { (1 ≤ length setup.now.tenants) × (length setup.now.tenants ≤ max_tenants) }
     requires workers { (1 ≤ workers) × (workers ≤ max_workers) }
-    ensures { OnOk result (HasToldCountsIn J.Run (C.gives clock.now) setup.now workers balances (W.contents writer.old) (W.contents writer.new)) }
+    ensures { OnOk result (HasToldCountsIn J.Run (C.gives clock.now) setup.now workers report (W.contents writer.old) (W.contents writer.new)) }
 {
     let Begun {
         office,
         mut first,
         shares,
-    } = open_office::<J>(alloc, opened, setup, workers, places, door)?;
+    } = open_office::<J>(alloc, opened, setup, workers, report.audit, places, door)?;
     let done = run_all(handle, alloc, &office, &mut first, shares, listener, clock)?;
-    let Done { shares, failed } = done;
+    let Done {
+        mut shares,
+        mut periods,
+        failed,
+    } = done;
+    roll_all(
+        handle,
+        alloc,
+        report.audit,
+        &office,
+        &mut shares,
+        clock,
+        &mut periods,
+    )?;
+    let Found { line, is_good } = audited(
+        alloc,
+        report.audit,
+        periods.as_slice(),
+        shares.as_slice(),
+    )?;
     let Office {
         books,
         names,
@@ -375,23 +438,35 @@ fn serve_run<
     let names = names.as_slice();
     match books.gather(alloc, shares) {
         Ok(gathered) => {
-            let text = balance_lines(alloc, balances, names, gathered)?;
-            tell(alloc, text, names, &totals, writer)?;
+            let text = balance_lines(alloc, report.balances, names, gathered)?;
+            tell(alloc, text, names, &totals, line.as_slice(), writer)?;
             if failed {
                 return Err(ServeFault::Device);
             }
+            if !is_good {
+                return Err(ServeFault::Audit);
+            }
             Ok(())
         }
-        Err(fault) => {
-            tell(alloc, Vec::new(alloc), names, &totals, writer)?;
-            Err(fault_of_gathering(&fault))
+        Err(GatherFault::Memory(..)) => {
+            tell(alloc, Vec::new(alloc), names, &totals, &[], writer)?;
+            Err(ServeFault::Memory)
         }
-    }
-}
-
-fn fault_of_gathering<J: Run>(fault: &GatherFault<J>) -> ServeFault {
-    match fault {
-        GatherFault::Memory(..) => ServeFault::Memory,
-        GatherFault::Missing(..) | GatherFault::Differs(..) => ServeFault::Differs,
+        Err(GatherFault::Missing(..) | GatherFault::Differs(..)) if report.audit => {
+            let line = bad_line(alloc, "differs")?;
+            tell(
+                alloc,
+                Vec::new(alloc),
+                names,
+                &totals,
+                line.as_slice(),
+                writer,
+            )?;
+            Err(ServeFault::Audit)
+        }
+        Err(GatherFault::Missing(..) | GatherFault::Differs(..)) => {
+            tell(alloc, Vec::new(alloc), names, &totals, &[], writer)?;
+            Err(ServeFault::Differs)
+        }
     }
 }

@@ -7,7 +7,7 @@ mod neighbours;
 mod patience;
 mod wire;
 
-use crate::serving::{Extent, ServeFault, serve};
+use crate::serving::{Extent, Report, ServeFault, serve};
 use admin_text::laws::setups;
 use admin_text::read_setup;
 use std::alloc::Global;
@@ -104,7 +104,7 @@ fn serve_as<
     rt: &R,
     text: &str,
     extent: Extent,
-    balances: bool,
+    report: Report,
     listener: &TcpListener,
     lines: &mut Vec<u8>,
 ) -> Result<(), ServeFault>
@@ -120,7 +120,7 @@ fn serve_as<
         rt.alloc(),
         &setup,
         extent,
-        balances,
+        report,
         listener,
         &Standing,
         lines,
@@ -139,6 +139,7 @@ fn serve_some<
     rt: &R,
     text: &str,
     rounds: u32,
+    report: Report,
     listener: &TcpListener,
     lines: &mut Vec<u8>,
 ) -> Result<(), ServeFault> {
@@ -147,8 +148,26 @@ fn serve_some<
         connections: 1,
         rounds: Some(rounds),
     };
-    serve_as(rt, text, extent, false, listener, lines)
+    serve_as(rt, text, extent, report, listener, lines)
 }
+
+// Lines of the tenants alone.
+const NOTHING_MORE: Report = Report {
+    balances: false,
+    audit: false,
+};
+
+// An audit behind them: of the entry of each packet and command, and of a roll of each tenant.
+const AUDITED: Report = Report {
+    balances: false,
+    audit: true,
+};
+
+// Balances before them, and an audit behind.
+const ALL: Report = Report {
+    balances: true,
+    audit: true,
+};
 
 // What one worker answers to some requests, each on a connection of its own, and what it prints in the end.
 fn served<
@@ -158,7 +177,12 @@ fn served<
         + Clock
         + AllocGlobal
         + Sync,
->(rt: &R, setup: &str, requests: &[Vec<u8>]) -> Result<(Vec<Vec<u8>>, Vec<u8>), Fail> {
+>(
+    rt: &R,
+    setup: &str,
+    report: Report,
+    requests: &[Vec<u8>],
+) -> Result<(Vec<Vec<u8>>, Vec<u8>), Fail> {
     let alloc = rt.alloc();
     let listener = TcpListener::bind(rt, "127.0.0.1:0")?;
     let addr = listener.local_addr()?;
@@ -166,7 +190,7 @@ fn served<
     let mut lines = Vec::new(alloc);
     let (end, answers) = join(
         rt,
-        || serve_some(rt, setup, rounds, &listener, &mut lines),
+        || serve_some(rt, setup, rounds, report, &listener, &mut lines),
         || ask_all(rt, alloc, &addr, requests),
     );
     let answers = answers?;
@@ -274,7 +298,7 @@ fn with_peer<
     let fulfill = bytes(alloc, FULFILL)?;
     let (answers, right) = join(
         rt,
-        || served(rt, setup.as_str(), requests.as_slice()),
+        || served(rt, setup.as_str(), NOTHING_MORE, requests.as_slice()),
         || taken(rt, &listener, peer, wanted.as_slice(), fulfill.as_slice()),
     );
     let answers = answers?;
@@ -322,7 +346,7 @@ fn a_child_is_configured(rt: HostRuntime) -> Result<(), Fail> {
         "tok-bob",
         bytes(alloc, CONFIG)?.as_slice(),
     )?)?;
-    let (answers, lines) = served(&rt, setup.as_str(), requests.as_slice())?;
+    let (answers, lines) = served(&rt, setup.as_str(), AUDITED, requests.as_slice())?;
     let wanted = good(
         alloc,
         "application/octet-stream",
@@ -332,7 +356,7 @@ fn a_child_is_configured(rt: HostRuntime) -> Result<(), Fail> {
     assert_eq!(rt; answers[0].as_slice(), wanted.as_slice());
     assert_eq!(rt;
         lines.as_slice(),
-        b"acme 200 1 4xx 0 503 0 link 0\n".as_slice()
+        b"acme 200 1 4xx 0 503 0 link 0\naudit ok 2\n".as_slice()
     );
     Ok(())
 }
@@ -390,7 +414,7 @@ fn nobody_listens(rt: HostRuntime) -> Result<(), Fail> {
     let alloc = rt.alloc();
     let setup = setup_with(alloc, lonely_port(&rt)?)?;
     let requests = packet_and_balances(alloc, BASE)?;
-    let came = served(&rt, setup.as_str(), requests.as_slice())?;
+    let came = served(&rt, setup.as_str(), NOTHING_MORE, requests.as_slice())?;
     expect(
         &rt,
         came,
@@ -425,7 +449,7 @@ fn operators_are_answered(rt: HostRuntime) -> Result<(), Fail> {
     for (token, command, _) in COMMANDS {
         requests.push(request(alloc, "/admin/acme", token, command.as_bytes())?)?;
     }
-    let (answers, lines) = served(&rt, setup.as_str(), requests.as_slice())?;
+    let (answers, lines) = served(&rt, setup.as_str(), NOTHING_MORE, requests.as_slice())?;
     assert!(rt; answers.len() == COMMANDS.len());
     for i in 0..COMMANDS.len() {
         let (_, _, begin) = COMMANDS[i];
@@ -466,7 +490,7 @@ fn the_body_of_a_refused_request_is_none(rt: HostRuntime) -> Result<(), Fail> {
         requests.push(refused_request(alloc, stated)?)?;
     }
     requests.push(request(alloc, "/admin/acme", "root", b"balances\n")?)?;
-    let (answers, lines) = served(&rt, setup.as_str(), requests.as_slice())?;
+    let (answers, lines) = served(&rt, setup.as_str(), NOTHING_MORE, requests.as_slice())?;
     assert!(rt; answers.len() == REFUSALS.len() + 1);
     for i in 0..REFUSALS.len() {
         let (_, begin) = REFUSALS[i];
@@ -503,7 +527,7 @@ fn an_accept_that_fails_is_tried_again(rt: HostRuntime) -> Result<(), Fail> {
     let mut lines = Vec::new(alloc);
     let (end, answer) = join(
         &rt,
-        || serve_some(&rt, setup.as_str(), 1, &listener, &mut lines),
+        || serve_some(&rt, setup.as_str(), 1, NOTHING_MORE, &listener, &mut lines),
         || asked_late(&rt, alloc, &addr, request.as_slice()),
     );
     let balances = good(alloc, "text/plain", NOTHING.as_bytes())?;

@@ -3,6 +3,7 @@
 use crate::clock::SystemClock;
 use crate::command_line::{Task, arguments};
 use crate::replay;
+use crate::serving::Report;
 use std::alloc::{AllocError, Global};
 use std::test::Fail;
 use std::time::Clock;
@@ -50,7 +51,10 @@ static LINES: [Words; 28] = [
             Task::Serve {
                 connections: 256,
                 rounds: Some(3),
-                balances: false,
+                report: Report {
+                    balances: false,
+                    audit: false,
+                },
             },
             "s1.toml",
             2,
@@ -68,7 +72,10 @@ static LINES: [Words; 28] = [
             Task::Serve {
                 connections: 256,
                 rounds: Some(1_000_000),
-                balances: false,
+                report: Report {
+                    balances: false,
+                    audit: false,
+                },
             },
             "s1.toml",
             64,
@@ -85,12 +92,16 @@ static LINES: [Words; 28] = [
             "--connections",
             "4096",
             "--balances",
+            "--audit",
         ],
         Ok((
             Task::Serve {
                 connections: 4096,
                 rounds: None,
-                balances: true,
+                report: Report {
+                    balances: true,
+                    audit: true,
+                },
             },
             "s1.toml",
             1,

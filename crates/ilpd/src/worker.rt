@@ -85,9 +85,15 @@ impl<H: Wait + Net<Stream = TcpStream> + std::time::Clock, C: Clock, J: Run> Ser
         if tenant >= office.books.tenants() {
             return Status::Unavailable.code();
         }
-        let status = self
-            .desk
-            .carry(self.handle, office, self.clock, tenant, token, body);
+        let status = self.desk.carry(
+            self.handle,
+            self.alloc,
+            office,
+            self.clock,
+            tenant,
+            token,
+            body,
+        );
         status.code()
     }
 

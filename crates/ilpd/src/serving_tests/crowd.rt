@@ -5,10 +5,11 @@ ghost use Rattle.tenant_core.specs.Limits.{max_tenants};
 ghost use Rattle.books_shared.specs.Traced.{openings_of};
 
 use super::wire::{FULFILL, Standing, Terms, bytes, good, posted, request, tenant_text};
+use crate::auditing::{Found, audited, roll_all};
 use crate::door::Door;
 use crate::office::Office;
 use crate::opening::{Begun, open_office};
-use crate::serving::{ServeFault, run_all};
+use crate::serving::{Done, ServeFault, run_all};
 use admin_text::laws::setups;
 use admin_text::{Setup, read_setup};
 use one_list::{Opened, Run};
@@ -76,7 +77,10 @@ fn sums_of(gathered: &[(Book, u64)]) -> Result<[Sum; 2], ServeFault> {
     }
 }
 
-// Serves the setup of that text, and says what the two books are in the end.
+// What the two books say in the end, and what the audit found.
+type Ended = ([Sum; 2], Vec<u8>);
+
+// Serves the setup of that text, with an audit in the end.
 fn served<
     R: Threads
         + Wait
@@ -84,18 +88,18 @@ fn served<
         + Clock
         + AllocGlobal
         + Sync,
->(rt: &R, text: &str, listener: &TcpListener) -> Result<[Sum; 2], ServeFault> {
+>(rt: &R, text: &str, listener: &TcpListener) -> Result<Ended, ServeFault> {
     let alloc = rt.alloc();
     setups();
     let Ok(setup) = read_setup(alloc, text.as_bytes()) else {
         return Err(ServeFault::Device);
     };
     let opened = Opened::new(alloc, setup.tenants.as_slice().len(), WORKERS)?;
-    sums_after::<Brand, _>(rt, alloc, opened, &setup, listener)
+    ended_after::<Brand, _>(rt, alloc, opened, &setup, listener)
 }
 
 // The same, with the list of a run that has just been opened.
-fn sums_after<
+fn ended_after<
     J: Run + Send + Sync,
     R: Threads + Wait + Net<Listener = TcpListener, Stream = TcpStream> + Clock + Sync,
 >(
@@ -104,7 +108,7 @@ fn sums_after<
     opened: Opened,
     setup: &Setup,
     listener: &TcpListener,
-) -> Result<[Sum; 2], ServeFault>
+) -> Result<Ended, ServeFault>
     requires list { (opened.table ≡ J.table) × (opened.size ≡ J.size) }
     requires size { J.size ≡ record { tenants = length setup.now.tenants; workers = 4 } }
     requires openings { J.openings ≡ openings_of setup.now.tenants setup.now.start }
@@ -120,13 +124,29 @@ fn sums_after<
         opened,
         setup,
         WORKERS,
+        true,
         places,
         Door::new(CONNECTIONS),
     )?;
     let done = run_all(rt, alloc, &office, &mut first, shares, listener, &Standing)?;
+    let Done {
+        mut shares,
+        mut periods,
+        ..
+    } = done;
+    roll_all(
+        rt,
+        alloc,
+        true,
+        &office,
+        &mut shares,
+        &Standing,
+        &mut periods,
+    )?;
+    let Found { line, .. } = audited(alloc, true, periods.as_slice(), shares.as_slice())?;
     let Office { books, .. } = office;
-    match books.gather(alloc, done.shares) {
-        Ok(gathered) => sums_of(gathered.as_slice()),
+    match books.gather(alloc, shares) {
+        Ok(gathered) => Ok((sums_of(gathered.as_slice())?, line)),
         Err(_) => Err(ServeFault::Device),
     }
 }
@@ -351,12 +371,12 @@ fn peer_answer(alloc: Global) -> Result<Vec<u8>, Fail> {
     Ok(answer)
 }
 
-/// What came of a crowd: how many packets the next peer fulfilled, what the books say, how often both rolls were right, and
-/// what the clients were told.
+/// What came of a crowd: how many packets the next peer fulfilled, what the books say and the audit found, how often both rolls
+/// were right, and what the clients were told.
 #[derive(Drop)]
 struct Crowd {
     fulfilled: io::Result<u32>,
-    sums: Result<[Sum; 2], ServeFault>,
+    ended: Result<Ended, ServeFault>,
     rolls: io::Result<u32>,
     told: [Told; 8],
 }
@@ -379,7 +399,7 @@ fn crowd_of<
     let answer = peer_answer(alloc)?;
     let (acme, beta) = (exchange_of(alloc, "acme")?, exchange_of(alloc, "beta")?);
     let mut told = clients();
-    let (fulfilled, (sums, rolls)) = join(
+    let (fulfilled, (ended, rolls)) = join(
         rt,
         || fulfils_all(&peer, answer.as_slice(), size),
         || {
@@ -394,7 +414,7 @@ fn crowd_of<
     );
     Ok(Crowd {
         fulfilled,
-        sums,
+        ended,
         rolls,
         told,
     })
@@ -419,12 +439,14 @@ fn books_say_what_clients_were_told(rt: HostRuntime) -> Result<(), Fail> {
     let sum = Sum {
         alice: 5_000_000,
         bob: -7_500_000,
-        entries: 10_210,
+        entries: 10_211,
     };
     assert!(rt; crowd.fulfilled? == 10_000);
     assert!(rt; in_all(&crowd.told, false) == (5_000, 200, 0));
     assert!(rt; in_all(&crowd.told, true) == (5_000, 200, 0));
     assert!(rt; crowd.rolls? == WAVES);
-    assert!(rt; crowd.sums? == [sum, sum]);
+    let (sums, line) = crowd.ended?;
+    assert!(rt; sums == [sum, sum]);
+    assert_eq!(rt; line.as_slice(), b"audit ok 20422\n".as_slice());
     Ok(())
 }

@@ -2,7 +2,8 @@
 
 use super::wire::{Terms, bytes, good, request, tenant_text};
 use super::{
-    BASE, NOTHING, UNREACHABLE, answer_of, asked, lonely_port, sent, serve_as, setup_with,
+    ALL, BASE, NOTHING, NOTHING_MORE, UNREACHABLE, answer_of, asked, lonely_port, sent, serve_as,
+    setup_with,
 };
 use crate::serving::Extent;
 use std::alloc::Global;
@@ -57,7 +58,14 @@ fn idle_connections_yield(rt: HostRuntime) -> Result<(), Fail> {
                 connections: 2,
                 rounds: Some(3),
             };
-            serve_as(&rt, setup.as_str(), extent, false, &listener, &mut lines)
+            serve_as(
+                &rt,
+                setup.as_str(),
+                extent,
+                NOTHING_MORE,
+                &listener,
+                &mut lines,
+            )
         },
         || asked_beside_idle(&rt, alloc, &addr, request.as_slice()),
     );
@@ -136,7 +144,8 @@ fn two_tenants(alloc: Global, acme: u16, beta: u16) -> Result<String, Fail> {
 }
 
 // Of two places each tenant has one. Of acme's four packets one is with a peer that says nothing, one waits, and for two there
-// is no room; beta's packet, whose peer refuses the connection, and its command are answered meanwhile.
+// is no room; beta's packet, whose peer refuses the connection, and its command are answered meanwhile. Of each of the five
+// packets there are two receipts in the end, and one of each tenant's roll.
 #[test]
 fn a_silent_peer_keeps_no_other_tenant(rt: HostRuntime) -> Result<(), Fail> {
     let alloc = rt.alloc();
@@ -167,7 +176,7 @@ fn a_silent_peer_keeps_no_other_tenant(rt: HostRuntime) -> Result<(), Fail> {
                 connections: 8,
                 rounds: Some(3),
             };
-            serve_as(&rt, setup.as_str(), extent, true, &listener, &mut lines)
+            serve_as(&rt, setup.as_str(), extent, ALL, &listener, &mut lines)
         },
         || asked_beside_silence(&rt, alloc, &addr, requests),
     );
@@ -194,7 +203,7 @@ fn a_silent_peer_keeps_no_other_tenant(rt: HostRuntime) -> Result<(), Fail> {
         lines.as_slice(),
         b"acme balance alice 0 0 0\nacme balance bob 0 0 0\nacme ok\n\
         beta balance alice 0 0 0\nbeta balance bob 0 0 0\nbeta ok\n\
-        acme 200 4 4xx 0 503 0 link 4\nbeta 200 2 4xx 0 503 0 link 1\n"
+        acme 200 4 4xx 0 503 0 link 4\nbeta 200 2 4xx 0 503 0 link 1\naudit ok 12\n"
             .as_slice()
     );
     Ok(())

@@ -1,7 +1,7 @@
 //! A client that waits until it is told to go on.
 
 use super::wire::{bytes, good};
-use super::{CHILD, CONFIG, answer_of, serve_some, setup_with};
+use super::{CHILD, CONFIG, NOTHING_MORE, answer_of, serve_some, setup_with};
 use std::alloc::Global;
 use std::io;
 use std::io::{Read, Write};
@@ -53,7 +53,7 @@ fn served_patiently<
     let mut lines = Vec::new(alloc);
     let (end, came) = join(
         rt,
-        || serve_some(rt, setup.as_str(), 1, &listener, &mut lines),
+        || serve_some(rt, setup.as_str(), 1, NOTHING_MORE, &listener, &mut lines),
         || asked_patiently(rt, alloc, &addr, body.as_slice()),
     );
     let came = came?;
