@@ -29,6 +29,7 @@ pub(crate) trait HeadSpans: Copy {
         ensures lines { length lines.new ≡ length lines.old }
         ensures decides { Decides grammar text.now (length lines.old) lines.new result };
 
+    /// What holds of all its heads, and of each that was parsed.
     ghost laws: { IsGrammar grammar };
 }
 
