@@ -19,6 +19,8 @@ mod replays;
 #[cfg(test)]
 mod rows;
 #[cfg(test)]
+mod script_words;
+#[cfg(test)]
 mod scripts;
 #[cfg(test)]
 mod verdicts;

@@ -1,5 +1,6 @@
 pub mod Words
 pub mod Script
+pub mod ScriptWrong
 pub mod Printed
 pub mod Streams
 pub mod Replay

@@ -17,8 +17,8 @@ fn past_digits(byte: u8) -> u8
     decimal.min(capital).min(small)
 }
 
-// Whether all bytes are digits. It goes on behind one that is none.
-fn are_digits(text: &[u8]) -> bool
+/// Whether all bytes are digits. It goes on behind one that is none.
+pub(crate) fn are_digits(text: &[u8]) -> bool
     ensures { result ≡ list_all is_hex_digit text.now }
 {
     let mut worst: u8 = 0;

@@ -2,6 +2,7 @@
 //! that are written.
 #![tactic(auto)]
 
+mod causes;
 mod checks;
 mod hexadecimal;
 pub mod laws;
@@ -12,6 +13,8 @@ mod scans;
 mod script;
 mod streams;
 
+pub use causes::{LineFault, Operand, Verb};
+pub use checks::line_fault;
 pub use printed::print_lines;
 pub use replays::{ReplayFault, replay};
-pub use script::{Meaning, ScriptFault, check_script, meaning_of};
+pub use script::{Meaning, ScriptFault, ScriptWrong, check_script, explain_script, meaning_of};

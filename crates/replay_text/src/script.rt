@@ -1,9 +1,9 @@
 //! Replay scripts: what each line has a worker do.
 
 ghost use Rattle.std.specs.Prelude.{◌≡◌, ◌==◌, ◌<◌, ◌≤◌, ◌↔◌, ℕ, List, Ok, Err, ◌∷◌, length, ◌≢◌, [], option_copied};
-ghost use Rattle.std.specs.Prelude.{option_and_then, IfOk, OnOk, MatchOption, None};
+ghost use Rattle.std.specs.Prelude.{option_and_then, option_map, IfOk, OnOk, MatchOption, None};
 ghost use Rattle.std.specs.List.{position};
-ghost use Rattle.std.specs.Result.{result_ok};
+ghost use Rattle.std.specs.Result.{result_err, result_ok};
 ghost use Rattle.std.specs.Str.{bytes_eq};
 ghost use Rattle.replay_text.specs.Script.{lines_of};
 ghost use Rattle.common_types.specs.Words.{words_of, parts};
@@ -13,10 +13,12 @@ ghost use Rattle.replay_text.specs.Script.{given_of, moment_spelled, step_behind
 ghost use Rattle.replay_text.specs.Script.{is_skipped, meaning_of, steps_from, steps_of_script, AreSteps, IsFirstBad};
 ghost use Rattle.admin_text.specs.Commands.{command_in};
 ghost use Rattle.replay_text.specs.Script.{IsCheckedAs};
+ghost use Rattle.replay_text.specs.ScriptWrong.{fault_of, told};
 ghost use Rattle.floor_core.specs.declared.step.Step.{Step};
 ghost use Rattle.replay_text.specs.Words.{two_of, three_of, four_of};
 
-use crate::checks::is_bad;
+use crate::causes::LineFault;
+use crate::checks::line_fault;
 use crate::hexadecimal::decode;
 use crate::numbers::number_below;
 use crate::scans::{is_ascii, place_of};
@@ -25,6 +27,7 @@ use common_types::{Boxed, Name, ReadError, is_token};
 use floor_core::{Given, Octets, Step};
 use ilp_addr::Moment;
 use std::alloc::{AllocError, Global};
+use std::fmt;
 use tenant_core::Command;
 use thiserror::Error;
 
@@ -43,6 +46,40 @@ pub enum ScriptFault {
     /// The line of that number, from 1, is the first that says nothing.
     #[error("script: line {0}")]
     Line(usize),
+}
+
+/// What is wrong with a script, and why.
+#[derive(Clone, Copy)]
+pub enum ScriptWrong<'a> {
+    /// It has too many bytes.
+    Size,
+    /// The line of that number, from 1, is the first that says nothing.
+    Line(usize, LineFault<'a>),
+}
+
+impl ScriptWrong<'_> {
+    ghost use Rattle.std.specs.Prelude.{◌≡◌};
+    ghost use Rattle.replay_text.specs.ScriptWrong.{fault_of};
+
+    /// The fault that stands for it.
+    pub fn fault(&self) -> ScriptFault
+        ensures { result ≡ fault_of self.now }
+    {
+        match self {
+            ScriptWrong::Size => ScriptFault::Size,
+            ScriptWrong::Line(number, _) => ScriptFault::Line(*number),
+        }
+    }
+}
+
+impl fmt::Display for ScriptWrong<'_> {
+    fn fmt<W: fmt::Write>(&self, f: &mut fmt::Formatter<W>) -> fmt::Result {
+        let fault = self.fault();
+        match self {
+            ScriptWrong::Size => write!(f, "{fault}: at most {MOST_BYTES} bytes"),
+            ScriptWrong::Line(_, cause) => write!(f, "{fault}: {cause}"),
+        }
+    }
 }
 
 /// What a line of a script says.
@@ -412,7 +449,30 @@ pub fn meaning_of<'a>(
 }
 
 // Whether no line of a text is bad.
-fn check_lines(
+fn check_lines<'a>(
+    alloc: Global,
+    names: &[Name],
+    workers: usize,
+    text: &'a [u8],
+) -> Result<(), ReadError<ScriptWrong<'a>>>
+    requires { length text.now ≤ MOST_BYTES }
+    ensures { IsCheckedAs (told result) (steps_from names.now workers 1 (lines_of text.now)) }
+{
+    let mut rest = text;
+    let mut number: usize = 1;
+    while !rest.is_empty() {
+        let (line, after) = first_line(rest);
+        if let Some(cause) = line_fault(alloc, names, workers, line)? {
+            return Err(ReadError::Fault(ScriptWrong::Line(number, cause)));
+        }
+        rest = after;
+        number += 1;
+    }
+    Ok(())
+}
+
+// The same without the cause.
+fn lines_checked(
     alloc: Global,
     names: &[Name],
     workers: usize,
@@ -421,17 +481,11 @@ fn check_lines(
     requires { length text.now ≤ MOST_BYTES }
     ensures { IsCheckedAs result (steps_from names.now workers 1 (lines_of text.now)) }
 {
-    let mut rest = text;
-    let mut number: usize = 1;
-    while !rest.is_empty() {
-        let (line, after) = first_line(rest);
-        if is_bad(alloc, names, workers, line)? {
-            return Err(ReadError::Fault(ScriptFault::Line(number)));
-        }
-        rest = after;
-        number += 1;
+    match check_lines(alloc, names, workers, text) {
+        Ok(()) => Ok(()),
+        Err(ReadError::Memory) => Err(ReadError::Memory),
+        Err(ReadError::Fault(wrong)) => Err(ReadError::Fault(wrong.fault())),
     }
-    Ok(())
 }
 
 /// Whether a text is a script, for the tenants of these names, numbered from 0, and so many workers.
@@ -462,5 +516,26 @@ pub fn check_script(
     if text.len() > MOST_BYTES {
         return Err(ReadError::Fault(ScriptFault::Size));
     }
-    check_lines(alloc, names, workers, text)
+    lines_checked(alloc, names, workers, text)
+}
+
+/// What is wrong with a script and why, `None` where it is good: the fault that [`check_script`] finds, and what would be
+/// right in that line.
+#[tactic(auto, unfolding(crate::specs::Script::steps_of_script))]
+pub fn explain_script<'a>(
+    alloc: Global,
+    names: &[Name],
+    workers: usize,
+    text: &'a [u8],
+) -> Result<Option<ScriptWrong<'a>>, AllocError>
+    ensures exact { IfOk result (λ wrong. option_map fault_of wrong ≡ result_err (steps_of_script names.now workers text.now)) }
+{
+    if text.len() > MOST_BYTES {
+        return Ok(Some(ScriptWrong::Size));
+    }
+    match check_lines(alloc, names, workers, text) {
+        Ok(()) => Ok(None),
+        Err(ReadError::Memory) => Err(AllocError),
+        Err(ReadError::Fault(wrong)) => Ok(Some(wrong)),
+    }
 }

@@ -1,20 +1,20 @@
-use Rattle.std.proofs.Common.{sym, arith, ◌∙◌}
+use Rattle.std.proofs.Common.{ap, is_some, sym, arith, ◌∙◌}
 use Rattle.std.proofs.lemmas.List.{nil_from_length}
 use Rattle.std.proofs.lemmas.Bool.{eqb-true}
 use Rattle.replay_text.proofs.Fronts.{fails, passes, ends}
 use Rattle.replay_text.proofs.script.check_lines.Goals as goal
 
-pub returns-then-branch : goal.returns-then-branch
-returns-then-branch c =
+pub returns-in-Some : goal.returns-in-Some
+returns-in-Some c =
     let front = c.loop-rest.invariant.read in
-    fails front.0 c.args.names.now c.args.workers c.loop-rest.number c.loop-rest.rest.now c.first_line.result.0.now c.first_line.result.1.now _ c.first_line.ensures.value (sym c.in_ok-is_bad.ensures ∙ c.if-branch.true) front.1
+    fails front.0 c.args.names.now c.args.workers c.loop-rest.number c.loop-rest.rest.now c.first_line.result.0.now c.first_line.result.1.now _ c.first_line.ensures.value (sym c.in_ok-cause.ensures ∙ ap is_some c.in-Some.is) front.1
 
 pub loop-rest-preserved : goal.loop-rest-preserved
 loop-rest-preserved c =
     let front = c.loop-rest.invariant.read in
     record {
       numbered = omega (arith, c.first_line.ensures.shorter);
-      read = passes front.0 c.args.names.now c.args.workers c.loop-rest.number c.loop-rest.rest.now c.first_line.result.0.now c.first_line.result.1.now _ c.first_line.ensures.value (sym c.in_ok-is_bad.ensures ∙ c.if-branch.false) front.1;
+      read = passes front.0 c.args.names.now c.args.workers c.loop-rest.number c.loop-rest.rest.now c.first_line.result.0.now c.first_line.result.1.now _ c.first_line.ensures.value (sym c.in_ok-cause.ensures ∙ ap is_some c.in_default.is) front.1;
     }
 
 pub returns : goal.returns
