@@ -8,7 +8,10 @@ use std::test::Fail;
 // Scripts of two workers for the tenant acme, and what is said of them.
 static SCRIPTS: [(&str, &str); 31] = [
     ("", "good"),
-    ("# what follows\n\ndecide 1 0\ntick acme 0\nanswer 0 1 fault\n", "good"),
+    (
+        "# what follows\n\ndecide 1 0\ntick acme 0\nanswer 0 1 fault\n",
+        "good",
+    ),
     ("load 0 acme tok 0cFf\ndo acme 0 roll\n", "good"),
     (
         "\ndecide 0 0\ndecide 2 0\ndecide 3 0\n",
@@ -24,7 +27,10 @@ static SCRIPTS: [(&str, &str); 31] = [
     ),
     ("decide 0", "script: line 1: NOW is missing: decide W NOW"),
     ("decide", "script: line 1: W is missing: decide W NOW"),
-    ("decide 0 1 2", "script: line 1: a word too many: decide W NOW"),
+    (
+        "decide 0 1 2",
+        "script: line 1: a word too many: decide W NOW",
+    ),
     (
         "decide 0 253400000000001",
         "script: line 1: NOW = \"253400000000001\": at most 253400000000000",
@@ -62,7 +68,10 @@ static SCRIPTS: [(&str, &str); 31] = [
         "load 0 acme tok!alice -",
         "script: line 1: TOKEN = \"tok!alice\": 1 to 64 of A-Z a-z 0-9 - . _ ~ + / =",
     ),
-    ("load 0 acme tok 0c0", "script: line 1: HEX = \"0c0\": an even count of digits"),
+    (
+        "load 0 acme tok 0c0",
+        "script: line 1: HEX = \"0c0\": an even count of digits",
+    ),
     (
         "load 0 acme tok 0g",
         "script: line 1: HEX = \"0g\": digits of 0-9 a-f A-F, or - for no bytes",
@@ -79,9 +88,18 @@ static SCRIPTS: [(&str, &str); 31] = [
         "answer 0 1 faults",
         "script: line 1: HEX = \"faults\": digits of 0-9 a-f A-F, - for no bytes, or fault",
     ),
-    ("answer 0 1 0", "script: line 1: HEX = \"0\": an even count of digits"),
-    ("do acme 0", "script: line 1: COMMAND is missing: do TENANT NOW COMMAND"),
-    ("do acme", "script: line 1: NOW is missing: do TENANT NOW COMMAND"),
+    (
+        "answer 0 1 0",
+        "script: line 1: HEX = \"0\": an even count of digits",
+    ),
+    (
+        "do acme 0",
+        "script: line 1: COMMAND is missing: do TENANT NOW COMMAND",
+    ),
+    (
+        "do acme",
+        "script: line 1: NOW is missing: do TENANT NOW COMMAND",
+    ),
     (
         "do acme 0 balance",
         "script: line 1: COMMAND: its first word or two name no command",
@@ -94,7 +112,10 @@ static SCRIPTS: [(&str, &str); 31] = [
         "do acme 0 settle in bob 0",
         "script: line 1: COMMAND: a number is outside its limits",
     ),
-    ("# \u{e9}", "script: line 1: a line has ASCII characters alone"),
+    (
+        "# \u{e9}",
+        "script: line 1: a line has ASCII characters alone",
+    ),
 ];
 
 fn words_of(alloc: Global, script: &str) -> Result<String, Fail> {
@@ -122,9 +143,15 @@ fn long_words_are_counted(rt: HostRuntime) -> Result<(), Fail> {
     let digits = "0".repeat(alloc, 101)?;
     let script = format!(in alloc; "load 0 acme tok {digits}")?;
     let words = words_of(alloc, script.as_str())?;
-    assert_eq!(rt; words.as_str(), "script: line 1: HEX has 101 bytes: an even count of digits");
+    assert_eq!(rt;
+        words.as_str(),
+        "script: line 1: HEX has 101 bytes: an even count of digits"
+    );
     let line = "#".repeat(alloc, 70_001)?;
     let words = words_of(alloc, line.as_str())?;
-    assert_eq!(rt; words.as_str(), "script: line 1: a line has at most 70000 bytes");
+    assert_eq!(rt;
+        words.as_str(),
+        "script: line 1: a line has at most 70000 bytes"
+    );
     Ok(())
 }

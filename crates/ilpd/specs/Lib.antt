@@ -6,3 +6,4 @@ pub mod Exchanges
 pub mod Endings
 pub mod Ahead
 pub mod Auditing
+pub mod Checking

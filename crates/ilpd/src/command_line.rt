@@ -12,7 +12,7 @@ use std::alloc::{AllocError, Global};
 pub enum Task {
     /// To replay the script on standard input.
     Replay,
-    /// To say whether it is good.
+    /// To say whether it is good, and whether a script for it is.
     Check,
     /// To serve so many connections at once, each on a thread of its own, and to end once as many were served for each worker,
     /// if it is to end; and what to tell then.
@@ -41,6 +41,8 @@ const MAX_ROUNDS: u32 = 1_000_000;
 pub struct CommandLine<'a> {
     pub task: Task,
     pub setup: &'a str,
+    /// The file of a script that is to be checked.
+    pub script: Option<&'a str>,
     pub workers: usize,
     pub address: &'a str,
 }
@@ -48,7 +50,8 @@ pub struct CommandLine<'a> {
 /// The address that a service listens on where the command line names none.
 const ADDRESS: &str = "127.0.0.1:7768";
 
-const USAGE: &str = "ilpd replay SETUP [--workers W] < SCRIPT\n       ilpd check SETUP\n       \
+const USAGE: &str =
+    "ilpd replay SETUP [--workers W] < SCRIPT\n       ilpd check SETUP [SCRIPT [--workers W]]\n       \
 ilpd serve SETUP --workers W [--connections C] [--rounds N] [--balances] [--audit] [--listen ADDR]";
 
 const WHERE: &str =
@@ -61,27 +64,37 @@ fn setup_of<'a>(alloc: Global) -> Arg<'a> {
         .action(ArgAction::Set)
 }
 
-fn replay_of<'a>(alloc: Global) -> Result<Command<'a>, AllocError> {
-    let workers = Arg::new(alloc, "workers")
+// How many workers a script has.
+fn script_workers<'a>(alloc: Global) -> Arg<'a> {
+    Arg::new(alloc, "workers")
         .long("workers")
         .value_name("W")
         .help("How many workers the script has, 1 to 64")
         .default_value("1")
-        .value_parser(value_parser!(u64).range(1..=64));
+        .value_parser(value_parser!(u64).range(1..=64))
+}
+
+fn replay_of<'a>(alloc: Global) -> Result<Command<'a>, AllocError> {
     Command::new(alloc, "replay")
         .about("Runs the script on standard input, and prints what each of its steps gives")
         .override_usage("ilpd replay SETUP [--workers W] < SCRIPT")
         .after_help("Example: ilpd replay examples/s1.toml < examples/forward.script")
         .arg(setup_of(alloc))?
-        .arg(workers)
+        .arg(script_workers(alloc))
 }
 
 fn check_of<'a>(alloc: Global) -> Result<Command<'a>, AllocError> {
+    let script = Arg::new(alloc, "SCRIPT")
+        .help("The file of a script for the setup's tenants")
+        .action(ArgAction::Set);
+    let workers = script_workers(alloc).requires_arg("SCRIPT")?;
     Command::new(alloc, "check")
-        .about("Says whether a setup is good, and else what is wrong in it")
-        .override_usage("ilpd check SETUP")
-        .after_help("Example: ilpd check examples/s1.toml")
-        .arg(setup_of(alloc))
+        .about("Says whether a setup is good, and a script for it, and else what is wrong")
+        .override_usage("ilpd check SETUP [SCRIPT [--workers W]]")
+        .after_help("Example: ilpd check examples/s1.toml examples/forward.script")
+        .arg(setup_of(alloc))?
+        .arg(script)?
+        .arg(workers)
 }
 
 fn serve_of<'a>(alloc: Global) -> Result<Command<'a>, AllocError> {
@@ -177,6 +190,7 @@ fn line_of<'a>(
     CommandLine {
         task,
         setup: words.get_str("SETUP").unwrap_or(""),
+        script: words.get_str("SCRIPT"),
         workers,
         address,
     }
@@ -189,7 +203,7 @@ fn line_in<'a>(matches: &ArgMatches<'a>) -> CommandLine<'a>
     ensures bounded { IsBounded result.task }
 {
     match matches.subcommand() {
-        Some(("check", check)) => line_of(Task::Check, check, 1, ADDRESS),
+        Some(("check", check)) => line_of(Task::Check, check, workers_of(check), ADDRESS),
         Some(("serve", serve)) => {
             let task = Task::Serve {
                 connections: connections_of(serve),
@@ -207,9 +221,9 @@ fn line_in<'a>(matches: &ArgMatches<'a>) -> CommandLine<'a>
     }
 }
 
-/// Reads the words of `ilpd replay SETUP [--workers W]`, `ilpd check SETUP` or
+/// Reads the words of `ilpd replay SETUP [--workers W]`, `ilpd check SETUP [SCRIPT [--workers W]]` or
 /// `ilpd serve SETUP --workers W [--connections C] [--rounds N] [--balances] [--audit] [--listen ADDR]`, the program's name first. W is 1 to 64, and
-/// 1 for a replay where it is left out; C is 1 to 4,096, and 256 where it is left out; N is 1 to 1,000,000; ADDR is
+/// 1 for a script where it is left out; C is 1 to 4,096, and 256 where it is left out; N is 1 to 1,000,000; ADDR is
 /// 127.0.0.1:7768 where it is left out.
 ///
 /// The error has the text for people, of a request for help too, or says that memory was refused.

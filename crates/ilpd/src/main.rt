@@ -1,13 +1,12 @@
 //! The connector's program.
 #![tactic(auto)]
 
-ghost use Rattle.std.specs.Prelude.{◌≡◌, ◌≤◌, None, OnOk};
-ghost use Rattle.std.specs.Result.{result_err};
-ghost use Rattle.admin_text.specs.Setup.{setup_of};
+ghost use Rattle.std.specs.Prelude.{◌≤◌};
 
 mod ahead;
 mod answering;
 mod auditing;
+mod checking;
 mod clock;
 mod command_line;
 mod desk;
@@ -26,7 +25,8 @@ mod timed;
 mod worker;
 
 use admin_text::laws::setups;
-use admin_text::{explain, read_setup};
+use admin_text::read_setup;
+use checking::{Script, check, fault_of};
 use clock::SystemClock;
 use command_line::{Task, arguments};
 use common_types::ReadError;
@@ -34,7 +34,6 @@ use ending::{Ending, exit_status, words_refused};
 use oer_core::Counted;
 pub use replay_text::{ReplayFault, replay};
 pub use serving::{Extent, Report, ServeFault, serve};
-use std::io::ErrorKind;
 use std::net::{Net, SocketAddr, TcpListener, TcpStream};
 use std::process::ExitCode;
 use std::rt::{Env, Files};
@@ -42,28 +41,6 @@ use std::sync::Wait;
 use std::thread::Threads;
 use std::time::Clock;
 use std::{env, fs, io};
-
-fn fault_of(error: io::Error) -> Ending {
-    Ending::Fault(if error.kind() == ErrorKind::OutOfMemory {
-        ReplayFault::Memory
-    } else {
-        ReplayFault::Device
-    })
-}
-
-// Says whether a setup is good, and else what is wrong. It is well only where it is good.
-fn check(rt: &(impl Print + AllocGlobal), setup: &[u8]) -> Result<(), Ending>
-    ensures { OnOk result (result_err (setup_of setup.now) ≡ None) }
-{
-    let found = explain(rt.alloc(), setup).map_err(|_| Ending::Fault(ReplayFault::Memory))?;
-    match found {
-        None => rt.println("good").map_err(fault_of),
-        Some(explained) => {
-            rt.println(explained.words.as_str()).map_err(fault_of)?;
-            Err(Ending::Fault(ReplayFault::Setup(explained.fault)))
-        }
-    }
-}
 
 // Says on standard error where a service is too small for what it promises its tenants.
 fn warn(rt: &impl Eprint, extent: Extent, tenants: usize) {
@@ -79,6 +56,22 @@ fn warn(rt: &impl Eprint, extent: Extent, tenants: usize) {
             extent.connections, extent.workers
         );
     }
+}
+
+// Says whether the setup is good, and the script of that file for it, where one is named.
+fn check_at(
+    rt: &(impl Files + Print + AllocGlobal),
+    setup: &[u8],
+    script: Option<&str>,
+    workers: usize,
+) -> Result<(), Ending> {
+    let (alloc, mut writer) = (rt.alloc(), io::writer(rt));
+    let Some(file) = script else {
+        return check(alloc, setup, None, &mut writer);
+    };
+    let text = fs::read(rt, file).map_err(fault_of)?;
+    let text = text.as_slice();
+    check(alloc, setup, Some(Script { text, workers }), &mut writer)
 }
 
 // Serves the setup on an address, which is an IP address and a port.
@@ -149,7 +142,7 @@ fn run<
     let line = arguments(alloc, words.as_slice()).map_err(words_refused)?;
     let setup = fs::read(rt, line.setup).map_err(fault_of)?;
     match line.task {
-        Task::Check => check(rt, setup.as_slice()),
+        Task::Check => check_at(rt, setup.as_slice(), line.script, line.workers),
         Task::Serve {
             connections,
             rounds,

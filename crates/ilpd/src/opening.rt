@@ -70,8 +70,8 @@ pub fn open_office<J: Run>(
     })
 }
 
-// The names of the tenants, in their order.
-fn names_of(alloc: Global, tenants: &[TenantSetup]) -> Result<Vec<Name>, AllocError>
+/// The names of the tenants, in their order.
+pub fn names_of(alloc: Global, tenants: &[TenantSetup]) -> Result<Vec<Name>, AllocError>
     ensures { IfOk result (λ names. names.items ≡ map (λ t. t.name) tenants.now) }
 {
     let mut names = Vec::with_capacity(alloc, tenants.len())?;

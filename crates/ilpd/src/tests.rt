@@ -1,7 +1,9 @@
 //! The command line, and the program's main job.
 
+use crate::checking::{Script, check};
 use crate::clock::SystemClock;
 use crate::command_line::{Task, arguments};
+use crate::ending::exit_status;
 use crate::replay;
 use crate::serving::Report;
 use std::alloc::{AllocError, Global};
@@ -23,7 +25,7 @@ type Words = (
     Result<(Task, &'static str, usize), &'static str>,
 );
 
-static LINES: [Words; 28] = [
+static LINES: [Words; 31] = [
     (&["replay", "s1.toml"], Ok((Task::Replay, "s1.toml", 1))),
     (
         &["replay", "s1.toml", "--workers", "2"],
@@ -34,6 +36,15 @@ static LINES: [Words; 28] = [
         Ok((Task::Replay, "s1.toml", 64)),
     ),
     (&["check", "s1.toml"], Ok((Task::Check, "s1.toml", 1))),
+    (
+        &["check", "s1.toml", "a.script"],
+        Ok((Task::Check, "s1.toml", 1)),
+    ),
+    (
+        &["check", "s1.toml", "a.script", "--workers", "2"],
+        Ok((Task::Check, "s1.toml", 2)),
+    ),
+    (&["check", "s1.toml", "a.script", "b.script"], Err("error:")),
     (&["check", "--", "-1.toml"], Ok((Task::Check, "-1.toml", 1))),
     (&["replay", "check"], Ok((Task::Replay, "check", 1))),
     (&[], Err("error:")),
@@ -156,6 +167,70 @@ fn addresses(rt: HostRuntime) -> Result<(), Fail> {
     let line = line_of(alloc, &words)?;
     let found = arguments(alloc, line.as_slice())?;
     assert_eq!(rt; found.address, "[::1]:80");
+    Ok(())
+}
+
+#[test]
+fn scripts_to_check(rt: HostRuntime) -> Result<(), Fail> {
+    let alloc = rt.alloc();
+    let words = ["check", "s1.toml", "a.script"];
+    let line = line_of(alloc, &words)?;
+    let found = arguments(alloc, line.as_slice())?;
+    assert_eq!(rt; found.script, Some("a.script"));
+    let words = ["check", "s1.toml"];
+    let line = line_of(alloc, &words)?;
+    let found = arguments(alloc, line.as_slice())?;
+    assert_eq!(rt; found.script, None);
+    Ok(())
+}
+
+// More lines of the setup, a script, what is said of them, and the exit status.
+static CHECKS: [(&str, Option<&str>, &str, u8); 6] = [
+    ("", None, "good\n", 0),
+    (
+        "jurnal = 64\n",
+        None,
+        "good\ntenant 0 acme: jurnal = 64: an unknown key, ignored\n",
+        0,
+    ),
+    (
+        "hold = 0\n",
+        Some("decide 0"),
+        "tenant 0 acme: hold = 0: at least 1\n",
+        3,
+    ),
+    ("", Some("tick acme 0\ndecide 1 0\n"), "good\n", 0),
+    (
+        "jurnal = 64\n",
+        Some("tick acme 0\ndecide 2 0\n"),
+        "script: line 2: W = \"2\": at most 1\n",
+        4,
+    ),
+    (
+        "",
+        Some("tick beta 0"),
+        "script: line 1: TENANT = \"beta\": no tenant of the setup has that name\n",
+        4,
+    ),
+];
+
+#[test]
+fn what_check_says(rt: HostRuntime) -> Result<(), Fail> {
+    let alloc = rt.alloc();
+    for (lines, script, said, status) in CHECKS {
+        let setup = format!(in alloc; "{SETUP}{lines}")?;
+        let script = match script {
+            Some(text) => Some(Script {
+                text: text.as_bytes(),
+                workers: 2,
+            }),
+            None => None,
+        };
+        let mut text = Vec::new(alloc);
+        let ended = check(alloc, setup.as_bytes(), script, &mut text);
+        assert_eq!(rt; text.as_slice(), said.as_bytes());
+        assert_eq!(rt; exit_status(&ended), status);
+    }
     Ok(())
 }
 
