@@ -50,6 +50,9 @@ pub struct CommandLine<'a> {
 /// The address that a service listens on where the command line names none.
 const ADDRESS: &str = "127.0.0.1:7768";
 
+/// The version of the program. No revision and no date of its sources are known to it.
+const VERSION: &str = "0.1.0";
+
 const USAGE: &str =
     "ilpd replay SETUP [--workers W] < SCRIPT\n       ilpd check SETUP [SCRIPT [--workers W]]\n       \
 ilpd serve SETUP --workers W [--connections C] [--rounds N] [--balances] [--audit] [--listen ADDR]";
@@ -226,13 +229,14 @@ fn line_in<'a>(matches: &ArgMatches<'a>) -> CommandLine<'a>
 /// 1 for a script where it is left out; C is 1 to 4,096, and 256 where it is left out; N is 1 to 1,000,000; ADDR is
 /// 127.0.0.1:7768 where it is left out.
 ///
-/// The error has the text for people, of a request for help too, or says that memory was refused.
+/// The error has the text for people, of a request for help or the version too, or says that memory was refused.
 pub fn arguments<'a>(alloc: Global, words: &'a [String]) -> Result<CommandLine<'a>, Error>
     ensures least { IfOk result (λ line. 1 ≤ line.workers) }
     ensures most { IfOk result (λ line. line.workers ≤ 64) }
     ensures bounded { IfOk result (λ line. IsBounded line.task) }
 {
     let command = Command::new(alloc, "ilpd")
+        .version(VERSION)
         .about("A connector of the Interledger Protocol v4 for many operators")
         .override_usage(USAGE)
         .after_help(WHERE)

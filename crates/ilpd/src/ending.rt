@@ -1,8 +1,8 @@
 //! How the program ends.
 
-ghost use Rattle.std.specs.Prelude.{◌≡◌, ◌≢◌};
+ghost use Rattle.std.specs.Prelude.{◌≡◌, ◌≢◌, ◌↔◌, IsTrue};
 ghost use Rattle.clap.specs.Values.{kind_of};
-ghost use Rattle.clap.specs.declared.error.kind.ErrorKind.TheVariants.{OutOfMemory};
+ghost use Rattle.clap.specs.declared.error.kind.ErrorKind.TheVariants.{DisplayVersion, OutOfMemory};
 ghost use Rattle.ilpd.specs.Endings.{exit_status};
 
 use clap::error::ErrorKind;
@@ -30,6 +30,13 @@ pub fn words_refused(error: clap::Error) -> Ending
         return Ending::Fault(ReplayFault::Memory);
     }
     Ending::Usage(error)
+}
+
+/// Whether the words asked for the version, which the error's text has, and for nothing else.
+pub fn asks_version(error: &clap::Error) -> bool
+    ensures { IsTrue result ↔ (kind_of error.now ≡ DisplayVersion) }
+{
+    error.kind() == ErrorKind::DisplayVersion
 }
 
 /// The exit status of a run that ended so: 0 only where nothing went wrong.

@@ -30,7 +30,7 @@ use checking::{Script, check, fault_of};
 use clock::SystemClock;
 use command_line::{Task, arguments};
 use common_types::ReadError;
-use ending::{Ending, exit_status, words_refused};
+use ending::{Ending, asks_version, exit_status, words_refused};
 use oer_core::Counted;
 pub use replay_text::{ReplayFault, replay};
 pub use serving::{Extent, Report, ServeFault, serve};
@@ -139,7 +139,11 @@ fn run<
         .map_err(fault_of)?
         .collect(alloc)
         .map_err(|_| Ending::Fault(ReplayFault::Memory))?;
-    let line = arguments(alloc, words.as_slice()).map_err(words_refused)?;
+    let line = match arguments(alloc, words.as_slice()) {
+        Ok(line) => line,
+        Err(error) if asks_version(&error) => return rt.print(error).map_err(fault_of),
+        Err(error) => return Err(words_refused(error)),
+    };
     let setup = fs::read(rt, line.setup).map_err(fault_of)?;
     match line.task {
         Task::Check => check_at(rt, setup.as_slice(), line.script, line.workers),

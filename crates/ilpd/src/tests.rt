@@ -25,7 +25,7 @@ type Words = (
     Result<(Task, &'static str, usize), &'static str>,
 );
 
-static LINES: [Words; 31] = [
+static LINES: [Words; 34] = [
     (&["replay", "s1.toml"], Ok((Task::Replay, "s1.toml", 1))),
     (
         &["replay", "s1.toml", "--workers", "2"],
@@ -143,6 +143,9 @@ static LINES: [Words; 31] = [
         Err("error:"),
     ),
     (&["--help"], Err("A connector")),
+    (&["--version"], Err("ilpd 0.1.0\n")),
+    (&["-V"], Err("ilpd 0.1.0\n")),
+    (&["check", "--version"], Err("error:")),
     (&["help"], Err("A connector")),
     (&["replay", "--help"], Err("Runs the script")),
 ];
