@@ -74,10 +74,12 @@ record IsSaid (key : Key) : Type 0 where
   condition : length key.condition ≡ 32
   destination : IsAddress key.destination
 
+-- what was read, where something was
 value_of : {A E : Type 0} (r : Result A E) → is_ok r ≡ true → (x : A) × (r ≡ Ok x)
 value_of (Ok x) e = (x, refl)
 value_of (Err f) e = absurd cc
 
+-- what a key that is sayable keeps
 is_said : AddressLaws → (key : Key) → is_sayable key ≡ true → IsSaid key
 is_said laws key e =
     let last = and_parts _ _ e in
@@ -102,6 +104,7 @@ framed_so laws kind contents few =
       size = omega (arith, length-append (shortest_length (length contents)) contents);
     }
 
+-- the frame of a key is a Prepare
 is_prepare : FrameLaws → (key : Key) → IsSaid key → IsPrepare (prepare_frame (prepare_of key)) (prepare_of key)
 is_prepare laws key said =
     let d : List ℕ = key.destination in
@@ -123,11 +126,13 @@ is_prepare laws key said =
       payload = omega arith;
     }
 
+-- which arrives with any token
 arrives : FrameLaws → (token : List ℕ) (key : Key) → is_token token ≡ true → IsSaid key
     → arrival token (prepare_frame (prepare_of key)) ≡ Ok (prepare_of key)
 arrives laws token key named said =
     rw (named, laws.prepares (prepare_frame (prepare_of key)) (prepare_of key) (is_prepare laws key said)) refl
 
+-- and reads as the key
 key_back : TimestampLaws → (key : Key) → IsSaid key → key_in (prepare_of key) ≡ key
 key_back laws key said =
     ap (λ (e : ℕ). record { amount = key.amount; expiry = e; condition = key.condition; destination = key.destination })
@@ -146,9 +151,11 @@ not_fulfill : (rest : List ℕ) → length (14 ∷ rest) ≤ max_frame → fulfi
 unfolding fulfill_at envelope_at behind_type
 not_fulfill rest short = rw (le-ltb max_frame (length (14 ∷ rest)) short) refl
 
+-- and reads as a Reject
 rejected : (rest : List ℕ) (w : Reject) → length (14 ∷ rest) ≤ max_frame → reject_at (14 ∷ rest) ≡ Ok w → answer_key (heard (given.Bytes (14 ∷ rest))) ≡ Rejected
 rejected rest w short reads = rw (le-ltb max_frame (length (14 ∷ rest)) short, not_fulfill rest short, reads) refl
 
+-- what came back reads as the answer
 key_heard : FrameLaws → (key : AnswerKey) → is_answer key ≡ true → answer_key (heard (given_of key)) ≡ key
 key_heard laws (Fulfilled f) e =
     let size : length f ≡ 32 = eqb-true _ _ e in
@@ -167,6 +174,7 @@ pub record Explains (s : State) (r : Record) : Type 0 where
   pub made : made_from s cause ≡ Some r
   pub left : left_from s cause ≡ recorded s (Some r)
 
+-- an order that makes a record leaves the state with it
 order_leaves : (s : State) (o : Result Changed CommandFault) (now : ℕ) (r : Record) → order_made o now ≡ Some r → order_left s o now ≡ recorded s (Some r)
 order_leaves s (Ok c) now r e = ap (recorded s) e
 order_leaves s (Err fault) now r e = absurd cc

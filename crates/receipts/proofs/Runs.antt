@@ -49,6 +49,7 @@ push_cases {X = X} (x ∷ xs) (suc k) y z e = elim (push_cases xs k y z e) [
 ends_with_roll : (p : PeriodParts) → IsPeriod p → p.records ≡ (state_before_roll p).records ++ roll_record (moment_of_last p.records) ∷ []
 ends_with_roll p kept = ap (λ (q : PeriodParts). q.records) kept.closed
 
+-- so there is one more than before it
 some_records : (p : PeriodParts) → IsPeriod p → length p.records ≡ length (state_before_roll p).records + 1
 some_records p kept = ap length (ends_with_roll p kept) ∙ length_push (state_before_roll p).records (roll_record (moment_of_last p.records))
 
@@ -106,6 +107,7 @@ roll_explained p n x kept last is =
       left = inr (omega arith, ap (λ (z : State). left_from z cause) here ∙ left);
     }
 
+-- each record of a period
 record_explained : FrameLaws → (p : PeriodParts) (n : ℕ) (x : Record) → IsPeriod p → slice_get p.records n ≡ Some x → IsExplained p n x
 record_explained laws p n x kept at =
     elim (push_cases (state_before_roll p).records n (roll_record (moment_of_last p.records)) x
@@ -125,6 +127,7 @@ same_period periods p q joined has_p has_q tenant number =
     let place : at_p.0 ≡ at_q.0 = joined.once at_p.0 at_q.0 p q at_p.1 at_q.1 (tenant, number) in
     one_there periods at_q.0 p q (subst (λ k. slice_get periods k ≡ Some p) place at_p.1) at_q.1
 
+-- a period is what a roll closed
 is_kept : (periods : List PeriodParts) (p : PeriodParts) → AreKept periods → Contains periods p → IsPeriod p
 is_kept periods p kept has = let at = is_read periods p has in kept at.0 p at.1
 
@@ -135,15 +138,16 @@ come_before periods p m has less =
     let at = is_read periods p has in
     before_later periods p.opening.tenant p.opening.period p at.0 m at.1 (refl, refl) less
 
--- the period before one that is not the first
-record IsBefore (periods : List PeriodParts) (p q : PeriodParts) : Type 0 where
+-- one period ends in the state that the other opens
+record LeadsTo (periods : List PeriodParts) (p q : PeriodParts) : Type 0 where
   has : Contains periods p
   ends : p.ending ≡ q.opening
   tenant : p.opening.tenant ≡ q.opening.tenant
   number : p.opening.period + 1 ≡ q.opening.period
 
+-- one leads to each that is not its tenant's first
 led_by_one : (periods : List PeriodParts) (q : PeriodParts) → AreKept periods → AreJoined periods → Contains periods q → q.opening.period ≢ 0
-    → (p : PeriodParts) × IsBefore periods p q
+    → (p : PeriodParts) × LeadsTo periods p q
 led_by_one periods q kept joined has later = elim (joined.led q has) [
   | inl first ↦ absurd (later first)
   | inr led ↦
@@ -209,6 +213,7 @@ record Stand (periods : List PeriodParts) (books : ℕ → State) (done : ℕ �
       → records_before periods p.opening.tenant p.opening.period + length p.records ≤ done p.opening.tenant
       → books p.opening.tenant ≡ opened p.ending
 
+-- what was put is there, and all else as it was; so with what was counted
 put_here : {A : Type 0} (f : ℕ → A) (k n : ℕ) (v : A) → n ≡ k → put f k v n ≡ v
 put_here {A = A} f k n v same = rw (eq-eqb n k same) refl
 
@@ -290,10 +295,12 @@ stand_on periods books done t p n s kept joined stand has own below at follows =
 abbrev nothing_of : ℕ → Opening
 nothing_of t = record no_book.opening { tenant = t }
 
+-- the opening of a period, if there is one
 abbrev opening_or : ℕ → Option PeriodParts → Opening
 opening_or t None = nothing_of t
 opening_or t (Some p) = p.opening
 
+-- the period is the tenant's first
 abbrev is_first : ℕ → PeriodParts → Bool
 is_first t p = (p.opening.tenant == t) && (p.opening.period == 0)
 
@@ -306,6 +313,7 @@ unfoldable openings_from : List PeriodParts → (tenant count : ℕ) → List Op
 openings_from periods t zero = []
 openings_from periods t (suc count) = begins_with periods t ∷ openings_from periods (t + 1) count
 
+-- which stand at their numbers
 opening_there : (periods : List PeriodParts) (t count k : ℕ) → k < count → slice_get (openings_from periods t count) k ≡ Some (begins_with periods (t + k))
 unfolding openings_from
 opening_there periods t zero k below = absurd (omega arith)
@@ -316,6 +324,7 @@ opening_there periods t (suc count) (suc k) below =
     let same : t + 1 + k ≡ t + suc k = omega arith in
     opening_there periods (t + 1) count k (omega arith) ∙ ap (λ (u : ℕ). Some (begins_with periods u)) same
 
+-- and are their tenants'
 found_first : (t : ℕ) (periods : List PeriodParts) → (opening_or t (find (is_first t) periods)).tenant ≡ t
 found_first t [] = refl
 found_first t (p ∷ ps) = by (is_first t p) refl (found_first t ps)
@@ -327,6 +336,7 @@ found_first t (p ∷ ps) = by (is_first t p) refl (found_first t ps)
 not_both : (b : Bool) → b ≡ true → b ≡ false → ⊥
 not_both b e f = absurd cc
 
+-- the one element that passes is found
 find_one : (t : ℕ) (periods : List PeriodParts) (p : PeriodParts) → Contains periods p → is_first t p ≡ true
     → ((q : PeriodParts) → Contains periods q → is_first t q ≡ true → q ≡ p) → find (is_first t) periods ≡ Some p
 find_one t [] p has is once = let below = has.1 in absurd (omega arith)
@@ -356,9 +366,11 @@ first_begins periods p joined has first =
     let parts = and_parts (q.opening.tenant == t) (q.opening.period == 0) e in
     same_period periods q p joined has_q has (eqb-true _ _ parts.0) (eqb-true _ _ parts.1 ∙ sym first)))
 
+-- the tenant of a period is one of those
 tenant_few : (periods : List PeriodParts) (p : PeriodParts) → AreKept periods → Contains periods p → p.opening.tenant < max_tenants
 tenant_few periods p kept has = (is_kept periods p kept has).sound.tenant
 
+-- a tenant's first opening stands at its number
 first_opening : (periods : List PeriodParts) (p : PeriodParts) → AreKept periods → AreJoined periods → Contains periods p → p.opening.period ≡ 0
     → slice_get (openings_from periods 0 max_tenants) p.opening.tenant ≡ Some p.opening
 first_opening periods p kept joined has first =
@@ -366,6 +378,7 @@ first_opening periods p kept joined has first =
     opening_there periods 0 max_tenants p.opening.tenant (tenant_few periods p kept has)
     ∙ (ap (λ (u : ℕ). Some (begins_with periods u)) same ∙ ap Some (first_begins periods p joined has first))
 
+-- so does each tenant's
 are_placed : (periods : List PeriodParts) → ArePlaced (openings_from periods 0 max_tenants) max_tenants
 are_placed periods t below =
     let same : 0 + t ≡ t = omega arith in
@@ -406,6 +419,7 @@ record Went (periods : List PeriodParts) (books : ℕ → State) (entries : List
   few : All (λ (e : Entered). e.tenant < max_tenants) entries
   last : (p : PeriodParts) → Contains periods p → IsLast periods p → left p.opening.tenant ≡ opened p.ending
 
+-- where all receipts were taken, each book stands as its tenant's last period ended
 went_all : (periods : List PeriodParts) (lists : List (List Receipt)) (taken done : ℕ → ℕ) (books : ℕ → State) → AreKept periods → AreMatched periods lists
     → Stand periods books done → HaveMade periods lists taken done → ((i : ℕ) → taken i ≡ length (list_at (points_of periods lists) i)) → Went periods books []
 went_all periods lists taken done books kept matched stand made all = record {
@@ -430,9 +444,10 @@ went_all periods lists taken done books kept matched stand made all = record {
       stand.behind p has last (omega arith);
 }
 
--- one receipt more
-record Takes (periods : List PeriodParts) (lists : List (List Receipt)) (taken done : ℕ → ℕ) (books : ℕ → State) (i : ℕ) : Type 0 where
+-- the next receipt of a list names the next record of its tenant, which has a cause
+record Takes (periods : List PeriodParts) (lists : List (List Receipt)) (taken done : ℕ → ℕ) (books : ℕ → State) (i group : ℕ) : Type 0 where
   r : Receipt
+  tenant : group ≡ r.tenant
   read : slice_get (list_at lists i) (taken i) ≡ Some r
   place : place_of periods r ≡ done r.tenant
   few : r.tenant < max_tenants
@@ -442,7 +457,7 @@ record Takes (periods : List PeriodParts) (lists : List (List Receipt)) (taken d
 
 takes_one : FrameLaws → (periods : List PeriodParts) (lists : List (List Receipt)) (taken done : ℕ → ℕ) (books : ℕ → State) (i group : ℕ) → AreKept periods
     → AreMatched periods lists → Stand periods books done
-    → slice_get (list_at (points_of periods lists) i) (taken i) ≡ Some (point group (done group)) → Takes periods lists taken done books i
+    → slice_get (list_at (points_of periods lists) i) (taken i) ≡ Some (point group (done group)) → Takes periods lists taken done books i group
 takes_one laws periods lists taken done books i group kept matched stand at =
     let from = point_from (λ r. point r.tenant (place_of periods r)) (list_at lists i) (taken i) (point group (done group))
     (subst (λ (ps : List Point). slice_get ps (taken i) ≡ Some (point group (done group))) (points_at periods lists i) at) in
@@ -466,6 +481,7 @@ takes_one laws periods lists taken done books i group kept matched stand at =
     let follows : Follows p r.number s = subst (λ (b : State). Follows p r.number (left_from b explained.cause)) (sym book) explained.left in
     record {
       r = r;
+      tenant = sym tenant;
       read = from.1;
       place = place;
       few = subst (λ u. u < max_tenants) own (tenant_few periods p kept has);
@@ -474,6 +490,7 @@ takes_one laws periods lists taken done books i group kept matched stand at =
       stand = stand_on periods books done r.tenant p r.number s kept matched.joined stand has own below at_r follows;
     }
 
+-- and then that record was made too
 made_one : (periods : List PeriodParts) (lists : List (List Receipt)) (taken done : ℕ → ℕ) (i : ℕ) (r : Receipt) → HaveMade periods lists taken done
     → slice_get (list_at lists i) (taken i) ≡ Some r → place_of periods r ≡ done r.tenant → HaveMade periods lists (one_more taken i) (one_more done r.tenant)
 made_one periods lists taken done i r made read place j k q below at = dite (ℕ_discrete j i)
@@ -494,21 +511,18 @@ made_one periods lists taken done i r made read place j k q below at = dite (ℕ
         (λ same. let more = more_here done r.tenant q.tenant same in omega arith)
         (λ other. subst (λ m. place_of periods q < m) (sym (more_elsewhere done r.tenant q.tenant other)) less)
 
+-- the receipts that are left are caused, one after another
 goes_on : FrameLaws → (periods : List PeriodParts) (lists : List (List Receipt)) (order : List ℕ) (taken done : ℕ → ℕ) (books : ℕ → State) → AreKept periods
     → AreMatched periods lists → Stand periods books done → HaveMade periods lists taken done → TakesOn (points_of periods lists) taken done order
     → Went periods books (map entry_of (taken_in lists taken order))
 goes_on laws periods lists [] taken done books kept matched stand made takes = went_all periods lists taken done books kept matched stand made takes
 goes_on laws periods lists (i ∷ order) taken done books kept matched stand made (group, at, rest) =
     let one = takes_one laws periods lists taken done books i group kept matched stand at in
-    let from = point_from (λ x. point x.tenant (place_of periods x)) (list_at lists i) (taken i) (point group (done group))
-    (subst (λ (ps : List Point). slice_get ps (taken i) ≡ Some (point group (done group))) (points_at periods lists i) at) in
     let r : Receipt = one.r in
-    let same : from.0 ≡ r = one_there (list_at lists i) (taken i) from.0 r from.1 one.read in
-    let tenant : group ≡ r.tenant = sym (ap (λ (p : Point). p.group) from.2) ∙ ap (λ (x : Receipt). x.tenant) same in
     let s : State = left_from (books r.tenant) one.cause in
     let more = goes_on laws periods lists order (one_more taken i) (one_more done r.tenant) (put books r.tenant s) kept matched one.stand
     (made_one periods lists taken done i r made one.read one.place)
-    (subst (λ u. TakesOn (points_of periods lists) (one_more taken i) (one_more done u) order) tenant rest) in
+    (subst (λ u. TakesOn (points_of periods lists) (one_more taken i) (one_more done u) order) one.tenant rest) in
     let entries : List Entered = entry_of r ∷ map entry_of (taken_in lists (one_more taken i) order) in
     let whole : Went periods books entries = record {
       left = more.left;
@@ -520,6 +534,7 @@ goes_on laws periods lists (i ∷ order) taken done books kept matched stand mad
 
 -- ---- the law
 
+-- what is caused is a run
 abbrev pub RunLaw : Type 0
 RunLaw = (openings : List Opening) (tenants : ℕ) (entries : List Entered) (left : ℕ → State)
     → ArePlaced openings tenants → All (λ e. e.tenant < tenants) entries
