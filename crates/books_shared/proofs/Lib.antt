@@ -6,3 +6,4 @@ pub mod Crossing
 pub mod Causes
 pub mod Gathering
 pub mod Keeping
+pub mod Complete

@@ -8,3 +8,4 @@ pub mod Tracing
 pub mod Faults
 pub mod ShareKept
 pub mod BooksKept
+pub mod Complete

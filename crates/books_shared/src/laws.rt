@@ -1,11 +1,21 @@
 //! Laws of books that are shared, each the contract of a function that does nothing.
 
-ghost use Rattle.std.specs.Prelude.{◌≡◌, ◌<◌, ◌↔◌, ℕ, Bool, List, IsTrue, length};
+ghost use Rattle.std.specs.Prelude.{◌≡◌, ◌<◌, ◌↔◌, ℕ, All, Bool, List, IsTrue, length, map, true};
+ghost use Rattle.std.specs.List.{filter_map};
 ghost use Rattle.tenant_core.specs.Sound.{IsSound};
 ghost use Rattle.books_shared.specs.Gathers.{are_all_there, shares_of};
-ghost use Rattle.books_shared.specs.Shares.{ShareView, fresh_shares, raised};
+ghost use Rattle.books_shared.specs.Shares.{ShareView, fresh_shares, raised, receipts_in};
 ghost use Rattle.books_shared.specs.declared.rise.Rise.{Rise};
-ghost use Rattle.books_shared.specs.Traced.{after_made, openings_of};
+ghost use Rattle.books_shared.specs.Complete.{AreClosedIn, AreNumbered, AreReceiptsOf, AreRolled};
+ghost use Rattle.books_shared.specs.Traced.{IsListOf, after_made, openings_of};
+ghost use Rattle.one_list.specs.declared.step.Done.{Done};
+ghost use Rattle.one_list.specs.declared.step.Size.{Size};
+ghost use Rattle.receipts.specs.Audits.{AreMatched, IsComplete, IsStuckAt};
+ghost use Rattle.receipts.specs.Layout.{AreKept};
+ghost use Rattle.receipts.specs.Runs.{AreOfRun};
+ghost use Rattle.receipts.specs.declared.receipt.Receipt.{Receipt};
+ghost use Rattle.tenant_core.specs.State.{State};
+ghost use Rattle.tenant_core.specs.declared.period.PeriodParts.{PeriodParts};
 ghost use Rattle.floor_core.specs.Causes.{made_alone, world_opened};
 ghost use Rattle.floor_core.specs.World.{Event, Tenant, after_alone, world_at_start};
 ghost use Rattle.tenant_core.specs.declared.terms.TenantTerms.{TenantTerms};
@@ -14,6 +24,7 @@ ghost use Rattle.books_shared.specs.contracts.books.Books as Books;
 
 use crate::guard::Guard;
 use one_list::Run;
+use receipts::laws::{complete_receipts_are_a_run, no_order_where_stuck};
 
 /// Whenever a lock is held, and so whenever it is free, the book is the replay of its journal, and within its limits.
 pub fn guard_is_sound<J: Run>(guard: &Guard<'_, J>)
@@ -50,3 +61,30 @@ pub fn floors_begin_so()
 pub fn books_are_shared<J: Run>()
     ensures { IsSync (Books.the_row J.row J.Run) }
 {}
+
+/// The receipts that are handed out in the end are complete, where all books were rolled last, the periods are all that rolls
+/// closed, and of each worker there is a receipt of each of its steps: they fit the periods, and an order that takes them all is
+/// that of the workers in the one list of all that was done, as `Books::gather` has it (`complete`). So an audit of what is handed
+/// out says yes, want of memory aside. What audited shares keep, in the order of their workers, are such receipts (`kept`).
+pub fn gathered_receipts_are_complete()
+    ensures complete { (size : Size) (setups : List TenantTerms) (start : ℕ) (books : List (State × ℕ)) (shares : List ShareView)
+        (log : List Done) (periods : List PeriodParts) (lists : List (List Receipt))
+        → IsListOf size (openings_of setups start) books shares log → size.tenants ≡ length books
+        → AreRolled books → AreClosedIn (openings_of setups start) log periods → AreReceiptsOf size.workers shares lists
+        → IsComplete periods lists (map (λ e. e.worker) log) }
+    ensures kept { (shares : List ShareView) → AreNumbered 0 shares → All (λ s. s.audited ≡ true) shares
+        → AreReceiptsOf (length shares) shares (filter_map receipts_in shares) }
+{}
+
+/// Where receipts that match the periods are stuck at a front, no order completes them (`stuck`). Where an order completes them, and
+/// rolls closed the periods, they are in that order the records of a run: of steps from the openings of the first periods on, which
+/// leave each tenant's book as its last period ended (`run`).
+pub fn orders()
+    ensures stuck { (periods : List PeriodParts) (lists : List (List Receipt)) (front : ℕ → ℕ) (order : List ℕ)
+        → AreMatched periods lists → IsStuckAt periods lists front → IsComplete periods lists order → ⊥ }
+    ensures run { (periods : List PeriodParts) (lists : List (List Receipt)) (order : List ℕ)
+        → AreKept periods → IsComplete periods lists order → AreOfRun periods lists order }
+{
+    no_order_where_stuck();
+    complete_receipts_are_a_run();
+}

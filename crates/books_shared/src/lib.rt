@@ -12,4 +12,5 @@ mod share;
 pub use books::Books;
 pub use gather::GatherFault;
 pub use guard::Guard;
+pub use receipts::{AuditFault, Audited, Receipt, audit};
 pub use share::{RoomFault, Share};

@@ -4,3 +4,4 @@ pub mod Lays
 pub mod Naming
 pub mod Causes
 pub mod Runs
+pub mod Faultless

@@ -1,10 +1,12 @@
 //! Laws of receipts, each the contract of a function that does nothing.
 
-ghost use Rattle.std.specs.Prelude.{List, ℕ};
+ghost use Rattle.std.specs.Prelude.{◌≡◌, List, ℕ};
 ghost use Rattle.tenant_core.specs.declared.period.PeriodParts.{PeriodParts};
 ghost use Rattle.receipts.specs.Audits.{AreMatched, IsComplete, IsStuckAt};
-ghost use Rattle.receipts.specs.Layout.{AreKept};
+ghost use Rattle.receipts.specs.Layout.{AreKept, IsFault};
 ghost use Rattle.receipts.specs.Runs.{AreOfRun};
+ghost use Rattle.receipts.specs.declared.fault.AuditFault.{AuditFault};
+ghost use Rattle.receipts.specs.declared.fault.AuditFault.TheVariants.{Memory};
 ghost use Rattle.receipts.specs.declared.receipt.Receipt.{Receipt};
 
 /// Where receipts that match the periods are stuck at a front, no order completes them. So an audit says yes exactly where some
@@ -14,6 +16,14 @@ pub fn no_order_where_stuck()
         → AreMatched periods lists → IsStuckAt periods lists front → IsComplete periods lists order → ⊥ }
 {
     joint_order::laws::no_order_behind_a_stuck_front();
+}
+
+/// Where receipts are complete, want of memory is the only fault: an audit says yes, or was refused memory.
+pub fn complete_receipts_have_no_fault()
+    ensures { (periods : List PeriodParts) (lists : List (List Receipt)) (order : List ℕ) (fault : AuditFault)
+        → IsComplete periods lists order → IsFault periods lists fault → fault ≡ Memory }
+{
+    no_order_where_stuck();
 }
 
 /// Where receipts are complete, and rolls closed the periods, the receipts are the records of a run: there are steps that, run from
