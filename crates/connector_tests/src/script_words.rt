@@ -3,6 +3,7 @@
 use common_types::Name;
 use replay_text::explain_script;
 use std::alloc::Global;
+use std::process::Abort;
 use std::test::Fail;
 
 // Scripts of two workers for the tenant acme, and what is said of them.
@@ -128,11 +129,17 @@ fn words_of(alloc: Global, script: &str) -> Result<String, Fail> {
     Ok(words)
 }
 
+// That is said of the script.
+fn expect(rt: &impl Abort, alloc: Global, script: &str, wanted: &str) -> Result<(), Fail> {
+    let words = words_of(alloc, script)?;
+    assert!(rt; words.as_str() == wanted, "{words}, and not {wanted}");
+    Ok(())
+}
+
 #[test]
 fn what_is_wrong_with_scripts_is_said(rt: HostRuntime) -> Result<(), Fail> {
     for (script, wanted) in SCRIPTS {
-        let words = words_of(rt.alloc(), script)?;
-        assert!(rt; words.as_str() == wanted, "{words}, and not {wanted}");
+        expect(&rt, rt.alloc(), script, wanted)?;
     }
     Ok(())
 }
