@@ -5,3 +5,4 @@ pub mod Sums
 pub mod Aheads
 pub mod Conversing
 pub mod Tallies
+pub mod Audits

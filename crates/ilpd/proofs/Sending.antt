@@ -5,10 +5,13 @@ use Rattle.std.proofs.Crossing as std
 use Rattle.floor_core.specs.contracts.slot.Slot as Slot
 use Rattle.one_list.specs.declared.run.Run as Run
 use Rattle.one_list.proofs.parts.WorkerPart.TheSendSync as of_part
+use Rattle.tenant_core.specs.contracts.opening.Opening as Opening
 use Rattle.tenant_core.specs.contracts.period.Period as Period
-use Rattle.tenant_core.proofs.arena.Small.TheSendSync as of_small
-use Rattle.tenant_core.proofs.peer.Peer.TheSendSync as of_peer
-use Rattle.tenant_core.proofs.terms.RateTerms.TheSendSync as of_rate
+use Rattle.tenant_core.specs.contracts.period.PeriodParts as PeriodParts
+use Rattle.tenant_core.specs.contracts.period.Records as Records
+use Rattle.tenant_core.proofs.period.Records.TheSendSync as of_records
+use Rattle.tenant_core.proofs.row.Row.TheSendSync as of_row
+use Rattle.receipts.proofs.ledger.Ledger.TheSendSync as of_ledger
 use Rattle.books_shared.proofs.Crossing.{network_send}
 use Rattle.books_shared.specs.contracts.books.Books as Books
 use Rattle.books_shared.specs.contracts.share.Share as Share
@@ -24,11 +27,21 @@ use Rattle.ilpd.specs.contracts.office.Terms as Terms
 use Rattle.ilpd.specs.contracts.door.Door as Door
 use Rattle.workers.specs.contracts.places.Places as Places
 
+opening_send : IsSend Opening.the_field.row
+opening_send = search (sendable, std.crosses, network_send) depth 40
+
+records_send : IsSend Records.the_row
+records_send = of_records.the_send
+
+parts_send : IsSend PeriodParts.the_row
+parts_send = recorded_send _ _ _ PeriodParts.the_type.to_one (struct_send (shape PeriodParts.the_type)
+    (opening_send, (records_send, (search (sendable, std.crosses, of_row.the_send) depth 40, (opening_send, tt)))))
+
 pub period_send : IsSend Period.the_row
-period_send = search (sendable, std.crosses, network_send, of_small.the_send) depth 40
+period_send = search (sendable, std.crosses, parts_send) depth 40
 
 pub share_send : (J : RattleType) (r : Run.Ghosts J.Denot) → IsSend (Share.the_row J r)
-share_send J r = search (sendable, std.crosses, of_part.the_send, of_peer.the_send, of_rate.the_send) depth 60
+share_send J r = search (sendable, std.crosses, of_part.the_send, of_ledger.the_send) depth 40
 
 pub slot_send : IsSend Slot.the_row
 slot_send = search (sendable, std.crosses) depth 40

@@ -2,7 +2,7 @@
 
 ghost use Rattle.std.specs.Prelude.{◌≡◌, ◌<◌};
 ghost use Rattle.admin_text.specs.Commands.{command_in};
-ghost use Rattle.ilpd.specs.Answering.{IsPrinted, IsTold, WasCarried, WasGoverned, WasObeyed, command_line};
+ghost use Rattle.ilpd.specs.Answering.{IsPrinted, IsTold, IsUntouched, WasCarried, WasGoverned, WasObeyed, command_line};
 
 use crate::desk::Desk;
 use crate::link::PeerLink;
@@ -12,7 +12,7 @@ use common_types::ReadError;
 use floor_core::Output;
 use one_list::Run;
 use replay_text::print_lines;
-use std::alloc::Global;
+use std::alloc::{AllocError, Global};
 use std::net::{Net, TcpStream};
 use std::slice;
 use std::sync::Wait;
@@ -66,6 +66,31 @@ impl<J: Run> Desk<J> {
         );
         self.sent = link.sends();
         reply.status()
+    }
+
+    // Makes room for the period that a command may close, where the run is audited. The one error is want of memory.
+    fn make_room(&mut self) -> Result<(), AllocError>
+        ensures untouched { IsUntouched self.old self.new }
+        ensures told { self.new.told ≡ self.old.told }
+    {
+        if self.share.is_audited() {
+            self.periods.reserve(1)?;
+        }
+        Ok(())
+    }
+
+    // Keeps the period that a command closed, where the run is audited: in the room that was made for it.
+    fn keep(&mut self, closed: Option<Period>)
+        ensures untouched { IsUntouched self.old self.new }
+        ensures told { self.new.told ≡ self.old.told }
+        ensures printed { self.new.printed ≡ self.old.printed }
+    {
+        let Some(period) = closed else {
+            return;
+        };
+        if self.share.is_audited() {
+            let _ = self.periods.push(period);
+        }
     }
 
     /// Does what stands in a body, where it is a command, for a tenant of the office, and gives the status of the answer.

@@ -1,6 +1,7 @@
 //! What a service audits in the end.
 
-ghost use Rattle.std.specs.Prelude.{◌≡◌, ◌<◌, map, vec_len, true, IfOk, OnOk};
+ghost use Rattle.std.specs.Prelude.{◌≡◌, ◌<◌, ◌≤◌, ◌+◌, ◌++◌, map, option_to_list, vec_capacity, vec_len, true, IfOk, OnOk};
+ghost use Rattle.books_shared.specs.Shares.{receipts_in};
 ghost use Rattle.ilpd.specs.Auditing.{HaveEnded, HaveRolled, IsAudited, IsCount, WasRolled, audit_line, lists_of};
 
 use crate::office::Office;
@@ -58,7 +59,30 @@ fn keep(
     }
 }
 
-// Rolls all tenants, one after another, with meters that nobody reads.
+// Rolls all tenants, one after another, with these meters.
+fn roll_below<J: Run, H: Wait, C: Clock>(
+    handle: &H,
+    alloc: Global,
+    office: &Office<J>,
+    meters: &Meters,
+    seat: &mut MeterSeat,
+    share: &mut Share<J>,
+    clock: &C,
+    periods: &mut Vec<Period>,
+) -> Result<(), AllocError>
+    requires seat { seat.old.meters ≡ meters.now.id }
+    requires meters { meters.now.tenants ≡ office.now.books.tenants }
+    ensures { OnOk result (HaveRolled (C.gives clock.now) office.now.books.tenants share.old share.new) }
+{
+    for tenant in 0..office.books.tenants() {
+        roll(
+            handle, alloc, office, meters, seat, share, clock, tenant, periods,
+        )?;
+    }
+    Ok(())
+}
+
+// The same, with meters that nobody reads.
 fn roll_each<J: Run, H: Wait, C: Clock>(
     handle: &H,
     alloc: Global,
@@ -69,13 +93,14 @@ fn roll_each<J: Run, H: Wait, C: Clock>(
 ) -> Result<(), AllocError>
     ensures { OnOk result (HaveRolled (C.gives clock.now) office.now.books.tenants share.old share.new) }
 {
-    let (meters, mut seat) = Meters::new(alloc, office.books.tenants())?;
-    for tenant in 0..office.books.tenants() {
-        roll(
-            handle, alloc, office, &meters, &mut seat, share, clock, tenant, periods,
-        )?;
+    let tenants = office.books.tenants();
+    if tenants == 0 {
+        return Ok(());
     }
-    Ok(())
+    let (meters, mut seat) = Meters::new(alloc, tenants)?;
+    roll_below(
+        handle, alloc, office, &meters, &mut seat, share, clock, periods,
+    )
 }
 
 /// Closes the running period of each tenant by one of the shares, where the run is audited, and keeps what was closed. The one
@@ -109,11 +134,22 @@ fn lists_of<J: Run>(alloc: Global, shares: &[Share<J>]) -> Result<Vec<&[Receipt]
 {
     let mut lists = Vec::with_capacity(alloc, shares.len())?;
     for share in shares {
-        if let Some(list) = share.receipts() {
-            lists.push_reserved(list);
-        }
+        put_list(&mut lists, share);
     }
     Ok(lists)
+}
+
+// Puts the receipts of a worker behind the others, where it keeps some.
+fn put_list<'a, J: Run>(lists: &mut Vec<&'a [Receipt]>, share: &'a Share<J>)
+    requires { vec_len lists.old < vec_capacity lists.old }
+    ensures lists { map (λ list. list.now) lists.new.items
+        ≡ map (λ list. list.now) lists.old.items ++ option_to_list (receipts_in share.now) }
+    ensures few { vec_len lists.new ≤ vec_len lists.old + 1 }
+    ensures capacity { vec_capacity lists.new ≡ vec_capacity lists.old }
+{
+    if let Some(list) = share.receipts() {
+        lists.push_reserved(list);
+    }
 }
 
 // How many receipts the workers have, where they are complete.

@@ -2,7 +2,6 @@
 
 ghost use Rattle.std.specs.Prelude.{◌≡◌, false};
 ghost use Rattle.floor_core.specs.Work.Job.{NoJob};
-ghost use Rattle.ilpd.specs.Answering.{IsUntouched};
 ghost use Rattle.ilpd.specs.Served.{told_text};
 
 use books_shared::Share;
@@ -10,7 +9,7 @@ use floor_core::Slot;
 use http_link::Kind;
 use meters::MeterSeat;
 use one_list::Run;
-use std::alloc::{AllocError, Global};
+use std::alloc::Global;
 use tenant_core::Period;
 
 /// What a worker counts, the slot that it carries packets in, and what it answered last.
@@ -47,31 +46,6 @@ impl<J: Run> Desk<J> {
             printed: Vec::new(alloc),
             told: Kind::Ilp,
             periods: Vec::new(alloc),
-        }
-    }
-
-    /// Makes room for the period that a command may close, where the run is audited. The one error is want of memory.
-    pub fn make_room(&mut self) -> Result<(), AllocError>
-        ensures untouched { IsUntouched self.old self.new }
-        ensures told { self.new.told ≡ self.old.told }
-    {
-        if self.share.is_audited() {
-            self.periods.reserve(1)?;
-        }
-        Ok(())
-    }
-
-    /// Keeps the period that a command closed, where the run is audited: in the room that was made for it.
-    pub fn keep(&mut self, closed: Option<Period>)
-        ensures untouched { IsUntouched self.old self.new }
-        ensures told { self.new.told ≡ self.old.told }
-        ensures printed { self.new.printed ≡ self.old.printed }
-    {
-        let Some(period) = closed else {
-            return;
-        };
-        if self.share.is_audited() {
-            let _ = self.periods.push(period);
         }
     }
 

@@ -448,12 +448,8 @@ fn serve_run<
             }
             Ok(())
         }
-        Err(GatherFault::Memory(..)) => {
-            tell(alloc, Vec::new(alloc), names, &totals, &[], writer)?;
-            Err(ServeFault::Memory)
-        }
-        Err(GatherFault::Missing(..) | GatherFault::Differs(..)) if report.audit => {
-            let line = bad_line(alloc, "differs")?;
+        Err(fault) => {
+            let (line, fault) = end_of_gathering(alloc, &fault, report.audit)?;
             tell(
                 alloc,
                 Vec::new(alloc),
@@ -462,11 +458,24 @@ fn serve_run<
                 line.as_slice(),
                 writer,
             )?;
-            Err(ServeFault::Audit)
+            Err(fault)
         }
-        Err(GatherFault::Missing(..) | GatherFault::Differs(..)) => {
-            tell(alloc, Vec::new(alloc), names, &totals, &[], writer)?;
-            Err(ServeFault::Differs)
+    }
+}
+
+// What is told last where the books were not gathered, and how the service ends.
+fn end_of_gathering<J: Run>(
+    alloc: Global,
+    fault: &GatherFault<J>,
+    audited: bool,
+) -> Result<(Vec<u8>, ServeFault), AllocError> {
+    match fault {
+        GatherFault::Memory(..) => Ok((Vec::new(alloc), ServeFault::Memory)),
+        GatherFault::Missing(..) | GatherFault::Differs(..) if audited => {
+            Ok((bad_line(alloc, "differs")?, ServeFault::Audit))
+        }
+        GatherFault::Missing(..) | GatherFault::Differs(..) => {
+            Ok((Vec::new(alloc), ServeFault::Differs))
         }
     }
 }

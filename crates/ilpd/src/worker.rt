@@ -85,15 +85,10 @@ impl<H: Wait + Net<Stream = TcpStream> + std::time::Clock, C: Clock, J: Run> Ser
         if tenant >= office.books.tenants() {
             return Status::Unavailable.code();
         }
-        let status = self.desk.carry(
-            self.handle,
-            self.alloc,
-            office,
-            self.clock,
-            tenant,
-            token,
-            body,
-        );
+        let (handle, alloc, clock) = (self.handle, self.alloc, self.clock);
+        let status = self
+            .desk
+            .carry(handle, alloc, office, clock, tenant, token, body);
         status.code()
     }
 

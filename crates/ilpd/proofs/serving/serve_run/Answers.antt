@@ -1,5 +1,7 @@
-use Rattle.std.proofs.Common.{ℕ, ◌≡◌, ◌++◌, [], List, length, rules, ap, subst, ◌∙◌, if◌then◌else◌}
+use Rattle.std.proofs.Common.{ℕ, ◌≡◌, ◌++◌, [], List, length, true, rules, ap, subst, ◌∙◌, if◌then◌else◌}
 use Rattle.std.specs.Io.KnownBytes.{Appends}
+use Rattle.books_shared.specs.Shares.{ShareView}
+use Rattle.ilpd.specs.Auditing.{HaveEnded, IsAudited}
 use Rattle.ilpd.specs.Served.{lines_upto}
 use Rattle.ilpd.specs.Standing.{balance_lines}
 use Rattle.ilpd.proofs.Sums.{length_map}
@@ -13,16 +15,21 @@ returns-in-Ok g c =
     let exact = c.close-totals.ensures.exact (search rules) (search rules) in
     let names : length office.names.items ≡ length c.args.setup.now.tenants
     = ap length known.names ∙ length_map _ c.args.setup.now.tenants in
-    let front : List ℕ = if c.args.balances then balance_lines office.names.items c.in-Ok.gathered.items else [] in
+    let front : List ℕ = if c.args.report.balances then balance_lines office.names.items c.in-Ok.gathered.items else [] in
+    let last : List ℕ = c.in_ok-line.field-0.line.items in
     let text_is : c.in_ok-text-in-Ok.text.items ≡ front = search rules in
     let Told : List ℕ → ℕ → Type 0 = λ text n. Appends (g.W.Write.contents c.args.writer.now) (g.W.Write.contents c.tell.new.writer)
-    (text ++ lines_upto n office.names.items c.close-totals.result) in
+    (text ++ lines_upto n office.names.items c.close-totals.result ++ last) in
     let told : Told c.in_ok-text-in-Ok.text.items (length office.names.items) = search rules in
+    let good : c.in_ok-line.field-0.is_good ≡ true = search rules in
+    let ended : HaveEnded (g.C.Clock.gives c.args.clock.now) c.args.report.audit office.books.tenants c.in_ok-done.done.shares.items c.roll_all.new.shares.items
+    = search rules in
+    let seen : c.as_slice-2.result.now ≡ c.roll_all.new.shares.items = search rules in
     record {
       office = office;
       known = known;
       totals = c.close-totals.result;
-      shares = _;
+      worked = c.in_ok-done.done.shares.items;
       counted = record {
         desks = counted.desks;
         each = search (rules, counted.each);
@@ -30,7 +37,12 @@ returns-in-Ok g c =
         worked = counted.worked;
         sums = λ tenant kind below. exact tenant kind (search rules) ∙ counted.sums tenant kind below;
       };
+      shares = c.roll_all.new.shares.items;
+      ended = subst (λ (n : ℕ). HaveEnded (g.C.Clock.gives c.args.clock.now) c.args.report.audit n c.in_ok-done.done.shares.items c.roll_all.new.shares.items)
+          known.books ended;
       books = c.in-Ok.gathered.items;
+      audit = last;
+      audited = subst (λ (shares : List ShareView). IsAudited c.args.report.audit shares last) seen (c.in_ok-line.ensures good);
       told = subst (λ n. Told front n) names (subst (λ text. Told text (length office.names.items)) text_is told);
       one_list = c.in-Ok.ensures.one_list;
     }
