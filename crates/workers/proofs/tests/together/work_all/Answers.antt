@@ -8,6 +8,7 @@ use Rattle.std.proofs.Crossing as std
 use Rattle.std.specs.contracts.alloc.Global as Global
 use Rattle.one_list.specs.declared.run.Run as Run
 use Rattle.one_list.proofs.parts.WorkerPart.TheSendSync as of_part
+use Rattle.receipts.proofs.ledger.Ledger.TheSendSync as of_ledger
 use Rattle.books_shared.specs.contracts.books.Books as Books
 use Rattle.books_shared.specs.contracts.share.Share as Share
 use Rattle.workers.specs.contracts.tests.together.Carrier as Carrier
@@ -15,7 +16,7 @@ use Rattle.workers.specs.contracts.tests.together.Meeting as Meeting
 use Rattle.workers.proofs.tests.together.work_all.Goals as goal
 
 share_send : (J : RattleType) (r : Run.Ghosts J.Denot) → IsSend (Share.the_row J r)
-share_send J r = search (sendable, std.crosses, of_part.the_send) depth 40
+share_send J r = search (sendable, std.crosses, of_part.the_send, of_ledger.the_send) depth 40
 
 meeting_sync : IsSync Meeting.the_row
 meeting_sync = search (sendable, std.crosses) depth 40
