@@ -68,6 +68,7 @@ impl Model for Book {
 impl Book {
     ghost use Rattle.std.specs.Prelude.{◌≡◌, ◌<◌, ◌≤◌, length, IfOk, IfSome, option_copied, option_map};
     ghost use Rattle.tenant_core.specs.Answer.{has_no_place};
+    ghost use Rattle.tenant_core.specs.Holds.{open_holds};
     ghost use Rattle.tenant_core.specs.State.{opened, opening_of};
     ghost use Rattle.tenant_core.specs.Limits.{max_tenants};
     ghost use Rattle.tenant_core.specs.Network.{peer_numbered, peer_with_token};
@@ -198,6 +199,20 @@ impl Book {
         ensures { result ≡ self.now.opening.period }
     {
         self.opening.period
+    }
+
+    /// How many entries a period has room for, beside the roll that ends it.
+    pub fn journal_places(&self) -> u64
+        ensures { result ≡ self.now.opening.journal }
+    {
+        self.opening.journal
+    }
+
+    /// How many packets that went on await their answers, those that a tick has marked included.
+    pub fn open_holds(&self) -> usize
+        ensures { result ≡ open_holds self.now }
+    {
+        self.holds.awaited()
     }
 
     /// What the peer of that number owes, and what is held from it and for it.
