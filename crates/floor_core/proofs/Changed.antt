@@ -5,7 +5,7 @@ use Rattle.std.proofs.Math.ListN.{length-set}
 use Rattle.std.proofs.lemmas.Bool.{ne_eqb}
 use Rattle.std.proofs.lemmas.Bool.Decides.{eqb_tells}
 use Rattle.tenant_core.specs.State.{State}
-use Rattle.floor_core.specs.Work.{Job, IsReadable}
+use Rattle.floor_core.specs.Work.{Job, IsOfBytes, IsReadable}
 use Rattle.floor_core.specs.World.{put, no_book}
 use Rattle.floor_core.specs.FloorView.{FloorState, hand_by, hands_of, carried, is_call, stage_in, calls_of, no_seat, tenant_of, carried_at, world_of, IsSound}
 use Rattle.floor_core.specs.declared.floor.Seat.{Seat}
@@ -20,6 +20,7 @@ pub record Changes (f : FloorState) (w t k : ℕ) (s : Seat) : Type 0 where
   pub old : (carried_at f.seats w ≡ None) ⊎ (carried_at f.seats w ≡ Some (t, k))
   pub new : (s.slot.job ≡ Job.NoJob) ⊎ (carried s ≡ Some (t, k))
   pub readable : IsReadable s.slot.job
+  pub octets : IsOfBytes s.slot.job
 
 idle : (s : Seat) → s.slot.job ≡ Job.NoJob → carried s ≡ None
 idle s e = rw e refl
@@ -121,12 +122,13 @@ counts_more f t k nexts n c lt =
       | inr a ↦ rw (n.others c.0 a.1) lt
     ]
 
-readable_set : (seats : List Seat) (w : ℕ) (s : Seat) → w < length seats → ((v : ℕ) → IsReadable (get_or seats v no_seat).slot.job) → IsReadable s.slot.job
-    → (v : ℕ) → IsReadable (get_or (set seats w s) v no_seat).slot.job
-readable_set seats w s lt all new v =
+-- what holds of each seat's job
+holds_set : (P : Job → Type 0) (seats : List Seat) (w : ℕ) (s : Seat) → w < length seats → ((v : ℕ) → P (get_or seats v no_seat).slot.job) → P s.slot.job
+    → (v : ℕ) → P (get_or (set seats w s) v no_seat).slot.job
+holds_set P seats w s lt all new v =
     elim (eqb_tells v w) [
-      | inl a ↦ subst (λ (x : Seat). IsReadable x.slot.job) (sym (ap (λ u. get_or (set seats w s) u no_seat) a.1 ∙ get_or-set_same seats w s no_seat lt)) new
-      | inr a ↦ subst (λ (x : Seat). IsReadable x.slot.job) (sym (get_or-set_other seats w v s no_seat a.1)) (all v)
+      | inl a ↦ subst (λ (x : Seat). P x.slot.job) (sym (ap (λ u. get_or (set seats w s) u no_seat) a.1 ∙ get_or-set_same seats w s no_seat lt)) new
+      | inr a ↦ subst (λ (x : Seat). P x.slot.job) (sym (get_or-set_other seats w v s no_seat a.1)) (all v)
     ]
 
 -- a book that is put in the place of its own
@@ -157,5 +159,6 @@ sound_changed f w t k s l nexts i h n e = record {
             let b = i.below v c x in
             (rw le b.0, counts_more f t k nexts n c b.1)
       ];
-  readable = readable_set f.seats w s h.worker i.readable h.readable;
+  readable = holds_set IsReadable f.seats w s h.worker i.readable h.readable;
+  octets = holds_set IsOfBytes f.seats w s h.worker i.octets h.octets;
 }

@@ -10,7 +10,7 @@ use Rattle.tenant_core.specs.Network.{nobody}
 use Rattle.tenant_core.specs.State.{State, opened, opening_of}
 use Rattle.tenant_core.specs.declared.terms.TenantTerms.{TenantTerms}
 use Rattle.floor_core.specs.FloorView.{FloorState, no_seat, carried_at, carried_by, calls_of, hand_by, tenant_of, IsWhole, IsNew}
-use Rattle.floor_core.specs.Work.{Job, IsReadable}
+use Rattle.floor_core.specs.Work.{Job, IsOfBytes, IsReadable}
 use Rattle.floor_core.specs.World.{Stage, tenant_at_start, no_book}
 use Rattle.floor_core.specs.declared.floor.Seat.{Seat}
 use Rattle.floor_core.proofs.Calls.{none}
@@ -37,6 +37,9 @@ unsent o hold n e = cc
 readable : (job : Job) → job ≡ Job.NoJob → IsReadable job
 readable job e = rw e tt
 
+octets : (job : Job) → job ≡ Job.NoJob → IsOfBytes job
+octets job e = rw e tt
+
 pub whole : (f : FloorState) → length f.next_calls ≡ length f.books → AreFree f.seats → ((t : ℕ) → t < length f.books → (get_or f.books t no_book).opening.tenant ≡ t) → IsWhole f
 whole f same a placed = record {
   sound = record {
@@ -45,6 +48,7 @@ whole f same a placed = record {
     apart = λ v w c p q. absurd (carries_none f.seats a v c p);
     below = λ w c p. absurd (carries_none f.seats a w c p);
     readable = λ w. readable (get_or f.seats w no_seat).slot.job (a.free w);
+    octets = λ w. octets (get_or f.seats w no_seat).slot.job (a.free w);
   };
   tenants = λ t. record {
     waits = λ n hold p. absurd (unsent (calls_of t f.seats n) hold (no_calls f.seats a t n) p);

@@ -7,6 +7,7 @@ use Rattle.std.proofs.lemmas.List.{set-get_or}
 use Rattle.std.proofs.lemmas.Bool.{eq-eqb}
 use Rattle.std.proofs.lemmas.Bool.Decides.{eqb_tells}
 use Rattle.common_types.specs.Token.{is_token}
+use Rattle.oer_core.specs.Length.{AreBytes}
 use Rattle.ilp_view.specs.declared.fault.ViewFault.{ViewFault}
 use Rattle.ilp_view.specs.Packet.{Prepare, max_frame}
 use Rattle.ilp_view.specs.Reading.{prepare_at}
@@ -21,9 +22,10 @@ use Rattle.tenant_core.specs.declared.faults.HoldFault.{HoldFault}
 use Rattle.tenant_core.specs.declared.verdict.Verdict.{Verdict}
 use Rattle.tenant_core.specs.declared.verdict.Verdict.TheVariants.{Unknown, NoRoom, Refuse, Fulfil, Forward, Relay}
 use Rattle.floor_core.specs.FloorView.{FloorState, hand_by, hands_of, carried_by, stage_in, stage_of_frame, calls_of, no_seat, tenant_of, carried_at, world_of, IsSound, Fits}
+use Rattle.floor_core.specs.Forwards.{HasBytes}
 use Rattle.floor_core.specs.Kept.{IsKept}
 use Rattle.floor_core.specs.Moves.{put_both, output_of, moved, turn_output, got_of, filled}
-use Rattle.floor_core.specs.Work.{Job, Work, IsReadable, verdict_call, given_by, settled_call}
+use Rattle.floor_core.specs.Work.{Job, Work, IsOfBytes, IsReadable, verdict_call, given_by, settled_call}
 use Rattle.floor_core.specs.World.{Effect, Stage, malformed_by, Tenant, Hand, World, arrival, arrived, bytes_given, put, heard, answer_key, key_in, settled_reply, told, no_book}
 use Rattle.floor_core.specs.Worlds.{reply, after}
 use Rattle.floor_core.specs.declared.floor.Seat.{Seat}
@@ -81,6 +83,7 @@ pub record Goes (t k : ℕ) (job : Job) (stage : Option Stage) : Type 0 where
   pub stage_is : stage_in job ≡ stage
   pub ends : (job ≡ Job.NoJob) ⊎ (carried_by job k ≡ Some (t, k))
   pub readable : IsReadable job
+  pub octets : IsOfBytes job
 
 -- the change of a seat that carried call k of tenant t, and of its book
 changes : (f : FloorState) (w t : ℕ) (old : Job) (new : Work) (stage : Option Stage) → w < length f.seats → IsSound f → (get_or f.seats w no_seat).slot.job ≡ old
@@ -96,6 +99,7 @@ changes f w t old new stage lt i e b g =
       old = inr c.0;
       new = g.ends;
       readable = g.readable;
+      octets = g.octets;
     }
 
 counts : (f : FloorState) (w t : ℕ) (old : Job) → IsSound f → (get_or f.seats w no_seat).slot.job ≡ old → carried_by old (get_or f.seats w no_seat).call ≡ Some (t, (get_or f.seats w no_seat).call)
@@ -138,12 +142,12 @@ told_by s t k token p room made (Forward hold peer amount expiry) = refl
 told_by s t k token p room made Relay = refl
 
 goes_by_verdict : (s : State) (t k : ℕ) (token : List ℕ) (p : Prepare) (room : List ℕ) (made : Option Record) (v : Verdict) → Goes t k (verdict_call s t token p room made v).work.job (stage_after v)
-goes_by_verdict s t k token p room made Unknown = record { stage_is = refl; ends = inl refl; readable = tt }
-goes_by_verdict s t k token p room made NoRoom = record { stage_is = refl; ends = inl refl; readable = tt }
-goes_by_verdict s t k token p room made (Refuse code amounts) = record { stage_is = refl; ends = inl refl; readable = tt }
-goes_by_verdict s t k token p room made Fulfil = record { stage_is = refl; ends = inl refl; readable = tt }
-goes_by_verdict s t k token p room made (Forward hold peer amount expiry) = record { stage_is = refl; ends = inr refl; readable = tt }
-goes_by_verdict s t k token p room made Relay = record { stage_is = refl; ends = inl refl; readable = tt }
+goes_by_verdict s t k token p room made Unknown = record { stage_is = refl; ends = inl refl; readable = tt; octets = tt }
+goes_by_verdict s t k token p room made NoRoom = record { stage_is = refl; ends = inl refl; readable = tt; octets = tt }
+goes_by_verdict s t k token p room made (Refuse code amounts) = record { stage_is = refl; ends = inl refl; readable = tt; octets = tt }
+goes_by_verdict s t k token p room made Fulfil = record { stage_is = refl; ends = inl refl; readable = tt; octets = tt }
+goes_by_verdict s t k token p room made (Forward hold peer amount expiry) = record { stage_is = refl; ends = inr refl; readable = tt; octets = tt }
+goes_by_verdict s t k token p room made Relay = record { stage_is = refl; ends = inl refl; readable = tt; octets = tt }
 
 made_by : (s : State) (t : ℕ) (token : List ℕ) (p : Prepare) (room : List ℕ) (made : Option Record) (v : Verdict) → (verdict_call s t token p room made v).made ≡ made
 made_by s t token p room made Unknown = refl
@@ -238,7 +242,7 @@ answers_settled laws f w now g t hold frame v lt i e r =
     let j : slot.job ≡ Job.Waits t hold frame = filled_job (get_or f.seats w no_seat).slot g ∙ e in
     let h : given_by slot.room (got_of g) ≡ heard g = heard_by (get_or f.seats w no_seat).slot g in
     let l = answered book hold now (answer_key (heard g)) in
-    let s = settles f w t (Job.Waits t hold frame) (settled_call slot book (heard g) None (Ok v)).work l None lt i e refl (record { stage_is = refl; ends = inl refl; readable = tt }) ((laws.same_answered book hold now (answer_key (heard g))).number ∙ here) in
+    let s = settles f w t (Job.Waits t hold frame) (settled_call slot book (heard g) None (Ok v)).work l None lt i e refl (record { stage_is = refl; ends = inl refl; readable = tt; octets = tt }) ((laws.same_answered book hold now (answer_key (heard g))).number ∙ here) in
     let k = (get_or f.seats w no_seat).call in
     let effect = answer_effect (tenant_of f t) k hold now (heard g) v (calls_of t f.seats k) c.1 r in
     let text = settled_reply book.opening.address (bytes_given (heard g)) v in
@@ -326,9 +330,9 @@ loads_bad f w t token bytes fault there i e b r =
 abbrev loaded_seat : FloorState → ℕ → ℕ → List ℕ → List ℕ → Seat
 loaded_seat f w t token bytes = record { slot = record { job = Job.Carries t token bytes; target = None; reply = []; room = (get_or f.seats w no_seat).slot.room }; call = get_or f.next_calls t 0 }
 
-fresh : (f : FloorState) (w t : ℕ) (token bytes : List ℕ) → w < length f.seats → t < length f.books → IsSound f → (get_or f.seats w no_seat).slot.job ≡ Job.NoJob → is_ok (prepare_at bytes) ≡ true
+fresh : (f : FloorState) (w t : ℕ) (token bytes : List ℕ) → w < length f.seats → t < length f.books → IsSound f → (get_or f.seats w no_seat).slot.job ≡ Job.NoJob → is_ok (prepare_at bytes) ≡ true → AreBytes bytes
     → Changes f w t (get_or f.next_calls t 0) (loaded_seat f w t token bytes)
-fresh f w t token bytes lt there i e good =
+fresh f w t token bytes lt there i e good are =
     record {
       worker = lt;
       tenant = there;
@@ -337,6 +341,7 @@ fresh f w t token bytes lt there i e good =
       old = inl (rw e refl);
       new = inr refl;
       readable = good;
+      octets = are;
     }
 
 counted : (f : FloorState) (t : ℕ) → t < length f.books → IsSound f → Counts f t (get_or f.next_calls t 0) (set f.next_calls t (get_or f.next_calls t 0 + 1))
@@ -351,14 +356,14 @@ counted f t there i =
     }
 
 loads_good : (f : FloorState) (w t : ℕ) (token bytes : List ℕ) (p : Prepare) → w < length f.seats → t < length f.books → IsSound f → (get_or f.seats w no_seat).slot.job ≡ Job.NoJob → is_token token ≡ true
-    → prepare_at bytes ≡ Ok p → Simulates f (Load w t token bytes)
-loads_good f w t token bytes p lt there i e b r =
+    → AreBytes bytes → prepare_at bytes ≡ Ok p → Simulates f (Load w t token bytes)
+loads_good f w t token bytes p lt there i e b are r =
     let here = i.placed t there in
     let n : t < length f.next_calls = let a = i.as_many in omega arith in
     let k = get_or f.next_calls t 0 in
     let nexts = set f.next_calls t (k + 1) in
     let next : get_or nexts t 0 ≡ k + 1 = get_or-set_same f.next_calls t (k + 1) 0 n in
-    let ch = fresh f w t token bytes lt there i e (ap is_ok r) in
+    let ch = fresh f w t token bytes lt there i e (ap is_ok r) are in
     let co = counted f t there i in
     let s : Seat = loaded_seat f w t token bytes in
     let same = same_books f.books t in
@@ -377,19 +382,19 @@ loads_good f w t token bytes p lt there i e b r =
     }
 
 load_token : (f : FloorState) (w t : ℕ) (token bytes : List ℕ) → w < length f.seats → t < length f.books → IsSound f → (get_or f.seats w no_seat).slot.job ≡ Job.NoJob → is_token token ≡ true
-    → (r : Result Prepare ViewFault) → prepare_at bytes ≡ r → Simulates f (Load w t token bytes)
-load_token f w t token bytes lt there i e b (Ok p) r = loads_good f w t token bytes p lt there i e b r
-load_token f w t token bytes lt there i e b (Err fault) r = loads_bad f w t token bytes fault there i e b r
+    → AreBytes bytes → (r : Result Prepare ViewFault) → prepare_at bytes ≡ r → Simulates f (Load w t token bytes)
+load_token f w t token bytes lt there i e b are (Ok p) r = loads_good f w t token bytes p lt there i e b are r
+load_token f w t token bytes lt there i e b are (Err fault) r = loads_bad f w t token bytes fault there i e b r
 
 load_free : (f : FloorState) (w t : ℕ) (token bytes : List ℕ) → w < length f.seats → t < length f.books → IsSound f → (get_or f.seats w no_seat).slot.job ≡ Job.NoJob
-    → (b : Bool) → is_token token ≡ b → Simulates f (Load w t token bytes)
-load_free f w t token bytes lt there i e true b = load_token f w t token bytes lt there i e b (prepare_at bytes) refl
-load_free f w t token bytes lt there i e false b = loads_no_token f w t token bytes there i e b
+    → AreBytes bytes → (b : Bool) → is_token token ≡ b → Simulates f (Load w t token bytes)
+load_free f w t token bytes lt there i e are true b = load_token f w t token bytes lt there i e b are (prepare_at bytes) refl
+load_free f w t token bytes lt there i e are false b = loads_no_token f w t token bytes there i e b
 
-load_by : (f : FloorState) (w t : ℕ) (token bytes : List ℕ) → w < length f.seats → t < length f.books → IsSound f → (job : Job) → (get_or f.seats w no_seat).slot.job ≡ job → Simulates f (Load w t token bytes)
-load_by f w t token bytes lt there i Job.NoJob e = load_free f w t token bytes lt there i e (is_token token) refl
-load_by f w t token bytes lt there i (Job.Carries u k frame) e = loads_carries f w t token bytes u k frame i e
-load_by f w t token bytes lt there i (Job.Waits u hold frame) e = loads_waits f w t token bytes u hold frame i e
+load_by : (f : FloorState) (w t : ℕ) (token bytes : List ℕ) → w < length f.seats → t < length f.books → IsSound f → AreBytes bytes → (job : Job) → (get_or f.seats w no_seat).slot.job ≡ job → Simulates f (Load w t token bytes)
+load_by f w t token bytes lt there i are Job.NoJob e = load_free f w t token bytes lt there i e are (is_token token) refl
+load_by f w t token bytes lt there i are (Job.Carries u k frame) e = loads_carries f w t token bytes u k frame i e
+load_by f w t token bytes lt there i are (Job.Waits u hold frame) e = loads_waits f w t token bytes u hold frame i e
 
 -- ---- a tick, and a command
 
@@ -410,6 +415,7 @@ book_sound f t l there i e =
       apart = i.apart;
       below = λ v c p. let b = i.below v c p in (rw le b.0, b.1);
       readable = i.readable;
+      octets = i.octets;
     }
 
 tick_by : CallLaws → (f : FloorState) (t now : ℕ) → t < length f.books → IsSound f → Simulates f (Tick t now)
@@ -433,9 +439,9 @@ govern_by laws f t now command there i =
     }
 
 -- each step of a floor is the step of its world
-pub simulates : CallLaws → (f : FloorState) (step : Step) → IsSound f → ((t : ℕ) → IsKept (tenant_of f t)) → Fits f step → Simulates f step
-simulates laws f (Load w t token bytes) i kept h = load_by f w t token bytes h.0 h.1 i (get_or f.seats w no_seat).slot.job refl
-simulates laws f (Decide w now) i kept h = decide_by laws f w now h i (get_or f.seats w no_seat).slot.job refl
-simulates laws f (Answer w now g) i kept h = answer_by laws f w now g h i kept (get_or f.seats w no_seat).slot.job refl
-simulates laws f (Tick t now) i kept h = tick_by laws f t now h i
-simulates laws f (Govern t now command) i kept h = govern_by laws f t now command h i
+pub simulates : CallLaws → (f : FloorState) (step : Step) → IsSound f → ((t : ℕ) → IsKept (tenant_of f t)) → Fits f step → HasBytes step → Simulates f step
+simulates laws f (Load w t token bytes) i kept h are = load_by f w t token bytes h.0 h.1 i are (get_or f.seats w no_seat).slot.job refl
+simulates laws f (Decide w now) i kept h are = decide_by laws f w now h i (get_or f.seats w no_seat).slot.job refl
+simulates laws f (Answer w now g) i kept h are = answer_by laws f w now g h i kept (get_or f.seats w no_seat).slot.job refl
+simulates laws f (Tick t now) i kept h are = tick_by laws f t now h i
+simulates laws f (Govern t now command) i kept h are = govern_by laws f t now command h i

@@ -5,6 +5,7 @@ use Rattle.std.proofs.lemmas.Bool.Decides.{eqb_tells}
 use Rattle.tenant_core.specs.Calls.{CallLaws}
 use Rattle.tenant_core.specs.OpenHolds.{OpenHoldLaws}
 use Rattle.floor_core.specs.FloorView.{FloorState, world_of, hands_of, hand_by, no_seat, Fits, IsWhole, IsMet}
+use Rattle.floor_core.specs.Forwards.{HasBytes}
 use Rattle.floor_core.specs.Kept.{IsKept}
 use Rattle.floor_core.specs.Moves.{output_of, moved, AsksSound, IsAsked}
 use Rattle.floor_core.specs.Work.{Job, tenant_in}
@@ -54,9 +55,9 @@ pub record Steps (f : FloorState) (step : Step) : Type 0 where
   pub world : world_of (moved f step) ≡ after (world_of f) step
   pub whole : IsWhole (moved f step)
 
-pub steps : OpenHoldLaws → CallLaws → (f : FloorState) (step : Step) → IsWhole f → Fits f step → AsksSound f step → Steps f step
-steps laws calls f step i h asked =
-    let s = simulates calls f step i.sound i.tenants h in
+pub steps : OpenHoldLaws → CallLaws → (f : FloorState) (step : Step) → IsWhole f → Fits f step → HasBytes step → AsksSound f step → Steps f step
+steps laws calls f step i h are asked =
+    let s = simulates calls f step i.sound i.tenants h are in
     record {
       output = s.output;
       world = s.world;
@@ -86,9 +87,9 @@ pub record Stepped {E : Type 0} (f g : FloorState) (step : Step) (r : Result Tol
   pub told : IfOk r (λ told. shown g.seats told ≡ reply (world_of f) step)
   pub world : OnOk r (world_of g ≡ after (world_of f) step)
 
-pub stepped : {E : Type 0} → OpenHoldLaws → CallLaws → (f g : FloorState) (step : Step) (r : Result Told E) → IsWhole f → Fits f step → OnOk r (AsksSound f step)
+pub stepped : {E : Type 0} → OpenHoldLaws → CallLaws → (f g : FloorState) (step : Step) (r : Result Told E) → IsWhole f → Fits f step → HasBytes step → OnOk r (AsksSound f step)
     → IfOk r (λ told. shown g.seats told ≡ output_of f step) → OnOk r (g ≡ moved f step) → OnErr r (g ≡ f) → Stepped f g step r
-stepped laws calls f g step (Ok o) i h asked out move same =
-    let s = steps laws calls f step i h asked in
+stepped laws calls f g step (Ok o) i h are asked out move same =
+    let s = steps laws calls f step i h are asked in
     record { whole = subst IsWhole (sym move) s.whole; told = out ∙ s.output; world = ap world_of move ∙ s.world }
-stepped laws calls f g step (Err e) i h asked out move same = record { whole = subst IsWhole (sym same) i; told = tt; world = tt }
+stepped laws calls f g step (Err e) i h are asked out move same = record { whole = subst IsWhole (sym same) i; told = tt; world = tt }

@@ -8,7 +8,7 @@ use Rattle.tenant_core.specs.OpenHolds.{is_awaited}
 use Rattle.tenant_core.specs.State.{State}
 use Rattle.tenant_core.specs.declared.terms.TenantTerms.{TenantTerms}
 use Rattle.floor_core.specs.Kept.{IsKept}
-use Rattle.floor_core.specs.Work.{Job, carrying, IsReadable}
+use Rattle.floor_core.specs.Work.{Job, carrying, IsReadable, IsOfBytes}
 use Rattle.floor_core.specs.World.{Stage, Tenant, Hand, World, FitsIn, no_book, world_at_start}
 use Rattle.floor_core.specs.declared.floor.Seat.{Seat}
 use Rattle.floor_core.specs.declared.step.Step.{Step}
@@ -121,8 +121,10 @@ pub record IsSound (f : FloorState) : Type 0 where
   -- a call that is carried was loaded, of a tenant that is there
   pub below : (w : ℕ) (c : ℕ × ℕ) → carried_at f.seats w ≡ Some c
       → (c.0 < length f.books) × (c.1 < slice_index f.next_calls c.0)
-  -- and its frame reads
+  -- its frame reads
   pub readable : (w : ℕ) → IsReadable (seat_at f w).slot.job
+  -- and is made of bytes
+  pub octets : (w : ℕ) → IsOfBytes (seat_at f w).slot.job
 
 -- and so is each tenant
 pub record IsWhole (f : FloorState) : Type 0 where

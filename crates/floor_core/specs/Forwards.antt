@@ -1,8 +1,10 @@
 -- What goes on, in bytes: the frame that a worker took in, with another amount and another expiry (RFC 0027, "ILP Prepare").
-use Rattle.std.specs.Prelude.{ℕ, List, [], ◌∷◌}
+use Rattle.std.specs.Prelude.{ℕ, ◌≡◌, ◌<◌, List, [], ◌∷◌, Some}
 use Rattle.oer_core.specs.Length.{AreBytes}
-use Rattle.ilp_view.specs.Packet.{IsForwardOf}
-use Rattle.floor_core.specs.World.{put}
+use Rattle.ilp_view.specs.Packet.{Prepare, IsPrepare, IsForwardOf}
+use Rattle.floor_core.specs.FloorView.{FloorState, seat_at}
+use Rattle.floor_core.specs.Work.{frame_of}
+use Rattle.floor_core.specs.World.{Hand, Stage, World, number_of, put}
 use Rattle.floor_core.specs.declared.step.Output.{Output}
 use Rattle.floor_core.specs.declared.step.Output.TheVariants.{Loaded, Send}
 use Rattle.floor_core.specs.declared.step.Step.{Step}
@@ -33,7 +35,8 @@ abbrev pub SendsForward : (ℕ → List ℕ) → Step → Output → Type 0
 SendsForward frames step (Send tenant peer hold frame) = IsForwardBy frames step frame
 SendsForward frames step output = Unit {0}
 
--- each frame that these steps send on is the one that its worker took in last, with another amount and another expiry
+-- each frame that these steps send on is the one that its worker took in last, with another amount and another expiry; these
+-- are the frames that workers took in before the first step
 abbrev pub AreForwards : (frames : ℕ → List ℕ) → List Step → List Output → Type 0
 AreForwards frames [] outputs = Unit {0}
 AreForwards frames (s ∷ ss) [] = Unit {0}
@@ -42,3 +45,21 @@ AreForwards frames (s ∷ ss) (x ∷ xs) = SendsForward frames s x × AreForward
 -- before the first step no worker took a frame in
 abbrev pub no_frames : ℕ → List ℕ
 no_frames worker = []
+
+-- the frames that the workers of a floor have
+abbrev pub frames_on : FloorState → ℕ → List ℕ
+frames_on f worker = frame_of (seat_at f worker).slot.job
+
+-- a worker took this frame in as that call: the tenant is there and has loaded the call, and where it may be decided, the
+-- frame is its packet
+pub record HasTaken (tenants : ℕ) (world : World) (frame : List ℕ) (t call : ℕ) : Type 0 where
+  pub there : t < tenants
+  pub loaded : call < (world.tenants t).next_call
+  pub packet : (token : List ℕ) (p : Prepare) → (world.tenants t).calls call ≡ Some (Stage.Ready token p)
+      → IsPrepare frame p
+
+-- these are the frames that the workers took in, each as the call that it has in hand; and tenants stand at their numbers
+pub record AreTaken (tenants : ℕ) (world : World) (frames : ℕ → List ℕ) : Type 0 where
+  pub numbered : (t : ℕ) → t < tenants → number_of (world.tenants t) ≡ t
+  pub each : (worker t call : ℕ) → world.hands worker ≡ Hand.Has t call
+      → HasTaken tenants world (frames worker) t call

@@ -7,6 +7,7 @@ use Rattle.ilp_addr.specs.Timestamp.{timestamp_of}
 use Rattle.ilp_view.specs.Packet.{Prepare, max_frame, with_amount_and_expiry}
 use Rattle.ilp_view.specs.Reading.{prepare_at}
 use Rattle.ilp_view.specs.declared.fault.ViewFault.{ViewFault}
+use Rattle.oer_core.specs.Length.{AreBytes}
 use Rattle.oer_core.specs.Writing.{overwritten}
 use Rattle.tenant_core.specs.Answer.{answer_to, answer_made}
 use Rattle.tenant_core.specs.Judge.{judge, decide_made}
@@ -198,6 +199,11 @@ answer_call w s now got = job_answered w.job w s now (given_by w.room got)
 abbrev pub IsReadable : Job → Type 0
 IsReadable (Job.Carries tenant token frame) = is_ok (prepare_at frame) ≡ true
 IsReadable _ = Unit {0}
+
+-- and is made of bytes
+abbrev pub IsOfBytes : Job → Type 0
+IsOfBytes (Job.Carries tenant token frame) = AreBytes frame
+IsOfBytes _ = Unit {0}
 
 -- a frame that was sent on goes to someone
 abbrev pub IsSomewhere : Job → Option TargetParts → Type 0

@@ -3,6 +3,7 @@
 ghost use Rattle.std.specs.Prelude.{◌≡◌, ◌≤◌, ◌<◌, ◌+◌, ◌^◌, ℕ, [], length, slice_index, vec_capacity};
 ghost use Rattle.std.specs.Prelude.{IfOk, OnOk, OnErr, IsTrue, ◌↔◌, vec_len};
 ghost use Rattle.ilp_view.specs.Packet.{max_frame};
+ghost use Rattle.oer_core.specs.Length.{AreBytes};
 ghost use Rattle.tenant_core.specs.Governed.{command_answer, commanded};
 ghost use Rattle.tenant_core.specs.Network.{peer_numbered};
 ghost use Rattle.tenant_core.specs.Present.{network_of};
@@ -14,11 +15,13 @@ ghost use Rattle.floor_core.specs.Told.{shown};
 ghost use Rattle.floor_core.specs.World.{peer_name, malformed_by};
 ghost use Rattle.floor_core.specs.declared.step.Step.TheVariants.{Load, Decide, Answer, Tick, Govern};
 
+use crate::laws::frames_that_go_on;
 use crate::parts::{Got, LoadFault, Turn};
 use crate::slot::Slot;
 use crate::step::{Given, Malformed, Output, Step, Told};
 use common_types::{Bytes, Items, Text};
 use ilp_addr::Moment;
+use ilp_view::laws::what_is_read_is_a_prepare;
 use ilp_view::{MAX_FRAME, ViewFault};
 use std::alloc::{AllocError, Global};
 use std::marker::Model;
@@ -136,6 +139,7 @@ fn load_on(
     requires worker { worker < length seats.old }
     requires tenant { tenant < length next_calls.old }
     requires room { slice_index next_calls.old tenant + 1 < 2 ^ 64 }
+    ensures bytes { AreBytes bytes.now }
     ensures output { result ≡ output_of (parts seats.old [] next_calls.old) (Load worker tenant token.now bytes.now) }
     ensures seats { seats.new
         ≡ (moved (parts seats.old [] next_calls.old) (Load worker tenant token.now bytes.now)).seats }
@@ -279,6 +283,7 @@ fn govern_on(
 impl Parts {
     ghost use Rattle.std.specs.Prelude.{◌≡◌, ℕ, length, IfOk, OnOk, OnErr};
     ghost use Rattle.floor_core.specs.FloorView.{Fits, HasRoom, IsMet, seat_at};
+    ghost use Rattle.floor_core.specs.Forwards.{HasBytes};
     ghost use Rattle.floor_core.specs.Moves.{output_of, moved, AsksSound};
     ghost use Rattle.floor_core.specs.Told.{shown};
 
@@ -291,6 +296,7 @@ impl Parts {
         ensures told { IfOk result (λ told. shown self.new.seats told ≡ output_of self.old step.now) }
         ensures moved { OnOk result (self.new ≡ moved self.old step.now) }
         ensures asked { OnOk result (AsksSound self.old step.now) }
+        ensures bytes { HasBytes step.now }
         ensures same { OnErr result (self.new ≡ self.old) }
     {
         match step {
@@ -332,16 +338,18 @@ impl Parts {
 
 impl Floor {
     ghost use Rattle.std.specs.Prelude.{◌≡◌, ◌≤◌, ◌+◌, ℕ, [], length, slice_index, take, All, IfOk, OnOk, IfErr, OnErr};
-    ghost use Rattle.std.specs.Prelude.{vec_capacity};
+    ghost use Rattle.std.specs.Prelude.{vec_capacity, MatchResult};
     ghost use Rattle.ilp_view.specs.Packet.{max_frame};
     ghost use Rattle.floor_core.specs.FloorView.{world_of, seat_in, Fits, HasRoom};
+    ghost use Rattle.floor_core.specs.Forwards.{AreForwards, AreTaken, HasBytes, SendsForward, frames_on};
     ghost use Rattle.floor_core.specs.Told.{shown};
     ghost use Rattle.floor_core.specs.Work.{frame_of};
     ghost use Rattle.floor_core.specs.World.{AreOutputs, IsLeft};
     ghost use Rattle.floor_core.specs.Worlds.{reply, after};
 
     /// Does a step, and tells what it puts out: to each tenant that is what the one-tenant connector says to the event, if
-    /// the step is the tenant's own, and there the tenant stands afterwards.
+    /// the step is the tenant's own, and there the tenant stands afterwards. A frame that is sent on is the one that the
+    /// worker had, with 8 other bytes for its amount and 17 others for its expiry.
     ///
     /// The one error is want of memory, for a command alone. Nothing has changed then.
     pub fn step(&mut self, alloc: Global, step: &Step) -> Result<Told, AllocError>
@@ -349,6 +357,8 @@ impl Floor {
         requires room { HasRoom self.old 1 }
         ensures told { IfOk result (λ told. shown self.new.seats told ≡ reply (world_of self.old) step.now) }
         ensures world { OnOk result (world_of self.new ≡ after (world_of self.old) step.now) }
+        ensures forwards { IfOk result (λ told. SendsForward (frames_on self.old) step.now (shown self.new.seats told)) }
+        ensures bytes { HasBytes step.now }
         ensures same { OnErr result (self.new ≡ self.old) }
         ensures workers { length self.new.seats ≡ length self.old.seats }
         ensures tenants { length self.new.books ≡ length self.old.books }
@@ -356,7 +366,17 @@ impl Floor {
     {
         open_holds();
         calls();
+        frames_that_go_on();
+        self.has_taken();
         self.parts.step(alloc, step)
+    }
+
+    /// The frames that workers have are those that they took in as the calls that they have in hand.
+    pub fn has_taken(&self)
+        ensures { AreTaken (length self.now.books) (world_of self.now) (frames_on self.now) }
+    {
+        what_is_read_is_a_prepare();
+        let _ = &self.parts;
     }
 
     /// What the sender is told of the last frame that the worker took in, if its call has ended.
@@ -409,7 +429,8 @@ impl Floor {
 
     /// Does the steps in order, and gives their outputs. To each tenant they are those of the one-tenant connector on
     /// the tenant's own steps alone, and so is where the tenant stands afterwards; nobody's steps put out that their
-    /// worker is busy or idle.
+    /// worker is busy or idle. Each frame that is sent on is the one that came at the last good load of its worker, or that
+    /// the worker had at first, with 8 other bytes for its amount and 17 others for its expiry. (RFC 0027, "ILP Prepare")
     ///
     /// The one error is want of memory. It has the outputs of the steps that were done, of which the same holds: each
     /// step stands whole or not at all.
@@ -423,10 +444,14 @@ impl Floor {
             AreOutputs (world_of self.old) (take (length fault.outputs) steps.now) fault.outputs) }
         ensures stands { IfErr result (λ fault.
             IsLeft (world_of self.old) (take (length fault.outputs) steps.now) fault.outputs (world_of self.new)) }
+        ensures forwards { MatchResult result (λ outputs. AreForwards (frames_on self.old) steps.now outputs.items)
+            (λ fault. AreForwards (frames_on self.old) steps.now fault.outputs) }
         ensures workers { length self.new.seats ≡ length self.old.seats }
         ensures tenants { length self.new.books ≡ length self.old.books }
         ensures room { (n : ℕ) → HasRoom self.old (length steps.now + n) → HasRoom self.new n }
     {
+        self.has_taken();
+        frames_that_go_on();
         let mut outputs: Vec<Output> = Vec::new(alloc);
         for step in steps {
             let Ok(room) = room_for_one(alloc, &mut outputs) else {

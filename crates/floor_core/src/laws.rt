@@ -4,8 +4,8 @@ ghost use Rattle.std.specs.Prelude.{◌≡◌, ◌<◌, ◌++◌, ℕ, List, All
 ghost use Rattle.tenant_core.specs.State.{State};
 ghost use Rattle.tenant_core.specs.declared.opening.Opening.{Opening};
 ghost use Rattle.floor_core.specs.Causes.{AreCaused, ArePlaced, AreRun, Entered, book_opened};
-ghost use Rattle.floor_core.specs.Forwards.{AreForwards, HasBytes, no_frames};
-ghost use Rattle.floor_core.specs.World.{World, FitsIn, all_free, number_of, owners, own_steps, seen_by, AreOutputs, IsLeft};
+ghost use Rattle.floor_core.specs.Forwards.{AreForwards, AreTaken, HasBytes};
+ghost use Rattle.floor_core.specs.World.{World, FitsIn, owners, own_steps, seen_by, AreOutputs, IsLeft};
 ghost use Rattle.floor_core.specs.Worlds.{replies, after_all};
 ghost use Rattle.floor_core.specs.declared.step.Step.{Step};
 ghost use Rattle.floor_core.specs.declared.step.Output.{Output};
@@ -34,13 +34,12 @@ pub fn one_after_the_other()
         → IsLeft between more ys last → IsLeft world (steps ++ more) (xs ++ ys) last }
 {}
 
-/// Where no worker has anything in hand, each frame that steps send on is the one that came at the last good load of its
-/// worker, with 8 other bytes for its amount and 17 others for its expiry. (RFC 0027, "ILP Prepare")
+/// In every world, each frame that steps send on is the one that came at the last good load of its worker, or that the worker
+/// had in hand at first, with 8 other bytes for its amount and 17 others for its expiry. (RFC 0027, "ILP Prepare")
 pub fn frames_that_go_on()
-    ensures { (world : World) (workers tenants : ℕ) (steps : List Step) (outputs : List Output)
-        → ((t : ℕ) → t < tenants → number_of (world.tenants t) ≡ t) → world.hands ≡ all_free
-        → All (FitsIn workers tenants) steps → All HasBytes steps
-        → AreOutputs world steps outputs → AreForwards no_frames steps outputs }
+    ensures { (world : World) (frames : ℕ → List ℕ) (workers tenants : ℕ) (steps : List Step) (outputs : List Output)
+        → AreTaken tenants world frames → All (FitsIn workers tenants) steps → All HasBytes steps
+        → AreOutputs world steps outputs → AreForwards frames steps outputs }
 {
     tenant_core::laws::calls();
     ilp_view::laws::what_is_read_is_a_prepare();

@@ -7,8 +7,8 @@ use Rattle.std.specs.Result.{result_err}
 use Rattle.std.proofs.lemmas.List.{length-map}
 use Rattle.tenant_core.specs.declared.terms.TenantTerms.{TenantTerms}
 use Rattle.floor_core.specs.FloorView.{FloorState, HasRoom, world_of}
-use Rattle.floor_core.specs.Forwards.{AreForwards, HasBytes, no_frames}
-use Rattle.floor_core.specs.World.{World, AreOutputs, FitsIn, all_free, number_of, tenant_at_start, world_at_start}
+use Rattle.floor_core.specs.Forwards.{AreForwards, AreTaken, HasBytes, no_frames}
+use Rattle.floor_core.specs.World.{Hand, World, AreOutputs, FitsIn, number_of, tenant_at_start, world_at_start}
 use Rattle.floor_core.specs.declared.step.Output.{Output}
 use Rattle.floor_core.specs.declared.step.Step.{Step}
 use Rattle.admin_text.specs.Setup.{setup_of}
@@ -43,10 +43,9 @@ answered_by setup steps world outputs names text new are named printed =
 
 -- what floors promise of the frames that go on
 abbrev pub SendsOn : Type 0
-SendsOn = (world : World) (workers tenants : ℕ) (steps : List Step) (outputs : List Output)
-    → ((t : ℕ) → t < tenants → number_of (world.tenants t) ≡ t) → world.hands ≡ all_free
-    → All (FitsIn workers tenants) steps → All HasBytes steps
-    → AreOutputs world steps outputs → AreForwards no_frames steps outputs
+SendsOn = (world : World) (frames : ℕ → List ℕ) (workers tenants : ℕ) (steps : List Step) (outputs : List Output)
+    → AreTaken tenants world frames → All (FitsIn workers tenants) steps → All HasBytes steps
+    → AreOutputs world steps outputs → AreForwards frames steps outputs
 
 slice_get_is : {A : Type 0} (xs : List A) (k : ℕ) → k < length xs → is_some (slice_get xs k) ≡ true
 slice_get_is [] k lt = absurd (omega arith)
@@ -58,6 +57,10 @@ numbered_at : (start t : ℕ) (o : Option TenantTerms) → is_some o ≡ true �
 numbered_at start t None e = absurd cc
 numbered_at start t (Some terms) e = refl
 
+-- no worker has anything in hand
+none_in_hand : (t call : ℕ) → Hand.Free ≡ Hand.Has t call → ⊥
+none_in_hand t call e = cc
+
 -- so it is of the steps of a script
 sends_on : SendsOn → (setup : Setup) (workers : ℕ) (script : List ℕ) (steps : List Step) (outputs : List Output)
     → steps_of_script (names_in setup) workers script ≡ Ok steps → AreOutputs (world_of_setup setup) steps outputs → AreForwards no_frames steps outputs
@@ -66,8 +69,11 @@ sends_on law setup workers script steps outputs parsed are =
     let as_many : length names ≡ length setup.tenants = length-map setup.tenants (λ (t : TenantTerms). t.name) in
     let have : (P : Step → Type 0) → ((line : List ℕ) (step : Step) → meaning_of names workers line ≡ Runs step → P step) → All P steps
     = λ P one. subst (All P) (sym (script_steps names workers script steps parsed)) (steps_have P names workers one (lines_of script)) in
-    law (world_of_setup setup) workers (length names) steps outputs
-    (λ t lt. numbered_at setup.start t (slice_get setup.tenants t) (slice_get_is setup.tenants t (omega (arith, as_many)))) refl
+    let taken : AreTaken (length names) (world_of_setup setup) no_frames = record {
+      numbered = λ t lt. numbered_at setup.start t (slice_get setup.tenants t) (slice_get_is setup.tenants t (omega (arith, as_many)));
+      each = λ w t call e. absurd (none_in_hand t call e);
+    } in
+    law (world_of_setup setup) no_frames workers (length names) steps outputs taken
     (have (FitsIn workers (length names)) (λ line step e. (step_of_line_good names workers line step e).0))
     (have HasBytes (λ line step e. (step_of_line_good names workers line step e).1)) are
 
