@@ -6,14 +6,13 @@ use Rattle.ilp_addr.specs.Timestamp.{last_moment}
 use Rattle.ilp_view.specs.Packet.{Prepare}
 use Rattle.ilp_view.specs.Reading.{prepare_at}
 use Rattle.ilp_view.specs.declared.fault.ViewFault.{ViewFault}
-use Rattle.tenant_core.proofs.Making.{made_laws}
-use Rattle.tenant_core.proofs.Steady.{call_laws}
 use Rattle.tenant_core.specs.Answer.{answer_made, tick_count, tick_made, tick_record, tick_result, has_no_place, answer_to}
+use Rattle.tenant_core.specs.Calls.{CallLaws}
 use Rattle.tenant_core.specs.Governed.{IsGoverned, command_answer, command_made, commanded, made_by, order_answer, order_left, order_made, roll_answer, roll_left, roll_made}
 use Rattle.tenant_core.specs.Holds.{open_hold}
 use Rattle.tenant_core.specs.Judge.{decide_made, decide_record, is_recorded, judge, record_left}
 use Rattle.tenant_core.specs.Key.{Key}
-use Rattle.tenant_core.specs.Made.{IsMade}
+use Rattle.tenant_core.specs.Made.{IsMade, MadeLaws}
 use Rattle.tenant_core.specs.Network.{peer_with_token}
 use Rattle.tenant_core.specs.Orders.{ordered}
 use Rattle.tenant_core.specs.Periods.{roll_refusal, roll_record}
@@ -43,7 +42,7 @@ use Rattle.floor_core.specs.declared.step.Given.{Given}
 use Rattle.std.specs.List.{enumerate_from}
 use Rattle.std.proofs.lemmas.List.{length-map}
 use Rattle.std.proofs.lemmas.List.FromFn.{length-enumerate_from}
-use Rattle.one_list.proofs.History.{laws}
+use Rattle.one_list.specs.History.{HistoryLaws}
 use Rattle.one_list.specs.Steps.{PartView, Place, done, done_by, done_last, grown, next_place}
 use Rattle.one_list.specs.declared.step.Done.{Done}
 use Rattle.books_shared.specs.Rises.{entries_of, tick_rise}
@@ -137,26 +136,26 @@ tick_entries s now count rise told e =
     by false n = refl
 
 -- the record that was appended is what its entry led to
-pub made_of : (s : State) (made : Option Record) → IsReplay (recorded s made) → IfSome made (λ r. IsMade s r)
-made_of s None replay = tt
-made_of s (Some r) replay = made_laws.last s r replay
+pub made_of : MadeLaws → (s : State) (made : Option Record) → IsReplay (recorded s made) → IfSome made (λ r. IsMade s r)
+made_of laws s None replay = tt
+made_of laws s (Some r) replay = laws.last s r replay
 
 -- ---- the same of commands
 
-order_is_made : (s : State) (r : Result Changed CommandFault) (now : ℕ) → IsReplay (order_left s r now)
+order_is_made : MadeLaws → (s : State) (r : Result Changed CommandFault) (now : ℕ) → IsReplay (order_left s r now)
     → IfSome (order_made r now) (λ x. IsMade s x)
-order_is_made s (Ok change) now replay = made_laws.last s _ replay
-order_is_made s (Err fault) now replay = tt
+order_is_made laws s (Ok change) now replay = laws.last s _ replay
+order_is_made laws s (Err fault) now replay = tt
 
-roll_is_made : (s : State) (o : Option CommandFault) (now : ℕ) → roll_refusal s ≡ o → IsSound (roll_left s o now)
+roll_is_made : MadeLaws → (s : State) (o : Option CommandFault) (now : ℕ) → roll_refusal s ≡ o → IsSound (roll_left s o now)
     → IfSome (roll_made o now) (λ x. IsMade s x)
-roll_is_made s None now free sound = let clock : max (clock_of s) now ≤ last_moment = sound.clock in made_laws.roll s now free (omega arith)
-roll_is_made s (Some fault) now free sound = tt
+roll_is_made laws s None now free sound = let clock : max (clock_of s) now ≤ last_moment = sound.clock in laws.roll s now free (omega arith)
+roll_is_made laws s (Some fault) now free sound = tt
 
-command_is_made : (s : State) (c : Command) (now : ℕ) → IsSound (commanded s c now) → IfSome (command_made s c now) (λ x. IsMade s x)
-command_is_made s (command.Order order) now sound = order_is_made s (ordered s order) now sound.replay
-command_is_made s command.Balances now sound = tt
-command_is_made s command.Roll now sound = roll_is_made s (roll_refusal s) now refl sound
+command_is_made : MadeLaws → (s : State) (c : Command) (now : ℕ) → IsSound (commanded s c now) → IfSome (command_made s c now) (λ x. IsMade s x)
+command_is_made laws s (command.Order order) now sound = order_is_made laws s (ordered s order) now sound.replay
+command_is_made laws s command.Balances now sound = tt
+command_is_made laws s command.Roll now sound = roll_is_made laws s (roll_refusal s) now refl sound
 
 order_leaves : (s : State) (r : Result Changed CommandFault) (now : ℕ) → order_left s r now ≡ after_made s (order_made r now)
 order_leaves s (Ok change) now = refl
@@ -176,17 +175,17 @@ pub governed_leaves : (r : Result Answered CommandFault) (c : Command) (before a
 governed_leaves (Ok answered) c before after now governed = governed.1 ∙ command_leaves before c now
 governed_leaves (Err fault) c before after now governed = governed.1
 
-pub governed_made : (r : Result Answered CommandFault) (c : Command) (before after : State) (now : ℕ)
+pub governed_made : MadeLaws → (r : Result Answered CommandFault) (c : Command) (before after : State) (now : ℕ)
     → IsGoverned r c before after now → IsSound after → IfSome (made_by r before c now) (λ x. IsMade before x)
-governed_made (Ok answered) c before after now governed sound =
-    command_is_made before c now (subst (λ (x : State). IsSound x) governed.1 sound)
-governed_made (Err fault) c before after now governed sound = tt
+governed_made laws (Ok answered) c before after now governed sound =
+    command_is_made laws before c now (subst (λ (x : State). IsSound x) governed.1 sound)
+governed_made laws (Err fault) c before after now governed sound = tt
 
-pub governed_tenant : (r : Result Answered CommandFault) (c : Command) (before after : State) (now : ℕ)
+pub governed_tenant : CallLaws → (r : Result Answered CommandFault) (c : Command) (before after : State) (now : ℕ)
     → IsGoverned r c before after now → after.opening.tenant ≡ before.opening.tenant
-governed_tenant (Ok answered) c before after now governed =
-    ap (λ (x : State). x.opening.tenant) governed.1 ∙ (call_laws.same_commanded before c now).number
-governed_tenant (Err fault) c before after now governed = ap (λ (x : State). x.opening.tenant) governed.1
+governed_tenant laws (Ok answered) c before after now governed =
+    ap (λ (x : State). x.opening.tenant) governed.1 ∙ (laws.same_commanded before c now).number
+governed_tenant laws (Err fault) c before after now governed = ap (λ (x : State). x.opening.tenant) governed.1
 
 -- ---- what the list is told
 
@@ -195,39 +194,39 @@ abbrev pub place_at : ℕ → State → Place
 place_at tenant s = record { tenant = tenant; period = s.opening.period; number = length s.records }
 
 -- a record that was appended stands there
-one_told : (s : State) (r : Record) (worker tenant : ℕ)
+one_told : HistoryLaws → (s : State) (r : Record) (worker tenant : ℕ)
     → done_last worker tenant s.opening.period (s.records ++ r ∷ []) ≡ done worker (place_at tenant s) r ∷ []
-one_told s r worker tenant =
+one_told laws s r worker tenant =
     let behind : length (s.records ++ r ∷ []) - 1 ≡ length s.records = omega (arith, length-append s.records (r ∷ [])) in
     (λ i. done_by worker (record { tenant = tenant; period = s.opening.period; number = behind i }) (laws.last s.records r i))
 
-pub told_did : (s : State) (made : Option Record) (n worker tenant : ℕ) → n ≡ entries_of made
+pub told_did : HistoryLaws → (s : State) (made : Option Record) (n worker tenant : ℕ) → n ≡ entries_of made
     → told_by n worker tenant s.opening.period (recorded s made).records ≡ done_by worker (place_at tenant s) made
-told_did s None n worker tenant e = rw e refl
-told_did s (Some r) n worker tenant e = rw e (one_told s r worker tenant)
+told_did laws s None n worker tenant e = rw e refl
+told_did laws s (Some r) n worker tenant e = rw e (one_told laws s r worker tenant)
 
-order_told : (s : State) (r : Result Changed CommandFault) (now worker tenant : ℕ)
+order_told : HistoryLaws → (s : State) (r : Result Changed CommandFault) (now worker tenant : ℕ)
     → told_of (order_answer r) worker tenant (order_left s r now) ≡ done_by worker (place_at tenant s) (order_made r now)
-order_told s (Ok change) now worker tenant = one_told s _ worker tenant
-order_told s (Err fault) now worker tenant = refl
+order_told laws s (Ok change) now worker tenant = one_told laws s _ worker tenant
+order_told laws s (Err fault) now worker tenant = refl
 
-roll_told : (s : State) (o : Option CommandFault) (now worker tenant : ℕ)
+roll_told : HistoryLaws → (s : State) (o : Option CommandFault) (now worker tenant : ℕ)
     → told_of (roll_answer s o now) worker tenant (roll_left s o now) ≡ done_by worker (place_at tenant s) (roll_made o now)
-roll_told s None now worker tenant = one_told s (roll_record now) worker tenant
-roll_told s (Some fault) now worker tenant = refl
+roll_told laws s None now worker tenant = one_told laws s (roll_record now) worker tenant
+roll_told laws s (Some fault) now worker tenant = refl
 
-command_told : (s : State) (c : Command) (now worker tenant : ℕ)
+command_told : HistoryLaws → (s : State) (c : Command) (now worker tenant : ℕ)
     → told_of (command_answer s c now) worker tenant (commanded s c now) ≡ done_by worker (place_at tenant s) (command_made s c now)
-command_told s (command.Order order) now worker tenant = order_told s (ordered s order) now worker tenant
-command_told s command.Balances now worker tenant = refl
-command_told s command.Roll now worker tenant = roll_told s (roll_refusal s) now worker tenant
+command_told laws s (command.Order order) now worker tenant = order_told laws s (ordered s order) now worker tenant
+command_told laws s command.Balances now worker tenant = refl
+command_told laws s command.Roll now worker tenant = roll_told laws s (roll_refusal s) now worker tenant
 
-pub governed_told : (r : Result Answered CommandFault) (c : Command) (before after : State) (now worker tenant : ℕ)
+pub governed_told : HistoryLaws → (r : Result Answered CommandFault) (c : Command) (before after : State) (now worker tenant : ℕ)
     → IsGoverned r c before after now
     → told_of r worker tenant after ≡ done_by worker (place_at tenant before) (made_by r before c now)
-governed_told (Ok answered) c before after now worker tenant governed =
-    (λ k. told_of (governed.0 k) worker tenant (governed.1 k)) ∙ command_told before c now worker tenant
-governed_told (Err fault) c before after now worker tenant governed = refl
+governed_told laws (Ok answered) c before after now worker tenant governed =
+    (λ k. told_of (governed.0 k) worker tenant (governed.1 k)) ∙ command_told laws before c now worker tenant
+governed_told laws (Err fault) c before after now worker tenant governed = refl
 
 -- of a command that appended an entry there is a record
 
@@ -256,11 +255,11 @@ governed_appends (Err fault) c before after now governed = tt
 
 -- ---- the book's part of it
 
-led_on : (openings : List Opening) (s : State) (steps : List Done) (worker : ℕ) (made : Option Record) → IsLedTo openings s steps
+led_on : HistoryLaws → (openings : List Opening) (s : State) (steps : List Done) (worker : ℕ) (made : Option Record) → IsLedTo openings s steps
     → (after_made s made).opening.tenant ≡ s.opening.tenant → IfSome made (λ r. IsMade s r) → IfSome made (λ r. HasCause s r)
     → IsLedTo openings (after_made s made) (steps ++ done_by worker (next_place s) made)
-led_on openings s steps worker None led same is caused = subst (λ x. IsLedTo openings s x) (sym (append-nil steps)) led
-led_on openings s steps worker (Some r) led same is caused =
+led_on laws openings s steps worker None led same is caused = subst (λ x. IsLedTo openings s x) (sym (append-nil steps)) led
+led_on laws openings s steps worker (Some r) led same is caused =
     record {
       first = led.first;
       opens = rw same led.opens;
@@ -270,47 +269,47 @@ led_on openings s steps worker (Some r) led same is caused =
     }
 
 -- a book after a call, whose part has the record that the call made
-pub traced_on : (openings : List Opening) (s after : State) (part left : PartView) (worker : ℕ) (made : Option Record)
+pub traced_on : HistoryLaws → (openings : List Opening) (s after : State) (part left : PartView) (worker : ℕ) (made : Option Record)
     → IsTraced openings s part → after ≡ after_made s made → after.opening.tenant ≡ s.opening.tenant → IfSome made (λ r. IsMade s r)
     → IfSome made (λ r. HasCause s r) → left ≡ grown part (done_by worker (place_at part.number s) made) → IsTraced openings after left
-traced_on openings s after part left worker made traced e same is caused grew =
+traced_on laws openings s after part left worker made traced e same is caused grew =
     record {
       number = ap (λ (p : PartView). p.number) grew ∙ (traced.number ∙ sym same);
       led = subst (λ (x : List Done). IsLedTo openings after x)
           (ap (λ (n : ℕ). part.steps ++ done_by worker (place_at n s) made) (sym traced.number) ∙ sym (ap (λ (p : PartView). p.steps) grew))
           (subst (λ (x : State). IsLedTo openings x (part.steps ++ done_by worker (next_place s) made)) (sym e)
-          (led_on openings s part.steps worker made traced.led (ap (λ (x : State). x.opening.tenant) (sym e) ∙ same) is caused));
+          (led_on laws openings s part.steps worker made traced.led (ap (λ (x : State). x.opening.tenant) (sym e) ∙ same) is caused));
     }
 
 -- the same, where the opening stays
-told_kept : (s : State) (made : Option Record) (n worker tenant : ℕ) → n ≡ entries_of made
+told_kept : HistoryLaws → (s : State) (made : Option Record) (n worker tenant : ℕ) → n ≡ entries_of made
     → told_by n worker tenant (recorded s made).opening.period (recorded s made).records ≡ done_by worker (place_at tenant s) made
-told_kept s None n worker tenant is = told_did s None n worker tenant is
-told_kept s (Some r) n worker tenant is = told_did s (Some r) n worker tenant is
+told_kept laws s None n worker tenant is = told_did laws s None n worker tenant is
+told_kept laws s (Some r) n worker tenant is = told_did laws s (Some r) n worker tenant is
 
 -- what the list is told of a call that made that record, if it made one
-pub told_call : (s after : State) (made : Option Record) (n worker tenant : ℕ) → after ≡ recorded s made → n ≡ entries_of made
+pub told_call : HistoryLaws → (s after : State) (made : Option Record) (n worker tenant : ℕ) → after ≡ recorded s made → n ≡ entries_of made
     → told_by n worker tenant after.opening.period after.records ≡ done_by worker (place_at tenant s) made
-told_call s after made n worker tenant e is =
-    ap (λ (x : State). told_by n worker tenant x.opening.period x.records) e ∙ told_kept s made n worker tenant is
+told_call laws s after made n worker tenant e is =
+    ap (λ (x : State). told_by n worker tenant x.opening.period x.records) e ∙ told_kept laws s made n worker tenant is
 
 -- a book after a call of a slot, or a tick
-pub traced_call : (openings : List Opening) (s after : State) (part left : PartView) (worker : ℕ) (made : Option Record) (n : ℕ)
+pub traced_call : MadeLaws → HistoryLaws → (openings : List Opening) (s after : State) (part left : PartView) (worker : ℕ) (made : Option Record) (n : ℕ)
     → IsTraced openings s part → Stays made → IfSome made (λ r. HasCause s r) → after ≡ recorded s made → IsReplay after → n ≡ entries_of made
     → left ≡ grown part (told_by n worker part.number after.opening.period after.records) → IsTraced openings after left
-traced_call openings s after part left worker made n traced stays caused e replay is grew =
-    traced_on openings s after part left worker made traced (e ∙ sym (stays s)) (ap (λ (x : State). x.opening.tenant) e)
-    (made_of s made (subst IsReplay e replay)) caused
-    (grew ∙ ap (λ (ds : List Done). grown part ds) (told_call s after made n worker part.number e is))
+traced_call made_laws laws openings s after part left worker made n traced stays caused e replay is grew =
+    traced_on laws openings s after part left worker made traced (e ∙ sym (stays s)) (ap (λ (x : State). x.opening.tenant) e)
+    (made_of made_laws s made (subst IsReplay e replay)) caused
+    (grew ∙ ap (λ (ds : List Done). grown part ds) (told_call laws s after made n worker part.number e is))
 
 -- a book after a command
-pub traced_command : (openings : List Opening) (s after : State) (part left : PartView) (worker : ℕ) (r : Result Answered CommandFault) (c : Command) (now : ℕ)
+pub traced_command : MadeLaws → CallLaws → HistoryLaws → (openings : List Opening) (s after : State) (part left : PartView) (worker : ℕ) (r : Result Answered CommandFault) (c : Command) (now : ℕ)
     → IsTraced openings s part → IsGoverned r c s after now → IsSound after
     → left ≡ grown part (told_of r worker part.number after) → IsTraced openings after left
-traced_command openings s after part left worker r c now traced governed sound grew =
-    traced_on openings s after part left worker (made_by r s c now) traced (governed_leaves r c s after now governed)
-    (governed_tenant r c s after now governed) (governed_made r c s after now governed sound) (governed_cause r s c now)
-    (grew ∙ ap (λ (ds : List Done). grown part ds) (governed_told r c s after now worker part.number governed))
+traced_command made_laws call_laws laws openings s after part left worker r c now traced governed sound grew =
+    traced_on laws openings s after part left worker (made_by r s c now) traced (governed_leaves r c s after now governed)
+    (governed_tenant call_laws r c s after now governed) (governed_made made_laws r c s after now governed sound) (governed_cause r s c now)
+    (grew ∙ ap (λ (ds : List Done). grown part ds) (governed_told laws r c s after now worker part.number governed))
 
 -- the steps of a part after a call, and of a share
 pub steps_told : (part left : PartView) (worker : ℕ) (s : State) (made : Option Record) (ds : List Done) → left ≡ grown part ds
@@ -328,9 +327,9 @@ share_told share left rise same number s made ds grew told own is =
     ∙ ap (λ (n : ℕ). raised same s.opening.tenant (with_steps (done_by share.worker (place_at n s) made) share)) own)
 
 -- a book in which nothing has happened, at its place among the openings
-pub traced_first : (openings : List Opening) (o : Opening) (part : PartView) → part ≡ record { number = o.tenant; steps = [] }
+pub traced_first : HistoryLaws → (openings : List Opening) (o : Opening) (part : PartView) → part ≡ record { number = o.tenant; steps = [] }
     → slice_get openings o.tenant ≡ Some o → IsTraced openings (record { opening = o; records = [] }) part
-traced_first openings o part e at =
+traced_first laws openings o part e at =
     record {
       number = ap (λ (p : PartView). p.number) e;
       led = record { first = o; opens = at; history = rw e (laws.begins o); causes = rw e tt };

@@ -16,10 +16,11 @@ use crate::rise::{Rise, command_rise, entries_closed, rise_of_turn, tick_rise};
 use crate::share::Share;
 use floor_core::{Got, Slot, Turn};
 use ilp_addr::Moment;
+use one_list::laws::histories;
 use one_list::{Chronicle, Run, TenantPart};
 use std::alloc::Global;
 use std::marker::Model;
-use tenant_core::laws::book_is_sound;
+use tenant_core::laws::{book_is_sound, calls, records_are_made};
 use tenant_core::{Answered, Book, BookFault, Command, CommandFault};
 
 /// A tenant's book, how many entries its closed periods had, and the tenant's part of the one list. Contracts see it as a
@@ -124,6 +125,8 @@ impl<J: Run> Kept<J> {
             (decide_call slot.old self.old.state now).made share.old }
         ensures number { number_of self.new ≡ number_of self.old + (rise_of (decide_call slot.old self.old.state now)).entries }
     {
+        records_are_made();
+        histories();
         slot.is_work();
         let (turn, rise) = decide_in(&mut self.book, slot, now);
         book_is_sound(&self.book);
@@ -151,6 +154,8 @@ impl<J: Run> Kept<J> {
             (answer_call slot.old self.old.state now got).made share.old }
         ensures number { number_of self.new ≡ number_of self.old + (rise_of (answer_call slot.old self.old.state now got)).entries }
     {
+        records_are_made();
+        histories();
         let (turn, rise) = answer_in(&mut self.book, slot, now, got);
         book_is_sound(&self.book);
         trace(chronicle, &mut self.part, share, &self.book, rise);
@@ -174,6 +179,8 @@ impl<J: Run> Kept<J> {
             (tick_made self.old.state now) share.old }
         ensures number { number_of self.new ≡ number_of self.old + (tick_rise result).entries }
     {
+        records_are_made();
+        histories();
         let (count, rise) = tick_in(&mut self.book, now);
         book_is_sound(&self.book);
         trace(chronicle, &mut self.part, share, &self.book, rise);
@@ -199,6 +206,9 @@ impl<J: Run> Kept<J> {
             (made_by result self.old.state command.now now) share.old }
         ensures number { number_of self.new ≡ number_of self.old + (command_rise result).entries }
     {
+        calls();
+        records_are_made();
+        histories();
         let (answer, closed) = command_in(&mut self.book, alloc, command, now);
         book_is_sound(&self.book);
         self.closed += closed;

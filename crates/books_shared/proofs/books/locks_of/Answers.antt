@@ -17,4 +17,4 @@ new-requires-in-loop-tenant g c =
     (opening_at c.args.setups.now c.args.start c.loop-tenant.tenant setup here) in
     let part : c.tenant_part-part.result ≡ record { number = c.loop-tenant.tenant; steps = [] } = search rules in
     subst (λ (s : State). IsTraced g.J.Run.openings s c.tenant_part-part.result) (sym c.in_ok-book.ensures)
-    (traced_first g.J.Run.openings first c.tenant_part-part.result part at)
+    (traced_first c.histories.ensures g.J.Run.openings first c.tenant_part-part.result part at)

@@ -35,13 +35,13 @@ told : (g : Over) (c : goal.After-trace g)
     → told_by c.answer_in-turn.result.1.entries c.args.share.now.worker c.self.inside.part.number c.answer_in-turn.new.book.opening.period c.answer_in-turn.new.book.records
     ≡ done_by c.args.share.now.worker (place_at c.self.inside.part.number c.self.inside.book) (call g c).made
 told g c =
-    told_call c.self.inside.book c.answer_in-turn.new.book (call g c).made c.answer_in-turn.result.1.entries c.args.share.now.worker c.self.inside.part.number
+    told_call c.histories.ensures c.self.inside.book c.answer_in-turn.new.book (call g c).made c.answer_in-turn.result.1.entries c.args.share.now.worker c.self.inside.part.number
     c.answer_in-turn.ensures.book (many g c)
 
 pub invariant_of-self : goal.invariant_of-self
 invariant_of-self g c = (
   subst (λ (o : Opening). c.self.inside.closed ≤ most_entries o.period) (sym c.answer_in-turn.ensures.opening) c.self.invariant.0,
-  traced_call g.J.Run.openings c.self.inside.book c.answer_in-turn.new.book c.self.inside.part c.trace.new.part c.args.share.now.worker (call g c).made
+  traced_call c.records_are_made.ensures c.histories.ensures g.J.Run.openings c.self.inside.book c.answer_in-turn.new.book c.self.inside.part c.trace.new.part c.args.share.now.worker (call g c).made
       c.answer_in-turn.result.1.entries c.self.invariant.1 (answer_stays c.args.slot.now c.self.inside.book c.args.now c.args.got)
       (answer_cause c.args.slot.now c.self.inside.book c.args.now c.args.got) c.answer_in-turn.ensures.book
       c.book_is_sound.ensures.replay (many g c) c.trace.ensures.part,

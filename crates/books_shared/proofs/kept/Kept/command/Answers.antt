@@ -15,19 +15,19 @@ trace_command-requires-clause-tenant g c =
     let own = c.self.invariant.1.number in
     let sound = c.book_is_sound.ensures.tenant in
     subst (λ n. n < max_tenants)
-    (governed_tenant c.command_in-answer.result.0 c.args.command.now c.self.inside.book c.command_in-answer.new.book c.args.now c.command_in-answer.ensures.answer ∙ sym own) sound
+    (governed_tenant c.calls.ensures c.command_in-answer.result.0 c.args.command.now c.self.inside.book c.command_in-answer.new.book c.args.now c.command_in-answer.ensures.answer ∙ sym own) sound
 
 told : (g : Over) (c : goal.After-trace_command g)
     → told_of c.command_in-answer.result.0 c.args.share.now.worker c.self.inside.part.number c.command_in-answer.new.book
     ≡ done_by c.args.share.now.worker (place_at c.self.inside.part.number c.self.inside.book) (made_by c.command_in-answer.result.0 c.self.inside.book c.args.command.now c.args.now)
 told g c =
-    governed_told c.command_in-answer.result.0 c.args.command.now c.self.inside.book c.command_in-answer.new.book c.args.now c.args.share.now.worker c.self.inside.part.number
+    governed_told c.histories.ensures c.command_in-answer.result.0 c.args.command.now c.self.inside.book c.command_in-answer.new.book c.args.now c.args.share.now.worker c.self.inside.part.number
     c.command_in-answer.ensures.answer
 
 pub invariant_of-self : goal.invariant_of-self
 invariant_of-self g c = (
   (let kept = c.self.invariant.0 in let most = c.command_in-answer.ensures.most in omega arith),
-  traced_command g.J.Run.openings c.self.inside.book c.command_in-answer.new.book c.self.inside.part c.trace_command.new.part c.args.share.now.worker
+  traced_command c.records_are_made.ensures c.calls.ensures c.histories.ensures g.J.Run.openings c.self.inside.book c.command_in-answer.new.book c.self.inside.part c.trace_command.new.part c.args.share.now.worker
       c.command_in-answer.result.0 c.args.command.now c.args.now c.self.invariant.1 c.command_in-answer.ensures.answer
       c.book_is_sound.ensures c.trace_command.ensures.part,
 )

@@ -32,13 +32,13 @@ told : (g : Over) (c : goal.After-trace g)
     → told_by c.tick_in-count.result.1.entries c.args.share.now.worker c.self.inside.part.number c.tick_in-count.new.book.opening.period c.tick_in-count.new.book.records
     ≡ done_by c.args.share.now.worker (place_at c.self.inside.part.number c.self.inside.book) (tick_made c.self.inside.book c.args.now)
 told g c =
-    told_call c.self.inside.book c.tick_in-count.new.book (tick_made c.self.inside.book c.args.now) c.tick_in-count.result.1.entries c.args.share.now.worker c.self.inside.part.number
+    told_call c.histories.ensures c.self.inside.book c.tick_in-count.new.book (tick_made c.self.inside.book c.args.now) c.tick_in-count.result.1.entries c.args.share.now.worker c.self.inside.part.number
     c.tick_in-count.ensures.book (many g c)
 
 pub invariant_of-self : goal.invariant_of-self
 invariant_of-self g c = (
   subst (λ (o : Opening). c.self.inside.closed ≤ most_entries o.period) (sym c.tick_in-count.ensures.opening) c.self.invariant.0,
-  traced_call g.J.Run.openings c.self.inside.book c.tick_in-count.new.book c.self.inside.part c.trace.new.part c.args.share.now.worker (tick_made c.self.inside.book c.args.now)
+  traced_call c.records_are_made.ensures c.histories.ensures g.J.Run.openings c.self.inside.book c.tick_in-count.new.book c.self.inside.part c.trace.new.part c.args.share.now.worker (tick_made c.self.inside.book c.args.now)
       c.tick_in-count.result.1.entries c.self.invariant.1 (tick_stays c.self.inside.book c.args.now)
       (tick_cause c.self.inside.book c.args.now) c.tick_in-count.ensures.book
       c.book_is_sound.ensures.replay (many g c) c.trace.ensures.part,
