@@ -87,6 +87,29 @@ impl Lending {
         self.loans.tenants()
     }
 
+    /// Of how many places each tenant is sure.
+    pub fn share(&self) -> usize
+        ensures { result ≡ self.now.loans.share }
+    {
+        self.loans.share()
+    }
+
+    /// How many places the tenant uses, those that are kept for one of it that waited included.
+    pub fn used_by(&self, tenant: usize) -> usize
+        requires { tenant < length self.now.loans.used }
+        ensures { result ≡ used_by tenant self.now.loans }
+    {
+        self.loans.used_by(tenant)
+    }
+
+    /// How many of the tenant wait for a place.
+    pub fn waiting_of(&self, tenant: usize) -> usize
+        requires { tenant < length self.now.loans.used }
+        ensures { result ≡ waiting_of tenant self.now }
+    {
+        self.waiting[tenant]
+    }
+
     /// Asks for a place for the tenant.
     pub fn ask(&mut self, tenant: usize) -> Turn
         requires { tenant < length self.old.loans.used }

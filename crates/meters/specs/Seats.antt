@@ -4,9 +4,9 @@ use Rattle.atomic_table.specs.Seated.{TableId}
 use Rattle.meters.specs.declared.kind.Kind.{Kind}
 use Rattle.meters.specs.Counts.{count_in, one_more, both_rows}
 
--- how often a first seat is split at most: so many threads may count
+-- how often a first seat is split at most: so many threads may count, or read
 abbrev pub max_splits : ℕ
-max_splits = 4_096
+max_splits = 4_097
 
 -- meters: which they are, and for how many tenants they count
 pub record MetersState : Type 0 where
