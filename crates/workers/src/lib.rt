@@ -14,6 +14,6 @@ mod traits;
 pub use carrying::{Job, carry};
 pub use governing::{GovernFault, govern};
 pub use lanes::{Lane, StartFault, run_workers};
-pub use places::{Place, Places};
+pub use places::{Place, PlaceUse, Places};
 pub use reply::{Reply, Status};
 pub use traits::{Clock, Gate, Link, Point};

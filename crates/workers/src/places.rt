@@ -8,6 +8,17 @@ use std::alloc::{AllocError, Global};
 use std::sync::{Condvar, CondvarTimeouts, Mutex, MutexGuard, Wait};
 use std::time::{Clock, Duration, Instant};
 
+/// How a tenant stands with the places, at one moment.
+#[derive(Clone, Copy, Debug, PartialEq, Eq)]
+pub struct PlaceUse {
+    /// How many it is sure of.
+    pub share: usize,
+    /// How many it uses.
+    pub used: usize,
+    /// How many of its threads wait for one.
+    pub waiting: usize,
+}
+
 /// A place that a tenant has taken. It can be neither copied nor let go, only given back.
 pub struct Place {
     tenant: usize,
@@ -80,6 +91,19 @@ impl Places {
         }
         give_up(&mut lending, tenant);
         None
+    }
+
+    /// How the tenant stands with the places now; `None` where there is no such tenant.
+    pub fn use_by<R: Wait>(&self, rt: &R, tenant: usize) -> Option<PlaceUse> {
+        let lending = self.lending.lock(rt);
+        if tenant >= lending.tenants() {
+            return None;
+        }
+        Some(PlaceUse {
+            share: lending.share(),
+            used: lending.used_by(tenant),
+            waiting: lending.waiting_of(tenant),
+        })
     }
 
     /// Gives back a place that was taken from these, and wakes one that waits and may have it.
