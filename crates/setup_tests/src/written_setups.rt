@@ -1,5 +1,9 @@
 //! Setups that are written: as a text that is known, and read back.
 
+mod drawn;
+mod running;
+mod texts;
+
 use admin_text::{Setup, read_setup, write_setup};
 use std::alloc::Global;
 use std::test::Fail;
