@@ -1,5 +1,5 @@
 -- Each frame that steps send on is the one that its worker took in last, with another amount and another expiry.
-use Rattle.std.proofs.Common.{◌≡◌, ◌≢◌, ◌<◌, ◌≤◌, ◌+◌, ℕ, List, [], ◌∷◌, ◌++◌, length, get_or, take, drop, Bool, true, false, Option, Some, None, refl, inl, inr, ◌⊎◌, sym, ap, subst, ◌∙◌, arith}
+use Rattle.std.proofs.Common.{◌≡◌, ◌≢◌, ◌<◌, ◌≤◌, ℕ, List, [], ◌∷◌, ◌++◌, length, get_or, take, drop, Bool, true, false, Option, Some, None, refl, inl, inr, sym, ap, subst, ◌∙◌, arith}
 use Rattle.std.specs.Prelude.{Result, Ok, Err, IfOk, All, if◌then◌else◌}
 use Rattle.std.specs.Int.{w64, to_be_bytes}
 use Rattle.std.proofs.lemmas.Bool.{ne_eqb}
@@ -17,7 +17,6 @@ use Rattle.tenant_core.specs.Calls.{CallLaws}
 use Rattle.tenant_core.specs.Governed.{commanded}
 use Rattle.tenant_core.specs.Judge.{decide_made, judge}
 use Rattle.tenant_core.specs.State.{State}
-use Rattle.tenant_core.specs.declared.command.Command.{Command}
 use Rattle.tenant_core.specs.declared.faults.HoldFault.{HoldFault}
 use Rattle.tenant_core.specs.declared.verdict.Verdict.{Verdict}
 use Rattle.tenant_core.specs.declared.verdict.Verdict.TheVariants.{Unknown, NoRoom, Refuse, Fulfil, Forward, Relay}

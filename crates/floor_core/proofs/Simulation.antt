@@ -26,11 +26,10 @@ use Rattle.floor_core.specs.Forwards.{HasBytes}
 use Rattle.floor_core.specs.Kept.{IsKept}
 use Rattle.floor_core.specs.Moves.{put_both, output_of, moved, turn_output, got_of, filled}
 use Rattle.floor_core.specs.Work.{Job, Work, IsOfBytes, IsReadable, verdict_call, given_by, settled_call}
-use Rattle.floor_core.specs.World.{Effect, Stage, malformed_by, Tenant, Hand, World, arrival, arrived, bytes_given, put, heard, answer_key, key_in, settled_reply, told, no_book}
+use Rattle.floor_core.specs.World.{Effect, Stage, malformed_by, Tenant, Hand, World, bytes_given, put, heard, answer_key, key_in, settled_reply, told, no_book}
 use Rattle.floor_core.specs.Worlds.{reply, after}
 use Rattle.floor_core.specs.declared.floor.Seat.{Seat}
 use Rattle.floor_core.specs.declared.step.Given.{Given}
-use Rattle.floor_core.specs.declared.step.Malformed.{Malformed}
 use Rattle.floor_core.specs.declared.step.Malformed.TheVariants as malformed
 use Rattle.floor_core.specs.declared.step.Output.TheVariants as output
 use Rattle.floor_core.specs.declared.step.Given.TheVariants as given

@@ -35,8 +35,8 @@ abbrev pub SendsForward : (ℕ → List ℕ) → Step → Output → Type 0
 SendsForward frames step (Send tenant peer hold frame) = IsForwardBy frames step frame
 SendsForward frames step output = Unit {0}
 
--- each frame that these steps send on is the one that its worker took in last, with another amount and another expiry; these
--- are the frames that workers took in before the first step
+-- each frame that these steps send on is the one that its worker took in last, with another amount and another expiry, where
+-- these frames are those that workers took in before the first step
 abbrev pub AreForwards : (frames : ℕ → List ℕ) → List Step → List Output → Type 0
 AreForwards frames [] outputs = Unit {0}
 AreForwards frames (s ∷ ss) [] = Unit {0}

@@ -343,7 +343,6 @@ impl Floor {
     ghost use Rattle.floor_core.specs.FloorView.{world_of, seat_in, Fits, HasRoom};
     ghost use Rattle.floor_core.specs.Forwards.{AreForwards, AreTaken, HasBytes, SendsForward, frames_on};
     ghost use Rattle.floor_core.specs.Told.{shown};
-    ghost use Rattle.floor_core.specs.Work.{frame_of};
     ghost use Rattle.floor_core.specs.World.{AreOutputs, IsLeft};
     ghost use Rattle.floor_core.specs.Worlds.{reply, after};
 
@@ -392,7 +391,7 @@ impl Floor {
 
     /// The frame that the worker carries: the one that came, or the one that was sent on.
     pub fn frame(&self, worker: usize) -> &[u8]
-        ensures value { result.now ≡ frame_of (seat_in self.now.seats worker).slot.job }
+        ensures value { result.now ≡ frames_on self.now worker }
         ensures short { length result.now ≤ max_frame }
     {
         match self.parts.seats.get(worker) {
