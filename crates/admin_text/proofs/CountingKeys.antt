@@ -10,7 +10,7 @@ use Rattle.admin_text.specs.KeyLaws.{AgreeAt, KeyLaws}
 use Rattle.admin_text.specs.Networks.{network_of, peer_under, fee_of, rate_of, with_peer_of, with_route_of, with_rate_of}
 use Rattle.admin_text.specs.Setup.{setup_by, setup_of_table, version_of}
 use Rattle.admin_text.specs.TenantTable.{tenant_of_table, terms_of}
-use Rattle.admin_text.specs.declared.places.Kind.TheVariants.{Tenant, Peer, Route, Rate}
+use Rattle.admin_text.specs.declared.places.TableKind.TheVariants.{Tenant, Peer, Route, Rate}
 use Rattle.admin_text.specs.declared.version.Version.{Version}
 use Rattle.admin_text.specs.declared.version.Version.TheVariants.{One, Two}
 

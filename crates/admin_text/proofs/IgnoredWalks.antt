@@ -6,7 +6,7 @@ use Rattle.toml.specs.Data.{Data, Members, member}
 use Rattle.toml.specs.View.{view, items_view, members_view}
 use Rattle.toml.specs.declared.value.Value.{Value}
 use Rattle.admin_text.specs.Ignored.{KeyAt, is_key, ignored_at, ignored_in_parts, ignored_in_tenant_value, ignored_in_tenants, ignored_in_value}
-use Rattle.admin_text.specs.declared.places.Kind.{Kind}
+use Rattle.admin_text.specs.declared.places.TableKind.{TableKind}
 use Rattle.admin_text.specs.declared.places.TablePlace.{TablePlace}
 use Rattle.admin_text.specs.declared.places.TablePlace.TheVariants.{Part}
 use Rattle.admin_text.specs.declared.version.Version.{Version}
@@ -52,14 +52,14 @@ table_end version place entries old all none so_far =
 
 -- ---- the peers, routes or rates of a tenant
 
-parts_left : (version : Version) (tenant : ℕ) (kind : Kind) (number : ℕ) (values : List Value) (at : ℕ) (value : Value) → at < length values → value ≡ get_or values at value
+parts_left : (version : Version) (tenant : ℕ) (kind : TableKind) (number : ℕ) (values : List Value) (at : ℕ) (value : Value) → at < length values → value ≡ get_or values at value
     → ignored_in_parts version tenant kind number (items_view (drop at values))
     ≡ ignored_in_value version (Part tenant kind number) (view value) ++ ignored_in_parts version tenant kind (number + 1) (items_view (drop (at + 1) values))
 unfolding ignored_in_parts
 parts_left version tenant kind number values at value within is =
     rw (items_view-drop values at value within) (ap (λ (v : Value). ignored_in_value version (Part tenant kind number) (view v) ++ ignored_in_parts version tenant kind (number + 1) (items_view (drop (at + 1) values))) (sym is))
 
-pub parts_step : (version : Version) (tenant : ℕ) (kind : Kind) (values : List Value) (at : ℕ) (value : Value) (k : Kind) (n : ℕ) (old new all : List KeyAt)
+pub parts_step : (version : Version) (tenant : ℕ) (kind : TableKind) (values : List Value) (at : ℕ) (value : Value) (k : TableKind) (n : ℕ) (old new all : List KeyAt)
     → at < length values → value ≡ get_or values at value → k ≡ kind → n ≡ at + 1
     → new ≡ old ++ ignored_in_value version (Part tenant k n) (view value)
     → old ++ ignored_in_parts version tenant kind (at + 1) (items_view (drop at values)) ≡ all
@@ -70,7 +70,7 @@ parts_step version tenant kind values at value k n old new all within is same_ki
     (put ∙ (λ i. old ++ ignored_in_value version (Part tenant (same_kind i) (same_number i)) (view value)))
     (parts_left version tenant kind (at + 1) values at value within is) so_far
 
-pub parts_end : (version : Version) (tenant : ℕ) (kind : Kind) (values : List Value) (at : ℕ) (old all : List KeyAt) → length values ≤ at
+pub parts_end : (version : Version) (tenant : ℕ) (kind : TableKind) (values : List Value) (at : ℕ) (old all : List KeyAt) → length values ≤ at
     → old ++ ignored_in_parts version tenant kind (at + 1) (items_view (drop at values)) ≡ all → old ≡ all
 unfolding ignored_in_parts
 parts_end version tenant kind values at old all past so_far =

@@ -9,8 +9,8 @@ use Rattle.toml.specs.Parse.{parse_document}
 use Rattle.admin_text.specs.Keys.{items_under}
 use Rattle.admin_text.specs.Setup.{setup_of_table, version_of}
 use Rattle.admin_text.specs.Versions.{has_fees}
-use Rattle.admin_text.specs.declared.places.Kind.{Kind}
-use Rattle.admin_text.specs.declared.places.Kind.TheVariants.{Tenant, Peer, Route, Rate}
+use Rattle.admin_text.specs.declared.places.TableKind.{TableKind}
+use Rattle.admin_text.specs.declared.places.TableKind.TheVariants.{Tenant, Peer, Route, Rate}
 use Rattle.admin_text.specs.declared.places.Spot.{Spot}
 use Rattle.admin_text.specs.declared.places.Spot.TheVariants as spot
 use Rattle.admin_text.specs.declared.places.TablePlace.{TablePlace}
@@ -26,7 +26,7 @@ abbrev pub top_keys : List (List ℕ)
 top_keys = codes "version" ∷ codes "start" ∷ codes "tenant" ∷ []
 
 -- those of the table of a tenant, a peer, a route or a rate, in a setup of a version
-abbrev pub keys_of : Version → Kind → List (List ℕ)
+abbrev pub keys_of : Version → TableKind → List (List ℕ)
 keys_of version Tenant =
     codes "name" ∷ codes "address" ∷ codes "admin" ∷ codes "journal" ∷ codes "margin" ∷ codes "hold"
     ∷ codes "peer" ∷ codes "route" ∷ codes "rate" ∷ []
@@ -74,7 +74,7 @@ abbrev pub items_of : List ℕ → Members → Items
 items_of key t = unwrap_or (items_under key t) no_items
 
 -- those of a tenant's peers, routes or rates, which are numbered from that number on
-unfoldable pub ignored_in_parts : Version → ℕ → Kind → ℕ → Items → List KeyAt
+unfoldable pub ignored_in_parts : Version → ℕ → TableKind → ℕ → Items → List KeyAt
 ignored_in_parts version tenant kind number no_items = []
 ignored_in_parts version tenant kind number (item first others) =
     ignored_in_value version (place.Part tenant kind number) first

@@ -6,7 +6,7 @@ use Rattle.admin_text.specs.Ignored.{top_keys, keys_of}
 use Rattle.admin_text.specs.Networks.{with_peer_of, with_route_of, with_rate_of}
 use Rattle.admin_text.specs.Setup.{setup_of_table}
 use Rattle.admin_text.specs.TenantTable.{tenant_of_table}
-use Rattle.admin_text.specs.declared.places.Kind.TheVariants.{Tenant, Peer, Route, Rate}
+use Rattle.admin_text.specs.declared.places.TableKind.TheVariants.{Tenant, Peer, Route, Rate}
 use Rattle.admin_text.specs.declared.version.Version.{Version}
 
 -- two tables have the same at these keys, or both have nothing there

@@ -11,11 +11,11 @@ ghost use Rattle.admin_text.specs.Ignored.{ignored_in_parts, ignored_in_tenant, 
 ghost use Rattle.admin_text.specs.Ignored.{ignored_in_document};
 ghost use Rattle.admin_text.specs.IgnoredKeys.{seen};
 
+use crate::expected::Shown;
 use crate::keys::{items_under, version_of};
-use crate::places::{Kind, Place, Spot, TablePlace};
+use crate::places::{Place, Spot, TableKind, TablePlace};
 use crate::setup::{document_of, setup_of_table};
 use crate::version::{Version, has_fees};
-use crate::wanted::Shown;
 use common_types::{Items, ReadError};
 use std::alloc::{AllocError, Global};
 use std::fmt;
@@ -37,11 +37,11 @@ fn is_top_key(key: &str) -> bool
     matches!(key, "version" | "start" | "tenant")
 }
 
-fn is_key_of(version: Version, kind: Kind, key: &str) -> bool
+fn is_key_of(version: Version, kind: TableKind, key: &str) -> bool
     ensures { result ≡ list_any (λ known. bytes_eq key.now known) (keys_of version kind) }
 {
     match kind {
-        Kind::Tenant => {
+        TableKind::Tenant => {
             matches!(
                 key,
                 "name"
@@ -55,7 +55,7 @@ fn is_key_of(version: Version, kind: Kind, key: &str) -> bool
                     | "rate"
             )
         }
-        Kind::Peer => {
+        TableKind::Peer => {
             matches!(
                 key,
                 "name"
@@ -73,8 +73,8 @@ fn is_key_of(version: Version, kind: Kind, key: &str) -> bool
                     | "balance"
             )
         }
-        Kind::Route => matches!(key, "prefix" | "peer") || (has_fees(version) && key == "fee"),
-        Kind::Rate => matches!(key, "from" | "to" | "num" | "den"),
+        TableKind::Route => matches!(key, "prefix" | "peer") || (has_fees(version) && key == "fee"),
+        TableKind::Rate => matches!(key, "from" | "to" | "num" | "den"),
     }
 }
 
@@ -84,7 +84,7 @@ fn is_key(version: Version, place: TablePlace, key: &str) -> bool
 {
     match place {
         TablePlace::Top => is_top_key(key),
-        TablePlace::Tenant(_) => is_key_of(version, Kind::Tenant, key),
+        TablePlace::Tenant(_) => is_key_of(version, TableKind::Tenant, key),
         TablePlace::Part(_, kind, _) => is_key_of(version, kind, key),
     }
 }
@@ -191,7 +191,7 @@ fn put_value(
 }
 
 // The values of the array of tables of a kind, which stands at that key.
-fn items_of<'a>(table: &'a Table, key: &'a str, kind: Kind) -> &'a [Value]
+fn items_of<'a>(table: &'a Table, key: &'a str, kind: TableKind) -> &'a [Value]
     ensures { items_view result.now ≡ items_of key.now (table_view table.now) }
 {
     match items_under(table, key, kind) {
@@ -205,7 +205,7 @@ fn put_parts(
     alloc: Global,
     version: Version,
     tenant: Place<'_>,
-    kind: Kind,
+    kind: TableKind,
     values: &[Value],
     found: &mut Vec<IgnoredKey>,
 ) -> Result<(), AllocError>
@@ -230,13 +230,13 @@ fn put_tenant(
     ensures { OnOk result (seen found.new.items ≡ seen found.old.items
         ++ ignored_in_tenant version tenant.entry.number (table_view table.now)) }
 {
-    let peers = items_of(table, "peer", Kind::Peer);
-    let routes = items_of(table, "route", Kind::Route);
-    let rates = items_of(table, "rate", Kind::Rate);
+    let peers = items_of(table, "peer", TableKind::Peer);
+    let routes = items_of(table, "route", TableKind::Route);
+    let rates = items_of(table, "rate", TableKind::Rate);
     put_table(alloc, version, Spot::Tenant(tenant), table, found)?;
-    put_parts(alloc, version, tenant, Kind::Peer, peers, found)?;
-    put_parts(alloc, version, tenant, Kind::Route, routes, found)?;
-    put_parts(alloc, version, tenant, Kind::Rate, rates, found)
+    put_parts(alloc, version, tenant, TableKind::Peer, peers, found)?;
+    put_parts(alloc, version, tenant, TableKind::Route, routes, found)?;
+    put_parts(alloc, version, tenant, TableKind::Rate, rates, found)
 }
 
 fn put_tenant_in(
@@ -251,7 +251,7 @@ fn put_tenant_in(
 {
     match value.as_table() {
         Some(table) => {
-            let tenant = Place::new(Kind::Tenant, number, value);
+            let tenant = Place::new(TableKind::Tenant, number, value);
             put_tenant(alloc, version, tenant, table, found)
         }
         None => Ok(()),
@@ -279,7 +279,7 @@ fn ignored_by(alloc: Global, version: Version, table: &Table) -> Result<Vec<Igno
 {
     let mut found = Vec::new(alloc);
     put_table(alloc, version, Spot::Top, table, &mut found)?;
-    let tenants = items_of(table, "tenant", Kind::Tenant);
+    let tenants = items_of(table, "tenant", TableKind::Tenant);
     put_tenants(alloc, version, tenants, &mut found)?;
     Ok(found)
 }

@@ -10,9 +10,9 @@ ghost use Rattle.admin_text.specs.Setup.{start_of, version_of};
 ghost use Rattle.admin_text.specs.Versions.{version_numbered};
 ghost use Rattle.admin_text.specs.Keys.{items_under, role_under, peer_limits_of, bucket_terms_of, peer_terms_of, balance_of};
 
-use crate::places::Kind;
+use crate::expected::Expected;
+use crate::places::TableKind;
 use crate::version::{Version, version_numbered};
-use crate::wanted::Wanted;
 use crate::wrong::Wrong;
 use common_types::{AssetCode, Between, Name, Token};
 use ilp_addr::{Moment, OwnAddress, Target};
@@ -41,13 +41,13 @@ fn made<'a, T: Drop>(
     value: Option<T>,
     table: &'a Table,
     key: &'a str,
-    wanted: Wanted,
+    expected: Expected,
 ) -> Result<T, Wrong<'a>>
     ensures { result_ok result ≡ value }
 {
     match value {
         Some(value) => Ok(value),
-        None => Err(Wrong::at(table, key, wanted)),
+        None => Err(Wrong::at(table, key, expected)),
     }
 }
 
@@ -55,13 +55,13 @@ fn made<'a, T: Drop>(
 pub(crate) fn text_under<'a>(
     table: &'a Table,
     key: &'a str,
-    wanted: Wanted,
+    expected: Expected,
 ) -> Result<&'a str, Wrong<'a>>
     ensures { option_copied (result_ok result) ≡ string_under key.now (table_view table.now) }
 {
     match string_under(table, key) {
         Some(text) => Ok(text),
-        None => Err(Wrong::at(table, key, wanted)),
+        None => Err(Wrong::at(table, key, expected)),
     }
 }
 
@@ -70,12 +70,12 @@ pub(crate) fn text_under<'a>(
 pub(crate) fn name_under<'a>(
     table: &'a Table,
     key: &'a str,
-    wanted: Wanted,
+    expected: Expected,
 ) -> Result<Name, Wrong<'a>>
     ensures { result_ok result ≡ name_under key.now (table_view table.now) }
 {
-    let text = text_under(table, key, wanted)?;
-    made(Name::new(text.as_bytes()), table, key, wanted)
+    let text = text_under(table, key, expected)?;
+    made(Name::new(text.as_bytes()), table, key, expected)
 }
 
 /// The token at a key.
@@ -83,8 +83,8 @@ pub(crate) fn name_under<'a>(
 pub(crate) fn token_under<'a>(table: &'a Table, key: &'a str) -> Result<Token, Wrong<'a>>
     ensures { result_ok result ≡ token_under key.now (table_view table.now) }
 {
-    let text = text_under(table, key, Wanted::Token)?;
-    made(Token::new(text.as_bytes()), table, key, Wanted::Token)
+    let text = text_under(table, key, Expected::Token)?;
+    made(Token::new(text.as_bytes()), table, key, Expected::Token)
 }
 
 /// The tenant's address at a key.
@@ -92,12 +92,12 @@ pub(crate) fn token_under<'a>(table: &'a Table, key: &'a str) -> Result<Token, W
 pub(crate) fn address_under<'a>(table: &'a Table, key: &'a str) -> Result<OwnAddress, Wrong<'a>>
     ensures { result_ok result ≡ address_under key.now (table_view table.now) }
 {
-    let text = text_under(table, key, Wanted::Address)?;
+    let text = text_under(table, key, Expected::Address)?;
     made(
         OwnAddress::new(text.as_bytes()),
         table,
         key,
-        Wanted::Address,
+        Expected::Address,
     )
 }
 
@@ -105,8 +105,8 @@ pub(crate) fn address_under<'a>(table: &'a Table, key: &'a str) -> Result<OwnAdd
 fn asset_under<'a>(table: &'a Table, key: &'a str) -> Result<AssetCode, Wrong<'a>>
     ensures { result_ok result ≡ asset_under key.now (table_view table.now) }
 {
-    let text = text_under(table, key, Wanted::Asset)?;
-    made(AssetCode::new(text.as_bytes()), table, key, Wanted::Asset)
+    let text = text_under(table, key, Expected::Asset)?;
+    made(AssetCode::new(text.as_bytes()), table, key, Expected::Asset)
 }
 
 // Any token: what is no target with it has a bad URL.
@@ -116,14 +116,14 @@ const TOKEN: &[u8] = b"t";
 fn target_of(table: &Table) -> Result<Target, Wrong<'_>>
     ensures { result_ok result ≡ target_of (table_view table.now) }
 {
-    let url = text_under(table, "url", Wanted::Url)?;
-    let token = text_under(table, "out_token", Wanted::Token)?;
+    let url = text_under(table, "url", Expected::Url)?;
+    let token = text_under(table, "out_token", Expected::Token)?;
     match Target::new(url.as_bytes(), token.as_bytes()) {
         Some(target) => Ok(target),
         None if Target::new(url.as_bytes(), TOKEN).is_none() => {
-            Err(Wrong::at(table, "url", Wanted::Url))
+            Err(Wrong::at(table, "url", Expected::Url))
         }
-        None => Err(Wrong::at(table, "out_token", Wanted::Token)),
+        None => Err(Wrong::at(table, "out_token", Expected::Token)),
     }
 }
 
@@ -134,28 +134,28 @@ fn role_under<'a>(table: &'a Table, key: &'a str) -> Result<Role, Wrong<'a>>
     match string_under(table, key) {
         Some("child") => Ok(Role::Child),
         Some("peer") => Ok(Role::Peer),
-        _ => Err(Wrong::at(table, key, Wanted::Role)),
+        _ => Err(Wrong::at(table, key, Expected::Role)),
     }
 }
 
 #[tactic(auto, unfolding(crate::specs::Keys::integer_under))]
-fn integer_under<'a>(table: &'a Table, key: &'a str, wanted: Wanted) -> Result<i64, Wrong<'a>>
+fn integer_under<'a>(table: &'a Table, key: &'a str, expected: Expected) -> Result<i64, Wrong<'a>>
     ensures { result_ok result ≡ integer_under key.now (table_view table.now) }
 {
     let integer = match value_under(table, key) {
         Some(value) => value.as_integer(),
         None => None,
     };
-    made(integer, table, key, wanted)
+    made(integer, table, key, expected)
 }
 
 #[tactic(auto, unfolding(crate::specs::Keys::number_under))]
 fn u8_under<'a>(table: &'a Table, key: &'a str) -> Result<u8, Wrong<'a>>
     ensures { result_ok result ≡ number_under 8 key.now (table_view table.now) }
 {
-    let wanted = Wanted::Whole(0, u8::MAX as u64);
-    let integer = integer_under(table, key, wanted)?;
-    made(u8::try_from(integer).ok(), table, key, wanted)
+    let expected = Expected::Whole(0, u8::MAX as u64);
+    let integer = integer_under(table, key, expected)?;
+    made(u8::try_from(integer).ok(), table, key, expected)
 }
 
 /// The number at a key, which wants this.
@@ -163,12 +163,12 @@ fn u8_under<'a>(table: &'a Table, key: &'a str) -> Result<u8, Wrong<'a>>
 pub(crate) fn u64_under<'a>(
     table: &'a Table,
     key: &'a str,
-    wanted: Wanted,
+    expected: Expected,
 ) -> Result<u64, Wrong<'a>>
     ensures { result_ok result ≡ number_under 64 key.now (table_view table.now) }
 {
-    let integer = integer_under(table, key, wanted)?;
-    made(u64::try_from(integer).ok(), table, key, wanted)
+    let integer = integer_under(table, key, expected)?;
+    made(u64::try_from(integer).ok(), table, key, expected)
 }
 
 #[tactic(auto, unfolding(crate::specs::Keys::between_under))]
@@ -178,9 +178,9 @@ fn between_under<'a, const LOW: u64, const HIGH: u64>(
 ) -> Result<Between<LOW, HIGH>, Wrong<'a>>
     ensures { result_ok result ≡ between_under LOW HIGH key.now (table_view table.now) }
 {
-    let wanted = Wanted::Whole(LOW, HIGH);
-    let number = u64_under(table, key, wanted)?;
-    made(Between::new(number), table, key, wanted)
+    let expected = Expected::Whole(LOW, HIGH);
+    let number = u64_under(table, key, expected)?;
+    made(Between::new(number), table, key, expected)
 }
 
 #[tactic(auto, unfolding(crate::specs::Keys::number_or))]
@@ -188,12 +188,12 @@ fn u64_or<'a>(
     default: u64,
     table: &'a Table,
     key: &'a str,
-    wanted: Wanted,
+    expected: Expected,
 ) -> Result<u64, Wrong<'a>>
     ensures { result_ok result ≡ number_or default key.now (table_view table.now) }
 {
     match value_under(table, key) {
-        Some(_) => u64_under(table, key, wanted),
+        Some(_) => u64_under(table, key, expected),
         None => Ok(default),
     }
 }
@@ -206,9 +206,9 @@ pub(crate) fn between_or<'a, const LOW: u64, const HIGH: u64>(
 ) -> Result<Between<LOW, HIGH>, Wrong<'a>>
     ensures { result_ok result ≡ option_and_then (within LOW HIGH) (number_or default key.now (table_view table.now)) }
 {
-    let wanted = Wanted::Whole(LOW, HIGH);
-    let number = u64_or(default, table, key, wanted)?;
-    made(Between::new(number), table, key, wanted)
+    let expected = Expected::Whole(LOW, HIGH);
+    let number = u64_or(default, table, key, expected)?;
+    made(Between::new(number), table, key, expected)
 }
 
 #[tactic(auto, unfolding(crate::specs::Keys::integer_or))]
@@ -216,12 +216,12 @@ fn integer_or<'a>(
     default: i64,
     table: &'a Table,
     key: &'a str,
-    wanted: Wanted,
+    expected: Expected,
 ) -> Result<i64, Wrong<'a>>
     ensures { result_ok result ≡ integer_or default key.now (table_view table.now) }
 {
     match value_under(table, key) {
-        Some(_) => integer_under(table, key, wanted),
+        Some(_) => integer_under(table, key, expected),
         None => Ok(default),
     }
 }
@@ -231,7 +231,7 @@ fn integer_or<'a>(
 pub(crate) fn array_under<'a>(
     table: &'a Table,
     key: &'a str,
-    wanted: Wanted,
+    expected: Expected,
 ) -> Result<&'a [Value], Wrong<'a>>
     ensures { option_map (λ a. items_view a.now) (result_ok result) ≡ array_under key.now (table_view table.now) }
 {
@@ -241,7 +241,7 @@ pub(crate) fn array_under<'a>(
     };
     match array {
         Some(values) => Ok(values.as_slice()),
-        None => Err(Wrong::at(table, key, wanted)),
+        None => Err(Wrong::at(table, key, expected)),
     }
 }
 
@@ -250,18 +250,18 @@ pub(crate) fn array_under<'a>(
 pub(crate) fn items_under<'a>(
     table: &'a Table,
     key: &'a str,
-    kind: Kind,
+    kind: TableKind,
 ) -> Result<&'a [Value], Wrong<'a>>
     ensures { option_map (λ a. items_view a.now) (result_ok result) ≡ items_under key.now (table_view table.now) }
 {
     match value_under(table, key) {
-        Some(_) => array_under(table, key, Wanted::Tables(kind)),
+        Some(_) => array_under(table, key, Expected::Tables(kind)),
         None => Ok(&[]),
     }
 }
 
 /// The value, which is a table of that kind.
-pub(crate) fn table_in(value: &Value, kind: Kind) -> Result<&Table, Wrong<'_>>
+pub(crate) fn table_in(value: &Value, kind: TableKind) -> Result<&Table, Wrong<'_>>
     ensures { option_map (λ t. table_view t.now) (result_ok result) ≡ as_table (view value.now) }
 {
     match value.as_table() {
@@ -274,17 +274,22 @@ pub(crate) fn table_in(value: &Value, kind: Kind) -> Result<&Table, Wrong<'_>>
 pub(crate) fn version_of(table: &Table) -> Result<Version, Wrong<'_>>
     ensures { result_ok result ≡ version_of (table_view table.now) }
 {
-    let number = u64_under(table, "version", Wanted::Version)?;
-    made(version_numbered(number), table, "version", Wanted::Version)
+    let number = u64_under(table, "version", Expected::Version)?;
+    made(
+        version_numbered(number),
+        table,
+        "version",
+        Expected::Version,
+    )
 }
 
 /// When the setup starts.
 pub(crate) fn start_of(table: &Table) -> Result<Moment, Wrong<'_>>
     ensures { result_ok result ≡ start_of (table_view table.now) }
 {
-    let wanted = Wanted::Whole(0, Moment::MAX_MILLIS);
-    let millis = u64_under(table, "start", wanted)?;
-    made(Moment::new(millis), table, "start", wanted)
+    let expected = Expected::Whole(0, Moment::MAX_MILLIS);
+    let millis = u64_under(table, "start", expected)?;
+    made(Moment::new(millis), table, "start", expected)
 }
 
 fn peer_limits_of(table: &Table) -> Result<PeerLimits, Wrong<'_>>
@@ -312,7 +317,7 @@ pub(crate) fn peer_terms_of(table: &Table) -> Result<PeerTerms, Wrong<'_>>
     ensures { result_ok result ≡ peer_terms_of (table_view table.now) }
 {
     Ok(PeerTerms {
-        name: name_under(table, "name", Wanted::Name)?,
+        name: name_under(table, "name", Expected::Name)?,
         role: role_under(table, "role")?,
         token: token_under(table, "token")?,
         target: target_of(table)?,
@@ -328,6 +333,6 @@ pub(crate) fn peer_terms_of(table: &Table) -> Result<PeerTerms, Wrong<'_>>
 pub(crate) fn balance_of(table: &Table) -> Result<Balance, Wrong<'_>>
     ensures { result_ok result ≡ balance_of (table_view table.now) }
 {
-    let owed = integer_or(0, table, "balance", Wanted::Balance)?;
-    made(Balance::new(owed), table, "balance", Wanted::Balance)
+    let owed = integer_or(0, table, "balance", Expected::Balance)?;
+    made(Balance::new(owed), table, "balance", Expected::Balance)
 }

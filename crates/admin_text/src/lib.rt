@@ -2,6 +2,7 @@
 #![tactic(auto)]
 
 mod commands;
+mod expected;
 mod explained;
 mod ignored;
 mod keys;
@@ -13,14 +14,13 @@ mod setup;
 mod setup_text;
 mod tables;
 mod version;
-mod wanted;
 mod written;
 mod wrong;
 
 pub use commands::{TextFault, parse_command};
 pub use explained::{Explained, explain};
 pub use ignored::{IgnoredKey, ignored_keys};
-pub use places::{Kind, TablePlace};
+pub use places::{TableKind, TablePlace};
 pub use setup::{Setup, SetupFault, read_setup};
 pub use setup_text::write_setup;
 pub use tenant_core::limits::MAX_TENANTS;

@@ -13,14 +13,14 @@ ghost use Rattle.admin_text.specs.Outcomes.{known};
 ghost use Rattle.admin_text.specs.Keys.{string_under};
 ghost use Rattle.admin_text.specs.Prefixes.{written_prefix};
 
+use crate::expected::Expected;
 use crate::keys::{
     balance_of, between_or, items_under, name_under, peer_terms_of, string_under, table_in,
     text_under, u64_under,
 };
-use crate::places::{Kind, Place};
+use crate::places::{Place, TableKind};
 use crate::prefixes::written_prefix;
 use crate::version::{Version, has_fees};
-use crate::wanted::Wanted;
 use crate::wrong::{Key, TenantWrong, Wrong};
 use common_types::ReadError;
 use ilp_addr::Prefix;
@@ -39,7 +39,7 @@ const EMPTY: Level = Level {
 // What was read at a place, from 0, of a tenant's array of that kind.
 fn at_part<'a>(
     read: Result<Network, ReadError<Wrong<'a>>>,
-    kind: Kind,
+    kind: TableKind,
     at: usize,
     value: &'a Value,
 ) -> Result<Network, ReadError<TenantWrong<'a>>>
@@ -54,15 +54,15 @@ fn at_part<'a>(
 }
 
 // What the text at a key spells: a prefix may have a dot at its end.
-fn spelled_under<'a>(table: &'a Table, kind: Kind, key: &str) -> Option<&'a str> {
+fn spelled_under<'a>(table: &'a Table, kind: TableKind, key: &str) -> Option<&'a str> {
     let text = string_under(table, key)?;
     match kind {
-        Kind::Route => Some(text.strip_suffix('.').unwrap_or(text)),
-        Kind::Tenant | Kind::Peer | Kind::Rate => Some(text),
+        TableKind::Route => Some(text.strip_suffix('.').unwrap_or(text)),
+        TableKind::Tenant | TableKind::Peer | TableKind::Rate => Some(text),
     }
 }
 
-fn has_under(value: &Value, kind: Kind, key: &str, text: &str) -> bool {
+fn has_under(value: &Value, kind: TableKind, key: &str, text: &str) -> bool {
     match value.as_table() {
         Some(table) => spelled_under(table, kind, key) == Some(text),
         None => false,
@@ -70,7 +70,12 @@ fn has_under(value: &Value, kind: Kind, key: &str, text: &str) -> bool {
 }
 
 // That one of the values before it has the text at the key too.
-fn taken<'a>(before: &[Value], table: &'a Table, kind: Kind, key: &'a str) -> Option<Wrong<'a>> {
+fn taken<'a>(
+    before: &[Value],
+    table: &'a Table,
+    kind: TableKind,
+    key: &'a str,
+) -> Option<Wrong<'a>> {
     let text = spelled_under(table, kind, key)?;
     let at = before
         .iter()
@@ -83,7 +88,7 @@ fn refused<'a>(
     fault: CommandFault,
     before: &[Value],
     table: &'a Table,
-    kind: Kind,
+    kind: TableKind,
     keys: &[&'a str],
 ) -> Wrong<'a> {
     match fault {
@@ -105,14 +110,14 @@ fn with_peer_in<'a>(
 ) -> Result<Network, ReadError<Wrong<'a>>>
     ensures { IfSome (known result) (λ more. more ≡ with_peer_in network (view value.now)) }
 {
-    let table = table_in(value, Kind::Peer)?;
+    let table = table_in(value, TableKind::Peer)?;
     let terms = peer_terms_of(table)?;
     let balance = balance_of(table)?;
     match network.add_peer(terms, balance, EMPTY) {
         Ok(()) => Ok(network),
         Err(CommandFault::Memory) => Err(ReadError::Memory),
         Err(fault) => {
-            let wrong = refused(fault, before, table, Kind::Peer, &["name", "token"]);
+            let wrong = refused(fault, before, table, TableKind::Peer, &["name", "token"]);
             Err(ReadError::Fault(wrong))
         }
     }
@@ -125,7 +130,7 @@ fn with_peers_of(network: Network, values: &[Value]) -> Result<Network, ReadErro
     let mut network = network;
     for (at, value) in values.iter().enumerate() {
         let more = with_peer_in(network, &values[..at], value);
-        network = at_part(more, Kind::Peer, at, value)?;
+        network = at_part(more, TableKind::Peer, at, value)?;
     }
     Ok(network)
 }
@@ -135,7 +140,7 @@ fn peer_under<'a>(network: &Network, table: &'a Table, key: &'a str) -> Result<P
     ensures exact { result_ok result ≡ peer_under network.now key.now (table_view table.now) }
     ensures present { IfOk result (λ n. IsSome (peer_numbered n network.now.peers)) }
 {
-    let name = name_under(table, key, Wanted::PeerName)?;
+    let name = name_under(table, key, Expected::PeerName)?;
     match number_named(network, &name) {
         Some(number) => Ok(number),
         None => Err(Wrong::NoPeer(Key::of(table, key))),
@@ -146,10 +151,10 @@ fn prefix_of(alloc: Global, table: &Table) -> Result<Prefix, ReadError<Wrong<'_>
     ensures { IfSome (known result) (λ prefix. prefix ≡
         option_and_then written_prefix (string_under (codes "prefix") (table_view table.now))) }
 {
-    let text = text_under(table, "prefix", Wanted::Prefix)?;
+    let text = text_under(table, "prefix", Expected::Prefix)?;
     match written_prefix(alloc, text.as_bytes())? {
         Some(prefix) => Ok(prefix),
-        None => Err(ReadError::Fault(Wrong::at(table, "prefix", Wanted::Prefix))),
+        None => Err(ReadError::Fault(Wrong::at(table, "prefix", Expected::Prefix))),
     }
 }
 
@@ -175,7 +180,7 @@ fn with_route_in<'a>(
 ) -> Result<Network, ReadError<Wrong<'a>>>
     ensures { IfSome (known result) (λ more. more ≡ with_route_in version network (view value.now)) }
 {
-    let table = table_in(value, Kind::Route)?;
+    let table = table_in(value, TableKind::Route)?;
     let prefix = prefix_of(alloc, table)?;
     let peer = peer_under(&network, table, "peer")?;
     let fee = fee_of(version, table)?;
@@ -183,7 +188,7 @@ fn with_route_in<'a>(
         Ok(()) => Ok(network),
         Err(CommandFault::Memory) => Err(ReadError::Memory),
         Err(fault) => {
-            let wrong = refused(fault, before, table, Kind::Route, &["prefix"]);
+            let wrong = refused(fault, before, table, TableKind::Route, &["prefix"]);
             Err(ReadError::Fault(wrong))
         }
     }
@@ -201,13 +206,13 @@ fn with_routes_of(
     let mut network = network;
     for (at, value) in values.iter().enumerate() {
         let more = with_route_in(alloc, version, network, &values[..at], value);
-        network = at_part(more, Kind::Route, at, value)?;
+        network = at_part(more, TableKind::Route, at, value)?;
     }
     Ok(network)
 }
 
 // A term of a rate.
-const TERM: Wanted = Wanted::Whole(1, Rate::MAX_TERM);
+const TERM: Expected = Expected::Whole(1, Rate::MAX_TERM);
 
 // The rate of a table's two numbers.
 fn rate_between(table: &Table, num: u64, den: u64) -> Result<Rate, Wrong<'_>>
@@ -247,12 +252,12 @@ fn rate_of<'a>(network: &Network, table: &'a Table) -> Result<RateTerms, Wrong<'
 fn with_rate_in(mut network: Network, value: &Value) -> Result<Network, ReadError<Wrong<'_>>>
     ensures { IfSome (known result) (λ more. more ≡ with_rate_in network (view value.now)) }
 {
-    let table = table_in(value, Kind::Rate)?;
+    let table = table_in(value, TableKind::Rate)?;
     let rate = rate_of(&network, table)?;
     match network.set_rate(&rate) {
         Ok(()) => Ok(network),
         Err(CommandFault::Memory) => Err(ReadError::Memory),
-        Err(fault) => Err(ReadError::Fault(refused(fault, &[], table, Kind::Rate, &[]))),
+        Err(fault) => Err(ReadError::Fault(refused(fault, &[], table, TableKind::Rate, &[]))),
     }
 }
 
@@ -263,7 +268,7 @@ fn with_rates_of(network: Network, values: &[Value]) -> Result<Network, ReadErro
     let mut network = network;
     for (at, value) in values.iter().enumerate() {
         let more = with_rate_in(network, value);
-        network = at_part(more, Kind::Rate, at, value)?;
+        network = at_part(more, TableKind::Rate, at, value)?;
     }
     Ok(network)
 }
@@ -277,9 +282,9 @@ pub(crate) fn network_of(
 ) -> Result<Network, ReadError<TenantWrong<'_>>>
     ensures { IfSome (known result) (λ network. network ≡ network_of version (table_view table.now)) }
 {
-    let peers = items_under(table, "peer", Kind::Peer)?;
-    let routes = items_under(table, "route", Kind::Route)?;
-    let rates = items_under(table, "rate", Kind::Rate)?;
+    let peers = items_under(table, "peer", TableKind::Peer)?;
+    let routes = items_under(table, "route", TableKind::Route)?;
+    let rates = items_under(table, "rate", TableKind::Rate)?;
     let network = with_peers_of(Network::new(alloc), peers)?;
     let network = with_routes_of(alloc, version, network, routes)?;
     with_rates_of(network, rates)

@@ -4,47 +4,47 @@
 ghost use Rattle.std.specs.Prelude.{◌≡◌};
 ghost use Rattle.admin_text.specs.Ignored.{place_of};
 
+use crate::expected::Shown;
 use crate::keys::string_under;
-use crate::wanted::Shown;
 use std::fmt;
 use toml::{Table, Value};
 
 /// What a setup, or a tenant, has several of.
 #[derive(Clone, Copy, Debug, PartialEq, Eq)]
-pub enum Kind {
+pub enum TableKind {
     Tenant,
     Peer,
     Route,
     Rate,
 }
 
-impl Kind {
+impl TableKind {
     /// The word for one.
     pub(crate) fn word(self) -> &'static str {
         match self {
-            Kind::Tenant => "tenant",
-            Kind::Peer => "peer",
-            Kind::Route => "route",
-            Kind::Rate => "rate",
+            TableKind::Tenant => "tenant",
+            TableKind::Peer => "peer",
+            TableKind::Route => "route",
+            TableKind::Rate => "rate",
         }
     }
 
     /// What the header of one says.
     pub(crate) fn header(self) -> &'static str {
         match self {
-            Kind::Tenant => "tenant",
-            Kind::Peer => "tenant.peer",
-            Kind::Route => "tenant.route",
-            Kind::Rate => "tenant.rate",
+            TableKind::Tenant => "tenant",
+            TableKind::Peer => "tenant.peer",
+            TableKind::Route => "tenant.route",
+            TableKind::Rate => "tenant.rate",
         }
     }
 
     // Writes the names that one gives itself.
     fn write_names<W: fmt::Write>(self, f: &mut fmt::Formatter<W>, table: &Table) -> fmt::Result {
         match self {
-            Kind::Tenant | Kind::Peer => write_word(f, table, "name"),
-            Kind::Route => write_word(f, table, "prefix"),
-            Kind::Rate => {
+            TableKind::Tenant | TableKind::Peer => write_word(f, table, "name"),
+            TableKind::Route => write_word(f, table, "prefix"),
+            TableKind::Rate => {
                 write_word(f, table, "from")?;
                 f.write_str(" to")?;
                 write_word(f, table, "to")
@@ -56,13 +56,13 @@ impl Kind {
 /// One of a kind, by its number and what stands there.
 #[derive(Clone, Copy)]
 pub(crate) struct Place<'a> {
-    pub(crate) kind: Kind,
+    pub(crate) kind: TableKind,
     pub(crate) number: usize,
     value: &'a Value,
 }
 
 impl<'a> Place<'a> {
-    pub(crate) fn new(kind: Kind, number: usize, value: &'a Value) -> Place<'a>
+    pub(crate) fn new(kind: TableKind, number: usize, value: &'a Value) -> Place<'a>
         ensures kind { result.kind ≡ kind }
         ensures number { result.number ≡ number }
     {
@@ -110,7 +110,7 @@ pub enum TablePlace {
     /// That of the tenant of that number, from 0.
     Tenant(usize),
     /// Of the tenant of the first number, from 0, that of the peer, route or rate of the second, from 1.
-    Part(usize, Kind, usize),
+    Part(usize, TableKind, usize),
 }
 
 /// A table of a setup, as people find it.

@@ -16,17 +16,17 @@ ghost use Rattle.admin_text.specs.Tenants.{is_there, unless_there, some_tenants,
 ghost use Rattle.admin_text.specs.Setup.{setup_of_table, setup_of};
 ghost use Rattle.admin_text.specs.Wrong.{told};
 
+use crate::expected::Expected;
 use crate::keys::{
     address_under, array_under, between_or, name_under, start_of, table_in, token_under, version_of,
 };
 use crate::networks::network_of;
-use crate::places::{Kind, Place};
+use crate::places::{Place, TableKind};
 use crate::version::Version;
-use crate::wanted::Wanted;
 use crate::wrong::{Key, SetupWrong, TenantWrong, Wrong};
 use common_types::{Between, Items, Name, ReadError, Token};
 use ilp_addr::{Moment, OwnAddress};
-use std::alloc::Global;
+use std::alloc::{AllocError, Global};
 use tenant_core::limits::{MAX_HOLD, MAX_JOURNAL, MAX_MARGIN, MAX_TENANTS};
 use tenant_core::{Network, TenantSetup, TenantTerms};
 use thiserror::Error;
@@ -56,6 +56,22 @@ pub struct Setup {
     pub tenants: Items<TenantSetup>,
 }
 
+impl Setup {
+    ghost use Rattle.std.specs.Prelude.{◌≡◌, map, IfOk};
+
+    /// The names of the tenants, in their order. The one error is want of memory.
+    pub fn names(&self, alloc: Global) -> Result<Vec<Name>, AllocError>
+        ensures { IfOk result (λ names. names.items ≡ map (λ t. t.name) self.now.tenants) }
+    {
+        let tenants = self.tenants.as_slice();
+        let mut names = Vec::with_capacity(alloc, tenants.len())?;
+        for tenant in tenants {
+            names.push_reserved(tenant.terms().name.copy());
+        }
+        Ok(names)
+    }
+}
+
 // What the keys of a tenant's table say, but for whom it deals with.
 #[derive(Drop)]
 struct OwnTerms {
@@ -71,7 +87,7 @@ fn own_terms_of(table: &Table) -> Result<OwnTerms, Wrong<'_>>
     ensures { result_ok result ≡ own_terms_of (table_view table.now) }
 {
     Ok(OwnTerms {
-        name: name_under(table, "name", Wanted::Name)?,
+        name: name_under(table, "name", Expected::Name)?,
         address: address_under(table, "address")?,
         admin: token_under(table, "admin")?,
         journal: between_or(1024, table, "journal")?,
@@ -130,11 +146,15 @@ fn new_tenant<'a>(
     ensures { IfSome (known result) (λ tenant. tenant ≡
         option_and_then (unless_there tenants.now) (option_and_then (tenant_of_table version) (as_table (view value.now)))) }
 {
-    let table = table_in(value, Kind::Tenant)?;
+    let table = table_in(value, TableKind::Tenant)?;
     let own = own_terms_of(table)?;
     if is_there(tenants, &own.name) {
         let number = number_of(tenants, &own.name);
-        return Err(ReadError::from(Wrong::Taken(Key::of(table, "name"), Kind::Tenant, number)));
+        return Err(ReadError::from(Wrong::Taken(
+            Key::of(table, "name"),
+            TableKind::Tenant,
+            number,
+        )));
     }
     let network = network_of(alloc, version, table)?;
     Ok(own.with(network))
@@ -158,7 +178,7 @@ fn next_tenant<'a>(
         Ok(tenant) => Ok(tenant),
         Err(ReadError::Memory) => Err(ReadError::Memory),
         Err(ReadError::Fault(wrong)) => {
-            let place = Place::new(Kind::Tenant, number, value);
+            let place = Place::new(TableKind::Tenant, number, value);
             Err(ReadError::Fault(SetupWrong::InTenant(place, wrong)))
         }
     }
@@ -191,7 +211,7 @@ fn some_tenants<'a>(
 {
     match values {
         [] => {
-            let wrong = Wrong::Key(key, Wanted::Tenants);
+            let wrong = Wrong::Key(key, Expected::Tenants);
             Err(ReadError::Fault(SetupWrong::NoTenants(wrong)))
         }
         [_, ..] => tenants_of_items(alloc, version, values),
@@ -207,7 +227,7 @@ fn tenants_of_array(
     ensures { GivesUnlessMemory (λ tenants. tenants.items) (told result)
         (tenants_of_array version (array_under (codes "tenant") (table_view table.now))) }
 {
-    match array_under(table, "tenant", Wanted::Tenants) {
+    match array_under(table, "tenant", Expected::Tenants) {
         Ok(values) => some_tenants(alloc, version, Key::of(table, "tenant"), values),
         Err(wrong) => Err(ReadError::Fault(SetupWrong::NoTenants(wrong))),
     }
@@ -263,7 +283,7 @@ pub(crate) fn document_of(alloc: Global, text: &[u8]) -> Result<Table, ReadError
 /// - A rate: `from` and `to`, peers' names, `num` and `den`. Of two for the same ordered pair the later counts.
 ///
 /// The faults are looked for in the order of [`SetupFault`]; a key that lacks or is of another kind
-/// than wanted, and a limit of [`TenantSetup::new`] that is broken, is a fault of its tenant.
+/// than expected, and a limit of [`TenantSetup::new`] that is broken, is a fault of its tenant.
 pub fn read_setup(alloc: Global, text: &[u8]) -> Result<Setup, ReadError<SetupFault>>
     ensures exact { GivesUnlessMemory (λ s. s) result (setup_of text.now) }
 {

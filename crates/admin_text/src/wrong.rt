@@ -1,8 +1,8 @@
 //! What is wrong with a setup, and its words for people.
 
-use crate::places::{Kind, Place};
+use crate::expected::{Expected, Right, Shown};
+use crate::places::{Place, TableKind};
 use crate::setup::SetupFault;
-use crate::wanted::{Right, Shown, Wanted};
 use common_types::ReadError;
 use route_table::MAX_ROUTES;
 use std::fmt;
@@ -40,25 +40,25 @@ impl fmt::Display for Key<'_> {
 #[derive(Clone, Copy)]
 pub(crate) enum Wrong<'a> {
     /// It is no table.
-    NoTable(Kind),
+    NoTable(TableKind),
     /// The key wants something else.
-    Key(Key<'a>, Wanted),
+    Key(Key<'a>, Expected),
     /// No peer of the tenant has the name at the key.
     NoPeer(Key<'a>),
     /// A rate goes to the peer that it comes from.
     SamePeer(Key<'a>),
     /// The other of that kind and number has what stands at the key.
-    Taken(Key<'a>, Kind, usize),
+    Taken(Key<'a>, TableKind, usize),
     /// There are too many of that kind.
-    TooMany(Kind),
+    TooMany(TableKind),
     /// A command for it would be refused.
     Refused(CommandFault),
 }
 
 impl<'a> Wrong<'a> {
     /// The key of the table wants something else than what stands there.
-    pub(crate) fn at(table: &'a Table, key: &'a str, wanted: Wanted) -> Wrong<'a> {
-        Wrong::Key(Key::of(table, key), wanted)
+    pub(crate) fn at(table: &'a Table, key: &'a str, expected: Expected) -> Wrong<'a> {
+        Wrong::Key(Key::of(table, key), expected)
     }
 }
 
@@ -77,9 +77,9 @@ impl fmt::Display for Wrong<'_> {
     fn fmt<W: fmt::Write>(&self, f: &mut fmt::Formatter<W>) -> fmt::Result {
         match *self {
             Wrong::NoTable(kind) => write!(f, "a table, begun by [[{}]]", kind.header()),
-            Wrong::Key(key, wanted) => {
+            Wrong::Key(key, expected) => {
                 let found = key.found;
-                write!(f, "{key}: {}", Right { wanted, found })
+                write!(f, "{key}: {}", Right { expected, found })
             }
             Wrong::NoPeer(key) => write!(f, "{key}: no peer of this tenant has that name"),
             Wrong::SamePeer(key) => write!(f, "{key}: another peer than from names"),
@@ -87,10 +87,16 @@ impl fmt::Display for Wrong<'_> {
                 let (word, name) = (kind.word(), key.name);
                 write!(f, "{key}: {word} {number} has that {name} too")
             }
-            Wrong::TooMany(Kind::Tenant) => write!(f, "a setup has at most {MAX_TENANTS} tenants"),
-            Wrong::TooMany(Kind::Peer) => write!(f, "a tenant has at most {MAX_PEERS} peers"),
-            Wrong::TooMany(Kind::Route) => write!(f, "a tenant has at most {MAX_ROUTES} routes"),
-            Wrong::TooMany(Kind::Rate) => {
+            Wrong::TooMany(TableKind::Tenant) => write!(
+                f,
+                "a setup has at most {MAX_TENANTS} tenants"
+            ),
+            Wrong::TooMany(TableKind::Peer) => write!(f, "a tenant has at most {MAX_PEERS} peers"),
+            Wrong::TooMany(TableKind::Route) => write!(
+                f,
+                "a tenant has at most {MAX_ROUTES} routes"
+            ),
+            Wrong::TooMany(TableKind::Rate) => {
                 write!(
                     f,
                     "its rates are for more than {MAX_RATES} ordered pairs of peers"
@@ -125,7 +131,8 @@ impl<'a> From<Wrong<'a>> for ReadError<TenantWrong<'a>> {
 impl fmt::Display for TenantWrong<'_> {
     fn fmt<W: fmt::Write>(&self, f: &mut fmt::Formatter<W>) -> fmt::Result {
         match *self {
-            TenantWrong::Own(wrong) | TenantWrong::Part(_, wrong @ Wrong::TooMany(Kind::Rate)) => {
+            TenantWrong::Own(wrong)
+            | TenantWrong::Part(_, wrong @ Wrong::TooMany(TableKind::Rate)) => {
                 write!(f, "{wrong}")
             }
             TenantWrong::Part(part, wrong) => write!(f, "{part}: {wrong}"),
@@ -169,7 +176,7 @@ impl fmt::Display for SetupWrong<'_> {
             | SetupWrong::AtStart(wrong)
             | SetupWrong::NoTenants(wrong) => write!(f, "{wrong}"),
             SetupWrong::OneTooMany(number) => {
-                let (kind, wrong) = (Kind::Tenant, Wrong::TooMany(Kind::Tenant));
+                let (kind, wrong) = (TableKind::Tenant, Wrong::TooMany(TableKind::Tenant));
                 write!(f, "{} {number}: {wrong}", kind.word())
             }
             SetupWrong::InTenant(tenant, wrong) => write!(f, "{tenant}: {wrong}"),

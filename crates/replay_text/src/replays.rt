@@ -1,6 +1,6 @@
 //! Replays of scripts.
 
-ghost use Rattle.std.specs.Prelude.{◌≡◌, ◌≢◌, ◌≤◌, ◌<◌, ◌⊎◌, ◌↔◌, ◌+◌, ◌∷◌, [], ℕ, List, OnOk, OnErr, IfOk, IfErr, IfSome, IsOk, None, Ok, Err, map, length};
+ghost use Rattle.std.specs.Prelude.{◌≡◌, ◌≢◌, ◌≤◌, ◌<◌, ◌⊎◌, ◌↔◌, ◌+◌, ◌∷◌, [], ℕ, List, OnOk, OnErr, IfOk, IfErr, IfSome, IsOk, None, Ok, Err, length};
 ghost use Rattle.std.specs.Io.KnownBytes.{Keeps, Appends};
 ghost use Rattle.replay_text.specs.Replay.{names_in, refusal_of, IsRefusedBy, Prints, WritesAll, LeavesWritten};
 ghost use Rattle.replay_text.specs.Replay.{IsReplayedFor, LeavesWrittenFor, WritesDone, WritesLines, WritesSome, world_of_setup};
@@ -21,7 +21,6 @@ use floor_core::{Floor, Step};
 use oer_core::Device;
 use std::alloc::{AllocError, Global};
 use std::io::{Read, Write};
-use tenant_core::TenantSetup;
 use thiserror::Error;
 
 /// How many bytes of lines are written as soon as there are so many.
@@ -78,17 +77,6 @@ impl ReplayFault {
             ReplayFault::Device => 5,
         }
     }
-}
-
-// The names of the tenants, in their order.
-fn names_of(alloc: Global, tenants: &[TenantSetup]) -> Result<Vec<Name>, AllocError>
-    ensures { IfOk result (λ names. names.items ≡ map (λ t. t.name) tenants.now) }
-{
-    let mut names = Vec::with_capacity(alloc, tenants.len())?;
-    for tenant in tenants {
-        names.push_reserved(tenant.terms().name.copy());
-    }
-    Ok(names)
 }
 
 // Does a step, and puts the lines of its output behind a text.
@@ -311,7 +299,7 @@ fn replay_for<R: Read + Device, W: Write + Device>(
         → IfSome (R.remaining reader.old) (λ script. refusal_of (Ok setup.now) workers script ≡ None) }
     ensures taken { ConsumesAtMost 16_777_217 (R.remaining reader.old) (R.remaining reader.new) }
 {
-    let Ok(names) = names_of(alloc, setup.tenants.as_slice()) else {
+    let Ok(names) = setup.names(alloc) else {
         return Err(ReplayFault::Memory);
     };
     let script = good_script(alloc, setup, names.as_slice(), workers, reader)?;

@@ -22,14 +22,6 @@ fn setup_of(alloc: Global, text: &[u8]) -> Result<Setup, Fault> {
     }
 }
 
-fn names_of(alloc: Global, setup: &Setup) -> Result<Vec<Name>, Fault> {
-    let mut names = Vec::new(alloc);
-    for tenant in setup.tenants.as_slice() {
-        names.push(tenant.terms().name.copy())?;
-    }
-    Ok(names)
-}
-
 fn floor_of(alloc: Global, setup: &Setup) -> Result<Floor, Fault> {
     let tenants = setup.tenants.as_slice();
     if tenants.is_empty() || tenants.len() > 64 {
@@ -125,7 +117,7 @@ pub struct Told {
 /// Runs the steps of a script as one list, and behind a refusal the rest of them, for the tenants of a setup.
 pub fn tell(alloc: Global, setup: &[u8], script: &str) -> Result<Told, Fault> {
     let setup = setup_of(alloc, setup)?;
-    let names = names_of(alloc, &setup)?;
+    let names = setup.names(alloc)?;
     let mut rooms = rooms_for(alloc, script)?;
     let steps = steps_of(alloc, names.as_slice(), script, rooms.as_mut_slice())?;
     let mut floor = floor_of(alloc, &setup)?;

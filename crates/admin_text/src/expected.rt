@@ -1,16 +1,16 @@
 //! What each key of a setup wants, and its words for people.
 
-use crate::places::Kind;
+use crate::places::TableKind;
 use std::fmt;
 use tenant_core::limits::{MAX_MONEY, MAX_TENANTS};
 use toml::Value;
 
 /// What may stand at a key.
 #[derive(Clone, Copy)]
-pub(crate) enum Wanted {
+pub(crate) enum Expected {
     Version,
     Tenants,
-    Tables(Kind),
+    Tables(TableKind),
     Name,
     Token,
     Address,
@@ -25,61 +25,55 @@ pub(crate) enum Wanted {
     Balance,
 }
 
-impl Wanted {
-    fn words(self) -> &'static str {
-        match self {
-            Wanted::Version => "1 and 2 are the versions",
-            Wanted::Tenants | Wanted::Tables(_) => "an array of tables",
-            Wanted::Name => "a text of 1 to 32 of a-z 0-9 -",
-            Wanted::Token => "a text of 1 to 64 of A-Z a-z 0-9 - . _ ~ + / =",
-            Wanted::Address => {
-                "an address as \"g.acme\", of at most 900 bytes: one of the schemes g private example self test \
-                test1 test2 test3 local, and segments of A-Z a-z 0-9 _ ~ -"
-            }
-            Wanted::Role => "\"child\" or \"peer\"",
-            Wanted::Url => {
-                "\"http://HOST/PATH\" or \"http://HOST:PORT/PATH\", of at most 255 bytes, HOST being localhost, an \
-                IPv4 address, or an IPv6 address in brackets"
-            }
-            Wanted::Asset => "a text of 1 to 16 of A-Z a-z 0-9",
-            Wanted::Prefix => {
-                "an address as \"g.acme.bob\", a scheme as \"g\", or \"*\" for every destination"
-            }
-            Wanted::PeerName => "the name of a peer of this tenant",
-            Wanted::Whole(_, _) | Wanted::Balance => "a whole number",
-        }
-    }
-}
-
 /// What would be right at a key, where this value is wrong or nothing stands there.
 #[derive(Clone, Copy)]
 pub(crate) struct Right<'a> {
-    pub(crate) wanted: Wanted,
+    pub(crate) expected: Expected,
     pub(crate) found: Option<&'a Value>,
 }
 
 impl fmt::Display for Right<'_> {
     fn fmt<W: fmt::Write>(&self, f: &mut fmt::Formatter<W>) -> fmt::Result {
-        match (self.wanted, self.found) {
-            (Wanted::Whole(least, most), Some(Value::Integer(number))) => {
+        match (self.expected, self.found) {
+            (Expected::Whole(least, most), Some(Value::Integer(number))) => {
                 match u64::try_from(*number) {
                     Ok(number) if number >= least => write!(f, "at most {most}"),
                     _ => write!(f, "at least {least}"),
                 }
             }
-            (Wanted::Whole(least, most), _) => write!(f, "a whole number from {least} to {most}"),
-            (Wanted::Balance, Some(Value::Integer(number))) if *number < 0 => {
+            (Expected::Whole(least, most), _) => write!(f, "a whole number from {least} to {most}"),
+            (Expected::Balance, Some(Value::Integer(number))) if *number < 0 => {
                 write!(f, "at least -{MAX_MONEY}")
             }
-            (Wanted::Balance, Some(Value::Integer(_))) => write!(f, "at most {MAX_MONEY}"),
-            (Wanted::Balance, _) => { write!(f, "a whole number from -{MAX_MONEY} to {MAX_MONEY}") }
-            (Wanted::Tenants, _) => {
+            (Expected::Balance, Some(Value::Integer(_))) => write!(f, "at most {MAX_MONEY}"),
+            (Expected::Balance, _) => {
+                write!(f, "a whole number from -{MAX_MONEY} to {MAX_MONEY}")
+            }
+            (Expected::Tenants, _) => {
                 write!(f, "1 to {MAX_TENANTS} tables, each begun by [[tenant]]")
             }
-            (Wanted::Tables(kind), _) => {
+            (Expected::Tables(kind), _) => {
                 write!(f, "an array of tables, each begun by [[{}]]", kind.header())
             }
-            (wanted, _) => f.write_str(wanted.words()),
+            (Expected::Version, _) => f.write_str("1 and 2 are the versions"),
+            (Expected::Name, _) => f.write_str("a text of 1 to 32 of a-z 0-9 -"),
+            (Expected::Token, _) => {
+                f.write_str("a text of 1 to 64 of A-Z a-z 0-9 - . _ ~ + / =")
+            }
+            (Expected::Address, _) => f.write_str(
+                "an address as \"g.acme\", of at most 900 bytes: one of the schemes g private example self test \
+                test1 test2 test3 local, and segments of A-Z a-z 0-9 _ ~ -",
+            ),
+            (Expected::Role, _) => f.write_str("\"child\" or \"peer\""),
+            (Expected::Url, _) => f.write_str(
+                "\"http://HOST/PATH\" or \"http://HOST:PORT/PATH\", of at most 255 bytes, HOST being localhost, an \
+                IPv4 address, or an IPv6 address in brackets",
+            ),
+            (Expected::Asset, _) => f.write_str("a text of 1 to 16 of A-Z a-z 0-9"),
+            (Expected::Prefix, _) => f.write_str(
+                "an address as \"g.acme.bob\", a scheme as \"g\", or \"*\" for every destination",
+            ),
+            (Expected::PeerName, _) => f.write_str("the name of a peer of this tenant"),
         }
     }
 }
