@@ -4,6 +4,7 @@ pub mod Heads
 pub mod Grammars
 pub mod Growing
 pub mod Serving
+pub mod HostServing
 pub mod Client
 pub mod Takes
 pub mod ChunkedBodies

@@ -1,7 +1,7 @@
 -- The texts of answers (RFC 9112, 4; RFC 9110, 8.3, 8.6, 10.2.1 and 11.6.1).
 use Rattle.std.specs.Prelude.{ℕ, List, [], ◌++◌, length, Bool, true, ◌||◌, ◌==◌, if◌then◌else◌, codes, decimal}
-use Rattle.http_link.specs.declared.request.Kind.{Kind}
-use Rattle.http_link.specs.declared.request.Kind.TheVariants.{Ilp, Admin}
+use Rattle.http_link.specs.declared.request.RequestKind.{RequestKind}
+use Rattle.http_link.specs.declared.request.RequestKind.TheVariants.{Ilp, Admin}
 
 -- a line with its end
 abbrev pub line : List ℕ → List ℕ
@@ -19,12 +19,12 @@ reason_of status =
     else (if status == 413 then codes "Content Too Large" else codes "Service Unavailable"))))))
 
 -- what a service's answers are (RFC 9110, 8.3)
-abbrev pub media_type : Kind → List ℕ
+abbrev pub media_type : RequestKind → List ℕ
 media_type Ilp = codes "application/octet-stream"
 media_type Admin = codes "text/plain"
 
 -- the line that goes with some statuses (RFC 9110, 8.3, 10.2.1 and 11.6.1)
-abbrev pub status_line : Kind → ℕ → List ℕ
+abbrev pub status_line : RequestKind → ℕ → List ℕ
 status_line kind status =
     if status == 200 then line (codes "Content-Type: " ++ media_type kind)
     else (if status == 405 then line (codes "Allow: POST")
@@ -34,14 +34,18 @@ status_line kind status =
 abbrev pub close_line : Bool → List ℕ
 close_line closes = if closes then line (codes "Connection: close") else []
 
--- the head of an answer whose body has that length
-abbrev pub answer_head : Kind → ℕ → ℕ → Bool → List ℕ
-answer_head kind status size closes =
+-- the head of an answer with a line of its own, whose body has that length
+abbrev pub head_with : List ℕ → ℕ → ℕ → Bool → List ℕ
+head_with own status size closes =
     line (codes "HTTP/1.1 " ++ decimal status ++ codes " " ++ reason_of status)
-    ++ status_line kind status
+    ++ own
     ++ line (codes "Content-Length: " ++ decimal size)
     ++ close_line closes
     ++ codes "\r\n"
+
+-- the head of an answer to a request of a kind
+abbrev pub answer_head : RequestKind → ℕ → ℕ → Bool → List ℕ
+answer_head kind status size closes = head_with (status_line kind status) status size closes
 
 -- a service's status as it is told: any other than these is 503 (RFC 9110, 15.6.4)
 abbrev pub told : ℕ → ℕ
@@ -52,7 +56,7 @@ abbrev pub told_body : ℕ → List ℕ → List ℕ
 told_body status body = if status == 200 then body else []
 
 -- the answer with a service's status, and its bytes where that is 200
-abbrev pub answer_text : Kind → ℕ → List ℕ → Bool → List ℕ
+abbrev pub answer_text : RequestKind → ℕ → List ℕ → Bool → List ℕ
 answer_text kind status body closes =
     answer_head kind (told status) (length (told_body status body)) closes ++ told_body status body
 

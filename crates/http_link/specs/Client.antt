@@ -11,7 +11,7 @@ use Rattle.http_link.specs.declared.posting.PostFault.TheVariants.{Read, Write, 
 use Rattle.http_link.specs.declared.posting.PostFault.TheVariants.{Size}
 use Rattle.http_link.specs.declared.streams.LinkFault.{LinkFault}
 use Rattle.http_link.specs.declared.streams.LinkFault.TheVariants as links
-use Rattle.http_link.specs.Fields.{Standing, missing, once, repeated, standing, value_of, is_chunked, is_length}
+use Rattle.http_link.specs.Fields.{Occurrence, missing, once, repeated, occurrence, value_of, is_chunked, is_length}
 use Rattle.http_link.specs.Limits.{max_answer}
 use Rattle.http_link.specs.Heads.{BeginsAnswer, Reply, reply_of}
 use Rattle.http_link.specs.Answers.{line}
@@ -55,7 +55,7 @@ MeansCoded true rest meaning = (body : Body) × IsChunked max_answer rest body �
 MeansCoded false rest meaning = meaning ≡ Err Unframed
 
 -- a body by the lines on its coding and its length (RFC 9112, 6.3)
-abbrev pub MeansBody : (minor : ℕ) → (coded length : Standing) → List ℕ → Result (List ℕ) PostFault → Type 0
+abbrev pub MeansBody : (minor : ℕ) → (coded length : Occurrence) → List ℕ → Result (List ℕ) PostFault → Type 0
 MeansBody minor missing missing rest meaning = meaning ≡ body_to_end rest
 MeansBody minor missing (once text) rest meaning =
     meaning ≡ (if is_length text then sized_body (value_of text) rest else Err Unframed)
@@ -68,7 +68,7 @@ MeansBody minor repeated length rest meaning = meaning ≡ Err Unframed
 -- what the last head of an answer and the bytes behind it mean, by its status (RFC 9110, 15.3.1)
 abbrev pub MeansFinal : Bool → Reply → List ℕ → Result (List ℕ) PostFault → Type 0
 MeansFinal true reply rest meaning =
-    MeansBody reply.minor (standing (codes "Transfer-Encoding") reply.lines) (standing (codes "Content-Length") reply.lines)
+    MeansBody reply.minor (occurrence (codes "Transfer-Encoding") reply.lines) (occurrence (codes "Content-Length") reply.lines)
     rest meaning
 MeansFinal false reply rest meaning = meaning ≡ Err Status
 

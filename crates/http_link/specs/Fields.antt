@@ -15,19 +15,19 @@ abbrev pub values_of : List ℕ → List Line → List (List ℕ)
 values_of name lines = map (λ line. line.1) (filter (λ line. str_eq_ignore_ascii_case line.0 name) lines)
 
 -- a name stands in no line, in one, or in more
-pub data Standing : Type 0 where
-  missing repeated : Standing
-  once : List ℕ → Standing
+pub data Occurrence : Type 0 where
+  missing repeated : Occurrence
+  once : List ℕ → Occurrence
 
 -- how the name of these values stands
-abbrev pub standing_of : List (List ℕ) → Standing
-standing_of [] = missing
-standing_of (value ∷ []) = once value
-standing_of (first ∷ second ∷ more) = repeated
+abbrev pub occurrence_in : List (List ℕ) → Occurrence
+occurrence_in [] = missing
+occurrence_in (value ∷ []) = once value
+occurrence_in (first ∷ second ∷ more) = repeated
 
 -- how a name stands in some lines
-abbrev pub standing : List ℕ → List Line → Standing
-standing name lines = standing_of (values_of name lines)
+abbrev pub occurrence : List ℕ → List Line → Occurrence
+occurrence name lines = occurrence_in (values_of name lines)
 
 -- an element of a list is a word, in any case, with optional white space around it (RFC 9110, 5.6.1)
 abbrev pub is_element : List ℕ → List ℕ → Bool

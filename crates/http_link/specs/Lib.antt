@@ -12,6 +12,7 @@ pub mod Grammars
 pub mod GrammarLaws
 pub mod Reading
 pub mod Serving
+pub mod HostDoor
 pub mod Running
 pub mod Connections
 pub mod InboxKept

@@ -3,7 +3,7 @@ use Rattle.std.specs.Prelude.{ℕ, ◌+◌}
 use Rattle.http_link.specs.declared.chunks.TheConstants.{MAX_CHUNK_LINE}
 use Rattle.http_link.specs.declared.head.TheConstants.{MAX_HEAD, MAX_LINES}
 use Rattle.http_link.specs.declared.line_buffer.TheConstants.{MAX_WRITTEN}
-use Rattle.http_link.specs.declared.posting.TheConstants.{MAX_ANSWER, MAX_HEADS}
+use Rattle.http_link.specs.declared.posting.TheConstants.{MAX_PEER_ANSWER, MAX_HEADS}
 use Rattle.http_link.specs.declared.request.TheConstants.{MAX_BODY, MAX_COMMAND}
 use Rattle.http_link.specs.declared.streams.TheConstants.{MAX_READS}
 
@@ -33,7 +33,7 @@ max_request = max_head + max_body
 
 -- the most bytes of an answer's body
 abbrev pub max_answer : ℕ
-max_answer = MAX_ANSWER
+max_answer = MAX_PEER_ANSWER
 
 -- the most heads of an answer, all but the last interim ones
 abbrev pub max_heads : ℕ

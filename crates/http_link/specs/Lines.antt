@@ -8,7 +8,7 @@ use Rattle.http_link.specs.declared.fields.Found.{Found}
 use Rattle.http_link.specs.declared.fields.Found.TheVariants.{Missing, Once, Repeated}
 use Rattle.http_link.specs.declared.request.RequestHead.{RequestHead}
 use Rattle.http_link.specs.declared.request.Wanted.{Wanted as WantedAt}
-use Rattle.http_link.specs.Fields.{Line, Standing, missing, once, repeated}
+use Rattle.http_link.specs.Fields.{Line, Occurrence, missing, once, repeated}
 use Rattle.http_link.specs.Heads.{Head}
 use Rattle.http_link.specs.Requests.{Wanted}
 
@@ -17,10 +17,10 @@ abbrev pub lines_at : Lines → List Line
 lines_at lines = map (header_bytes lines.text.now) lines.spans.now
 
 -- what was found, without where it lies
-abbrev pub standing_at : Found → Standing
-standing_at Missing = missing
-standing_at (Once value) = once value.now
-standing_at Repeated = repeated
+abbrev pub occurrence_at : Found → Occurrence
+occurrence_at Missing = missing
+occurrence_at (Once value) = once value.now
+occurrence_at Repeated = repeated
 
 -- what a head says, without where it lies
 abbrev pub head_at : RequestHead → Head

@@ -8,59 +8,59 @@ use Rattle.common_types.specs.ResultChain.{◌>>=◌}
 use Rattle.common_types.specs.Token.{is_token}
 use Rattle.http_link.specs.declared.bodies.Framing.{Framing}
 use Rattle.http_link.specs.declared.bodies.Framing.TheVariants.{Chunked, Sized}
-use Rattle.http_link.specs.declared.request.Kind.{Kind}
-use Rattle.http_link.specs.declared.request.Kind.TheVariants.{Ilp, Admin}
-use Rattle.http_link.specs.Fields.{Line, values_of, Standing, missing, once, repeated, standing, has_element, is_chunked, value_of}
+use Rattle.http_link.specs.declared.request.RequestKind.{RequestKind}
+use Rattle.http_link.specs.declared.request.RequestKind.TheVariants.{Ilp, Admin}
+use Rattle.http_link.specs.Fields.{Line, values_of, Occurrence, missing, once, repeated, occurrence, has_element, is_chunked, value_of}
 use Rattle.http_link.specs.Fields.{is_length, skip_spaces}
 use Rattle.http_link.specs.Heads.{Head}
 use Rattle.http_link.specs.Limits.{max_body, max_command}
 
 -- the most bytes of a request's body
-abbrev pub body_limit : Kind → ℕ
+abbrev pub body_limit : RequestKind → ℕ
 body_limit Ilp = max_body
 body_limit Admin = max_command
 
 -- what a head asks for that nothing refuses: whose tenant it is, with which token, and how its body is framed
 pub record Wanted : Type 0 where
-  pub kind : Kind
+  pub kind : RequestKind
   pub tenant : ℕ
   pub token : List ℕ
   pub framing : Framing
 
--- a value, or a status where there is none
-abbrev pub or_status : {A : Type 0} → ℕ → Option A → Result A ℕ
-or_status status (Some value) = Ok value
-or_status status None = Err status
+-- a value, or what refuses where there is none
+abbrev pub or_refused : {A E : Type 0} → E → Option A → Result A E
+or_refused refusal (Some value) = Ok value
+or_refused refusal None = Err refusal
 
 -- the tenant of a name
-abbrev pub tenant_named : (List ℕ → Option ℕ) → Kind → List ℕ → Option (Kind × ℕ)
+abbrev pub tenant_named : (List ℕ → Option ℕ) → RequestKind → List ℕ → Option (RequestKind × ℕ)
 tenant_named tenant_of kind name = with_kind (tenant_of name)
   where
-    with_kind : Option ℕ → Option (Kind × ℕ)
+    with_kind : Option ℕ → Option (RequestKind × ℕ)
     with_kind (Some tenant) = Some (kind, tenant)
     with_kind None = None
 
 -- `/ilp/NAME` or `/admin/NAME`, exactly (RFC 9112, 3.2.1)
-abbrev pub place_of : (List ℕ → Option ℕ) → List ℕ → Option (Kind × ℕ)
+abbrev pub place_of : (List ℕ → Option ℕ) → List ℕ → Option (RequestKind × ℕ)
 place_of tenant_of target =
     if bytes_eq (take 5 target) (codes "/ilp/") then tenant_named tenant_of Ilp (drop 5 target)
     else (if bytes_eq (take 7 target) (codes "/admin/") then tenant_named tenant_of Admin (drop 7 target) else None)
 
 -- a length within the limit of its kind (RFC 9110, 15.5.14)
-abbrev pub within_limit : Kind → ℕ → Result Framing ℕ
+abbrev pub within_limit : RequestKind → ℕ → Result Framing ℕ
 within_limit kind size = if nat_lt (body_limit kind) size then Err 413 else Ok (Sized size)
 
 -- a body of a stated length: 400 for a bad length (RFC 9112, 6.3)
-abbrev pub sized_in : Kind → List ℕ → Result Framing ℕ
+abbrev pub sized_in : RequestKind → List ℕ → Result Framing ℕ
 sized_in kind text = if is_length text then within_limit kind (value_of text) else Err 400
 
 -- a body in chunks: 400 for any other coding, and in version 1.0 (RFC 9112, 6.1 and 7.1)
-abbrev pub coded_in : Kind → (minor : ℕ) → List ℕ → Result Framing ℕ
+abbrev pub coded_in : RequestKind → (minor : ℕ) → List ℕ → Result Framing ℕ
 coded_in kind minor coding = if (minor == 1) && is_chunked coding then Ok (Chunked (body_limit kind)) else Err 400
 
 -- How a body is framed, by the lines on its coding and on its length: 411 for neither, 400 for both, and for two of either
 -- (RFC 9112, 6.3).
-abbrev pub framing_of : Kind → (minor : ℕ) → (coded length : Standing) → Result Framing ℕ
+abbrev pub framing_of : RequestKind → (minor : ℕ) → (coded length : Occurrence) → Result Framing ℕ
 framing_of kind minor missing missing = Err 411
 framing_of kind minor missing (once text) = sized_in kind text
 framing_of kind minor missing repeated = Err 400
@@ -77,22 +77,22 @@ bearer_token value =
     then Some (skip_spaces (drop 6 value)) else None
 
 -- the token of the one line that shows credentials (RFC 9110, 11.6.2)
-abbrev pub token_in : Standing → Option (List ℕ)
+abbrev pub token_in : Occurrence → Option (List ℕ)
 token_in missing = None
 token_in (once value) = bearer_token value
 token_in repeated = None
 
 -- how the coding of a body stands (RFC 9112, 6.1)
-abbrev pub coding_of : List Line → Standing
-coding_of lines = standing (codes "Transfer-Encoding") lines
+abbrev pub coding_of : List Line → Occurrence
+coding_of lines = occurrence (codes "Transfer-Encoding") lines
 
 -- what a head asks for, or the status of the first check that refuses it
 abbrev pub wanted_of : (List ℕ → Option ℕ) → Head → Result Wanted ℕ
 wanted_of tenant_of head = do
   posted ← if bytes_eq head.method (codes "POST") then Ok head.method else Err 405
-  place ← or_status 404 (place_of tenant_of head.target)
-  framing ← framing_of place.0 head.minor (coding_of head.lines) (standing (codes "Content-Length") head.lines)
-  token ← or_status 401 (token_in (standing (codes "Authorization") head.lines))
+  place ← or_refused 404 (place_of tenant_of head.target)
+  framing ← framing_of place.0 head.minor (coding_of head.lines) (occurrence (codes "Content-Length") head.lines)
+  token ← or_refused 401 (token_in (occurrence (codes "Authorization") head.lines))
   Ok (record { kind = place.0; tenant = place.1; token = token; framing = framing })
 
 -- the client waits for `100 Continue` before it sends the body (RFC 9110, 10.1.1)

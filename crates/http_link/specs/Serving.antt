@@ -2,7 +2,7 @@
 use Rattle.std.specs.Prelude.{◌≡◌, ◌⊎◌, ℕ, List, [], ◌++◌, Bool, Option, Some, Result, Ok}
 use Rattle.std.specs.Prelude.{Err, if◌then◌else◌}
 use Rattle.http_link.specs.declared.bodies.BodyFault.{BodyFault}
-use Rattle.http_link.specs.declared.request.Kind.{Kind}
+use Rattle.http_link.specs.declared.request.RequestKind.{RequestKind}
 use Rattle.http_link.specs.declared.serve.Served.{Served}
 use Rattle.http_link.specs.declared.serve.Served.TheVariants.{Kept, Closed, Ended}
 use Rattle.http_link.specs.Bodies.{Body, IsBody, bad, cut, refusal_of, whole}
@@ -12,7 +12,7 @@ use Rattle.http_link.specs.Answers.{answer_text, refusal_text, continue_text}
 
 -- what a service was asked, and the status that it gave
 pub record Asked : Type 0 where
-  pub kind : Kind
+  pub kind : RequestKind
   pub tenant : ℕ
   pub token : List ℕ
   pub body : List ℕ
@@ -83,8 +83,8 @@ WritesNothingOr400 Writes served =
     ((served ≡ Ended) × Writes []) ⊎ ((served ≡ Closed) × Writes (refusal_text 400))
 
 -- at most one question was asked
-abbrev pub AsksAtMostOnce : Type 0 → (Asked → Type 0) → Type 0
-AsksAtMostOnce Unasked Asks = Unasked ⊎ ((question : Asked) × Asks question)
+abbrev pub AsksAtMostOnce : {Question : Type 0} → Type 0 → (Question → Type 0) → Type 0
+AsksAtMostOnce {Question = Question} Unasked Asks = Unasked ⊎ ((question : Question) × Asks question)
 
 -- the whole body was asked that the bytes begin with
 abbrev pub AsksWhole : Wanted → List ℕ → (Asked → Type 0) → Type 0

@@ -1,10 +1,10 @@
 //! The texts of answers.
 
 ghost use Rattle.std.specs.Prelude.{◌≡◌, ◌≤◌, length};
-ghost use Rattle.http_link.specs.Answers.{reason_of, told, answer_head, status_line, close_line};
+ghost use Rattle.http_link.specs.Answers.{reason_of, told, answer_head, head_with, status_line, close_line};
 
 use crate::line_buffer::LineBuffer;
-use crate::request::Kind;
+use crate::request::RequestKind;
 
 fn reason_of(status: u16) -> &'static [u8]
     ensures phrase { result.now ≡ reason_of status }
@@ -22,13 +22,13 @@ fn reason_of(status: u16) -> &'static [u8]
     }
 }
 
-fn status_line(kind: Kind, status: u16) -> &'static [u8]
+fn status_line(kind: RequestKind, status: u16) -> &'static [u8]
     ensures line { result.now ≡ status_line kind status }
     ensures short { length result.now ≤ 40 }
 {
     match (status, kind) {
-        (200, Kind::Ilp) => b"Content-Type: application/octet-stream\r\n",
-        (200, Kind::Admin) => b"Content-Type: text/plain\r\n",
+        (200, RequestKind::Ilp) => b"Content-Type: application/octet-stream\r\n",
+        (200, RequestKind::Admin) => b"Content-Type: text/plain\r\n",
         (405, _) => b"Allow: POST\r\n",
         (401, _) => b"WWW-Authenticate: Bearer\r\n",
         _ => b"",
@@ -57,8 +57,16 @@ pub(crate) fn told(status: u16) -> u16
 }
 
 /// The head of an answer whose body has that length. (RFC 9112, 4)
-pub(crate) fn answer_head(kind: Kind, status: u16, size: usize, closes: bool) -> LineBuffer
+pub(crate) fn answer_head(kind: RequestKind, status: u16, size: usize, closes: bool) -> LineBuffer
     ensures { result ≡ answer_head kind status size closes }
+{
+    head_with(status_line(kind, status), status, size, closes)
+}
+
+/// The head of an answer with a line of its own, whose body has that length. (RFC 9112, 4)
+pub(crate) fn head_with(own: &[u8], status: u16, size: usize, closes: bool) -> LineBuffer
+    requires { length own.now ≤ 50 }
+    ensures { result ≡ head_with own.now status size closes }
 {
     let mut head = LineBuffer::new();
     head.push(b"HTTP/1.1 ");
@@ -66,7 +74,7 @@ pub(crate) fn answer_head(kind: Kind, status: u16, size: usize, closes: bool) ->
     head.push(b" ");
     head.push(reason_of(status));
     head.push(b"\r\n");
-    head.push(status_line(kind, status));
+    head.push(own);
     head.push_stated(b"Content-Length: ", size);
     head.push(close_line(closes));
     head.push(b"\r\n");

@@ -6,9 +6,9 @@ ghost use Rattle.std.specs.Str.{str_eq_ignore_ascii_case};
 ghost use Rattle.httparse.specs.Grammar.{is_ows, skip_ows};
 ghost use Rattle.httparse.specs.Spans.{span_bytes};
 ghost use Rattle.common_types.specs.Numbers.{is_between};
-ghost use Rattle.http_link.specs.Fields.{values_of, standing, is_element, has_element};
+ghost use Rattle.http_link.specs.Fields.{values_of, occurrence, is_element, has_element};
 ghost use Rattle.http_link.specs.Fields.{value_of, is_chunked, is_length, skip_spaces};
-ghost use Rattle.http_link.specs.Lines.{lines_at, standing_at};
+ghost use Rattle.http_link.specs.Lines.{lines_at, occurrence_at};
 
 use httparse::spans::{HeaderSpan, Span};
 
@@ -51,7 +51,7 @@ pub(crate) fn is_same(a: &[u8], b: &[u8]) -> bool
 impl<'b> Lines<'b> {
     /// How a name stands among the lines. (RFC 9110, 5.1)
     pub(crate) fn find(&self, name: &[u8]) -> Found<'b>
-        ensures { standing_at result ≡ standing name.now (lines_at self.now) }
+        ensures { occurrence_at result ≡ occurrence name.now (lines_at self.now) }
     {
         let mut found = Found::Missing;
         for line in self.spans {

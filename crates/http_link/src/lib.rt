@@ -2,6 +2,7 @@
 //!
 //! - [`serve_one`] reads one request from a stream, asks a [`Service`] where nothing refuses it, and writes the answer;
 //!   [`serve_next`] does so for the requests of a connection, whose bytes an [`Inbox`] takes as they come.
+//! - [`serve_host`] does so for one request of whoever runs the process, which a [`HostService`] answers.
 //! - [`post`] sends a frame to a peer and reads its answer.
 //! - [`LinkFault`] and [`PostFault`] say why a connection ended.
 #![tactic(auto)]
@@ -14,6 +15,9 @@ mod fields;
 mod grammar;
 mod head;
 mod held;
+mod host_request;
+mod host_serve;
+mod host_service;
 mod inbox;
 mod intake;
 pub mod laws;
@@ -25,9 +29,12 @@ mod service;
 mod streams;
 
 pub use devices::{Sink, Source};
+pub use host_request::HostRequest;
+pub use host_serve::serve_host;
+pub use host_service::HostService;
 pub use inbox::{Inbox, serve_next};
-pub use posting::{MAX_ANSWER, PostFault, post};
-pub use request::{Kind, MAX_BODY};
+pub use posting::{MAX_PEER_ANSWER, PostFault, post};
+pub use request::{MAX_BODY, RequestKind};
 pub use serve::{Served, serve_one};
 pub use service::Service;
 pub use streams::{LinkFault, MAX_READS};

@@ -5,7 +5,7 @@ ghost use Rattle.httparse.specs.Spans.{IsResponseWithin, header_bytes};
 ghost use Rattle.common_types.specs.Numbers.{is_between};
 ghost use Rattle.std.specs.Io.KnownBytes.{Appends};
 ghost use Rattle.http_link.specs.Counts.{MadeAll, Spends};
-ghost use Rattle.http_link.specs.Lines.{lines_at, standing_at};
+ghost use Rattle.http_link.specs.Lines.{lines_at, occurrence_at};
 ghost use Rattle.http_link.specs.Client.{post_head, post_text, Means, given, GivesAs, GivesOf};
 ghost use Rattle.http_link.specs.Client.{IsMeaning, MeansBody, MeansCoded, sized_body, body_to_end};
 ghost use Rattle.http_link.specs.Limits.{max_answer, max_heads};
@@ -24,7 +24,7 @@ use ilp_addr::Target;
 use thiserror::Error;
 
 /// The most bytes of an answer's body.
-pub const MAX_ANSWER: usize = 34_000;
+pub const MAX_PEER_ANSWER: usize = 34_000;
 
 /// The most heads of an answer: up to four of status 1xx, and the last.
 const MAX_HEADS: u32 = 5;
@@ -227,7 +227,7 @@ fn read_framed<R: Source>(
 ) -> Result<usize, PostFault>
     requires room { max_answer ≤ length out.old }
     requires unfailed { R.failure_count r.old ≤ before }
-    ensures gives { GivesAs (MeansBody minor (standing_at coded.entry) (standing_at stated.entry))
+    ensures gives { GivesAs (MeansBody minor (occurrence_at coded.entry) (occurrence_at stated.entry))
         (R.remaining r.old) result out.new }
     ensures bound { IfOk result (λ n. n ≤ max_answer) }
     ensures len { length out.new ≡ length out.old }
@@ -239,7 +239,7 @@ fn read_framed<R: Source>(
     match (coded, stated) {
         (Found::Missing, Found::Missing) => read_to_end(r, out, before, turns),
         (Found::Missing, Found::Once(text)) if is_length(text) => {
-            let size = value_up_to(text, MAX_ANSWER as u64 + 1) as usize;
+            let size = value_up_to(text, MAX_PEER_ANSWER as u64 + 1) as usize;
             read_sized(r, out, size, before, turns)
         }
         (Found::Once(coding), Found::Missing) if minor == 1 && is_chunked(coding) => {
@@ -267,7 +267,7 @@ fn read_chunked<R: Source>(
     ensures made { Spends R.was_read r.old r.new turns.old turns.new }
 {
     let mut held = Held { from: 0, to: 0 };
-    match read_chunks(r, out, &mut held, MAX_ANSWER, true, before, turns)? {
+    match read_chunks(r, out, &mut held, MAX_PEER_ANSWER, true, before, turns)? {
         BodyRead::Whole(n) => Ok(n),
         BodyRead::Cut => Err(PostFault::Cut),
         BodyRead::Bad(BodyFault::Malformed) => Err(PostFault::Unframed),
@@ -293,7 +293,7 @@ fn read_sized<R: Source>(
     ensures spent { result ≡ Err PostFault.Turns → turns.new ≡ 0 }
     ensures made { Spends R.was_read r.old r.new turns.old turns.new }
 {
-    if size > MAX_ANSWER {
+    if size > MAX_PEER_ANSWER {
         return Err(PostFault::Size);
     }
     let n = read_up_to(r, out, size, before, turns)?;
@@ -317,8 +317,8 @@ fn read_to_end<R: Source>(
     ensures spent { result ≡ Err PostFault.Turns → turns.new ≡ 0 }
     ensures made { Spends R.was_read r.old r.new turns.old turns.new }
 {
-    let n = read_up_to(r, out, MAX_ANSWER, before, turns)?;
-    if n < MAX_ANSWER || has_ended(r, before, turns)? {
+    let n = read_up_to(r, out, MAX_PEER_ANSWER, before, turns)?;
+    if n < MAX_PEER_ANSWER || has_ended(r, before, turns)? {
         return Ok(n);
     }
     Err(PostFault::Size)

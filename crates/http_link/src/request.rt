@@ -7,7 +7,7 @@ ghost use Rattle.std.specs.List.{list_any};
 ghost use Rattle.common_types.specs.Outcomes.{Gives};
 ghost use Rattle.http_link.specs.Bodies.{most_of};
 ghost use Rattle.http_link.specs.Fields.{value_of};
-ghost use Rattle.http_link.specs.Lines.{lines_at, standing_at, head_at, wanted_at};
+ghost use Rattle.http_link.specs.Lines.{lines_at, occurrence_at, head_at, wanted_at};
 ghost use Rattle.http_link.specs.Requests.{place_of, tenant_named, framing_of, within_limit, body_limit};
 ghost use Rattle.http_link.specs.Requests.{bearer_token, token_in, wanted_of, waits, closes};
 ghost use Rattle.http_link.specs.Limits.{max_body};
@@ -19,7 +19,7 @@ use common_types::is_token;
 
 /// What a request asks of a service.
 #[derive(Clone, Copy, Debug, PartialEq, Eq)]
-pub enum Kind {
+pub enum RequestKind {
     /// A packet, `/ilp/NAME`.
     Ilp,
     /// A command, `/admin/NAME`.
@@ -44,19 +44,19 @@ pub(crate) struct RequestHead<'b> {
 /// What a head asks for that nothing refuses.
 #[derive(Clone, Copy)]
 pub(crate) struct Wanted<'b> {
-    pub(crate) kind: Kind,
+    pub(crate) kind: RequestKind,
     pub(crate) tenant: usize,
     pub(crate) token: &'b [u8],
     pub(crate) framing: Framing,
 }
 
-fn body_limit(kind: Kind) -> usize
+fn body_limit(kind: RequestKind) -> usize
     ensures value { result ≡ body_limit kind }
     ensures bound { result ≤ max_body }
 {
     match kind {
-        Kind::Ilp => MAX_BODY,
-        Kind::Admin => MAX_COMMAND,
+        RequestKind::Ilp => MAX_BODY,
+        RequestKind::Admin => MAX_COMMAND,
     }
 }
 
@@ -69,7 +69,11 @@ fn behind<'b>(prefix: &[u8], bytes: &'b [u8]) -> Option<&'b [u8]>
     if front == prefix { Some(rest) } else { None }
 }
 
-fn tenant_named<S: Service>(service: &S, kind: Kind, name: &[u8]) -> Option<(Kind, usize)>
+fn tenant_named<S: Service>(
+    service: &S,
+    kind: RequestKind,
+    name: &[u8],
+) -> Option<(RequestKind, usize)>
     ensures { result ≡ tenant_named (S.tenant_of service.now) kind name.now }
 {
     match service.tenant(name) {
@@ -78,20 +82,20 @@ fn tenant_named<S: Service>(service: &S, kind: Kind, name: &[u8]) -> Option<(Kin
     }
 }
 
-fn place_of<S: Service>(service: &S, target: &[u8]) -> Option<(Kind, usize)>
+fn place_of<S: Service>(service: &S, target: &[u8]) -> Option<(RequestKind, usize)>
     ensures { result ≡ place_of (S.tenant_of service.now) target.now }
 {
     if let Some(name) = behind(b"/ilp/", target) {
-        return tenant_named(service, Kind::Ilp, name);
+        return tenant_named(service, RequestKind::Ilp, name);
     }
     match behind(b"/admin/", target) {
-        Some(name) => tenant_named(service, Kind::Admin, name),
+        Some(name) => tenant_named(service, RequestKind::Admin, name),
         None => None,
     }
 }
 
-fn framing_of(kind: Kind, minor: u8, coded: Found, length: Found) -> Result<Framing, u16>
-    ensures value { result ≡ framing_of kind minor (standing_at coded.entry) (standing_at length.entry) }
+fn framing_of(kind: RequestKind, minor: u8, coded: Found, length: Found) -> Result<Framing, u16>
+    ensures value { result ≡ framing_of kind minor (occurrence_at coded.entry) (occurrence_at length.entry) }
     ensures bound { IfOk result (λ framing. most_of framing ≤ max_body) }
 {
     match (coded, length) {
@@ -104,7 +108,7 @@ fn framing_of(kind: Kind, minor: u8, coded: Found, length: Found) -> Result<Fram
     }
 }
 
-fn stated_size(kind: Kind, text: &[u8]) -> Result<Framing, u16>
+fn stated_size(kind: RequestKind, text: &[u8]) -> Result<Framing, u16>
     ensures value { result ≡ within_limit kind (value_of text.now) }
     ensures bound { IfOk result (λ framing. most_of framing ≤ max_body) }
 {
@@ -137,8 +141,8 @@ fn begins_with_space(bytes: &[u8]) -> bool
     }
 }
 
-fn token_in(found: Found<'_>) -> Option<&[u8]>
-    ensures { option_map (λ token. token.now) result ≡ token_in (standing_at found.entry) }
+pub(crate) fn token_in(found: Found<'_>) -> Option<&[u8]>
+    ensures { option_map (λ token. token.now) result ≡ token_in (occurrence_at found.entry) }
 {
     match found {
         Found::Once(value) => bearer_token(value),

@@ -24,7 +24,7 @@ use crate::grammar::Offered;
 use crate::head::{MAX_HEAD, MAX_LINES, read_head};
 use crate::held::Held;
 use crate::line_buffer::write_message;
-use crate::request::{Kind, RequestHead, Wanted, closes, waits, wanted_of};
+use crate::request::{RequestHead, RequestKind, Wanted, closes, waits, wanted_of};
 use crate::service::Service;
 use crate::streams::{LinkFault, MAX_READS, write_all};
 use httparse::spans::{EMPTY_HEADER_SPAN, HeaderSpan, RequestSpans};
@@ -144,7 +144,7 @@ pub(crate) fn refuse<W: Sink>(w: &mut W, status: u16, before: u64) -> Result<Ser
     ensures read { result ≢ Err LinkFault.Read }
     ensures turns { result ≡ Err LinkFault.Turns → MadeAll W.was_written w.old w.new }
 {
-    let answer = answer_head(Kind::Ilp, status, 0, true);
+    let answer = answer_head(RequestKind::Ilp, status, 0, true);
     write_all(w, answer.as_slice(), before)?;
     Ok(Served::Closed)
 }
@@ -295,15 +295,15 @@ fn ask<S: Service>(service: &mut S, wanted: &Wanted, body: &[u8]) -> u16
     ensures { S.asks service.old (asking (wanted_at wanted.now) body.now result) service.new }
 {
     match wanted.kind {
-        Kind::Ilp => service.ilp(wanted.tenant, wanted.token, body),
-        Kind::Admin => service.admin(wanted.tenant, wanted.token, body),
+        RequestKind::Ilp => service.ilp(wanted.tenant, wanted.token, body),
+        RequestKind::Admin => service.admin(wanted.tenant, wanted.token, body),
     }
 }
 
 // Writes the answer with a service's status.
 fn write_answer<W: Sink>(
     w: &mut W,
-    kind: Kind,
+    kind: RequestKind,
     status: u16,
     body: &[u8],
     closes: bool,

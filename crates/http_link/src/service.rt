@@ -3,7 +3,7 @@
 ghost use Rattle.std.specs.Prelude.{◌≡◌, List, ℕ, Option};
 ghost use Rattle.http_link.specs.Serving.{Asked};
 
-use crate::request::Kind;
+use crate::request::RequestKind;
 
 /// What answers the requests of a connection: tenants by name, packets and commands.
 pub trait Service {
@@ -25,13 +25,13 @@ pub trait Service {
     /// Any other is written as 503.
     fn ilp(&mut self, tenant: usize, token: &[u8], body: &[u8]) -> u16
         ensures { asks self.old
-            (record { kind = Kind.Ilp; tenant = tenant; token = token.now; body = body.now; status = result })
+            (record { kind = RequestKind.Ilp; tenant = tenant; token = token.now; body = body.now; status = result })
             self.new };
 
     /// Takes a command that came with a token for a tenant, and gives the status of its answer, as `ilp` does.
     fn admin(&mut self, tenant: usize, token: &[u8], body: &[u8]) -> u16
         ensures { asks self.old
-            (record { kind = Kind.Admin; tenant = tenant; token = token.now; body = body.now; status = result })
+            (record { kind = RequestKind.Admin; tenant = tenant; token = token.now; body = body.now; status = result })
             self.new };
 
     /// The bytes of the last answer of status 200.

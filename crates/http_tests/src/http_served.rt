@@ -3,14 +3,14 @@
 ghost use Rattle.std.specs.Prelude.{◌≡◌, ◌≤◌, ◌+◌, ◌-◌, ◌^◌, min, length};
 
 use crate::http_devices::{Pieces, Taken};
-use http_link::{Kind, LinkFault, Served, Service, serve_one};
+use http_link::{LinkFault, RequestKind, Served, Service, serve_one};
 use std::alloc::Global;
 use std::test::Fail;
 
 /// Two tenants, acme and beta. It notes how often it was asked, and whether that was the question that it waits for.
 #[derive(Drop)]
 pub(crate) struct Desk {
-    kind: Kind,
+    kind: RequestKind,
     tenant: usize,
     body: &'static [u8],
     status: u16,
@@ -20,7 +20,7 @@ pub(crate) struct Desk {
 }
 
 impl Desk {
-    pub(crate) fn new(kind: Kind, tenant: usize) -> Desk {
+    pub(crate) fn new(kind: RequestKind, tenant: usize) -> Desk {
         Desk {
             kind,
             tenant,
@@ -32,7 +32,7 @@ impl Desk {
         }
     }
 
-    fn note(&mut self, kind: Kind, tenant: usize, token: &[u8], body: &[u8]) -> u16
+    fn note(&mut self, kind: RequestKind, tenant: usize, token: &[u8], body: &[u8]) -> u16
         ensures status { result ≡ self.old.status }
         ensures same { self.new.status ≡ self.old.status }
         ensures counted { self.new.questions ≡ min (self.old.questions + 1) (2 ^ 32 - 1) }
@@ -71,11 +71,11 @@ impl Service for Desk {
     }
 
     fn ilp(&mut self, tenant: usize, token: &[u8], body: &[u8]) -> u16 {
-        self.note(Kind::Ilp, tenant, token, body)
+        self.note(RequestKind::Ilp, tenant, token, body)
     }
 
     fn admin(&mut self, tenant: usize, token: &[u8], body: &[u8]) -> u16 {
-        self.note(Kind::Admin, tenant, token, body)
+        self.note(RequestKind::Admin, tenant, token, body)
     }
 
     fn body(&self) -> &[u8] {
@@ -201,95 +201,95 @@ static REFUSED: [(&[u8], &[u8], &[u8]); 34] = [
 ];
 
 // The line of a request without its version, its fields, who is asked what, and whether a 1.1 connection is closed.
-static ASKED: [(&[u8], &[u8], Kind, usize, bool); 13] = [
+static ASKED: [(&[u8], &[u8], RequestKind, usize, bool); 13] = [
     (
         b"POST /ilp/acme",
         b"Content-Length: 5\r\nAuthorization: Bearer tok-Bob\r\n",
-        Kind::Ilp,
+        RequestKind::Ilp,
         0,
         false,
     ),
     (
         b"POST /ilp/beta",
         b"Content-Length: 5\r\nAuthorization: Bearer tok-Bob\r\n",
-        Kind::Ilp,
+        RequestKind::Ilp,
         1,
         false,
     ),
     (
         b"POST /admin/beta",
         b"Content-Length: 5\r\nAuthorization: Bearer tok-Bob\r\n",
-        Kind::Admin,
+        RequestKind::Admin,
         1,
         false,
     ),
     (
         b"POST /ilp/acme",
         b"content-LENGTH:0000000005\r\naUTHORIZATION:\tbeaRER    tok-Bob \t\r\n",
-        Kind::Ilp,
+        RequestKind::Ilp,
         0,
         false,
     ),
     (
         b"POST /ilp/acme",
         b"Host:\r\nContent-Length: 5 \r\nAuthorization: BEARER tok-Bob\r\nAccept: */*\r\n",
-        Kind::Ilp,
+        RequestKind::Ilp,
         0,
         false,
     ),
     (
         b"POST /ilp/acme",
         b"Content-Length: 5\r\nAuthorization: Bearer tok-Bob\r\nConnection: close\r\n",
-        Kind::Ilp,
+        RequestKind::Ilp,
         0,
         true,
     ),
     (
         b"POST /ilp/acme",
         b"connection: CLOSE\r\nContent-Length: 5\r\nAuthorization: Bearer tok-Bob\r\n",
-        Kind::Ilp,
+        RequestKind::Ilp,
         0,
         true,
     ),
     (
         b"POST /ilp/acme",
         b"Content-Length: 5\r\nAuthorization: Bearer tok-Bob\r\nConnection: keep-alive,\t Close \t, x\r\n",
-        Kind::Ilp,
+        RequestKind::Ilp,
         0,
         true,
     ),
     (
         b"POST /ilp/acme",
         b"Connection: a\r\nContent-Length: 5\r\nAuthorization: Bearer tok-Bob\r\nConnection: ,close\r\n",
-        Kind::Ilp,
+        RequestKind::Ilp,
         0,
         true,
     ),
     (
         b"POST /ilp/acme",
         b"Content-Length: 5\r\nAuthorization: Bearer tok-Bob\r\nConnection: closed, not close\r\n",
-        Kind::Ilp,
+        RequestKind::Ilp,
         0,
         false,
     ),
     (
         b"POST /ilp/acme",
         b"Content-Length: 5\r\nAuthorization: Bearer tok-Bob\r\nConnection: keep-alive\r\n",
-        Kind::Ilp,
+        RequestKind::Ilp,
         0,
         false,
     ),
     (
         b"POST /ilp/acme",
         b"Content-Length: 5\r\nAuthorization: Bearer tok-Bob\r\nExpect: 200-ok\r\n",
-        Kind::Ilp,
+        RequestKind::Ilp,
         0,
         false,
     ),
     (
         b"POST /ilp/acme",
         b"Content-Length: 5\r\nAuthorization: Bearer tok-Bob\r\nPrefer: respond-async\r\n",
-        Kind::Ilp,
+        RequestKind::Ilp,
         0,
         false,
     ),
@@ -322,7 +322,7 @@ fn refusals(rt: HostRuntime) -> Result<(), Fail> {
             for cut in 0..=stream.len() {
                 let mut reader = Pieces::cut_at(stream.as_slice(), cut);
                 let mut writer = Taken::whole(rt.alloc());
-                let mut desk = Desk::new(Kind::Ilp, 0);
+                let mut desk = Desk::new(RequestKind::Ilp, 0);
                 let served = serve_one(&mut reader, &mut writer, &mut desk, &mut room);
                 assert!(rt;
                     served == Ok(Served::Closed) && desk.questions == 0,
@@ -357,10 +357,10 @@ fn questions(rt: HostRuntime) -> Result<(), Fail> {
                 assert!(rt; served == Ok(wanted) && desk.was_asked(), "{i} {cut}");
                 assert!(rt; reader.bytes.is_empty(), "{i} {cut}");
                 let answer = match (kind, is_closed) {
-                    (Kind::Ilp, false) => KEPT,
-                    (Kind::Ilp, true) => CLOSED,
-                    (Kind::Admin, false) => LINES,
-                    (Kind::Admin, true) => LINES_CLOSED,
+                    (RequestKind::Ilp, false) => KEPT,
+                    (RequestKind::Ilp, true) => CLOSED,
+                    (RequestKind::Admin, false) => LINES,
+                    (RequestKind::Admin, true) => LINES_CLOSED,
                 };
                 assert!(rt; writer.bytes.as_slice() == answer, "{i} {cut}");
             }
@@ -409,7 +409,7 @@ fn statuses(rt: HostRuntime) -> Result<(), Fail> {
     for (status, answer) in STATUSES {
         let mut reader = Pieces::cut_at(POSTED, 0);
         let mut writer = Taken::whole(rt.alloc());
-        let mut desk = Desk::new(Kind::Ilp, 0);
+        let mut desk = Desk::new(RequestKind::Ilp, 0);
         desk.status = status;
         let served = serve_one(&mut reader, &mut writer, &mut desk, &mut room);
         assert!(rt; served == Ok(Served::Kept) && desk.was_asked(), "{status}");
@@ -448,7 +448,7 @@ fn no_heads(rt: HostRuntime) -> Result<(), Fail> {
         for cut in 0..=stream.len() {
             let mut reader = Pieces::cut_at(stream, cut);
             let mut writer = Taken::whole(rt.alloc());
-            let mut desk = Desk::new(Kind::Ilp, 0);
+            let mut desk = Desk::new(RequestKind::Ilp, 0);
             let served = serve_one(&mut reader, &mut writer, &mut desk, &mut room);
             let wanted = if answer.is_empty() {
                 Served::Ended
@@ -472,7 +472,7 @@ fn served_with(
 {
     let mut reader = Pieces::cut_at(stream, 0);
     let mut writer = Taken::whole(alloc);
-    let mut desk = Desk::new(Kind::Ilp, 0);
+    let mut desk = Desk::new(RequestKind::Ilp, 0);
     let served = serve_one(&mut reader, &mut writer, &mut desk, room);
     Ok((served, desk.questions, writer.bytes))
 }
@@ -630,7 +630,7 @@ fn requests_in_one_stream(rt: HostRuntime) -> Result<(), Fail> {
             (Served::Closed, CLOSED),
         ] {
             let mut writer = Taken::whole(rt.alloc());
-            let mut desk = Desk::new(Kind::Ilp, 0);
+            let mut desk = Desk::new(RequestKind::Ilp, 0);
             let found = serve_one(&mut reader, &mut writer, &mut desk, &mut room);
             assert!(rt; found == Ok(served) && desk.was_asked(), "{cut}");
             assert!(rt; writer.bytes.as_slice() == answer, "{cut}");
@@ -647,7 +647,7 @@ fn devices_that_fail(rt: HostRuntime) -> Result<(), Fail> {
     for reads in 0..=POSTED.len() {
         let mut reader = Pieces::failing_after(POSTED, reads);
         let mut writer = Taken::whole(rt.alloc());
-        let mut desk = Desk::new(Kind::Ilp, 0);
+        let mut desk = Desk::new(RequestKind::Ilp, 0);
         let served = serve_one(&mut reader, &mut writer, &mut desk, &mut room);
         if reads < POSTED.len() {
             assert!(rt;
@@ -662,7 +662,7 @@ fn devices_that_fail(rt: HostRuntime) -> Result<(), Fail> {
     for writes in 0..=KEPT.len() {
         let mut reader = Pieces::cut_at(POSTED, 0);
         let mut writer = Taken::failing_after(rt.alloc(), writes);
-        let mut desk = Desk::new(Kind::Ilp, 0);
+        let mut desk = Desk::new(RequestKind::Ilp, 0);
         let served = serve_one(&mut reader, &mut writer, &mut desk, &mut room);
         let wanted = if writes < KEPT.len() {
             Err(LinkFault::Write)

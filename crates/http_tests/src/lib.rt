@@ -10,6 +10,8 @@ mod http_connections;
 #[cfg(test)]
 mod http_devices;
 #[cfg(test)]
+mod http_host;
+#[cfg(test)]
 mod http_posted;
 #[cfg(test)]
 mod http_served;

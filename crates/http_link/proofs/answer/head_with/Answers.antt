@@ -1,5 +1,5 @@
 use Rattle.std.proofs.Common.{refl}
-use Rattle.http_link.proofs.answer.answer_head.Goals as goal
+use Rattle.http_link.proofs.answer.head_with.Goals as goal
 
 pub returns : goal.returns
 returns c =
@@ -15,6 +15,5 @@ returns c =
       c.push.ensures.value,
       c.new-head.ensures,
       c.reason_of.ensures.phrase,
-      c.status_line.ensures.line,
       c.close_line.ensures.line,
     ) refl

@@ -1,0 +1,212 @@
+//! One request of whoever runs the process.
+
+ghost use Rattle.std.specs.Prelude.{◌≡◌, ◌≢◌, ◌↔◌, ◌<◌, ◌≤◌, ◌⊎◌, List, ℕ, length, Some, Err, IfOk};
+ghost use Rattle.std.specs.Io.KnownBytes.{Appends};
+ghost use Rattle.httparse.specs.Grammar as grammar;
+ghost use Rattle.http_link.specs.Counts.{MadeAll};
+ghost use Rattle.http_link.specs.Heads.{BeginsWith, head_of};
+ghost use Rattle.http_link.specs.Lines.{head_at};
+ghost use Rattle.http_link.specs.HostDoor.{AnswersHost, IsHostAskedOnly, IsHostServed};
+ghost use Rattle.http_link.specs.HostDoor.{allow_line, closing_text, host_asking, host_refusal_text, host_text};
+ghost use Rattle.http_link.specs.HostDoor.{host_wanted_at, host_wanted_of, media_line};
+ghost use Rattle.http_link.specs.Serving.{AsksAtMostOnce, WritesNothingOr400};
+
+use crate::answer::head_with;
+use crate::devices::{Sink, Source};
+use crate::grammar::Offered;
+use crate::head::{MAX_HEAD, MAX_LINES, read_head};
+use crate::host_request::{HostRefusal, HostRequest, HostWanted, host_wanted_of};
+use crate::host_service::HostService;
+use crate::line_buffer::write_message;
+use crate::request::RequestHead;
+use crate::serve::{Failures, Served, head_in, refuse};
+use crate::streams::{LinkFault, MAX_READS};
+use httparse::spans::{EMPTY_HEADER_SPAN, RequestSpans};
+
+/// Reads one request of whoever runs the process, asks the service where nothing refuses it, and writes the answer, behind
+/// which the connection is closed. (RFC 9112, 2 and 9.6)
+///
+/// A request has at most 8,192 bytes and 64 field lines in its head. Nothing behind its head is taken from the reader: a
+/// body is not looked at. Where the stream ends before a whole head, nothing is written, and the result is `Ended`. Else the
+/// first check that fails decides: 400 where that is no head or goes over the limits, 404 for another target, 405 for another
+/// method, and 401 where a token is needed and none is shown. (RFC 9110, 15.5)
+///
+/// Errors: `Read` and `Write` where the device failed in this call, and `Turns` where 50,000 reads or writes did not
+/// suffice. Before a `Write` or a `Turns` the service may have been asked, before a `Read` not.
+pub fn serve_host<R: Source, W: Sink, S: HostService>(
+    r: &mut R,
+    w: &mut W,
+    service: &mut S,
+) -> Result<Served, LinkFault>
+    // A stream that begins with a head within the limits is served by what the head wants, however it is cut.
+    ensures exact { (stream : List ℕ) (head : grammar.RequestHead) (rest : List ℕ)
+        → R.remaining r.old ≡ Some stream → BeginsWith stream head rest
+        → IfOk result (IsHostServed (host_wanted_of (head_of head)) rest (R.remaining r.new) (record {
+          Unasked = service.new ≡ service.old;
+          Asks = λ question. S.asks service.old question service.new;
+          answer = S.answer service.new;
+          Writes = λ text. Appends (W.contents w.old) (W.contents w.new) text;
+        })) }
+    // Whatever comes of it, only what the head wants is asked.
+    ensures asked_only { (stream : List ℕ) (head : grammar.RequestHead) (rest : List ℕ)
+        → R.remaining r.old ≡ Some stream → BeginsWith stream head rest
+        → IsHostAskedOnly (host_wanted_of (head_of head)) (service.new ≡ service.old)
+        (λ question. S.asks service.old question service.new) }
+    // A stream that begins with no such head is turned away.
+    ensures turned_away { (stream : List ℕ) → R.remaining r.old ≡ Some stream
+        → ((head : grammar.RequestHead) (rest : List ℕ) → ¬ (BeginsWith stream head rest))
+        → (service.new ≡ service.old)
+        × IfOk result (WritesNothingOr400 (λ text. Appends (W.contents w.old) (W.contents w.new) text)) }
+    ensures asked_once { AsksAtMostOnce (service.new ≡ service.old)
+        (λ question. S.asks service.old question service.new) }
+    ensures unread { result ≡ Err LinkFault.Read → service.new ≡ service.old }
+
+    // A device's fault is told exactly where the device failed.
+    ensures read { (result ≡ Err LinkFault.Read) ↔ (R.failure_count r.old < R.failure_count r.new) }
+    ensures write { (result ≡ Err LinkFault.Write) ↔ (W.failure_count w.old < W.failure_count w.new) }
+    // The limit is told only where it was reached.
+    ensures turns { result ≡ Err LinkFault.Turns
+        → MadeAll R.was_read r.old r.new ⊎ MadeAll W.was_written w.old w.new }
+{
+    let before = Failures {
+        reads: r.failures(),
+        writes: w.failures(),
+    };
+    let mut turns = MAX_READS;
+    let mut text = [0u8; MAX_HEAD];
+    let mut lines = [EMPTY_HEADER_SPAN; MAX_LINES];
+    match read_head::<RequestSpans, _>(r, &mut text, &mut lines, before.reads, &mut turns)? {
+        Offered::Partial => Ok(Served::Ended),
+        Offered::Malformed => refuse(w, 400, before.writes),
+        Offered::Whole(spans) => {
+            let head = head_in(&text[..spans.len], &lines, spans);
+            answer_host(w, service, &head, before.writes)
+        }
+    }
+}
+
+// Asks the service what a head wants where nothing refuses it, and writes the answer.
+fn answer_host<W: Sink, S: HostService>(
+    w: &mut W,
+    service: &mut S,
+    head: &RequestHead,
+    before: u64,
+) -> Result<Served, LinkFault>
+    requires unfailed { W.failure_count w.old ≤ before }
+    ensures answered { IfOk result (λ served. (served ≡ Served.Closed)
+        × AnswersHost (host_wanted_of (head_at head.now)) (record {
+          Unasked = service.new ≡ service.old;
+          Asks = λ question. S.asks service.old question service.new;
+          answer = S.answer service.new;
+          Writes = λ text. Appends (W.contents w.old) (W.contents w.new) text;
+        })) }
+    ensures asked { IsHostAskedOnly (host_wanted_of (head_at head.now)) (service.new ≡ service.old)
+        (λ question. S.asks service.old question service.new) }
+    ensures write { (result ≡ Err LinkFault.Write) ↔ (before < W.failure_count w.new) }
+    ensures read { result ≢ Err LinkFault.Read }
+    ensures turns { result ≡ Err LinkFault.Turns → MadeAll W.was_written w.old w.new }
+{
+    match host_wanted_of(head) {
+        Ok(wanted) => ask_host(w, service, &wanted, before),
+        Err(refusal) => refuse_host(w, refusal, before),
+    }
+}
+
+// Asks the service for what nothing refuses, and writes the answer.
+fn ask_host<W: Sink, S: HostService>(
+    w: &mut W,
+    service: &mut S,
+    wanted: &HostWanted,
+    before: u64,
+) -> Result<Served, LinkFault>
+    requires unfailed { W.failure_count w.old ≤ before }
+    ensures answered { IfOk result (λ served. (served ≡ Served.Closed)
+        × ((status : ℕ) × S.asks service.old (host_asking (host_wanted_at wanted.now) status) service.new
+        × Appends (W.contents w.old) (W.contents w.new) (host_text wanted.now.request status (S.answer service.new)))) }
+    ensures asked { (status : ℕ) × S.asks service.old (host_asking (host_wanted_at wanted.now) status) service.new }
+    ensures write { (result ≡ Err LinkFault.Write) ↔ (before < W.failure_count w.new) }
+    ensures read { result ≢ Err LinkFault.Read }
+    ensures turns { result ≡ Err LinkFault.Turns → MadeAll W.was_written w.old w.new }
+{
+    let status = service.host(wanted.request, wanted.token);
+    write_told(w, wanted.request, status, service.body(), before)
+}
+
+// Writes the answer with a service's status.
+fn write_told<W: Sink>(
+    w: &mut W,
+    request: HostRequest,
+    status: u16,
+    body: &[u8],
+    before: u64,
+) -> Result<Served, LinkFault>
+    requires unfailed { W.failure_count w.old ≤ before }
+    ensures whole { IfOk result (λ served. (served ≡ Served.Closed)
+        × Appends (W.contents w.old) (W.contents w.new) (host_text request status body.now)) }
+    ensures write { (result ≡ Err LinkFault.Write) ↔ (before < W.failure_count w.new) }
+    ensures read { result ≢ Err LinkFault.Read }
+    ensures turns { result ≡ Err LinkFault.Turns → MadeAll W.was_written w.old w.new }
+{
+    match status {
+        200 => write_closing(w, media_line(request), 200, body, before),
+        401 => refuse(w, 401, before),
+        _ => refuse(w, 503, before),
+    }
+}
+
+// Writes the answer that refuses a request.
+fn refuse_host<W: Sink>(w: &mut W, refusal: HostRefusal, before: u64) -> Result<Served, LinkFault>
+    requires unfailed { W.failure_count w.old ≤ before }
+    ensures refused { IfOk result (λ served. (served ≡ Served.Closed)
+        × Appends (W.contents w.old) (W.contents w.new) (host_refusal_text refusal)) }
+    ensures write { (result ≡ Err LinkFault.Write) ↔ (before < W.failure_count w.new) }
+    ensures read { result ≢ Err LinkFault.Read }
+    ensures turns { result ≡ Err LinkFault.Turns → MadeAll W.was_written w.old w.new }
+{
+    match refusal {
+        HostRefusal::Target => refuse(w, 404, before),
+        HostRefusal::Method(request) => write_closing(w, allow_line(request), 405, b"", before),
+        HostRefusal::Token => refuse(w, 401, before),
+    }
+}
+
+// Writes an answer with a line of its own, behind which the connection is closed.
+fn write_closing<W: Sink>(
+    w: &mut W,
+    own: &[u8],
+    status: u16,
+    body: &[u8],
+    before: u64,
+) -> Result<Served, LinkFault>
+    requires short { length own.now ≤ 50 }
+    requires unfailed { W.failure_count w.old ≤ before }
+    ensures whole { IfOk result (λ served. (served ≡ Served.Closed)
+        × Appends (W.contents w.old) (W.contents w.new) (closing_text own.now status body.now)) }
+    ensures write { (result ≡ Err LinkFault.Write) ↔ (before < W.failure_count w.new) }
+    ensures read { result ≢ Err LinkFault.Read }
+    ensures turns { result ≡ Err LinkFault.Turns → MadeAll W.was_written w.old w.new }
+{
+    write_message(w, head_with(own, status, body.len(), true), body, before)?;
+    Ok(Served::Closed)
+}
+
+fn media_line(request: HostRequest) -> &'static [u8]
+    ensures line { result.now ≡ media_line request }
+    ensures short { length result.now ≤ 50 }
+{
+    match request {
+        HostRequest::Health => b"Content-Type: text/plain\r\n",
+        HostRequest::Metrics => b"Content-Type: text/plain; version=0.0.4\r\n",
+        HostRequest::Setup | HostRequest::Stop => b"Content-Type: application/toml\r\n",
+    }
+}
+
+fn allow_line(request: HostRequest) -> &'static [u8]
+    ensures line { result.now ≡ allow_line request }
+    ensures short { length result.now ≤ 50 }
+{
+    match request {
+        HostRequest::Health | HostRequest::Metrics | HostRequest::Setup => b"Allow: GET\r\n",
+        HostRequest::Stop => b"Allow: POST\r\n",
+    }
+}
