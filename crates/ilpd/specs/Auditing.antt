@@ -1,14 +1,13 @@
 -- What a service audits in the end.
-use Rattle.std.specs.Prelude.{ℕ, zero, suc, ◌≡◌, Bool, true, false, List, [], ◌∷◌, ◌++◌, codes, Result}
+use Rattle.std.specs.Prelude.{ℕ, zero, suc, ◌≡◌, Bool, true, false, List, [], ◌∷◌, ◌++◌, All, map, codes, Result}
 use Rattle.std.specs.Fmt.{decimal}
-use Rattle.std.specs.List.{filter_map}
 use Rattle.tenant_core.specs.declared.command.Answered.{Answered}
 use Rattle.tenant_core.specs.declared.command.Command.TheVariants.{Roll}
 use Rattle.tenant_core.specs.declared.period.PeriodParts.{PeriodParts}
 use Rattle.receipts.specs.Audits.{IsComplete, receipts_of}
 use Rattle.receipts.specs.Runs.{AreOfRun}
 use Rattle.receipts.specs.declared.receipt.Receipt.{Receipt}
-use Rattle.books_shared.specs.Shares.{ShareView, receipts_in}
+use Rattle.books_shared.specs.Shares.{ShareView, receipts_told}
 use Rattle.workers.specs.Carrying.{IsDone, growth}
 use Rattle.workers.specs.declared.governing.GovernFault.{GovernFault}
 
@@ -33,19 +32,20 @@ HaveEnded Gives true tenants before after =
 
 -- ---- the audit
 
--- the receipts of each worker that keeps them
+-- the receipts of each worker: of each of its steps, and of nothing else
 abbrev pub lists_of : List ShareView → List (List Receipt)
-lists_of shares = filter_map receipts_in shares
+lists_of shares = map (λ s. receipts_told s.steps) shares
 
 -- what an audit that says yes tells of that many receipts
 abbrev pub audit_line : ℕ → List ℕ
 audit_line receipts = codes "audit ok " ++ decimal receipts ++ 10 ∷ []
 
--- the receipts of the shares are so many, and complete: those of all entries of these periods, which join, each of which shows its
--- entry and verdict; some order keeps each journal and each worker's list; and in that order they are the records of a run
+-- each worker has kept its receipts; they are so many, and complete: those of all entries of these periods, which join, each of which
+-- shows its entry and verdict; some order keeps each journal and each worker's list; and in that order they are the records of a run
 abbrev pub IsCount : List PeriodParts → List ShareView → ℕ → Type 0
 IsCount periods shares receipts =
-    (order : List ℕ) × IsComplete periods (lists_of shares) order × AreOfRun periods (lists_of shares) order
+    All (λ s. s.audited ≡ true) shares
+    × (order : List ℕ) × IsComplete periods (lists_of shares) order × AreOfRun periods (lists_of shares) order
     × (receipts ≡ receipts_of (lists_of shares))
 
 -- where an audit is wanted, its line tells how many receipts there are, which are complete; else nothing is told

@@ -1,7 +1,7 @@
 //! What a service audits in the end.
 
-ghost use Rattle.std.specs.Prelude.{◌≡◌, ◌<◌, ◌≤◌, ◌+◌, ◌++◌, map, option_to_list, vec_capacity, vec_len, true, IfOk, OnOk};
-ghost use Rattle.books_shared.specs.Shares.{receipts_in};
+ghost use Rattle.std.specs.Prelude.{◌≡◌, ◌<◌, map, vec_len, true, All, IfOk, OnOk};
+ghost use Rattle.books_shared.specs.Shares.{receipts_told};
 ghost use Rattle.ilpd.specs.Auditing.{HaveEnded, HaveRolled, IsAudited, IsCount, WasRolled, audit_line, lists_of};
 
 use crate::office::Office;
@@ -128,27 +128,26 @@ pub fn roll_all<J: Run, H: Wait, C: Clock>(
     rolled
 }
 
-// The receipts of each worker that keeps them.
-fn lists_of<J: Run>(alloc: Global, shares: &[Share<J>]) -> Result<Vec<&[Receipt]>, AllocError>
-    ensures { IfOk result (λ lists. map (λ list. list.now) lists.items ≡ lists_of shares.now) }
+// The receipts of each worker, where all have kept them.
+fn lists_of<J: Run>(alloc: Global, shares: &[Share<J>]) -> Result<Vec<&[Receipt]>, AuditFault>
+    ensures lists { IfOk result (λ lists. map (λ list. list.now) lists.items ≡ lists_of shares.now) }
+    ensures kept { IfOk result (λ lists. All (λ s. s.audited ≡ true) shares.now) }
 {
     let mut lists = Vec::with_capacity(alloc, shares.len())?;
     for share in shares {
-        put_list(&mut lists, share);
+        lists.push_reserved(list_of(share)?);
     }
     Ok(lists)
 }
 
-// Puts the receipts of a worker behind the others, where it keeps some.
-fn put_list<'a, J: Run>(lists: &mut Vec<&'a [Receipt]>, share: &'a Share<J>)
-    requires { vec_len lists.old < vec_capacity lists.old }
-    ensures lists { map (λ list. list.now) lists.new.items
-        ≡ map (λ list. list.now) lists.old.items ++ option_to_list (receipts_in share.now) }
-    ensures few { vec_len lists.new ≤ vec_len lists.old + 1 }
-    ensures capacity { vec_capacity lists.new ≡ vec_capacity lists.old }
+// The receipts of a worker. One that has kept none lacks a receipt of each of its records.
+fn list_of<J: Run>(share: &Share<J>) -> Result<&[Receipt], AuditFault>
+    ensures list { IfOk result (λ list. list.now ≡ receipts_told share.now.steps) }
+    ensures kept { IfOk result (λ list. share.now.audited ≡ true) }
 {
-    if let Some(list) = share.receipts() {
-        lists.push_reserved(list);
+    match share.receipts() {
+        Some(list) => Ok(list),
+        None => Err(AuditFault::Missing),
     }
 }
 
