@@ -6,3 +6,4 @@ pub mod Aheads
 pub mod Conversing
 pub mod Tallies
 pub mod Audits
+pub mod Presents

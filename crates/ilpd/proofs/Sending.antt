@@ -63,7 +63,7 @@ pub office_sync : (J : RattleType) (r : Run.Ghosts J.Denot) → IsSync (Books.th
 office_sync J r books meters =
     let fields = struct_sync (shape (Office.the_type J r)) (
       search (sendable, std.crosses, name_sync) depth 40,
-      (search (sendable, std.crosses, terms_sync) depth 40, (books, (meters, (places_sync, (door_sync, tt))))),
+      (search (sendable, std.crosses, terms_sync) depth 40, (books, (meters, (places_sync, (door_sync, (search (sendable, std.crosses) depth 40, (search (sendable, std.crosses) depth 40, tt))))))),
     ) in
     search (recorded_sync, fields) depth 10
 

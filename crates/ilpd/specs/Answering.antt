@@ -38,8 +38,8 @@ use Rattle.admin_text.specs.declared.commands.TextFault.{TextFault}
 use Rattle.replay_text.specs.Printed.{printed_lines}
 use Rattle.http_link.specs.Connections.{AreAskedBy, IsOver}
 use Rattle.http_link.specs.Serving.{Asked}
-use Rattle.http_link.specs.declared.request.Kind.{Kind}
-use Rattle.http_link.specs.declared.request.Kind.TheVariants.{Ilp, Admin}
+use Rattle.http_link.specs.declared.request.RequestKind.{RequestKind}
+use Rattle.http_link.specs.declared.request.RequestKind.TheVariants.{Ilp, Admin}
 use Rattle.http_link.specs.declared.serve.Served.{Served}
 use Rattle.http_link.specs.declared.streams.LinkFault.{LinkFault}
 use Rattle.ilpd.specs.declared.desk.Desk.{Desk}
@@ -47,7 +47,7 @@ use Rattle.ilpd.specs.declared.office.Office.{Office}
 use Rattle.ilpd.specs.Auditing.{HaveEnded, IsAudited}
 use Rattle.ilpd.specs.declared.serving.Report.{Report}
 use Rattle.ilpd.specs.Served.{lines_upto, tenant_named}
-use Rattle.ilpd.specs.Standing.{balance_lines}
+use Rattle.ilpd.specs.Balances.{balance_lines}
 
 -- nothing is counted, sent or carried
 pub record IsUntouched {J : Type 0} {r : Ghosts J} (before after : Desk J r) : Type 0 where
@@ -144,7 +144,7 @@ WasOrdered Gives true office asked before told after =
 WasOrdered Gives false office asked before told after = (told ≡ status.Unavailable) × IsUntouched before after
 
 -- what is asked, by its kind
-abbrev pub WasAsked : {J : Type 0} {r : Ghosts J} → (Gives : ℕ → Type 0) → Kind → Office J r → Asked → Desk J r → Status → Desk J r → Type 0
+abbrev pub WasAsked : {J : Type 0} {r : Ghosts J} → (Gives : ℕ → Type 0) → RequestKind → Office J r → Asked → Desk J r → Status → Desk J r → Type 0
 WasAsked Gives Ilp office asked before told after =
     WasAskedPacket Gives (nat_lt asked.tenant office.books.tenants) asked before told after
 WasAsked Gives Admin office asked before told after =

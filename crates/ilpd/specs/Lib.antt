@@ -1,8 +1,10 @@
 pub mod Served
-pub mod Standing
+pub mod Balances
 pub mod CommandLine
 pub mod Answering
 pub mod Exchanges
+pub mod Hosting
+pub mod Presence
 pub mod Endings
 pub mod Ahead
 pub mod Auditing

@@ -5,15 +5,15 @@ use Rattle.std.specs.List.{position}
 use Rattle.std.specs.Str.{bytes_eq}
 use Rattle.meters.specs.Seats.{TotalsState, total_of}
 use Rattle.meters.specs.declared.kind.Kind.TheVariants as kind
-use Rattle.http_link.specs.declared.request.Kind.{Kind}
-use Rattle.http_link.specs.declared.request.Kind.TheVariants.{Ilp, Admin}
+use Rattle.http_link.specs.declared.request.RequestKind.{RequestKind}
+use Rattle.http_link.specs.declared.request.RequestKind.TheVariants.{Ilp, Admin}
 
 -- the number of the tenant of that name
 abbrev pub tenant_named : List (List ℕ) → List ℕ → Option ℕ
 tenant_named names name = position (λ known. bytes_eq known name) names
 
 -- the text of the last answer: what the slot tells of a packet, or what was printed of a command
-abbrev pub told_text : Kind → List ℕ → List ℕ → List ℕ
+abbrev pub told_text : RequestKind → List ℕ → List ℕ → List ℕ
 told_text Ilp reply printed = reply
 told_text Admin reply printed = printed
 

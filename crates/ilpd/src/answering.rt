@@ -109,7 +109,7 @@ impl<J: Run> Desk<J> {
         ensures same_meters { self.new.seat.meters ≡ self.old.seat.meters }
         ensures told { self.new.told ≡ self.old.told }
     {
-        let command = match parse_command(alloc, command_line(body)) {
+        let command = match parse_command(alloc, without_line_feed(body)) {
             Ok(command) => command,
             Err(ReadError::Fault(_)) => return Status::Malformed,
             Err(ReadError::Memory) => return Status::Unavailable,
@@ -206,8 +206,8 @@ fn closed_by(output: Output) -> Option<Period> {
     }
 }
 
-// A command without the line feed that may end it.
-fn command_line(body: &[u8]) -> &[u8]
+/// A line without the line feed that may end it.
+pub fn without_line_feed(body: &[u8]) -> &[u8]
     ensures { result.now ≡ command_line body.now }
 {
     match body.split_last() {

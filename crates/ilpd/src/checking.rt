@@ -8,7 +8,6 @@ ghost use Rattle.replay_text.specs.Replay.{refusal_of};
 ghost use Rattle.ilpd.specs.Checking.{good_text, key_line, SaysGood};
 
 use crate::ending::Ending;
-use crate::opening::names_of;
 use admin_text::{IgnoredKey, explain, ignored_keys, read_setup};
 use common_types::ReadError;
 use replay_text::{ReplayFault, explain_script};
@@ -53,21 +52,26 @@ fn memory_refused(_: AllocError) -> Ending {
     Ending::Fault(ReplayFault::Memory)
 }
 
-/// How a run ends whose file or stream failed.
-pub fn fault_of(error: io::Error) -> Ending {
-    Ending::Fault(if error.kind() == ErrorKind::OutOfMemory {
+/// How a run ends whose file or stream failed so.
+pub fn fault_of(why: ErrorKind) -> Ending {
+    Ending::Fault(if why == ErrorKind::OutOfMemory {
         ReplayFault::Memory
     } else {
         ReplayFault::Device
     })
 }
 
+/// How a run ends whose standard output failed.
+pub fn printing(error: io::Error) -> Ending {
+    fault_of(error.kind())
+}
+
 // Says in a line what is wrong.
 fn refuse<W: Write>(writer: &mut W, words: &str, fault: ReplayFault) -> Result<(), Ending>
     ensures { IsErr result }
 {
-    writer.write_all(words.as_bytes()).map_err(fault_of)?;
-    writer.write_all(b"\n").map_err(fault_of)?;
+    writer.write_all(words.as_bytes()).map_err(printing)?;
+    writer.write_all(b"\n").map_err(printing)?;
     Err(Ending::Fault(fault))
 }
 
@@ -86,7 +90,7 @@ fn check_script<W: Write>(
         Err(ReadError::Memory) => return Err(Ending::Fault(ReplayFault::Memory)),
         Err(ReadError::Fault(fault)) => return Err(Ending::Fault(ReplayFault::Setup(fault))),
     };
-    let names = names_of(alloc, setup.tenants.as_slice()).map_err(memory_refused)?;
+    let names = setup.names(alloc).map_err(memory_refused)?;
     let found = explain_script(alloc, names.as_slice(), script.workers, script.text).map_err(
         memory_refused,
     )?;
@@ -125,5 +129,5 @@ pub fn check<W: Write>(
     }
     let keys = ignored_keys(alloc, setup).map_err(memory_refused)?;
     let text = good_text(alloc, keys.as_slice()).map_err(memory_refused)?;
-    writer.write_all(text.as_slice()).map_err(fault_of)
+    writer.write_all(text.as_slice()).map_err(printing)
 }

@@ -35,8 +35,15 @@ const CONNECTIONS: usize = 256;
 /// The most connections for each worker before a service ends.
 const MAX_ROUNDS: u32 = 1_000_000;
 
-/// What the command line asks for, the file of the setup, how many workers there are, and the address that a service
-/// listens on.
+/// The address of the host's door, and the file of the token that is shown there.
+#[derive(Clone, Copy, Debug, PartialEq, Eq)]
+pub struct HostWords<'a> {
+    pub address: &'a str,
+    pub token_file: &'a str,
+}
+
+/// What the command line asks for, the file of the setup, how many workers there are, the address that a service listens on,
+/// and the host's door, if it has one.
 #[derive(Drop)]
 pub struct CommandLine<'a> {
     pub task: Task,
@@ -45,6 +52,7 @@ pub struct CommandLine<'a> {
     pub script: Option<&'a str>,
     pub workers: usize,
     pub address: &'a str,
+    pub host: Option<HostWords<'a>>,
 }
 
 /// The address that a service listens on where the command line names none.
@@ -55,7 +63,8 @@ const VERSION: &str = "0.1.0";
 
 const USAGE: &str =
     "ilpd replay SETUP [--workers W] < SCRIPT\n       ilpd check SETUP [SCRIPT [--workers W]]\n       \
-ilpd serve SETUP --workers W [--connections C] [--rounds N] [--balances] [--audit] [--listen ADDR]";
+ilpd serve SETUP --workers W [--connections C] [--rounds N] [--balances] [--audit] [--listen ADDR]\n                  \
+[--host ADDR --host-token FILE]";
 
 const WHERE: &str =
     "docs/FORMATS.md describes setups, scripts and what is printed; examples/ has some of each";
@@ -136,7 +145,7 @@ fn serve_of<'a>(alloc: Global) -> Result<Command<'a>, AllocError> {
             "Serves packets and commands over HTTP, and prints in the end how many were answered how",
         )
         .override_usage(
-            "ilpd serve SETUP --workers W [--connections C] [--rounds N] [--balances] [--audit] [--listen ADDR]",
+            "ilpd serve SETUP --workers W [--connections C] [--rounds N] [--balances] [--audit] [--listen ADDR]\n                  [--host ADDR --host-token FILE]",
         )
         .after_help("Example: ilpd serve examples/serve.toml --workers 4")
         .arg(setup_of(alloc))?
@@ -146,6 +155,25 @@ fn serve_of<'a>(alloc: Global) -> Result<Command<'a>, AllocError> {
         .arg(balances)?
         .arg(audit)?
         .arg(listen)
+}
+
+// The words of the host's door, of which each wants the other.
+fn with_host<'a>(alloc: Global, serve: Command<'a>) -> Result<Command<'a>, AllocError> {
+    let host = Arg::new(alloc, "host")
+        .long("host")
+        .value_name("ADDR")
+        .help(
+            "The address at which whoever runs the process asks for health, metrics and the present setup, and stops it",
+        )
+        .action(ArgAction::Set)
+        .requires_arg("host-token")?;
+    let host_token = Arg::new(alloc, "host-token")
+        .long("host-token")
+        .value_name("FILE")
+        .help("The file of the token that is shown there")
+        .action(ArgAction::Set)
+        .requires_arg("host")?;
+    serve.arg(host)?.arg(host_token)
 }
 
 // How many workers there are, 1 where nothing is said.
@@ -180,6 +208,14 @@ fn rounds_of(words: &ArgMatches<'_>) -> Option<u32>
     }
 }
 
+// The host's door, where both of its words are there.
+fn host_of<'a>(words: &ArgMatches<'a>) -> Option<HostWords<'a>> {
+    Some(HostWords {
+        address: words.get_str("host")?,
+        token_file: words.get_str("host-token")?,
+    })
+}
+
 // A line with the setup that the words name.
 fn line_of<'a>(
     task: Task,
@@ -196,6 +232,7 @@ fn line_of<'a>(
         script: words.get_str("SCRIPT"),
         workers,
         address,
+        host: None,
     }
 }
 
@@ -217,7 +254,10 @@ fn line_in<'a>(matches: &ArgMatches<'a>) -> CommandLine<'a>
                 },
             };
             let address = serve.get_str("listen").unwrap_or(ADDRESS);
-            line_of(task, serve, workers_of(serve), address)
+            CommandLine {
+                host: host_of(serve),
+                ..line_of(task, serve, workers_of(serve), address)
+            }
         }
         Some((_, replay)) => line_of(Task::Replay, replay, workers_of(replay), ADDRESS),
         None => line_of(Task::Replay, matches, 1, ADDRESS),
@@ -225,9 +265,10 @@ fn line_in<'a>(matches: &ArgMatches<'a>) -> CommandLine<'a>
 }
 
 /// Reads the words of `ilpd replay SETUP [--workers W]`, `ilpd check SETUP [SCRIPT [--workers W]]` or
-/// `ilpd serve SETUP --workers W [--connections C] [--rounds N] [--balances] [--audit] [--listen ADDR]`, the program's name first. W is 1 to 64, and
-/// 1 for a script where it is left out; C is 1 to 4,096, and 256 where it is left out; N is 1 to 1,000,000; ADDR is
-/// 127.0.0.1:7768 where it is left out.
+/// `ilpd serve SETUP --workers W [--connections C] [--rounds N] [--balances] [--audit] [--listen ADDR] [--host ADDR
+/// --host-token FILE]`, the program's name first. W is 1 to 64, and 1 for a script where it is left out; C is 1 to 4,096, and
+/// 256 where it is left out; N is 1 to 1,000,000; the ADDR to listen on is 127.0.0.1:7768 where it is left out. There is a
+/// host's door only where both of its words are there.
 ///
 /// The error has the text for people, of a request for help or the version too, or says that memory was refused.
 pub fn arguments<'a>(alloc: Global, words: &'a [String]) -> Result<CommandLine<'a>, Error>
@@ -243,7 +284,7 @@ pub fn arguments<'a>(alloc: Global, words: &'a [String]) -> Result<CommandLine<'
         .subcommand_required(true)
         .subcommand(replay_of(alloc)?)?
         .subcommand(check_of(alloc)?)?
-        .subcommand(serve_of(alloc)?)?;
+        .subcommand(with_host(alloc, serve_of(alloc)?)?)?;
     let matches = command.try_get_matches_from(words)?;
     Ok(line_in(&matches))
 }

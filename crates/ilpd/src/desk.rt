@@ -6,7 +6,7 @@ ghost use Rattle.ilpd.specs.Served.{told_text};
 
 use books_shared::Share;
 use floor_core::Slot;
-use http_link::Kind;
+use http_link::RequestKind;
 use meters::MeterSeat;
 use one_list::Run;
 use std::alloc::Global;
@@ -23,7 +23,7 @@ pub struct Desk<J: Run> {
     /// The lines of the last command that was answered.
     pub printed: Vec<u8>,
     /// Whether it was a packet or a command that was answered last.
-    pub told: Kind,
+    pub told: RequestKind,
     /// The periods that its commands closed, where the run is audited.
     pub periods: Vec<Period>,
     ghost plain: { seat.first ≡ false },
@@ -44,7 +44,7 @@ impl<J: Run> Desk<J> {
             slot,
             sent: 0,
             printed: Vec::new(alloc),
-            told: Kind::Ilp,
+            told: RequestKind::Ilp,
             periods: Vec::new(alloc),
         }
     }
@@ -54,8 +54,8 @@ impl<J: Run> Desk<J> {
         ensures { result.now ≡ told_text self.now.told self.now.slot.reply self.now.printed.items }
     {
         match self.told {
-            Kind::Ilp => self.slot.reply(),
-            Kind::Admin => self.printed.as_slice(),
+            RequestKind::Ilp => self.slot.reply(),
+            RequestKind::Admin => self.printed.as_slice(),
         }
     }
 }

@@ -1,14 +1,18 @@
-//! Which connections may still come, and whether others wait for the thread of one.
+//! Which connections may still come, how many are there, and whether others wait for the thread of one.
 
 use std::sync::Wait;
 use std::sync::atomic::{AtomicBool, AtomicU64, Ordering};
 
-/// How many connections may still be served, how many threads wait for one, and whether the system refuses them.
+/// How many connections may still be served, how many are open, how many threads wait for one, and whether the system refuses
+/// them. A door that is closed lets no connection in any more, and presses those that are open to end.
 #[derive(Drop)]
 pub struct Door {
     left: AtomicU64,
+    open: AtomicU64,
     waiting: AtomicU64,
     refused: AtomicBool,
+    closed: AtomicBool,
+    deserted: AtomicBool,
 }
 
 impl Door {
@@ -16,8 +20,11 @@ impl Door {
     pub fn new(connections: u64) -> Door {
         Door {
             left: AtomicU64::new(connections),
+            open: AtomicU64::new(0),
             waiting: AtomicU64::new(0),
             refused: AtomicBool::new(false),
+            closed: AtomicBool::new(false),
+            deserted: AtomicBool::new(false),
         }
     }
 
@@ -25,7 +32,7 @@ impl Door {
     pub fn enter(&self, rt: &impl Wait) -> bool {
         for _ in rt.forever() {
             let left = self.left.load(Ordering::SeqCst);
-            if left == 0 {
+            if left == 0 || self.is_closed() {
                 return false;
             }
             let taken = self
@@ -43,6 +50,49 @@ impl Door {
         self.left.fetch_add(1, Ordering::SeqCst);
     }
 
+    /// A connection is open from now on.
+    pub fn connection_begins(&self) {
+        self.open.fetch_add(1, Ordering::SeqCst);
+    }
+
+    /// A connection has ended.
+    pub fn connection_ends(&self) {
+        self.open.fetch_sub(1, Ordering::SeqCst);
+    }
+
+    /// How many connections are open.
+    pub fn open(&self) -> u64 {
+        self.open.load(Ordering::SeqCst)
+    }
+
+    /// How many threads wait for a connection.
+    pub fn waiting(&self) -> u64 {
+        self.waiting.load(Ordering::SeqCst)
+    }
+
+    /// Lets nobody in any more.
+    pub fn close(&self) {
+        self.closed.store(true, Ordering::SeqCst);
+    }
+
+    pub fn is_closed(&self) -> bool {
+        self.closed.load(Ordering::SeqCst)
+    }
+
+    /// Says that no thread serves connections any more.
+    pub fn desert(&self) {
+        self.deserted.store(true, Ordering::SeqCst);
+    }
+
+    pub fn is_deserted(&self) -> bool {
+        self.deserted.load(Ordering::SeqCst)
+    }
+
+    /// Whether a connection that comes is let in: the door is open, and the system does not refuse it.
+    pub fn lets_in(&self) -> bool {
+        !self.is_closed() && !self.refused.load(Ordering::SeqCst)
+    }
+
     /// One more thread waits for a connection.
     pub fn wait_begins(&self) {
         self.waiting.fetch_add(1, Ordering::SeqCst);
@@ -58,8 +108,9 @@ impl Door {
         self.refused.store(refused, Ordering::SeqCst);
     }
 
-    /// Whether a connection that comes has to wait for one that ends: no thread waits for it, or the system refuses it.
+    /// Whether connections that are open are to hurry: a connection that comes has to wait for one that ends, since no thread
+    /// waits for it or the system refuses it; or the door is closed.
     pub fn is_crowded(&self) -> bool {
-        self.waiting.load(Ordering::SeqCst) == 0 || self.refused.load(Ordering::SeqCst)
+        self.waiting() == 0 || !self.lets_in()
     }
 }

@@ -18,6 +18,8 @@ pub enum Ending {
     Differs,
     /// An audit found a fault, which a service has told.
     Audit,
+    /// The file of the host's token holds none, as a line has said.
+    NoToken,
 }
 
 /// How a run ends whose words were not taken: for want of memory where they were refused it, and else with the text for
@@ -45,7 +47,7 @@ pub fn exit_status(ended: &Result<(), Ending>) -> u8
 {
     match ended {
         Ok(()) => 0,
-        Err(Ending::Usage(_)) => 2,
+        Err(Ending::Usage(_) | Ending::NoToken) => 2,
         Err(Ending::Fault(fault)) => fault.status(),
         Err(Ending::Differs | Ending::Audit) => 6,
     }

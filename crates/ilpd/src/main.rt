@@ -1,39 +1,46 @@
 //! The connector's program.
 #![tactic(auto)]
 
-ghost use Rattle.std.specs.Prelude.{◌≤◌};
+ghost use Rattle.std.specs.Prelude.{◌≤◌, length};
+ghost use Rattle.tenant_core.specs.Limits.{max_tenants};
 
 mod ahead;
 mod answering;
 mod auditing;
+mod balances;
 mod checking;
 mod clock;
 mod command_line;
 mod desk;
 mod door;
 mod ending;
+mod hosting;
 mod link;
+mod metrics;
 mod office;
 mod opening;
+mod presence;
 mod serving;
 #[cfg(test)]
 mod serving_tests;
-mod standing;
 #[cfg(test)]
 mod tests;
 mod timed;
 mod worker;
 
 use admin_text::laws::setups;
-use admin_text::read_setup;
-use checking::{Script, check, fault_of};
+use admin_text::{Setup, read_setup};
+use answering::without_line_feed;
+use checking::{Script, check, fault_of, printing};
 use clock::SystemClock;
-use command_line::{Task, arguments};
-use common_types::ReadError;
+use command_line::{HostWords, Task, arguments};
+use common_types::{ReadError, Token};
 use ending::{Ending, asks_version, exit_status, words_refused};
+pub use hosting::HostDoor;
 use oer_core::Counted;
 pub use replay_text::{ReplayFault, replay};
-pub use serving::{Extent, Report, ServeFault, serve};
+pub use serving::{Doors, Extent, Report, ServeFault, serve};
+use std::io::ErrorKind;
 use std::net::{Net, SocketAddr, TcpListener, TcpStream};
 use std::process::ExitCode;
 use std::rt::{Env, Files};
@@ -58,6 +65,18 @@ fn warn(rt: &impl Eprint, extent: Extent, tenants: usize) {
     }
 }
 
+// Says in a line on standard output what could not be done with what, and why, and gives how the run ends.
+fn cannot(rt: &(impl Print + AllocGlobal), doing: &str, what: &str, error: &io::Error) -> Ending {
+    let why = error.kind();
+    let _ = println!(rt; "ilpd: cannot {doing} {what}: {why}");
+    fault_of(why)
+}
+
+// All that is in a file.
+fn read_file(rt: &(impl Files + Print + AllocGlobal), file: &str) -> Result<Vec<u8>, Ending> {
+    fs::read(rt, file).map_err(|error| cannot(rt, "read", file, &error))
+}
+
 // Says whether the setup is good, and the script of that file for it, where one is named.
 fn check_at(
     rt: &(impl Files + Print + AllocGlobal),
@@ -69,14 +88,37 @@ fn check_at(
     let Some(file) = script else {
         return check(alloc, setup, None, &mut writer);
     };
-    let text = fs::read(rt, file).map_err(fault_of)?;
+    let text = read_file(rt, file)?;
     let text = text.as_slice();
     check(alloc, setup, Some(Script { text, workers }), &mut writer)
 }
 
-// Serves the setup on an address, which is an IP address and a port.
+// A listener on an address, which is an IP address and a port.
+fn listener_on<R: Net<Listener = TcpListener, Stream = TcpStream> + Print + AllocGlobal>(
+    rt: &R,
+    address: &str,
+) -> Result<TcpListener, Ending> {
+    let Ok(parsed) = address.parse::<SocketAddr>() else {
+        let wrong = io::Error::from(ErrorKind::InvalidInput);
+        return Err(cannot(rt, "listen on", address, &wrong));
+    };
+    TcpListener::bind(rt, parsed).map_err(|error| cannot(rt, "listen on", address, &error))
+}
+
+// The token that a file holds, which a line feed may end.
+fn token_in(rt: &(impl Files + Print + AllocGlobal), file: &str) -> Result<Token, Ending> {
+    let text = read_file(rt, file)?;
+    let Some(token) = Token::new(without_line_feed(text.as_slice())) else {
+        let _ = println!(rt; "ilpd: {file} holds no token: 1 to 64 of A-Z a-z 0-9 - . _ ~ + / =");
+        return Err(Ending::NoToken);
+    };
+    Ok(token)
+}
+
+// Serves the setup at the doors that the command line names.
 fn serve_at<
     R: Net<Listener = TcpListener, Stream = TcpStream>
+        + Files
         + Threads
         + Wait
         + Clock
@@ -84,7 +126,14 @@ fn serve_at<
         + Eprint
         + AllocGlobal
         + Sync,
->(rt: &R, setup: &[u8], extent: Extent, report: Report, address: &str) -> Result<(), Ending>
+>(
+    rt: &R,
+    setup: &[u8],
+    extent: Extent,
+    report: Report,
+    address: &str,
+    host: Option<HostWords<'_>>,
+) -> Result<(), Ending>
     requires workers { (1 ≤ extent.workers) × (extent.workers ≤ 64) }
     requires connections { (1 ≤ extent.connections) × (extent.connections ≤ 4_096) }
 {
@@ -95,30 +144,66 @@ fn serve_at<
         Err(ReadError::Memory) => return Err(Ending::Fault(ReplayFault::Memory)),
         Err(ReadError::Fault(fault)) => return Err(Ending::Fault(ReplayFault::Setup(fault))),
     };
-    let Ok(address) = address.parse::<SocketAddr>() else {
-        return Err(Ending::Fault(ReplayFault::Device));
+    let Some(words) = host else {
+        let packets = listener_on(rt, address)?;
+        println!(rt; "listening {address}").map_err(printing)?;
+        return serve_by(rt, &setup, extent, report, &packets, None);
     };
-    let listener = TcpListener::bind(rt, address).map_err(fault_of)?;
-    println!(rt; "listening {address}").map_err(fault_of)?;
+    let token = token_in(rt, words.token_file)?;
+    let packets = listener_on(rt, address)?;
+    let listener = listener_on(rt, words.address)?;
+    let door = HostDoor::new(&listener, &token, &packets).map_err(printing)?;
+    println!(rt; "listening {address}\nhost {}", words.address).map_err(printing)?;
+    serve_by(rt, &setup, extent, report, &packets, Some(door))
+}
+
+// Serves the setup at these doors, by the system's clock.
+fn serve_by<
+    R: Net<Listener = TcpListener, Stream = TcpStream>
+        + Threads
+        + Wait
+        + Clock
+        + Print
+        + Eprint
+        + AllocGlobal
+        + Sync,
+>(
+    rt: &R,
+    setup: &Setup,
+    extent: Extent,
+    report: Report,
+    packets: &TcpListener,
+    host: Option<HostDoor<'_>>,
+) -> Result<(), Ending>
+    requires tenants { (1 ≤ length setup.now.tenants) × (length setup.now.tenants ≤ max_tenants) }
+    requires workers { (1 ≤ extent.workers) × (extent.workers ≤ 64) }
+    requires connections { (1 ≤ extent.connections) × (extent.connections ≤ 4_096) }
+{
     warn(rt, extent, setup.tenants.as_slice().len());
     let clock = SystemClock::new(rt);
     let mut writer = io::writer(rt);
+    let doors = Doors { packets, host };
     serve(
         rt,
-        alloc,
-        &setup,
+        rt.alloc(),
+        setup,
         extent,
         report,
-        &listener,
+        doors,
         &clock,
         &mut writer,
     )
-    .map_err(|fault| match fault {
+    .map_err(ended_by)
+}
+
+// How a run ends whose service ended so.
+fn ended_by(fault: ServeFault) -> Ending {
+    match fault {
         ServeFault::Memory => Ending::Fault(ReplayFault::Memory),
         ServeFault::Device => Ending::Fault(ReplayFault::Device),
         ServeFault::Differs => Ending::Differs,
         ServeFault::Audit => Ending::Audit,
-    })
+    }
 }
 
 fn run<
@@ -136,15 +221,15 @@ fn run<
 >(rt: &R) -> Result<(), Ending> {
     let alloc = rt.alloc();
     let words: Vec<String> = env::args(rt)
-        .map_err(fault_of)?
+        .map_err(printing)?
         .collect(alloc)
         .map_err(|_| Ending::Fault(ReplayFault::Memory))?;
     let line = match arguments(alloc, words.as_slice()) {
         Ok(line) => line,
-        Err(error) if asks_version(&error) => return rt.print(error).map_err(fault_of),
+        Err(error) if asks_version(&error) => return rt.print(error).map_err(printing),
         Err(error) => return Err(words_refused(error)),
     };
-    let setup = fs::read(rt, line.setup).map_err(fault_of)?;
+    let setup = read_file(rt, line.setup)?;
     match line.task {
         Task::Check => check_at(rt, setup.as_slice(), line.script, line.workers),
         Task::Serve {
@@ -157,7 +242,8 @@ fn run<
                 connections,
                 rounds,
             };
-            serve_at(rt, setup.as_slice(), extent, report, line.address)
+            let setup = setup.as_slice();
+            serve_at(rt, setup, extent, report, line.address, line.host)
         }
         Task::Replay => {
             let mut reader = Counted::new(rt.reader());
@@ -171,7 +257,7 @@ fn run<
 fn main(rt: HostRuntime) -> ExitCode {
     let ended = run(&rt);
     match &ended {
-        Ok(()) | Err(Ending::Audit) => {}
+        Ok(()) | Err(Ending::Audit | Ending::NoToken) => {}
         Err(Ending::Usage(error)) => {
             let _ = rt.eprint(error);
         }

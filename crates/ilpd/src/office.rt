@@ -6,8 +6,10 @@ ghost use Rattle.ilpd.specs.Served.{tenant_named};
 use crate::door::Door;
 use books_shared::Books;
 use common_types::{Name, Token};
+use ilp_addr::Moment;
 use meters::Meters;
 use one_list::Run;
+use std::sync::atomic::{AtomicU64, Ordering};
 use workers::Places;
 
 /// What a service knows of a tenant beside its book.
@@ -31,6 +33,10 @@ pub struct Office<J: Run> {
     pub places: Places,
     /// Where connections come in.
     pub door: Door,
+    /// How many commands came for each tenant under a token that is not its operator's.
+    pub refused_tokens: Vec<AtomicU64>,
+    /// Where the tenants' clocks began.
+    pub start: Moment,
     ghost known: { vec_len terms ≡ books.tenants },
     ghost metered: { meters.tenants ≡ books.tenants },
 }
@@ -44,5 +50,20 @@ impl<J: Run> Office<J> {
             .as_slice()
             .iter()
             .position(|known| known.as_bytes() == name)
+    }
+
+    /// Counts a command for the tenant under a token that is not its operator's.
+    pub fn refuse_token(&self, tenant: usize) {
+        if let Some(count) = self.refused_tokens.get(tenant) {
+            count.fetch_add(1, Ordering::SeqCst);
+        }
+    }
+
+    /// How many commands came so for the tenant.
+    pub fn refused_tokens(&self, tenant: usize) -> u64 {
+        match self.refused_tokens.get(tenant) {
+            Some(count) => count.load(Ordering::SeqCst),
+            None => 0,
+        }
     }
 }

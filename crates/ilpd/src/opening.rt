@@ -12,10 +12,10 @@ use crate::door::Door;
 use crate::office::{Office, Terms};
 use admin_text::Setup;
 use books_shared::{Books, Share};
-use common_types::Name;
 use meters::{MeterSeat, Meters};
 use one_list::{Opened, Run};
 use std::alloc::{AllocError, Global};
+use std::sync::atomic::AtomicU64;
 use tenant_core::TenantSetup;
 use workers::Places;
 
@@ -56,12 +56,14 @@ pub fn open_office<J: Run>(
     let (books, shares) = Books::new(alloc, opened, tenants, setup.start, workers, audited)?;
     let (meters, first) = Meters::new(alloc, tenants.len())?;
     let office = Office {
-        names: names_of(alloc, tenants)?,
+        names: setup.names(alloc)?,
         terms: terms_of(alloc, tenants)?,
         books,
         meters,
         places,
         door,
+        refused_tokens: counters(alloc, tenants.len())?,
+        start: setup.start,
     };
     Ok(Begun {
         office,
@@ -70,15 +72,13 @@ pub fn open_office<J: Run>(
     })
 }
 
-/// The names of the tenants, in their order.
-pub fn names_of(alloc: Global, tenants: &[TenantSetup]) -> Result<Vec<Name>, AllocError>
-    ensures { IfOk result (λ names. names.items ≡ map (λ t. t.name) tenants.now) }
-{
-    let mut names = Vec::with_capacity(alloc, tenants.len())?;
-    for tenant in tenants {
-        names.push_reserved(tenant.terms().name.copy());
+// So many counters, which stand at nothing.
+fn counters(alloc: Global, many: usize) -> Result<Vec<AtomicU64>, AllocError> {
+    let mut all = Vec::new(alloc);
+    for _ in 0..many {
+        all.push(AtomicU64::new(0))?;
     }
-    Ok(names)
+    Ok(all)
 }
 
 // The terms of the tenants, in their order.

@@ -1,6 +1,6 @@
 //! The service: all its workers, and what they counted.
 
-ghost use Rattle.std.specs.Prelude.{ℕ, ◌≡◌, ◌+◌, ◌≤◌, ◌<◌, ◌++◌, length, map, vec_len, true, All, IfOk, OnOk};
+ghost use Rattle.std.specs.Prelude.{ℕ, ◌≡◌, ◌+◌, ◌≤◌, ◌<◌, ◌++◌, length, map, vec_len, true, option_map, slice_index_or, All, IfOk, OnErr, OnOk};
 ghost use Rattle.std.specs.Io.KnownBytes.{Appends};
 ghost use Rattle.std.specs.List.{sum_by};
 ghost use Rattle.allotment.specs.Loans.{max_places};
@@ -8,17 +8,19 @@ ghost use Rattle.books_shared.specs.Gathers.{max_workers};
 ghost use Rattle.books_shared.specs.Traced.{openings_of};
 ghost use Rattle.tenant_core.specs.Limits.{max_tenants};
 ghost use Rattle.std.specs.Fmt.{decimal};
-ghost use Rattle.meters.specs.Seats.{count_of};
+ghost use Rattle.meters.specs.Seats.{count_of, max_splits};
 ghost use Rattle.meters.specs.declared.kind.Kind as meter;
 ghost use Rattle.ilpd.specs.Answering.{HasToldCounts, HasToldCountsIn, HasWorked, HaveCounted, IsFresh, IsNew};
+ghost use Rattle.ilpd.specs.Hosting.{IsIdle, seats_in};
 ghost use Rattle.ilpd.specs.Served.{line_of, lines_upto};
 
 use crate::auditing::{Found, audited, bad_line, roll_all};
+use crate::balances::balance_lines;
 use crate::desk::Desk;
 use crate::door::Door;
+use crate::hosting::{Beside, Host, HostDoor};
 use crate::office::Office;
 use crate::opening::{Begun, open_office};
-use crate::standing::balance_lines;
 use crate::worker::Worker;
 use admin_text::Setup;
 use books_shared::{GatherFault, Share};
@@ -33,10 +35,10 @@ use std::io::{ErrorKind, Write};
 use std::marker::Brand;
 use std::net::{Net, TcpListener, TcpStream};
 use std::sync::Wait;
-use std::thread::Threads;
+use std::thread::{Threads, join_mut};
 use tenant_core::Period;
 use thiserror::Error;
-use workers::{Places, run_workers};
+use workers::{Lane, Places, StartFault, run_workers};
 
 /// Why a service ended otherwise than after its rounds.
 #[derive(Clone, Copy, Debug, PartialEq, Eq, Error)]
@@ -58,6 +60,16 @@ pub enum ServeFault {
 impl From<AllocError> for ServeFault {
     fn from(_: AllocError) -> ServeFault {
         ServeFault::Memory
+    }
+}
+
+impl From<io::Error> for ServeFault {
+    fn from(error: io::Error) -> ServeFault {
+        if error.kind() == ErrorKind::OutOfMemory {
+            ServeFault::Memory
+        } else {
+            ServeFault::Device
+        }
     }
 }
 
@@ -161,15 +173,14 @@ fn append(periods: &mut Vec<Period>, more: Vec<Period>) -> Result<(), AllocError
 
 // Lets all workers serve, on threads.
 fn work_all<
-    'a,
     H: Threads + Wait + Net<Listener = TcpListener, Stream = TcpStream> + std::time::Clock + Sync,
     C: workers::Clock + Sync,
     J: Run + Send + Sync,
 >(
-    handle: &'a H,
-    office: &'a Office<J>,
-    clock: &'a C,
-    lanes: &mut [Worker<'a, H, C, J>],
+    handle: &H,
+    office: &Office<J>,
+    clock: &C,
+    lanes: &mut [Worker<'_, H, C, J>],
 ) -> Result<(), ServeFault>
     requires new { All (λ lane. IsNew lane.desk) lanes.old }
     requires office { All (λ lane. lane.office.now ≡ office.now) lanes.old }
@@ -181,6 +192,119 @@ fn work_all<
     match run_workers(handle, lanes) {
         Ok(()) => Ok(()),
         Err(_) => Err(ServeFault::Device),
+    }
+}
+
+// The host at that door, who reads the meters through a seat of its own.
+fn host_at<'a, H, J: Run>(
+    handle: &'a H,
+    alloc: Global,
+    office: &'a Office<J>,
+    first: &mut MeterSeat,
+    door: Option<HostDoor<'a>>,
+) -> Option<Host<'a, H, J>>
+    requires here { first.old.meters ≡ office.now.meters.id }
+    requires first { first.old.first ≡ true }
+    requires few { first.old.splits < max_splits }
+    ensures idle { IsIdle office.now.meters.id (option_map (λ host. host.seat) result) }
+    ensures here { first.new.meters ≡ first.old.meters }
+    ensures first { first.new.first ≡ true }
+    ensures splits { first.new.splits ≡ first.old.splits + seats_in (option_map (λ host. host.seat) result) }
+    ensures joins { first.new.joins ≡ first.old.joins }
+    ensures counts { first.new.counts ≡ first.old.counts }
+{
+    let door = door?;
+    let seat = office.meters.split(first);
+    Some(Host::new(handle, alloc, office, door, seat))
+}
+
+// Takes the host's seat back, at which nothing was counted.
+fn host_leaves<H, J: Run>(office: &Office<J>, first: &mut MeterSeat, host: Option<Host<'_, H, J>>)
+    requires here { first.old.meters ≡ office.now.meters.id }
+    requires idle { IsIdle office.now.meters.id (option_map (λ host. host.seat) host) }
+    ensures here { first.new.meters ≡ first.old.meters }
+    ensures first { first.new.first ≡ first.old.first }
+    ensures splits { first.new.splits ≡ first.old.splits }
+    ensures joins { first.new.joins ≡ first.old.joins + seats_in (option_map (λ host. host.seat) host.entry) }
+    ensures counts { (tenant : ℕ) (kind : meter.Kind) → count_of tenant kind first.new ≡ count_of tenant kind first.old }
+{
+    if let Some(host) = host {
+        office.meters.join(first, host.into_seat());
+    }
+}
+
+// Lets each lane work on a thread of its own, and the other stay beside them until all have ended.
+fn run_beside<H: Threads + Wait + Sync, W: Lane, B: Beside>(
+    handle: &H,
+    door: &Door,
+    lanes: &mut [W],
+    other: &mut B,
+) -> Result<(), StartFault>
+    ensures ok { OnOk result ((i : ℕ) (d : W) → i < length lanes.old
+        → W.works (slice_index_or lanes.old i d) (slice_index_or lanes.new i d)) }
+    ensures err { OnErr result (lanes.new ≡ lanes.old) }
+    ensures other { B.stays other.old other.new }
+{
+    let (started, ()) = join_mut(
+        handle,
+        &mut || {
+            let started = run_workers(handle, lanes);
+            door.desert();
+            started
+        },
+        &mut || other.stay(),
+    );
+    started
+}
+
+// Lets all workers serve, on threads, and the host answer until they have ended.
+fn work_beside<
+    H: Threads + Wait + Net<Listener = TcpListener, Stream = TcpStream> + std::time::Clock + Sync,
+    C: workers::Clock + Sync,
+    J: Run + Send + Sync,
+>(
+    handle: &H,
+    office: &Office<J>,
+    clock: &C,
+    lanes: &mut [Worker<'_, H, C, J>],
+    host: &mut Host<'_, H, J>,
+) -> Result<(), ServeFault>
+    requires new { All (λ lane. IsNew lane.desk) lanes.old }
+    requires office { All (λ lane. lane.office.now ≡ office.now) lanes.old }
+    requires clock { All (λ lane. lane.clock.now ≡ clock.now) lanes.old }
+    ensures office { All (λ lane. lane.office.now ≡ office.now) lanes.new }
+    ensures worked { OnOk result (All (λ lane. HasWorked (C.gives clock.now) office.now lane.desk) lanes.new) }
+    ensures seat { host.new.seat ≡ host.old.seat }
+{
+    meters_are_shared();
+    match run_beside(handle, &office.door, lanes, host) {
+        Ok(()) => Ok(()),
+        Err(_) => Err(ServeFault::Device),
+    }
+}
+
+// Lets all workers serve, and the host answer until they have ended, where there is one.
+fn work_with<
+    H: Threads + Wait + Net<Listener = TcpListener, Stream = TcpStream> + std::time::Clock + Sync,
+    C: workers::Clock + Sync,
+    J: Run + Send + Sync,
+>(
+    handle: &H,
+    office: &Office<J>,
+    clock: &C,
+    lanes: &mut [Worker<'_, H, C, J>],
+    host: &mut Option<Host<'_, H, J>>,
+) -> Result<(), ServeFault>
+    requires new { All (λ lane. IsNew lane.desk) lanes.old }
+    requires office { All (λ lane. lane.office.now ≡ office.now) lanes.old }
+    requires clock { All (λ lane. lane.clock.now ≡ clock.now) lanes.old }
+    ensures office { All (λ lane. lane.office.now ≡ office.now) lanes.new }
+    ensures worked { OnOk result (All (λ lane. HasWorked (C.gives clock.now) office.now lane.desk) lanes.new) }
+    ensures seat { option_map (λ host. host.seat) host.new ≡ option_map (λ host. host.seat) host.old }
+{
+    match host {
+        Some(host) => work_beside(handle, office, clock, lanes, host),
+        None => work_all(handle, office, clock, lanes),
     }
 }
 
@@ -196,7 +320,7 @@ pub fn run_all<
     office: &'a Office<J>,
     first: &mut MeterSeat,
     shares: Vec<Share<J>>,
-    listener: &'a TcpListener,
+    doors: Doors<'a>,
     clock: &'a C,
 ) -> Result<Done<J>, ServeFault>
     requires here { first.old.meters ≡ office.now.meters.id }
@@ -213,8 +337,10 @@ pub fn run_all<
     ensures counted { IfOk result (λ done. HaveCounted (C.gives clock.now) office.now (vec_len shares) done.shares.items
         (λ tenant kind. count_of tenant kind first.new)) }
 {
-    let mut lanes = hired(handle, alloc, office, first, shares, listener, clock)?;
-    work_all(handle, office, clock, lanes.as_mut_slice())?;
+    let mut lanes = hired(handle, alloc, office, first, shares, doors.packets, clock)?;
+    let mut host = host_at(handle, alloc, office, first, doors.host);
+    work_with(handle, office, clock, lanes.as_mut_slice(), &mut host)?;
+    host_leaves(office, first, host);
     Ok(dismissed(alloc, office, first, lanes)?)
 }
 
@@ -259,14 +385,6 @@ fn put_count(alloc: Global, text: &mut Vec<u8>, words: &[u8], count: u64) -> Res
     text.extend_from_slice(count.as_bytes())
 }
 
-fn fault_of(error: io::Error) -> ServeFault {
-    if error.kind() == ErrorKind::OutOfMemory {
-        ServeFault::Memory
-    } else {
-        ServeFault::Device
-    }
-}
-
 // Writes a text, the lines of the tenants, and what is last.
 fn tell<W: Write>(
     alloc: Global,
@@ -283,10 +401,16 @@ fn tell<W: Write>(
     let lines = lines_of(alloc, names, totals)?;
     text.extend_from_slice(lines.as_slice())?;
     text.extend_from_slice(last)?;
-    match writer.write_all(text.as_slice()) {
-        Ok(()) => Ok(()),
-        Err(error) => Err(fault_of(error)),
-    }
+    Ok(writer.write_all(text.as_slice())?)
+}
+
+/// Where a service is asked.
+#[derive(Clone, Copy)]
+pub struct Doors<'a> {
+    /// Where packets and commands come.
+    pub packets: &'a TcpListener,
+    /// Where whoever runs the process asks, if anywhere.
+    pub host: Option<HostDoor<'a>>,
 }
 
 /// How many threads serve, how many packets are exchanged with next peers at once, and how many connections are served.
@@ -357,7 +481,7 @@ pub fn serve<
     setup: &Setup,
     extent: Extent,
     report: Report,
-    listener: &TcpListener,
+    doors: Doors<'_>,
     clock: &C,
     writer: &mut W,
 ) -> Result<(), ServeFault>
@@ -372,7 +496,7 @@ pub fn serve<
     let door = Door::new(total_of(extent));
     let workers = extent.connections;
     serve_run::<Brand, _, _, _>(
-        handle, alloc, opened, setup, workers, report, places, door, listener, clock, writer,
+        handle, alloc, opened, setup, workers, report, places, door, doors, clock, writer,
     )
 }
 
@@ -391,7 +515,7 @@ fn serve_run<
     report: Report,
     places: Places,
     door: Door,
-    listener: &TcpListener,
+    doors: Doors<'_>,
     clock: &C,
     writer: &mut W,
 ) -> Result<(), ServeFault>
@@ -407,7 +531,7 @@ fn serve_run<
         mut first,
         shares,
     } = open_office::<J>(alloc, opened, setup, workers, report.audit, places, door)?;
-    let done = run_all(handle, alloc, &office, &mut first, shares, listener, clock)?;
+    let done = run_all(handle, alloc, &office, &mut first, shares, doors, clock)?;
     let Done {
         mut shares,
         mut periods,

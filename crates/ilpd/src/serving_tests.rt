@@ -3,11 +3,12 @@
 ghost use Rattle.std.specs.Prelude.{◌≤◌};
 
 mod crowd;
+mod host;
 mod neighbours;
 mod patience;
 mod wire;
 
-use crate::serving::{Extent, Report, ServeFault, serve};
+use crate::serving::{Doors, Extent, Report, ServeFault, serve};
 use admin_text::laws::setups;
 use admin_text::read_setup;
 use std::alloc::Global;
@@ -19,7 +20,7 @@ use std::test::Fail;
 use std::thread::{Threads, join};
 use std::time::{Clock, Duration};
 use std::{io, thread};
-use wire::{FULFILL, Standing, Terms, bytes, good, posted, request, tenant_text};
+use wire::{FULFILL, FixedClock, Terms, bytes, good, posted, request, tenant_text};
 
 const CONFIG: &str =
     "0c460000000000000000323033303031303130303030313030303066687aadf862bd776c8fc18b8e9f8e20089714856ee233b3902a591d0d5f29250b706565722e636f6e66696700";
@@ -121,8 +122,11 @@ fn serve_as<
         &setup,
         extent,
         report,
-        listener,
-        &Standing,
+        Doors {
+            packets: listener,
+            host: None,
+        },
+        &FixedClock,
         lines,
     )
 }

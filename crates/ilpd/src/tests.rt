@@ -25,7 +25,7 @@ type Words = (
     Result<(Task, &'static str, usize), &'static str>,
 );
 
-static LINES: [Words; 34] = [
+static LINES: [Words; 37] = [
     (&["replay", "s1.toml"], Ok((Task::Replay, "s1.toml", 1))),
     (
         &["replay", "s1.toml", "--workers", "2"],
@@ -117,6 +117,52 @@ static LINES: [Words; 34] = [
             "s1.toml",
             1,
         )),
+    ),
+    (
+        &[
+            "serve",
+            "s1.toml",
+            "--workers",
+            "1",
+            "--host",
+            "127.0.0.1:7769",
+            "--host-token",
+            "host.token",
+        ],
+        Ok((
+            Task::Serve {
+                connections: 256,
+                rounds: None,
+                report: Report {
+                    balances: false,
+                    audit: false,
+                },
+            },
+            "s1.toml",
+            1,
+        )),
+    ),
+    (
+        &[
+            "serve",
+            "s1.toml",
+            "--workers",
+            "1",
+            "--host",
+            "127.0.0.1:7769",
+        ],
+        Err("error:"),
+    ),
+    (
+        &[
+            "serve",
+            "s1.toml",
+            "--workers",
+            "1",
+            "--host-token",
+            "host.token",
+        ],
+        Err("error:"),
     ),
     (&["serve", "s1.toml", "--workers", "65"], Err("error:")),
     (

@@ -197,6 +197,11 @@ impl<'a, H: Clock> Timed<'a, H> {
         Timed::new(stream, clock, None, Limit::Until(end))
     }
 
+    /// A side of the connection, whose reads and writes fail once they have taken so long in all.
+    pub fn within(stream: &'a TcpStream, clock: &'a H, time: Duration) -> Timed<'a, H> {
+        Timed::new(stream, clock, None, Limit::For(time, Duration::ZERO))
+    }
+
     /// A side of a connection that came through the door, with no time yet.
     pub fn through(door: &'a Door, stream: &'a TcpStream, clock: &'a H) -> Timed<'a, H> {
         let none = Limit::For(Duration::ZERO, Duration::ZERO);

@@ -8,7 +8,7 @@ use crate::desk::Desk;
 use crate::office::Office;
 use crate::timed::{Paced, Timed};
 use http_link::laws::more_may_come;
-use http_link::{Inbox, Kind, LinkFault, Served, Service, serve_next};
+use http_link::{Inbox, LinkFault, RequestKind, Served, Service, serve_next};
 use one_list::Run;
 use std::alloc::Global;
 use std::net::{Net, TcpListener, TcpStream};
@@ -80,7 +80,7 @@ impl<H: Wait + Net<Stream = TcpStream> + std::time::Clock, C: Clock, J: Run> Ser
     }
 
     fn ilp(&mut self, tenant: usize, token: &[u8], body: &[u8]) -> u16 {
-        self.desk.told = Kind::Ilp;
+        self.desk.told = RequestKind::Ilp;
         let office = self.office;
         if tenant >= office.books.tenants() {
             return Status::Unavailable.code();
@@ -93,12 +93,13 @@ impl<H: Wait + Net<Stream = TcpStream> + std::time::Clock, C: Clock, J: Run> Ser
     }
 
     fn admin(&mut self, tenant: usize, token: &[u8], body: &[u8]) -> u16 {
-        self.desk.told = Kind::Admin;
+        self.desk.told = RequestKind::Admin;
         let office = self.office;
         let Some(terms) = office.terms.get(tenant) else {
             return Status::Unavailable.code();
         };
         if terms.admin.as_bytes() != token {
+            office.refuse_token(tenant);
             return Status::Unauthorized.code();
         }
         let status = self
@@ -142,6 +143,9 @@ impl<H: Wait + Net<Stream = TcpStream> + std::time::Clock, C: Clock, J: Run> Wor
                 return Some(stream);
             }
             self.failed = true;
+            if self.office.door.is_closed() {
+                return None;
+            }
             thread::sleep(self.handle, Duration::from_millis(PAUSE));
         }
         None
@@ -160,10 +164,21 @@ impl<H: Wait + Net<Stream = TcpStream> + std::time::Clock, C: Clock, J: Run> Wor
         door.wait_begins();
         let stream = self.accepted();
         door.wait_ends();
-        if stream.is_none() {
+        if stream.is_none() || door.is_closed() {
             door.give_back();
+            return None;
         }
         stream
+    }
+
+    // For how long a request is read that has not begun to come: not at all where the door is closed, so that only such are still
+    // served as have come whole.
+    fn patience(&self) -> Duration {
+        if self.office.door.is_closed() {
+            Duration::ZERO
+        } else {
+            Duration::from_millis(PATIENCE)
+        }
     }
 
     // Serves the requests of a connection until it ends, and says how.
@@ -180,10 +195,8 @@ impl<H: Wait + Net<Stream = TcpStream> + std::time::Clock, C: Clock, J: Run> Wor
     {
         more_may_come();
         for _ in self.handle.forever() {
-            reader.allow(
-                Duration::from_millis(PATIENCE),
-                Duration::from_millis(PATIENCE - MOMENT),
-            );
+            let patience = self.patience();
+            reader.allow(patience, Duration::from_millis(PATIENCE - MOMENT));
             if !inbox.await_more(reader)? {
                 return Ok(Served::Ended);
             }
@@ -191,7 +204,7 @@ impl<H: Wait + Net<Stream = TcpStream> + std::time::Clock, C: Clock, J: Run> Wor
                 Duration::from_millis(PATIENCE),
                 Duration::from_millis(PATIENCE - HURRY),
             );
-            reader.allow(time, favour);
+            reader.allow(patience, favour);
             writer.allow(time, favour);
             match serve_next(reader, writer, self, inbox)? {
                 Served::Kept => {}
@@ -235,7 +248,10 @@ impl<
             let Some(stream) = self.next_connection() else {
                 return;
             };
-            if !self.serve_connection(&stream, &mut inbox) {
+            self.office.door.connection_begins();
+            let spoke = self.serve_connection(&stream, &mut inbox);
+            self.office.door.connection_ends();
+            if !spoke {
                 self.office.door.give_back();
             }
         }

@@ -194,9 +194,9 @@ fn on_books<J: Run, R: Wait + Abort, T: Trial>(
 
 /// A clock that stands.
 #[derive(Clone, Copy)]
-struct Standing(Moment);
+struct FixedClock(Moment);
 
-impl Clock for Standing {
+impl Clock for FixedClock {
     ghost gives = { λ clock moment. moment ≡ clock.0 };
 
     fn now(&self) -> Moment {

@@ -4,12 +4,12 @@ ghost use Rattle.std.specs.Prelude.{◌≡◌, ◌≤◌, length};
 ghost use Rattle.tenant_core.specs.Limits.{max_tenants};
 ghost use Rattle.books_shared.specs.Traced.{openings_of};
 
-use super::wire::{FULFILL, Standing, Terms, bytes, good, posted, request, tenant_text};
+use super::wire::{FULFILL, FixedClock, Terms, bytes, good, posted, request, tenant_text};
 use crate::auditing::{Found, audited, roll_all};
 use crate::door::Door;
 use crate::office::Office;
 use crate::opening::{Begun, open_office};
-use crate::serving::{Done, ServeFault, run_all};
+use crate::serving::{Done, Doors, ServeFault, run_all};
 use admin_text::laws::setups;
 use admin_text::{Setup, read_setup};
 use one_list::{Opened, Run};
@@ -47,8 +47,8 @@ const FRONT: &str =
 
 const BACK: &str = "2e626f622e7800";
 
-// How many bytes the packet has, and what goes on for it.
-const FRAME: usize = 73;
+/// How many bytes the packet has, and what goes on for it.
+pub const FRAME: usize = 73;
 
 /// What a book says in the end.
 #[derive(Clone, Copy, Debug, PartialEq, Eq)]
@@ -128,7 +128,11 @@ fn ended_after<
         places,
         Door::new(CONNECTIONS),
     )?;
-    let done = run_all(rt, alloc, &office, &mut first, shares, listener, &Standing)?;
+    let doors = Doors {
+        packets: listener,
+        host: None,
+    };
+    let done = run_all(rt, alloc, &office, &mut first, shares, doors, &FixedClock)?;
     let Done {
         mut shares,
         mut periods,
@@ -140,7 +144,7 @@ fn ended_after<
         true,
         &office,
         &mut shares,
-        &Standing,
+        &FixedClock,
         &mut periods,
     )?;
     let Found { line, .. } = audited(alloc, true, periods.as_slice(), shares.as_slice())?;
@@ -153,9 +157,9 @@ fn ended_after<
 
 /// What the clients of a tenant ask, and what they are to be told.
 #[derive(Drop)]
-struct Exchange {
-    packet: Vec<u8>,
-    fulfilled: Vec<u8>,
+pub struct Exchange {
+    pub packet: Vec<u8>,
+    pub fulfilled: Vec<u8>,
     command: Vec<u8>,
     done: Vec<u8>,
     roll: Vec<u8>,
@@ -163,7 +167,7 @@ struct Exchange {
     rolled: Vec<Vec<u8>>,
 }
 
-fn exchange_of(alloc: Global, name: &str) -> Result<Exchange, Fail> {
+pub fn exchange_of(alloc: Global, name: &str) -> Result<Exchange, Fail> {
     let middle = hex::encode(alloc, name.as_bytes())?;
     let frame = bytes(alloc, format!(in alloc; "{FRONT}{middle}{BACK}")?.as_str())?;
     let ilp = format!(in alloc; "/ilp/{name}")?;
@@ -212,16 +216,16 @@ struct Told {
     other: u32,
 }
 
-// A connection to the service.
-fn connected(net: &impl Net<Stream = TcpStream>, addr: &SocketAddr) -> io::Result<TcpStream> {
+/// A connection to the service.
+pub fn connected(net: &impl Net<Stream = TcpStream>, addr: &SocketAddr) -> io::Result<TcpStream> {
     let stream = TcpStream::connect_timeout(net, addr, Duration::from_secs(5))?;
     stream.set_nodelay(true)?;
     stream.set_read_timeout(Some(Duration::from_secs(100)))?;
     Ok(stream)
 }
 
-// Whether the answer to a request is the one that is wanted.
-fn is_told(stream: &TcpStream, request: &[u8], wanted: &[u8]) -> io::Result<bool> {
+/// Whether the answer to a request is the one that is wanted.
+pub fn is_told(stream: &TcpStream, request: &[u8], wanted: &[u8]) -> io::Result<bool> {
     let mut room = [0u8; 512];
     let mut out = stream;
     out.write_all(request)?;
@@ -266,8 +270,8 @@ fn sends_all(
     Ok(())
 }
 
-// Fulfils what comes, a packet a connection, until one comes without a packet.
-fn fulfils_all(listener: &TcpListener, answer: &[u8], size: usize) -> io::Result<u32> {
+/// Fulfils what comes, a packet a connection, until one comes without a packet.
+pub fn fulfils_all(listener: &TcpListener, answer: &[u8], size: usize) -> io::Result<u32> {
     let mut count = 0u32;
     let mut room = [0u8; 512];
     for _ in 0..20_000u32 {
@@ -352,7 +356,7 @@ fn clients() -> [Told; 8] {
     [acme, beta, acme, beta, acme, beta, acme, beta]
 }
 
-fn setup_text(alloc: Global, port: u16) -> Result<String, Fail> {
+pub fn setup_text(alloc: Global, port: u16) -> Result<String, Fail> {
     let terms = |name| Terms {
         name,
         port,
@@ -364,7 +368,7 @@ fn setup_text(alloc: Global, port: u16) -> Result<String, Fail> {
     Ok(format!(in alloc; "version = 1\nstart = 1893456000000\n{acme}{beta}")?)
 }
 
-fn peer_answer(alloc: Global) -> Result<Vec<u8>, Fail> {
+pub fn peer_answer(alloc: Global) -> Result<Vec<u8>, Fail> {
     let mut answer = Vec::new(alloc);
     answer.extend_from_slice(b"HTTP/1.1 200 OK\r\nContent-Length: 35\r\n\r\n")?;
     answer.extend_from_slice(bytes(alloc, FULFILL)?.as_slice())?;

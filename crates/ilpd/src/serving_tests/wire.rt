@@ -12,9 +12,9 @@ const START: u64 = 1_893_456_000_000;
 pub const FULFILL: &str = "0d21000000000000000000000000000000000000000000000000000000000000000000";
 
 /// A clock that stands at the start.
-pub struct Standing;
+pub struct FixedClock;
 
-impl workers::Clock for Standing {
+impl workers::Clock for FixedClock {
     ghost gives = { λ clock moment. moment ≡ 1_893_456_000_000 };
 
     fn now(&self) -> Moment {

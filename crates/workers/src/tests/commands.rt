@@ -1,6 +1,6 @@
 //! Commands done and refused.
 
-use super::{ONE_ANSWERED, Standing, Tally, Trial, counts_of, entries_of, on_two_books, start};
+use super::{FixedClock, ONE_ANSWERED, Tally, Trial, counts_of, entries_of, on_two_books, start};
 use crate::{GovernFault, govern};
 use books_shared::{Books, Share};
 use ilp_addr::Prefix;
@@ -24,7 +24,7 @@ fn governed<J: Run, R: Wait>(
         return Err("a tenant".into());
     }
     let (meters, mut seat) = Meters::new(alloc, 1)?;
-    let clock = Standing(start()?);
+    let clock = FixedClock(start()?);
     let answer = govern(
         rt, alloc, books, &meters, &mut seat, share, &clock, 0, command,
     );

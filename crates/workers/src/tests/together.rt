@@ -3,7 +3,7 @@
 ghost use Rattle.std.specs.Prelude.{◌≡◌};
 ghost use Rattle.books_shared.specs.Traced.{openings_of};
 
-use super::{BASE, FULFILL, START, Standing, gathered, put, start, two_books, two_setups};
+use super::{BASE, FULFILL, FixedClock, START, gathered, put, start, two_books, two_setups};
 use crate::{Gate, Job, Lane, Link, Point, Reply, StartFault, carry, run_workers};
 use books_shared::laws::books_are_shared;
 use books_shared::{Books, Share};
@@ -122,7 +122,7 @@ fn carried_by<J: Run, R: Wait>(
     }
     let mut slot = Slot::new(alloc).ok()?;
     let (meters, mut seat) = Meters::new(alloc, 2).ok()?;
-    let clock = Standing(Moment::new(START)?);
+    let clock = FixedClock(Moment::new(START)?);
     let mut link = Fulfilling {
         meeting,
         worker: share.worker(),

@@ -3,7 +3,7 @@ use Rattle.std.specs.Io.KnownBytes.{Appends}
 use Rattle.books_shared.specs.Shares.{ShareView}
 use Rattle.ilpd.specs.Auditing.{HaveEnded, IsAudited}
 use Rattle.ilpd.specs.Served.{lines_upto}
-use Rattle.ilpd.specs.Standing.{balance_lines}
+use Rattle.ilpd.specs.Balances.{balance_lines}
 use Rattle.ilpd.proofs.Sums.{length_map}
 use Rattle.ilpd.proofs.serving.serve_run.Goals as goal
 

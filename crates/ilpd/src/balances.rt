@@ -3,7 +3,7 @@
 ghost use Rattle.std.specs.Prelude.{◌≡◌, [], ◌++◌, if◌then◌else◌, IfOk, OnOk};
 ghost use Rattle.std.specs.List.{flat_map};
 ghost use Rattle.replay_text.specs.Printed.{line_of};
-ghost use Rattle.ilpd.specs.Standing.{balance_lines, balances_told};
+ghost use Rattle.ilpd.specs.Balances.{balance_lines, balances_told};
 
 use common_types::Name;
 use floor_core::Output;

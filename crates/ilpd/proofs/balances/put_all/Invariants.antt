@@ -1,6 +1,6 @@
 use Rattle.std.proofs.Common.{◌≡◌, ◌++◌}
-use Rattle.ilpd.specs.Standing.{balance_lines}
-use Rattle.ilpd.proofs.standing.put_all.Given as goal
+use Rattle.ilpd.specs.Balances.{balance_lines}
+use Rattle.ilpd.proofs.balances.put_all.Given as goal
 
 abbrev pub invariant-loop-entry : goal.invariant-loop-entry
 invariant-loop-entry l = l.text.items ≡ l.fn.text.items ++ balance_lines l.names l.yielded
