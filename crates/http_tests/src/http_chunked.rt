@@ -4,7 +4,7 @@ ghost use Rattle.std.specs.Prelude.{◌≡◌, ◌≤◌, length};
 
 use crate::http_devices::{Pieces, Taken};
 use crate::http_served::{BAD, CONTINUE, Desk, KEPT, POSTED};
-use http_link::{Inbox, Kind, LinkFault, PostFault, Served, post, serve_next, serve_one};
+use http_link::{Inbox, LinkFault, PostFault, RequestKind, Served, post, serve_next, serve_one};
 use ilp_addr::Target;
 use std::alloc::Global;
 use std::test::Fail;
@@ -59,7 +59,7 @@ struct Outcome {
     text: Vec<u8>,
 }
 
-fn one(alloc: Global, reader: &mut Pieces, kind: Kind) -> Outcome {
+fn one(alloc: Global, reader: &mut Pieces, kind: RequestKind) -> Outcome {
     let mut room = [0; 34_000];
     let mut writer = Taken::whole(alloc);
     let mut desk = Desk::new(kind, 0);
@@ -73,7 +73,7 @@ fn one(alloc: Global, reader: &mut Pieces, kind: Kind) -> Outcome {
 
 fn next(alloc: Global, reader: &mut Pieces, inbox: &mut Inbox) -> Outcome {
     let mut writer = Taken::whole(alloc);
-    let mut desk = Desk::new(Kind::Ilp, 0);
+    let mut desk = Desk::new(RequestKind::Ilp, 0);
     let served = serve_next(reader, &mut writer, &mut desk, inbox);
     Outcome {
         served,
@@ -100,7 +100,7 @@ fn whole_bodies(rt: HostRuntime) -> Result<(), Fail> {
         let stream = joined(rt.alloc(), &[HEAD, body, POSTED])?;
         for cut in 0..=stream.len() {
             let mut reader = Pieces::cut_at(stream.as_slice(), cut);
-            let first = one(rt.alloc(), &mut reader, Kind::Ilp);
+            let first = one(rt.alloc(), &mut reader, RequestKind::Ilp);
             assert!(rt;
                 first.served == Ok(Served::Kept) && first.questions == 1,
                 "{i} {cut}"
@@ -140,7 +140,7 @@ fn a_body_that_is_asked(rt: HostRuntime) -> Result<(), Fail> {
         let stream = joined(rt.alloc(), &[HEAD, body])?;
         let mut reader = Pieces::cut_at(stream.as_slice(), 0);
         let mut writer = Taken::whole(rt.alloc());
-        let mut desk = Desk::new(Kind::Ilp, 0);
+        let mut desk = Desk::new(RequestKind::Ilp, 0);
         let served = serve_one(&mut reader, &mut writer, &mut desk, &mut room);
         assert!(rt; served == Ok(Served::Kept) && desk.was_asked());
     }
@@ -155,7 +155,7 @@ fn bodies_that_are_cut(rt: HostRuntime) -> Result<(), Fail> {
         for n in HEAD.len()..stream.len() {
             let (front, _) = stream.as_slice().split_at(n);
             let mut reader = Pieces::cut_at(front, 0);
-            let first = one(rt.alloc(), &mut reader, Kind::Ilp);
+            let first = one(rt.alloc(), &mut reader, RequestKind::Ilp);
             assert!(rt;
                 first.served == Ok(Served::Ended) && first.questions == 0,
                 "{i} {n}"
@@ -180,7 +180,7 @@ fn refused_bodies(rt: HostRuntime) -> Result<(), Fail> {
         let stream = joined(rt.alloc(), &[HEAD, body])?;
         for cut in 0..=stream.len() {
             let mut reader = Pieces::cut_at(stream.as_slice(), cut);
-            let first = one(rt.alloc(), &mut reader, Kind::Ilp);
+            let first = one(rt.alloc(), &mut reader, RequestKind::Ilp);
             assert!(rt;
                 first.served == Ok(Served::Closed) && first.questions == 0,
                 "{i} {cut}"
@@ -228,7 +228,7 @@ fn heads_of_coded_bodies(rt: HostRuntime) -> Result<(), Fail> {
             ],
         )?;
         let mut reader = Pieces::cut_at(stream.as_slice(), 0);
-        let first = one(rt.alloc(), &mut reader, Kind::Ilp);
+        let first = one(rt.alloc(), &mut reader, RequestKind::Ilp);
         assert!(rt; first.text.as_slice() == *answer, "{i}");
     }
     Ok(())
@@ -240,7 +240,7 @@ fn a_client_that_waits(rt: HostRuntime) -> Result<(), Fail> {
         let (front, _) = HEAD.split_at(HEAD.len().saturating_sub(2));
         let stream = joined(rt.alloc(), &[front, b"Expect: 100-continue\r\n\r\n", body])?;
         let mut reader = Pieces::cut_at(stream.as_slice(), 0);
-        let first = one(rt.alloc(), &mut reader, Kind::Ilp);
+        let first = one(rt.alloc(), &mut reader, RequestKind::Ilp);
         let wanted = joined(rt.alloc(), &[CONTINUE, answer])?;
         assert!(rt; first.text.as_slice() == wanted.as_slice());
     }
@@ -267,13 +267,13 @@ const COMMANDED: &[u8] =
 #[test]
 fn bodies_at_their_limits(rt: HostRuntime) -> Result<(), Fail> {
     // The head, how many chunks there are, how many bytes each has, and whether they are served.
-    let rows: [(&[u8], Kind, usize, usize, bool); 6] = [
-        (HEAD, Kind::Ilp, 1, 34_000, true),
-        (HEAD, Kind::Ilp, 2, 17_000, true),
-        (HEAD, Kind::Ilp, 3, 11_334, false),
-        (COMMANDED, Kind::Admin, 1, 2_048, true),
-        (COMMANDED, Kind::Admin, 1, 2_049, false),
-        (COMMANDED, Kind::Admin, 683, 3, false),
+    let rows: [(&[u8], RequestKind, usize, usize, bool); 6] = [
+        (HEAD, RequestKind::Ilp, 1, 34_000, true),
+        (HEAD, RequestKind::Ilp, 2, 17_000, true),
+        (HEAD, RequestKind::Ilp, 3, 11_334, false),
+        (COMMANDED, RequestKind::Admin, 1, 2_048, true),
+        (COMMANDED, RequestKind::Admin, 1, 2_049, false),
+        (COMMANDED, RequestKind::Admin, 683, 3, false),
     ];
     for (head, kind, count, size, is_served) in rows {
         let stream = chunks(rt.alloc(), head, count, size)?;
@@ -296,7 +296,7 @@ fn one_byte_a_chunk(rt: HostRuntime) -> Result<(), Fail> {
     let next = next(rt.alloc(), &mut reader, &mut inbox);
     assert!(rt; next.served == Ok(Served::Kept) && next.questions == 1);
     let mut dripping = Pieces::failing_after(stream.as_slice(), usize::MAX);
-    let first = one(rt.alloc(), &mut dripping, Kind::Ilp);
+    let first = one(rt.alloc(), &mut dripping, RequestKind::Ilp);
     assert!(rt; first.served == Err(LinkFault::Turns) && first.questions == 0);
     assert!(rt; stream.len() == 50_000 + dripping.bytes.len());
     Ok(())
@@ -313,7 +313,7 @@ fn filled(alloc: Global, front: &[u8], size: usize, end: &[u8]) -> Result<Vec<u8
 }
 
 fn answer_to(alloc: Global, stream: &[u8]) -> Vec<u8> {
-    one(alloc, &mut Pieces::cut_at(stream, 0), Kind::Ilp).text
+    one(alloc, &mut Pieces::cut_at(stream, 0), RequestKind::Ilp).text
 }
 
 #[test]

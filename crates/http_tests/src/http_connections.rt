@@ -2,7 +2,7 @@
 
 use crate::http_devices::{Pieces, Taken};
 use crate::http_served::{BAD, CLOSED, CONTINUE, Desk, KEPT, POSTED};
-use http_link::{Inbox, Kind, LinkFault, Served, serve_next};
+use http_link::{Inbox, LinkFault, RequestKind, Served, serve_next};
 use std::alloc::Global;
 use std::test::Fail;
 
@@ -27,7 +27,7 @@ struct Outcome {
 
 fn next(alloc: Global, reader: &mut Pieces, inbox: &mut Inbox) -> Outcome {
     let mut writer = Taken::whole(alloc);
-    let mut desk = Desk::new(Kind::Ilp, 0);
+    let mut desk = Desk::new(RequestKind::Ilp, 0);
     let served = serve_next(reader, &mut writer, &mut desk, inbox);
     Outcome {
         served,
