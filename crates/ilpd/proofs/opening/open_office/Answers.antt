@@ -8,7 +8,7 @@ pub returns-clause-known : goal.returns-clause-known
 returns-clause-known g c =
     let books : c.in_ok-books.books.tenants ≡ length c.args.setup.now.tenants
     = ap (λ (b : BooksView). b.tenants) c.in_ok-books.ensures.books ∙ ap length c.as_slice-tenants.ensures.value in
-    record { names = search rules; operators = search rules; holds = search rules; books = books }
+    record { names = search rules; operators = search rules; holds = search rules; books = search (rules, books) }
 
 pub returns-clause-each : goal.returns-clause-each
 returns-clause-each g c = search (rules, count_fresh)
