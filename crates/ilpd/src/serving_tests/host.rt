@@ -38,6 +38,7 @@ const HEALTHY: &[u8] =
 
 // Serves the setup of that text, with a host's door.
 fn serve_with_host<
+    'a,
     R: Threads
         + Wait
         + Net<Listener = TcpListener, Stream = TcpStream>
@@ -47,8 +48,8 @@ fn serve_with_host<
 >(
     rt: &R,
     text: &str,
-    packets: &TcpListener,
-    door: &TcpListener,
+    packets: &'a TcpListener,
+    door: &'a TcpListener,
     lines: &mut Vec<u8>,
 ) -> Result<(), ServeFault> {
     setups();
