@@ -12,10 +12,10 @@ use Rattle.std.proofs.lemmas.Bool.{ltb-false, le-ltb, eq-eqb, eqb-true}
 use Rattle.std.proofs.Math.Bool.{and-false, or-true}
 use Rattle.std.proofs.lemmas.List.Folds.{list_all-map}
 use Rattle.ilp_addr.specs.Address.{prefix_segments}
-use Rattle.route_table.specs.declared.node.Wanted.{Wanted}
-use Rattle.route_table.specs.declared.node.Wanted.TheVariants.{Peer, NotBelow}
+use Rattle.route_table.specs.declared.node.PeerGroup.{PeerGroup}
+use Rattle.route_table.specs.declared.node.PeerGroup.TheVariants.{Peer, NotBelow}
 use Rattle.route_table.specs.Paths.{PathMap}
-use Rattle.route_table.specs.Nodes.{IsWanted, Names}
+use Rattle.route_table.specs.Nodes.{IsInGroup, Names}
 use Rattle.route_table.specs.Routes.{RouteMap, NamesPeer}
 use Rattle.route_table.specs.Kept.{routes_of, ArePrefixes}
 use Rattle.route_table.proofs.Matching.{tied_same, same_tied}
@@ -30,11 +30,11 @@ abbrev prefix_cmp : List ℕ → List ℕ → Ordering
 prefix_cmp = slice_cmp nat_cmp
 
 -- some prefix has a peer that is looked for
-abbrev PrefixNames : Wanted → RouteMap → Type 0
-PrefixNames wanted routes = (prefix : List ℕ) × (hop : Hop) × (map.get routes prefix ≡ Some hop) × IsWanted wanted hop.peer
+abbrev PrefixNames : PeerGroup → RouteMap → Type 0
+PrefixNames group routes = (prefix : List ℕ) × (hop : Hop) × (map.get routes prefix ≡ Some hop) × IsInGroup group hop.peer
 
-by_prefix : (wanted : Wanted) (m : PathMap) (routes : RouteMap) → routes_of m ≡ routes → ArePrefixes (entries m) → Names wanted m ↔ PrefixNames wanted routes
-by_prefix wanted m routes view valid = (
+by_prefix : (group : PeerGroup) (m : PathMap) (routes : RouteMap) → routes_of m ≡ routes → ArePrefixes (entries m) → Names group m ↔ PrefixNames group routes
+by_prefix group m routes view valid = (
   λ names.
       let path_is : prefix_segments (join_with_byte 46 names.0) ≡ names.0 = valid_at names.0 (entries m) valid names.1 (sym (get_at m names.0) ∙ names.2) in
       let prefix : List ℕ = join_with_byte 46 names.0 in

@@ -10,9 +10,9 @@ use Rattle.std.specs.Cmp.Lexicographic.{slice_cmp}
 use Rattle.std.proofs.lemmas.Map.Keys.{IsDistinct-from_sorted}
 use Rattle.std.specs.FinMap as map
 use Rattle.std.specs.FinMap.{entries, get-from_entries}
-use Rattle.route_table.specs.declared.node.Wanted.{Wanted}
+use Rattle.route_table.specs.declared.node.PeerGroup.{PeerGroup}
 use Rattle.route_table.specs.Paths.{Path, PathMap, is_same, longest_at}
-use Rattle.route_table.specs.Nodes.{Branch, Children, PathRow, own_row, below, apart, rows_of, routes_from, child_of, hop_in, HasNoEmptyChild, IsWanted, HasWanted, Names}
+use Rattle.route_table.specs.Nodes.{Branch, Children, PathRow, own_row, below, apart, rows_of, routes_from, child_of, hop_in, HasNoEmptyChild, IsInGroup, LeadsToGroup, Names}
 use Rattle.route_table.proofs.PathLemmas.{cases, same, same_test, turned, tied, at, find_at, get, get_at, get_none, paths_total, same_paths}
 use Rattle.route_table.proofs.PathLemmas.{get_inserted, get_removed, inserted_some, longest_cong, longest_none, or_or}
 use Rattle.route_table.specs.declared.hop.Hop.{Hop}
@@ -331,12 +331,12 @@ removed_nothing b hop children s left rest view steps none =
     (λ q. get_none map.empty refl q ∙ ap (hop_in q) none)
     ∙ (λ i. map.remove (view i) (sym steps i))
 
--- ---- peers that are looked for
+-- ---- groups of peers
 
--- some path from a child on has a hop that is looked for
-abbrev pub SomeChildNames : Wanted → Children → Type 0
-SomeChildNames wanted [] = ⊥
-SomeChildNames wanted (child ∷ children) = Names wanted child.1.routes ⊎ SomeChildNames wanted children
+-- some path from a child on leads to the group
+abbrev pub SomeChildNames : PeerGroup → Children → Type 0
+SomeChildNames group [] = ⊥
+SomeChildNames group (child ∷ children) = Names group child.1.routes ⊎ SomeChildNames group children
 
 pub distinct_keys : (children : Children) → IsStrictlySortedBy (slice_cmp nat_cmp) (keys_of children) → IsDistinct is_same (keys_of children)
 distinct_keys children sorted = IsDistinct-from_sorted (slice_cmp nat_cmp) (keys_of children) sorted
@@ -346,22 +346,22 @@ none_later k [] h = refl
 none_later k (child ∷ children) h = rw h.0 (none_later k children h.1)
 
 -- a hop from a child on, found in the order of the children
-named_child : (wanted : Wanted) (s : List ℕ) (q : Path) (n : Hop) (children : Children) → hop_in q (child_of s children) ≡ Some n → IsWanted wanted n.peer → SomeChildNames wanted children
-named_child wanted s q n [] e is = absurd cc
-named_child wanted s q n (child ∷ children) e is =
+named_child : (group : PeerGroup) (s : List ℕ) (q : Path) (n : Hop) (children : Children) → hop_in q (child_of s children) ≡ Some n → IsInGroup group n.peer → SomeChildNames group children
+named_child group s q n [] e is = absurd cc
+named_child group s q n (child ∷ children) e is =
     elim (cases (is_same s child.0)) [
       | inl here ↦ inl (q, n, rw here at e, is)
-      | inr other ↦ inr (named_child wanted s q n children (rw other at e) is)
+      | inr other ↦ inr (named_child group s q n children (rw other at e) is)
     ]
 
 -- and the other way: each child is found by its own segment
-child_names : (wanted : Wanted) (children : Children) → IsDistinct is_same (keys_of children) → SomeChildNames wanted children
-    → (s : List ℕ) × (q : Path) × (n : Hop) × (hop_in q (child_of s children) ≡ Some n) × IsWanted wanted n.peer
+child_names : (group : PeerGroup) (children : Children) → IsDistinct is_same (keys_of children) → SomeChildNames group children
+    → (s : List ℕ) × (q : Path) × (n : Hop) × (hop_in q (child_of s children) ≡ Some n) × IsInGroup group n.peer
 unfolding IsDistinct
-child_names wanted [] distinct some = absurd some
-child_names wanted (child ∷ children) distinct (inl here) = (child.0, here.0, here.1, rw (same_test child.0 child.0 refl) here.2, here.3)
-child_names wanted (child ∷ children) distinct (inr later) =
-    let more = child_names wanted children distinct.1 later in
+child_names group [] distinct some = absurd some
+child_names group (child ∷ children) distinct (inl here) = (child.0, here.0, here.1, rw (same_test child.0 child.0 refl) here.2, here.3)
+child_names group (child ∷ children) distinct (inr later) =
+    let more = child_names group children distinct.1 later in
     elim (cases (is_same more.0 child.0)) [
       | inl here ↦
           let none : child_of more.0 children ≡ None = ap (λ x. child_of x children) (same more.0 child.0 here) ∙ none_later child.0 children distinct.0 in
@@ -370,27 +370,27 @@ child_names wanted (child ∷ children) distinct (inr later) =
       | inr other ↦ (more.0, more.1, more.2, rw other more.3, more.4)
     ]
 
-pub own_names : (wanted : Wanted) (b : Branch) (hop : Option Hop) (children : Children) → routes_from hop children ≡ b.routes → HasWanted wanted hop → Names wanted b.routes
-own_names wanted b None children view own = absurd own
-own_names wanted b (Some n) children view own = ([], n, sym (hop_is b (Some n) children view), own)
+pub own_names : (group : PeerGroup) (b : Branch) (hop : Option Hop) (children : Children) → routes_from hop children ≡ b.routes → LeadsToGroup group hop → Names group b.routes
+own_names group b None children view own = absurd own
+own_names group b (Some n) children view own = ([], n, sym (hop_is b (Some n) children view), own)
 
 -- the node's own hop is not looked for, and the children are left
-pub names_start : (wanted : Wanted) (b : Branch) (hop : Option Hop) (children left : Children) → routes_from hop children ≡ b.routes → left ≡ children → IsStrictlySortedBy (slice_cmp nat_cmp) (keys_of children)
-    → ¬ (HasWanted wanted hop) → Names wanted b.routes ↔ SomeChildNames wanted left
-names_start wanted b hop children left view all sorted other =
-    (λ names. subst (SomeChildNames wanted) (sym all) (forth names.0 names.1 names.2 names.3), λ some. back (subst (SomeChildNames wanted) all some))
+pub names_start : (group : PeerGroup) (b : Branch) (hop : Option Hop) (children left : Children) → routes_from hop children ≡ b.routes → left ≡ children → IsStrictlySortedBy (slice_cmp nat_cmp) (keys_of children)
+    → ¬ (LeadsToGroup group hop) → Names group b.routes ↔ SomeChildNames group left
+names_start group b hop children left view all sorted other =
+    (λ names. subst (SomeChildNames group) (sym all) (forth names.0 names.1 names.2 names.3), λ some. back (subst (SomeChildNames group) all some))
   where
-    own : (o : Option Hop) (n : Hop) → o ≡ Some n → IsWanted wanted n.peer → HasWanted wanted o
+    own : (o : Option Hop) (n : Hop) → o ≡ Some n → IsInGroup group n.peer → LeadsToGroup group o
     own None n e is = absurd cc
-    own (Some k) n e is = let same_hop : k ≡ n = cc in subst (λ (h : Hop). IsWanted wanted h.peer) (sym same_hop) is
+    own (Some k) n e is = let same_hop : k ≡ n = cc in subst (λ (h : Hop). IsInGroup group h.peer) (sym same_hop) is
 
-    forth : (q : Path) (n : Hop) → get b.routes q ≡ Some n → IsWanted wanted n.peer → SomeChildNames wanted children
+    forth : (q : Path) (n : Hop) → get b.routes q ≡ Some n → IsInGroup group n.peer → SomeChildNames group children
     forth [] n e is = absurd (other (own hop n (hop_is b hop children view ∙ e) is))
-    forth (s ∷ q) n e is = named_child wanted s q n children (child_is b hop children s (child_of s children) view refl q ∙ e) is
+    forth (s ∷ q) n e is = named_child group s q n children (child_is b hop children s (child_of s children) view refl q ∙ e) is
 
-    back : SomeChildNames wanted children → Names wanted b.routes
+    back : SomeChildNames group children → Names group b.routes
     back some =
-        let child = child_names wanted children (distinct_keys children sorted) some in
+        let child = child_names group children (distinct_keys children sorted) some in
         (child.0 ∷ child.1, child.2, sym (child_is b hop children child.0 (child_of child.0 children) view refl child.1) ∙ child.3, child.4)
 
 pub but : {A B C : Type 0} → A ↔ (B ⊎ C) → ¬ B → A ↔ C

@@ -8,8 +8,8 @@ use Rattle.std.specs.Ordering.{nat_cmp}
 use Rattle.std.specs.Cmp.Lexicographic.{slice_cmp}
 use Rattle.std.specs.List.Sorted.{IsStrictlySortedBy}
 use Rattle.std.specs.Option.{option_and_then}
-use Rattle.route_table.specs.declared.node.Wanted.{Wanted}
-use Rattle.route_table.specs.declared.node.Wanted.TheVariants.{Peer, NotBelow}
+use Rattle.route_table.specs.declared.node.PeerGroup.{PeerGroup}
+use Rattle.route_table.specs.declared.node.PeerGroup.TheVariants.{Peer, NotBelow}
 use Rattle.route_table.specs.Hops.{hop_code}
 use Rattle.route_table.specs.Paths.{Path, PathMap, is_same}
 use Rattle.route_table.specs.declared.hop.Hop.{Hop}
@@ -78,17 +78,17 @@ pub record IsNode (children : Children) : Type 0 where
   pub used : HasNoEmptyChild children
   pub ordered : IsStrictlySortedBy (slice_cmp nat_cmp) (keys_of children)
 
--- the peer is looked for
-abbrev pub IsWanted : Wanted → ℕ → Type 0
-IsWanted (Peer other) peer = peer ≡ other
-IsWanted (NotBelow count) peer = count ≤ peer
+-- the peer is of the group
+abbrev pub IsInGroup : PeerGroup → ℕ → Type 0
+IsInGroup (Peer other) peer = peer ≡ other
+IsInGroup (NotBelow count) peer = count ≤ peer
 
--- there is a hop, and its peer is looked for
-abbrev pub HasWanted : Wanted → Option Hop → Type 0
-HasWanted wanted None = ⊥
-HasWanted wanted (Some hop) = IsWanted wanted hop.peer
+-- there is a hop, and its peer is of the group
+abbrev pub LeadsToGroup : PeerGroup → Option Hop → Type 0
+LeadsToGroup group None = ⊥
+LeadsToGroup group (Some hop) = IsInGroup group hop.peer
 
--- some path has a peer that is looked for
-abbrev pub Names : Wanted → PathMap → Type 0
-Names wanted paths =
-    (path : Path) × (hop : Hop) × (map.get paths path ≡ Some hop) × IsWanted wanted hop.peer
+-- some path has a peer of the group
+abbrev pub Names : PeerGroup → PathMap → Type 0
+Names group paths =
+    (path : Path) × (hop : Hop) × (map.get paths path ≡ Some hop) × IsInGroup group hop.peer

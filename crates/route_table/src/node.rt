@@ -9,7 +9,7 @@ ghost use Rattle.std.specs.List.Sorted.{IsBinarySearchResult, IsSearchInRange};
 ghost use Rattle.std.specs.Ordering.{nat_cmp};
 ghost use Rattle.ilp_addr.specs.Segments.{segments_left};
 ghost use Rattle.route_table.specs.Paths.{Path, longest_at};
-ghost use Rattle.route_table.specs.Nodes.{hop_in, Names, HasWanted};
+ghost use Rattle.route_table.specs.Nodes.{hop_in, Names, LeadsToGroup};
 
 mod listing;
 mod within;
@@ -20,9 +20,9 @@ use std::alloc::{AllocError, Global};
 use std::marker::Model;
 use std::sync::Arc;
 
-/// Which peers are looked for.
+/// A group of peers, by their numbers.
 #[derive(Clone, Copy)]
-pub(crate) enum Wanted {
+pub(crate) enum PeerGroup {
     /// The peer of that number.
     Peer(PeerNo),
     /// Those whose number is not below the count.
@@ -165,15 +165,15 @@ impl Node {
         Ok(())
     }
 
-    /// Whether some route's peer is wanted.
-    pub(crate) fn names(&self, wanted: Wanted) -> bool
-        ensures { IsTrue result ↔ Names wanted self.now.routes }
+    /// Whether some route leads to a peer of the group.
+    pub(crate) fn names(&self, group: PeerGroup) -> bool
+        ensures { IsTrue result ↔ Names group self.now.routes }
     {
-        if is_wanted(self.hop, wanted) {
+        if leads_to(self.hop, group) {
             return true;
         }
         for child in &self.children {
-            if child.node.names(wanted) {
+            if child.node.names(group) {
                 return true;
             }
         }
@@ -259,12 +259,12 @@ fn insert_child(children: &mut Vec<Child>, at: usize, child: Child) -> Result<()
     Ok(())
 }
 
-fn is_wanted(hop: Option<Hop>, wanted: Wanted) -> bool
-    ensures { IsTrue result ↔ HasWanted wanted hop }
+fn leads_to(hop: Option<Hop>, group: PeerGroup) -> bool
+    ensures { IsTrue result ↔ LeadsToGroup group hop }
 {
-    match (hop, wanted) {
-        (Some(hop), Wanted::Peer(peer)) => hop.peer == peer,
-        (Some(hop), Wanted::NotBelow(count)) => hop.peer as usize >= count,
+    match (hop, group) {
+        (Some(hop), PeerGroup::Peer(peer)) => hop.peer == peer,
+        (Some(hop), PeerGroup::NotBelow(count)) => hop.peer as usize >= count,
         (None, _) => false,
     }
 }

@@ -10,7 +10,7 @@ mod listing;
 
 use crate::fault::RouteFault;
 use crate::hop::{Hop, PeerNo};
-use crate::node::{Node, Wanted};
+use crate::node::{Node, PeerGroup};
 use ilp_addr::{Address, Prefix};
 use std::alloc::{AllocError, Global};
 use std::marker::Model;
@@ -147,14 +147,14 @@ impl Routes {
         ensures named { IsTrue result ↔ NamesPeer self.now peer }
         ensures listed { result ≡ list_any (λ hop. hop.peer == peer) (values self.now) }
     {
-        self.root.names(Wanted::Peer(peer))
+        self.root.names(PeerGroup::Peer(peer))
     }
 
     /// Whether each route's peer has a number below `count`.
     pub fn names_only_below(&self, count: usize) -> bool
         ensures { result ≡ list_all (λ hop. nat_lt hop.peer count) (values self.now) }
     {
-        !self.root.names(Wanted::NotBelow(count))
+        !self.root.names(PeerGroup::NotBelow(count))
     }
 
     /// The same routes, in memory that the two share. What is added or removed later copies the

@@ -5,4 +5,4 @@ use Rattle.route_table.proofs.NodeLemmas.{SomeChildNames}
 use Rattle.route_table.proofs.node.Node.+names.Given as goal
 
 abbrev pub invariant-loop-child : goal.invariant-loop-child
-invariant-loop-child l = Names l.wanted l.self.routes ↔ SomeChildNames l.wanted (children_of (drop l.child-index l.child-items))
+invariant-loop-child l = Names l.group l.self.routes ↔ SomeChildNames l.group (children_of (drop l.child-index l.child-items))
