@@ -1,8 +1,11 @@
-//! What the tests of several crates are written in: the usual setup and changes of it, and frames by their names.
+//! What the tests of several crates are written in: the usual setup and changes of it, frames by their names, and numbers that
+//! look random.
 #![tactic(auto)]
 
+mod draws;
 mod frames;
 mod setups;
 
+pub use draws::Draws;
 pub use frames::filled;
 pub use setups::{ABSENT, Line, PEER, RATE, ROUTE, TENANT, setup_with};

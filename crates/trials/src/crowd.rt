@@ -1,7 +1,6 @@
 //! Crowds: nine hostile tenants beside a calm one, by the same workers. The calm one's lines are those of its own steps alone,
 //! for a setup that has no other tenant.
 
-use crate::draws::Draws;
 use crate::fault::Fault;
 use crate::hands::{Own, own_of};
 use crate::scripts::{script, setup_alone, setup_of_all};
@@ -9,6 +8,12 @@ use crate::seen::{COUNT, see};
 use replay_text::replay;
 use std::alloc::Global;
 use std::str;
+use test_texts::Draws;
+
+// The numbers of a round.
+fn draws_of(round: u32) -> Draws {
+    Draws::new(u64::from(round).wrapping_mul(0xbf58_476d_1ce4_e5b9) ^ 0x9e37_79b9_7f4a_7c15)
+}
 
 static WORKERS: [usize; 8] = [1, 2, 3, 5, 8, 13, 32, 64];
 
@@ -44,7 +49,7 @@ fn round(
     seen: &mut [bool; COUNT],
 ) -> Result<usize, Fault> {
     let workers = workers_in(round);
-    let script = script(alloc, Draws::of_round(round), workers, steps)?;
+    let script = script(alloc, draws_of(round), workers, steps)?;
     let text = printed(alloc, setup, workers, script.as_str())?;
     let lines = str::from_utf8(text.as_slice()).unwrap_or("");
     let own = own_of(alloc, workers, script.as_str(), lines)?;

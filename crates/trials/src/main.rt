@@ -3,7 +3,6 @@
 #![tactic(auto)]
 
 mod crowd;
-mod draws;
 mod fault;
 mod hands;
 mod orders;

@@ -1,7 +1,7 @@
 //! Commands of a hostile operator.
 
-use crate::draws::Draws;
 use std::alloc::{AllocError, Global};
+use test_texts::Draws;
 
 // In these a @ stands for the tenant's name.
 static COMMANDS: [&str; 31] = [

@@ -1,7 +1,7 @@
 //! Packets of a crowd, and what comes back for them, in hexadecimal digits. (RFC 0027)
 
-use crate::draws::Draws;
 use std::alloc::{AllocError, Global};
+use test_texts::Draws;
 
 /// How many milliseconds a script's moments may go past its beginning: its dates are of one hour.
 pub const HOUR: u64 = 3_600_000;

@@ -1,9 +1,9 @@
 //! Scripts of a crowd: steps of hostile tenants and of a calm one, by the same workers.
 
-use crate::draws::Draws;
 use crate::orders::hostile_command;
 use crate::packets::{HOUR, Prepare, answer, frame_of, hostile_frame};
 use std::alloc::{AllocError, Global};
+use test_texts::Draws;
 
 // 2030-01-01T00:00:00Z, when all books begin, and the greatest moment.
 const START: u64 = 1_893_456_000_000;

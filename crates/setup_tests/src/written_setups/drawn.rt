@@ -9,6 +9,7 @@ use admin_text::read_setup;
 use std::alloc::Global;
 use std::process::Abort;
 use std::test::Fail;
+use test_texts::Draws;
 
 // The greatest moment.
 const LATEST: u64 = 253_400_000_000_000;
@@ -93,49 +94,13 @@ static PREFIXES: [&str; 9] = [
     "test3.t.t",
 ];
 
-/// A xorshift generator.
-#[derive(Drop)]
-struct Draws {
-    // not 0
-    state: u64,
-}
-
-impl Draws {
-    fn next(&mut self) -> u64 {
-        self.state ^= self.state << 13;
-        self.state ^= self.state >> 7;
-        self.state ^= self.state << 17;
-        self.state
-    }
-
-    // A number below `end`, and 0 where there is none.
-    fn below(&mut self, end: u64) -> u64 {
-        self.next().checked_rem(end).unwrap_or(0)
-    }
-
-    fn is_one_in(&mut self, times: u64) -> bool {
-        self.below(times) == 0
-    }
-
-    // A number from the least to the most, and often one of these or right beside it.
-    fn within(&mut self, least: u64, most: u64) -> u64 {
-        match self.below(6) {
-            0 => least,
-            1 => least.saturating_add(1),
-            2 => most.saturating_sub(1),
-            3 => most,
-            _ => least.saturating_add(self.below(most.saturating_sub(least))),
-        }
-    }
-
-    // What a peer owes, or is owed.
-    fn balance(&mut self) -> i64 {
-        let amount = i64::try_from(self.within(0, MOST)).unwrap_or(0);
-        if self.is_one_in(2) {
-            amount
-        } else {
-            0i64.saturating_sub(amount)
-        }
+// What a peer owes, or is owed.
+fn drawn_balance(draws: &mut Draws) -> i64 {
+    let amount = i64::try_from(draws.within(0, MOST)).unwrap_or(0);
+    if draws.is_one_in(2) {
+        amount
+    } else {
+        0i64.saturating_sub(amount)
     }
 }
 
@@ -148,7 +113,7 @@ fn drawn_peer(draws: &mut Draws, texts: &PeerLines) -> PeerLines {
         credit: draws.within(0, MOST),
         burst: draws.within(1, 1_000_000),
         per_second: draws.within(0, 1_000_000),
-        balance: draws.balance(),
+        balance: drawn_balance(draws),
         ..*texts
     }
 }
@@ -262,7 +227,7 @@ fn drawn_tenant(alloc: Global, draws: &mut Draws, number: u64) -> Result<String,
 
 // The text of a setup of 64 tenants.
 fn drawn_setup(alloc: Global, seed: u64) -> Result<String, Fail> {
-    let mut draws = Draws { state: seed };
+    let mut draws = Draws::new(seed);
     let mut tenants = String::new(alloc);
     for number in 0..64u64 {
         tenants.push_str(drawn_tenant(alloc, &mut draws, number)?.as_str())?;

@@ -5,40 +5,33 @@ use super::wanted::{Ask, Packet, refusal};
 use crate::books::setups::{Agreed, MOST};
 use tenant_core::{AnswerKey, Side};
 
-/// A xorshift generator.
+/// Numbers that look random, and how many peers there may be.
 #[derive(Drop)]
 pub struct Draws {
-    // not 0
-    state: u64,
-    // how many peers there may be
+    numbers: test_texts::Draws,
     slots: u64,
 }
 
 impl Draws {
     pub fn new(seed: u64, slots: u64) -> Draws {
-        Draws { state: seed, slots }
-    }
-
-    fn next(&mut self) -> u64 {
-        self.state ^= self.state << 13;
-        self.state ^= self.state >> 7;
-        self.state ^= self.state << 17;
-        self.state
+        Draws {
+            numbers: test_texts::Draws::new(seed),
+            slots,
+        }
     }
 
     /// A number below `end`, and 0 where there is none.
     pub fn below(&mut self, end: u64) -> u64 {
-        self.next().checked_rem(end).unwrap_or(0)
+        self.numbers.below(end)
     }
 
     fn between(&mut self, least: u64, most: u64) -> u64 {
-        let count = most.saturating_sub(least).saturating_add(1);
-        least.saturating_add(self.below(count))
+        self.numbers.between(least, most)
     }
 
     /// Whether it is one time of so many.
     pub fn is_one_in(&mut self, times: u64) -> bool {
-        self.below(times) == 0
+        self.numbers.is_one_in(times)
     }
 
     fn slot(&mut self) -> u32 {

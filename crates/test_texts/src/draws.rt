@@ -8,9 +8,8 @@ pub struct Draws {
 }
 
 impl Draws {
-    /// The numbers of a round.
-    pub fn of_round(round: u32) -> Draws {
-        let seed = u64::from(round).wrapping_mul(0xbf58_476d_1ce4_e5b9) ^ 0x9e37_79b9_7f4a_7c15;
+    /// The numbers of that seed. Those of 0 are those of 1.
+    pub fn new(seed: u64) -> Draws {
         Draws { state: seed.max(1) }
     }
 
@@ -24,6 +23,23 @@ impl Draws {
     /// A number below `end`, and 0 where there is none.
     pub fn below(&mut self, end: u64) -> u64 {
         self.next().checked_rem(end).unwrap_or(0)
+    }
+
+    /// A number from the least to the most.
+    pub fn between(&mut self, least: u64, most: u64) -> u64 {
+        let count = most.saturating_sub(least).saturating_add(1);
+        least.saturating_add(self.below(count))
+    }
+
+    /// A number from the least to the most, and often one of these or right beside it.
+    pub fn within(&mut self, least: u64, most: u64) -> u64 {
+        match self.below(6) {
+            0 => least,
+            1 => least.saturating_add(1),
+            2 => most.saturating_sub(1),
+            3 => most,
+            _ => least.saturating_add(self.below(most.saturating_sub(least))),
+        }
     }
 
     /// Whether it is one time of so many.
