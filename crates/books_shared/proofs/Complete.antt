@@ -34,15 +34,12 @@ use Rattle.joint_order.specs.Orders.{TakesOn, list_at, none, one_more, point}
 use Rattle.joint_order.specs.declared.point.Point.{Point}
 use Rattle.receipts.specs.Audits.{AreJoined, AreMatched, IsAmong, IsComplete, IsNumbered, NameOne, Names, place_of, points_of, record_of, records_before}
 use Rattle.receipts.specs.declared.receipt.Receipt.{Receipt}
-use Rattle.receipts.proofs.Joins.{is_element, is_read, one_there}
-use Rattle.receipts.proofs.Lays.{adds}
-use Rattle.receipts.proofs.Naming.{point_at, point_from, points_at}
-use Rattle.receipts.proofs.Places.{read_there}
 use Rattle.books_shared.specs.Complete.{AreClosedIn, AreNumbered, AreReceiptsOf, AreRolled, closed_at, closed_by, closed_from}
 use Rattle.books_shared.specs.Gathers.{shares_of}
 use Rattle.books_shared.specs.Shares.{ShareView, receipt_told, receipts_in, receipts_told}
 use Rattle.books_shared.specs.Traced.{AreInOrder, IsLedTo, IsListOf, book_among, openings_of}
 use Rattle.books_shared.proofs.Counted.{all_there}
+use Rattle.books_shared.proofs.Elements.{adds, is_element, is_read, one_there, point_at, point_from, points_at, read_there}
 use Rattle.books_shared.proofs.Tracing.{opening_from}
 
 -- ---- the elements of a list that pass a test

@@ -6,4 +6,5 @@ pub mod Crossing
 pub mod Causes
 pub mod Gathering
 pub mod Keeping
+pub mod Elements
 pub mod Complete

@@ -1,4 +1,4 @@
-use Rattle.std.proofs.Common.{◌≡◌, ◌≤◌, ◌<◌, ◌++◌, ◌∙◌, length, ap, subst, sym, arith}
+use Rattle.std.proofs.Common.{◌≡◌, ◌≤◌, ◌<◌, ◌++◌, ◌∙◌, ap, subst, sym}
 use Rattle.tenant_core.specs.Limits.{max_tenants}
 use Rattle.tenant_core.specs.declared.opening.Opening.{Opening}
 use Rattle.floor_core.specs.Work.{Called, decide_call}

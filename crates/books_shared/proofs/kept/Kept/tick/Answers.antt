@@ -1,5 +1,5 @@
 use Rattle.std.proofs.Common.{◌≡◌, ◌≤◌, ◌<◌, ◌++◌, ◌∙◌, ap, subst, sym}
-use Rattle.tenant_core.specs.Answer.{tick_made, tick_result}
+use Rattle.tenant_core.specs.Answer.{tick_made}
 use Rattle.tenant_core.specs.Limits.{max_tenants}
 use Rattle.tenant_core.specs.declared.opening.Opening.{Opening}
 use Rattle.one_list.specs.Steps.{done_by, next_place}
