@@ -1,5 +1,5 @@
 -- The requests of a connection, one after another.
-use Rattle.std.proofs.Common.{ℕ, ◌≡◌, ◌⊎◌, inl, inr, ◌<◌, ◌≤◌, ◌++◌, ◌∷◌, [], List, Bool, true, false, ltb, ltb-true, ltb-false, Option, Some, Result, Ok, Err, length, take, drop, subst, sym, refl, ap, ◌∙◌, append_assoc}
+use Rattle.std.proofs.Common.{ℕ, ◌≡◌, ◌⊎◌, inl, inr, ◌++◌, ◌∷◌, [], List, Bool, true, false, Option, Some, Result, Ok, Err, subst, sym, refl, ◌∙◌}
 use Rattle.std.proofs.KnownBytes.{Consumes-nil, Consumes-trans}
 use Rattle.std.specs.Io.KnownBytes.{Consumes, IsAtEnd}
 use Rattle.one_list.specs.declared.run.Run.{Ghosts}

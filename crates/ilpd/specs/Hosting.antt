@@ -40,3 +40,8 @@ IsIdle id (Some seat) = (seat ≡ empty_seat id false) × ((tenant : ℕ) (kind 
 abbrev pub seats_in : Option SeatState → ℕ
 seats_in None = 0
 seats_in (Some seat) = 1
+
+-- what is done beside the workers' threads, where anything is: one call of `stay`
+abbrev pub HasStayed : {A : Type 0} → (A → A → Type 0) → Option A → Option A → Type 0
+HasStayed stays None after = after ≡ None
+HasStayed {A} stays (Some before) after = (left : A) × (after ≡ Some left) × stays before left

@@ -1,5 +1,5 @@
 -- The setup of a service as it stands.
-use Rattle.std.specs.Prelude.{ℕ, ◌≡◌, ◌<◌, List, length, map, Some, Ok}
+use Rattle.std.specs.Prelude.{ℕ, ◌≡◌, List, length, map, Some, Ok}
 use Rattle.std.specs.List.{slice_get}
 use Rattle.admin_text.specs.Anew.{anew, AreTenants}
 use Rattle.admin_text.specs.Setup.{setup_of}

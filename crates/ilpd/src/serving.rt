@@ -11,7 +11,7 @@ ghost use Rattle.std.specs.Fmt.{decimal};
 ghost use Rattle.meters.specs.Seats.{count_of, max_splits};
 ghost use Rattle.meters.specs.declared.kind.Kind as meter;
 ghost use Rattle.ilpd.specs.Answering.{HasToldCounts, HasToldCountsIn, HasWorked, HaveCounted, IsFresh, IsNew};
-ghost use Rattle.ilpd.specs.Hosting.{IsIdle, seats_in};
+ghost use Rattle.ilpd.specs.Hosting.{HasStayed, IsIdle, seats_in};
 ghost use Rattle.ilpd.specs.Served.{line_of, lines_upto};
 
 use crate::auditing::{Found, audited, bad_line, roll_all};
@@ -171,30 +171,6 @@ fn append(periods: &mut Vec<Period>, more: Vec<Period>) -> Result<(), AllocError
     Ok(())
 }
 
-// Lets all workers serve, on threads.
-fn work_all<
-    H: Threads + Wait + Net<Listener = TcpListener, Stream = TcpStream> + std::time::Clock + Sync,
-    C: workers::Clock + Sync,
-    J: Run + Send + Sync,
->(
-    handle: &H,
-    office: &Office<J>,
-    clock: &C,
-    lanes: &mut [Worker<'_, H, C, J>],
-) -> Result<(), ServeFault>
-    requires new { All (λ lane. IsNew lane.desk) lanes.old }
-    requires office { All (λ lane. lane.office.now ≡ office.now) lanes.old }
-    requires clock { All (λ lane. lane.clock.now ≡ clock.now) lanes.old }
-    ensures office { All (λ lane. lane.office.now ≡ office.now) lanes.new }
-    ensures worked { OnOk result (All (λ lane. HasWorked (C.gives clock.now) office.now lane.desk) lanes.new) }
-{
-    meters_are_shared();
-    match run_workers(handle, lanes) {
-        Ok(()) => Ok(()),
-        Err(_) => Err(ServeFault::Device),
-    }
-}
-
 // The host at that door, who reads the meters through a seat of its own.
 fn host_at<'a, H, J: Run>(
     handle: &'a H,
@@ -233,18 +209,21 @@ fn host_leaves<H, J: Run>(office: &Office<J>, first: &mut MeterSeat, host: Optio
     }
 }
 
-// Lets each lane work on a thread of its own, and the other stay beside them until all have ended.
+// Lets each lane work on a thread of its own, and the other, where there is one, stay beside them until all have ended.
 fn run_beside<H: Threads + Wait + Sync, W: Lane, B: Beside>(
     handle: &H,
     door: &Door,
     lanes: &mut [W],
-    other: &mut B,
+    other: &mut Option<B>,
 ) -> Result<(), StartFault>
     ensures ok { OnOk result ((i : ℕ) (d : W) → i < length lanes.old
         → W.works (slice_index_or lanes.old i d) (slice_index_or lanes.new i d)) }
     ensures err { OnErr result (lanes.new ≡ lanes.old) }
-    ensures other { B.stays other.old other.new }
+    ensures other { HasStayed B.stays other.old other.new }
 {
+    let Some(other) = other else {
+        return run_workers(handle, lanes);
+    };
     let (started, ()) = join_mut(
         handle,
         &mut || {
@@ -257,34 +236,8 @@ fn run_beside<H: Threads + Wait + Sync, W: Lane, B: Beside>(
     started
 }
 
-// Lets all workers serve, on threads, and the host answer until they have ended.
-fn work_beside<
-    H: Threads + Wait + Net<Listener = TcpListener, Stream = TcpStream> + std::time::Clock + Sync,
-    C: workers::Clock + Sync,
-    J: Run + Send + Sync,
->(
-    handle: &H,
-    office: &Office<J>,
-    clock: &C,
-    lanes: &mut [Worker<'_, H, C, J>],
-    host: &mut Host<'_, H, J>,
-) -> Result<(), ServeFault>
-    requires new { All (λ lane. IsNew lane.desk) lanes.old }
-    requires office { All (λ lane. lane.office.now ≡ office.now) lanes.old }
-    requires clock { All (λ lane. lane.clock.now ≡ clock.now) lanes.old }
-    ensures office { All (λ lane. lane.office.now ≡ office.now) lanes.new }
-    ensures worked { OnOk result (All (λ lane. HasWorked (C.gives clock.now) office.now lane.desk) lanes.new) }
-    ensures seat { host.new.seat ≡ host.old.seat }
-{
-    meters_are_shared();
-    match run_beside(handle, &office.door, lanes, host) {
-        Ok(()) => Ok(()),
-        Err(_) => Err(ServeFault::Device),
-    }
-}
-
-// Lets all workers serve, and the host answer until they have ended, where there is one.
-fn work_with<
+// Lets all workers serve, on threads, and the host, where there is one, answer until they have ended.
+fn work_all<
     H: Threads + Wait + Net<Listener = TcpListener, Stream = TcpStream> + std::time::Clock + Sync,
     C: workers::Clock + Sync,
     J: Run + Send + Sync,
@@ -302,9 +255,10 @@ fn work_with<
     ensures worked { OnOk result (All (λ lane. HasWorked (C.gives clock.now) office.now lane.desk) lanes.new) }
     ensures seat { option_map (λ host. host.seat) host.new ≡ option_map (λ host. host.seat) host.old }
 {
-    match host {
-        Some(host) => work_beside(handle, office, clock, lanes, host),
-        None => work_all(handle, office, clock, lanes),
+    meters_are_shared();
+    match run_beside(handle, &office.door, lanes, host) {
+        Ok(()) => Ok(()),
+        Err(_) => Err(ServeFault::Device),
     }
 }
 
@@ -339,7 +293,7 @@ pub fn run_all<
 {
     let mut lanes = hired(handle, alloc, office, first, shares, doors.packets, clock)?;
     let mut host = host_at(handle, alloc, office, first, doors.host);
-    work_with(handle, office, clock, lanes.as_mut_slice(), &mut host)?;
+    work_all(handle, office, clock, lanes.as_mut_slice(), &mut host)?;
     host_leaves(office, first, host);
     Ok(dismissed(alloc, office, first, lanes)?)
 }
@@ -442,7 +396,7 @@ fn total_of(extent: Extent) -> u64 {
 }
 
 // How many packets of each tenant may wait for a place: what half of the connections beyond the places come to for each.
-fn room_of(extent: Extent, tenants: usize) -> usize
+fn most_waiting_of(extent: Extent, tenants: usize) -> usize
     requires { 1 ≤ tenants }
 {
     extent.connections.saturating_sub(extent.workers) / 2 / tenants
@@ -492,7 +446,12 @@ pub fn serve<
 {
     let tenants = setup.tenants.as_slice().len();
     let opened = Opened::new(alloc, tenants, extent.connections)?;
-    let places = Places::new(alloc, extent.workers, tenants, room_of(extent, tenants))?;
+    let places = Places::new(
+        alloc,
+        extent.workers,
+        tenants,
+        most_waiting_of(extent, tenants),
+    )?;
     let door = Door::new(total_of(extent));
     let workers = extent.connections;
     serve_run::<Brand, _, _, _>(

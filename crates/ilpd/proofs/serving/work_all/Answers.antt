@@ -8,8 +8,8 @@ use Rattle.books_shared.proofs.Crossing.{books_sync}
 use Rattle.ilpd.proofs.Sending.{office_sync, worker_send}
 use Rattle.ilpd.proofs.serving.work_all.Goals as goal
 
-pub run_workers-requires-send-W : goal.run_workers-requires-send-W
-run_workers-requires-send-W g c κs within =
+pub run_beside-requires-send-W : goal.run_beside-requires-send-W
+run_beside-requires-send-W g c κs within =
     let office = office_sync (param 2 g.row.J) g.J.Run (books_sync (param 2 g.row.J) g.J.Run) c.meters_are_shared.ensures.shared in
     let seat = c.meters_are_shared.ensures.sent in
     let lane : (κ : NamedLft) → IsSend (Worker.the_row κ (param 0 g.row.H) (param 1 g.row.C) (param 2 g.row.J) g.J.Run)
@@ -24,7 +24,7 @@ returns-in-Ok-clause-worked g c k d below =
       new = (slice_index_or c.args.lanes.now k d).desk;
       is_new = c.requires.new k d within;
       served = subst (λ clock. HasServed (g.C.Clock.gives clock) c.args.office.now (slice_index_or c.args.lanes.now k d).desk
-          (slice_index_or c.run_workers.new.lanes k d).desk) (c.requires.clock k d within)
+          (slice_index_or c.run_beside.new.lanes k d).desk) (c.requires.clock k d within)
           (subst (λ office. HasServed (g.C.Clock.gives (slice_index_or c.args.lanes.now k d).clock.now) office (slice_index_or c.args.lanes.now k d).desk
-          (slice_index_or c.run_workers.new.lanes k d).desk) (c.requires.office k d within) works.1);
+          (slice_index_or c.run_beside.new.lanes k d).desk) (c.requires.office k d within) works.1);
     }

@@ -1,4 +1,4 @@
-use Rattle.std.proofs.Common.{◌≡◌, ap, ◌∙◌}
+use Rattle.std.proofs.Common.{ap, ◌∙◌}
 use Rattle.ilpd.proofs.Tallies.{reply_first}
 use Rattle.ilpd.proofs.desk.Desk.carry.Goals as goal
 
