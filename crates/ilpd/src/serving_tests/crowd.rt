@@ -1,29 +1,16 @@
-//! Eight clients of four workers at once, in ten waves, each followed by a roll of both tenants.
+//! Eight clients at once, in ten waves, each followed by a roll of both tenants.
 
-ghost use Rattle.std.specs.Prelude.{◌≡◌, ◌≤◌, length};
-ghost use Rattle.tenant_core.specs.Limits.{max_tenants};
-ghost use Rattle.books_shared.specs.Traced.{openings_of};
-
-use super::wire::{FULFILL, FixedClock, Terms, bytes, good, posted, request, tenant_text};
-use crate::auditing::{Found, audited, roll_all};
-use crate::door::Door;
-use crate::office::Office;
-use crate::opening::{Begun, open_office};
-use crate::serving::{Done, Doors, ServeFault, run_all};
-use admin_text::laws::setups;
-use admin_text::{Setup, read_setup};
-use one_list::{Opened, Run};
+use super::wire::{FULFILL, Terms, bytes, good, posted, request, tenant_text};
+use super::{ALL, serve_as};
+use crate::serving::{Extent, ServeFault};
 use std::alloc::Global;
 use std::io::{Read, Write};
-use std::marker::Brand;
 use std::net::{Net, OpenListener, SocketAddr, TcpListener, TcpStream};
 use std::sync::Wait;
 use std::test::Fail;
 use std::thread::{Threads, join};
 use std::time::{Clock, Duration};
 use std::{io, thread};
-use tenant_core::Book;
-use workers::Places;
 
 const WAVES: u32 = 10;
 
@@ -33,13 +20,13 @@ const PACKETS: u32 = 125;
 // After how many of them it commands.
 const BETWEEN: u32 = 25;
 
-const WORKERS: usize = 4;
-
-// How many packets may be with the peer at once.
-const PLACES: usize = 2;
-
-// A connection for each of eight clients in each wave, and one for each of two operators after it.
-const CONNECTIONS: u64 = 100;
+// At most two packets are with the peer at once; of each tenant four more may wait. There is a connection for each of eight
+// clients in each wave, and one for each of two operators after it, which is a hundred.
+const EXTENT: Extent = Extent {
+    workers: 2,
+    connections: 20,
+    rounds: Some(50),
+};
 
 // The hexadecimal text of a packet of 1,000 units before and behind the tenant's name in its destination.
 const FRONT: &str =
@@ -49,111 +36,6 @@ const BACK: &str = "2e626f622e7800";
 
 /// How many bytes the packet has, and what goes on for it.
 pub const FRAME: usize = 73;
-
-/// What a book says in the end.
-#[derive(Clone, Copy, Debug, PartialEq, Eq)]
-struct Sum {
-    alice: i64,
-    bob: i64,
-    entries: u64,
-}
-
-fn sum_of(book: &Book, entries: u64) -> Sum {
-    let owed = |peer| match book.balance(peer) {
-        Some(row) => row.balance,
-        None => 0,
-    };
-    Sum {
-        alice: owed(0),
-        bob: owed(1),
-        entries,
-    }
-}
-
-fn sums_of(gathered: &[(Book, u64)]) -> Result<[Sum; 2], ServeFault> {
-    match gathered {
-        [acme, beta] => Ok([sum_of(&acme.0, acme.1), sum_of(&beta.0, beta.1)]),
-        _ => Err(ServeFault::Device),
-    }
-}
-
-// What the two books say in the end, and what the audit found.
-type Ended = ([Sum; 2], Vec<u8>);
-
-// Serves the setup of that text, with an audit in the end.
-fn served<
-    R: Threads
-        + Wait
-        + Net<Listener = TcpListener, Stream = TcpStream>
-        + Clock
-        + AllocGlobal
-        + Sync,
->(rt: &R, text: &str, listener: &TcpListener) -> Result<Ended, ServeFault> {
-    let alloc = rt.alloc();
-    setups();
-    let Ok(setup) = read_setup(alloc, text.as_bytes()) else {
-        return Err(ServeFault::Device);
-    };
-    let opened = Opened::new(alloc, setup.tenants.as_slice().len(), WORKERS)?;
-    ended_after::<Brand, _>(rt, alloc, opened, &setup, listener)
-}
-
-// The same, with the list of a run that has just been opened.
-fn ended_after<
-    J: Run + Send + Sync,
-    R: Threads + Wait + Net<Listener = TcpListener, Stream = TcpStream> + Clock + Sync,
->(
-    rt: &R,
-    alloc: Global,
-    opened: Opened,
-    setup: &Setup,
-    listener: &TcpListener,
-) -> Result<Ended, ServeFault>
-    requires list { (opened.table ≡ J.table) × (opened.size ≡ J.size) }
-    requires size { J.size ≡ record { tenants = length setup.now.tenants; workers = 4 } }
-    requires openings { J.openings ≡ openings_of setup.now.tenants setup.now.start }
-    requires tenants { (1 ≤ length setup.now.tenants) × (length setup.now.tenants ≤ max_tenants) }
-{
-    let places = Places::new(alloc, PLACES, setup.tenants.as_slice().len(), WORKERS)?;
-    let Begun {
-        office,
-        mut first,
-        shares,
-    } = open_office::<J>(
-        alloc,
-        opened,
-        setup,
-        WORKERS,
-        true,
-        places,
-        Door::new(CONNECTIONS),
-    )?;
-    let doors = Doors {
-        packets: listener,
-        host: None,
-    };
-    let done = run_all(rt, alloc, &office, &mut first, shares, doors, &FixedClock)?;
-    let Done {
-        mut shares,
-        mut periods,
-        ..
-    } = done;
-    roll_all(
-        rt,
-        alloc,
-        true,
-        &office,
-        &mut shares,
-        &FixedClock,
-        &mut periods,
-    )?;
-    let Found { line, .. } = audited(alloc, true, periods.as_slice(), shares.as_slice())?;
-    let Office { books, .. } = office;
-    match books.gather(alloc, shares) {
-        Ok(gathered) => Ok((sums_of(gathered.as_slice())?, line)),
-        Err(_) => Err(ServeFault::Device),
-    }
-}
 
 /// What the clients of a tenant ask, and what they are to be told.
 #[derive(Drop)]
@@ -375,12 +257,13 @@ pub fn peer_answer(alloc: Global) -> Result<Vec<u8>, Fail> {
     Ok(answer)
 }
 
-/// What came of a crowd: how many packets the next peer fulfilled, what the books say and the audit found, how often both rolls
+/// What came of a crowd: how many packets the next peer fulfilled, what the service printed in the end, how often both rolls
 /// were right, and what the clients were told.
 #[derive(Drop)]
 struct Crowd {
     fulfilled: io::Result<u32>,
-    ended: Result<Ended, ServeFault>,
+    end: Result<(), ServeFault>,
+    lines: Vec<u8>,
     rolls: io::Result<u32>,
     told: [Told; 8],
 }
@@ -403,13 +286,14 @@ fn crowd_of<
     let answer = peer_answer(alloc)?;
     let (acme, beta) = (exchange_of(alloc, "acme")?, exchange_of(alloc, "beta")?);
     let mut told = clients();
-    let (fulfilled, (ended, rolls)) = join(
+    let mut lines = Vec::new(alloc);
+    let (fulfilled, (end, rolls)) = join(
         rt,
         || fulfils_all(&peer, answer.as_slice(), size),
         || {
             let both = join(
                 rt,
-                || served(rt, text.as_str(), &listener),
+                || serve_as(rt, text.as_str(), EXTENT, ALL, &listener, &mut lines),
                 || all_waves(rt, &addr, &acme, &beta, &mut told),
             );
             let _ = TcpStream::connect_timeout(rt, &peer_addr, Duration::from_secs(5));
@@ -418,7 +302,8 @@ fn crowd_of<
     );
     Ok(Crowd {
         fulfilled,
-        ended,
+        end,
+        lines,
         rolls,
         told,
     })
@@ -437,20 +322,27 @@ fn in_all(told: &[Told], beta: bool) -> (u32, u32, u32) {
     sums
 }
 
+// Each tenant has sent 5,000 packets of 1,000 units, for 1,500 each, and 200 commands, and its operator 10. Behind each packet
+// that went on there are two entries, behind each command one, and one behind the last roll of each tenant.
+const PRINTED: &str = "acme balance alice 5000000 0 0
+acme balance bob -7500000 0 0
+acme ok
+beta balance alice 5000000 0 0
+beta balance bob -7500000 0 0
+beta ok
+acme 200 5210 4xx 0 503 0 link 0
+beta 200 5210 4xx 0 503 0 link 0
+audit ok 20422
+";
+
 #[test]
 fn books_say_what_clients_were_told(rt: HostRuntime) -> Result<(), Fail> {
     let crowd = crowd_of(&rt)?;
-    let sum = Sum {
-        alice: 5_000_000,
-        bob: -7_500_000,
-        entries: 10_211,
-    };
     assert!(rt; crowd.fulfilled? == 10_000);
     assert!(rt; in_all(&crowd.told, false) == (5_000, 200, 0));
     assert!(rt; in_all(&crowd.told, true) == (5_000, 200, 0));
     assert!(rt; crowd.rolls? == WAVES);
-    let (sums, line) = crowd.ended?;
-    assert!(rt; sums == [sum, sum]);
-    assert_eq!(rt; line.as_slice(), b"audit ok 20422\n".as_slice());
+    crowd.end?;
+    assert_eq!(rt; crowd.lines.as_slice(), PRINTED.as_bytes());
     Ok(())
 }
