@@ -18,7 +18,8 @@ use Rattle.common_types.specs.Numbers.{is_between}
 use Rattle.ilp_addr.specs.Laws.{TargetLaws}
 use Rattle.ildcp_core.specs.declared.child.Role.{Role}
 use Rattle.ildcp_core.specs.declared.child.Role.TheVariants.{Child, Peer as PeerRole}
-use Rattle.tenant_core.specs.Limits.{max_money, max_peers, max_peer_numbers}
+use Rattle.money_core.specs.Account.{max_money}
+use Rattle.tenant_core.specs.Limits.{max_peers, max_peer_numbers}
 use Rattle.tenant_core.specs.Network.{Net, nobody, IsNetwork, is_present, peer_refusal, with_peer}
 use Rattle.tenant_core.specs.declared.peer.Peer.{Peer}
 use Rattle.tenant_core.specs.declared.terms.PeerTerms.{PeerTerms}

@@ -29,7 +29,8 @@ use Rattle.route_table.specs.Listing.{entry_of}
 use Rattle.route_table.specs.Routes.{RouteMap, max_routes}
 use Rattle.route_table.specs.declared.hop.Hop.{Hop}
 use Rattle.route_table.specs.declared.route.Route.{Route}
-use Rattle.tenant_core.specs.Limits.{max_money, max_rates}
+use Rattle.money_core.specs.Account.{max_money}
+use Rattle.tenant_core.specs.Limits.{max_rates}
 use Rattle.tenant_core.specs.Network.{Net, IsNetwork, peer_numbered, peer_named, route_refusal, has_pair, is_for_pair, rate_refusal}
 use Rattle.tenant_core.specs.Places.{pair, pair_cmp, ArePairsApart}
 use Rattle.tenant_core.specs.declared.peer.Peer.{Peer}

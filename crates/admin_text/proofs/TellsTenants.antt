@@ -15,7 +15,8 @@ use Rattle.common_types.specs.Numbers.{is_between}
 use Rattle.ilp_addr.specs.Laws.{PrefixWordLaws, TargetLaws}
 use Rattle.ilp_addr.specs.Timestamp.{last_moment}
 use Rattle.route_table.specs.declared.route.Route.{Route}
-use Rattle.tenant_core.specs.Limits.{max_journal, max_margin, max_hold, max_money, max_tenants}
+use Rattle.money_core.specs.Account.{max_money}
+use Rattle.tenant_core.specs.Limits.{max_journal, max_margin, max_hold, max_tenants}
 use Rattle.tenant_core.specs.Network.{Net, nobody}
 use Rattle.tenant_core.specs.Setup.{is_tenant_setup}
 use Rattle.tenant_core.specs.declared.peer.Peer.{Peer}

@@ -3,7 +3,7 @@ use Rattle.std.proofs.Common.{◌≡◌, ◌∷◌, ◌++◌, [], ℕ, Bool, tru
 use Rattle.std.specs.Str.{bytes_eq}
 use Rattle.std.proofs.lemmas.Bool.{and_parts}
 use Rattle.std.proofs.lemmas.Slice.Eq.{bytes_eq-Decides}
-use Rattle.tenant_core.specs.declared.limits.TheConstants.{MAX_MONEY}
+use Rattle.money_core.specs.declared.purse.TheConstants.{MAX_MONEY}
 use Rattle.tenant_core.specs.declared.command.Command.{Command}
 use Rattle.tenant_core.specs.declared.command.Command.TheVariants as command
 use Rattle.tenant_core.specs.declared.command.Order.TheVariants.{AddPeer, Settle}

@@ -6,7 +6,8 @@ use Rattle.common_types.specs.Names.{is_name, is_asset_code}
 use Rattle.common_types.specs.ResultChain.{◌>>=◌}
 use Rattle.common_types.specs.Token.{is_token}
 use Rattle.common_types.specs.Words.{words_of}
-use Rattle.tenant_core.specs.declared.limits.TheConstants.{MAX_MONEY, MAX_BURST, MAX_PER_SECOND}
+use Rattle.money_core.specs.declared.purse.TheConstants.{MAX_MONEY}
+use Rattle.tenant_core.specs.declared.limits.TheConstants.{MAX_BURST, MAX_PER_SECOND}
 use Rattle.money_core.specs.declared.rate.TheConstants.Rate.{MAX_TERM}
 use Rattle.tenant_core.specs.declared.command.Command.{Command}
 use Rattle.tenant_core.specs.declared.command.Command.TheVariants as command

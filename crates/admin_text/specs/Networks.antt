@@ -3,7 +3,7 @@ use Rattle.std.specs.Prelude.{ℕ, ◌==◌, List, codes, if◌then◌else◌, O
 use Rattle.std.specs.Result.{result_ok}
 use Rattle.toml.specs.Data.{Data, Items, no_items, item, Members, as_table}
 use Rattle.money_core.specs.Price.{rate_at}
-use Rattle.tenant_core.specs.Limits.{max_money}
+use Rattle.money_core.specs.Account.{max_money}
 use Rattle.tenant_core.specs.Network.{Net, nobody, with_peer, peer_refusal, with_route, route_refusal, with_rate, rate_refusal}
 use Rattle.tenant_core.specs.Orders.{number_named}
 use Rattle.tenant_core.specs.declared.faults.CommandFault.{CommandFault}

@@ -14,7 +14,7 @@ use Rattle.money_core.specs.Fraction.{IsFraction}
 use Rattle.route_table.specs.Listing.{entry_of}
 use Rattle.route_table.specs.Routes.{max_routes}
 use Rattle.route_table.specs.declared.route.Route.{Route}
-use Rattle.tenant_core.specs.Limits.{max_money}
+use Rattle.money_core.specs.Account.{max_money}
 use Rattle.tenant_core.specs.Network.{Net, IsNetwork, peer_numbered}
 use Rattle.tenant_core.specs.Places.{ArePairsApart}
 use Rattle.tenant_core.specs.Setup.{is_tenant_setup}

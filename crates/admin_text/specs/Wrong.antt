@@ -8,15 +8,15 @@ use Rattle.admin_text.specs.declared.wrong.SetupWrong.{SetupWrong}
 use Rattle.admin_text.specs.declared.wrong.SetupWrong.TheVariants.{AtVersion, AtStart, NoTenants, OneTooMany, InTenant}
 
 -- the fault that stands for it
-abbrev pub fault_of : SetupWrong → SetupFault
-fault_of (AtVersion wrong) = Version
-fault_of (AtStart wrong) = Start
-fault_of (NoTenants wrong) = Tenant 0
-fault_of (OneTooMany number) = Tenant number
-fault_of (InTenant tenant wrong) = Tenant tenant.number
+abbrev pub setup_fault_of : SetupWrong → SetupFault
+setup_fault_of (AtVersion wrong) = Version
+setup_fault_of (AtStart wrong) = Start
+setup_fault_of (NoTenants wrong) = Tenant 0
+setup_fault_of (OneTooMany number) = Tenant number
+setup_fault_of (InTenant tenant wrong) = Tenant tenant.number
 
 -- what was read, or the fault
-abbrev pub told : {X : Type 0} → Result X (ReadError SetupWrong) → Result X (ReadError SetupFault)
-told (Ok x) = Ok x
-told (Err Memory) = Err Memory
-told (Err (Fault wrong)) = Err (Fault (fault_of wrong))
+abbrev pub fault_alone : {X : Type 0} → Result X (ReadError SetupWrong) → Result X (ReadError SetupFault)
+fault_alone (Ok x) = Ok x
+fault_alone (Err Memory) = Err Memory
+fault_alone (Err (Fault wrong)) = Err (Fault (setup_fault_of wrong))

@@ -14,7 +14,7 @@ ghost use Rattle.admin_text.specs.OwnTerms.{own_terms_of, terms_with};
 ghost use Rattle.admin_text.specs.TenantTable.{tenant_of_table};
 ghost use Rattle.admin_text.specs.Tenants.{is_there, unless_there, some_tenants, next_tenant, with_one_more, tenants_of_items, tenants_of_array};
 ghost use Rattle.admin_text.specs.Setup.{setup_of_table, setup_of};
-ghost use Rattle.admin_text.specs.Wrong.{told};
+ghost use Rattle.admin_text.specs.Wrong.{fault_alone};
 
 use crate::expected::Expected;
 use crate::keys::{
@@ -167,7 +167,7 @@ fn next_tenant<'a>(
     tenants: &[TenantSetup],
     value: &'a Value,
 ) -> Result<TenantSetup, ReadError<SetupWrong<'a>>>
-    ensures { GivesUnlessMemory (λ tenant. tenants.now ++ tenant ∷ []) (told result)
+    ensures { GivesUnlessMemory (λ tenant. tenants.now ++ tenant ∷ []) (fault_alone result)
         (with_one_more tenants.now (next_tenant version tenants.now (view value.now))) }
 {
     let number = tenants.len();
@@ -190,7 +190,7 @@ fn tenants_of_items(
     version: Version,
     values: &[Value],
 ) -> Result<Vec<TenantSetup>, ReadError<SetupWrong<'_>>>
-    ensures { GivesUnlessMemory (λ tenants. tenants.items) (told result) (tenants_of_items version [] (items_view values.now)) }
+    ensures { GivesUnlessMemory (λ tenants. tenants.items) (fault_alone result) (tenants_of_items version [] (items_view values.now)) }
 {
     let mut tenants = Vec::new(alloc);
     for value in values {
@@ -207,7 +207,7 @@ fn some_tenants<'a>(
     key: Key<'a>,
     values: &'a [Value],
 ) -> Result<Vec<TenantSetup>, ReadError<SetupWrong<'a>>>
-    ensures { GivesUnlessMemory (λ tenants. tenants.items) (told result) (some_tenants version (items_view values.now)) }
+    ensures { GivesUnlessMemory (λ tenants. tenants.items) (fault_alone result) (some_tenants version (items_view values.now)) }
 {
     match values {
         [] => {
@@ -224,7 +224,7 @@ fn tenants_of_array(
     version: Version,
     table: &Table,
 ) -> Result<Vec<TenantSetup>, ReadError<SetupWrong<'_>>>
-    ensures { GivesUnlessMemory (λ tenants. tenants.items) (told result)
+    ensures { GivesUnlessMemory (λ tenants. tenants.items) (fault_alone result)
         (tenants_of_array version (array_under (codes "tenant") (table_view table.now))) }
 {
     match array_under(table, "tenant", Expected::Tenants) {
@@ -239,7 +239,7 @@ pub(crate) fn setup_of_table(
     alloc: Global,
     table: &Table,
 ) -> Result<Setup, ReadError<SetupWrong<'_>>>
-    ensures { GivesUnlessMemory (λ s. s) (told result) (setup_of_table (table_view table.now)) }
+    ensures { GivesUnlessMemory (λ s. s) (fault_alone result) (setup_of_table (table_view table.now)) }
 {
     let version = match version_of(table) {
         Ok(version) => version,

@@ -153,11 +153,11 @@ pub(crate) enum SetupWrong<'a> {
 
 impl SetupWrong<'_> {
     ghost use Rattle.std.specs.Prelude.{◌≡◌};
-    ghost use Rattle.admin_text.specs.Wrong.{fault_of};
+    ghost use Rattle.admin_text.specs.Wrong.{setup_fault_of};
 
     /// The fault that stands for it.
     pub(crate) fn fault(&self) -> SetupFault
-        ensures { result ≡ fault_of self.now }
+        ensures { result ≡ setup_fault_of self.now }
     {
         match self {
             SetupWrong::AtVersion(_) => SetupFault::Version,

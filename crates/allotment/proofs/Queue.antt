@@ -160,11 +160,11 @@ queue_taken tenant q kept there allowed taken =
 
 -- one more of a tenant waits
 pub queue_waits : (tenant : ℕ) (q : Queued) → IsQueue q → tenant < length q.loans.used → is_granted tenant q.loans ≡ false
-    → waiting_of tenant q < q.room → IsQueue (waits_for tenant q)
+    → waiting_of tenant q < q.most_waiting → IsQueue (waits_for tenant q)
 queue_waits tenant q kept there denied room =
     let waiting = waiting_of tenant q in
     let is_in : tenant < length q.waiting = omega (arith, kept.all_wait, there) in
-    let F : ℕ → ℕ → Type 0 = λ u n. n ≤ q.room in
+    let F : ℕ → ℕ → Type 0 = λ u n. n ≤ q.most_waiting in
     let V : ℕ → ℕ → Type 0 = λ u n. 0 < n → is_granted u q.loans ≡ false in
     record {
       all_wait = omega (arith, kept.all_wait, length-set q.waiting tenant (waiting + 1));
@@ -180,7 +180,7 @@ pub queue_given_up : (tenant : ℕ) (q : Queued) → IsQueue q → tenant < leng
 queue_given_up tenant q kept there =
     let waiting = waiting_of tenant q in
     let is_in : tenant < length q.waiting = omega (arith, kept.all_wait, there) in
-    let F : ℕ → ℕ → Type 0 = λ u n. n ≤ q.room in
+    let F : ℕ → ℕ → Type 0 = λ u n. n ≤ q.most_waiting in
     let V : ℕ → ℕ → Type 0 = λ u n. 0 < n → is_granted u q.loans ≡ false in
     let few = kept.few tenant in
     record {
@@ -237,7 +237,7 @@ queue_kept tenant next turn q kept there is_there uses own waits is_turn =
     let lent_in : next < length given.used = omega (arith, length-set q.loans.used tenant (used - 1), is_there) in
     let waits_in : next < length q.waiting = omega (arith, kept.all_wait, is_there) in
     let kept_in : next < length q.kept = omega (arith, kept.all_kept, is_there) in
-    let F : ℕ → ℕ → Type 0 = λ u n. n ≤ q.room in
+    let F : ℕ → ℕ → Type 0 = λ u n. n ≤ q.most_waiting in
     let U : ℕ → ℕ → Type 0 = λ u n. kept_for u q ≤ n in
     let later : (u : ℕ) → kept_for u q ≤ used_by u given =
     set_all U q.loans.used tenant (used - 1) there (omega (arith, uses)) (λ u ne. kept.used u) in
@@ -267,7 +267,7 @@ pub queue_kept_at : (q now : Queued) → q ≡ now → (tenant next turn : ℕ) 
     → (used_by tenant now.loans ≤ now.loans.share → next ≡ tenant) → 0 < waiting_of next now
     → is_granted next (given_back_by tenant now.loans) ≡ true → given ≡ given_back_by tenant q.loans → loans ≡ asked_by next given
     → waiting ≡ slice_set q.waiting next (waiting_of next q - 1) → kept ≡ slice_set q.kept next (kept_for next q + 1)
-    → turn < length q.loans.used → IsQueue (record { loans = loans; room = q.room; waiting = waiting; kept = kept; turn = turn })
+    → turn < length q.loans.used → IsQueue (record { loans = loans; most_waiting = q.most_waiting; waiting = waiting; kept = kept; turn = turn })
 queue_kept_at q now is tenant next turn given loans waiting kept queue there uses is_there own waits allowed given_is loans_is waiting_is kept_is is_turn =
     let B : Queued → Type 0 = λ q. tenant < length q.loans.used in
     let N : Queued → Type 0 = λ q. next < length q.loans.used in

@@ -1,6 +1,7 @@
 -- Places that are lent to tenants: how many each tenant uses, and how many are still owed.
 use Rattle.std.specs.Prelude.{ℕ, ◌+◌, ◌-◌, ◌*◌, ◌/◌, ◌≤◌, Bool, ◌||◌, List, max, sum, sum_by, if◌then◌else◌, nat_lt, slice_index, slice_set}
-use Rattle.allotment.specs.declared.allotted.TheConstants.{MAX_TENANTS, MAX_PLACES}
+use Rattle.common_types.specs.declared.limits.TheConstants.{MAX_TENANTS}
+use Rattle.allotment.specs.declared.allotted.TheConstants.{MAX_PLACES}
 
 -- at most as many tenants
 abbrev pub max_tenants : ℕ

@@ -6,7 +6,7 @@ use Rattle.allotment.specs.Loans.{Loans, given_back_by, is_granted, lent_to, use
 -- of a tenant that have waited, and whose turn it is to have a place that anyone may have.
 pub record Queued : Type 0 where
   pub loans : Loans
-  pub room : ℕ
+  pub most_waiting : ℕ
   pub waiting : List ℕ
   pub kept : List ℕ
   pub turn : ℕ
@@ -53,11 +53,11 @@ abbrev pub given_up_by : ℕ → Queued → Queued
 given_up_by tenant queued =
     record queued { waiting = slice_set queued.waiting tenant (waiting_of tenant queued - 1) }
 
--- the tenant has asked: it has a place where it is granted one, and else one more of it waits where there is room for that
+-- the tenant has asked: it has a place where it is granted one, and else one more of it waits where so many may wait
 abbrev pub asked_for : ℕ → Queued → Queued
 asked_for tenant queued =
     if is_granted tenant queued.loans then record queued { loans = lent_to tenant queued.loans }
-    else (if nat_lt (waiting_of tenant queued) queued.room then waits_for tenant queued else queued)
+    else (if nat_lt (waiting_of tenant queued) queued.most_waiting then waits_for tenant queued else queued)
 
 -- a place that the tenant used is free
 abbrev pub returned_by : ℕ → Queued → Queued

@@ -8,7 +8,7 @@ use Rattle.allotment.specs.declared.lending.Lending.TheInside.{Inside}
 abbrev pub queued_of : Inside → Queued
 queued_of l = record {
   loans = l.loans;
-  room = l.room;
+  most_waiting = l.most_waiting;
   waiting = l.waiting.items;
   kept = l.kept.items;
   turn = l.turn;
@@ -19,7 +19,7 @@ queued_of l = record {
 pub record IsQueue (queued : Queued) : Type 0 where
   pub all_wait : length queued.waiting ≡ length queued.loans.used
   pub all_kept : length queued.kept ≡ length queued.loans.used
-  pub few : (tenant : ℕ) → waiting_of tenant queued ≤ queued.room
+  pub few : (tenant : ℕ) → waiting_of tenant queued ≤ queued.most_waiting
   pub used : (tenant : ℕ) → kept_for tenant queued ≤ used_by tenant queued.loans
   pub in_vain : NobodyWaitsInVain queued
   pub turn : queued.turn < length queued.loans.used

@@ -6,9 +6,6 @@ ghost use Rattle.allotment.specs.Loans.{max_tenants, max_places, IsCovered, aske
 use std::alloc::{AllocError, Global};
 use std::marker::Model;
 
-/// At most as many tenants.
-pub const MAX_TENANTS: usize = 64;
-
 /// At most as many places.
 pub const MAX_PLACES: usize = 64;
 

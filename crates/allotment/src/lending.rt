@@ -29,7 +29,7 @@ pub enum Turn {
 #[derive(Drop)]
 pub struct Lending {
     loans: Allotment,
-    room: usize,
+    most_waiting: usize,
     waiting: Vec<usize>,
     kept: Vec<usize>,
     // The tenant whose turn it is to have what anyone may have.
@@ -59,13 +59,13 @@ impl Lending {
         alloc: Global,
         places: usize,
         tenants: usize,
-        room: usize,
+        most_waiting: usize,
     ) -> Result<Lending, AllocError>
         requires tenants { (1 ≤ tenants) × (tenants ≤ max_tenants) }
         requires places { (1 ≤ places) × (places ≤ max_places) }
         ensures { IfOk result (λ made. made ≡ record {
           loans = record { places = places; share = share_of places tenants; used = replicate tenants 0 };
-          room = room;
+          most_waiting = most_waiting;
           waiting = replicate tenants 0;
           kept = replicate tenants 0;
           turn = 0;
@@ -73,7 +73,7 @@ impl Lending {
     {
         Ok(Lending {
             loans: Allotment::new(alloc, places, tenants)?,
-            room,
+            most_waiting,
             waiting: vec![in alloc; 0; tenants]?,
             kept: vec![in alloc; 0; tenants]?,
             turn: 0,
@@ -115,14 +115,14 @@ impl Lending {
         requires { tenant < length self.old.loans.used }
         ensures taken { (result ≡ Turn.Taken) ↔ IsTrue (is_granted tenant self.old.loans) }
         ensures sure { used_by tenant self.old.loans < self.old.loans.share → result ≡ Turn.Taken }
-        ensures waits { (result ≡ Turn.Waits) ↔ ((is_granted tenant self.old.loans ≡ false) × (waiting_of tenant self.old < self.old.room)) }
+        ensures waits { (result ≡ Turn.Waits) ↔ ((is_granted tenant self.old.loans ≡ false) × (waiting_of tenant self.old < self.old.most_waiting)) }
         ensures asked { self.new ≡ asked_for tenant self.old }
     {
         if self.loans.try_take(tenant) {
             return Turn::Taken;
         }
         let waiting = self.waiting[tenant];
-        if waiting >= self.room {
+        if waiting >= self.most_waiting {
             return Turn::Full;
         }
         self.waiting[tenant] = waiting + 1;

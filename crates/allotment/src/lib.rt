@@ -5,5 +5,5 @@ mod allotted;
 pub mod laws;
 mod lending;
 
-pub use allotted::{Allotment, MAX_PLACES, MAX_TENANTS};
+pub use allotted::{Allotment, MAX_PLACES};
 pub use lending::{Lending, Turn};

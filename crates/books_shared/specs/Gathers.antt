@@ -3,6 +3,7 @@ use Rattle.std.specs.Prelude.{ℕ, ◌≡◌, ◌==◌, Bool, true, ◌&&◌, Li
 use Rattle.std.specs.List.{list_all}
 use Rattle.tenant_core.specs.State.{State}
 use Rattle.books_shared.specs.Shares.{ShareView}
+use Rattle.books_shared.specs.declared.books.TheConstants.{MAX_WORKERS}
 
 -- how many tenants and how many workers share books
 pub record BooksView : Type 0 where
@@ -11,7 +12,7 @@ pub record BooksView : Type 0 where
 
 -- the most workers
 abbrev pub max_workers : ℕ
-max_workers = 4_096
+max_workers = MAX_WORKERS
 
 -- ---- whose shares they are
 

@@ -18,14 +18,6 @@ nothing = record { entries = 0; strangers = 0; full = 0 }
 abbrev pub an_entry : Rise
 an_entry = record { entries = 1; strangers = 0; full = 0 }
 
--- one token that is no peer's
-abbrev pub a_stranger : Rise
-a_stranger = record { entries = 0; strangers = 1; full = 0 }
-
--- one packet for which the journal has no room
-abbrev pub a_full_journal : Rise
-a_full_journal = record { entries = 0; strangers = 0; full = 1 }
-
 -- no part is over 1
 pub record IsSmall (rise : Rise) : Type 0 where
   pub entries : rise.entries ≤ 1

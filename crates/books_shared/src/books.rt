@@ -16,6 +16,9 @@ use std::marker::Model;
 use std::sync::{Mutex, Wait};
 use tenant_core::{Book, TenantSetup};
 
+/// The most workers.
+pub const MAX_WORKERS: usize = 4_096;
+
 /// The books of 1 to 64 tenants, each behind a lock of its own, for 1 to 4,096 workers. Contracts see how many there are of
 /// each.
 ///

@@ -9,7 +9,7 @@ pub mod laws;
 mod rise;
 mod share;
 
-pub use books::Books;
+pub use books::{Books, MAX_WORKERS};
 pub use gather::GatherFault;
 pub use guard::Guard;
 pub use receipts::{AuditFault, Audited, Receipt, audit};

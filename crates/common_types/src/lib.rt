@@ -1,6 +1,6 @@
 //! Small types that the connector's crates share: texts in fixed room, names, tokens and asset codes, numbers within
-//! limits, words and numerals of a text, values in a box, lists and bytes that contracts see as lists, room for bytes, and
-//! the errors of readers that take memory.
+//! limits, limits that hold in several crates, words and numerals of a text, values in a box, lists and bytes that
+//! contracts see as lists, room for bytes, and the errors of readers that take memory.
 #![tactic(auto)]
 
 mod between;
@@ -8,6 +8,7 @@ mod boxed;
 mod bytes;
 mod items;
 pub mod laws;
+pub mod limits;
 mod names;
 mod numerals;
 mod read_error;

@@ -1,6 +1,6 @@
 -- What comes of an event where it is known how its call stands.
-use Rattle.std.proofs.Common.{◌≡◌, ◌+◌, ℕ, List, Option, Some, None, refl, ap, ◌∙◌}
-use Rattle.std.specs.Prelude.{Result, Ok, Err}
+use Rattle.std.proofs.Common.{◌≡◌, ℕ, List, Option, Some, None, refl, ap, ◌∙◌}
+use Rattle.std.specs.Prelude.{Result, Ok}
 use Rattle.ilp_addr.specs.Timestamp.{timestamp_of}
 use Rattle.ilp_view.specs.Packet.{Prepare, with_amount_and_expiry}
 use Rattle.tenant_core.specs.Answer.{answer_made, answer_to}
@@ -12,7 +12,7 @@ use Rattle.tenant_core.specs.declared.journal.Record.{Record}
 use Rattle.tenant_core.specs.declared.verdict.Verdict.{Verdict}
 use Rattle.tenant_core.specs.declared.verdict.Verdict.TheVariants.{Unknown, NoRoom, Refuse, Fulfil, Forward, Relay}
 use Rattle.floor_core.specs.Replies.{decision_reply}
-use Rattle.floor_core.specs.World.{Effect, Event, Hand, Stage, Tenant, World, answer_key, arrival, arrived, bytes_given, call_answered, call_decided, call_judged, call_settled, effect_of, heard, key_in, number_of, on_call, peer_name, put, settled_reply, told}
+use Rattle.floor_core.specs.World.{Effect, Event, Hand, Stage, Tenant, World, answer_key, arrival, arrived, bytes_given, call_answered, call_decided, call_judged, call_settled, effect_of, key_in, number_of, on_call, peer_name, put, settled_reply, told}
 use Rattle.floor_core.specs.declared.step.Given.{Given}
 use Rattle.floor_core.specs.declared.step.Malformed.{Malformed}
 use Rattle.floor_core.specs.declared.step.Output.{Output}

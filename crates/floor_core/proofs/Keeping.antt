@@ -1,6 +1,6 @@
 -- Each event leaves a tenant's calls and holds in step, and an answer meets its hold.
 use Rattle.std.proofs.Common.{◌≡◌, ◌≢◌, ◌+◌, ℕ, List, Bool, true, false, eqb, Option, Some, None, refl, inl, inr, ◌⊎◌, sym, ap, subst, ◌∙◌}
-use Rattle.std.specs.Prelude.{◌||◌, ◌&&◌, not, Result, Ok, Err, is_ok}
+use Rattle.std.specs.Prelude.{◌||◌, ◌&&◌, not, Result, Ok, Err}
 use Rattle.std.proofs.lemmas.Bool.{eq-eqb, ne_eqb}
 use Rattle.std.proofs.lemmas.Bool.Decides.{eqb_tells}
 use Rattle.ilp_view.specs.Packet.{Prepare}

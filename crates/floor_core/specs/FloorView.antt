@@ -11,6 +11,7 @@ use Rattle.floor_core.specs.Kept.{IsKept}
 use Rattle.floor_core.specs.Work.{Job, carrying, IsReadable, IsOfBytes}
 use Rattle.floor_core.specs.World.{Stage, Tenant, Hand, World, FitsIn, no_book, world_at_start}
 use Rattle.floor_core.specs.declared.floor.Seat.{Seat}
+use Rattle.floor_core.specs.declared.floor.TheConstants.{MAX_SEATS}
 use Rattle.floor_core.specs.declared.step.Step.{Step}
 
 -- what a floor is made of: every worker's slot with the number of its call, every tenant's book, and the number of its
@@ -19,6 +20,10 @@ pub record FloorState : Type 0 where
   pub seats : List Seat
   pub books : List State
   pub next_calls : List ℕ
+
+-- the most workers
+abbrev pub max_seats : ℕ
+max_seats = MAX_SEATS
 
 -- ---- seats and books by their numbers
 

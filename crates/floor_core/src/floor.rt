@@ -28,6 +28,9 @@ use std::marker::Model;
 use tenant_core::laws::{book_is_sound, calls, open_holds, what_stays};
 use tenant_core::{Answered, Book, Command, CommandFault, PeerNo, TenantSetup};
 
+/// The most workers of a floor, each of which has a seat.
+pub const MAX_SEATS: usize = 64;
+
 /// A worker's place: its slot, and the number of the call in it.
 #[derive(Drop)]
 pub struct Seat {
@@ -471,7 +474,7 @@ impl Floor {
 
 impl Floor {
     ghost use Rattle.std.specs.Prelude.{◌≡◌, ◌≤◌, ℕ, length, IfOk};
-    ghost use Rattle.floor_core.specs.FloorView.{IsNew};
+    ghost use Rattle.floor_core.specs.FloorView.{IsNew, max_seats};
     ghost use Rattle.tenant_core.specs.Limits.{max_tenants};
 
     /// The floor of these tenants, whose first periods begin at `start`, and of so many workers, with nothing in hand:
@@ -483,7 +486,7 @@ impl Floor {
         workers: usize,
     ) -> Result<Floor, AllocError>
         requires tenants { (1 ≤ length setups.now) × (length setups.now ≤ max_tenants) }
-        requires workers { (1 ≤ workers) × (workers ≤ 64) }
+        requires workers { (1 ≤ workers) × (workers ≤ max_seats) }
         ensures { IfOk result (λ floor. IsNew setups.now start workers floor) }
     {
         let seats = free_seats(alloc, workers)?;

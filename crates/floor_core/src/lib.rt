@@ -11,7 +11,7 @@ mod room;
 mod slot;
 mod step;
 
-pub use floor::{Floor, RunFault};
+pub use floor::{Floor, MAX_SEATS, RunFault};
 pub use octets::Octets;
 pub use parts::{Got, LoadFault, Turn};
 pub use slot::Slot;

@@ -2,6 +2,7 @@
 
 ghost use Rattle.std.specs.Prelude.{◌≡◌, ◌≤◌, List, ℕ, length, take};
 ghost use Rattle.oer_core.specs.Writing.{Writes};
+ghost use Rattle.ilp_addr.specs.OwnAddress.{max_own_address};
 ghost use Rattle.ilp_view.specs.Packet.{max_frame, reject_frame};
 ghost use Rattle.std.specs.Prelude.{Some, codes};
 ghost use Rattle.floor_core.specs.Replies.{code_of, message_of, amounts_data, refusal_reply, decision_reply};
@@ -53,7 +54,7 @@ fn message_of(code: RejectCode) -> &'static [u8]
 // The Reject of that code, and how many bytes it has.
 fn put_reject(out: &mut [u8], address: &[u8], code: RejectCode, payload: &[u8]) -> usize
     requires room { length out.old ≡ max_frame }
-    requires address { length address.now ≤ 900 }
+    requires address { length address.now ≤ max_own_address }
     requires payload { length payload.now ≤ 16 }
     ensures written { Writes out.old 0
         (reject_frame (code_of code) address.now (message_of code) payload.now) out.new result }
@@ -81,7 +82,7 @@ fn put_refusal(
     amounts: Option<(u64, u64)>,
 ) -> usize
     requires room { length out.old ≡ max_frame }
-    requires address { length address.now ≤ 900 }
+    requires address { length address.now ≤ max_own_address }
     ensures written { Writes out.old 0 (refusal_reply address.now code amounts) out.new result }
     ensures within { result ≤ max_frame }
 {
@@ -113,7 +114,7 @@ pub fn put_decision(out: &mut [u8], book: &Book, token: &[u8], verdict: Verdict)
 /// place, and gives how many bytes that has.
 pub fn put_settlement(out: &mut [u8], address: &[u8], len: usize, verdict: Verdict) -> usize
     requires room { length out.old ≡ max_frame }
-    requires address { length address.now ≤ 900 }
+    requires address { length address.now ≤ max_own_address }
     requires answer { len ≤ max_frame }
     ensures written { Writes out.old 0 (settled_reply address.now (take len out.old) verdict) out.new result }
     ensures within { result ≤ max_frame }

@@ -4,7 +4,7 @@ use Rattle.common_types.specs.Numbers.{is_between}
 use Rattle.httparse.specs.declared.spans.HeaderSpan.{HeaderSpan}
 use Rattle.httparse.specs.declared.spans.ResponseSpans.{ResponseSpans}
 use Rattle.httparse.specs.Grammar.{ResponseHead, print_response}
-use Rattle.http_link.specs.Limits.{max_answer, max_head, max_lines}
+use Rattle.http_link.specs.Limits.{max_peer_answer, max_head, max_lines}
 use Rattle.http_link.specs.Fields.{Line}
 use Rattle.http_link.specs.Heads.{BeginsAnswer, Reply, reply_of}
 use Rattle.httparse.specs.Spans.{IsResponseAt, header_bytes}
@@ -111,19 +111,19 @@ none_read heads known text stream lines meaning some size room none e fault =
     no_head heads stream meaning some (λ head rest begins. none_begins known text stream lines head rest size room none e begins) fault
 
 -- chunks that were read are what the bytes mean
-pub chunks_mean : (read : BodyRead) (old new : Option (List ℕ)) (has room rest : List ℕ) → ReadsAs [] old new has room (IsChunked max_answer) read → old ≡ Some rest
+pub chunks_mean : (read : BodyRead) (old new : Option (List ℕ)) (has room rest : List ℕ) → ReadsAs [] old new has room (IsChunked max_peer_answer) read → old ≡ Some rest
     → MeansCoded true rest (told_of (body_read room has read))
 chunks_mean (Whole n) old new has room rest read e =
     let front = begins_with_taken old new read.came rest read.consumed e in (
       whole (take n room) (has ++ front.0),
-      subst (λ (w : List ℕ). IsChunked max_answer w (whole (take n room) (has ++ front.0))) (sym front.2) (whole_more (Chunked max_answer) read.came front.0 (take n room) has read.so),
+      subst (λ (w : List ℕ). IsChunked max_peer_answer w (whole (take n room) (has ++ front.0))) (sym front.2) (whole_more (Chunked max_peer_answer) read.came front.0 (take n room) has read.so),
       refl,
     )
 chunks_mean bodies.Cut old new has room rest read e =
     let front = begins_with_taken old new read.came rest read.consumed e in
     let over : front.0 ≡ [] = subst IsAtEnd front.1 (read.ended refl).1 in
     let all : rest ≡ read.came = front.2 ∙ ap (λ (w : List ℕ). read.came ++ w) over ∙ append-nil read.came in
-    (cut, subst (λ (w : List ℕ). IsChunked max_answer w cut) (sym all) read.so, refl)
+    (cut, subst (λ (w : List ℕ). IsChunked max_peer_answer w cut) (sym all) read.so, refl)
 chunks_mean (Bad fault) old new has room rest read e =
     let front = begins_with_taken old new read.came rest read.consumed e in
-    (bad fault, subst (λ (w : List ℕ). IsChunked max_answer w (bad fault)) (sym front.2) (bad_more (Chunked max_answer) read.came front.0 fault read.so), refl)
+    (bad fault, subst (λ (w : List ℕ). IsChunked max_peer_answer w (bad fault)) (sym front.2) (bad_more (Chunked max_peer_answer) read.came front.0 fault read.so), refl)

@@ -48,8 +48,8 @@ abbrev pub answer_head : RequestKind → ℕ → ℕ → Bool → List ℕ
 answer_head kind status size closes = head_with (status_line kind status) status size closes
 
 -- a service's status as it is told: any other than these is 503 (RFC 9110, 15.6.4)
-abbrev pub told : ℕ → ℕ
-told status = if (status == 200) || (status == 400) || (status == 401) then status else 503
+abbrev pub status_told : ℕ → ℕ
+status_told status = if (status == 200) || (status == 400) || (status == 401) then status else 503
 
 -- the body of an answer; only 200 has one
 abbrev pub told_body : ℕ → List ℕ → List ℕ
@@ -58,7 +58,7 @@ told_body status body = if status == 200 then body else []
 -- the answer with a service's status, and its bytes where that is 200
 abbrev pub answer_text : RequestKind → ℕ → List ℕ → Bool → List ℕ
 answer_text kind status body closes =
-    answer_head kind (told status) (length (told_body status body)) closes ++ told_body status body
+    answer_head kind (status_told status) (length (told_body status body)) closes ++ told_body status body
 
 -- the answer that refuses a head, after which the connection is closed
 abbrev pub refusal_text : ℕ → List ℕ

@@ -12,7 +12,7 @@ use Rattle.http_link.specs.declared.posting.PostFault.TheVariants.{Size}
 use Rattle.http_link.specs.declared.streams.LinkFault.{LinkFault}
 use Rattle.http_link.specs.declared.streams.LinkFault.TheVariants as links
 use Rattle.http_link.specs.Fields.{Occurrence, missing, once, repeated, occurrence, value_of, is_chunked, is_length}
-use Rattle.http_link.specs.Limits.{max_answer}
+use Rattle.http_link.specs.Limits.{max_peer_answer}
 use Rattle.http_link.specs.Heads.{BeginsAnswer, Reply, reply_of}
 use Rattle.http_link.specs.Answers.{line}
 
@@ -35,12 +35,12 @@ post_text target frame = post_head target (length frame) ++ frame
 -- a body of a stated length (RFC 9112, 6.2)
 abbrev pub sized_body : ℕ → List ℕ → Result (List ℕ) PostFault
 sized_body size rest =
-    if nat_lt max_answer size then Err Size
+    if nat_lt max_peer_answer size then Err Size
     else (if nat_lt (length rest) size then Err Cut else Ok (take size rest))
 
 -- a body that goes to the end of the stream (RFC 9112, 6.3)
 abbrev pub body_to_end : List ℕ → Result (List ℕ) PostFault
-body_to_end rest = if nat_lt max_answer (length rest) then Err Size else Ok rest
+body_to_end rest = if nat_lt max_peer_answer (length rest) then Err Size else Ok rest
 
 -- what a body in chunks means
 abbrev pub told_of : Body → Result (List ℕ) PostFault
@@ -51,7 +51,7 @@ told_of (bad TooLarge) = Err Size
 
 -- a body of a coding: in chunks, or in another, which we don't read (RFC 9112, 6.1 and 7.1)
 abbrev pub MeansCoded : Bool → List ℕ → Result (List ℕ) PostFault → Type 0
-MeansCoded true rest meaning = (body : Body) × IsChunked max_answer rest body × (meaning ≡ told_of body)
+MeansCoded true rest meaning = (body : Body) × IsChunked max_peer_answer rest body × (meaning ≡ told_of body)
 MeansCoded false rest meaning = meaning ≡ Err Unframed
 
 -- a body by the lines on its coding and its length (RFC 9112, 6.3)
@@ -105,10 +105,10 @@ given (Ok n) out = Ok (take n out)
 given (Err fault) out = Err fault
 
 -- the fault of a link as a fault of a post
-abbrev pub fault_of : LinkFault → PostFault
-fault_of links.Read = Read
-fault_of links.Write = Write
-fault_of links.Turns = Turns
+abbrev pub post_fault_of : LinkFault → PostFault
+post_fault_of links.Read = Read
+post_fault_of links.Write = Write
+post_fault_of links.Turns = Turns
 
 -- what is given is what the known bytes mean, unless the device failed or too many reads were made
 abbrev pub GivesAs : (List ℕ → Result (List ℕ) PostFault → Type 0) → Option (List ℕ) → Result ℕ PostFault → List ℕ → Type 0

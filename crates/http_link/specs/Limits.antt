@@ -32,8 +32,8 @@ abbrev pub max_request : ℕ
 max_request = max_head + max_body
 
 -- the most bytes of an answer's body
-abbrev pub max_answer : ℕ
-max_answer = MAX_PEER_ANSWER
+abbrev pub max_peer_answer : ℕ
+max_peer_answer = MAX_PEER_ANSWER
 
 -- the most heads of an answer, all but the last interim ones
 abbrev pub max_heads : ℕ

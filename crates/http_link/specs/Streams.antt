@@ -43,7 +43,3 @@ abbrev pub EndsOrNot : Option (List ℕ) → Bool → Type 0
 EndsOrNot known true = IsAtEnd known
 EndsOrNot None false = Unit {0}
 EndsOrNot (Some bytes) false = 0 < length bytes
-
--- fewer bytes than wanted were taken, and no more are left
-abbrev pub EndsBefore : ℕ → Option (List ℕ) → Option (List ℕ) → Type 0
-EndsBefore wanted old new = (taken : List ℕ) × (length taken < wanted) × Consumes old new taken × IsAtEnd new

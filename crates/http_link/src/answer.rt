@@ -1,7 +1,7 @@
 //! The texts of answers.
 
 ghost use Rattle.std.specs.Prelude.{◌≡◌, ◌≤◌, length};
-ghost use Rattle.http_link.specs.Answers.{reason_of, told, answer_head, head_with, status_line, close_line};
+ghost use Rattle.http_link.specs.Answers.{reason_of, status_told, answer_head, head_with, status_line, close_line};
 
 use crate::line_buffer::LineBuffer;
 use crate::request::RequestKind;
@@ -47,8 +47,8 @@ fn close_line(closes: bool) -> &'static [u8]
 }
 
 /// A service's status as it is told. (RFC 9110, 15.6.4)
-pub(crate) fn told(status: u16) -> u16
-    ensures { result ≡ told status }
+pub(crate) fn status_told(status: u16) -> u16
+    ensures { result ≡ status_told status }
 {
     match status {
         200 | 400 | 401 => status,

@@ -8,7 +8,7 @@ ghost use Rattle.http_link.specs.Counts.{MadeAll, Spends};
 ghost use Rattle.http_link.specs.Lines.{lines_at, occurrence_at};
 ghost use Rattle.http_link.specs.Client.{post_head, post_text, Means, given, GivesAs, GivesOf};
 ghost use Rattle.http_link.specs.Client.{IsMeaning, MeansBody, MeansCoded, sized_body, body_to_end};
-ghost use Rattle.http_link.specs.Limits.{max_answer, max_heads};
+ghost use Rattle.http_link.specs.Limits.{max_peer_answer, max_heads};
 
 use crate::bodies::{BodyFault, BodyRead};
 use crate::chunks::read_chunks;
@@ -60,9 +60,9 @@ pub enum PostFault {
 
 impl From<LinkFault> for PostFault {
     ghost use Rattle.std.specs.Prelude.{◌≡◌};
-    ghost use Rattle.http_link.specs.Client.{fault_of};
+    ghost use Rattle.http_link.specs.Client.{post_fault_of};
 
-    ghost from_gives = { λ fault told. told ≡ fault_of fault };
+    ghost from_gives = { λ fault told. told ≡ post_fault_of fault };
 
     fn from(fault: LinkFault) -> PostFault {
         match fault {
@@ -88,7 +88,7 @@ pub fn post<R: Source, W: Sink>(
     frame: &[u8],
     out: &mut [u8],
 ) -> Result<usize, PostFault>
-    requires { max_answer ≤ length out.old }
+    requires { max_peer_answer ≤ length out.old }
 
     // The request is written whole, unless a write fails.
     ensures sent { result ≢ Err PostFault.Write → result ≢ Err PostFault.Turns
@@ -97,7 +97,7 @@ pub fn post<R: Source, W: Sink>(
     ensures exact { (stream : List ℕ) → R.remaining r.old ≡ Some stream
         → result ≢ Err PostFault.Read → result ≢ Err PostFault.Write → result ≢ Err PostFault.Turns
         → Means max_heads stream (given result out.new) }
-    ensures bound { IfOk result (λ n. n ≤ max_answer) }
+    ensures bound { IfOk result (λ n. n ≤ max_peer_answer) }
     ensures len { length out.new ≡ length out.old }
 
     // A device's fault is told exactly where the device failed.
@@ -139,11 +139,11 @@ fn read_answer<R: Source>(
     before: u64,
     turns: &mut u32,
 ) -> Result<usize, PostFault>
-    requires room { max_answer ≤ length out.old }
+    requires room { max_peer_answer ≤ length out.old }
     requires unfailed { R.failure_count r.old ≤ before }
     ensures means { (stream : List ℕ) → R.remaining r.old ≡ Some stream
         → result ≢ Err PostFault.Read → result ≢ Err PostFault.Turns → Means max_heads stream (given result out.new) }
-    ensures bound { IfOk result (λ n. n ≤ max_answer) }
+    ensures bound { IfOk result (λ n. n ≤ max_peer_answer) }
     ensures len { length out.new ≡ length out.old }
     ensures read { (result ≡ Err PostFault.Read) ↔ (before < R.failure_count r.new) }
     ensures write { result ≢ Err PostFault.Write }
@@ -196,11 +196,11 @@ fn read_last<R: Source>(
     before: u64,
     turns: &mut u32,
 ) -> Result<usize, PostFault>
-    requires room { max_answer ≤ length out.old }
+    requires room { max_peer_answer ≤ length out.old }
     requires unfailed { R.failure_count r.old ≤ before }
     ensures gives { GivesAs (IsMeaning (record { status = status; minor = minor; lines = lines_at fields.entry }))
         (R.remaining r.old) result out.new }
-    ensures bound { IfOk result (λ n. n ≤ max_answer) }
+    ensures bound { IfOk result (λ n. n ≤ max_peer_answer) }
     ensures len { length out.new ≡ length out.old }
     ensures read { (result ≡ Err PostFault.Read) ↔ (before < R.failure_count r.new) }
     ensures write { result ≢ Err PostFault.Write }
@@ -225,11 +225,11 @@ fn read_framed<R: Source>(
     before: u64,
     turns: &mut u32,
 ) -> Result<usize, PostFault>
-    requires room { max_answer ≤ length out.old }
+    requires room { max_peer_answer ≤ length out.old }
     requires unfailed { R.failure_count r.old ≤ before }
     ensures gives { GivesAs (MeansBody minor (occurrence_at coded.entry) (occurrence_at stated.entry))
         (R.remaining r.old) result out.new }
-    ensures bound { IfOk result (λ n. n ≤ max_answer) }
+    ensures bound { IfOk result (λ n. n ≤ max_peer_answer) }
     ensures len { length out.new ≡ length out.old }
     ensures read { (result ≡ Err PostFault.Read) ↔ (before < R.failure_count r.new) }
     ensures write { result ≢ Err PostFault.Write }
@@ -256,10 +256,10 @@ fn read_chunked<R: Source>(
     before: u64,
     turns: &mut u32,
 ) -> Result<usize, PostFault>
-    requires room { max_answer ≤ length out.old }
+    requires room { max_peer_answer ≤ length out.old }
     requires unfailed { R.failure_count r.old ≤ before }
     ensures gives { GivesAs (MeansCoded true) (R.remaining r.old) result out.new }
-    ensures bound { IfOk result (λ n. n ≤ max_answer) }
+    ensures bound { IfOk result (λ n. n ≤ max_peer_answer) }
     ensures len { length out.new ≡ length out.old }
     ensures read { (result ≡ Err PostFault.Read) ↔ (before < R.failure_count r.new) }
     ensures write { result ≢ Err PostFault.Write }
@@ -283,10 +283,10 @@ fn read_sized<R: Source>(
     before: u64,
     turns: &mut u32,
 ) -> Result<usize, PostFault>
-    requires room { max_answer ≤ length out.old }
+    requires room { max_peer_answer ≤ length out.old }
     requires unfailed { R.failure_count r.old ≤ before }
     ensures gives { GivesOf (sized_body size) (R.remaining r.old) result out.new }
-    ensures bound { IfOk result (λ n. n ≤ max_answer) }
+    ensures bound { IfOk result (λ n. n ≤ max_peer_answer) }
     ensures len { length out.new ≡ length out.old }
     ensures read { (result ≡ Err PostFault.Read) ↔ (before < R.failure_count r.new) }
     ensures write { result ≢ Err PostFault.Write }
@@ -307,10 +307,10 @@ fn read_to_end<R: Source>(
     before: u64,
     turns: &mut u32,
 ) -> Result<usize, PostFault>
-    requires room { max_answer ≤ length out.old }
+    requires room { max_peer_answer ≤ length out.old }
     requires unfailed { R.failure_count r.old ≤ before }
     ensures gives { GivesOf body_to_end (R.remaining r.old) result out.new }
-    ensures bound { IfOk result (λ n. n ≤ max_answer) }
+    ensures bound { IfOk result (λ n. n ≤ max_peer_answer) }
     ensures len { length out.new ≡ length out.old }
     ensures read { (result ≡ Err PostFault.Read) ↔ (before < R.failure_count r.new) }
     ensures write { result ≢ Err PostFault.Write }

@@ -16,7 +16,7 @@ ghost use Rattle.http_link.specs.Serving.{asking, kept_unless};
 ghost use Rattle.http_link.specs.Running.{Runs, AsksWanted, held_in};
 ghost use Rattle.http_link.specs.Limits.{max_body};
 
-use crate::answer::{answer_head, told};
+use crate::answer::{answer_head, status_told};
 use crate::bodies::{BodyFault, BodyRead, read_body};
 use crate::devices::{Sink, Source};
 use crate::fields::Lines;
@@ -317,7 +317,7 @@ fn write_answer<W: Sink>(
     ensures turns { result ≡ Err LinkFault.Turns → MadeAll W.was_written w.old w.new }
 {
     let shown = told_body(status, body);
-    let head = answer_head(kind, told(status), shown.len(), closes);
+    let head = answer_head(kind, status_told(status), shown.len(), closes);
     write_message(w, head, shown, before)
 }
 

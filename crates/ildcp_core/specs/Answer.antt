@@ -3,6 +3,7 @@ use Rattle.std.specs.Prelude.{◌≡◌, ◌<◌, ℕ, List, ◌∷◌, ◌++◌
 use Rattle.oer_core.specs.Length.{octet_string, IsOctetString}
 use Rattle.ilp_view.specs.Packet.{fulfill_frame}
 use Rattle.ildcp_core.specs.Client.{Client, client_address}
+use Rattle.ildcp_core.specs.declared.fulfill.TheConstants.{MAX_ANSWER, MAX_CONFIGURATION}
 
 -- The bytes are a configuration of these fields: the client address as an octet string, the scale of
 -- the asset in one byte, and its code as an octet string, lengths in any spelling (RFC 0031).
@@ -17,7 +18,7 @@ configuration c = octet_string (client_address c) ++ c.scale ∷ octet_string c.
 
 -- The most bytes of a configuration.
 abbrev pub max_configuration : ℕ
-max_configuration = 954
+max_configuration = MAX_CONFIGURATION
 
 -- The answer to a child: a Fulfill of 32 zero bytes, with its configuration as data (RFC 0031).
 abbrev pub config_answer : Client → List ℕ
@@ -25,4 +26,4 @@ config_answer c = fulfill_frame (replicate 32 0) (configuration c)
 
 -- The most bytes of an answer.
 abbrev pub max_answer : ℕ
-max_answer = 993
+max_answer = MAX_ANSWER

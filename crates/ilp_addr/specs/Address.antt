@@ -4,12 +4,13 @@ use Rattle.std.specs.Prelude.{nat_lt, List, [], ◌∷◌, length, codes, IsTrue
 use Rattle.std.specs.List.{slice_split, list_all, list_any}
 use Rattle.std.specs.Str.{bytes_eq}
 use Rattle.common_types.specs.Numbers.{is_between}
+use Rattle.ilp_addr.specs.declared.address.TheConstants.{MAX_ADDRESS}
 use Rattle.ilp_addr.specs.declared.fault.AddrFault.{AddrFault}
 use Rattle.ilp_addr.specs.declared.fault.AddrFault.TheVariants.{Scheme, Segment, Length}
 
 -- the most bytes of an address, and of a prefix (RFC 0015, "Address Requirements")
 abbrev pub max_address : ℕ
-max_address = 1023
+max_address = MAX_ADDRESS
 
 -- the parts between the dots, the scheme first
 abbrev pub segments : List ℕ → List (List ℕ)

@@ -2,6 +2,7 @@
 use Rattle.std.specs.Prelude.{ℕ, Bool, false, not, ◌&&◌, List, [], ◌∷◌, length, codes, nat_le, is_ok}
 use Rattle.std.specs.Str.{bytes_eq}
 use Rattle.ilp_addr.specs.Address.{segments, address_at}
+use Rattle.ilp_addr.specs.declared.own_address.TheConstants.{MAX_OWN_ADDRESS}
 
 -- the first segment is that one
 abbrev pub begins_at : List ℕ → List (List ℕ) → Bool
@@ -14,7 +15,7 @@ is_for_neighbors bytes = begins_at (codes "peer") (segments bytes)
 
 -- the most bytes of a tenant's address, so that each address below it has room for a name
 abbrev pub max_own_address : ℕ
-max_own_address = 900
+max_own_address = MAX_OWN_ADDRESS
 
 -- an address of at most 900 bytes that packets are sent on for
 abbrev pub is_own_address : List ℕ → Bool

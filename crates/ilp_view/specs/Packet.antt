@@ -4,14 +4,15 @@ use Rattle.std.specs.Int.{w64, to_be_bytes}
 use Rattle.oer_core.specs.Length.{IsLength, shortest_length, octet_string}
 use Rattle.ilp_addr.specs.Address.{IsAddress}
 use Rattle.ilp_addr.specs.Timestamp.{IsTimestamp}
+use Rattle.ilp_view.specs.declared.fields.TheConstants.{MAX_DATA, MAX_FRAME}
 
 -- The most bytes of a frame.
 abbrev pub max_frame : ℕ
-max_frame = 34_000
+max_frame = MAX_FRAME
 
 -- The most bytes of the data of a packet (RFC 0027, "ILP Prepare").
 abbrev pub max_data : ℕ
-max_data = 32_768
+max_data = MAX_DATA
 
 -- A frame of that kind: a type byte, the length of the contents in any spelling, and the contents, in
 -- no more bytes than a frame may have (RFC 0027, "Packet Format").

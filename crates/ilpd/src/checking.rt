@@ -53,7 +53,7 @@ fn memory_refused(_: AllocError) -> Ending {
 }
 
 /// How a run ends whose file or stream failed so.
-pub fn fault_of(why: ErrorKind) -> Ending {
+pub fn ending_of(why: ErrorKind) -> Ending {
     Ending::Fault(if why == ErrorKind::OutOfMemory {
         ReplayFault::Memory
     } else {
@@ -63,7 +63,7 @@ pub fn fault_of(why: ErrorKind) -> Ending {
 
 /// How a run ends whose standard output failed.
 pub fn printing(error: io::Error) -> Ending {
-    fault_of(error.kind())
+    ending_of(error.kind())
 }
 
 // Says in a line what is wrong.

@@ -1,10 +1,14 @@
 //! The command line.
 
 ghost use Rattle.std.specs.Prelude.{◌≡◌, ◌≤◌, IfOk, IfSome};
+ghost use Rattle.books_shared.specs.Gathers.{max_workers};
+ghost use Rattle.floor_core.specs.FloorView.{max_seats};
 ghost use Rattle.ilpd.specs.CommandLine.{IsBounded};
 
 use crate::serving::Report;
+use books_shared::MAX_WORKERS;
 use clap::{Arg, ArgAction, ArgMatches, Command, Error, value_parser};
+use floor_core::MAX_SEATS;
 use std::alloc::{AllocError, Global};
 
 /// What the program is to do with a setup.
@@ -22,12 +26,6 @@ pub enum Task {
         report: Report,
     },
 }
-
-/// The most workers.
-const MAX_WORKERS: usize = 64;
-
-/// The most connections at once.
-const MAX_CONNECTIONS: usize = 4096;
 
 /// How many connections there are at once where the command line does not say.
 const CONNECTIONS: usize = 256;
@@ -83,7 +81,7 @@ fn script_workers<'a>(alloc: Global) -> Arg<'a> {
         .value_name("W")
         .help("How many workers the script has, 1 to 64")
         .default_value("1")
-        .value_parser(value_parser!(u64).range(1..=64))
+        .value_parser(value_parser!(u64).range(1..=MAX_SEATS as i64))
 }
 
 fn replay_of<'a>(alloc: Global) -> Result<Command<'a>, AllocError> {
@@ -115,18 +113,18 @@ fn serve_of<'a>(alloc: Global) -> Result<Command<'a>, AllocError> {
         .value_name("W")
         .help("How many packets may be on their way to next peers at once, 1 to 64")
         .required(true)
-        .value_parser(value_parser!(u64).range(1..=64));
+        .value_parser(value_parser!(u64).range(1..=MAX_SEATS as i64));
     let rounds = Arg::new(alloc, "rounds")
         .long("rounds")
         .value_name("N")
         .help("To end once W times N connections were served; N is 1 to 1000000")
-        .value_parser(value_parser!(u64).range(1..=1_000_000));
+        .value_parser(value_parser!(u64).range(1..=i64::from(MAX_ROUNDS)));
     let connections = Arg::new(alloc, "connections")
         .long("connections")
         .value_name("C")
         .help("How many connections may be open at once, each on a thread of its own, 1 to 4096")
         .default_value("256")
-        .value_parser(value_parser!(u64).range(1..=4096));
+        .value_parser(value_parser!(u64).range(1..=MAX_WORKERS as i64));
     let balances = Arg::new(alloc, "balances")
         .long("balances")
         .help("To print in the end what each peer owes, as the command balances does")
@@ -179,10 +177,10 @@ fn with_host<'a>(alloc: Global, serve: Command<'a>) -> Result<Command<'a>, Alloc
 // How many workers there are, 1 where nothing is said.
 fn workers_of(words: &ArgMatches<'_>) -> usize
     ensures least { 1 ≤ result }
-    ensures most { result ≤ 64 }
+    ensures most { result ≤ max_seats }
 {
     match words.get_one::<usize>("workers") {
-        Some(workers) if 1 <= workers && workers <= MAX_WORKERS => workers,
+        Some(workers) if 1 <= workers && workers <= MAX_SEATS => workers,
         _ => 1,
     }
 }
@@ -190,17 +188,17 @@ fn workers_of(words: &ArgMatches<'_>) -> usize
 // How many connections may be open at once.
 fn connections_of(words: &ArgMatches<'_>) -> usize
     ensures least { 1 ≤ result }
-    ensures most { result ≤ 4_096 }
+    ensures most { result ≤ max_workers }
 {
     match words.get_one::<usize>("connections") {
-        Some(connections) if 1 <= connections && connections <= MAX_CONNECTIONS => connections,
+        Some(connections) if 1 <= connections && connections <= MAX_WORKERS => connections,
         _ => CONNECTIONS,
     }
 }
 
 // How many connections are served for each worker, where that is said.
 fn rounds_of(words: &ArgMatches<'_>) -> Option<u32>
-    ensures { IfSome result (λ rounds. (1 ≤ rounds) × (rounds ≤ 1_000_000)) }
+    ensures { IfSome result (λ rounds. (1 ≤ rounds) × (rounds ≤ MAX_ROUNDS)) }
 {
     match words.get_one::<u32>("rounds") {
         Some(rounds) if 1 <= rounds && rounds <= MAX_ROUNDS => Some(rounds),
@@ -239,7 +237,7 @@ fn line_of<'a>(
 // What the words of a subcommand ask for.
 fn line_in<'a>(matches: &ArgMatches<'a>) -> CommandLine<'a>
     ensures least { 1 ≤ result.workers }
-    ensures most { result.workers ≤ 64 }
+    ensures most { result.workers ≤ max_seats }
     ensures bounded { IsBounded result.task }
 {
     match matches.subcommand() {
@@ -273,7 +271,7 @@ fn line_in<'a>(matches: &ArgMatches<'a>) -> CommandLine<'a>
 /// The error has the text for people, of a request for help or the version too, or says that memory was refused.
 pub fn arguments<'a>(alloc: Global, words: &'a [String]) -> Result<CommandLine<'a>, Error>
     ensures least { IfOk result (λ line. 1 ≤ line.workers) }
-    ensures most { IfOk result (λ line. line.workers ≤ 64) }
+    ensures most { IfOk result (λ line. line.workers ≤ max_seats) }
     ensures bounded { IfOk result (λ line. IsBounded line.task) }
 {
     let command = Command::new(alloc, "ilpd")

@@ -5,7 +5,7 @@ ghost use Rattle.std.specs.Io.KnownBytes.{Appends};
 ghost use Rattle.ilp_view.specs.Reading.{prepare_at};
 ghost use Rattle.http_link.specs.Client.{Means, given, post_text};
 ghost use Rattle.http_link.specs.Counts.{MadeAll};
-ghost use Rattle.http_link.specs.Limits.{max_answer, max_heads};
+ghost use Rattle.http_link.specs.Limits.{max_peer_answer, max_heads};
 ghost use Rattle.ilpd.specs.Exchanges.{exchange_time};
 
 use crate::ahead::Ahead;
@@ -73,13 +73,13 @@ fn exchange<R: Source, W: Sink>(
     frame: &[u8],
     out: &mut [u8],
 ) -> Result<usize, PostFault>
-    requires { max_answer ≤ length out.old }
+    requires { max_peer_answer ≤ length out.old }
     ensures sent { result ≢ Err PostFault.Write → result ≢ Err PostFault.Turns
         → Appends (W.contents w.old) (W.contents w.new) (post_text target.now frame.now) }
     ensures exact { (stream : List ℕ) → R.remaining r.old ≡ Some stream
         → result ≢ Err PostFault.Read → result ≢ Err PostFault.Write → result ≢ Err PostFault.Turns
         → Means max_heads stream (given result out.new) }
-    ensures bound { IfOk result (λ n. n ≤ max_answer) }
+    ensures bound { IfOk result (λ n. n ≤ max_peer_answer) }
     ensures len { length out.new ≡ length out.old }
     ensures read { (result ≡ Err PostFault.Read) ↔ (R.failure_count r.old < R.failure_count r.new) }
     ensures write { (result ≡ Err PostFault.Write) ↔ (W.failure_count w.old < W.failure_count w.new) }
@@ -129,7 +129,7 @@ impl<H: Wait + Net<Stream = TcpStream> + Clock, C: workers::Clock> PeerLink<'_, 
         frame: &[u8],
         out: &mut [u8],
     ) -> io::Result<usize>
-        requires { max_answer ≤ length out.old }
+        requires { max_peer_answer ≤ length out.old }
         ensures { length out.new ≡ length out.old }
     {
         let until = self.end_of_exchange(tenant, frame)?;
@@ -149,7 +149,7 @@ impl<H: Wait + Net<Stream = TcpStream> + Clock, C: workers::Clock> PeerLink<'_, 
         frame: &[u8],
         out: &mut [u8],
     ) -> io::Result<usize>
-        requires { max_answer ≤ length out.old }
+        requires { max_peer_answer ≤ length out.old }
         ensures { length out.new ≡ length out.old }
     {
         let stream = self.connect(target, until)?;

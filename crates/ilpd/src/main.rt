@@ -2,6 +2,8 @@
 #![tactic(auto)]
 
 ghost use Rattle.std.specs.Prelude.{◌≤◌, length};
+ghost use Rattle.allotment.specs.Loans.{max_places};
+ghost use Rattle.books_shared.specs.Gathers.{max_workers};
 ghost use Rattle.tenant_core.specs.Limits.{max_tenants};
 
 mod ahead;
@@ -31,7 +33,7 @@ mod worker;
 use admin_text::laws::setups;
 use admin_text::{Setup, read_setup};
 use answering::without_line_feed;
-use checking::{Script, check, fault_of, printing};
+use checking::{Script, check, ending_of, printing};
 use clock::SystemClock;
 use command_line::{HostWords, Task, arguments};
 use common_types::{ReadError, Token};
@@ -69,7 +71,7 @@ fn warn(rt: &impl Eprint, extent: Extent, tenants: usize) {
 fn cannot(rt: &(impl Print + AllocGlobal), doing: &str, what: &str, error: &io::Error) -> Ending {
     let why = error.kind();
     let _ = println!(rt; "ilpd: cannot {doing} {what}: {why}");
-    fault_of(why)
+    ending_of(why)
 }
 
 // All that is in a file.
@@ -134,8 +136,8 @@ fn serve_at<
     address: &str,
     host: Option<HostWords<'_>>,
 ) -> Result<(), Ending>
-    requires workers { (1 ≤ extent.workers) × (extent.workers ≤ 64) }
-    requires connections { (1 ≤ extent.connections) × (extent.connections ≤ 4_096) }
+    requires workers { (1 ≤ extent.workers) × (extent.workers ≤ max_places) }
+    requires connections { (1 ≤ extent.connections) × (extent.connections ≤ max_workers) }
 {
     let alloc = rt.alloc();
     setups();
@@ -176,8 +178,8 @@ fn serve_by<
     host: Option<HostDoor<'_>>,
 ) -> Result<(), Ending>
     requires tenants { (1 ≤ length setup.now.tenants) × (length setup.now.tenants ≤ max_tenants) }
-    requires workers { (1 ≤ extent.workers) × (extent.workers ≤ 64) }
-    requires connections { (1 ≤ extent.connections) × (extent.connections ≤ 4_096) }
+    requires workers { (1 ≤ extent.workers) × (extent.workers ≤ max_places) }
+    requires connections { (1 ≤ extent.connections) × (extent.connections ≤ max_workers) }
 {
     warn(rt, extent, setup.tenants.as_slice().len());
     let clock = SystemClock::new(rt);

@@ -1,6 +1,8 @@
 //! The service on loopback.
 
 ghost use Rattle.std.specs.Prelude.{◌≤◌};
+ghost use Rattle.allotment.specs.Loans.{max_places};
+ghost use Rattle.books_shared.specs.Gathers.{max_workers};
 
 mod crowd;
 mod host;
@@ -109,8 +111,8 @@ fn serve_as<
     listener: &TcpListener,
     lines: &mut Vec<u8>,
 ) -> Result<(), ServeFault>
-    requires workers { (1 ≤ extent.workers) × (extent.workers ≤ 64) }
-    requires connections { (1 ≤ extent.connections) × (extent.connections ≤ 4_096) }
+    requires workers { (1 ≤ extent.workers) × (extent.workers ≤ max_places) }
+    requires connections { (1 ≤ extent.connections) × (extent.connections ≤ max_workers) }
 {
     setups();
     let Ok(setup) = read_setup(rt.alloc(), text.as_bytes()) else {

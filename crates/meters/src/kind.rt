@@ -1,6 +1,7 @@
 //! What is counted.
 
 ghost use Rattle.std.specs.Prelude.{◌≡◌, ◌+◌, ◌*◌, ◌<◌};
+ghost use Rattle.common_types.specs.declared.limits.TheConstants.{MAX_TENANTS};
 ghost use Rattle.meters.specs.Counts.{place_of, word_of};
 
 /// What is counted for a tenant.
@@ -31,7 +32,7 @@ fn place_of(kind: Kind) -> usize
 
 // The place of the count of a tenant and a kind.
 pub(crate) fn word_of(tenant: usize, kind: Kind) -> usize
-    requires { tenant < 64 }
+    requires { tenant < MAX_TENANTS }
     ensures value { result ≡ word_of tenant kind }
     ensures below { result < 4 * tenant + 4 }
 {

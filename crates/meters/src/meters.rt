@@ -4,6 +4,7 @@ ghost use Rattle.std.specs.Prelude.{◌≡◌, ◌+◌, ◌*◌, ◌<◌, ◌≤
 ghost use Rattle.std.specs.Slots.{slots_items, slots_len, IsFull};
 ghost use mathlib.Core.Option.{some};
 ghost use lib.ListN.{get_elem?};
+ghost use Rattle.common_types.specs.declared.limits.TheConstants.{MAX_TENANTS};
 ghost use Rattle.meters.specs.declared.kind.Kind.{Kind};
 ghost use Rattle.meters.specs.Counts.{both_rows};
 ghost use Rattle.meters.specs.Seats.{count_of, total_of, empty_seat, counted, max_splits, split_seat, joined_seat};
@@ -54,6 +55,7 @@ pub struct Meters {
 
 impl Model for Meters {
     ghost use Rattle.std.specs.Prelude.{◌≡◌, ◌*◌, ◌≤◌};
+    ghost use Rattle.common_types.specs.declared.limits.TheConstants.{MAX_TENANTS};
     ghost use Rattle.meters.specs.Seats.{MetersState};
 
     ghost Value = { MetersState };
@@ -61,14 +63,14 @@ impl Model for Meters {
     ghost view = { λ m. record { id = m.table.shared.table_id; tenants = m.tenants } };
 
     ghost invariant = { λ m. (m.table.shared.key ≡ m.tenants) × (m.table.shared.table_id.words ≡ 4 * m.tenants)
-        × (m.table.shared.table_id.slots ≡ 0) × (1 ≤ m.tenants) × (m.tenants ≤ 64) };
+        × (m.table.shared.table_id.slots ≡ 0) × (1 ≤ m.tenants) × (m.tenants ≤ MAX_TENANTS) };
 }
 
 impl Meters {
     /// Meters for 1 to 64 tenants with all counts at zero, and their first seat. The one error is want of memory.
     pub fn new(alloc: Global, tenants: usize) -> Result<(Meters, MeterSeat), AllocError>
         requires some { 1 ≤ tenants }
-        requires few { tenants ≤ 64 }
+        requires few { tenants ≤ MAX_TENANTS }
         ensures tenants { IfOk result (λ m. m.0.tenants ≡ tenants) }
         ensures seat { IfOk result (λ m. m.1 ≡ empty_seat m.0.id true) }
         ensures zero { IfOk result (λ m. (t : ℕ) (k : Kind) → count_of t k m.1 ≡ 0) }
@@ -200,7 +202,7 @@ fn both_rows(a: &[u64; 256], b: &[u64; 256]) -> [u64; 256]
 
 // The words of a table that was closed, four for each tenant, in a row of counts.
 fn words_of(closed: &Closed<(), Global>, tenants: usize) -> [u64; 256]
-    requires few { tenants ≤ 64 }
+    requires few { tenants ≤ MAX_TENANTS }
     requires full { IsFull closed.now.words × (slots_len closed.now.words ≡ 4 * tenants) }
     ensures { (i : ℕ) → i < 4 * tenants
         → get_elem? (slots_items closed.now.words) i ≡ some (slice_index result i) }

@@ -1,6 +1,7 @@
 //! What was counted in all.
 
 ghost use Rattle.std.specs.Prelude.{◌≡◌, ◌<◌, ◌≤◌};
+ghost use Rattle.common_types.specs.declared.limits.TheConstants.{MAX_TENANTS};
 ghost use Rattle.meters.specs.Seats.{total_of};
 
 use crate::kind::{Kind, word_of};
@@ -16,19 +17,20 @@ pub struct Totals {
 
 impl Model for Totals {
     ghost use Rattle.std.specs.Prelude.{◌≤◌};
+    ghost use Rattle.common_types.specs.declared.limits.TheConstants.{MAX_TENANTS};
     ghost use Rattle.meters.specs.Seats.{TotalsState};
 
     ghost Value = { TotalsState };
 
     ghost view = { λ t. record { tenants = t.tenants; counts = t.counts } };
 
-    ghost invariant = { λ t. t.tenants ≤ 64 };
+    ghost invariant = { λ t. t.tenants ≤ MAX_TENANTS };
 }
 
 impl Totals {
     // The totals with these counts, of at most 64 tenants.
     pub(crate) fn new(tenants: usize, counts: [u64; 256]) -> Totals
-        requires { tenants ≤ 64 }
+        requires { tenants ≤ MAX_TENANTS }
         ensures { result ≡ record { tenants = tenants; counts = counts } }
     {
         Totals { tenants, counts }

@@ -1,9 +1,10 @@
 -- What a peer owes, what is held on both sides, and how far each may go.
-use Rattle.std.specs.Prelude.{ℕ, ℤ, pos, ◌+ℤ◌, ◌-ℤ◌, ◌≤ℤ◌, neg_ℤ, int_lt, ◌+◌, ◌≤◌, ◌^◌, Bool}
+use Rattle.std.specs.Prelude.{ℕ, ℤ, pos, ◌+ℤ◌, ◌-ℤ◌, ◌≤ℤ◌, neg_ℤ, int_lt, ◌+◌, ◌≤◌, Bool}
+use Rattle.money_core.specs.declared.purse.TheConstants.{MAX_MONEY}
 
 -- the most of a ceiling, a credit and a balance
 abbrev pub max_money : ℕ
-max_money = 2 ^ 62
+max_money = MAX_MONEY
 
 -- a purse: what the peer owes the tenant, below 0 where it is owed; what is held from it and for it; how much it may owe, and
 -- how much it may be owed; all in its units

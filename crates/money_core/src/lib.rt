@@ -9,5 +9,5 @@ pub mod laws;
 mod purse;
 mod rate;
 
-pub use purse::{Purse, PurseFault};
+pub use purse::{MAX_MONEY, Purse, PurseFault};
 pub use rate::{Rate, RateFault};

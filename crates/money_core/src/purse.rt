@@ -4,7 +4,7 @@ use std::marker::Model;
 use thiserror::Error;
 
 /// The most of a ceiling, of a credit, and of a balance on either side of 0.
-const MAX: u64 = 1 << 62;
+pub const MAX_MONEY: u64 = 1 << 62;
 
 /// Why an amount is not held or settled. Nothing has changed then.
 #[derive(Clone, Copy, Debug, PartialEq, Eq, Error)]
@@ -58,7 +58,7 @@ impl Purse {
         ensures { result ≡ record { balance = balance; held_in = 0; held_out = 0; ceiling = ceiling; credit = credit } }
     {
         Purse {
-            level: (i128::from(balance) + i128::from(MAX)) as u64,
+            level: (i128::from(balance) + i128::from(MAX_MONEY)) as u64,
             held_in: 0,
             held_out: 0,
             ceiling,
@@ -71,7 +71,7 @@ impl Purse {
         ensures value { result ≡ self.now.balance }
         ensures within { unsigned_abs result ≤ max_money }
     {
-        (i128::from(self.level) - i128::from(MAX)) as i64
+        (i128::from(self.level) - i128::from(MAX_MONEY)) as i64
     }
 
     /// What is held from the peer.
@@ -105,7 +105,7 @@ impl Purse {
     pub fn passes_ceiling(&self, amount: u64) -> bool
         ensures { result ≡ is_past_ceiling self.now amount }
     {
-        let most = MAX + self.ceiling;
+        let most = MAX_MONEY + self.ceiling;
         let owed = self.level + self.held_in;
         owed > most || amount > most - owed
     }
@@ -114,7 +114,7 @@ impl Purse {
     pub fn passes_credit(&self, amount: u64) -> bool
         ensures { result ≡ is_past_credit self.now amount }
     {
-        let least = MAX - self.credit;
+        let least = MAX_MONEY - self.credit;
         let left = self.level - self.held_out;
         left < least || amount > left - least
     }
@@ -123,7 +123,7 @@ impl Purse {
     pub fn passes_most(&self, amount: u64) -> bool
         ensures { result ≡ is_past_most self.now amount }
     {
-        amount > 2 * MAX - (self.level + self.held_in)
+        amount > 2 * MAX_MONEY - (self.level + self.held_in)
     }
 
     /// Whether the balance, less what is held for the peer and so much more, would pass -2^62.

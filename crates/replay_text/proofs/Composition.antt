@@ -21,6 +21,7 @@ use Rattle.replay_text.specs.declared.script.Meaning.TheVariants.{Runs}
 use Rattle.replay_text.specs.declared.replays.ReplayFault.{ReplayFault}
 use Rattle.replay_text.specs.declared.replays.ReplayFault.TheVariants as fault
 use Rattle.replay_text.specs.declared.script.ScriptFault.{ScriptFault}
+use Rattle.replay_text.specs.declared.script.TheConstants.{MAX_SCRIPT}
 use Rattle.replay_text.proofs.Fits.{step_of_line_good, steps_have, too_long}
 use Rattle.replay_text.proofs.Scripts.{script_steps}
 
@@ -140,7 +141,7 @@ pub refused_as_read : {A : Type 0} (setup_text : List ℕ) (workers : ℕ) (setu
 refused_as_read setup_text workers setup result known read refused = rw read refused
 
 -- a script that is too long is refused for that
-pub long_refused : (setup : Setup) (workers : ℕ) (known : Option (List ℕ)) → IfSome known (λ script. 16_777_216 < length script)
+pub long_refused : (setup : Setup) (workers : ℕ) (known : Option (List ℕ)) → IfSome known (λ script. MAX_SCRIPT < length script)
     → IfSome known (λ script. refusal_of (Ok setup) workers script ≡ Some (fault.Script ScriptFault.Size))
 long_refused setup workers None h = tt
 long_refused setup workers (Some script) h =

@@ -19,6 +19,7 @@ use Rattle.replay_text.specs.declared.script.ScriptFault.{ScriptFault}
 use Rattle.floor_core.specs.Forwards.{HasBytes}
 use Rattle.floor_core.specs.World.{FitsIn}
 use Rattle.replay_text.specs.Words.{two_of, three_of, four_of}
+use Rattle.replay_text.specs.declared.script.TheConstants.{MAX_SCRIPT}
 use Rattle.replay_text.proofs.Octets.{frame_bytes}
 use Rattle.floor_core.specs.declared.step.Step.{Step}
 use Rattle.floor_core.specs.declared.step.Step.TheVariants.{Load, Decide, Answer, Tick, Govern}
@@ -135,7 +136,7 @@ steps_have P names workers one [] = All-nil P
 steps_have P names workers one (line ∷ lines) = consed P (meaning_of names workers line) (steps_in names workers lines) (one line) (steps_have P names workers one lines)
 
 -- a script that is too long is refused for that
-pub too_long : (names : List (List ℕ)) (workers : ℕ) (known : Option (List ℕ)) → IfSome known (λ script. 16_777_216 < length script) → IfSome known (λ script. steps_of_script names workers script ≡ Err ScriptFault.Size)
+pub too_long : (names : List (List ℕ)) (workers : ℕ) (known : Option (List ℕ)) → IfSome known (λ script. MAX_SCRIPT < length script) → IfSome known (λ script. steps_of_script names workers script ≡ Err ScriptFault.Size)
 unfolding steps_of_script
 too_long names workers None h = tt
-too_long names workers (Some script) h = rw (lt-ltb 16_777_216 (length script) h) refl
+too_long names workers (Some script) h = rw (lt-ltb MAX_SCRIPT (length script) h) refl

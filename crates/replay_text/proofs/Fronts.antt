@@ -8,6 +8,7 @@ use Rattle.replay_text.specs.declared.script.ScriptFault.TheVariants.{Line}
 use Rattle.replay_text.specs.declared.script.Meaning.{Meaning}
 use Rattle.replay_text.specs.declared.script.Meaning.TheVariants.{Skipped, Runs, Bad}
 use Rattle.replay_text.specs.Script.{is_bad, then_steps, meaning_of, steps_from, steps_of_script, lines_of}
+use Rattle.replay_text.specs.declared.script.TheConstants.{MAX_SCRIPT}
 
 -- the steps so far before those that are left
 abbrev pub with_front : List Step → Result (List Step) ScriptFault → Result (List Step) ScriptFault
@@ -65,6 +66,6 @@ ends front names workers number text total none so_far =
     let one : with_front front (steps_from names workers number (lines_of text)) ≡ Ok front = rw none (ap (λ (s : List Step). Ok s) (append-nil front)) in
     sym so_far ∙ one
 
-pub reads_lines : (names : List (List ℕ)) (workers : ℕ) (text : List ℕ) → length text ≤ 16_777_216 → steps_of_script names workers text ≡ steps_from names workers 1 (lines_of text)
+pub reads_lines : (names : List (List ℕ)) (workers : ℕ) (text : List ℕ) → length text ≤ MAX_SCRIPT → steps_of_script names workers text ≡ steps_from names workers 1 (lines_of text)
 unfolding steps_of_script
-reads_lines names workers text short = rw (le-ltb 16_777_216 (length text) short) refl
+reads_lines names workers text short = rw (le-ltb MAX_SCRIPT (length text) short) refl

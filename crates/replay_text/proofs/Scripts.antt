@@ -11,6 +11,7 @@ use Rattle.common_types.specs.declared.read_error.ReadError.TheVariants as error
 use Rattle.replay_text.specs.declared.script.Meaning.{Meaning}
 use Rattle.replay_text.specs.declared.script.Meaning.TheVariants.{Skipped, Runs, Bad}
 use Rattle.replay_text.specs.Script.{then_steps, meaning_of, steps_from, steps_in, steps_of_script, lines_of, step_in, IsBad, IsCheckedAs, AreSteps, IsFirstBad}
+use Rattle.replay_text.specs.declared.script.TheConstants.{MAX_SCRIPT}
 use Rattle.replay_text.proofs.Fronts.{reads_lines}
 
 -- ---- one line before the others
@@ -111,13 +112,13 @@ steps_behind names workers line lines = sym (filter_map-append (λ (l : List ℕ
 -- the steps of a script are those of its lines
 pub script_steps : (names : List (List ℕ)) (workers : ℕ) (text : List ℕ) (steps : List Step) → steps_of_script names workers text ≡ Ok steps → steps ≡ steps_in names workers (lines_of text)
 unfolding steps_of_script
-script_steps names workers text steps e = by (nat_lt 16_777_216 (length text)) e
+script_steps names workers text steps e = by (nat_lt MAX_SCRIPT (length text)) e
   where
     by : (b : Bool) → cond b (Err Size) (steps_from names workers 1 (lines_of text)) ≡ Ok steps → steps ≡ steps_in names workers (lines_of text)
     by true e = absurd cc
     by false e = (steps_are names workers 1 (lines_of text) steps e).in_order
 
 -- the steps of a script that was found good
-pub good_steps : (names : List (List ℕ)) (workers : ℕ) (text : List ℕ) → length text ≤ 16_777_216 → (steps : List Step) × AreSteps names workers (lines_of text) steps → steps_of_script names workers text ≡ Ok (steps_in names workers (lines_of text))
+pub good_steps : (names : List (List ℕ)) (workers : ℕ) (text : List ℕ) → length text ≤ MAX_SCRIPT → (steps : List Step) × AreSteps names workers (lines_of text) steps → steps_of_script names workers text ≡ Ok (steps_in names workers (lines_of text))
 good_steps names workers text short found =
     reads_lines names workers text short ∙ (steps_again names workers 1 (lines_of text) found.0 found.1 ∙ ap (λ (ss : List Step). Ok ss) found.1.in_order)

@@ -24,6 +24,7 @@ use Rattle.replay_text.specs.declared.script.ScriptFault.{ScriptFault}
 use Rattle.replay_text.specs.declared.script.ScriptFault.TheVariants.{Size, Line}
 use Rattle.replay_text.specs.declared.script.Meaning.{Meaning}
 use Rattle.replay_text.specs.declared.script.Meaning.TheVariants.{Skipped, Runs, Bad}
+use Rattle.replay_text.specs.declared.script.TheConstants.{MAX_LINE, MAX_SCRIPT}
 
 -- the list has no element
 abbrev pub is_empty : {A : Type 0} → List A → Bool
@@ -140,7 +141,7 @@ is_bad Bad = true
 -- what a line says: each is ASCII, of at most 70,000 bytes
 unfoldable pub meaning_of : List (List ℕ) → ℕ → List ℕ → Meaning
 meaning_of names workers line =
-    if nat_lt 70_000 (length line) || not (list_all (λ b. nat_lt b 128) line) then Bad
+    if nat_lt MAX_LINE (length line) || not (list_all (λ b. nat_lt b 128) line) then Bad
     else (if is_skipped line then Skipped
     else step_or_bad (step_of_words names workers (words_of line)))
 
@@ -160,7 +161,7 @@ steps_from names workers number (line ∷ lines) =
 -- the steps of a script for tenants of these names and so many workers
 unfoldable pub steps_of_script : List (List ℕ) → ℕ → List ℕ → Result (List Step) ScriptFault
 steps_of_script names workers text =
-    if nat_lt 16_777_216 (length text) then Err Size
+    if nat_lt MAX_SCRIPT (length text) then Err Size
     else steps_from names workers 1 (lines_of text)
 
 -- a text is a script, unless memory was refused; or this is its fault

@@ -8,12 +8,12 @@ use Rattle.replay_text.specs.declared.script.ScriptWrong.{ScriptWrong}
 use Rattle.replay_text.specs.declared.script.ScriptWrong.TheVariants.{Size, Line}
 
 -- the fault that stands for it
-abbrev pub fault_of : ScriptWrong → ScriptFault
-fault_of Size = fault.Size
-fault_of (Line number cause) = fault.Line number
+abbrev pub script_fault_of : ScriptWrong → ScriptFault
+script_fault_of Size = fault.Size
+script_fault_of (Line number cause) = fault.Line number
 
 -- what was checked, or the fault
-abbrev pub told : {X : Type 0} → Result X (ReadError ScriptWrong) → Result X (ReadError ScriptFault)
-told (Ok x) = Ok x
-told (Err Memory) = Err Memory
-told (Err (Fault wrong)) = Err (Fault (fault_of wrong))
+abbrev pub fault_alone : {X : Type 0} → Result X (ReadError ScriptWrong) → Result X (ReadError ScriptFault)
+fault_alone (Ok x) = Ok x
+fault_alone (Err Memory) = Err Memory
+fault_alone (Err (Fault wrong)) = Err (Fault (script_fault_of wrong))

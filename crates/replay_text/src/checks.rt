@@ -14,7 +14,7 @@ use crate::hexadecimal::{are_digits, spells_bytes};
 use crate::numbers::number_below;
 use crate::scans::{is_ascii, place_of};
 use crate::script::{
-    MOST_LINE, first_word, is_skipped, moment_spelled, tenant_named, three_words, two_words,
+    MAX_LINE, first_word, is_skipped, moment_spelled, tenant_named, three_words, two_words,
 };
 use admin_text::parse_command;
 use common_types::{Name, ReadError, is_numeral, is_token};
@@ -338,8 +338,8 @@ pub fn line_fault<'a>(
 ) -> Result<Option<LineFault<'a>>, AllocError>
     ensures { IfOk result (λ fault. is_some fault ≡ is_bad (meaning_of names.now workers line.now)) }
 {
-    if line.len() > MOST_LINE {
-        return Ok(Some(LineFault::Long(MOST_LINE)));
+    if line.len() > MAX_LINE {
+        return Ok(Some(LineFault::Long(MAX_LINE)));
     }
     if !is_ascii(line) {
         return Ok(Some(LineFault::NoAscii));

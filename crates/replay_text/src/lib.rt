@@ -17,4 +17,7 @@ pub use causes::{LineFault, Operand, Verb};
 pub use checks::line_fault;
 pub use printed::print_lines;
 pub use replays::{ReplayFault, replay};
-pub use script::{Meaning, ScriptFault, ScriptWrong, check_script, explain_script, meaning_of};
+pub use script::{
+    MAX_LINE, MAX_SCRIPT, Meaning, ScriptFault, ScriptWrong, check_script, explain_script,
+    meaning_of,
+};

@@ -5,13 +5,13 @@ ghost use Rattle.std.specs.Io.KnownBytes.{Keeps, Appends};
 ghost use Rattle.replay_text.specs.Replay.{names_in, refusal_of, IsRefusedBy, Prints, WritesAll, LeavesWritten};
 ghost use Rattle.replay_text.specs.Replay.{IsReplayedFor, LeavesWrittenFor, WritesDone, WritesLines, WritesSome, world_of_setup};
 ghost use Rattle.admin_text.specs.Setup.{setup_of};
-ghost use Rattle.floor_core.specs.FloorView.{Fits, HasRoom, world_of};
+ghost use Rattle.floor_core.specs.FloorView.{Fits, HasRoom, max_seats, world_of};
 ghost use Rattle.tenant_core.specs.Limits.{max_tenants};
 ghost use Rattle.replay_text.specs.Script.{lines_of, steps_in, steps_of_script, IsBad, NoneIsBad};
 ghost use Rattle.replay_text.specs.Streams.{AppendsFront, ConsumesAtMost, WritesUpTo};
 
 use crate::printed::put_told;
-use crate::script::{Meaning, ScriptFault, check_script, first_line, meaning_of};
+use crate::script::{MAX_SCRIPT, Meaning, ScriptFault, check_script, first_line, meaning_of};
 use crate::streams::{StreamFault, read_script, write_text};
 use admin_text::laws::setups;
 use admin_text::{Setup, SetupFault, read_setup};
@@ -221,13 +221,13 @@ fn good_script<R: Read + Device>(
 ) -> Result<Vec<u8>, ReplayFault>
     requires names { names.now ≡ names_in setup.now }
     ensures whole { IfOk result (λ script. IfSome (R.remaining reader.old) (λ bytes. script.items ≡ bytes)) }
-    ensures short { IfOk result (λ script. length script.items ≤ 16_777_216) }
+    ensures short { IfOk result (λ script. length script.items ≤ MAX_SCRIPT) }
     ensures good { IfOk result (λ script. NoneIsBad names.now workers (lines_of script.items)) }
     ensures steps { IfOk result (λ script. steps_of_script names.now workers script.items
         ≡ Ok (steps_in names.now workers (lines_of script.items))) }
     ensures refused { IfErr result (λ fault. IsRefusedBy fault (Ok setup.now) workers (R.remaining reader.old)) }
     ensures device { (result ≡ Err ReplayFault.Device) ↔ (R.failure_count reader.old < R.failure_count reader.new) }
-    ensures taken { ConsumesAtMost 16_777_217 (R.remaining reader.old) (R.remaining reader.new) }
+    ensures taken { ConsumesAtMost (MAX_SCRIPT + 1) (R.remaining reader.old) (R.remaining reader.new) }
 {
     let script = match read_script(alloc, reader) {
         Ok(script) => script,
@@ -252,10 +252,10 @@ fn run_script<W: Write + Device>(
     writer: &mut W,
 ) -> Result<(), ReplayFault>
     requires tenants { (1 ≤ length setup.now.tenants) × (length setup.now.tenants ≤ max_tenants) }
-    requires workers { (1 ≤ workers) × (workers ≤ 64) }
+    requires workers { (1 ≤ workers) × (workers ≤ max_seats) }
     requires names { names.now ≡ names_in setup.now }
     requires good { NoneIsBad names.now workers (lines_of script.now) }
-    requires short { length script.now ≤ 16_777_216 }
+    requires short { length script.now ≤ MAX_SCRIPT }
     ensures written { OnOk result (WritesLines names.now (world_of_setup setup.now)
         (steps_in names.now workers (lines_of script.now)) (W.contents writer.old) (W.contents writer.new)) }
     ensures left { OnErr result (Keeps (W.contents writer.old) (W.contents writer.new)
@@ -284,7 +284,7 @@ fn replay_for<R: Read + Device, W: Write + Device>(
     writer: &mut W,
 ) -> Result<(), ReplayFault>
     requires tenants { (1 ≤ length setup.now.tenants) × (length setup.now.tenants ≤ max_tenants) }
-    requires workers { (1 ≤ workers) × (workers ≤ 64) }
+    requires workers { (1 ≤ workers) × (workers ≤ max_seats) }
     ensures written { OnOk result (IfSome (R.remaining reader.old) (λ script.
         (text : List ℕ) × IsReplayedFor setup.now workers script text
         × Appends (W.contents writer.old) (W.contents writer.new) text)) }
@@ -297,7 +297,7 @@ fn replay_for<R: Read + Device, W: Write + Device>(
     ensures script_order { result ≡ Err ReplayFault.Device
         → R.failure_count reader.new ≤ R.failure_count reader.old
         → IfSome (R.remaining reader.old) (λ script. refusal_of (Ok setup.now) workers script ≡ None) }
-    ensures taken { ConsumesAtMost 16_777_217 (R.remaining reader.old) (R.remaining reader.new) }
+    ensures taken { ConsumesAtMost (MAX_SCRIPT + 1) (R.remaining reader.old) (R.remaining reader.new) }
 {
     let Ok(names) = setup.names(alloc) else {
         return Err(ReplayFault::Memory);
@@ -327,7 +327,7 @@ pub fn replay<R: Read + Device, W: Write + Device>(
     reader: &mut R,
     writer: &mut W,
 ) -> Result<(), ReplayFault>
-    requires { (1 ≤ workers) × (workers ≤ 64) }
+    requires { (1 ≤ workers) × (workers ≤ max_seats) }
     // What was written are, to each tenant, the lines of the one-tenant connector on the tenant's own steps alone.
     ensures written { OnOk result (IfSome (R.remaining reader.old)
         (λ script. WritesAll setup.now workers script (W.contents writer.old) (W.contents writer.new))) }
@@ -343,7 +343,7 @@ pub fn replay<R: Read + Device, W: Write + Device>(
     ensures script_order { result ≡ Err ReplayFault.Device
         → R.failure_count reader.new ≤ R.failure_count reader.old
         → IfSome (R.remaining reader.old) (λ script. refusal_of (setup_of setup.now) workers script ≡ None) }
-    ensures taken { ConsumesAtMost 16_777_217 (R.remaining reader.old) (R.remaining reader.new) }
+    ensures taken { ConsumesAtMost (MAX_SCRIPT + 1) (R.remaining reader.old) (R.remaining reader.new) }
 {
     setups();
     frames_that_go_on();

@@ -13,7 +13,7 @@ ghost use Rattle.replay_text.specs.Script.{given_of, moment_spelled, step_behind
 ghost use Rattle.replay_text.specs.Script.{is_skipped, meaning_of, steps_from, steps_of_script, AreSteps, IsFirstBad};
 ghost use Rattle.admin_text.specs.Commands.{command_in};
 ghost use Rattle.replay_text.specs.Script.{IsCheckedAs};
-ghost use Rattle.replay_text.specs.ScriptWrong.{fault_of, told};
+ghost use Rattle.replay_text.specs.ScriptWrong.{fault_alone, script_fault_of};
 ghost use Rattle.floor_core.specs.declared.step.Step.{Step};
 ghost use Rattle.replay_text.specs.Words.{two_of, three_of, four_of};
 
@@ -32,10 +32,10 @@ use tenant_core::Command;
 use thiserror::Error;
 
 /// The most bytes of a script.
-pub const MOST_BYTES: usize = 16_777_216;
+pub const MAX_SCRIPT: usize = 16_777_216;
 
 /// The most bytes of a line, without its end.
-pub const MOST_LINE: usize = 70_000;
+pub const MAX_LINE: usize = 70_000;
 
 /// What is wrong with a script.
 #[derive(Clone, Copy, Debug, PartialEq, Eq, Error)]
@@ -59,11 +59,11 @@ pub enum ScriptWrong<'a> {
 
 impl ScriptWrong<'_> {
     ghost use Rattle.std.specs.Prelude.{◌≡◌};
-    ghost use Rattle.replay_text.specs.ScriptWrong.{fault_of};
+    ghost use Rattle.replay_text.specs.ScriptWrong.{script_fault_of};
 
     /// The fault that stands for it.
     pub fn fault(&self) -> ScriptFault
-        ensures { result ≡ fault_of self.now }
+        ensures { result ≡ script_fault_of self.now }
     {
         match self {
             ScriptWrong::Size => ScriptFault::Size,
@@ -76,7 +76,7 @@ impl fmt::Display for ScriptWrong<'_> {
     fn fmt<W: fmt::Write>(&self, f: &mut fmt::Formatter<W>) -> fmt::Result {
         let fault = self.fault();
         match self {
-            ScriptWrong::Size => write!(f, "{fault}: at most {MOST_BYTES} bytes"),
+            ScriptWrong::Size => write!(f, "{fault}: at most {MAX_SCRIPT} bytes"),
             ScriptWrong::Line(_, cause) => write!(f, "{fault}: {cause}"),
         }
     }
@@ -436,7 +436,7 @@ pub fn meaning_of<'a>(
 ) -> Result<Meaning<'a>, AllocError>
     ensures { IfOk result (λ meaning. meaning ≡ meaning_of names.now workers line.now) }
 {
-    if line.len() > MOST_LINE || !is_ascii(line) {
+    if line.len() > MAX_LINE || !is_ascii(line) {
         return Ok(Meaning::Bad);
     }
     if is_skipped(line) {
@@ -455,8 +455,8 @@ fn check_lines<'a>(
     workers: usize,
     text: &'a [u8],
 ) -> Result<(), ReadError<ScriptWrong<'a>>>
-    requires { length text.now ≤ MOST_BYTES }
-    ensures { IsCheckedAs (told result) (steps_from names.now workers 1 (lines_of text.now)) }
+    requires { length text.now ≤ MAX_SCRIPT }
+    ensures { IsCheckedAs (fault_alone result) (steps_from names.now workers 1 (lines_of text.now)) }
 {
     let mut rest = text;
     let mut number: usize = 1;
@@ -478,7 +478,7 @@ fn lines_checked(
     workers: usize,
     text: &[u8],
 ) -> Result<(), ReadError<ScriptFault>>
-    requires { length text.now ≤ MOST_BYTES }
+    requires { length text.now ≤ MAX_SCRIPT }
     ensures { IsCheckedAs result (steps_from names.now workers 1 (lines_of text.now)) }
 {
     match check_lines(alloc, names, workers, text) {
@@ -490,8 +490,8 @@ fn lines_checked(
 
 /// Whether a text is a script, for the tenants of these names, numbered from 0, and so many workers.
 ///
-/// A script has at most [`MOST_BYTES`] bytes, else the fault is `Size`. Its lines end with a line
-/// feed each, which the last may lack, and are ASCII, of at most [`MOST_LINE`] bytes without it.
+/// A script has at most [`MAX_SCRIPT`] bytes, else the fault is `Size`. Its lines end with a line
+/// feed each, which the last may lack, and are ASCII, of at most [`MAX_LINE`] bytes without it.
 /// Empty lines and those that begin with `#` are skipped. Any other is `load W TENANT TOKEN HEX`,
 /// `decide W NOW`, `answer W NOW HEX`, `answer W NOW fault`, `tick TENANT NOW` or `do TENANT NOW COMMAND`, with one space
 /// between two words; the fault `Line` has the number, from 1, of the first that is none of these.
@@ -504,16 +504,16 @@ pub fn check_script(
     // What is good has steps.
     ensures found { OnOk result ((steps : List Step) × AreSteps names.now workers (lines_of text.now) steps) }
     // What has steps is good, unless memory runs out.
-    ensures only { (steps : List Step) → length text.now ≤ MOST_BYTES
+    ensures only { (steps : List Step) → length text.now ≤ MAX_SCRIPT
         → AreSteps names.now workers (lines_of text.now) steps → IsCheckedAs result (Ok steps) }
     // A line that is named is the first bad one.
     ensures first_bad { (number : ℕ) → result ≡ Err (ReadError.Fault (ScriptFault.Line number))
         → IsFirstBad names.now workers (lines_of text.now) number }
     // A text is too long for a script before anything else is wrong with it.
-    ensures size { (result ≡ Err (ReadError.Fault ScriptFault.Size)) ↔ (MOST_BYTES < length text.now) }
+    ensures size { (result ≡ Err (ReadError.Fault ScriptFault.Size)) ↔ (MAX_SCRIPT < length text.now) }
     ensures exact { IsCheckedAs result (steps_of_script names.now workers text.now) }
 {
-    if text.len() > MOST_BYTES {
+    if text.len() > MAX_SCRIPT {
         return Err(ReadError::Fault(ScriptFault::Size));
     }
     lines_checked(alloc, names, workers, text)
@@ -528,9 +528,9 @@ pub fn explain_script<'a>(
     workers: usize,
     text: &'a [u8],
 ) -> Result<Option<ScriptWrong<'a>>, AllocError>
-    ensures exact { IfOk result (λ wrong. option_map fault_of wrong ≡ result_err (steps_of_script names.now workers text.now)) }
+    ensures exact { IfOk result (λ wrong. option_map script_fault_of wrong ≡ result_err (steps_of_script names.now workers text.now)) }
 {
-    if text.len() > MOST_BYTES {
+    if text.len() > MAX_SCRIPT {
         return Ok(Some(ScriptWrong::Size));
     }
     match check_lines(alloc, names, workers, text) {

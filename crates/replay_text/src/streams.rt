@@ -5,12 +5,10 @@ ghost use Rattle.std.specs.Prelude.{◌↔◌};
 ghost use Rattle.std.specs.Io.KnownBytes.{Keeps, Appends, Consumes, IsAtEnd};
 ghost use Rattle.replay_text.specs.Streams.{AppendsFront, ConsumesAtMost, TakesBehind};
 
+use crate::script::MAX_SCRIPT;
 use oer_core::Device;
 use std::alloc::Global;
 use std::io::{Read, Write};
-
-/// The most bytes of a script.
-pub const MAX_SCRIPT: usize = 16_777_216;
 
 /// Why a text was not read or written whole.
 #[derive(Clone, Copy, Debug, PartialEq, Eq)]
@@ -32,10 +30,10 @@ fn take_some<R: Read + Device>(
     before: u64,
 ) -> Result<usize, StreamFault>
     requires some { 0 < length chunk.old }
-    requires small { length text.old.items ≤ 16_777_216 }
+    requires small { length text.old.items ≤ MAX_SCRIPT }
     requires unfailed { R.failure_count reader.old ≤ before }
     ensures taken { TakesBehind (R.remaining reader.old) (R.remaining reader.new) text.old.items text.new.items }
-    ensures bound { length text.new.items ≤ 16_777_217 }
+    ensures bound { length text.new.items ≤ MAX_SCRIPT + 1 }
     ensures count { IfOk result (λ n. length text.new.items ≡ length text.old.items + n) }
     ensures end { IfOk result (λ n. n ≡ 0 → IsAtEnd (R.remaining reader.new)) }
     ensures size { result ≢ Err StreamFault.Size }
@@ -63,11 +61,11 @@ fn take_some<R: Read + Device>(
 /// that failed ends the reading.
 pub fn read_script<R: Read + Device>(alloc: Global, reader: &mut R) -> Result<Vec<u8>, StreamFault>
     ensures whole { IfOk result (λ text. IfSome (R.remaining reader.old) (λ bytes. text.items ≡ bytes)) }
-    ensures short { IfOk result (λ text. length text.items ≤ 16_777_216) }
+    ensures short { IfOk result (λ text. length text.items ≤ MAX_SCRIPT) }
     ensures size { result ≡ Err StreamFault.Size
-        → IfSome (R.remaining reader.old) (λ bytes. 16_777_216 < length bytes) }
+        → IfSome (R.remaining reader.old) (λ bytes. MAX_SCRIPT < length bytes) }
     ensures device { (result ≡ Err StreamFault.Device) ↔ (R.failure_count reader.old < R.failure_count reader.new) }
-    ensures taken { ConsumesAtMost 16_777_217 (R.remaining reader.old) (R.remaining reader.new) }
+    ensures taken { ConsumesAtMost (MAX_SCRIPT + 1) (R.remaining reader.old) (R.remaining reader.new) }
 {
     let before = reader.failures();
     let mut text = Vec::new(alloc);

@@ -1,6 +1,6 @@
 -- Peers of two names have two numbers.
-use Rattle.std.proofs.Common.{◌≡◌, ℕ, List, true, false, not, sym, ap, subst, ◌∙◌, eqb, refl}
-use Rattle.std.specs.Prelude.{Bool, Option, Some, None, is_some, find}
+use Rattle.std.proofs.Common.{◌≡◌, ℕ, List, true, false, not, sym, ap, ◌∙◌, eqb, refl}
+use Rattle.std.specs.Prelude.{Bool, Option, Some, None, is_some}
 use Rattle.std.specs.Str.{bytes_eq}
 use Rattle.std.proofs.lemmas.Bool.{eqb-true}
 use Rattle.std.proofs.lemmas.Slice.Eq.{bytes_eq-Decides}

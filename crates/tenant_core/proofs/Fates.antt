@@ -1,5 +1,5 @@
 -- The holds of a state, told record by record, are those that its records begin, each with what became of it.
-use Rattle.std.proofs.Common.{◌≡◌, ℕ, Bool, true, false, cond, eqb, List, [], ◌∷◌, ◌++◌, map, fold, refl, sym, ap, subst, ◌∙◌, append_assoc, append-nil}
+use Rattle.std.proofs.Common.{◌≡◌, ℕ, Bool, true, false, cond, eqb, List, [], ◌∷◌, ◌++◌, map, fold, refl, sym, ap, ◌∙◌, append_assoc, append-nil}
 use Rattle.std.specs.Prelude.{Option, Some, None, IfSome, find, nat_le, ◌&&◌, ◌||◌}
 use Rattle.std.proofs.lemmas.List.{map-append}
 use Rattle.tenant_core.specs.declared.hold.Fate.{Fate}
@@ -14,7 +14,7 @@ use Rattle.tenant_core.specs.declared.verdict.Verdict.{Verdict}
 use Rattle.tenant_core.specs.declared.verdict.Verdict.TheVariants.{Unknown, NoRoom, Refuse, Fulfil, Forward, Relay}
 use Rattle.tenant_core.specs.Fates.{FateLaw, fate_by, fate_of, fulfills, holds_told, is_answer_to, is_tick_past, is_ticked_past, with_what_became}
 use Rattle.tenant_core.specs.Holds.{Course, course_after, holds_of, hold_after, hold_begun, begun_by, awaits_answer, holds_amounts, is_fulfill, is_relayed, with_fate}
-use Rattle.tenant_core.specs.State.{State, extended, later}
+use Rattle.tenant_core.specs.State.{extended, later}
 
 -- what becomes of a hold that has a fate already
 abbrev later_fate : Fate → Option Record → Bool → Fate

@@ -26,7 +26,7 @@ use Rattle.tenant_core.specs.Limits.{max_peers, max_peer_numbers, max_rates}
 use Rattle.route_table.specs.Routes.{NamesPeer, RouteMap}
 use Rattle.route_table.specs.declared.hop.Hop.{Hop}
 use Rattle.tenant_core.specs.Terms.{are_terms_within, is_balance_within}
-use Rattle.tenant_core.specs.Limits.{max_money}
+use Rattle.money_core.specs.Account.{max_money}
 use Rattle.tenant_core.specs.Periods.{carried, carried_net}
 use Rattle.tenant_core.specs.Purse.{IsWithinBounds, balance_of, held_in_of, held_out_of}
 use Rattle.tenant_core.specs.State.{State}

@@ -15,7 +15,7 @@ use Rattle.tenant_core.specs.declared.hold.Hold.{Hold}
 use Rattle.tenant_core.specs.declared.terms.PeerTerms.{PeerTerms}
 use Rattle.tenant_core.specs.declared.peer.Peer.{Peer}
 use Rattle.std.specs.Option.{option_or}
-use Rattle.std.specs.Int.Signed.{lt_z, lt_z_no}
+use Rattle.std.specs.Int.Signed.{lt_z_no}
 use Rattle.std.proofs.lemmas.Float.{T_from_false}
 use Rattle.tenant_core.specs.declared.command.Side.TheVariants.{In, Out}
 use Rattle.tenant_core.specs.declared.faults.CommandFault.{CommandFault}
@@ -30,7 +30,7 @@ use Rattle.tenant_core.specs.declared.verdict.Verdict.{Verdict}
 use Rattle.tenant_core.specs.declared.verdict.Verdict.TheVariants.{Unknown, NoRoom, Refuse, Forward, Fulfil, Relay}
 use Rattle.tenant_core.specs.Holds.{holds_of, next_hold, begun_by, is_open, with_fate, hold_ticked, holds_amounts, took_amounts, awaits_answer}
 use Rattle.tenant_core.specs.Key.{Key}
-use Rattle.tenant_core.specs.Limits.{max_money}
+use Rattle.money_core.specs.Account.{max_money}
 use Rattle.tenant_core.specs.Network.{IsNetwork, peer_numbered}
 use Rattle.tenant_core.specs.State.{State, recorded, extended}
 use Rattle.tenant_core.specs.Terms.{are_terms_within, is_balance_within}

@@ -1,7 +1,7 @@
 -- What a verdict holds keeps the bounds of both purses, check by check.
 use Rattle.std.proofs.Common.{◌≡◌, ℕ, ◌≤◌, ℤ, pos, ◌≤ℤ◌, Bool, true, false, cond, eqb, arith, refl, subst}
 use Rattle.std.specs.Prelude.{Result, Ok, Err, Option, Some, None, IfSome, neg_ℤ, nat_le, nat_lt, int_lt, not, option_and_then, option_map}
-use Rattle.std.specs.Int.Signed.{lt_z, lt_z_no}
+use Rattle.std.specs.Int.Signed.{lt_z_no}
 use Rattle.std.proofs.lemmas.Float.{T_from_false}
 use Rattle.std.proofs.lemmas.Int.{ints}
 use Rattle.ildcp_core.specs.Request.{is_config, checked_request}
@@ -18,7 +18,8 @@ use Rattle.tenant_core.specs.declared.verdict.RejectCode.TheVariants.{Insufficie
 use Rattle.tenant_core.specs.Bucket.{stretch_of}
 use Rattle.tenant_core.specs.Checks.{◌otherwise◌}
 use Rattle.tenant_core.specs.Key.{Key}
-use Rattle.tenant_core.specs.Limits.{max_money, max_holds}
+use Rattle.money_core.specs.Account.{max_money}
+use Rattle.tenant_core.specs.Limits.{max_holds}
 use Rattle.tenant_core.specs.Purse.{is_over_ceiling, is_over_credit}
 use Rattle.tenant_core.specs.Routing.{Way, another, onward, way_by, stays_here, rate_between, outgoing_expiry}
 use Rattle.tenant_core.specs.Holds.{open_holds}

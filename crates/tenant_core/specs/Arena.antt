@@ -12,8 +12,8 @@ use Rattle.tenant_core.specs.declared.journal.Entry.TheVariants as entries
 use Rattle.tenant_core.specs.declared.journal.Record.{Record}
 
 -- room for each entry that a journal may have, and for a roll's
-abbrev pub max_places : ℕ
-max_places = max_journal + 1
+abbrev pub max_records : ℕ
+max_records = max_journal + 1
 
 -- a whole entry, its bytes taken from the text
 abbrev pub whole_entry : List ℕ → SmallEntry → Entry
@@ -49,9 +49,9 @@ journal_of j = record { records = map (whole j.text.items) j.records.items; plac
 
 -- there is room for all that may come, and each entry's bytes lie in the text
 pub record IsArena (j : Inside) : Type 0 where
-  pub places : j.places ≤ max_places
+  pub places : j.places ≤ max_records
   pub room : j.places ≤ vec_capacity j.records
   pub text_room : j.places * 1024 ≤ vec_capacity j.text
   pub few : length j.records.items ≤ j.places
-  pub short : length j.text.items ≤ 1023 * length j.records.items
+  pub short : length j.text.items ≤ max_address * length j.records.items
   pub within : All (λ s. IsWithin (length j.text.items) s.entry) j.records.items

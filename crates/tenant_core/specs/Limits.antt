@@ -1,7 +1,8 @@
 -- The limits of tenants.
 use Rattle.std.specs.Prelude.{ℕ}
-use Rattle.tenant_core.specs.declared.limits.TheConstants.{MAX_TENANTS, MAX_PEERS, MAX_RATES, MAX_JOURNAL, MAX_HOLDS}
-use Rattle.tenant_core.specs.declared.limits.TheConstants.{MAX_MONEY, MAX_MARGIN, MAX_HOLD, MAX_BURST, MAX_PER_SECOND, MAX_PERIOD, MAX_PEER_NUMBERS}
+use Rattle.common_types.specs.declared.limits.TheConstants.{MAX_TENANTS}
+use Rattle.tenant_core.specs.declared.limits.TheConstants.{MAX_PEERS, MAX_RATES, MAX_JOURNAL, MAX_HOLDS}
+use Rattle.tenant_core.specs.declared.limits.TheConstants.{MAX_MARGIN, MAX_HOLD, MAX_BURST, MAX_PER_SECOND, MAX_PERIOD, MAX_PEER_NUMBERS}
 
 -- how many tenants there are
 abbrev pub max_tenants : ℕ
@@ -22,10 +23,6 @@ max_journal = MAX_JOURNAL
 -- packets that are held at once
 abbrev pub max_holds : ℕ
 max_holds = MAX_HOLDS
-
--- money in a peer's units: a cap, a ceiling, a credit, and a balance on either side of 0
-abbrev pub max_money : ℕ
-max_money = MAX_MONEY
 
 -- milliseconds by which an expiry is brought forward
 abbrev pub max_margin : ℕ

@@ -11,7 +11,7 @@ use Rattle.tenant_core.specs.Answer.{has_no_place}
 use Rattle.tenant_core.specs.Commands.{Ends}
 use Rattle.tenant_core.specs.Checks.{◌otherwise◌}
 use Rattle.tenant_core.specs.Holds.{holds_of, is_open}
-use Rattle.tenant_core.specs.Limits.{max_money}
+use Rattle.money_core.specs.Account.{max_money}
 use Rattle.tenant_core.specs.Network.{Net, peer_numbered, peer_named, peer_refusal, route_refusal, no_route_refusal}
 use Rattle.tenant_core.specs.Network.{rate_refusal}
 use Rattle.tenant_core.specs.Present.{network_of}

@@ -2,7 +2,7 @@
 use Rattle.std.specs.Prelude.{ℕ, ◌+◌, ℤ, pos, ◌+ℤ◌, ◌-ℤ◌, ◌≤ℤ◌, neg_ℤ, int_lt, Bool, ◌&&◌, sum_by, ◌==◌, Option, Some}
 use Rattle.std.specs.Prelude.{None, if◌then◌else◌}
 use Rattle.tenant_core.specs.Holds.{holds_of, holds_amounts, took_amounts}
-use Rattle.tenant_core.specs.Limits.{max_money}
+use Rattle.money_core.specs.Account.{max_money}
 use Rattle.tenant_core.specs.Network.{peer_numbered}
 use Rattle.tenant_core.specs.State.{State}
 use Rattle.tenant_core.specs.declared.command.Side.{Side}

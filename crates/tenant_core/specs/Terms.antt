@@ -2,7 +2,8 @@
 use Rattle.std.specs.Prelude.{ℤ, Bool, ◌&&◌, nat_le, unsigned_abs}
 use Rattle.common_types.specs.Numbers.{is_between}
 use Rattle.common_types.specs.Token.{is_token}
-use Rattle.tenant_core.specs.Limits.{max_money, max_burst, max_per_second}
+use Rattle.money_core.specs.Account.{max_money}
+use Rattle.tenant_core.specs.Limits.{max_burst, max_per_second}
 use Rattle.tenant_core.specs.declared.terms.BucketTerms.{BucketTerms}
 use Rattle.tenant_core.specs.declared.terms.PeerLimits.{PeerLimits}
 use Rattle.tenant_core.specs.declared.terms.PeerTerms.{PeerTerms}

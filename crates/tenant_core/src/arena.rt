@@ -141,7 +141,8 @@ fn copied_records(alloc: Global, records: &[Small], room: usize) -> Result<Vec<S
 impl Journal {
     ghost use Rattle.std.specs.Prelude.{◌≡◌, ◌<◌, ◌≤◌, ◌+◌, length, IfOk, IfSome, option_map};
     ghost use Rattle.std.specs.List.{slice_get};
-    ghost use Rattle.tenant_core.specs.Arena.{max_places};
+    ghost use Rattle.ilp_addr.specs.Address.{max_address};
+    ghost use Rattle.tenant_core.specs.Arena.{max_records};
     ghost use Rattle.tenant_core.specs.Journals.{last_of, no_records, with_record};
     ghost use Rattle.tenant_core.specs.Views.{decide_of, record_of, IsShort};
     ghost use Rattle.tenant_core.specs.declared.journal.Entry.TheVariants.{Decide, Answer, Tick, Change, Roll};
@@ -149,7 +150,7 @@ impl Journal {
 
     /// No record, and room for so many. The one error is want of memory.
     pub(crate) fn new(alloc: Global, places: usize) -> Result<Journal, AllocError>
-        requires { places ≤ max_places }
+        requires { places ≤ max_records }
         ensures { IfOk result (λ journal. journal ≡ no_records places) }
     {
         let records = Vec::with_capacity(alloc, places)?;
@@ -216,7 +217,7 @@ impl Journal {
     /// The verdict of a Prepare more.
     pub(crate) fn push_decide(&mut self, decide: DecideView<'_>, verdict: Verdict)
         requires room { length self.old.records < self.old.places }
-        requires short { length decide.destination.now ≤ 1023 }
+        requires short { length decide.destination.now ≤ max_address }
         ensures { self.new ≡ with_record (record { entry = Decide (decide_of decide.entry); outcome = Packet verdict }) self.old }
     {
         let from = self.text.len() as u32;

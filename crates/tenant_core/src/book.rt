@@ -67,6 +67,7 @@ impl Model for Book {
 
 impl Book {
     ghost use Rattle.std.specs.Prelude.{◌≡◌, ◌<◌, ◌≤◌, length, IfOk, IfSome, option_copied, option_map};
+    ghost use Rattle.ilp_addr.specs.OwnAddress.{max_own_address};
     ghost use Rattle.tenant_core.specs.Answer.{has_no_place};
     ghost use Rattle.tenant_core.specs.Holds.{open_holds};
     ghost use Rattle.tenant_core.specs.State.{opened, opening_of};
@@ -226,7 +227,7 @@ impl Book {
     /// The tenant's own address.
     pub fn address(&self) -> &[u8]
         ensures value { result.now ≡ self.now.opening.address }
-        ensures short { length result.now ≤ 900 }
+        ensures short { length result.now ≤ max_own_address }
     {
         self.opening.address.as_bytes()
     }

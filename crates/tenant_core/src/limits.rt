@@ -1,7 +1,10 @@
 //! The limits of tenants.
 
 /// The most tenants.
-pub const MAX_TENANTS: usize = 64;
+pub use common_types::limits::MAX_TENANTS;
+
+/// The greatest cap, ceiling and credit, and the greatest balance on either side of 0, in a peer's units.
+pub use money_core::MAX_MONEY;
 
 /// The most peers of a tenant.
 pub const MAX_PEERS: usize = 256;
@@ -14,9 +17,6 @@ pub const MAX_JOURNAL: u64 = 16_384;
 
 /// The most packets that a tenant holds at once.
 pub const MAX_HOLDS: u64 = 1_024;
-
-/// The greatest cap, ceiling and credit, and the greatest balance on either side of 0, in a peer's units.
-pub const MAX_MONEY: u64 = 1 << 62;
 
 /// The most milliseconds by which an expiry is brought forward.
 pub const MAX_MARGIN: u64 = 60_000;

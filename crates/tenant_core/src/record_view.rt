@@ -1,6 +1,7 @@
 //! Records as a journal lends them.
 
 ghost use Rattle.std.specs.Prelude.{◌≡◌, ◌≤◌, length, true};
+ghost use Rattle.ilp_addr.specs.Address.{max_address};
 ghost use Rattle.tenant_core.specs.Judge.{decide_entry};
 ghost use Rattle.tenant_core.specs.Key.{key_of};
 ghost use Rattle.tenant_core.specs.Replay.{is_sayable};
@@ -105,7 +106,7 @@ fn is_sayable(amount: u64, expiry: Expiry, condition: &[u8; 32], destination: &A
 /// The entry of a Prepare of that peer.
 pub fn decide_view<'a>(peer: PeerNo, key: &PrepareKey<'a>, now: Moment) -> DecideView<'a>
     ensures value { decide_of result ≡ decide_entry peer (key_of key.now) now }
-    ensures short { length result.destination.now ≤ 1023 }
+    ensures short { length result.destination.now ≤ max_address }
     ensures sayable { is_sayable (key_of key.now) ≡ true }
 {
     is_sayable(key.amount, key.expiry, key.condition, key.destination);

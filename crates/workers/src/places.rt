@@ -45,7 +45,7 @@ impl Places {
         alloc: Global,
         places: usize,
         tenants: usize,
-        room: usize,
+        most_waiting: usize,
     ) -> Result<Places, AllocError>
         requires tenants { (1 ≤ tenants) × (tenants ≤ max_tenants) }
         requires places { (1 ≤ places) × (places ≤ max_places) }
@@ -54,7 +54,7 @@ impl Places {
         for _ in 0..tenants {
             bells.push_reserved(Condvar::new());
         }
-        let lending = Lending::new(alloc, places, tenants, room)?;
+        let lending = Lending::new(alloc, places, tenants, most_waiting)?;
         Ok(Places {
             lending: Mutex::new(lending),
             bells,

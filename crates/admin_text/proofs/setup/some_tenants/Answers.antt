@@ -5,7 +5,7 @@ use Rattle.toml.specs.View.{items_view}
 use Rattle.common_types.specs.Outcomes.{GivesUnlessMemory}
 use Rattle.tenant_core.specs.declared.terms.TenantTerms.{TenantTerms}
 use Rattle.admin_text.specs.Tenants.{some_tenants, tenants_of_items}
-use Rattle.admin_text.specs.Wrong.{told}
+use Rattle.admin_text.specs.Wrong.{fault_alone}
 use Rattle.admin_text.specs.declared.version.Version.{Version}
 use Rattle.admin_text.specs.declared.setup.SetupFault.{SetupFault}
 use Rattle.admin_text.proofs.setup.some_tenants.Goals as goal
@@ -16,5 +16,5 @@ some_are version (value ∷ values) h = refl
 
 pub returns-in-len1-up : goal.returns-in-len1-up
 returns-in-len1-up c =
-    subst (λ (r : Result (List TenantTerms) SetupFault). GivesUnlessMemory (λ tenants. tenants.items) (told c.tenants_of_items.result) r)
+    subst (λ (r : Result (List TenantTerms) SetupFault). GivesUnlessMemory (λ tenants. tenants.items) (fault_alone c.tenants_of_items.result) r)
     (sym (some_are c.args.version c.args.values.now c.in-len1-up.len_at_least)) c.tenants_of_items.ensures

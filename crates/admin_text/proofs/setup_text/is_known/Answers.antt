@@ -2,7 +2,7 @@ use Rattle.std.proofs.Common.{◌≡◌, true, subst, rules}
 use Rattle.common_types.specs.Names.{is_name, is_asset_code}
 use Rattle.common_types.specs.Numbers.{is_between}
 use Rattle.common_types.specs.Token.{is_token}
-use Rattle.tenant_core.specs.Limits.{max_money}
+use Rattle.money_core.specs.Account.{max_money}
 use Rattle.tenant_core.specs.Terms.{is_balance_within}
 use Rattle.admin_text.proofs.setup_text.is_known.Goals as goal
 

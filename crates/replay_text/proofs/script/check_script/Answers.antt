@@ -8,9 +8,9 @@ use Rattle.replay_text.proofs.Fronts.{reads_lines}
 use Rattle.replay_text.proofs.Scripts.{checked_ok, checked_err, steps_again, first_bad, never_size}
 use Rattle.replay_text.proofs.script.check_script.Goals as goal
 
-pub returns-then-text-gt-MOST_BYTES-clause-exact : goal.returns-then-text-gt-MOST_BYTES-clause-exact
+pub returns-then-text-gt-MAX_SCRIPT-clause-exact : goal.returns-then-text-gt-MAX_SCRIPT-clause-exact
 unfolding steps_of_script
-returns-then-text-gt-MOST_BYTES-clause-exact c = search rules
+returns-then-text-gt-MAX_SCRIPT-clause-exact c = search rules
 
 pub returns-clause-found : goal.returns-clause-found
 returns-clause-found c =
