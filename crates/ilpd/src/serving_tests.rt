@@ -22,7 +22,9 @@ use std::test::Fail;
 use std::thread::{Threads, join};
 use std::time::{Clock, Duration};
 use std::{io, thread};
-use wire::{FULFILL, FixedClock, Terms, bytes, good, posted, request, tenant_text};
+use wire::{
+    BEGINNING, FULFILL, FixedClock, Terms, bytes, good, joined, posted, request, tenant_text,
+};
 
 const CONFIG: &str =
     "0c460000000000000000323033303031303130303030313030303066687aadf862bd776c8fc18b8e9f8e20089714856ee233b3902a591d0d5f29250b706565722e636f6e66696700";
@@ -54,7 +56,7 @@ fn setup_holding(alloc: Global, port: u16, hold: u32) -> Result<String, Fail> {
             hold,
         },
     )?;
-    Ok(format!(in alloc; "version = 1\nstart = 1893456000000\n{tenant}")?)
+    joined(alloc, &[BEGINNING, tenant.as_str()])
 }
 
 // The same, for 400 milliseconds.
@@ -477,8 +479,13 @@ static REFUSALS: [(&str, &str); 3] = [
 
 // A request of acme's operator that is refused for its head, and whose body is a request that would be obeyed.
 fn refused_request(alloc: Global, stated: &str) -> Result<Vec<u8>, Fail> {
-    let head = format!(in alloc;
-        "POST /admin/acme HTTP/1.1\r\nAuthorization: Bearer root\r\n{stated}\r\n\r\n"
+    let head = joined(
+        alloc,
+        &[
+            "POST /admin/acme HTTP/1.1\r\nAuthorization: Bearer root\r\n",
+            stated,
+            "\r\n\r\n",
+        ],
     )?;
     let mut whole = Vec::new(alloc);
     whole.extend_from_slice(head.as_bytes())?;

@@ -267,7 +267,8 @@ static CHECKS: [(&str, Option<&str>, &str, u8); 6] = [
 fn what_check_says(rt: HostRuntime) -> Result<(), Fail> {
     let alloc = rt.alloc();
     for (lines, script, said, status) in CHECKS {
-        let setup = format!(in alloc; "{SETUP}{lines}")?;
+        let mut setup = String::from_str(alloc, SETUP)?;
+        setup.push_str(lines)?;
         let script = match script {
             Some(text) => Some(Script {
                 text: text.as_bytes(),

@@ -1,6 +1,8 @@
 //! Eight clients at once, in ten waves, each followed by a roll of both tenants.
 
-use super::wire::{FULFILL, Terms, bytes, good, posted, request, tenant_text};
+use super::wire::{
+    BEGINNING, FULFILL, Terms, bytes, digits, good, joined, posted, request, tenant_text,
+};
 use super::{ALL, serve_as};
 use crate::serving::{Extent, ServeFault};
 use std::alloc::Global;
@@ -51,11 +53,12 @@ pub struct Exchange {
 
 pub fn exchange_of(alloc: Global, name: &str) -> Result<Exchange, Fail> {
     let middle = hex::encode(alloc, name.as_bytes())?;
-    let frame = bytes(alloc, format!(in alloc; "{FRONT}{middle}{BACK}")?.as_str())?;
-    let ilp = format!(in alloc; "/ilp/{name}")?;
-    let admin = format!(in alloc; "/admin/{name}")?;
+    let frame = joined(alloc, &[FRONT, middle.as_str(), BACK])?;
+    let frame = bytes(alloc, frame.as_str())?;
+    let ilp = joined(alloc, &["/ilp/", name])?;
+    let admin = joined(alloc, &["/admin/", name])?;
     let command = b"peer limits bob 1000000 1000000000 1000000000";
-    let done = format!(in alloc; "{name} ok\n")?;
+    let done = joined(alloc, &[name, " ok\n"])?;
     Ok(Exchange {
         packet: request(alloc, ilp.as_str(), "tok-alice", frame.as_slice())?,
         fulfilled: good(
@@ -72,11 +75,26 @@ pub fn exchange_of(alloc: Global, name: &str) -> Result<Exchange, Fail> {
 
 // What a roll after so many waves, counted from 0, tells: four clients have sent 500 packets and 20 commands in each.
 fn rolled(alloc: Global, name: &str, wave: u32) -> Result<Vec<u8>, Fail> {
-    let waves = wave.saturating_add(1);
-    let alice = waves.saturating_mul(500_000);
-    let bob = waves.saturating_mul(750_000);
-    let text = format!(in alloc;
-        "{name} balance alice {alice} 0 0\n{name} balance bob -{bob} 0 0\n{name} rolled {wave} 1021\n"
+    let waves = (wave as usize).saturating_add(1);
+    let alice = digits(alloc, waves.saturating_mul(500_000))?;
+    let bob = digits(alloc, waves.saturating_mul(750_000))?;
+    let period = digits(alloc, wave as usize)?;
+    let text = joined(
+        alloc,
+        &[
+            name,
+            " balance alice ",
+            alice.as_str(),
+            " 0 0\n",
+            name,
+            " balance bob -",
+            bob.as_str(),
+            " 0 0\n",
+            name,
+            " rolled ",
+            period.as_str(),
+            " 1021\n",
+        ],
     )?;
     good(alloc, "text/plain", text.as_bytes())
 }
@@ -247,7 +265,7 @@ pub fn setup_text(alloc: Global, port: u16) -> Result<String, Fail> {
     };
     let acme = tenant_text(alloc, terms("acme"))?;
     let beta = tenant_text(alloc, terms("beta"))?;
-    Ok(format!(in alloc; "version = 1\nstart = 1893456000000\n{acme}{beta}")?)
+    joined(alloc, &[BEGINNING, acme.as_str(), beta.as_str()])
 }
 
 pub fn peer_answer(alloc: Global) -> Result<Vec<u8>, Fail> {

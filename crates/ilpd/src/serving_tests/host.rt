@@ -3,7 +3,7 @@
 use super::crowd::{
     Exchange, FRAME, connected, exchange_of, fulfils_all, is_told, peer_answer, setup_text,
 };
-use super::wire::{FixedClock, bytes, good, posted, request};
+use super::wire::{FixedClock, bytes, digits, good, joined, posted, request};
 use super::{CHILD, CONFIG, NOTHING_MORE, asked};
 use crate::hosting::HostDoor;
 use crate::serving::{Doors, Extent, ServeFault, serve};
@@ -85,27 +85,57 @@ fn serve_with_host<
 fn standing_text(alloc: Global, port: u16, acme: u64, beta: u64) -> Result<String, Fail> {
     let acme = tenant_standing(alloc, "acme", port, acme)?;
     let beta = tenant_standing(alloc, "beta", port, beta)?;
-    Ok(format!(in alloc; "start = 1893456000000\nversion = 2\n{acme}{beta}")?)
+    joined(
+        alloc,
+        &[
+            "start = 1893456000000\nversion = 2\n",
+            acme.as_str(),
+            beta.as_str(),
+        ],
+    )
 }
 
 // A tenant of which so many packets of 1,000 units were fulfilled, for 1,500 each.
 fn tenant_standing(alloc: Global, name: &str, port: u16, packets: u64) -> Result<String, Fail> {
-    let alice = packets.saturating_mul(1_000);
-    let bob = packets.saturating_mul(1_500);
-    let sign = if bob == 0 { "" } else { "-" };
-    Ok(format!(in alloc;
-        "
-[[tenant]]
-address = \"g.{name}\"
+    let alice = number(alloc, packets.saturating_mul(1_000))?;
+    let bob = number(alloc, packets.saturating_mul(1_500))?;
+    let sign = if packets == 0 { "" } else { "-" };
+    let port = number(alloc, u64::from(port))?;
+    joined(
+        alloc,
+        &[
+            "\n[[tenant]]\naddress = \"g.",
+            name,
+            TERMS,
+            name,
+            ALICE,
+            alice.as_str(),
+            ALICES,
+            sign,
+            bob.as_str(),
+            BOBS,
+            port.as_str(),
+            RATE,
+            name,
+            ".bob\"\n",
+        ],
+    )
+}
+
+const TERMS: &str = "\"
 admin = \"root\"
 hold = 30000
 journal = 2048
 margin = 1000
-name = \"{name}\"
+name = \"";
+
+const ALICE: &str = "\"
 
 [[tenant.peer]]
 asset = \"USD\"
-balance = {alice}
+balance = ";
+
+const ALICES: &str = "
 burst = 1000000
 cap = 1000000
 ceiling = 1000000000
@@ -120,7 +150,9 @@ url = \"http://127.0.0.1:7801/ilp\"
 
 [[tenant.peer]]
 asset = \"XRP\"
-balance = {sign}{bob}
+balance = ";
+
+const BOBS: &str = "
 burst = 1000000
 cap = 1000000
 ceiling = 1000000000
@@ -131,7 +163,9 @@ per_second = 1000000
 role = \"child\"
 scale = 9
 token = \"tok-bob\"
-url = \"http://127.0.0.1:{port}/ilp\"
+url = \"http://127.0.0.1:";
+
+const RATE: &str = "/ilp\"
 
 [[tenant.rate]]
 den = 2
@@ -142,16 +176,24 @@ to = \"bob\"
 [[tenant.route]]
 fee = 0
 peer = \"bob\"
-prefix = \"g.{name}.bob\"
-"
-    )?)
+prefix = \"g.";
+
+// A number in decimal digits.
+fn number(alloc: Global, number: u64) -> Result<String, Fail> {
+    Ok(number.to_string(alloc)?)
 }
 
 // An answer of status 200 at the host's door with that setup.
 fn told_setup(alloc: Global, text: &str) -> Result<Vec<u8>, Fail> {
-    let size = text.len();
-    let whole = format!(in alloc;
-        "HTTP/1.1 200 OK\r\nContent-Type: application/toml\r\nContent-Length: {size}\r\nConnection: close\r\n\r\n{text}"
+    let size = digits(alloc, text.len())?;
+    let whole = joined(
+        alloc,
+        &[
+            "HTTP/1.1 200 OK\r\nContent-Type: application/toml\r\nContent-Length: ",
+            size.as_str(),
+            "\r\nConnection: close\r\n\r\n",
+            text,
+        ],
     )?;
     Ok(whole.into_bytes())
 }
@@ -433,6 +475,22 @@ fn fulfilled_of(clients: &[Client], beta: bool) -> u64 {
 
 // What a stop leaves is what clients and peers were told: each packet that the peer fulfilled was told so, and stands in the
 // balances of the setup.
+// What a service prints that answered so many packets of each tenant.
+fn lines_after(alloc: Global, acme: u64, beta: u64) -> Result<String, Fail> {
+    let acme = number(alloc, acme)?;
+    let beta = number(alloc, beta)?;
+    joined(
+        alloc,
+        &[
+            "acme 200 ",
+            acme.as_str(),
+            " 4xx 0 503 0 link 0\nbeta 200 ",
+            beta.as_str(),
+            " 4xx 0 503 0 link 0\n",
+        ],
+    )
+}
+
 #[test]
 fn a_stop_loses_nothing(rt: HostRuntime) -> Result<(), Fail> {
     let alloc = rt.alloc();
@@ -444,9 +502,7 @@ fn a_stop_loses_nothing(rt: HostRuntime) -> Result<(), Fail> {
     assert!(rt; acme.saturating_add(beta) >= ENOUGH);
     assert!(rt; u64::from(stop.fulfilled?) == acme.saturating_add(beta));
     assert!(rt; stop.answer?.as_slice() == setup.as_slice());
-    let lines = format!(in alloc;
-        "acme 200 {acme} 4xx 0 503 0 link 0\nbeta 200 {beta} 4xx 0 503 0 link 0\n"
-    )?;
+    let lines = lines_after(alloc, acme, beta)?;
     assert_eq!(rt; stop.lines.as_slice(), lines.as_bytes());
     Ok(())
 }

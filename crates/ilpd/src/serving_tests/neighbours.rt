@@ -1,6 +1,6 @@
 //! Neighbours that bring nothing, and a tenant whose peer says nothing.
 
-use super::wire::{Terms, bytes, good, request, tenant_text};
+use super::wire::{BEGINNING, Terms, bytes, good, joined, request, tenant_text};
 use super::{
     ALL, BASE, NOTHING, NOTHING_MORE, UNREACHABLE, answer_of, asked, lonely_port, sent, serve_as,
     setup_with,
@@ -140,7 +140,7 @@ fn two_tenants(alloc: Global, acme: u16, beta: u16) -> Result<String, Fail> {
             ..terms
         },
     )?;
-    Ok(format!(in alloc; "version = 1\nstart = 1893456000000\n{first}{second}")?)
+    joined(alloc, &[BEGINNING, first.as_str(), second.as_str()])
 }
 
 // Of two places each tenant has one. Of acme's four packets one is with a peer that says nothing, one waits, and for two there

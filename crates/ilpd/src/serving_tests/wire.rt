@@ -33,21 +33,53 @@ pub struct Terms<'a> {
     pub hold: u32,
 }
 
+/// These texts, one behind the other.
+pub fn joined(alloc: Global, parts: &[&str]) -> Result<String, Fail> {
+    let mut text = String::new(alloc);
+    for part in parts {
+        text.push_str(part)?;
+    }
+    Ok(text)
+}
+
+/// A number in decimal digits.
+pub fn digits(alloc: Global, number: usize) -> Result<String, Fail> {
+    Ok(number.to_string(alloc)?)
+}
+
+/// How a setup begins.
+pub const BEGINNING: &str = "version = 1\nstart = 1893456000000\n";
+
 /// A tenant with two peers, and a rate from the first to the second one.
 pub fn tenant_text(alloc: Global, terms: Terms<'_>) -> Result<String, Fail> {
-    let Terms {
-        name,
-        port,
-        journal,
-        hold,
-    } = terms;
-    Ok(format!(in alloc;
-        "[[tenant]]
-name = \"{name}\"
-address = \"g.{name}\"
-admin = \"root\"
-journal = {journal}
-hold = {hold}
+    let name = terms.name;
+    let port = digits(alloc, terms.port as usize)?;
+    let journal = digits(alloc, terms.journal as usize)?;
+    let hold = digits(alloc, terms.hold as usize)?;
+    joined(
+        alloc,
+        &[
+            "[[tenant]]\nname = \"",
+            name,
+            "\"\naddress = \"g.",
+            name,
+            "\"\nadmin = \"root\"\njournal = ",
+            journal.as_str(),
+            "\nhold = ",
+            hold.as_str(),
+            ALICE,
+            "http://127.0.0.1:",
+            port.as_str(),
+            BOB,
+            "[[tenant.route]]\nprefix = \"g.",
+            name,
+            ".bob\"\npeer = \"bob\"\n",
+            RATE,
+        ],
+    )
+}
+
+const ALICE: &str = "
 [[tenant.peer]]
 name = \"alice\"
 role = \"peer\"
@@ -65,7 +97,9 @@ per_second = 1000000
 name = \"bob\"
 role = \"child\"
 token = \"tok-bob\"
-url = \"http://127.0.0.1:{port}/ilp\"
+url = \"";
+
+const BOB: &str = "/ilp\"
 out_token = \"out-bob\"
 asset = \"XRP\"
 scale = 9
@@ -74,41 +108,62 @@ ceiling = 1000000000
 credit = 1000000000
 burst = 1000000
 per_second = 1000000
-[[tenant.route]]
-prefix = \"g.{name}.bob\"
-peer = \"bob\"
-[[tenant.rate]]
+";
+
+const RATE: &str = "[[tenant.rate]]
 from = \"alice\"
 to = \"bob\"
 num = 3
 den = 2
-"
-    )?)
-}
+";
 
 /// A request with that token and that body.
 pub fn request(alloc: Global, path: &str, token: &str, body: &[u8]) -> Result<Vec<u8>, Fail> {
-    let size = body.len();
-    let head = format!(in alloc;
-        "POST {path} HTTP/1.1\r\nAuthorization: Bearer {token}\r\nContent-Length: {size}\r\n\r\n"
+    let size = digits(alloc, body.len())?;
+    let head = joined(
+        alloc,
+        &[
+            "POST ",
+            path,
+            " HTTP/1.1\r\nAuthorization: Bearer ",
+            token,
+            "\r\nContent-Length: ",
+            size.as_str(),
+            "\r\n\r\n",
+        ],
     )?;
     with_body(alloc, head.as_str(), body)
 }
 
 /// An answer of status 200 with that body.
 pub fn good(alloc: Global, kind: &str, body: &[u8]) -> Result<Vec<u8>, Fail> {
-    let size = body.len();
-    let head = format!(in alloc;
-        "HTTP/1.1 200 OK\r\nContent-Type: {kind}\r\nContent-Length: {size}\r\n\r\n"
+    let size = digits(alloc, body.len())?;
+    let head = joined(
+        alloc,
+        &[
+            "HTTP/1.1 200 OK\r\nContent-Type: ",
+            kind,
+            "\r\nContent-Length: ",
+            size.as_str(),
+            "\r\n\r\n",
+        ],
     )?;
     with_body(alloc, head.as_str(), body)
 }
 
 /// What the peer that listens at the port is sent for that packet.
 pub fn posted(alloc: Global, port: u16, frame: &[u8]) -> Result<Vec<u8>, Fail> {
-    let size = frame.len();
-    let head = format!(in alloc;
-        "POST /ilp HTTP/1.1\r\nHost: 127.0.0.1:{port}\r\nAuthorization: Bearer out-bob\r\nAccept: application/octet-stream\r\nContent-Type: application/octet-stream\r\nContent-Length: {size}\r\nConnection: close\r\n\r\n"
+    let port = digits(alloc, port as usize)?;
+    let size = digits(alloc, frame.len())?;
+    let head = joined(
+        alloc,
+        &[
+            "POST /ilp HTTP/1.1\r\nHost: 127.0.0.1:",
+            port.as_str(),
+            "\r\nAuthorization: Bearer out-bob\r\nAccept: application/octet-stream\r\nContent-Type: application/octet-stream\r\nContent-Length: ",
+            size.as_str(),
+            "\r\nConnection: close\r\n\r\n",
+        ],
     )?;
     with_body(alloc, head.as_str(), frame)
 }
