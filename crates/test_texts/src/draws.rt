@@ -14,10 +14,12 @@ impl Draws {
     }
 
     fn next(&mut self) -> u64 {
-        self.state ^= self.state << 13;
-        self.state ^= self.state >> 7;
-        self.state ^= self.state << 17;
-        self.state
+        let drawn = self.state;
+        let drawn = drawn ^ (drawn << 13);
+        let drawn = drawn ^ (drawn >> 7);
+        let drawn = drawn ^ (drawn << 17);
+        self.state = drawn;
+        drawn
     }
 
     /// A number below `end`, and 0 where there is none.
