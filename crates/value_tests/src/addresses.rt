@@ -1,39 +1,63 @@
 //! Addresses, prefixes (RFC 0015) and moments (RFC 0027).
 
+use crate::rows::expect;
 use common_types::ReadError;
 use ilp_addr::{AddrFault, Address, Moment, Prefix, Stamp};
+use std::alloc::Global;
+use std::process::Abort;
 use std::test::Fail;
+
+// A text, and why it is no address.
+static ADDRESSES: [(&[u8], Option<AddrFault>); 9] = [
+    (b"g.a", None),
+    (b"g", Some(AddrFault::Scheme)),
+    (b"test4.a", Some(AddrFault::Scheme)),
+    (b".g.a", Some(AddrFault::Scheme)),
+    (b"g..a", Some(AddrFault::Segment)),
+    (b"g.a.", Some(AddrFault::Segment)),
+    (b"g.a b", Some(AddrFault::Segment)),
+    (b"peer.config", None),
+    (b"", Some(AddrFault::Scheme)),
+];
+
+fn expect_faults(rt: &impl Abort, rows: &[(&[u8], Option<AddrFault>)]) {
+    for (bytes, fault) in rows {
+        expect(rt, bytes, Address::parse(bytes).err() == *fault);
+    }
+}
+
+fn length_of(bytes: &[u8]) -> Result<usize, AddrFault> {
+    Ok(Address::parse(bytes)?.bytes().len())
+}
+
+// `g.` and then so many times `a` that there are that many bytes.
+fn of_length(alloc: Global, length: usize) -> Result<Vec<u8>, Fail> {
+    let mut bytes = Vec::from_slice(alloc, b"g.")?;
+    for _ in 2..length {
+        bytes.push(b'a')?;
+    }
+    Ok(bytes)
+}
+
+static SEGMENTS: [&[u8]; 3] = [b"test1", b"A0_~-", b"bob"];
+
+fn expect_segments(rt: &impl Abort, address: &[u8], wanted: &[&[u8]]) -> Result<(), Fail> {
+    let address = Address::parse(address).ok().ok_or("an address")?;
+    let mut segments = address.segments();
+    for segment in wanted {
+        assert!(rt; segments.next() == Some(*segment));
+    }
+    assert!(rt; segments.next() == None);
+    Ok(())
+}
 
 #[test]
 fn addresses(rt: HostRuntime) -> Result<(), Fail> {
-    let rows: [(&[u8], Option<AddrFault>); 9] = [
-        (b"g.a", None),
-        (b"g", Some(AddrFault::Scheme)),
-        (b"test4.a", Some(AddrFault::Scheme)),
-        (b".g.a", Some(AddrFault::Scheme)),
-        (b"g..a", Some(AddrFault::Segment)),
-        (b"g.a.", Some(AddrFault::Segment)),
-        (b"g.a b", Some(AddrFault::Segment)),
-        (b"peer.config", None),
-        (b"", Some(AddrFault::Scheme)),
-    ];
-    for (bytes, fault) in rows {
-        assert!(rt; Address::parse(bytes).err() == fault, "{bytes:?}");
-    }
-    let mut longest = [b'a'; 1024];
-    longest[0] = b'g';
-    longest[1] = b'.';
-    assert!(rt; Address::parse(&longest).err() == Some(AddrFault::Length));
-    let address = Address::parse(&longest[..1023]).ok().ok_or("1023 bytes")?;
-    assert!(rt; address.bytes().len() == 1023);
-
-    let address = Address::parse(b"test1.A0_~-.bob").ok().ok_or("an address")?;
-    let mut segments = address.segments();
-    let parts: [Option<&[u8]>; 4] = [Some(b"test1"), Some(b"A0_~-"), Some(b"bob"), None];
-    for part in parts {
-        assert!(rt; segments.next() == part);
-    }
-    Ok(())
+    expect_faults(&rt, &ADDRESSES);
+    let alloc = rt.alloc();
+    assert!(rt; length_of(&of_length(alloc, 1024)?) == Err(AddrFault::Length));
+    assert!(rt; length_of(&of_length(alloc, 1023)?) == Ok(1023));
+    expect_segments(&rt, b"test1.A0_~-.bob", &SEGMENTS)
 }
 
 #[test]
@@ -68,28 +92,33 @@ fn prefixes(rt: HostRuntime) -> Result<(), Fail> {
     Ok(())
 }
 
-#[test]
-fn stamps(rt: HostRuntime) -> Result<(), Fail> {
-    // Python's datetime gives these moments.
-    let moments: [(&[u8; 17], u64); 10] = [
-        (b"19700101000000000", 0),
-        (b"19700101000000001", 1),
-        (b"19720229010203004", 68_173_323_004),
-        (b"20000229235959999", 951_868_799_999),
-        (b"20000301000000000", 951_868_800_000),
-        (b"20231231123456789", 1_704_026_096_789),
-        (b"20240229000000000", 1_709_164_800_000),
-        (b"21000301000000000", 4_107_542_400_000),
-        (b"99991229235959999", 253_402_127_999_999),
-        (b"99991230000000000", 253_402_128_000_000),
-    ];
-    for (text, moment) in moments {
-        assert!(rt; Stamp::parse(text) == Ok(moment));
-        assert!(rt; moment <= 253_402_128_000_000);
+// A text and its moment: Python's datetime gives them.
+static MOMENTS: [(&[u8; 17], u64); 10] = [
+    (b"19700101000000000", 0),
+    (b"19700101000000001", 1),
+    (b"19720229010203004", 68_173_323_004),
+    (b"20000229235959999", 951_868_799_999),
+    (b"20000301000000000", 951_868_800_000),
+    (b"20231231123456789", 1_704_026_096_789),
+    (b"20240229000000000", 1_709_164_800_000),
+    (b"21000301000000000", 4_107_542_400_000),
+    (b"99991229235959999", 253_402_127_999_999),
+    (b"99991230000000000", 253_402_128_000_000),
+];
+
+fn expect_moments(rt: &impl Abort, rows: &[(&[u8; 17], u64)]) {
+    for (text, moment) in rows {
+        assert!(rt; Stamp::parse(text) == Ok(*moment));
+        assert!(rt; *moment <= 253_402_128_000_000);
         let mut written = [0; 17];
-        Stamp::write(moment, &mut written);
+        Stamp::write(*moment, &mut written);
         assert!(rt; written.as_slice() == text.as_slice());
     }
+}
+
+#[test]
+fn stamps(rt: HostRuntime) -> Result<(), Fail> {
+    expect_moments(&rt, &MOMENTS);
     let moment = Moment::new(253_400_000_000_000).ok_or("the greatest moment")?;
     assert!(rt; moment.millis() == 253_400_000_000_000);
     assert!(rt; Moment::new(253_400_000_000_001).is_none());

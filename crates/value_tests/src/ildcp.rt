@@ -1,8 +1,11 @@
 //! The configuration of children (RFC 0031): answers that were worked out by hand, and what is refused.
 
+use crate::rows::{expect, expect_at};
 use common_types::{AssetCode, Name};
 use ildcp_core::{Child, ChildParts, IldcpFault, Role, answer, check, is_config};
 use ilp_addr::{Address, OwnAddress};
+use std::alloc::Global;
+use std::process::Abort;
 use std::test::Fail;
 
 // The SHA-256 of 32 zero bytes: `head -c 32 /dev/zero | sha256sum` gives it.
@@ -28,71 +31,117 @@ fn peer<'a>(role: Role, tenant: &'a OwnAddress, parts: &'a (Name, AssetCode)) ->
     })
 }
 
+fn joined(alloc: Global, parts: &[&[u8]]) -> Result<Vec<u8>, Fail> {
+    let mut bytes = Vec::new(alloc);
+    for part in parts {
+        bytes.extend_from_slice(part)?;
+    }
+    Ok(bytes)
+}
+
+// The answer is these parts behind one another, and every byte after it stays.
+fn expect_answer(
+    rt: &impl Abort,
+    alloc: Global,
+    child: &Child<'_>,
+    parts: &[&[u8]],
+) -> Result<(), Fail> {
+    let mut wanted = joined(alloc, parts)?;
+    let mut out = [7; 1000];
+    assert!(rt; answer(child, &mut out) == wanted.len());
+    for _ in wanted.len()..1000 {
+        wanted.push(7)?;
+    }
+    assert!(rt; out.as_slice() == wanted.as_slice());
+    Ok(())
+}
+
 #[test]
 fn answers(rt: HostRuntime) -> Result<(), Fail> {
     let tenant = OwnAddress::new(b"g.acme").ok_or("an address")?;
     let parts = parts(b"bob", b"XRP")?;
     let bob = peer(Role::Child, &tenant, &parts);
-    let mut out = [7; 1000];
-    assert!(rt; answer(&bob, &mut out) == 51);
-    let mut wanted = [7; 1000];
-    wanted[..2].copy_from_slice(b"\x0d\x31");
-    wanted[2..34].copy_from_slice(&[0; 32]);
-    wanted[34..51].copy_from_slice(b"\x10\x0ag.acme.bob\x09\x03XRP");
-    assert!(rt; out == wanted);
-    Ok(())
+    expect_answer(
+        &rt,
+        rt.alloc(),
+        &bob,
+        &[b"\x0d\x31", &[0; 32], b"\x10\x0ag.acme.bob\x09\x03XRP"],
+    )
 }
 
 #[test]
 fn longest_answer(rt: HostRuntime) -> Result<(), Fail> {
-    let mut tenant = [b'a'; 900];
-    tenant[..2].copy_from_slice(b"g.");
+    let alloc = rt.alloc();
+    let tenant = joined(alloc, &[b"g.", &[b'a'; 898]])?;
     let address = OwnAddress::new(&tenant).ok_or("an address")?;
     let parts = parts(&[b'-'; 32], &[b'C'; 16])?;
     let child = peer(Role::Child, &address, &parts);
-    let mut out = [7; 1000];
-    assert!(rt; answer(&child, &mut out) == 993);
-    let mut wanted = [7; 1000];
-    wanted[..4].copy_from_slice(b"\x0d\x82\x03\xdd");
-    wanted[4..36].copy_from_slice(&[0; 32]);
-    wanted[36..42].copy_from_slice(b"\x82\x03\xba\x82\x03\xa5");
-    wanted[42..942].copy_from_slice(&tenant);
-    wanted[942] = b'.';
-    wanted[943..975].copy_from_slice(&[b'-'; 32]);
-    wanted[975..977].copy_from_slice(b"\x09\x10");
-    wanted[977..993].copy_from_slice(&[b'C'; 16]);
-    assert!(rt; out == wanted);
+    expect_answer(
+        &rt,
+        alloc,
+        &child,
+        &[
+            b"\x0d\x82\x03\xdd",
+            &[0; 32],
+            b"\x82\x03\xba\x82\x03\xa5",
+            &tenant,
+            b".",
+            &[b'-'; 32],
+            b"\x09\x10",
+            &[b'C'; 16],
+        ],
+    )
+}
+
+type Request = (Role, u64, u8, Result<(), IldcpFault>);
+
+// Who asks, the amount, the last byte of the condition, and what is wrong.
+static REQUESTS: [Request; 6] = [
+    (Role::Child, 0, 0x25, Ok(())),
+    (Role::Child, 0, 0x24, Err(IldcpFault::Condition)),
+    (Role::Child, 1, 0x25, Err(IldcpFault::Amount)),
+    (Role::Child, u64::MAX, 0x24, Err(IldcpFault::Amount)),
+    (Role::Peer, 0, 0x25, Err(IldcpFault::NotChild)),
+    (Role::Peer, 1, 0x24, Err(IldcpFault::NotChild)),
+];
+
+fn checked(child: &Child<'_>, amount: u64, last: u8) -> Result<(), IldcpFault> {
+    let mut condition = CONDITION;
+    condition[31] = last;
+    check(child, amount, &condition)
+}
+
+fn expect_checked(rt: &impl Abort, rows: &[Request]) -> Result<(), Fail> {
+    let tenant = OwnAddress::new(b"g.acme").ok_or("an address")?;
+    let parts = parts(b"alice", b"USD")?;
+    for (role, amount, last, wanted) in rows {
+        let child = peer(*role, &tenant, &parts);
+        expect_at(rt, *amount, checked(&child, *amount, *last) == *wanted);
+    }
+    Ok(())
+}
+
+// A destination, and whether it is the one that configurations are asked of.
+static DESTINATIONS: [(&[u8], bool); 5] = [
+    (b"peer.config", true),
+    (b"peer.config.x", false),
+    (b"peer.configs", false),
+    (b"peer.Config", false),
+    (b"g.config", false),
+];
+
+fn expect_destinations(rt: &impl Abort, rows: &[(&[u8], bool)]) -> Result<(), Fail> {
+    for (destination, wanted) in rows {
+        let address = Address::parse(destination).ok().ok_or("an address")?;
+        expect(rt, destination, is_config(&address) == *wanted);
+    }
     Ok(())
 }
 
 #[test]
 fn requests(rt: HostRuntime) -> Result<(), Fail> {
-    let tenant = OwnAddress::new(b"g.acme").ok_or("an address")?;
-    let parts = parts(b"alice", b"USD")?;
-    for (role, amount, last, wanted) in [
-        (Role::Child, 0, 0x25, Ok(())),
-        (Role::Child, 0, 0x24, Err(IldcpFault::Condition)),
-        (Role::Child, 1, 0x25, Err(IldcpFault::Amount)),
-        (Role::Child, u64::MAX, 0x24, Err(IldcpFault::Amount)),
-        (Role::Peer, 0, 0x25, Err(IldcpFault::NotChild)),
-        (Role::Peer, 1, 0x24, Err(IldcpFault::NotChild)),
-    ] {
-        let child = peer(role, &tenant, &parts);
-        let mut condition = CONDITION;
-        condition[31] = last;
-        assert!(rt; check(&child, amount, &condition) == wanted, "{amount}");
-    }
-    for (destination, wanted) in [
-        (b"peer.config".as_slice(), true),
-        (b"peer.config.x".as_slice(), false),
-        (b"peer.configs".as_slice(), false),
-        (b"peer.Config".as_slice(), false),
-        (b"g.config".as_slice(), false),
-    ] {
-        let address = Address::parse(destination).ok().ok_or("an address")?;
-        assert!(rt; is_config(&address) == wanted, "{destination:?}");
-    }
-    Ok(())
+    expect_checked(&rt, &REQUESTS)?;
+    expect_destinations(&rt, &DESTINATIONS)
 }
 
 #[test]

@@ -19,6 +19,8 @@ mod purses;
 #[cfg(test)]
 mod routes;
 #[cfg(test)]
+mod rows;
+#[cfg(test)]
 mod seats;
 #[cfg(test)]
 mod targets;

@@ -2,11 +2,13 @@
 
 ghost use Rattle.std.specs.Prelude.{◌≡◌, ◌≤◌, length};
 
+use crate::rows::expect;
 use ilp_view::laws::written_frames_are_short;
 use ilp_view::{
     FulfillView, PrepareMut, PrepareView, RejectView, ViewFault, write_fulfill, write_reject,
 };
 use std::alloc::Global;
+use std::process::Abort;
 use std::test::Fail;
 use test_texts::filled;
 
@@ -39,20 +41,47 @@ fn is_base(view: &PrepareView<'_>, condition: &[u8]) -> bool {
         && view.payload().is_empty()
 }
 
+// Writes 1,500 units until 2030-01-01T00:00:09Z into a Prepare.
+fn forward(frame: &mut [u8]) -> Result<(), ViewFault> {
+    let mut prepare = PrepareMut::read(frame)?;
+    let (amount, expiry) = prepare.lend();
+    amount.copy_from_slice(&1500u64.to_be_bytes());
+    expiry.copy_from_slice(b"20300101000009000");
+    Ok(())
+}
+
+fn expect_forwarded(
+    rt: &impl Abort,
+    frame: &mut [u8],
+    condition: &[u8],
+    sent_on: &[u8],
+) -> Result<(), ViewFault> {
+    assert!(rt; is_base(&PrepareView::read(frame)?, condition));
+    forward(frame)?;
+    assert!(rt; *frame == *sent_on);
+    Ok(())
+}
+
 #[test]
 fn prepares(rt: HostRuntime) -> Result<(), Fail> {
     let alloc = rt.alloc();
     let condition = frame(alloc, "{condition}")?;
     for (came, sent_on) in [("{base}", "{sent}"), ("{long}", "{long sent}")] {
-        let came = frame(alloc, came)?;
-        let view = PrepareView::read(came.as_slice())?;
-        assert!(rt; is_base(&view, condition.as_slice()));
-        let mut forwarded = came.clone()?;
-        let mut prepare = PrepareMut::read(forwarded.as_mut_slice())?;
-        let (amount, expiry) = prepare.lend();
-        amount.copy_from_slice(&1500u64.to_be_bytes());
-        expiry.copy_from_slice(b"20300101000009000");
-        assert!(rt; forwarded.as_slice() == frame(alloc, sent_on)?.as_slice());
+        let mut came = frame(alloc, came)?;
+        let sent_on = frame(alloc, sent_on)?;
+        expect_forwarded(&rt, &mut came, &condition, &sent_on)?;
+    }
+    Ok(())
+}
+
+fn expect_faulty(rt: &impl Abort, alloc: Global, rows: &[(&str, ViewFault)]) -> Result<(), Fail> {
+    for (text, fault) in rows {
+        let bytes = frame(alloc, text)?;
+        expect(
+            rt,
+            text.as_bytes(),
+            PrepareView::read(&bytes).err() == Some(*fault),
+        );
     }
     Ok(())
 }
@@ -60,16 +89,9 @@ fn prepares(rt: HostRuntime) -> Result<(), Fail> {
 #[test]
 fn frames_that_are_no_prepares(rt: HostRuntime) -> Result<(), Fail> {
     let alloc = rt.alloc();
-    for (text, fault) in FAULTY {
-        let bytes = frame(alloc, text)?;
-        assert!(rt;
-            PrepareView::read(bytes.as_slice()).err() == Some(fault),
-            "{text}"
-        );
-    }
-    let large = "0c".repeat(alloc, 34_001)?;
-    let large = frame(alloc, large.as_str())?;
-    assert!(rt; PrepareView::read(large.as_slice()).err() == Some(ViewFault::Size));
+    expect_faulty(&rt, alloc, &FAULTY)?;
+    let large = vec![in alloc; 0x0c; 34_001]?;
+    assert!(rt; PrepareView::read(&large).err() == Some(ViewFault::Size));
     Ok(())
 }
 
@@ -124,8 +146,16 @@ fn prepares_at_their_limits(rt: HostRuntime) -> Result<(), Fail> {
 
 const AMOUNTS: &[u8; 16] = b"\0\0\0\0\0\0\x03\xe8\0\0\0\0\0\0\x03\xe7";
 
+type Reject = (
+    &'static str,
+    &'static [u8],
+    &'static [u8],
+    &'static [u8],
+    &'static [u8],
+);
+
 // A Reject, and its code, sender, message and data.
-static REJECTS: [(&str, &[u8], &[u8], &[u8], &[u8]); 3] = [
+static REJECTS: [Reject; 3] = [
     ("0e074630300001ff00", b"F00", b"", b"\xff", b""),
     ("0e0746303001410000", b"F00", b"A", b"", b""),
     (
@@ -137,47 +167,68 @@ static REJECTS: [(&str, &[u8], &[u8], &[u8], &[u8]); 3] = [
     ),
 ];
 
-#[test]
-fn rejects(rt: HostRuntime) -> Result<(), Fail> {
-    let alloc = rt.alloc();
-    for (text, code, triggered_by, message, payload) in REJECTS {
+fn expect_rejects(rt: &impl Abort, alloc: Global, rows: &[Reject]) -> Result<(), Fail> {
+    for (text, code, triggered_by, message, payload) in rows {
         let bytes = frame(alloc, text)?;
-        let view = RejectView::read(bytes.as_slice())?;
-        assert!(rt; view.code() == code);
-        assert!(rt; view.triggered_by() == triggered_by);
-        assert!(rt; view.message() == message);
-        assert!(rt; view.payload() == payload);
+        let view = RejectView::read(&bytes)?;
+        assert!(rt; view.code() == *code);
+        assert!(rt; view.triggered_by() == *triggered_by);
+        assert!(rt; view.message() == *message);
+        assert!(rt; view.payload() == *payload);
     }
+    Ok(())
+}
+
+// What is given where the last of the Rejects is written.
+fn write_last(out: &mut [u8]) -> Result<usize, ViewFault> {
     written_frames_are_short();
-    let mut out = [9; 47];
-    let written = write_reject(&mut out, b"F08", b"g.acme", b"amount too large", AMOUNTS);
-    assert!(rt; written == Ok(46));
+    write_reject(out, b"F08", b"g.acme", b"amount too large", AMOUNTS)
+}
+
+fn expect_last_written(rt: &impl Abort, alloc: Global) -> Result<(), Fail> {
     let mut expected = frame(alloc, "{F08 1000 999}")?;
     expected.push(9)?;
-    assert!(rt; out.as_slice() == expected.as_slice());
-    let mut little = [9; 45];
-    let written = write_reject(&mut little, b"F08", b"g.acme", b"amount too large", AMOUNTS);
-    assert!(rt; written == Err(ViewFault::Short));
-    assert!(rt; little == [9; 45]);
+    let mut out = vec![in alloc; 9; 47]?;
+    assert!(rt; write_last(&mut out) == Ok(46));
+    assert!(rt; out == expected);
     Ok(())
 }
 
 #[test]
-fn fulfills(rt: HostRuntime) -> Result<(), Fail> {
+fn rejects(rt: HostRuntime) -> Result<(), Fail> {
     let alloc = rt.alloc();
-    let mut extended = [0; 36];
-    extended[..2].copy_from_slice(b"\x0d\x22");
-    extended[35] = 0x55;
-    let view = FulfillView::read(&extended)?;
+    expect_rejects(&rt, alloc, &REJECTS)?;
+    expect_last_written(&rt, alloc)?;
+    let mut little = [9; 45];
+    assert!(rt; write_last(&mut little) == Err(ViewFault::Short));
+    assert!(rt; little == [9; 45]);
+    Ok(())
+}
+
+fn expect_fulfill(rt: &impl Abort, frame: &[u8]) -> Result<(), Fail> {
+    let view = FulfillView::read(frame)?;
     assert!(rt; view.fulfillment() == [0; 32].as_slice());
     assert!(rt; view.payload().is_empty());
+    Ok(())
+}
+
+fn fault_of_fulfill(frame: &[u8]) -> Option<ViewFault> {
+    FulfillView::read(frame).err()
+}
+
+#[test]
+fn fulfills(rt: HostRuntime) -> Result<(), Fail> {
+    let mut extended = [0; 36];
+    extended[0] = 0x0d;
+    extended[1] = 0x22;
+    extended[35] = 0x55;
+    expect_fulfill(&rt, &extended)?;
     let mut out = [9; 36];
     assert!(rt; write_fulfill(&mut out, &[0; 32], b"") == Ok(35));
     extended[1] = 0x21;
     extended[35] = 9;
     assert!(rt; out == extended);
-    assert!(rt; matches!(FulfillView::read(&out), Err(ViewFault::AfterEnd)));
-    let prepare = frame(alloc, "{base}")?;
-    assert!(rt; matches!(FulfillView::read(prepare.as_slice()), Err(ViewFault::Kind)));
+    assert!(rt; fault_of_fulfill(&out) == Some(ViewFault::AfterEnd));
+    assert!(rt; fault_of_fulfill(&frame(rt.alloc(), "{base}")?) == Some(ViewFault::Kind));
     Ok(())
 }

@@ -1,47 +1,69 @@
 //! Routes: the longest prefix by whole segments (RFC 0015).
 
+use crate::rows::expect;
 use ilp_addr::{Address, Prefix};
 use route_table::{Fee, Hop, PeerNo, RouteFault, Routes};
 use std::alloc::Global;
 use std::process::Abort;
 use std::test::Fail;
 
-fn prefix(alloc: Global, bytes: &[u8]) -> Result<Prefix, Fail> {
-    Ok(Prefix::parse(alloc, bytes).ok().ok_or("a prefix")?)
-}
-
-fn peer_for(routes: &Routes, destination: &[u8]) -> Result<Option<PeerNo>, Fail> {
-    let destination = Address::parse(destination).ok().ok_or("an address")?;
-    let Some(hop) = routes.find(&destination) else {
-        return Ok(None);
-    };
-    if hop.fee.get() != fee_of(hop.peer) {
-        return Err(Fail::from("its fee"));
-    }
-    Ok(Some(hop.peer))
-}
-
 // Each peer's routes have a fee of their own.
 fn fee_of(peer: PeerNo) -> u64 {
     u64::from(peer).saturating_mul(10)
 }
 
+// What adding a route gives, and `None` where the bytes are no prefix.
 fn add(
     alloc: Global,
     routes: &mut Routes,
     bytes: &[u8],
     peer: PeerNo,
-) -> Result<Result<(), RouteFault>, Fail> {
-    let fee = Fee::new(fee_of(peer)).ok_or("a fee")?;
-    Ok(routes.add(prefix(alloc, bytes)?, Hop { peer, fee }))
+) -> Option<Result<(), RouteFault>> {
+    let prefix = Prefix::parse(alloc, bytes).ok()?;
+    let fee = Fee::new(fee_of(peer))?;
+    Some(routes.add(prefix, Hop { peer, fee }))
 }
 
-fn remove(
+// What removing a route gives, and `None` where the bytes are no prefix.
+fn remove(alloc: Global, routes: &mut Routes, bytes: &[u8]) -> Option<Result<(), RouteFault>> {
+    let prefix = Prefix::parse(alloc, bytes).ok()?;
+    Some(routes.remove(&prefix))
+}
+
+// Whether packets for that destination go to that peer, at its fee, or to nobody.
+fn goes_to(routes: &Routes, destination: &[u8], peer: Option<PeerNo>) -> bool {
+    let Ok(destination) = Address::parse(destination) else {
+        return false;
+    };
+    match routes.find(&destination) {
+        Some(hop) => Some(hop.peer) == peer && hop.fee.get() == fee_of(hop.peer),
+        None => peer.is_none(),
+    }
+}
+
+fn expect_peer(rt: &impl Abort, routes: &Routes, destination: &[u8], wanted: Option<PeerNo>) {
+    expect(rt, destination, goes_to(routes, destination, wanted));
+}
+
+fn expect_add(
+    rt: &impl Abort,
     alloc: Global,
     routes: &mut Routes,
     bytes: &[u8],
-) -> Result<Result<(), RouteFault>, Fail> {
-    Ok(routes.remove(&prefix(alloc, bytes)?))
+    peer: PeerNo,
+    wanted: Result<(), RouteFault>,
+) {
+    expect(rt, bytes, add(alloc, routes, bytes, peer) == Some(wanted));
+}
+
+fn expect_remove(
+    rt: &impl Abort,
+    alloc: Global,
+    routes: &mut Routes,
+    bytes: &[u8],
+    wanted: Result<(), RouteFault>,
+) {
+    expect(rt, bytes, remove(alloc, routes, bytes) == Some(wanted));
 }
 
 static ROWS: [(&[u8], PeerNo); 3] = [(b"g.acme", 1), (b"g.acme.bo", 2), (b"", 3)];
@@ -54,49 +76,63 @@ static FOUND: [(&[u8], PeerNo); 5] = [
     (b"test.x", 3),
 ];
 
-fn expect_added(rt: &impl Abort, alloc: Global, routes: &mut Routes) -> Result<(), Fail> {
+fn expect_rows_added(rt: &impl Abort, alloc: Global, routes: &mut Routes) {
     assert!(rt; routes.is_empty());
     for (bytes, peer) in &ROWS {
-        assert!(rt; add(alloc, routes, bytes, *peer)? == Ok(()));
-        assert!(rt; add(alloc, routes, bytes, 4)? == Err(RouteFault::Present));
+        expect_add(rt, alloc, routes, bytes, *peer, Ok(()));
+        expect_add(rt, alloc, routes, bytes, 4, Err(RouteFault::Present));
     }
+}
+
+fn expect_rows_copied(rt: &impl Abort, alloc: Global, routes: &Routes) -> Result<(), Fail> {
+    let copied = copy_of(alloc, routes)?;
+    expect_found(rt, &copied, &FOUND);
     Ok(())
 }
 
-fn expect_copied(rt: &impl Abort, alloc: Global, routes: &Routes) -> Result<(), Fail> {
-    let copied = routes.copy(alloc)?;
-    assert!(rt; copied.len() == 3);
-    for (destination, peer) in &FOUND {
-        assert!(rt; peer_for(&copied, destination)? == Some(*peer));
+fn expect_found(rt: &impl Abort, routes: &Routes, rows: &[(&[u8], PeerNo)]) {
+    assert!(rt; routes.len() == 3);
+    for (destination, peer) in rows {
+        expect_peer(rt, routes, destination, Some(*peer));
     }
-    Ok(())
 }
 
-fn expect_removed(rt: &impl Abort, alloc: Global, routes: &mut Routes) -> Result<(), Fail> {
-    assert!(rt; remove(alloc, routes, b"")? == Ok(()));
-    assert!(rt; remove(alloc, routes, b"")? == Err(RouteFault::Absent));
-    assert!(rt; peer_for(routes, b"test.x")? == None);
-    assert!(rt; peer_for(routes, b"g.acme.bo.x")? == Some(2));
+fn expect_default_removed(rt: &impl Abort, alloc: Global, routes: &mut Routes) {
+    expect_remove(rt, alloc, routes, b"", Ok(()));
+    expect_remove(rt, alloc, routes, b"", Err(RouteFault::Absent));
+    expect_peer(rt, routes, b"test.x", None);
+    expect_peer(rt, routes, b"g.acme.bo.x", Some(2));
     assert!(rt; routes.names_peer(2) && !routes.names_peer(3));
     assert!(rt; routes.names_only_below(3) && !routes.names_only_below(2));
-    Ok(())
 }
 
 #[test]
 fn longest_prefix_by_segments(rt: HostRuntime) -> Result<(), Fail> {
     let alloc = rt.alloc();
     let mut routes = Routes::new(alloc);
-    expect_added(&rt, alloc, &mut routes)?;
-    expect_copied(&rt, alloc, &routes)?;
-    expect_removed(&rt, alloc, &mut routes)
+    expect_rows_added(&rt, alloc, &mut routes);
+    expect_rows_copied(&rt, alloc, &routes)?;
+    expect_default_removed(&rt, alloc, &mut routes);
+    Ok(())
+}
+
+fn add_all(alloc: Global, routes: &mut Routes, rows: &[(&[u8], PeerNo)]) -> Result<(), Fail> {
+    for (bytes, peer) in rows {
+        if add(alloc, routes, bytes, *peer) != Some(Ok(())) {
+            return Err(Fail::from("a route"));
+        }
+    }
+    Ok(())
 }
 
 fn routes_of(alloc: Global, rows: &[(&[u8], PeerNo)]) -> Result<Routes, Fail> {
     let mut routes = Routes::new(alloc);
-    for (bytes, peer) in rows {
-        add(alloc, &mut routes, bytes, *peer)??;
-    }
+    add_all(alloc, &mut routes, rows)?;
     Ok(routes)
+}
+
+fn copy_of(alloc: Global, routes: &Routes) -> Result<Routes, Fail> {
+    Ok(routes.copy(alloc)?)
 }
 
 // `g` and 511 segments of one byte: the most segments that 1,023 bytes have room for.
@@ -110,23 +146,22 @@ fn deepest(alloc: Global) -> Result<Vec<u8>, Fail> {
 
 static NESTED: [(&[u8], PeerNo); 4] = [(b"", 1), (b"g", 2), (b"g.acme", 3), (b"g.acme.bob.x.y", 4)];
 
-fn expect_next_best(rt: &impl Abort, alloc: Global, routes: &mut Routes) -> Result<(), Fail> {
-    assert_eq!(rt; peer_for(routes, b"g.acme.bob.x")?, Some(3));
-    assert_eq!(rt; peer_for(routes, b"g.acme.bob.x.y.z")?, Some(4));
-    assert_eq!(rt; remove(alloc, routes, b"g.acme")?, Ok(()));
-    assert_eq!(rt; peer_for(routes, b"g.acme.bob.x")?, Some(2));
-    assert_eq!(rt; remove(alloc, routes, b"g")?, Ok(()));
-    assert_eq!(rt; peer_for(routes, b"g.acme.bob.x")?, Some(1));
-    Ok(())
+fn expect_next_best(rt: &impl Abort, alloc: Global, routes: &mut Routes, address: &[u8]) {
+    expect_peer(rt, routes, b"g.acme.bob.x", Some(3));
+    expect_peer(rt, routes, b"g.acme.bob.x.y.z", Some(4));
+    expect_remove(rt, alloc, routes, b"g.acme", Ok(()));
+    expect_peer(rt, routes, b"g.acme.bob.x", Some(2));
+    expect_remove(rt, alloc, routes, b"g", Ok(()));
+    expect_peer(rt, routes, b"g.acme.bob.x", Some(1));
+    expect_peer(rt, routes, address, Some(1));
 }
 
 #[test]
 fn next_best_once_the_best_is_gone(rt: HostRuntime) -> Result<(), Fail> {
     let alloc = rt.alloc();
-    let mut routes = routes_of(alloc, &NESTED)?;
-    expect_next_best(&rt, alloc, &mut routes)?;
     let address = deepest(alloc)?;
-    assert_eq!(rt; peer_for(&routes, &address)?, Some(1));
+    let mut routes = routes_of(alloc, &NESTED)?;
+    expect_next_best(&rt, alloc, &mut routes, &address);
     Ok(())
 }
 
@@ -137,13 +172,12 @@ fn expect_only_in_copy(
     routes: &mut Routes,
     copied: &Routes,
     address: &[u8],
-) -> Result<(), Fail> {
+) {
     assert!(rt; copied.names_peer(2));
-    assert_eq!(rt; peer_for(copied, address)?, Some(2));
-    assert_eq!(rt; remove(alloc, routes, address)?, Ok(()));
-    assert_eq!(rt; peer_for(routes, address)?, Some(1));
-    assert_eq!(rt; peer_for(copied, address)?, Some(2));
-    Ok(())
+    expect_peer(rt, copied, address, Some(2));
+    expect_remove(rt, alloc, routes, address, Ok(()));
+    expect_peer(rt, routes, address, Some(1));
+    expect_peer(rt, copied, address, Some(2));
 }
 
 #[test]
@@ -151,8 +185,9 @@ fn deepest_prefix(rt: HostRuntime) -> Result<(), Fail> {
     let alloc = rt.alloc();
     let address = deepest(alloc)?;
     let mut routes = routes_of(alloc, &[(b"g.a.a", 1), (address.as_slice(), 2)])?;
-    let copied = routes.copy(alloc)?;
-    expect_only_in_copy(&rt, alloc, &mut routes, &copied, &address)
+    let copied = copy_of(alloc, &routes)?;
+    expect_only_in_copy(&rt, alloc, &mut routes, &copied, &address);
+    Ok(())
 }
 
 // The routes that the two sides change, each in its own way.
@@ -182,43 +217,52 @@ static TOLD: [Told; 7] = [
     (b"private.x", Some(7), None, None),
 ];
 
-fn change_original(rt: &impl Abort, alloc: Global, routes: &mut Routes) -> Result<(), Fail> {
-    assert_eq!(rt; remove(alloc, routes, b"g.a.b.c")?, Ok(()));
-    assert_eq!(rt; add(alloc, routes, b"g.a.b", 6)?, Ok(()));
-    assert_eq!(rt; add(alloc, routes, b"", 7)?, Ok(()));
-    assert_eq!(rt; remove(alloc, routes, b"test")?, Ok(()));
-    assert_eq!(rt; remove(alloc, routes, b"g.a.b.c")?, Err(RouteFault::Absent));
-    assert_eq!(rt; routes.len(), 5);
-    Ok(())
+fn change_original(rt: &impl Abort, alloc: Global, routes: &mut Routes) {
+    expect_remove(rt, alloc, routes, b"g.a.b.c", Ok(()));
+    expect_add(rt, alloc, routes, b"g.a.b", 6, Ok(()));
+    expect_add(rt, alloc, routes, b"", 7, Ok(()));
+    expect_remove(rt, alloc, routes, b"test", Ok(()));
+    expect_remove(rt, alloc, routes, b"g.a.b.c", Err(RouteFault::Absent));
+    assert!(rt; routes.len() == 5);
 }
 
-fn change_copy(rt: &impl Abort, alloc: Global, routes: &mut Routes) -> Result<(), Fail> {
-    assert_eq!(rt; remove(alloc, routes, b"g.a")?, Ok(()));
-    assert_eq!(rt; add(alloc, routes, b"g.a.b.c.e", 8)?, Ok(()));
-    assert_eq!(rt; remove(alloc, routes, b"g.a.d")?, Ok(()));
-    assert_eq!(rt;
-        add(alloc, routes, b"g.a.b.c", 9)?,
-        Err(RouteFault::Present)
-    );
-    assert_eq!(rt; routes.len(), 4);
-    Ok(())
+fn change_copy(rt: &impl Abort, alloc: Global, routes: &mut Routes) {
+    expect_remove(rt, alloc, routes, b"g.a", Ok(()));
+    expect_add(rt, alloc, routes, b"g.a.b.c.e", 8, Ok(()));
+    expect_remove(rt, alloc, routes, b"g.a.d", Ok(()));
+    expect_add(rt, alloc, routes, b"g.a.b.c", 9, Err(RouteFault::Present));
+    assert!(rt; routes.len() == 4);
+}
+
+fn expect_told(rt: &impl Abort, routes: &Routes, copied: &Routes, kept: &Routes, rows: &[Told]) {
+    for (destination, here, there, before) in rows {
+        expect_peer(rt, routes, destination, *here);
+        expect_peer(rt, copied, destination, *there);
+        expect_peer(rt, kept, destination, *before);
+    }
+}
+
+fn expect_changed_apart(
+    rt: &impl Abort,
+    alloc: Global,
+    routes: &mut Routes,
+    copied: &mut Routes,
+    kept: &Routes,
+) {
+    change_original(rt, alloc, routes);
+    change_copy(rt, alloc, copied);
+    expect_told(rt, routes, copied, kept, &TOLD);
+    assert!(rt; routes.names_peer(6) && !copied.names_peer(6) && !kept.names_peer(6));
+    assert!(rt; !routes.names_peer(3) && copied.names_peer(3) && kept.names_peer(3));
 }
 
 #[test]
 fn each_copy_as_it_was_told(rt: HostRuntime) -> Result<(), Fail> {
     let alloc = rt.alloc();
     let mut routes = routes_of(alloc, &BEFORE)?;
-    let mut copied = routes.copy(alloc)?;
-    let kept = copied.copy(alloc)?;
-    change_original(&rt, alloc, &mut routes)?;
-    change_copy(&rt, alloc, &mut copied)?;
-    for (destination, here, there, before) in &TOLD {
-        assert_eq!(rt; peer_for(&routes, destination)?, *here);
-        assert_eq!(rt; peer_for(&copied, destination)?, *there);
-        assert_eq!(rt; peer_for(&kept, destination)?, *before);
-    }
-    assert!(rt; routes.names_peer(6) && !copied.names_peer(6) && !kept.names_peer(6));
-    assert!(rt; !routes.names_peer(3) && copied.names_peer(3) && kept.names_peer(3));
+    let mut copied = copy_of(alloc, &routes)?;
+    let kept = copy_of(alloc, &copied)?;
+    expect_changed_apart(&rt, alloc, &mut routes, &mut copied, &kept);
     Ok(())
 }
 
@@ -229,18 +273,40 @@ enum Shape {
     Spread,
 }
 
-fn numbered(alloc: Global, shape: Shape, n: u16) -> Result<Vec<u8>, Fail> {
-    let text = match shape {
-        Shape::BelowOneNode => format!(in alloc; "g.acme.r{n}")?,
-        Shape::Spread => format!(in alloc; "g.a{}.b{}.c{}", n / 256, n / 16 % 16, n % 16)?,
-    };
-    Ok(Vec::from_slice(alloc, text.as_bytes())?)
+fn push_numbered(alloc: Global, bytes: &mut Vec<u8>, text: &[u8], number: u16) -> Result<(), Fail> {
+    let digits = number.to_string(alloc)?;
+    bytes.extend_from_slice(text)?;
+    bytes.extend_from_slice(digits.as_bytes())?;
+    Ok(())
 }
 
-fn peer_below(alloc: Global, routes: &Routes, prefix: &[u8]) -> Result<Option<PeerNo>, Fail> {
+fn push_spread(alloc: Global, bytes: &mut Vec<u8>, n: u16) -> Result<(), Fail> {
+    push_numbered(alloc, bytes, b"g.a", n / 256)?;
+    push_numbered(alloc, bytes, b".b", n / 16 % 16)?;
+    push_numbered(alloc, bytes, b".c", n % 16)
+}
+
+fn numbered(alloc: Global, shape: Shape, n: u16) -> Result<Vec<u8>, Fail> {
+    let mut bytes = Vec::new(alloc);
+    match shape {
+        Shape::BelowOneNode => push_numbered(alloc, &mut bytes, b"g.acme.r", n)?,
+        Shape::Spread => push_spread(alloc, &mut bytes, n)?,
+    }
+    Ok(bytes)
+}
+
+// Whom what lies below the prefix goes to.
+fn expect_below(
+    rt: &impl Abort,
+    alloc: Global,
+    routes: &Routes,
+    prefix: &[u8],
+    wanted: Option<PeerNo>,
+) -> Result<(), Fail> {
     let mut destination = Vec::from_slice(alloc, prefix)?;
     destination.extend_from_slice(b".x.y")?;
-    peer_for(routes, &destination)
+    expect_peer(rt, routes, &destination, wanted);
+    Ok(())
 }
 
 fn expect_all_added(
@@ -251,9 +317,9 @@ fn expect_all_added(
 ) -> Result<(), Fail> {
     for n in 0..4096 {
         let bytes = numbered(alloc, shape, n)?;
-        assert_eq!(rt; add(alloc, routes, &bytes, n)?, Ok(()));
+        expect_add(rt, alloc, routes, &bytes, n, Ok(()));
     }
-    assert_eq!(rt; add(alloc, routes, b"test.x", 1)?, Err(RouteFault::Full));
+    expect_add(rt, alloc, routes, b"test.x", 1, Err(RouteFault::Full));
     Ok(())
 }
 
@@ -265,7 +331,7 @@ fn expect_all_found(
 ) -> Result<(), Fail> {
     for n in 0..4096 {
         let bytes = numbered(alloc, shape, n)?;
-        assert_eq!(rt; peer_below(alloc, routes, &bytes)?, Some(n));
+        expect_below(rt, alloc, routes, &bytes, Some(n))?;
     }
     Ok(())
 }
@@ -279,11 +345,22 @@ fn expect_all_removed(
     // 2,731 and 4,096 have no common divisor, so each number comes once.
     for n in 0..4096u32 {
         let bytes = numbered(alloc, shape, (n * 2731 % 4096) as u16)?;
-        assert_eq!(rt; remove(alloc, routes, &bytes)?, Ok(()));
-        assert_eq!(rt; peer_below(alloc, routes, &bytes)?, None);
+        expect_remove(rt, alloc, routes, &bytes, Ok(()));
+        expect_below(rt, alloc, routes, &bytes, None)?;
     }
     assert!(rt; routes.is_empty());
     Ok(())
+}
+
+fn expect_room(
+    rt: &impl Abort,
+    alloc: Global,
+    routes: &mut Routes,
+    shape: Shape,
+) -> Result<(), Fail> {
+    expect_all_added(rt, alloc, routes, shape)?;
+    expect_all_found(rt, alloc, routes, shape)?;
+    expect_all_removed(rt, alloc, routes, shape)
 }
 
 #[test]
@@ -291,9 +368,7 @@ fn as_many_routes_as_there_may_be(rt: HostRuntime) -> Result<(), Fail> {
     let alloc = rt.alloc();
     for shape in [Shape::BelowOneNode, Shape::Spread] {
         let mut routes = Routes::new(alloc);
-        expect_all_added(&rt, alloc, &mut routes, shape)?;
-        expect_all_found(&rt, alloc, &routes, shape)?;
-        expect_all_removed(&rt, alloc, &mut routes, shape)?;
+        expect_room(&rt, alloc, &mut routes, shape)?;
     }
     Ok(())
 }

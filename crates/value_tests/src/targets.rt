@@ -1,11 +1,16 @@
 //! Targets of peers: which URLs and tokens are taken, and their parts.
 
+use crate::rows::expect;
 use ilp_addr::{Host, Target};
+use std::alloc::Global;
 use std::net::{Ipv4Addr, Ipv6Addr};
+use std::process::Abort;
 use std::test::Fail;
 
+type Taken = (&'static [u8], &'static [u8], u16, &'static [u8]);
+
 // A URL, and what it says: its host and port as they stand there, the port, and the path.
-static TAKEN: [(&[u8], &[u8], u16, &[u8]); 7] = [
+static TAKEN: [Taken; 7] = [
     (b"http://localhost/", b"localhost", 80, b"/"),
     (
         b"http://localhost:7801/ilp",
@@ -50,40 +55,65 @@ static REFUSED: [&[u8]; 22] = [
     b"http://localhost/a b",
 ];
 
+fn target(url: &[u8]) -> Result<Target, Fail> {
+    Ok(Target::new(url, b"out-1._~+/=").ok_or("a target")?)
+}
+
+fn is_target(url: &[u8], token: &[u8]) -> bool {
+    Target::new(url, token).is_some()
+}
+
+fn expect_taken(rt: &impl Abort, rows: &[Taken]) -> Result<(), Fail> {
+    for (url, host, port, path) in rows {
+        let target = target(url)?.copy();
+        expect(rt, url, target.host() == *host);
+        expect(rt, url, target.port() == *port);
+        expect(rt, url, target.path() == *path);
+        expect(rt, url, target.token() == b"out-1._~+/=".as_slice());
+    }
+    Ok(())
+}
+
+fn expect_host(rt: &impl Abort, url: &[u8], host: Host) -> Result<(), Fail> {
+    expect(rt, url, target(url)?.address() == host);
+    Ok(())
+}
+
 #[test]
 fn urls_of_peers(rt: HostRuntime) -> Result<(), Fail> {
-    for (url, host, port, path) in TAKEN {
-        let target = Target::new(url, b"out-1._~+/=").ok_or("a target")?.copy();
-        assert!(rt; target.host() == host, "{url:?}");
-        assert!(rt; target.port() == port, "{url:?}");
-        assert!(rt; target.path() == path, "{url:?}");
-        assert!(rt; target.token() == b"out-1._~+/=".as_slice());
+    expect_taken(&rt, &TAKEN)?;
+    expect_host(&rt, b"http://localhost/", Host::Localhost)?;
+    let loopback = Ipv4Addr::new(127, 0, 0, 1);
+    expect_host(&rt, b"http://127.0.0.1:1/", Host::V4(loopback))?;
+    let loopback = Ipv6Addr::new(0, 0, 0, 0, 0, 0, 0, 1);
+    expect_host(&rt, b"http://[::1]:80//", Host::V6(loopback))
+}
+
+fn expect_refused(rt: &impl Abort, urls: &[&[u8]]) {
+    for url in urls {
+        expect(rt, url, !is_target(url, b"out"));
     }
-    let localhost = Target::new(b"http://localhost/", b"out").ok_or("a target")?;
-    assert!(rt; localhost.address() == Host::Localhost);
-    let loopback = Target::new(b"http://127.0.0.1:1/", b"out").ok_or("a target")?;
-    assert!(rt; loopback.address() == Host::V4(Ipv4Addr::new(127, 0, 0, 1)));
-    let loopback = Target::new(b"http://[::1]:80//", b"out").ok_or("a target")?;
-    assert!(rt; loopback.address() == Host::V6(Ipv6Addr::new(0, 0, 0, 0, 0, 0, 0, 1)));
+}
+
+fn expect_lengths(rt: &impl Abort, alloc: Global) -> Result<(), Fail> {
+    let mut url = Vec::from_slice(alloc, b"http://localhost/")?;
+    for _ in url.len()..255 {
+        url.push(b'a')?;
+    }
+    assert!(rt; url.len() == 255 && is_target(&url, b"out"));
+    url.push(b'a')?;
+    assert!(rt; !is_target(&url, b"out"));
+    let mut token = vec![in alloc; b't'; 64]?;
+    assert!(rt; is_target(b"http://localhost/", &token));
+    token.push(b't')?;
+    assert!(rt; !is_target(b"http://localhost/", &token));
     Ok(())
 }
 
 #[test]
 fn urls_and_tokens_that_name_no_target(rt: HostRuntime) -> Result<(), Fail> {
-    for url in REFUSED {
-        assert!(rt; Target::new(url, b"out").is_none(), "{url:?}");
-    }
-    let mut longest = [b'a'; 256];
-    longest[..17].copy_from_slice(b"http://localhost/");
-    assert!(rt; Target::new(&longest[..255], b"out").is_some());
-    assert!(rt; Target::new(&longest, b"out").is_none());
-    let token = [b't'; 65];
-    assert!(rt; Target::new(b"http://localhost/", &token[..64]).is_some());
-    for token in [&token[..], b"", b"to ken"] {
-        assert!(rt;
-            Target::new(b"http://localhost/", token).is_none(),
-            "{token:?}"
-        );
-    }
-    Ok(())
+    expect_refused(&rt, &REFUSED);
+    assert!(rt; !is_target(b"http://localhost/", b""));
+    assert!(rt; !is_target(b"http://localhost/", b"to ken"));
+    expect_lengths(&rt, rt.alloc())
 }
