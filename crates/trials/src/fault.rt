@@ -11,7 +11,7 @@ pub enum Fault {
     #[error("out of memory")]
     Memory,
     /// The words ask for no trial.
-    #[error("words: steps SETUP SCRIPT, or crowd ROUNDS STEPS, one after another")]
+    #[error("words: steps SETUP SCRIPT, crowd ROUNDS STEPS, or audit ENTRIES (1 to 16385), one after another")]
     Words,
     /// A file can't be read, or a line not be printed.
     #[error("device")]
@@ -28,6 +28,9 @@ pub enum Fault {
     /// Hostile tenants did not come to each kind of line.
     #[error("the crowd is not hostile enough")]
     Unseen,
+    /// The audit said no.
+    #[error("the audit says no")]
+    Refused,
 }
 
 impl From<AllocError> for Fault {

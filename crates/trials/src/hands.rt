@@ -2,6 +2,7 @@
 
 use crate::scripts::CALM;
 use std::alloc::{AllocError, Global};
+use std::str::Lines;
 
 // The most peers of a tenant.
 const MAX_PEERS: usize = 256;
@@ -78,6 +79,32 @@ fn put_line(text: &mut String, line: &str) -> Result<(), AllocError> {
     text.push_str("\n")
 }
 
+// Takes over the step, if it is the calm tenant's, and the lines that it printed.
+fn take_over(
+    own: &mut Own,
+    hands: &mut [Hand],
+    step: &str,
+    printed: &mut Lines<'_>,
+) -> Result<(), AllocError> {
+    let mut line = printed.next().unwrap_or("");
+    let is_calm = is_calms(step, line, hands);
+    if is_calm {
+        put_line(&mut own.script, step)?;
+        put_line(&mut own.lines, line)?;
+    }
+    // Lines of balances go before the last line of their command.
+    for _ in 0..MAX_PEERS {
+        if word(line, 1) != "balance" {
+            break;
+        }
+        line = printed.next().unwrap_or("");
+        if is_calm {
+            put_line(&mut own.lines, line)?;
+        }
+    }
+    Ok(())
+}
+
 /// The calm tenant's steps among those of a script, and its lines among those that the script printed.
 pub fn own_of(alloc: Global, workers: usize, script: &str, lines: &str) -> Result<Own, AllocError> {
     let mut hands: Vec<Hand> = vec![in alloc; Hand::Free; workers]?;
@@ -87,22 +114,7 @@ pub fn own_of(alloc: Global, workers: usize, script: &str, lines: &str) -> Resul
     };
     let mut printed = lines.lines();
     for step in script.lines() {
-        let mut line = printed.next().unwrap_or("");
-        let is_calm = is_calms(step, line, hands.as_mut_slice());
-        if is_calm {
-            put_line(&mut own.script, step)?;
-            put_line(&mut own.lines, line)?;
-        }
-        // Lines of balances go before the last line of their command.
-        for _ in 0..MAX_PEERS {
-            if word(line, 1) != "balance" {
-                break;
-            }
-            line = printed.next().unwrap_or("");
-            if is_calm {
-                put_line(&mut own.lines, line)?;
-            }
-        }
+        take_over(&mut own, hands.as_mut_slice(), step, &mut printed)?;
     }
     Ok(own)
 }

@@ -1,21 +1,26 @@
-//! Trials that go past what a contract can say: lists of steps in which memory may be refused, by tools/refusals, and crowds of
-//! hostile tenants beside a calm one.
+//! Trials that go past what a contract can say: lists of steps in which memory may be refused, by tools/refusals, crowds
+//! of hostile tenants beside a calm one, and audits of many receipts: of 64 tenants, whose entries as many workers made
+//! by turns.
 #![tactic(auto)]
 
 mod crowd;
 mod fault;
 mod hands;
+mod many;
 mod orders;
 mod packets;
 mod scripts;
 mod seen;
 mod steps;
+mod texts;
 
 use fault::Fault;
+use receipts::AuditFault;
 use seen::{are_all_seen, complain};
 use std::process::ExitCode;
 use std::rt::{Env, Files};
 use std::{env, fs, str};
+use texts::{digits, joined};
 
 // Runs a script's steps, and says on standard error where memory was refused among them.
 fn run_steps(
@@ -43,33 +48,73 @@ fn run_crowd(
     rounds: &str,
     steps: &str,
 ) -> Result<(), Fault> {
-    let (Ok(rounds), Ok(steps)) = (rounds.parse::<u32>(), steps.parse::<u32>()) else {
+    let (Ok(round_count), Ok(step_count)) = (rounds.parse::<u32>(), steps.parse::<u32>()) else {
         return Err(Fault::Words);
     };
-    let played = crowd::play(rt.alloc(), rounds, steps)?;
+    let played = crowd::play(rt.alloc(), round_count, step_count)?;
     if !are_all_seen(&played.seen) {
         complain(rt, &played.seen);
         return Err(Fault::Unseen);
     }
-    let own = played.own_steps;
-    println!(rt;
-        "{rounds} rounds of {steps} steps of ten tenants: the calm one's {own} steps printed what they print alone"
+    let own = digits(rt.alloc(), played.own_steps as u64)?;
+    let line = joined(
+        rt.alloc(),
+        &[
+            rounds,
+            " rounds of ",
+            steps,
+            " steps of ten tenants: the calm one's ",
+            own.as_str(),
+            " steps printed what they print alone",
+        ],
     )?;
-    Ok(())
+    Ok(rt.println(line.as_str())?)
+}
+
+// The word is how many receipts each tenant has, its roll's included.
+fn run_audit(rt: &(impl Print + AllocGlobal), entries: &str) -> Result<(), Fault> {
+    let Ok(entries) = entries.parse::<u32>() else {
+        return Err(Fault::Words);
+    };
+    match many::audited(rt.alloc(), entries)? {
+        Ok(found) => {
+            let (tenants, receipts) = found;
+            println!(rt; "audit ok {receipts} of {tenants} tenants")?;
+            Ok(())
+        }
+        Err(AuditFault::Memory) => Err(Fault::Memory),
+        Err(_) => Err(Fault::Refused),
+    }
+}
+
+fn run_trial(
+    rt: &(impl Files + Print + Eprint + AllocGlobal),
+    trial: &str,
+    first: &str,
+    second: &str,
+) -> Result<(), Fault> {
+    match trial {
+        "steps" => run_steps(rt, first, second),
+        "crowd" => run_crowd(rt, first, second),
+        _ => Err(Fault::Words),
+    }
 }
 
 // The words are trials, one after another.
 fn run(rt: &(impl Env + Files + Print + Eprint + AllocGlobal)) -> Result<(), Fault> {
     let mut words = env::args(rt)?.skip(1);
     while let Some(trial) = words.next() {
-        let (Some(first), Some(second)) = (words.next(), words.next()) else {
+        let Some(first) = words.next() else {
             return Err(Fault::Words);
         };
-        match trial.as_str() {
-            "steps" => run_steps(rt, first.as_str(), second.as_str())?,
-            "crowd" => run_crowd(rt, first.as_str(), second.as_str())?,
-            _ => return Err(Fault::Words),
+        if trial.as_str() == "audit" {
+            run_audit(rt, first.as_str())?;
+            continue;
         }
+        let Some(second) = words.next() else {
+            return Err(Fault::Words);
+        };
+        run_trial(rt, trial.as_str(), first.as_str(), second.as_str())?;
     }
     Ok(())
 }

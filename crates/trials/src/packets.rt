@@ -1,5 +1,6 @@
 //! Packets of a crowd, and what comes back for them, in hexadecimal digits. (RFC 0027)
 
+use crate::texts::{digits, joined};
 use std::alloc::{AllocError, Global};
 use test_texts::Draws;
 
@@ -24,17 +25,27 @@ pub struct Prepare<'a> {
     pub payload: usize,
 }
 
-fn part(number: u64, unit: u64, count: u64) -> u64 {
-    let units = number.checked_div(unit).unwrap_or(0);
-    units.checked_rem(count).unwrap_or(0)
+// A number below 1,000 in so many digits, with zeros in front.
+fn put_padded(
+    alloc: Global,
+    text: &mut String,
+    number: u64,
+    count: usize,
+) -> Result<(), AllocError> {
+    let digits = digits(alloc, number)?;
+    for _ in digits.len()..count {
+        text.push_str("0")?;
+    }
+    text.push_str(digits.as_str())
 }
 
 // The 17 digits of a moment in the first hour of 2030.
 fn timestamp(alloc: Global, millis: u64) -> Result<String, AllocError> {
-    let minutes = part(millis, 60_000, 60);
-    let seconds = part(millis, 1_000, 60);
-    let rest = part(millis, 1, 1_000);
-    format!(in alloc; "2030010100{minutes:02}{seconds:02}{rest:03}")
+    let mut text = String::from_str(alloc, "2030010100")?;
+    put_padded(alloc, &mut text, millis / 60_000 % 60, 2)?;
+    put_padded(alloc, &mut text, millis / 1_000 % 60, 2)?;
+    put_padded(alloc, &mut text, millis % 1_000, 3)?;
+    Ok(text)
 }
 
 fn put_string(out: &mut Vec<u8>, bytes: &[u8]) -> Result<(), AllocError> {
@@ -76,48 +87,54 @@ pub fn hostile_frame(
     name: &str,
     millis: u64,
 ) -> Result<String, AllocError> {
-    let mut destination = format!(in alloc; "g.{name}.bob.x")?;
+    let usual = joined(alloc, &["g.", name, ".bob.x"])?;
+    let neighbour = joined(alloc, &["peer.", name])?;
     let mut prepare = Prepare {
         amount: draws.below(1_200),
         expiry: millis.saturating_add(draws.below(40_000)),
-        destination: "g.other",
+        destination: usual.as_str(),
         payload: 0,
     };
     match draws.below(24) {
         0 => return String::from_str(alloc, draws.one_of(&["0c80", "0c89", "-", "0d", "0cff"])),
         1 => prepare.expiry = millis,
         2 => prepare.amount = 1 << 63,
-        3 => destination = String::from_str(alloc, "g.other")?,
-        4 | 5 => destination = String::from_str(alloc, "peer.config")?,
+        3 => prepare.destination = "g.other",
+        4 | 5 => prepare.destination = "peer.config",
         6 | 11 => {
-            destination = String::from_str(alloc, "peer.config")?;
+            prepare.destination = "peer.config";
             prepare.amount = 0;
         }
-        12 => destination = format!(in alloc; "peer.{name}")?,
+        12 => prepare.destination = neighbour.as_str(),
         7..=9 => prepare.payload = 100,
-        10 => destination = String::from_str(alloc, "g..x")?,
+        10 => prepare.destination = "g..x",
         _ => {}
     }
-    prepare.destination = destination.as_str();
     let mut frame = frame_of(alloc, &prepare)?;
+    change(alloc, draws, &mut frame)?;
+    hex::encode(alloc, frame.as_slice())
+}
+
+// Seldom a byte more or less, or far too many.
+fn change(alloc: Global, draws: &mut Draws, frame: &mut Vec<u8>) -> Result<(), AllocError> {
     match draws.below(40) {
         0 => frame.push(0)?,
         1 => {
             let _ = frame.pop();
         }
-        2 if draws.is_one_in(4) => frame = vec![in alloc; 12; 34_001]?,
+        2 if draws.is_one_in(4) => *frame = vec![in alloc; 12; 34_001]?,
         _ => {}
     }
-    hex::encode(alloc, frame.as_slice())
+    Ok(())
 }
 
 /// What comes back from a next peer: what fulfills, what does not, a Reject, bytes that are neither, or nothing.
 pub fn answer(alloc: Global, draws: &mut Draws) -> Result<String, AllocError> {
     match draws.below(10) {
         0 => String::from_str(alloc, "fault"),
-        1 => format!(in alloc; "0d21{ZEROS}0100"),
+        1 => joined(alloc, &["0d21", ZEROS, "0100"]),
         2 => String::from_str(alloc, "0e0746303001410000"),
         3 => String::from_str(alloc, draws.one_of(&["-", "0d21", "0e80", "0c00"])),
-        _ => format!(in alloc; "0d21{ZEROS}0000"),
+        _ => joined(alloc, &["0d21", ZEROS, "0000"]),
     }
 }

@@ -2,6 +2,7 @@
 
 use crate::orders::hostile_command;
 use crate::packets::{HOUR, Prepare, answer, frame_of, hostile_frame};
+use crate::texts::{digits, joined, put};
 use std::alloc::{AllocError, Global};
 use test_texts::Draws;
 
@@ -23,26 +24,54 @@ const CALM_JOURNAL: u64 = 200;
 const PEER: &str = "url = \"http://127.0.0.1/\"\nout_token = \"out\"\nasset = \"USD\"\nscale = 2\n\
 cap = 1000000\nceiling = 1000000\ncredit = 1000000\nburst = 1000\nper_second = 1000\n";
 
+const RATE: &str = "[[tenant.rate]]\nfrom = \"alice\"\nto = \"bob\"\nnum = 3\nden = 2\n";
+
+fn put_peer(setup: &mut String, name: &str, role: &str) -> Result<(), AllocError> {
+    put(
+        setup,
+        &[
+            "[[tenant.peer]]\nname = \"",
+            name,
+            "\"\nrole = \"",
+            role,
+            "\"\ntoken = \"tok-",
+            name,
+            "\"\n",
+            PEER,
+        ],
+    )
+}
+
 fn put_tenant(
     alloc: Global,
     setup: &mut String,
     name: &str,
     journal: u64,
 ) -> Result<(), AllocError> {
-    let tenant = format!(in alloc;
-        "[[tenant]]\nname = \"{name}\"\naddress = \"g.{name}\"\nadmin = \"root\"\njournal = {journal}\n"
+    let journal = digits(alloc, journal)?;
+    put(
+        setup,
+        &[
+            "[[tenant]]\nname = \"",
+            name,
+            "\"\naddress = \"g.",
+            name,
+            "\"\nadmin = \"root\"\njournal = ",
+            journal.as_str(),
+            "\n",
+        ],
     )?;
-    setup.push_str(tenant.as_str())?;
-    for (peer, role) in [("alice", "peer"), ("bob", "child")] {
-        let begin = format!(in alloc;
-            "[[tenant.peer]]\nname = \"{peer}\"\nrole = \"{role}\"\ntoken = \"tok-{peer}\"\n"
-        )?;
-        setup.push_str(begin.as_str())?;
-        setup.push_str(PEER)?;
-    }
-    let ways = format!(in alloc; "[[tenant.route]]\nprefix = \"g.{name}.bob\"\npeer = \"bob\"\n")?;
-    setup.push_str(ways.as_str())?;
-    setup.push_str("[[tenant.rate]]\nfrom = \"alice\"\nto = \"bob\"\nnum = 3\nden = 2\n")
+    put_peer(setup, "alice", "peer")?;
+    put_peer(setup, "bob", "child")?;
+    put(
+        setup,
+        &[
+            "[[tenant.route]]\nprefix = \"g.",
+            name,
+            ".bob\"\npeer = \"bob\"\n",
+            RATE,
+        ],
+    )
 }
 
 fn begun(alloc: Global) -> Result<String, AllocError> {
@@ -100,6 +129,19 @@ impl Course {
     }
 }
 
+fn load_of(
+    alloc: Global,
+    worker: &str,
+    name: &str,
+    token: &str,
+    frame: &str,
+) -> Result<String, AllocError> {
+    joined(
+        alloc,
+        &["load ", worker, " ", name, " ", token, " ", frame, "\n"],
+    )
+}
+
 // A packet comes for a hostile tenant.
 fn hostile_load(alloc: Global, course: &mut Course, name: &str) -> Result<String, AllocError> {
     let token = course.draws.one_of(&[
@@ -112,8 +154,8 @@ fn hostile_load(alloc: Global, course: &mut Course, name: &str) -> Result<String
         "tok-none",
     ]);
     let frame = hostile_frame(alloc, &mut course.draws, name, course.millis)?;
-    let worker = course.worker();
-    format!(in alloc; "load {worker} {name} {token} {frame}\n")
+    let worker = digits(alloc, course.worker())?;
+    load_of(alloc, worker.as_str(), name, token, frame.as_str())
 }
 
 // A packet comes for the calm tenant: most of them can go on.
@@ -127,19 +169,43 @@ fn calm_load(alloc: Global, course: &mut Course) -> Result<String, AllocError> {
         payload: usize::try_from(course.draws.below(100)).unwrap_or(0),
     };
     let frame = hex::encode(alloc, frame_of(alloc, &prepare)?.as_slice())?;
-    let worker = course.worker();
-    format!(in alloc; "load {worker} {CALM} tok-alice {frame}\n")
+    let worker = digits(alloc, course.worker())?;
+    load_of(alloc, worker.as_str(), CALM, "tok-alice", frame.as_str())
 }
 
 // What no tenant is named in: whoever's packet the worker has.
 fn workers_step(alloc: Global, course: &mut Course) -> Result<String, AllocError> {
-    let now = course.moment();
-    let worker = course.worker();
+    let now = digits(alloc, course.moment())?;
+    let worker = digits(alloc, course.worker())?;
     if course.draws.is_one_in(2) {
-        return format!(in alloc; "decide {worker} {now}\n");
+        return joined(
+            alloc,
+            &["decide ", worker.as_str(), " ", now.as_str(), "\n"],
+        );
     }
     let answer = answer(alloc, &mut course.draws)?;
-    format!(in alloc; "answer {worker} {now} {answer}\n")
+    joined(
+        alloc,
+        &[
+            "answer ",
+            worker.as_str(),
+            " ",
+            now.as_str(),
+            " ",
+            answer.as_str(),
+            "\n",
+        ],
+    )
+}
+
+fn tick_of(alloc: Global, name: &str, now: u64) -> Result<String, AllocError> {
+    let now = digits(alloc, now)?;
+    joined(alloc, &["tick ", name, " ", now.as_str(), "\n"])
+}
+
+fn order_of(alloc: Global, name: &str, now: u64, command: &str) -> Result<String, AllocError> {
+    let now = digits(alloc, now)?;
+    joined(alloc, &["do ", name, " ", now.as_str(), " ", command, "\n"])
 }
 
 fn hostile_order(alloc: Global, course: &mut Course, name: &str) -> Result<String, AllocError> {
@@ -147,10 +213,10 @@ fn hostile_order(alloc: Global, course: &mut Course, name: &str) -> Result<Strin
     if course.draws.is_one_in(3) {
         let more = if course.draws.is_one_in(3) { 40_000 } else { 0 };
         let late = now.saturating_add(more).min(LATEST);
-        return format!(in alloc; "tick {name} {late}\n");
+        return tick_of(alloc, name, late);
     }
     let command = hostile_command(alloc, &mut course.draws, name)?;
-    format!(in alloc; "do {name} {now} {command}\n")
+    order_of(alloc, name, now, command.as_str())
 }
 
 fn calm_order(alloc: Global, course: &mut Course) -> Result<String, AllocError> {
@@ -163,9 +229,9 @@ fn calm_order(alloc: Global, course: &mut Course) -> Result<String, AllocError> 
         "settle out bob 150",
     ]);
     if course.draws.is_one_in(4) {
-        return format!(in alloc; "tick {CALM} {now}\n");
+        return tick_of(alloc, CALM, now);
     }
-    format!(in alloc; "do {CALM} {now} {command}\n")
+    order_of(alloc, CALM, now, command)
 }
 
 fn step(alloc: Global, course: &mut Course) -> Result<String, AllocError> {

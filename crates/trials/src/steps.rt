@@ -114,16 +114,24 @@ pub struct Told {
     pub refused_after: Option<usize>,
 }
 
-/// Runs the steps of a script as one list, and behind a refusal the rest of them, for the tenants of a setup.
-pub fn tell(alloc: Global, setup: &[u8], script: &str) -> Result<Told, Fault> {
-    let setup = setup_of(alloc, setup)?;
+fn run_all(alloc: Global, setup: &Setup, steps: &[Step]) -> Result<Ran, Fault> {
+    let mut floor = floor_of(alloc, setup)?;
+    run_on(alloc, &mut floor, steps)
+}
+
+fn told_of(alloc: Global, setup: &Setup, script: &str) -> Result<Told, Fault> {
     let names = setup.names(alloc)?;
     let mut rooms = rooms_for(alloc, script)?;
     let steps = steps_of(alloc, names.as_slice(), script, rooms.as_mut_slice())?;
-    let mut floor = floor_of(alloc, &setup)?;
-    let ran = run_on(alloc, &mut floor, steps.as_slice())?;
+    let ran = run_all(alloc, setup, steps.as_slice())?;
     Ok(Told {
         lines: print_lines(alloc, names.as_slice(), ran.outputs.as_slice())?,
         refused_after: ran.refused_after,
     })
+}
+
+/// Runs the steps of a script as one list, and behind a refusal the rest of them, for the tenants of a setup.
+pub fn tell(alloc: Global, setup: &[u8], script: &str) -> Result<Told, Fault> {
+    let setup = setup_of(alloc, setup)?;
+    told_of(alloc, &setup, script)
 }
