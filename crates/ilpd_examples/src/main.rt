@@ -2,23 +2,44 @@
 #![tactic(auto)]
 
 use replay_text::replay;
-use std::alloc::AllocError;
+use std::alloc::{AllocError, Global};
 use std::process::ExitCode;
 use std::rt::{Env, Files};
 use std::{env, fs, io};
 
+// These texts, one behind the other.
+fn joined(alloc: Global, parts: &[&str]) -> Result<String, AllocError> {
+    let mut text = String::new(alloc);
+    for part in parts {
+        text.push_str(part)?;
+    }
+    Ok(text)
+}
+
+fn read(rt: &(impl Files + AllocGlobal), name: &str, ending: &str) -> io::Result<Vec<u8>> {
+    let file = joined(rt.alloc(), &[name, ending])?;
+    fs::read(rt, file.as_str())
+}
+
+// Whether the script prints these lines, for that setup.
+fn prints(alloc: Global, setup: &[u8], script: &[u8], lines: &[u8]) -> bool {
+    let mut reader = script;
+    let mut text = Vec::new(alloc);
+    let ended = replay(alloc, setup, 1, &mut reader, &mut text);
+    ended.is_ok() && text.as_slice() == lines
+}
+
 // Whether NAME.script prints NAME.lines, for that setup.
 fn is_as_told(rt: &(impl Files + AllocGlobal), setup: &str, name: &str) -> io::Result<bool> {
-    let alloc = rt.alloc();
-    let script = format!(in alloc; "{name}.script")?;
-    let lines = format!(in alloc; "{name}.lines")?;
     let setup = fs::read(rt, setup)?;
-    let script = fs::read(rt, script.as_str())?;
-    let lines = fs::read(rt, lines.as_str())?;
-    let mut reader = script.as_slice();
-    let mut text = Vec::new(alloc);
-    let ended = replay(alloc, setup.as_slice(), 1, &mut reader, &mut text);
-    Ok(ended.is_ok() && text.as_slice() == lines.as_slice())
+    let script = read(rt, name, ".script")?;
+    let lines = read(rt, name, ".lines")?;
+    Ok(prints(rt.alloc(), &setup, &script, &lines))
+}
+
+fn say(rt: &(impl Print + AllocGlobal), name: &str, verb: &str) -> io::Result<()> {
+    let line = joined(rt.alloc(), &[name, ".script ", verb, " ", name, ".lines"])?;
+    rt.println(line.as_str())
 }
 
 // The words are pairs of a setup and an example, which are files of this folder.
@@ -36,7 +57,7 @@ fn run(rt: &(impl Env + Files + Print + AllocGlobal)) -> io::Result<bool> {
         } else {
             "does not print"
         };
-        println!(rt; "{name}.script {verb} {name}.lines")?;
+        say(rt, name.as_str(), verb)?;
     }
     Ok(all_are)
 }
