@@ -1,126 +1,176 @@
 //! Packets that come back, and packets that are overdue: the sender is told once, and each hold ends once.
 
-use crate::rows::{Row, expect_rows, written};
+use crate::rows::{expect_rows, expect_written};
+use crate::texts::joined;
 use std::alloc::Global;
 use std::process::Abort;
 use std::test::Fail;
 use test_texts::{filled, setup_with};
 
-static ANSWERS: [Row; 11] = [
-    Row {
-        title: "a Fulfill goes back as it came, once",
-        changes: &[],
-        script: "load 0 acme tok-alice {base}\ndecide 0 {T}\nanswer 0 {T} {fulfill}\nanswer 0 {T} {fulfill}\n",
-        lines: "acme loaded 0\nacme send bob 0 {sent}\nacme reply {fulfill}\n- idle\n",
-    },
-    Row {
-        title: "a Fulfill of another condition",
-        changes: &[],
-        script: "load 0 acme tok-alice {base}\ndecide 0 {T}\nanswer 0 {T} {fulfill of another condition}\n\
-            load 0 acme tok-alice {base}\ndecide 0 {T}\n",
-        lines: "acme loaded 0\nacme send bob 0 {sent}\nacme reply {F05}\n\
-            acme loaded 1\nacme send bob 1 {sent}\n",
-    },
-    Row {
-        title: "no answer, and bytes that are none",
-        changes: &[],
-        script: "load 0 acme tok-alice {base}\ndecide 0 {T}\nanswer 0 {T} fault\n\
-            load 0 acme tok-alice {base}\ndecide 0 {T}\nanswer 0 {T} -\n\
-            load 0 acme tok-alice {base}\ndecide 0 {T}\nanswer 0 {T} {fulfill cut}\n\
-            load 0 acme tok-alice {base}\ndecide 0 {T}\nanswer 0 {T} {base}\n",
-        lines: "acme loaded 0\nacme send bob 0 {sent}\nacme reply {T01}\n\
-            acme loaded 1\nacme send bob 1 {sent}\nacme reply {T01}\n\
-            acme loaded 2\nacme send bob 2 {sent}\nacme reply {T01}\n\
-            acme loaded 3\nacme send bob 3 {sent}\nacme reply {T01}\n",
-    },
-    Row {
-        title: "Rejects go back as they came, in long spellings and with bytes after the data too",
-        changes: &[],
-        script: "load 0 acme tok-alice {base}\ndecide 0 {T}\nanswer 0 {T} 0e06ff0000000000\n\
-            load 0 acme tok-alice {base}\ndecide 0 {T}\nanswer 0 {T} 0e0746303001410000\n\
-            load 0 acme tok-alice {base}\ndecide 0 {T}\nanswer 0 {T} 0e8106ff0000000000\n\
-            load 0 acme tok-alice {base}\ndecide 0 {T}\nanswer 0 {T} 0e08ff00000000005555\n",
-        lines: "acme loaded 0\nacme send bob 0 {sent}\nacme reply 0e06ff0000000000\n\
-            acme loaded 1\nacme send bob 1 {sent}\nacme reply 0e0746303001410000\n\
-            acme loaded 2\nacme send bob 2 {sent}\nacme reply 0e8106ff0000000000\n\
-            acme loaded 3\nacme send bob 3 {sent}\nacme reply 0e08ff00000000005555\n",
-    },
-    Row {
-        title: "an answer before the outgoing expiry",
-        changes: &[],
-        script: "load 0 acme tok-alice {base}\ndecide 0 {T}\nanswer 0 {T+8999} {fulfill}\n",
-        lines: "acme loaded 0\nacme send bob 0 {sent}\nacme reply {fulfill}\n",
-    },
-    Row {
-        title: "an answer at the outgoing expiry",
-        changes: &[],
-        script: "load 0 acme tok-alice {base}\ndecide 0 {T}\nanswer 0 {T+9000} {fulfill}\n",
-        lines: "acme loaded 0\nacme send bob 0 {sent}\nacme reply {R00}\n",
-    },
-    Row {
-        title: "a tick marks what is overdue, once, and an answer after it is late",
-        changes: &[],
-        script: "load 0 acme tok-alice {base}\ndecide 0 {T}\ntick acme {T+8999}\ntick acme {T+9000}\n\
-            tick acme {T+9000}\nanswer 0 {T+9000} {fulfill}\n",
-        lines: "acme loaded 0\nacme send bob 0 {sent}\nacme ticked 0\nacme ticked 1\nacme ticked 0\n\
-            acme reply {R00}\n",
-    },
-    Row {
-        title: "after the mark a Reject is late too, at a moment that goes back",
-        changes: &[],
-        script: "load 0 acme tok-alice {base}\ndecide 0 {T}\ntick acme {T+9000}\nanswer 0 {T} 0e06ff0000000000\n",
-        lines: "acme loaded 0\nacme send bob 0 {sent}\nacme ticked 1\nacme reply {R00}\n",
-    },
-    Row {
-        title: "after the mark no answer is late too",
-        changes: &[],
-        script: "load 0 acme tok-alice {base}\ndecide 0 {T}\ntick acme {T+9000}\nanswer 0 {T+9000} fault\n",
-        lines: "acme loaded 0\nacme send bob 0 {sent}\nacme ticked 1\nacme reply {R00}\n",
-    },
-    Row {
-        title: "a full journal takes no tick, and the clock stays",
-        changes: &[("acme", "journal", "2")],
-        script: "load 0 acme tok-alice {base}\ndecide 0 {T}\ntick acme {T+10000}\nanswer 0 {T} {fulfill}\n\
-            load 0 acme tok-alice {base}\ndecide 0 {T}\n",
-        lines: "acme loaded 0\nacme send bob 0 {sent}\nacme refused full\nacme reply {fulfill}\n\
-            acme loaded 1\nacme reply {T03}\n",
-    },
-    Row {
-        title: "an idle worker has nothing to answer, and one that has loaded neither",
-        changes: &[],
-        script: "answer 0 {T} {fulfill}\nload 0 acme tok-alice {base}\nanswer 0 {T} {fulfill}\n\
-            tick acme {T}\ndecide 0 {T}\n",
-        lines: "- idle\nacme loaded 0\n- idle\nacme ticked 0\nacme send bob 0 {sent}\n",
-    },
-];
+static ANSWERS: &str = "\
+== a Fulfill goes back as it came, once
+> load 0 acme tok-alice {base}
+> decide 0 {T}
+> answer 0 {T} {fulfill}
+> answer 0 {T} {fulfill}
+acme loaded 0
+acme send bob 0 {sent}
+acme reply {fulfill}
+- idle
+== a Fulfill of another condition
+> load 0 acme tok-alice {base}
+> decide 0 {T}
+> answer 0 {T} {fulfill of another condition}
+> load 0 acme tok-alice {base}
+> decide 0 {T}
+acme loaded 0
+acme send bob 0 {sent}
+acme reply {F05}
+acme loaded 1
+acme send bob 1 {sent}
+== no answer, and bytes that are none
+> load 0 acme tok-alice {base}
+> decide 0 {T}
+> answer 0 {T} fault
+> load 0 acme tok-alice {base}
+> decide 0 {T}
+> answer 0 {T} -
+> load 0 acme tok-alice {base}
+> decide 0 {T}
+> answer 0 {T} {fulfill cut}
+> load 0 acme tok-alice {base}
+> decide 0 {T}
+> answer 0 {T} {base}
+acme loaded 0
+acme send bob 0 {sent}
+acme reply {T01}
+acme loaded 1
+acme send bob 1 {sent}
+acme reply {T01}
+acme loaded 2
+acme send bob 2 {sent}
+acme reply {T01}
+acme loaded 3
+acme send bob 3 {sent}
+acme reply {T01}
+== Rejects go back as they came, in long spellings and with bytes after the data too
+> load 0 acme tok-alice {base}
+> decide 0 {T}
+> answer 0 {T} 0e06ff0000000000
+> load 0 acme tok-alice {base}
+> decide 0 {T}
+> answer 0 {T} 0e0746303001410000
+> load 0 acme tok-alice {base}
+> decide 0 {T}
+> answer 0 {T} 0e8106ff0000000000
+> load 0 acme tok-alice {base}
+> decide 0 {T}
+> answer 0 {T} 0e08ff00000000005555
+acme loaded 0
+acme send bob 0 {sent}
+acme reply 0e06ff0000000000
+acme loaded 1
+acme send bob 1 {sent}
+acme reply 0e0746303001410000
+acme loaded 2
+acme send bob 2 {sent}
+acme reply 0e8106ff0000000000
+acme loaded 3
+acme send bob 3 {sent}
+acme reply 0e08ff00000000005555
+== an answer before the outgoing expiry
+> load 0 acme tok-alice {base}
+> decide 0 {T}
+> answer 0 {T+8999} {fulfill}
+acme loaded 0
+acme send bob 0 {sent}
+acme reply {fulfill}
+== an answer at the outgoing expiry
+> load 0 acme tok-alice {base}
+> decide 0 {T}
+> answer 0 {T+9000} {fulfill}
+acme loaded 0
+acme send bob 0 {sent}
+acme reply {R00}
+== a tick marks what is overdue, once, and an answer after it is late
+> load 0 acme tok-alice {base}
+> decide 0 {T}
+> tick acme {T+8999}
+> tick acme {T+9000}
+> tick acme {T+9000}
+> answer 0 {T+9000} {fulfill}
+acme loaded 0
+acme send bob 0 {sent}
+acme ticked 0
+acme ticked 1
+acme ticked 0
+acme reply {R00}
+== after the mark a Reject is late too, at a moment that goes back
+> load 0 acme tok-alice {base}
+> decide 0 {T}
+> tick acme {T+9000}
+> answer 0 {T} 0e06ff0000000000
+acme loaded 0
+acme send bob 0 {sent}
+acme ticked 1
+acme reply {R00}
+== after the mark no answer is late too
+> load 0 acme tok-alice {base}
+> decide 0 {T}
+> tick acme {T+9000}
+> answer 0 {T+9000} fault
+acme loaded 0
+acme send bob 0 {sent}
+acme ticked 1
+acme reply {R00}
+== a full journal takes no tick, and the clock stays
+| acme|journal|2
+> load 0 acme tok-alice {base}
+> decide 0 {T}
+> tick acme {T+10000}
+> answer 0 {T} {fulfill}
+> load 0 acme tok-alice {base}
+> decide 0 {T}
+acme loaded 0
+acme send bob 0 {sent}
+acme refused full
+acme reply {fulfill}
+acme loaded 1
+acme reply {T03}
+== an idle worker has nothing to answer, and one that has loaded neither
+> answer 0 {T} {fulfill}
+> load 0 acme tok-alice {base}
+> answer 0 {T} {fulfill}
+> tick acme {T}
+> decide 0 {T}
+- idle
+acme loaded 0
+- idle
+acme ticked 0
+acme send bob 0 {sent}
+";
 
 #[test]
 fn answers_and_ticks(rt: HostRuntime) -> Result<(), Fail> {
-    expect_rows(&rt, rt.alloc(), &ANSWERS)
+    expect_rows(&rt, rt.alloc(), ANSWERS)
 }
 
 // A Fulfill of the packet that went on, with that first part and so many zeros behind it.
 fn fulfill_with_zeros(alloc: Global, head: &str, zeros: usize) -> Result<String, Fail> {
-    let mut digits = String::from_str(alloc, head)?;
     let zeros = "00".repeat(alloc, zeros)?;
-    digits.push_str(zeros.as_str())?;
-    Ok(digits)
+    joined(alloc, &[head, zeros.as_str()])
 }
 
 // What the sender is told where the packet that went on is answered so.
 fn expect_reply(rt: &impl Abort, alloc: Global, answer: &str, reply: &str) -> Result<(), Fail> {
     let setup = setup_with(alloc, &[])?;
-    let mut script = filled(
-        alloc,
-        "load 0 acme tok-alice {base}\ndecide 0 {T}\nanswer 0 {T} ",
-    )?;
-    script.push_str(answer)?;
-    let mut lines = filled(alloc, "acme loaded 0\nacme send bob 0 {sent}\nacme reply ")?;
-    lines.push_str(reply)?;
-    lines.push_str("\n")?;
-    let text = written(alloc, setup.as_str(), script.as_str())?;
-    assert!(rt; text.as_slice() == lines.as_bytes());
-    Ok(())
+    let asked = "load 0 acme tok-alice {base}\ndecide 0 {T}\nanswer 0 {T} ";
+    let script = joined(alloc, &[asked, answer])?;
+    let script = filled(alloc, script.as_str())?;
+    let sent = "acme loaded 0\nacme send bob 0 {sent}\nacme reply ";
+    let lines = joined(alloc, &[sent, reply, "\n"])?;
+    let lines = filled(alloc, lines.as_str())?;
+    expect_written(rt, alloc, setup.as_str(), script.as_str(), lines.as_str())
 }
 
 #[test]
@@ -129,6 +179,5 @@ fn an_answer_has_at_most_34_000_bytes(rt: HostRuntime) -> Result<(), Fail> {
     let longest = fulfill_with_zeros(alloc, "0d8284cc", 33_996)?;
     expect_reply(&rt, alloc, longest.as_str(), longest.as_str())?;
     let longer = fulfill_with_zeros(alloc, "0d8284cd", 33_997)?;
-    let refused = filled(alloc, "{T01}")?;
-    expect_reply(&rt, alloc, longer.as_str(), refused.as_str())
+    expect_reply(&rt, alloc, longer.as_str(), "{T01}")
 }

@@ -1,197 +1,350 @@
 //! Many tenants and many workers, through replays.
 
-use crate::rows::{Row, expect_rows, expect_rows_by, written_by};
+use crate::rows::{expect_rows, expect_rows_by, written_by};
+use crate::texts::{digits, put};
 use admin_text::{SetupFault, read_setup};
 use common_types::ReadError;
-use std::alloc::{AllocError, Global};
+use std::alloc::Global;
+use std::process::Abort;
 use std::test::Fail;
-use test_texts::{PEER, RATE, ROUTE, TENANT, filled};
+use test_texts::filled;
 
-static TENANTS: [Row; 4] = [
-    Row {
-        title: "two tenants by one worker",
-        changes: &[
-            ("acme", "journal", "2"),
-            ("beta", "", TENANT),
-            ("beta alice", "", PEER),
-            ("beta bob", "", PEER),
-            ("beta route", "", ROUTE),
-            ("beta rate", "", RATE),
-        ],
-        script: "load 0 acme tok-alice {wide}\ndecide 0 {T}\nanswer 0 {T} fault\n\
-            load 0 beta tok-alice {for beta}\ndecide 0 {T}\nanswer 0 {T} {fulfill}\n\
-            load 0 acme tok-alice {base}\ndecide 0 {T}\ndo beta {T} balances\n",
-        lines: "acme loaded 0\nacme send bob 0 {wide sent}\nacme reply {T01}\nbeta loaded 0\n\
-            beta send bob 0 {for beta sent}\nbeta reply {fulfill}\nacme loaded 1\nacme reply {T03}\n\
-            beta balance alice 1000 0 0\nbeta balance bob -1500 0 0\nbeta ok\n",
-    },
-    Row {
-        title: "the second tenant's own steps alone",
-        changes: &[
-            ("acme", "journal", "2"),
-            ("beta", "", TENANT),
-            ("beta alice", "", PEER),
-            ("beta bob", "", PEER),
-            ("beta route", "", ROUTE),
-            ("beta rate", "", RATE),
-        ],
-        script: "load 0 beta tok-alice {for beta}\ndecide 0 {T}\nanswer 0 {T} {fulfill}\n\
-            do beta {T} balances\n",
-        lines: "beta loaded 0\nbeta send bob 0 {for beta sent}\nbeta reply {fulfill}\n\
-            beta balance alice 1000 0 0\nbeta balance bob -1500 0 0\nbeta ok\n",
-    },
-    Row {
-        title: "a token of another tenant",
-        changes: &[
-            ("acme", "journal", "2"),
-            ("beta", "", TENANT),
-            ("beta alice", "", PEER),
-            ("beta alice", "token", "'tok-other'"),
-            ("beta bob", "", PEER),
-            ("beta route", "", ROUTE),
-            ("beta rate", "", RATE),
-        ],
-        script: "load 0 beta tok-alice {for beta}\ndecide 0 {T}\nload 0 acme tok-alice {base}\ndecide 0 {T}\n",
-        lines: "beta loaded 0\nbeta stranger\nacme loaded 0\nacme send bob 0 {sent}\n",
-    },
-    Row {
-        title: "moments of one tenant are not those of another",
-        changes: &[
-            ("acme", "journal", "2"),
-            ("beta", "", TENANT),
-            ("beta alice", "", PEER),
-            ("beta bob", "", PEER),
-            ("beta route", "", ROUTE),
-            ("beta rate", "", RATE),
-        ],
-        script: "tick acme {T+10000}\nload 0 beta tok-alice {for beta}\ndecide 0 {T}\n\
-            answer 0 {T} {fulfill}\n",
-        lines: "acme ticked 0\nbeta loaded 0\nbeta send bob 0 {for beta sent}\nbeta reply {fulfill}\n",
-    },
-];
+static TENANTS: &str = "\
+== two tenants by one worker
+| acme|journal|2
+| beta||[[tenant]]
+| beta alice||[[tenant.peer]]
+| beta bob||[[tenant.peer]]
+| beta route||[[tenant.route]]
+| beta rate||[[tenant.rate]]
+> load 0 acme tok-alice {wide}
+> decide 0 {T}
+> answer 0 {T} fault
+> load 0 beta tok-alice {for beta}
+> decide 0 {T}
+> answer 0 {T} {fulfill}
+> load 0 acme tok-alice {base}
+> decide 0 {T}
+> do beta {T} balances
+acme loaded 0
+acme send bob 0 {wide sent}
+acme reply {T01}
+beta loaded 0
+beta send bob 0 {for beta sent}
+beta reply {fulfill}
+acme loaded 1
+acme reply {T03}
+beta balance alice 1000 0 0
+beta balance bob -1500 0 0
+beta ok
+== the second tenant's own steps alone
+| acme|journal|2
+| beta||[[tenant]]
+| beta alice||[[tenant.peer]]
+| beta bob||[[tenant.peer]]
+| beta route||[[tenant.route]]
+| beta rate||[[tenant.rate]]
+> load 0 beta tok-alice {for beta}
+> decide 0 {T}
+> answer 0 {T} {fulfill}
+> do beta {T} balances
+beta loaded 0
+beta send bob 0 {for beta sent}
+beta reply {fulfill}
+beta balance alice 1000 0 0
+beta balance bob -1500 0 0
+beta ok
+== a token of another tenant
+| acme|journal|2
+| beta||[[tenant]]
+| beta alice||[[tenant.peer]]
+| beta alice|token|'tok-other'
+| beta bob||[[tenant.peer]]
+| beta route||[[tenant.route]]
+| beta rate||[[tenant.rate]]
+> load 0 beta tok-alice {for beta}
+> decide 0 {T}
+> load 0 acme tok-alice {base}
+> decide 0 {T}
+beta loaded 0
+beta stranger
+acme loaded 0
+acme send bob 0 {sent}
+== moments of one tenant are not those of another
+| acme|journal|2
+| beta||[[tenant]]
+| beta alice||[[tenant.peer]]
+| beta bob||[[tenant.peer]]
+| beta route||[[tenant.route]]
+| beta rate||[[tenant.rate]]
+> tick acme {T+10000}
+> load 0 beta tok-alice {for beta}
+> decide 0 {T}
+> answer 0 {T} {fulfill}
+acme ticked 0
+beta loaded 0
+beta send bob 0 {for beta sent}
+beta reply {fulfill}
+";
 
-static NEIGHBOURS: [Row; 1] = [Row {
-    title: "a neighbour whose journal is full, who goes to the last moment, and takes its peer and its route away",
-    changes: &[
-        ("acme", "journal", "2"),
-        ("beta", "", TENANT),
-        ("beta alice", "", PEER),
-        ("beta bob", "", PEER),
-        ("beta route", "", ROUTE),
-        ("beta rate", "", RATE),
-    ],
-    script: "load 1 acme tok-alice {wide}\nload 0 beta tok-alice {for beta}\ndecide 1 {T}\n\
-            tick acme 253400000000000\nload 1 acme tok-alice 0c80\ndecide 0 {T}\nload 0 acme tok-alice {base}\n\
-            load 0 acme tok-none {base}\ndecide 0 {T}\nanswer 1 {T} fault\nload 1 acme tok-alice 0c80\n\
-            load 1 acme tok-none {base}\ndecide 1 {T}\nload 1 acme tok-alice {wide}\ndecide 1 {T}\n\
-            do acme {T} peer limits alice 0 0 0\ndo acme {T} roll\ndo acme {T} peer limits alice 0 0 0\n\
-            tick acme 253400000000000\ndo acme {T} roll\ndo acme {T} route remove g.acme.bob\n\
-            do acme {T} peer remove bob\nanswer 0 {T} {fulfill}\nload 0 acme tok-alice {wide}\ndecide 0 {T}\n\
-            do beta {T} balances\n",
-    lines: "acme loaded 0\nbeta loaded 0\nacme send bob 0 {wide sent}\nacme refused full\n- busy\n\
-            beta send bob 0 {for beta sent}\n- busy\n- busy\n- idle\nacme reply {T01}\nacme bad oer\n\
-            acme loaded 1\nacme stranger\nacme loaded 2\nacme reply {T03}\nacme refused full\n\
-            acme balance alice 0 0 0\nacme balance bob 0 0 0\nacme rolled 0 3\nacme ok\nacme ticked 0\n\
-            acme balance alice 0 0 0\nacme balance bob 0 0 0\nacme rolled 1 3\nacme ok\nacme ok\n\
-            beta reply {fulfill}\nacme loaded 3\nacme reply {T03}\n\
-            beta balance alice 1000 0 0\nbeta balance bob -1500 0 0\nbeta ok\n",
-}];
+static NEIGHBOURS: &str = "\
+== a neighbour whose journal is full, who goes to the last moment, and takes its peer and its route away
+| acme|journal|2
+| beta||[[tenant]]
+| beta alice||[[tenant.peer]]
+| beta bob||[[tenant.peer]]
+| beta route||[[tenant.route]]
+| beta rate||[[tenant.rate]]
+> load 1 acme tok-alice {wide}
+> load 0 beta tok-alice {for beta}
+> decide 1 {T}
+> tick acme 253400000000000
+> load 1 acme tok-alice 0c80
+> decide 0 {T}
+> load 0 acme tok-alice {base}
+> load 0 acme tok-none {base}
+> decide 0 {T}
+> answer 1 {T} fault
+> load 1 acme tok-alice 0c80
+> load 1 acme tok-none {base}
+> decide 1 {T}
+> load 1 acme tok-alice {wide}
+> decide 1 {T}
+> do acme {T} peer limits alice 0 0 0
+> do acme {T} roll
+> do acme {T} peer limits alice 0 0 0
+> tick acme 253400000000000
+> do acme {T} roll
+> do acme {T} route remove g.acme.bob
+> do acme {T} peer remove bob
+> answer 0 {T} {fulfill}
+> load 0 acme tok-alice {wide}
+> decide 0 {T}
+> do beta {T} balances
+acme loaded 0
+beta loaded 0
+acme send bob 0 {wide sent}
+acme refused full
+- busy
+beta send bob 0 {for beta sent}
+- busy
+- busy
+- idle
+acme reply {T01}
+acme bad oer
+acme loaded 1
+acme stranger
+acme loaded 2
+acme reply {T03}
+acme refused full
+acme balance alice 0 0 0
+acme balance bob 0 0 0
+acme rolled 0 3
+acme ok
+acme ticked 0
+acme balance alice 0 0 0
+acme balance bob 0 0 0
+acme rolled 1 3
+acme ok
+acme ok
+beta reply {fulfill}
+acme loaded 3
+acme reply {T03}
+beta balance alice 1000 0 0
+beta balance bob -1500 0 0
+beta ok
+";
 
-static WORKERS: [Row; 2] = [
-    Row {
-        title: "two calls crosswise",
-        changes: &[],
-        script: "load 0 acme tok-alice {base}\nload 1 acme tok-alice {base}\nanswer 1 {T} {fulfill}\n\
-            decide 1 {T}\ndecide 0 {T}\nanswer 0 {T} fault\nanswer 1 {T} {fulfill}\n\
-            do acme {T} balances\n",
-        lines: "acme loaded 0\nacme loaded 1\n- idle\nacme send bob 0 {sent}\nacme send bob 1 {sent}\n\
-            acme reply {T01}\nacme reply {fulfill}\nacme balance alice 1000 0 0\n\
-            acme balance bob -1500 0 0\nacme ok\n",
-    },
-    Row {
-        title: "a worker is free after a bad frame and not before an answer",
-        changes: &[],
-        script: "load 1 acme tok-alice 0c80\ndecide 1 {T}\nload 1 acme tok-alice {base}\ndecide 1 {T}\n\
-            load 1 acme tok-alice {base}\nload 0 acme tok-alice {base}\ndecide 0 {T}\n",
-        lines: "acme bad oer\n- idle\nacme loaded 0\nacme send bob 0 {sent}\n- busy\nacme loaded 1\n\
-            acme send bob 1 {sent}\n",
-    },
-];
+static WORKERS: &str = "\
+== two calls crosswise
+> load 0 acme tok-alice {base}
+> load 1 acme tok-alice {base}
+> answer 1 {T} {fulfill}
+> decide 1 {T}
+> decide 0 {T}
+> answer 0 {T} fault
+> answer 1 {T} {fulfill}
+> do acme {T} balances
+acme loaded 0
+acme loaded 1
+- idle
+acme send bob 0 {sent}
+acme send bob 1 {sent}
+acme reply {T01}
+acme reply {fulfill}
+acme balance alice 1000 0 0
+acme balance bob -1500 0 0
+acme ok
+== a worker is free after a bad frame and not before an answer
+> load 1 acme tok-alice 0c80
+> decide 1 {T}
+> load 1 acme tok-alice {base}
+> decide 1 {T}
+> load 1 acme tok-alice {base}
+> load 0 acme tok-alice {base}
+> decide 0 {T}
+acme bad oer
+- idle
+acme loaded 0
+acme send bob 0 {sent}
+- busy
+acme loaded 1
+acme send bob 1 {sent}
+";
 
 #[test]
 fn tenants_and_workers_are_told_apart(rt: HostRuntime) -> Result<(), Fail> {
     let alloc = rt.alloc();
-    expect_rows(&rt, alloc, &TENANTS)?;
-    expect_rows_by(&rt, alloc, 2, &WORKERS)?;
-    expect_rows_by(&rt, alloc, 2, &NEIGHBOURS)?;
+    expect_rows(&rt, alloc, TENANTS)?;
+    expect_rows_by(&rt, alloc, 2, WORKERS)?;
+    expect_rows_by(&rt, alloc, 2, NEIGHBOURS)?;
     Ok(())
 }
 
-// A setup of so many tenants, each of whom sends everything to bob, at 3/2.
-fn crowd(alloc: Global, tenants: usize) -> Result<String, AllocError> {
-    let mut text = String::from_str(alloc, "version = 1\nstart = 1893456000000\n")?;
-    for tenant in 0..tenants {
-        let own = format!(in alloc;
-            "[[tenant]]\nname = \"t{tenant}\"\naddress = \"g.t{tenant}\"\nadmin = \"root\"\n"
-        )?;
-        text.push_str(own.as_str())?;
-        for peer in ["alice", "bob"] {
-            let name = format!(in alloc;
-                "[[tenant.peer]]\nname = \"{peer}\"\ntoken = \"tok-{peer}\"\n"
-            )?;
-            text.push_str(name.as_str())?;
-            text.push_str(
-                "role = \"peer\"\nurl = \"http://127.0.0.1/\"\nout_token = \"out\"\nasset = \"USD\"\nscale = 2\n",
-            )?;
-            text.push_str(
-                "cap = 1500\nceiling = 2000\ncredit = 3000\nburst = 2\nper_second = 0\n",
-            )?;
-        }
-        text.push_str("[[tenant.route]]\nprefix = \"*\"\npeer = \"bob\"\n")?;
-        text.push_str("[[tenant.rate]]\nfrom = \"alice\"\nto = \"bob\"\nnum = 3\nden = 2\n")?;
-    }
-    Ok(text)
+const LIMITS: &str = "\
+role = \"peer\"\nurl = \"http://127.0.0.1/\"\nout_token = \"out\"\nasset = \"USD\"\nscale = 2\n\
+cap = 1500\nceiling = 2000\ncredit = 3000\nburst = 2\nper_second = 0\n";
+
+const WAY: &str = "[[tenant.route]]\nprefix = \"*\"\npeer = \"bob\"\n\
+[[tenant.rate]]\nfrom = \"alice\"\nto = \"bob\"\nnum = 3\nden = 2\n";
+
+fn put_peer(setup: &mut String, name: &str) -> Result<(), Fail> {
+    put(
+        setup,
+        &[
+            "[[tenant.peer]]\nname = \"",
+            name,
+            "\"\ntoken = \"tok-",
+            name,
+            "\"\n",
+            LIMITS,
+        ],
+    )
 }
 
-// Twice round: each worker takes a packet of a tenant, in the second round of the next one; all are decided, the last
-// worker's first; and all are answered.
-fn rounds(alloc: Global) -> Result<(String, String), AllocError> {
+fn put_tenant(setup: &mut String, number: &str) -> Result<(), Fail> {
+    put(
+        setup,
+        &[
+            "[[tenant]]\nname = \"t",
+            number,
+            "\"\naddress = \"g.t",
+            number,
+            "\"\nadmin = \"root\"\n",
+        ],
+    )?;
+    put_peer(setup, "alice")?;
+    put_peer(setup, "bob")?;
+    put(setup, &[WAY])
+}
+
+// A setup of so many tenants, each of whom sends everything to bob, at 3/2.
+fn crowd(alloc: Global, tenants: usize) -> Result<String, Fail> {
+    let mut setup = String::from_str(alloc, "version = 1\nstart = 1893456000000\n")?;
+    for tenant in 0..tenants {
+        let number = digits(alloc, tenant)?;
+        put_tenant(&mut setup, number.as_str())?;
+    }
+    Ok(setup)
+}
+
+// The digits of a worker, of the tenant whose packet it takes in that round, and of the round.
+#[derive(Drop)]
+struct Turn {
+    worker: String,
+    tenant: String,
+    round: String,
+}
+
+fn turn_of(alloc: Global, worker: usize, round: usize) -> Result<Turn, Fail> {
+    let tenant = worker.saturating_add(round) % 64;
+    Ok(Turn {
+        worker: digits(alloc, worker)?,
+        tenant: digits(alloc, tenant)?,
+        round: digits(alloc, round)?,
+    })
+}
+
+fn put_load(script: &mut String, lines: &mut String, turn: &Turn) -> Result<(), Fail> {
+    let (worker, tenant) = (turn.worker.as_str(), turn.tenant.as_str());
+    put(
+        script,
+        &["load ", worker, " t", tenant, " tok-alice {base}\n"],
+    )?;
+    put(lines, &["t", tenant, " loaded ", turn.round.as_str(), "\n"])
+}
+
+fn put_decide(script: &mut String, lines: &mut String, turn: &Turn) -> Result<(), Fail> {
+    put(script, &["decide ", turn.worker.as_str(), " {T}\n"])?;
+    let (tenant, round) = (turn.tenant.as_str(), turn.round.as_str());
+    put(lines, &["t", tenant, " send bob ", round, " {sent}\n"])
+}
+
+fn put_answer(script: &mut String, lines: &mut String, turn: &Turn) -> Result<(), Fail> {
+    put(
+        script,
+        &["answer ", turn.worker.as_str(), " {T} {fulfill}\n"],
+    )?;
+    put(lines, &["t", turn.tenant.as_str(), " reply {fulfill}\n"])
+}
+
+// Each worker takes a packet of a tenant; all are decided, the last worker's first; and all are answered.
+fn put_round(
+    alloc: Global,
+    script: &mut String,
+    lines: &mut String,
+    round: usize,
+) -> Result<(), Fail> {
+    for worker in 0..64 {
+        put_load(script, lines, &turn_of(alloc, worker, round)?)?;
+    }
+    for place in 0..64 {
+        put_decide(script, lines, &turn_of(alloc, 63 - place, round)?)?;
+    }
+    for worker in 0..64 {
+        put_answer(script, lines, &turn_of(alloc, worker, round)?)?;
+    }
+    Ok(())
+}
+
+// Twice round: in the second round each worker takes a packet of the next tenant.
+fn put_rounds(alloc: Global, script: &mut String, lines: &mut String) -> Result<(), Fail> {
+    put_round(alloc, script, lines, 0)?;
+    put_round(alloc, script, lines, 1)
+}
+
+fn expect_written(
+    rt: &impl Abort,
+    alloc: Global,
+    setup: &str,
+    script: &str,
+    lines: &str,
+) -> Result<(), Fail> {
+    let script = filled(alloc, script)?;
+    let lines = filled(alloc, lines)?;
+    let text = written_by(alloc, setup, 64, script.as_str())?;
+    assert!(rt; text.as_slice() == lines.as_bytes());
+    Ok(())
+}
+
+fn expect_rounds(rt: &impl Abort, alloc: Global, setup: &str) -> Result<(), Fail> {
     let mut script = String::new(alloc);
     let mut lines = String::new(alloc);
-    for round in 0..2usize {
-        for worker in 0..64usize {
-            let tenant = (worker + round) % 64;
-            script.push_str(format!(in alloc;
-                "load {worker} t{tenant} tok-alice {{base}}\n"
-            )?.as_str())?;
-            lines.push_str(format!(in alloc; "t{tenant} loaded {round}\n")?.as_str())?;
-        }
-        for place in 0..64usize {
-            let worker = 63 - place;
-            let tenant = (worker + round) % 64;
-            script.push_str(format!(in alloc; "decide {worker} {{T}}\n")?.as_str())?;
-            lines.push_str(format!(in alloc; "t{tenant} send bob {round} {{sent}}\n")?.as_str())?;
-        }
-        for worker in 0..64usize {
-            let tenant = (worker + round) % 64;
-            script.push_str(format!(in alloc; "answer {worker} {{T}} {{fulfill}}\n")?.as_str())?;
-            lines.push_str(format!(in alloc; "t{tenant} reply {{fulfill}}\n")?.as_str())?;
-        }
-    }
-    Ok((script, lines))
+    put_rounds(alloc, &mut script, &mut lines)?;
+    expect_written(rt, alloc, setup, script.as_str(), lines.as_str())
+}
+
+fn fault_of(alloc: Global, setup: &str) -> Option<ReadError<SetupFault>> {
+    read_setup(alloc, setup.as_bytes()).err()
 }
 
 #[test]
 fn sixty_four_tenants_and_workers(rt: HostRuntime) -> Result<(), Fail> {
     let alloc = rt.alloc();
     let setup = crowd(alloc, 64)?;
-    let (script, lines) = rounds(alloc)?;
-    let script = filled(alloc, script.as_str())?;
-    let lines = filled(alloc, lines.as_str())?;
-    let text = written_by(alloc, setup.as_str(), 64, script.as_str())?;
-    assert!(rt; text.as_slice() == lines.as_bytes());
+    expect_rounds(&rt, alloc, setup.as_str())?;
     let setup = crowd(alloc, 65)?;
-    let found = read_setup(alloc, setup.as_bytes()).err();
+    let found = fault_of(alloc, setup.as_str());
     assert!(rt; found == Some(ReadError::Fault(SetupFault::Tenant(64))));
     Ok(())
 }

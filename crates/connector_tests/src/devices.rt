@@ -134,10 +134,10 @@ fn replayed(
 // The read of that number fails: nothing is written, and nothing is read or written behind it.
 fn expect_failed_read(rt: &impl Abort, alloc: Global, setup: &str, script: &str, number: usize) {
     let come = replayed(alloc, setup, script, number, NEVER);
-    assert!(rt; come.fault == Some(ReplayFault::Device), "{number}");
-    assert!(rt; come.written.is_empty(), "{number}");
+    let is_told = come.fault == Some(ReplayFault::Device) && come.written.is_empty();
+    let reads = number.saturating_add(1);
     assert!(rt;
-        come.reads == number.saturating_add(1) && come.writes == 0,
+        is_told && come.reads == reads && come.writes == 0,
         "{number}"
     );
 }
@@ -152,10 +152,29 @@ fn expect_failed_write(
     number: usize,
 ) -> Result<(), Fail> {
     let come = replayed(alloc, setup, script, NEVER, number);
-    assert!(rt; come.fault == Some(ReplayFault::Device), "{number}");
     let front = lines.get(..number).ok_or("a front")?;
-    assert!(rt; come.written.as_slice() == front, "{number}");
-    assert!(rt; come.writes == number.saturating_add(1), "{number}");
+    let is_told = come.fault == Some(ReplayFault::Device) && come.written.as_slice() == front;
+    let writes = number.saturating_add(1);
+    assert!(rt; is_told && come.writes == writes, "{number}");
+    Ok(())
+}
+
+fn expect_failures(
+    rt: &impl Abort,
+    alloc: Global,
+    setup: &str,
+    script: &str,
+    lines: &[u8],
+) -> Result<(), Fail> {
+    // The last read is the one that finds the end.
+    for number in 0..script.len().saturating_add(1) {
+        expect_failed_read(rt, alloc, setup, script, number);
+    }
+    for number in 0..lines.len() {
+        expect_failed_write(rt, alloc, setup, script, lines, number)?;
+    }
+    let come = replayed(alloc, setup, script, NEVER, NEVER);
+    assert!(rt; come.fault.is_none() && come.written.as_slice() == lines);
     Ok(())
 }
 
@@ -165,16 +184,13 @@ fn each_read_and_each_write_fails_in_turn(rt: HostRuntime) -> Result<(), Fail> {
     let setup = setup_with(alloc, &[])?;
     let script = filled(alloc, SCRIPT)?;
     let lines = filled(alloc, LINES)?;
-    // The last read is the one that finds the end.
-    for number in 0..script.len().saturating_add(1) {
-        expect_failed_read(&rt, alloc, setup.as_str(), script.as_str(), number);
-    }
-    for number in 0..lines.len() {
-        let (setup, script, lines) = (setup.as_str(), script.as_str(), lines.as_bytes());
-        expect_failed_write(&rt, alloc, setup, script, lines, number)?;
-    }
-    let come = replayed(alloc, setup.as_str(), script.as_str(), NEVER, NEVER);
-    assert!(rt; come.fault.is_none() && come.written.as_slice() == lines.as_bytes());
+    expect_failures(
+        &rt,
+        alloc,
+        setup.as_str(),
+        script.as_str(),
+        lines.as_bytes(),
+    )?;
     // Memory is a device that never fails.
     assert!(rt; script.as_bytes().failures() == 0);
     let memory: Vec<u8> = Vec::new(alloc);

@@ -23,4 +23,6 @@ mod script_words;
 #[cfg(test)]
 mod scripts;
 #[cfg(test)]
+mod texts;
+#[cfg(test)]
 mod verdicts;

@@ -1,128 +1,111 @@
 //! Replays of whole scripts: what is loaded, what is malformed, and what goes on.
 
-use crate::rows::{Row, expect_rows, written};
+use crate::rows::{expect_rows, expect_written, written};
+use crate::texts::joined;
 use admin_text::SetupFault;
 use replay_text::{ReplayFault, ScriptFault};
+use std::alloc::Global;
+use std::process::Abort;
 use std::test::Fail;
-use test_texts::{Line, setup_with};
+use test_texts::{Line, filled, setup_with};
 
-static ROWS: [Row; 19] = [
-    Row {
-        title: "the forwarded frame",
-        changes: &[],
-        script: "load 0 acme tok-alice {base}\ndecide 0 {T}\n",
-        lines: "acme loaded 0\nacme send bob 0 {sent}\n",
-    },
-    Row {
-        title: "long spellings kept",
-        changes: &[],
-        script: "load 0 acme tok-alice {long}\ndecide 0 {T}\n",
-        lines: "acme loaded 0\nacme send bob 0 {long sent}\n",
-    },
-    Row {
-        title: "nothing",
-        changes: &[],
-        script: "",
-        lines: "",
-    },
-    Row {
-        title: "comments and empty lines",
-        changes: &[],
-        script: "# a comment\n\nload 0 acme tok-alice {base}\ndecide 0 {T}",
-        lines: "acme loaded 0\nacme send bob 0 {sent}\n",
-    },
-    Row {
-        title: "a busy worker",
-        changes: &[],
-        script: "load 0 acme tok-alice {base}\nload 0 acme tok-alice {base}\ndecide 0 {T}\n\
-            load 0 acme tok-alice {base}\ndecide 0 {T}\n",
-        lines: "acme loaded 0\n- busy\nacme send bob 0 {sent}\n- busy\n- idle\n",
-    },
-    Row {
-        title: "an idle worker",
-        changes: &[],
-        script: "decide 0 {T}\n",
-        lines: "- idle\n",
-    },
-    Row {
-        title: "expired",
-        changes: &[],
-        script: "load 0 acme tok-alice {base until 0 s}\ndecide 0 {T}\n",
-        lines: "acme loaded 0\nacme reply {R02}\n",
-    },
-    Row {
-        title: "no time left to the next peer",
-        changes: &[],
-        script: "load 0 acme tok-alice {base until 1 s}\ndecide 0 {T}\n",
-        lines: "acme loaded 0\nacme reply {R02}\n",
-    },
-    Row {
-        title: "no route",
-        changes: &[],
-        script: "load 0 acme tok-alice {other}\ndecide 0 {T}\n",
-        lines: "acme loaded 0\nacme reply {F02}\n",
-    },
-    Row {
-        title: "the route leads back",
-        changes: &[],
-        script: "load 0 acme tok-bob {base}\ndecide 0 {T}\n",
-        lines: "acme loaded 0\nacme reply {F02}\n",
-    },
-    Row {
-        title: "a stranger",
-        changes: &[],
-        script: "load 0 acme tok-none {base}\ndecide 0 {T}\nload 0 acme tok-alice {base}\ndecide 0 {T}\n",
-        lines: "acme loaded 0\nacme stranger\nacme loaded 1\nacme send bob 0 {sent}\n",
-    },
-    Row {
-        title: "a length of a reserved form",
-        changes: &[],
-        script: "load 0 acme tok-alice 0c80\nload 0 acme tok-alice 0c89\ndecide 0 {T}\n",
-        lines: "acme bad oer\nacme bad oer\n- idle\n",
-    },
-    Row {
-        title: "a frame cut short",
-        changes: &[],
-        script: "load 0 acme tok-alice {base cut}\n",
-        lines: "acme bad oer\n",
-    },
-    Row {
-        title: "a byte after the frame",
-        changes: &[],
-        script: "load 0 acme tok-alice {base}00\n",
-        lines: "acme bad after\n",
-    },
-    Row {
-        title: "no bytes",
-        changes: &[],
-        script: "load 0 acme tok-alice -\n",
-        lines: "acme bad kind\n",
-    },
-    Row {
-        title: "no date",
-        changes: &[],
-        script: "load 0 acme tok-alice {base in month 13}\n",
-        lines: "acme bad field\n",
-    },
-    Row {
-        title: "upper case",
-        changes: &[],
-        script: "load 0 acme tok-alice {BASE}\ndecide 0 {T}\n",
-        lines: "acme loaded 0\nacme send bob 0 {sent}\n",
-    },
-    Row {
-        title: "a clock that doesn't go back",
-        changes: &[],
-        script: "load 0 acme tok-alice {base}\ndecide 0 {T+10000}\nload 0 acme tok-alice {base}\ndecide 0 {T}\n",
-        lines: "acme loaded 0\nacme reply {R02}\nacme loaded 1\nacme reply {R02}\n",
-    },
-    Row {
-        title: "a journal with room for one packet",
-        changes: &[("acme", "journal", "2")],
-        script: "load 0 acme tok-alice {base}\ndecide 0 {T}\n",
-        lines: "acme loaded 0\nacme send bob 0 {sent}\n",
-    },
-];
+static ROWS: &str = "\
+== the forwarded frame
+> load 0 acme tok-alice {base}
+> decide 0 {T}
+acme loaded 0
+acme send bob 0 {sent}
+== long spellings kept
+> load 0 acme tok-alice {long}
+> decide 0 {T}
+acme loaded 0
+acme send bob 0 {long sent}
+== nothing
+== a busy worker
+> load 0 acme tok-alice {base}
+> load 0 acme tok-alice {base}
+> decide 0 {T}
+> load 0 acme tok-alice {base}
+> decide 0 {T}
+acme loaded 0
+- busy
+acme send bob 0 {sent}
+- busy
+- idle
+== an idle worker
+> decide 0 {T}
+- idle
+== expired
+> load 0 acme tok-alice {base until 0 s}
+> decide 0 {T}
+acme loaded 0
+acme reply {R02}
+== no time left to the next peer
+> load 0 acme tok-alice {base until 1 s}
+> decide 0 {T}
+acme loaded 0
+acme reply {R02}
+== no route
+> load 0 acme tok-alice {other}
+> decide 0 {T}
+acme loaded 0
+acme reply {F02}
+== the route leads back
+> load 0 acme tok-bob {base}
+> decide 0 {T}
+acme loaded 0
+acme reply {F02}
+== a stranger
+> load 0 acme tok-none {base}
+> decide 0 {T}
+> load 0 acme tok-alice {base}
+> decide 0 {T}
+acme loaded 0
+acme stranger
+acme loaded 1
+acme send bob 0 {sent}
+== a length of a reserved form
+> load 0 acme tok-alice 0c80
+> load 0 acme tok-alice 0c89
+> decide 0 {T}
+acme bad oer
+acme bad oer
+- idle
+== a frame cut short
+> load 0 acme tok-alice {base cut}
+acme bad oer
+== a byte after the frame
+> load 0 acme tok-alice {base}00
+acme bad after
+== no bytes
+> load 0 acme tok-alice -
+acme bad kind
+== no date
+> load 0 acme tok-alice {base in month 13}
+acme bad field
+== upper case
+> load 0 acme tok-alice {BASE}
+> decide 0 {T}
+acme loaded 0
+acme send bob 0 {sent}
+== a clock that doesn't go back
+> load 0 acme tok-alice {base}
+> decide 0 {T+10000}
+> load 0 acme tok-alice {base}
+> decide 0 {T}
+acme loaded 0
+acme reply {R02}
+acme loaded 1
+acme reply {R02}
+== a journal with room for one packet
+| acme|journal|2
+> load 0 acme tok-alice {base}
+> decide 0 {T}
+acme loaded 0
+acme send bob 0 {sent}
+";
+
+const OPEN_SCRIPT: &str = "# a comment\n\nload 0 acme tok-alice {base}\ndecide 0 {T}";
 
 // How often a frame has the byte 12, and its line.
 static LARGE_FRAMES: [(usize, &str); 2] = [
@@ -130,18 +113,30 @@ static LARGE_FRAMES: [(usize, &str); 2] = [
     (34_000, "acme bad after\n"),
 ];
 
+// Comments and empty lines print nothing, and the last line need not end.
+fn expect_open(rt: &impl Abort, alloc: Global) -> Result<(), Fail> {
+    let setup = setup_with(alloc, &[])?;
+    let script = filled(alloc, OPEN_SCRIPT)?;
+    let lines = filled(alloc, "acme loaded 0\nacme send bob 0 {sent}\n")?;
+    expect_written(rt, alloc, setup.as_str(), script.as_str(), lines.as_str())
+}
+
+fn expect_large(rt: &impl Abort, alloc: Global, rows: &[(usize, &str)]) -> Result<(), Fail> {
+    let setup = setup_with(alloc, &[])?;
+    for (bytes, line) in rows {
+        let frame = "0c".repeat(alloc, *bytes)?;
+        let script = joined(alloc, &["load 0 acme tok-alice ", frame.as_str(), "\n"])?;
+        expect_written(rt, alloc, setup.as_str(), script.as_str(), line)?;
+    }
+    Ok(())
+}
+
 #[test]
 fn scripts_print_their_lines(rt: HostRuntime) -> Result<(), Fail> {
     let alloc = rt.alloc();
-    expect_rows(&rt, alloc, &ROWS)?;
-    let setup = setup_with(alloc, &[])?;
-    for (bytes, line) in LARGE_FRAMES {
-        let frame = "0c".repeat(alloc, bytes)?;
-        let script = format!(in alloc; "load 0 acme tok-alice {frame}\n")?;
-        let text = written(alloc, setup.as_str(), script.as_str())?;
-        assert!(rt; text.as_slice() == line.as_bytes(), "{bytes}");
-    }
-    Ok(())
+    expect_rows(&rt, alloc, ROWS)?;
+    expect_open(&rt, alloc)?;
+    expect_large(&rt, alloc, &LARGE_FRAMES)
 }
 
 /// A replay that fails, with the fault, the status of a program that it ends, and the text.
@@ -198,24 +193,43 @@ static REFUSALS: [Refusal; 6] = [
     },
 ];
 
+fn expect_refused(rt: &impl Abort, alloc: Global, refusal: &Refusal) -> Result<(), Fail> {
+    let setup = setup_with(alloc, refusal.changes)?;
+    let fault = written(alloc, setup.as_str(), refusal.script).err();
+    let text = refusal.text;
+    assert!(rt; fault == Some(refusal.fault), "{text}");
+    expect_told(rt, alloc, refusal.fault, refusal.status, text)
+}
+
+// The fault has that status and that text.
+fn expect_told(
+    rt: &impl Abort,
+    alloc: Global,
+    fault: ReplayFault,
+    status: u8,
+    text: &str,
+) -> Result<(), Fail> {
+    let found = fault.to_string(alloc)?;
+    assert!(rt;
+        fault.status() == status && found.as_str() == text,
+        "{text}"
+    );
+    Ok(())
+}
+
+fn expect_all_refused(rt: &impl Abort, alloc: Global, rows: &[Refusal]) -> Result<(), Fail> {
+    for refusal in rows {
+        expect_refused(rt, alloc, refusal)?;
+    }
+    Ok(())
+}
+
 #[test]
 fn refusals_have_a_status_and_a_text(rt: HostRuntime) -> Result<(), Fail> {
     let alloc = rt.alloc();
-    for refusal in &REFUSALS {
-        let setup = setup_with(alloc, refusal.changes)?;
-        let fault = written(alloc, setup.as_str(), refusal.script).err();
-        let text = refusal.text;
-        assert!(rt; fault == Some(refusal.fault), "{text}");
-        assert!(rt; refusal.fault.status() == refusal.status, "{text}");
-        assert!(rt; refusal.fault.to_string(alloc)?.as_str() == text, "{text}");
-    }
-    for (fault, status, text) in [
-        (ReplayFault::Script(ScriptFault::Size), 4, "script: size"),
-        (ReplayFault::Device, 5, "device"),
-        (ReplayFault::Memory, 1, "out of memory"),
-    ] {
-        assert!(rt; fault.status() == status, "{text}");
-        assert!(rt; fault.to_string(alloc)?.as_str() == text, "{text}");
-    }
-    Ok(())
+    expect_all_refused(&rt, alloc, &REFUSALS)?;
+    let fault = ReplayFault::Script(ScriptFault::Size);
+    expect_told(&rt, alloc, fault, 4, "script: size")?;
+    expect_told(&rt, alloc, ReplayFault::Device, 5, "device")?;
+    expect_told(&rt, alloc, ReplayFault::Memory, 1, "out of memory")
 }

@@ -1,21 +1,15 @@
-//! Rows of replays: changes of the usual setup, a script, and the lines that it prints. Frames, replies and moments are
-//! named in braces in scripts and lines.
+//! Rows of replays, which stand in texts. A row begins with `== ` and its title. Behind it come lines that change the
+//! usual setup, as `| bob|cap|1499` (whose line it is, its key and the value), the lines of its script, as
+//! `> decide 0 {T}`, and the lines that the script prints. Frames, replies and moments are named in braces.
 
 ghost use Rattle.std.specs.Prelude.{◌≤◌};
 
+use crate::texts::put;
 use replay_text::{ReplayFault, replay};
 use std::alloc::Global;
 use std::process::Abort;
 use std::test::Fail;
 use test_texts::{Line, filled, setup_with};
-
-/// A replay, with what it is to print.
-pub struct Row {
-    pub title: &'static str,
-    pub changes: &'static [Line],
-    pub script: &'static str,
-    pub lines: &'static str,
-}
 
 /// What a replay of the script writes, for the setup and one worker.
 pub fn written(alloc: Global, setup: &str, script: &str) -> Result<Vec<u8>, ReplayFault> {
@@ -38,7 +32,7 @@ pub fn written_by(
 }
 
 /// Each row prints its lines.
-pub fn expect_rows(rt: &impl Abort, alloc: Global, rows: &[Row]) -> Result<(), Fail> {
+pub fn expect_rows(rt: &impl Abort, alloc: Global, rows: &'static str) -> Result<(), Fail> {
     expect_rows_by(rt, alloc, 1, rows)
 }
 
@@ -47,17 +41,84 @@ pub fn expect_rows_by(
     rt: &impl Abort,
     alloc: Global,
     workers: usize,
-    rows: &[Row],
+    rows: &'static str,
 ) -> Result<(), Fail>
     requires { (1 ≤ workers) × (workers ≤ 64) }
 {
-    for row in rows {
-        let setup = setup_with(alloc, row.changes)?;
-        let script = filled(alloc, row.script)?;
-        let lines = filled(alloc, row.lines)?;
-        let text = written_by(alloc, setup.as_str(), workers, script.as_str())?;
-        let title = row.title;
-        assert!(rt; text.as_slice() == lines.as_bytes(), "{title}");
+    assert!(rt; rows.starts_with("== "));
+    for row in rows.split("== ").skip(1) {
+        expect_row(rt, alloc, workers, row)?;
     }
+    Ok(())
+}
+
+fn expect_row(rt: &impl Abort, alloc: Global, workers: usize, row: &'static str) -> Result<(), Fail>
+    requires { (1 ≤ workers) × (workers ≤ 64) }
+{
+    let text = printed(alloc, workers, row)?;
+    let lines = lines_of(alloc, row)?;
+    let lines = filled(alloc, lines.as_str())?;
+    let title = row.lines().next().unwrap_or("");
+    assert!(rt; text.as_slice() == lines.as_bytes(), "{title}");
+    Ok(())
+}
+
+// What the script of a row prints, by so many workers.
+fn printed(alloc: Global, workers: usize, row: &'static str) -> Result<Vec<u8>, Fail>
+    requires { (1 ≤ workers) × (workers ≤ 64) }
+{
+    let changes = changes_of(alloc, row)?;
+    let setup = setup_with(alloc, &changes)?;
+    let script = script_of(alloc, row)?;
+    let script = filled(alloc, script.as_str())?;
+    Ok(written_by(alloc, setup.as_str(), workers, script.as_str())?)
+}
+
+// The three parts of a change.
+fn change_of(text: &'static str) -> Option<Line> {
+    let mut parts = text.split('|');
+    Some((parts.next()?, parts.next()?, parts.next()?))
+}
+
+fn changes_of(alloc: Global, row: &'static str) -> Result<Vec<Line>, Fail> {
+    let mut changes = Vec::new(alloc);
+    for line in row.lines() {
+        if let Some(change) = line.strip_prefix("| ") {
+            changes.push(change_of(change).ok_or("three parts")?)?;
+        }
+    }
+    Ok(changes)
+}
+
+fn script_of(alloc: Global, row: &str) -> Result<String, Fail> {
+    let mut script = String::new(alloc);
+    for line in row.lines() {
+        if let Some(step) = line.strip_prefix("> ") {
+            put(&mut script, &[step, "\n"])?;
+        }
+    }
+    Ok(script)
+}
+
+fn lines_of(alloc: Global, row: &str) -> Result<String, Fail> {
+    let mut lines = String::new(alloc);
+    for line in row.lines().skip(1) {
+        if !line.starts_with("| ") && !line.starts_with("> ") {
+            put(&mut lines, &[line, "\n"])?;
+        }
+    }
+    Ok(lines)
+}
+
+/// A replay of the script prints these lines, for the setup and one worker.
+pub fn expect_written(
+    rt: &impl Abort,
+    alloc: Global,
+    setup: &str,
+    script: &str,
+    lines: &str,
+) -> Result<(), Fail> {
+    let text = written(alloc, setup, script)?;
+    assert!(rt; text.as_slice() == lines.as_bytes());
     Ok(())
 }

@@ -1,5 +1,6 @@
 //! What is wrong with a script, in words for people: a row for each cause.
 
+use crate::texts::joined;
 use common_types::Name;
 use replay_text::explain_script;
 use std::alloc::Global;
@@ -136,29 +137,26 @@ fn expect(rt: &impl Abort, alloc: Global, script: &str, wanted: &str) -> Result<
     Ok(())
 }
 
-#[test]
-fn what_is_wrong_with_scripts_is_said(rt: HostRuntime) -> Result<(), Fail> {
-    for (script, wanted) in SCRIPTS {
-        expect(&rt, rt.alloc(), script, wanted)?;
+fn expect_all(rt: &impl Abort, alloc: Global, rows: &[(&str, &str)]) -> Result<(), Fail> {
+    for (script, wanted) in rows {
+        expect(rt, alloc, script, wanted)?;
     }
     Ok(())
+}
+
+#[test]
+fn what_is_wrong_with_scripts_is_said(rt: HostRuntime) -> Result<(), Fail> {
+    expect_all(&rt, rt.alloc(), &SCRIPTS)
 }
 
 #[test]
 fn long_words_are_counted(rt: HostRuntime) -> Result<(), Fail> {
     let alloc = rt.alloc();
     let digits = "0".repeat(alloc, 101)?;
-    let script = format!(in alloc; "load 0 acme tok {digits}")?;
-    let words = words_of(alloc, script.as_str())?;
-    assert_eq!(rt;
-        words.as_str(),
-        "script: line 1: HEX has 101 bytes: an even count of digits"
-    );
+    let script = joined(alloc, &["load 0 acme tok ", digits.as_str()])?;
+    let wanted = "script: line 1: HEX has 101 bytes: an even count of digits";
+    expect(&rt, alloc, script.as_str(), wanted)?;
     let line = "#".repeat(alloc, 70_001)?;
-    let words = words_of(alloc, line.as_str())?;
-    assert_eq!(rt;
-        words.as_str(),
-        "script: line 1: a line has at most 70000 bytes"
-    );
-    Ok(())
+    let wanted = "script: line 1: a line has at most 70000 bytes";
+    expect(&rt, alloc, line.as_str(), wanted)
 }

@@ -4,6 +4,7 @@ use common_types::{Bytes, Name, ReadError, Text};
 use floor_core::{Malformed, Output, Step};
 use replay_text::{Meaning, ScriptFault, check_script, meaning_of, print_lines};
 use std::alloc::Global;
+use std::process::Abort;
 use std::test::Fail;
 
 fn acme(alloc: Global) -> Result<Vec<Name>, Fail> {
@@ -68,15 +69,19 @@ fn fault_of(
     check_script(alloc, names, workers, script.as_bytes()).err()
 }
 
+fn expect_bad_lines(rt: &impl Abort, alloc: Global, names: &[Name], rows: &[(&str, usize, usize)]) {
+    for (script, workers, line) in rows {
+        let found = fault_of(alloc, names, *workers, script);
+        let fault = (*line != 0).then_some(ReadError::Fault(ScriptFault::Line(*line)));
+        assert!(rt; found == fault, "{script}");
+    }
+}
+
 #[test]
 fn scripts_name_their_first_bad_line(rt: HostRuntime) -> Result<(), Fail> {
     let alloc = rt.alloc();
     let names = acme(alloc)?;
-    for (script, workers, line) in &SCRIPTS {
-        let found = fault_of(alloc, names.as_slice(), *workers, script);
-        let fault = (*line != 0).then_some(ReadError::Fault(ScriptFault::Line(*line)));
-        assert!(rt; found == fault, "{script:?}");
-    }
+    expect_bad_lines(&rt, alloc, names.as_slice(), &SCRIPTS);
     Ok(())
 }
 
@@ -144,38 +149,71 @@ static KINDS: [(Malformed, &str); 6] = [
     (Malformed::Size, "acme bad size\n"),
 ];
 
-// What steps put out, and the line of each.
-fn outputs_with_lines(alloc: Global) -> Result<[(Output, &'static str); 6], Fail> {
-    let reply = Bytes::from_vec(Vec::from_slice(alloc, &[14, 255])?);
-    let frame = Bytes::from_vec(Vec::from_slice(alloc, &[12])?);
+fn reply(alloc: Global) -> Result<Output, Fail> {
+    let bytes = Bytes::from_vec(Vec::from_slice(alloc, &[14, 255])?);
+    Ok(Output::Reply { tenant: 0, bytes })
+}
+
+fn send(alloc: Global) -> Result<Output, Fail> {
     let peer = Text::from_bytes(b"bob").ok_or("a name")?;
+    let frame = Bytes::from_vec(Vec::from_slice(alloc, &[12])?);
     let hold = u64::MAX;
-    let send = Output::Send {
+    Ok(Output::Send {
         tenant: 0,
         peer,
         hold,
         frame,
+    })
+}
+
+// What a step puts out, and the line of it.
+fn put(
+    outputs: &mut Vec<Output>,
+    lines: &mut String,
+    output: Output,
+    line: &str,
+) -> Result<(), Fail> {
+    outputs.push(output)?;
+    lines.push_str(line)?;
+    Ok(())
+}
+
+fn put_outputs(alloc: Global, outputs: &mut Vec<Output>, lines: &mut String) -> Result<(), Fail> {
+    put(outputs, lines, Output::Busy, "- busy\n")?;
+    put(outputs, lines, Output::Idle, "- idle\n")?;
+    let loaded = Output::Loaded {
+        tenant: 0,
+        call: 12,
     };
-    Ok([
-        (Output::Busy, "- busy\n"),
-        (Output::Idle, "- idle\n"),
-        (
-            Output::Loaded {
-                tenant: 0,
-                call: 12,
-            },
-            "acme loaded 12\n",
-        ),
-        (Output::Stranger { tenant: 0 }, "acme stranger\n"),
-        (
-            Output::Reply {
-                tenant: 0,
-                bytes: reply,
-            },
-            "acme reply 0eff\n",
-        ),
-        (send, "acme send bob 18446744073709551615 0c\n"),
-    ])
+    put(outputs, lines, loaded, "acme loaded 12\n")?;
+    put(
+        outputs,
+        lines,
+        Output::Stranger { tenant: 0 },
+        "acme stranger\n",
+    )?;
+    put(outputs, lines, reply(alloc)?, "acme reply 0eff\n")?;
+    put(
+        outputs,
+        lines,
+        send(alloc)?,
+        "acme send bob 18446744073709551615 0c\n",
+    )
+}
+
+fn put_malformed(
+    outputs: &mut Vec<Output>,
+    lines: &mut String,
+    rows: &[(Malformed, &str)],
+) -> Result<(), Fail> {
+    for (kind, line) in rows {
+        let bad = Output::Bad {
+            tenant: 0,
+            kind: *kind,
+        };
+        put(outputs, lines, bad, line)?;
+    }
+    Ok(())
 }
 
 #[test]
@@ -184,14 +222,8 @@ fn outputs_print_as_lines(rt: HostRuntime) -> Result<(), Fail> {
     let names = acme(alloc)?;
     let mut outputs = Vec::new(alloc);
     let mut lines = String::new(alloc);
-    for (output, line) in outputs_with_lines(alloc)? {
-        outputs.push(output)?;
-        lines.push_str(line)?;
-    }
-    for (kind, line) in KINDS {
-        outputs.push(Output::Bad { tenant: 0, kind })?;
-        lines.push_str(line)?;
-    }
+    put_outputs(alloc, &mut outputs, &mut lines)?;
+    put_malformed(&mut outputs, &mut lines, &KINDS)?;
     let text = print_lines(alloc, names.as_slice(), outputs.as_slice())?;
     assert!(rt; text.as_slice() == lines.as_bytes());
     Ok(())
