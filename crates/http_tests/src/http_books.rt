@@ -1,11 +1,12 @@
 //! Requests over HTTP that the books of two tenants answer, by one slot and a link over memory.
 
-ghost use Rattle.std.specs.Prelude.{◌≡◌, ◌≤◌, length};
+ghost use Rattle.std.specs.Prelude.{◌≡◌};
 
 use crate::http_devices::{Pieces, Taken};
-use admin_text::read_setup;
-use floor_core::{Got, LoadFault, Slot, Turn};
-use http_link::{Served, Service, serve_one};
+use crate::http_texts::joined;
+use admin_text::{Setup, read_setup};
+use floor_core::{LoadFault, Slot, Turn};
+use http_link::{LinkFault, Served, Service, serve_one};
 use ilp_addr::Moment;
 use std::alloc::{AllocError, Global};
 use std::test::Fail;
@@ -30,15 +31,23 @@ fn frame(alloc: Global, text: &str) -> Result<Vec<u8>, Fail> {
     Ok(hex::decode(alloc, digits.as_str())?)
 }
 
-// The book of the usual setup's tenant, so changed, under that number.
-fn book(alloc: Global, tenant: usize, changes: &[Line]) -> Result<Book, Fail> {
+// The usual setup, so changed.
+fn setup_of(alloc: Global, changes: &[Line]) -> Result<Setup, Fail> {
+    let text = setup_with(alloc, changes)?;
+    Ok(read_setup(alloc, text.as_bytes())?)
+}
+
+// The setups of acme and beta.
+fn two_setups(alloc: Global) -> Result<[Setup; 2], Fail> {
+    Ok([setup_of(alloc, &[])?, setup_of(alloc, &BETA)?])
+}
+
+// The book of a setup's tenant, under that number.
+fn book_of(alloc: Global, tenant: usize, setup: &Setup) -> Result<Book, Fail> {
     if tenant >= 64 {
         return Err(Fail::from("a tenant"));
     }
-    let text = setup_with(alloc, changes)?;
-    let setup = read_setup(alloc, text.as_bytes())?;
-    let tenants = setup.tenants.as_slice();
-    let first = tenants.first().ok_or("a tenant")?;
+    let first = setup.tenants.as_slice().first().ok_or("a tenant")?;
     Ok(Book::new(alloc, tenant, first, setup.start)?)
 }
 
@@ -53,15 +62,44 @@ struct Counter {
     body: Vec<u8>,
 }
 
+// The books of acme and beta.
+fn two_books(alloc: Global, setups: &[Setup; 2]) -> Result<[Book; 2], Fail> {
+    let [acme, beta] = setups;
+    Ok([book_of(alloc, 0, acme)?, book_of(alloc, 1, beta)?])
+}
+
+// Takes in a packet; a status where that is refused.
+fn load(slot: &mut Slot, tenant: usize, token: &[u8], body: &[u8]) -> Option<u16> {
+    match slot.load(tenant, token, body) {
+        Ok(()) => None,
+        Err(LoadFault::Bad(_)) => Some(400),
+        Err(LoadFault::Token) => Some(401),
+        Err(LoadFault::Busy) => Some(503),
+    }
+}
+
+fn decide(slot: &mut Slot, book: &mut Book, now: Moment) -> Turn {
+    slot.decide(book, now)
+}
+
+// What becomes of a packet that waits for an answer, once that has come back.
+fn settle(slot: &mut Slot, book: &mut Book, now: Moment, answer: &[u8]) -> Option<Turn> {
+    if slot.waiting().is_none() {
+        return None;
+    }
+    let got = slot.fill(answer);
+    Some(slot.answer(book, now, got))
+}
+
 impl Counter {
-    fn new(alloc: Global, answer: Vec<u8>) -> Result<Counter, Fail> {
+    fn new(alloc: Global, setups: &[Setup; 2], answer: &str) -> Result<Counter, Fail> {
         Ok(Counter {
             alloc,
-            slot: Slot::new(alloc)?,
-            books: [book(alloc, 0, &[])?, book(alloc, 1, &BETA)?],
             now: Moment::new(1_893_456_000_000).ok_or("a moment")?,
-            answer,
             body: Vec::new(alloc),
+            answer: frame(alloc, answer)?,
+            slot: Slot::new(alloc)?,
+            books: two_books(alloc, setups)?,
         })
     }
 
@@ -70,29 +108,13 @@ impl Counter {
         let Some(book) = self.books.get_mut(tenant) else {
             return Turn::Stray;
         };
-        let turn = self.slot.decide(book, self.now);
-        if self.slot.waiting().is_none() {
-            return turn;
-        }
-        let (_, _, room) = self.slot.exchange();
-        let got = given(room, self.answer.as_slice());
-        self.slot.answer(book, self.now, got)
+        let turn = decide(&mut self.slot, book, self.now);
+        settle(&mut self.slot, book, self.now, self.answer.as_slice()).unwrap_or(turn)
     }
 
     fn tell(&mut self) -> Result<u16, AllocError> {
         self.body = Vec::from_slice(self.alloc, self.slot.reply())?;
         Ok(200)
-    }
-}
-
-// What came back, once it stands at the front of the room.
-fn given(room: &mut [u8], answer: &[u8]) -> Got {
-    match room.get_mut(..answer.len()) {
-        Some(front) => {
-            front.copy_from_slice(answer);
-            Got::Filled(answer.len())
-        }
-        None => Got::Fault,
     }
 }
 
@@ -118,11 +140,8 @@ impl Service for Counter {
     }
 
     fn ilp(&mut self, tenant: usize, token: &[u8], body: &[u8]) -> u16 {
-        match self.slot.load(tenant, token, body) {
-            Ok(()) => {}
-            Err(LoadFault::Bad(_)) => return 400,
-            Err(LoadFault::Token) => return 401,
-            Err(LoadFault::Busy) => return 503,
+        if let Some(refusal) = load(&mut self.slot, tenant, token, body) {
+            return refusal;
         }
         match self.turn(tenant) {
             Turn::Stranger => 401,
@@ -217,72 +236,122 @@ static EXCHANGES: [Exchange; 7] = [
 
 fn request(alloc: Global, exchange: &Exchange) -> Result<Vec<u8>, Fail> {
     let body = frame(alloc, exchange.packet)?;
-    let (path, token, length) = (exchange.path, exchange.token, body.len());
-    let head = format!(in alloc;
-        "POST {path} HTTP/1.1\r\nAuthorization: Bearer {token}\r\nContent-Length: {length}\r\n\r\n"
-    )?;
-    let mut stream = Vec::from_slice(alloc, head.as_bytes())?;
+    let length = body.len().to_string(alloc)?;
+    let mut stream = joined(alloc, &[b"POST ", exchange.path.as_bytes()])?;
+    stream.extend_from_slice(b" HTTP/1.1\r\nAuthorization: Bearer ")?;
+    stream.extend_from_slice(exchange.token.as_bytes())?;
+    stream.extend_from_slice(b"\r\nContent-Length: ")?;
+    stream.extend_from_slice(length.as_bytes())?;
+    stream.extend_from_slice(b"\r\n\r\n")?;
     stream.extend_from_slice(body.as_slice())?;
     Ok(stream)
 }
 
 fn answer(alloc: Global, exchange: &Exchange) -> Result<Vec<u8>, Fail> {
     let reply = frame(alloc, exchange.reply)?;
-    let mut text = Vec::from_slice(alloc, exchange.head.as_bytes())?;
-    text.extend_from_slice(reply.as_slice())?;
-    Ok(text)
+    joined(alloc, &[exchange.head.as_bytes(), reply.as_slice()])
 }
 
-// What became of a connection with that stream, in two pieces, and what was written.
-fn served(
-    alloc: Global,
-    counter: &mut Counter,
-    stream: &[u8],
-    cut: usize,
-) -> Result<(Served, Vec<u8>), Fail> {
-    let mut room: Vec<u8> = vec![in alloc; 0; 34_000]?;
-    if room.len() < 34_000 {
-        return Err(Fail::from("a room for bodies"));
-    }
+// What becomes of a connection with that stream, in two pieces, and what is written.
+#[derive(Drop)]
+struct Outcome {
+    served: Result<Served, LinkFault>,
+    text: Vec<u8>,
+}
+
+fn serve(alloc: Global, counter: &mut Counter, stream: &[u8], cut: usize) -> Result<Outcome, Fail> {
+    let mut room = vec![in alloc; 0; 34_000]?;
     let mut reader = Pieces::cut_at(stream, cut);
     let mut writer = Taken::whole(alloc);
-    match serve_one(&mut reader, &mut writer, counter, &mut room) {
-        Ok(served) => Ok((served, Vec::from_slice(alloc, writer.bytes.as_slice())?)),
-        Err(_) => Err(Fail::from("devices that do not fail")),
-    }
+    let served = serve_one(&mut reader, &mut writer, counter, &mut room);
+    Ok(Outcome {
+        served,
+        text: writer.bytes,
+    })
 }
 
-fn entries(counter: &Counter) -> [usize; 2] {
-    [counter.books[0].entries(), counter.books[1].entries()]
+// Whether the books of acme and beta have so many entries.
+fn have_entries(counter: &Counter, entries: [usize; 2]) -> bool {
+    let [acme, beta] = &counter.books;
+    [acme.entries(), beta.entries()] == entries
+}
+
+// Whether the request, cut there, is answered as the exchange says.
+fn is_answered(
+    alloc: Global,
+    setups: &[Setup; 2],
+    exchange: &Exchange,
+    request: &[u8],
+    answer: &[u8],
+    cut: usize,
+) -> Result<bool, Fail> {
+    let mut counter = Counter::new(alloc, setups, "{fulfill}")?;
+    let outcome = serve(alloc, &mut counter, request, cut)?;
+    Ok(
+        outcome.served == Ok(Served::Kept)
+            && outcome.text.as_slice() == answer
+            && have_entries(&counter, exchange.entries),
+    )
+}
+
+// Whether it is, however it is cut.
+fn is_answered_in_pieces(
+    alloc: Global,
+    setups: &[Setup; 2],
+    exchange: &Exchange,
+) -> Result<bool, Fail> {
+    let request = request(alloc, exchange)?;
+    let answer = answer(alloc, exchange)?;
+    for cut in 0..=request.len() {
+        if !is_answered(
+            alloc,
+            setups,
+            exchange,
+            request.as_slice(),
+            answer.as_slice(),
+            cut,
+        )? {
+            return Ok(false);
+        }
+    }
+    Ok(true)
 }
 
 #[test]
 fn packets_are_posted(rt: HostRuntime) -> Result<(), Fail> {
-    let alloc = rt.alloc();
+    let setups = two_setups(rt.alloc())?;
     for (i, exchange) in EXCHANGES.iter().enumerate() {
-        let stream = request(alloc, exchange)?;
-        let wanted = answer(alloc, exchange)?;
-        for cut in 0..=stream.len() {
-            let mut counter = Counter::new(alloc, frame(alloc, "{fulfill}")?)?;
-            let (kept, text) = served(alloc, &mut counter, stream.as_slice(), cut)?;
-            assert!(rt; kept == Served::Kept, "{i} {cut}");
-            assert!(rt; text.as_slice() == wanted.as_slice(), "{i} {cut}");
-            assert!(rt; entries(&counter) == exchange.entries, "{i} {cut}");
-        }
+        assert!(rt;
+            is_answered_in_pieces(rt.alloc(), &setups, exchange)?,
+            "{i}"
+        );
     }
     Ok(())
 }
 
+// Whether no front of a request is served, and the books have no entries in the end.
+fn no_front_is_served(alloc: Global, exchange: &Exchange) -> Result<bool, Fail> {
+    let request = request(alloc, exchange)?;
+    let mut counter = Counter::new(alloc, &two_setups(alloc)?, "{fulfill}")?;
+    let ends = ends_before(alloc, &mut counter, request.as_slice())?;
+    Ok(ends && have_entries(&counter, [0, 0]))
+}
+
+// Whether none is served by this counter.
+fn ends_before(alloc: Global, counter: &mut Counter, request: &[u8]) -> Result<bool, Fail> {
+    for end in 0..request.len() {
+        let (front, _) = request.split_at(end);
+        let outcome = serve(alloc, counter, front, end)?;
+        if outcome.served != Ok(Served::Ended) || !outcome.text.is_empty() {
+            return Ok(false);
+        }
+    }
+    Ok(true)
+}
+
 #[test]
 fn packets_that_do_not_come_whole(rt: HostRuntime) -> Result<(), Fail> {
-    let alloc = rt.alloc();
-    let stream = request(alloc, &EXCHANGES[5])?;
-    let mut counter = Counter::new(alloc, frame(alloc, "{fulfill}")?)?;
-    for end in 0..stream.len() {
-        let (ended, text) = served(alloc, &mut counter, &stream.as_slice()[..end], end)?;
-        assert!(rt; ended == Served::Ended && text.is_empty(), "{end}");
-    }
-    assert!(rt; entries(&counter) == [0, 0]);
+    assert!(rt; no_front_is_served(rt.alloc(), &EXCHANGES[5])?);
     Ok(())
 }
 
@@ -294,18 +363,24 @@ static ANSWERS: [(&str, &str); 4] = [
     ("", "{T01}"),
 ];
 
+// Whether the sender of a request is told so where the next peer answers that.
+fn is_told(alloc: Global, request: &[u8], given: &str, told: &str) -> Result<bool, Fail> {
+    let mut counter = Counter::new(alloc, &two_setups(alloc)?, given)?;
+    let outcome = serve(alloc, &mut counter, request, 0)?;
+    let reply = frame(alloc, told)?;
+    Ok(
+        outcome.served == Ok(Served::Kept)
+            && outcome.text.as_slice().ends_with(reply.as_slice())
+            && counter.body.as_slice() == reply.as_slice()
+            && have_entries(&counter, [2, 0]),
+    )
+}
+
 #[test]
 fn answers_of_the_next_peer(rt: HostRuntime) -> Result<(), Fail> {
-    let alloc = rt.alloc();
-    let stream = request(alloc, &EXCHANGES[5])?;
+    let stream = request(rt.alloc(), &EXCHANGES[5])?;
     for (i, (given, told)) in ANSWERS.iter().enumerate() {
-        let mut counter = Counter::new(alloc, frame(alloc, given)?)?;
-        let (kept, text) = served(alloc, &mut counter, stream.as_slice(), 0)?;
-        let reply = frame(alloc, told)?;
-        assert!(rt; kept == Served::Kept, "{i}");
-        assert!(rt; text.as_slice().ends_with(reply.as_slice()), "{i}");
-        assert!(rt; counter.body.as_slice() == reply.as_slice(), "{i}");
-        assert!(rt; entries(&counter) == [2, 0], "{i}");
+        assert!(rt; is_told(rt.alloc(), stream.as_slice(), given, told)?, "{i}");
     }
     Ok(())
 }

@@ -1,8 +1,10 @@
 //! The requests of a connection, one after another, however its bytes are cut.
 
-use crate::http_devices::{Pieces, Taken};
-use crate::http_served::{BAD, CLOSED, CONTINUE, Desk, KEPT, POSTED};
-use http_link::{Inbox, LinkFault, RequestKind, Served, serve_next};
+use crate::http_devices::Pieces;
+use crate::http_outcomes::{Outcome, serve_next_packet};
+use crate::http_served::{BAD, CLOSED, CONTINUE, KEPT, POSTED};
+use crate::http_texts::{fill, is_joined, joined, repeat};
+use http_link::{Inbox, LinkFault, Served};
 use std::alloc::Global;
 use std::test::Fail;
 
@@ -16,52 +18,30 @@ const REFUSED: &[u8] = b"POST /ilp/none HTTP/1.1\r\nContent-Length: 5\r\n\r\nfra
 
 const UNKNOWN: &[u8] = b"HTTP/1.1 404 Not Found\r\nContent-Length: 0\r\nConnection: close\r\n\r\n";
 
-// What the next request came to.
-#[derive(Drop)]
-struct Outcome {
-    served: Result<Served, LinkFault>,
-    questions: u32,
-    is_right: bool,
-    text: Vec<u8>,
-}
-
-fn next(alloc: Global, reader: &mut Pieces, inbox: &mut Inbox) -> Outcome {
-    let mut writer = Taken::whole(alloc);
-    let mut desk = Desk::new(RequestKind::Ilp, 0);
-    let served = serve_next(reader, &mut writer, &mut desk, inbox);
-    Outcome {
-        served,
-        questions: desk.questions,
-        is_right: desk.was_asked(),
-        text: writer.bytes,
+// Whether two requests are served, the next one is too and closes the connection, however it is cut.
+fn are_served(alloc: Global, stream: &[u8], inbox: &mut Inbox) -> bool {
+    for cut in 0..=stream.len() {
+        let mut reader = Pieces::cut_at(stream, cut);
+        inbox.clear();
+        for _ in 0..2 {
+            let kept = serve_next_packet(alloc, &mut reader, inbox);
+            if !kept.is_answered(Served::Kept, KEPT) {
+                return false;
+            }
+        }
+        let last = serve_next_packet(alloc, &mut reader, inbox);
+        if !last.is_answered(Served::Closed, CLOSED) {
+            return false;
+        }
     }
-}
-
-fn stream_of(alloc: Global, requests: &[&[u8]]) -> Result<Vec<u8>, Fail> {
-    let mut stream = Vec::new(alloc);
-    for request in requests {
-        stream.extend_from_slice(request)?;
-    }
-    Ok(stream)
+    true
 }
 
 #[test]
 fn requests_of_a_connection(rt: HostRuntime) -> Result<(), Fail> {
-    let stream = stream_of(rt.alloc(), &[POSTED, b"\r\n", POSTED, CLOSING, POSTED])?;
+    let stream = joined(rt.alloc(), &[POSTED, b"\r\n", POSTED, CLOSING, POSTED])?;
     let mut inbox = Inbox::new();
-    for cut in 0..=stream.len() {
-        let mut reader = Pieces::cut_at(stream.as_slice(), cut);
-        inbox.clear();
-        for (served, answer) in [
-            (Served::Kept, KEPT),
-            (Served::Kept, KEPT),
-            (Served::Closed, CLOSED),
-        ] {
-            let next = next(rt.alloc(), &mut reader, &mut inbox);
-            assert!(rt; next.served == Ok(served) && next.is_right, "{cut}");
-            assert!(rt; next.text.as_slice() == answer, "{cut}");
-        }
-    }
+    assert!(rt; are_served(rt.alloc(), stream.as_slice(), &mut inbox));
     Ok(())
 }
 
@@ -77,14 +57,18 @@ static ALONE: [(&[u8], Served, u32, &[u8]); 7] = [
     (b"", Served::Ended, 0, b""),
 ];
 
+// Serves the first request of a connection that is cut there.
+fn serve_alone(alloc: Global, stream: &[u8], cut: usize, inbox: &mut Inbox) -> Outcome {
+    inbox.clear();
+    serve_next_packet(alloc, &mut Pieces::cut_at(stream, cut), inbox)
+}
+
 #[test]
 fn one_request_of_a_connection(rt: HostRuntime) -> Result<(), Fail> {
     let mut inbox = Inbox::new();
     for (i, (stream, served, questions, text)) in ALONE.iter().enumerate() {
         for cut in 0..=stream.len() {
-            let mut reader = Pieces::cut_at(stream, cut);
-            inbox.clear();
-            let next = next(rt.alloc(), &mut reader, &mut inbox);
+            let next = serve_alone(rt.alloc(), stream, cut, &mut inbox);
             assert!(rt;
                 next.served == Ok(*served) && next.questions == *questions,
                 "{i} {cut}"
@@ -99,17 +83,10 @@ fn one_request_of_a_connection(rt: HostRuntime) -> Result<(), Fail> {
 fn a_client_that_waits(rt: HostRuntime) -> Result<(), Fail> {
     let (head, _) = WAITING.split_at(WAITING.len().saturating_sub(5));
     let mut inbox = Inbox::new();
-    let mut reader = Pieces::cut_at(head, 0);
-    let cut_off = next(rt.alloc(), &mut reader, &mut inbox);
-    assert!(rt; cut_off.served == Ok(Served::Ended) && cut_off.questions == 0);
-    assert!(rt; cut_off.text.as_slice() == CONTINUE);
-    let mut reader = Pieces::cut_at(WAITING, 0);
-    let whole = next(rt.alloc(), &mut reader, &mut inbox);
-    let (front, rest) = whole
-        .text
-        .as_slice()
-        .split_at(CONTINUE.len().min(whole.text.len()));
-    assert!(rt; whole.is_right && front == CONTINUE && rest == KEPT);
+    let cut_off = serve_next_packet(rt.alloc(), &mut Pieces::cut_at(head, 0), &mut inbox);
+    assert!(rt; cut_off.is_unasked(Ok(Served::Ended), CONTINUE));
+    let whole = serve_next_packet(rt.alloc(), &mut Pieces::cut_at(WAITING, 0), &mut inbox);
+    assert!(rt; whole.is_right && is_joined(whole.text.as_slice(), CONTINUE, KEPT));
     Ok(())
 }
 
@@ -121,30 +98,40 @@ fn request_of(alloc: Global, head: usize, body: usize) -> Result<Vec<u8>, Fail> 
     )?;
     stream.extend_from_slice(body.to_string(alloc)?.as_bytes())?;
     stream.extend_from_slice(b"\r\nB:")?;
-    for _ in stream.len()..head.saturating_sub(4) {
-        stream.push(b'b')?;
-    }
+    fill(&mut stream, b'b', head.saturating_sub(4))?;
     stream.extend_from_slice(b"\r\n\r\n")?;
-    for _ in 0..body {
-        stream.push(b'b')?;
-    }
+    repeat(&mut stream, b"b", body)?;
     Ok(stream)
+}
+
+// The largest body behind a head of so many bytes, and one more request.
+fn largest_of(alloc: Global, head: usize) -> Result<Vec<u8>, Fail> {
+    let mut stream = request_of(alloc, head, 34_000)?;
+    stream.extend_from_slice(POSTED)?;
+    Ok(stream)
+}
+
+// Whether both are served.
+fn is_largest_served(alloc: Global, head: usize, inbox: &mut Inbox) -> Result<bool, Fail> {
+    let stream = largest_of(alloc, head)?;
+    let mut reader = Pieces::cut_at(stream.as_slice(), 0);
+    let first = serve_next_packet(alloc, &mut reader, inbox);
+    let second = serve_next_packet(alloc, &mut reader, inbox);
+    Ok(first.text.as_slice() == KEPT && second.is_answered(Served::Kept, KEPT))
+}
+
+// Whether the first is refused.
+fn is_largest_refused(alloc: Global, head: usize, inbox: &mut Inbox) -> Result<bool, Fail> {
+    let stream = largest_of(alloc, head)?;
+    let first = serve_alone(alloc, stream.as_slice(), 0, inbox);
+    Ok(first.text.as_slice() == BAD)
 }
 
 #[test]
 fn the_largest_request(rt: HostRuntime) -> Result<(), Fail> {
-    for (head, answer) in [(8_192, KEPT), (8_193, BAD)] {
-        let mut stream = request_of(rt.alloc(), head, 34_000)?;
-        stream.extend_from_slice(POSTED)?;
-        let mut inbox = Inbox::new();
-        let mut reader = Pieces::cut_at(stream.as_slice(), 0);
-        let first = next(rt.alloc(), &mut reader, &mut inbox);
-        assert!(rt; first.text.as_slice() == answer, "{head}");
-        if answer == KEPT {
-            let second = next(rt.alloc(), &mut reader, &mut inbox);
-            assert!(rt; second.is_right && second.text.as_slice() == KEPT);
-        }
-    }
+    let mut inbox = Inbox::new();
+    assert!(rt; is_largest_served(rt.alloc(), 8_192, &mut inbox)?);
+    assert!(rt; is_largest_refused(rt.alloc(), 8_193, &mut inbox)?);
     Ok(())
 }
 
@@ -155,7 +142,7 @@ fn what_a_connection_waits_for(rt: HostRuntime) -> Result<(), Fail> {
     assert!(rt; inbox.await_more(&mut reader) == Ok(true));
     let left = reader.bytes.len();
     assert!(rt; inbox.await_more(&mut reader) == Ok(true) && reader.bytes.len() == left);
-    let served = next(rt.alloc(), &mut reader, &mut inbox);
+    let served = serve_next_packet(rt.alloc(), &mut reader, &mut inbox);
     assert!(rt; served.is_right);
     assert!(rt; inbox.await_more(&mut reader) == Ok(false));
     let mut broken = Pieces::failing_after(POSTED, 0);
@@ -168,11 +155,8 @@ fn connections_that_fail(rt: HostRuntime) -> Result<(), Fail> {
     for reads in 0..POSTED.len() {
         let mut inbox = Inbox::new();
         let mut reader = Pieces::failing_after(POSTED, reads);
-        let next = next(rt.alloc(), &mut reader, &mut inbox);
-        assert!(rt;
-            next.served == Err(LinkFault::Read) && next.questions == 0 && next.text.is_empty(),
-            "{reads}"
-        );
+        let next = serve_next_packet(rt.alloc(), &mut reader, &mut inbox);
+        assert!(rt; next.is_unasked(Err(LinkFault::Read), b""), "{reads}");
     }
     Ok(())
 }

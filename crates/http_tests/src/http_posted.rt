@@ -1,10 +1,9 @@
 //! Packets that are posted, and what the answers of peers mean, as the standards and our formats say.
 
-ghost use Rattle.std.specs.Prelude.{◌≡◌, ◌≤◌, length};
-
 use crate::http_devices::{Pieces, Taken};
-use http_link::{PostFault, post};
-use ilp_addr::Target;
+use crate::http_outcomes::{Posted, post_to_bob};
+use crate::http_texts::{fill, is_joined, repeat};
+use http_link::PostFault;
 use std::alloc::Global;
 use std::test::Fail;
 
@@ -123,64 +122,55 @@ static ROWS: [(usize, &[u8], Result<usize, PostFault>); 27] = [
 
 fn answer_of(alloc: Global, early: usize, head: &[u8]) -> Result<Vec<u8>, Fail> {
     let mut answer = Vec::new(alloc);
-    for _ in 0..early {
-        answer.extend_from_slice(EARLY)?;
-    }
+    repeat(&mut answer, EARLY, early)?;
     answer.extend_from_slice(head)?;
     answer.extend_from_slice(FULFILLED)?;
     Ok(answer)
 }
 
-fn room(alloc: Global) -> Result<Vec<u8>, Fail> {
-    Ok(vec![in alloc; 0; 34_000]?)
+// Posts the packet to a peer who answers so.
+fn post_for(alloc: Global, answer: &[u8], cut: usize) -> Result<Posted, Fail> {
+    let mut reader = Pieces::cut_at(answer, cut);
+    post_to_bob(alloc, &mut reader, Taken::whole(alloc), SENT)
 }
 
-fn bob() -> Result<Target, Fail> {
-    Ok(Target::new(b"http://127.0.0.1:7802/ilp", b"out-bob").ok_or("a target")?)
+// Whether that is found in the answer, with the front of the Fulfill, and the packet is written whole.
+fn is_found(
+    alloc: Global,
+    answer: &[u8],
+    cut: usize,
+    wanted: Result<usize, PostFault>,
+) -> Result<bool, Fail> {
+    let posted = post_for(alloc, answer, cut)?;
+    let is_front = match posted.found {
+        Ok(n) => posted.room.as_slice().get(..n) == FULFILLED.get(..n),
+        Err(_) => true,
+    };
+    let is_written = is_joined(posted.text.as_slice(), HEAD, SENT);
+    Ok(posted.found == wanted && is_front && is_written)
 }
 
 #[test]
 fn answers_mean_the_same_however_they_are_cut(rt: HostRuntime) -> Result<(), Fail> {
-    let target = bob()?;
     for (i, (early, head, wanted)) in ROWS.iter().enumerate() {
         let answer = answer_of(rt.alloc(), *early, head)?;
         for cut in 0..=answer.len() {
-            let mut reader = Pieces::cut_at(answer.as_slice(), cut);
-            let mut writer = Taken::whole(rt.alloc());
-            let mut out = room(rt.alloc())?;
-            assert!(rt; out.len() >= 34_000);
-            let found = post(&mut reader, &mut writer, &target, SENT, &mut out);
-            assert!(rt; found == *wanted, "{i} {cut}");
-            if let Ok(n) = found {
-                assert!(rt; out.as_slice().get(..n) == FULFILLED.get(..n), "{i} {cut}");
-            }
-            let (front, frame) = writer
-                .bytes
-                .as_slice()
-                .split_at(HEAD.len().min(writer.bytes.len()));
-            assert!(rt; front == HEAD && frame == SENT.as_slice(), "{i} {cut}");
+            assert!(rt;
+                is_found(rt.alloc(), answer.as_slice(), cut, *wanted)?,
+                "{i} {cut}"
+            );
         }
     }
     Ok(())
 }
 
-fn posted_to(alloc: Global, answer: &[u8], out: &mut [u8]) -> Result<Result<usize, PostFault>, Fail>
-    requires { 34_000 ≤ length out.old }
-    ensures { length out.new ≡ length out.old }
-{
-    let mut reader = Pieces::cut_at(answer, 0);
-    let mut writer = Taken::whole(alloc);
-    Ok(post(&mut reader, &mut writer, &bob()?, SENT, out))
-}
-
 #[test]
 fn answers_that_end_early(rt: HostRuntime) -> Result<(), Fail> {
-    let mut out = room(rt.alloc())?;
-    assert!(rt; out.len() >= 34_000);
     let answer = answer_of(rt.alloc(), 1, SIZED)?;
     for n in 0..answer.len() {
-        let found = posted_to(rt.alloc(), &answer.as_slice()[..n], &mut out)?;
-        assert!(rt; found == Err(PostFault::Cut), "{n}");
+        let (front, _) = answer.as_slice().split_at(n);
+        let posted = post_for(rt.alloc(), front, 0)?;
+        assert!(rt; posted.found == Err(PostFault::Cut), "{n}");
     }
     Ok(())
 }
@@ -208,88 +198,116 @@ static LIMITS: [(&[u8], usize, usize, usize, Result<usize, PostFault>); 7] = [
     ),
 ];
 
+// An answer whose head has so many bytes, and so many lines behind its front, and with a body of so many bytes.
+fn answer_with(
+    alloc: Global,
+    front: &[u8],
+    size: usize,
+    lines: usize,
+    body: usize,
+) -> Result<Vec<u8>, Fail> {
+    let mut answer = Vec::from_slice(alloc, front)?;
+    repeat(&mut answer, b"A:\r\n", lines.saturating_sub(1))?;
+    answer.extend_from_slice(b"B:")?;
+    fill(&mut answer, b'b', size.saturating_sub(4))?;
+    answer.extend_from_slice(b"\r\n\r\n")?;
+    repeat(&mut answer, b"x", body)?;
+    Ok(answer)
+}
+
 #[test]
 fn answers_at_their_limits(rt: HostRuntime) -> Result<(), Fail> {
-    let mut out = room(rt.alloc())?;
-    for (front, size, lines, body, wanted) in LIMITS {
-        let mut answer = Vec::from_slice(rt.alloc(), front)?;
-        for _ in 1..lines {
-            answer.extend_from_slice(b"A:\r\n")?;
-        }
-        answer.extend_from_slice(b"B:")?;
-        for _ in answer.len()..size - 4 {
-            answer.push(b'b')?;
-        }
-        answer.extend_from_slice(b"\r\n\r\n")?;
-        for _ in 0..body {
-            answer.push(b'x')?;
-        }
-        assert!(rt; out.len() >= 34_000);
-        let found = posted_to(rt.alloc(), answer.as_slice(), &mut out)?;
-        assert!(rt; found == wanted, "{size} {lines} {body}");
+    for (front, size, lines, body, wanted) in &LIMITS {
+        let answer = answer_with(rt.alloc(), front, *size, *lines, *body)?;
+        let posted = post_for(rt.alloc(), answer.as_slice(), 0)?;
+        assert!(rt; posted.found == *wanted, "{size} {lines} {body}");
     }
     Ok(())
+}
+
+fn put_line(answer: &mut Vec<u8>) -> Result<(), Fail> {
+    answer.extend_from_slice(b"A:")?;
+    repeat(answer, b"a", 124)?;
+    answer.extend_from_slice(b"\r\n")?;
+    Ok(())
+}
+
+// A 103 head of 62 lines behind its first.
+fn put_early(answer: &mut Vec<u8>) -> Result<(), Fail> {
+    answer.extend_from_slice(b"HTTP/1.1 103 Early Hints\r\n")?;
+    for _ in 0..62 {
+        put_line(answer)?;
+    }
+    answer.extend_from_slice(b"\r\n")?;
+    Ok(())
+}
+
+// Four such heads come first, and a body of 34,000 bytes last.
+fn long_answer(alloc: Global) -> Result<Vec<u8>, Fail> {
+    let mut answer = Vec::new(alloc);
+    for _ in 0..4 {
+        put_early(&mut answer)?;
+    }
+    answer.extend_from_slice(b"HTTP/1.1 200 OK\r\n\r\n")?;
+    repeat(&mut answer, b"x", 34_000)?;
+    Ok(answer)
+}
+
+// Whether the answer takes too many reads of one byte, and is read whole by larger ones.
+fn takes_too_many_reads(alloc: Global, answer: &[u8]) -> Result<bool, Fail> {
+    let mut reader = Pieces::failing_after(answer, usize::MAX);
+    let dripped = post_to_bob(alloc, &mut reader, Taken::whole(alloc), SENT)?;
+    let whole = post_for(alloc, answer, 0)?;
+    Ok(
+        dripped.found == Err(PostFault::Turns)
+            && reader.bytes.len().checked_add(50_000) == Some(answer.len())
+            && whole.found == Ok(34_000),
+    )
 }
 
 #[test]
 fn answers_that_take_too_many_reads(rt: HostRuntime) -> Result<(), Fail> {
-    let mut out = room(rt.alloc())?;
-    assert!(rt; out.len() >= 34_000);
-    let mut answer = Vec::new(rt.alloc());
-    for _ in 0..4 {
-        answer.extend_from_slice(b"HTTP/1.1 103 Early Hints\r\n")?;
-        for _ in 0..62 {
-            answer.extend_from_slice(b"A:")?;
-            for _ in 0..124 {
-                answer.push(b'a')?;
-            }
-            answer.extend_from_slice(b"\r\n")?;
-        }
-        answer.extend_from_slice(b"\r\n")?;
-    }
-    answer.extend_from_slice(b"HTTP/1.1 200 OK\r\n\r\n")?;
-    for _ in 0..34_000 {
-        answer.push(b'x')?;
-    }
-    let mut reader = Pieces::failing_after(answer.as_slice(), usize::MAX);
-    let mut writer = Taken::whole(rt.alloc());
-    let found = post(&mut reader, &mut writer, &bob()?, SENT, &mut out);
-    assert!(rt; found == Err(PostFault::Turns));
-    assert!(rt; answer.len() == 50_000 + reader.bytes.len());
-    let found = posted_to(rt.alloc(), answer.as_slice(), &mut out)?;
-    assert!(rt; found == Ok(34_000));
+    let answer = long_answer(rt.alloc())?;
+    assert!(rt; takes_too_many_reads(rt.alloc(), answer.as_slice())?);
     Ok(())
+}
+
+// Whether the packet is posted, or a fault is told, where the answer can be read so often, one byte at a time.
+fn is_read(alloc: Global, answer: &[u8], reads: usize) -> Result<bool, Fail> {
+    let mut reader = Pieces::failing_after(answer, reads);
+    let posted = post_to_bob(alloc, &mut reader, Taken::whole(alloc), SENT)?;
+    let wanted = if reads < answer.len() {
+        Err(PostFault::Read)
+    } else {
+        Ok(35)
+    };
+    Ok(posted.found == wanted)
+}
+
+// Whether the packet is posted, or a fault is told, where so many bytes of it can be written, and they are.
+fn is_written(alloc: Global, answer: &[u8], writes: usize) -> Result<bool, Fail> {
+    let mut reader = Pieces::cut_at(answer, 0);
+    let writer = Taken::failing_after(alloc, writes);
+    let posted = post_to_bob(alloc, &mut reader, writer, SENT)?;
+    let wanted = if writes < HEAD.len() + SENT.len() {
+        Err(PostFault::Write)
+    } else {
+        Ok(35)
+    };
+    Ok(posted.found == wanted && posted.text.len() == writes)
 }
 
 #[test]
 fn devices_that_fail(rt: HostRuntime) -> Result<(), Fail> {
-    let mut out = room(rt.alloc())?;
-    let target = bob()?;
     let answer = answer_of(rt.alloc(), 1, SIZED)?;
     for reads in 0..=answer.len() {
-        let mut reader = Pieces::failing_after(answer.as_slice(), reads);
-        let mut writer = Taken::whole(rt.alloc());
-        assert!(rt; out.len() >= 34_000);
-        let found = post(&mut reader, &mut writer, &target, SENT, &mut out);
-        let wanted = if reads < answer.len() {
-            Err(PostFault::Read)
-        } else {
-            Ok(35)
-        };
-        assert!(rt; found == wanted, "{reads}");
+        assert!(rt; is_read(rt.alloc(), answer.as_slice(), reads)?, "{reads}");
     }
     for writes in 0..=HEAD.len() + SENT.len() {
-        let mut reader = Pieces::cut_at(answer.as_slice(), 0);
-        let mut writer = Taken::failing_after(rt.alloc(), writes);
-        assert!(rt; out.len() >= 34_000);
-        let found = post(&mut reader, &mut writer, &target, SENT, &mut out);
-        let wanted = if writes < HEAD.len() + SENT.len() {
-            Err(PostFault::Write)
-        } else {
-            Ok(35)
-        };
-        assert!(rt; found == wanted, "{writes}");
-        assert!(rt; writer.bytes.len() == writes, "{writes}");
+        assert!(rt;
+            is_written(rt.alloc(), answer.as_slice(), writes)?,
+            "{writes}"
+        );
     }
     Ok(())
 }

@@ -1,9 +1,11 @@
 //! Requests that are served, row by row of the table of checks, in both versions and however they are cut.
 
-ghost use Rattle.std.specs.Prelude.{◌≡◌, ◌≤◌, ◌+◌, ◌-◌, ◌^◌, min, length};
+ghost use Rattle.std.specs.Prelude.{◌≡◌, ◌+◌, ◌-◌, ◌^◌, min};
 
 use crate::http_devices::{Pieces, Taken};
-use http_link::{LinkFault, RequestKind, Served, Service, serve_one};
+use crate::http_outcomes::{Outcome, serve, serve_packet};
+use crate::http_texts::{bytes_of, fill, first_cell, is_joined, joined, repeat};
+use http_link::{LinkFault, RequestKind, Served, Service};
 use std::alloc::Global;
 use std::test::Fail;
 
@@ -115,256 +117,170 @@ const LINES_CLOSED: &[u8] =
     b"HTTP/1.1 200 OK\r\nContent-Type: text/plain\r\nContent-Length: 5\r\nConnection: close\r\n\r\nreply";
 
 // The line of a request without its version, its fields, and the answer that refuses it; five bytes follow.
-static REFUSED: [(&[u8], &[u8], &[u8]); 34] = [
-    (b"GET /ilp/acme", b"", NO_POST),
-    (b"post /ilp/acme", b"", NO_POST),
-    (b"POSTS /ilp/none", b"Content-Length: x\r\n", NO_POST),
-    (b"POST /ilp/none", b"Content-Length: x\r\n", UNKNOWN),
-    (b"POST /ilp/Acme", b"", UNKNOWN),
-    (b"POST /ilp/acme/", b"", UNKNOWN),
-    (b"POST /ilp/acme?x", b"", UNKNOWN),
-    (b"POST /ILP/acme", b"", UNKNOWN),
-    (b"POST /ilp/", b"", UNKNOWN),
-    (b"POST /admin/none", b"", UNKNOWN),
-    (b"POST http://h/ilp/acme", b"", UNKNOWN),
-    (b"POST /", b"", UNKNOWN),
-    (
-        b"POST /ilp/acme",
-        b"Content-Length: 5\r\nContent-Length: 5\r\n",
-        BAD,
-    ),
-    (
-        b"POST /ilp/acme",
-        b"Content-Length: 5\r\nTransfer-Encoding: chunked\r\n",
-        BAD,
-    ),
-    (
-        b"POST /ilp/acme",
-        b"transfer-encoding: x\r\ncontent-length: 5\r\n",
-        BAD,
-    ),
-    (b"POST /ilp/acme", b"Content-Length: 5, 5\r\n", BAD),
-    (b"POST /ilp/acme", b"Content-Length: -5\r\n", BAD),
-    (b"POST /ilp/acme", b"Content-Length:\r\n", BAD),
-    (b"POST /ilp/acme", b"Content-Length: 00000000005\r\n", BAD),
-    (b"POST /ilp/acme", b"Content-Length: 99999999999\r\n", BAD),
-    (b"POST /ilp/acme", b"", NO_LENGTH),
-    (b"POST /ilp/acme", b"Transfer-Encoding: gzip\r\n", BAD),
-    (
-        b"POST /ilp/acme",
-        b"Transfer-Encoding: chunked\r\nTransfer-Encoding: chunked\r\n",
-        BAD,
-    ),
-    (b"POST /ilp/acme", b"Content-Length: 34001\r\n", LARGE),
-    (b"POST /ilp/acme", b"Content-Length: 9999999999\r\n", LARGE),
-    (b"POST /admin/acme", b"Content-Length: 2049\r\n", LARGE),
-    (
-        b"POST /ilp/acme",
-        b"Content-Length: 34000\r\n",
-        UNAUTHORIZED,
-    ),
-    (
-        b"POST /admin/acme",
-        b"Content-Length: 2048\r\n",
-        UNAUTHORIZED,
-    ),
-    (
-        b"POST /ilp/acme",
-        b"Content-Length: 5\r\nAuthorization: Bearer a\r\nAuthorization: Bearer a\r\n",
-        UNAUTHORIZED,
-    ),
-    (
-        b"POST /ilp/acme",
-        b"Content-Length: 5\r\nAuthorization: Basic tok-Bob\r\n",
-        UNAUTHORIZED,
-    ),
-    (
-        b"POST /ilp/acme",
-        b"Content-Length: 5\r\nAuthorization: Bearer\r\n",
-        UNAUTHORIZED,
-    ),
-    (
-        b"POST /ilp/acme",
-        b"Content-Length: 5\r\nAuthorization: Bearertok-Bob\r\n",
-        UNAUTHORIZED,
-    ),
-    (
-        b"POST /ilp/acme",
-        b"Content-Length: 5\r\nAuthorization: Bearer\ttok-Bob\r\n",
-        UNAUTHORIZED,
-    ),
-    (
-        b"POST /ilp/acme",
-        b"Content-Length: 5\r\nAuthorization: Bearer tok Bob\r\n",
-        UNAUTHORIZED,
-    ),
-];
+static REFUSED: &str = r"GET /ilp/acme||NO_POST
+post /ilp/acme||NO_POST
+POSTS /ilp/none|Content-Length: x\r\n|NO_POST
+POST /ilp/none|Content-Length: x\r\n|UNKNOWN
+POST /ilp/Acme||UNKNOWN
+POST /ilp/acme/||UNKNOWN
+POST /ilp/acme?x||UNKNOWN
+POST /ILP/acme||UNKNOWN
+POST /ilp/||UNKNOWN
+POST /admin/none||UNKNOWN
+POST http://h/ilp/acme||UNKNOWN
+POST /||UNKNOWN
+POST /ilp/acme|Content-Length: 5\r\nContent-Length: 5\r\n|BAD
+POST /ilp/acme|Content-Length: 5\r\nTransfer-Encoding: chunked\r\n|BAD
+POST /ilp/acme|transfer-encoding: x\r\ncontent-length: 5\r\n|BAD
+POST /ilp/acme|Content-Length: 5, 5\r\n|BAD
+POST /ilp/acme|Content-Length: -5\r\n|BAD
+POST /ilp/acme|Content-Length:\r\n|BAD
+POST /ilp/acme|Content-Length: 00000000005\r\n|BAD
+POST /ilp/acme|Content-Length: 99999999999\r\n|BAD
+POST /ilp/acme||NO_LENGTH
+POST /ilp/acme|Transfer-Encoding: gzip\r\n|BAD
+POST /ilp/acme|Transfer-Encoding: chunked\r\nTransfer-Encoding: chunked\r\n|BAD
+POST /ilp/acme|Content-Length: 34001\r\n|LARGE
+POST /ilp/acme|Content-Length: 9999999999\r\n|LARGE
+POST /admin/acme|Content-Length: 2049\r\n|LARGE
+POST /ilp/acme|Content-Length: 34000\r\n|UNAUTHORIZED
+POST /admin/acme|Content-Length: 2048\r\n|UNAUTHORIZED
+POST /ilp/acme|Content-Length: 5\r\nAuthorization: Bearer a\r\nAuthorization: Bearer a\r\n|UNAUTHORIZED
+POST /ilp/acme|Content-Length: 5\r\nAuthorization: Basic tok-Bob\r\n|UNAUTHORIZED
+POST /ilp/acme|Content-Length: 5\r\nAuthorization: Bearer\r\n|UNAUTHORIZED
+POST /ilp/acme|Content-Length: 5\r\nAuthorization: Bearertok-Bob\r\n|UNAUTHORIZED
+POST /ilp/acme|Content-Length: 5\r\nAuthorization: Bearer\ttok-Bob\r\n|UNAUTHORIZED
+POST /ilp/acme|Content-Length: 5\r\nAuthorization: Bearer tok Bob\r\n|UNAUTHORIZED";
 
-// The line of a request without its version, its fields, who is asked what, and whether a 1.1 connection is closed.
-static ASKED: [(&[u8], &[u8], RequestKind, usize, bool); 13] = [
-    (
-        b"POST /ilp/acme",
-        b"Content-Length: 5\r\nAuthorization: Bearer tok-Bob\r\n",
-        RequestKind::Ilp,
-        0,
-        false,
-    ),
-    (
-        b"POST /ilp/beta",
-        b"Content-Length: 5\r\nAuthorization: Bearer tok-Bob\r\n",
-        RequestKind::Ilp,
-        1,
-        false,
-    ),
-    (
-        b"POST /admin/beta",
-        b"Content-Length: 5\r\nAuthorization: Bearer tok-Bob\r\n",
-        RequestKind::Admin,
-        1,
-        false,
-    ),
-    (
-        b"POST /ilp/acme",
-        b"content-LENGTH:0000000005\r\naUTHORIZATION:\tbeaRER    tok-Bob \t\r\n",
-        RequestKind::Ilp,
-        0,
-        false,
-    ),
-    (
-        b"POST /ilp/acme",
-        b"Host:\r\nContent-Length: 5 \r\nAuthorization: BEARER tok-Bob\r\nAccept: */*\r\n",
-        RequestKind::Ilp,
-        0,
-        false,
-    ),
-    (
-        b"POST /ilp/acme",
-        b"Content-Length: 5\r\nAuthorization: Bearer tok-Bob\r\nConnection: close\r\n",
-        RequestKind::Ilp,
-        0,
-        true,
-    ),
-    (
-        b"POST /ilp/acme",
-        b"connection: CLOSE\r\nContent-Length: 5\r\nAuthorization: Bearer tok-Bob\r\n",
-        RequestKind::Ilp,
-        0,
-        true,
-    ),
-    (
-        b"POST /ilp/acme",
-        b"Content-Length: 5\r\nAuthorization: Bearer tok-Bob\r\nConnection: keep-alive,\t Close \t, x\r\n",
-        RequestKind::Ilp,
-        0,
-        true,
-    ),
-    (
-        b"POST /ilp/acme",
-        b"Connection: a\r\nContent-Length: 5\r\nAuthorization: Bearer tok-Bob\r\nConnection: ,close\r\n",
-        RequestKind::Ilp,
-        0,
-        true,
-    ),
-    (
-        b"POST /ilp/acme",
-        b"Content-Length: 5\r\nAuthorization: Bearer tok-Bob\r\nConnection: closed, not close\r\n",
-        RequestKind::Ilp,
-        0,
-        false,
-    ),
-    (
-        b"POST /ilp/acme",
-        b"Content-Length: 5\r\nAuthorization: Bearer tok-Bob\r\nConnection: keep-alive\r\n",
-        RequestKind::Ilp,
-        0,
-        false,
-    ),
-    (
-        b"POST /ilp/acme",
-        b"Content-Length: 5\r\nAuthorization: Bearer tok-Bob\r\nExpect: 200-ok\r\n",
-        RequestKind::Ilp,
-        0,
-        false,
-    ),
-    (
-        b"POST /ilp/acme",
-        b"Content-Length: 5\r\nAuthorization: Bearer tok-Bob\r\nPrefer: respond-async\r\n",
-        RequestKind::Ilp,
-        0,
-        false,
-    ),
-];
+// The path of a request, its fields, what is asked of which tenant, and whether a 1.1 connection is kept or closed.
+static ASKED: &str = r"/ilp/acme|Content-Length: 5\r\nAuthorization: Bearer tok-Bob\r\n|ilp 0|kept
+/ilp/beta|Content-Length: 5\r\nAuthorization: Bearer tok-Bob\r\n|ilp 1|kept
+/admin/beta|Content-Length: 5\r\nAuthorization: Bearer tok-Bob\r\n|admin 1|kept
+/ilp/acme|content-LENGTH:0000000005\r\naUTHORIZATION:\tbeaRER    tok-Bob \t\r\n|ilp 0|kept
+/ilp/acme|Host:\r\nContent-Length: 5 \r\nAuthorization: BEARER tok-Bob\r\nAccept: */*\r\n|ilp 0|kept
+/ilp/acme|Content-Length: 5\r\nAuthorization: Bearer tok-Bob\r\nConnection: close\r\n|ilp 0|closed
+/ilp/acme|connection: CLOSE\r\nContent-Length: 5\r\nAuthorization: Bearer tok-Bob\r\n|ilp 0|closed
+/ilp/acme|Content-Length: 5\r\nAuthorization: Bearer tok-Bob\r\nConnection: keep-alive,\t Close \t, x\r\n|ilp 0|closed
+/ilp/acme|Connection: a\r\nContent-Length: 5\r\nAuthorization: Bearer tok-Bob\r\nConnection: ,close\r\n|ilp 0|closed
+/ilp/acme|Content-Length: 5\r\nAuthorization: Bearer tok-Bob\r\nConnection: closed, not close\r\n|ilp 0|kept
+/ilp/acme|Content-Length: 5\r\nAuthorization: Bearer tok-Bob\r\nConnection: keep-alive\r\n|ilp 0|kept
+/ilp/acme|Content-Length: 5\r\nAuthorization: Bearer tok-Bob\r\nExpect: 200-ok\r\n|ilp 0|kept
+/ilp/acme|Content-Length: 5\r\nAuthorization: Bearer tok-Bob\r\nPrefer: respond-async\r\n|ilp 0|kept";
+
+fn answer_of(name: &str) -> &'static [u8] {
+    match name {
+        "BAD" => BAD,
+        "UNAUTHORIZED" => UNAUTHORIZED,
+        "UNKNOWN" => UNKNOWN,
+        "NO_POST" => NO_POST,
+        "NO_LENGTH" => NO_LENGTH,
+        "LARGE" => LARGE,
+        _ => b"",
+    }
+}
+
+fn question_of(name: &str) -> Result<(RequestKind, usize), Fail> {
+    match name {
+        "ilp 0" => Ok((RequestKind::Ilp, 0)),
+        "ilp 1" => Ok((RequestKind::Ilp, 1)),
+        "admin 1" => Ok((RequestKind::Admin, 1)),
+        _ => Err(Fail::from("a question")),
+    }
+}
 
 pub(crate) const POSTED: &[u8] =
     b"POST /ilp/acme HTTP/1.1\r\nContent-Length: 5\r\nAuthorization: Bearer tok-Bob\r\n\r\nframe";
 
-fn request(alloc: Global, line: &[u8], minor: u8, fields: &[u8]) -> Result<Vec<u8>, Fail> {
-    let mut stream = Vec::from_slice(alloc, line)?;
-    stream.extend_from_slice(b" HTTP/1.")?;
-    stream.push(minor)?;
-    stream.extend_from_slice(b"\r\n")?;
-    stream.extend_from_slice(fields)?;
-    stream.extend_from_slice(b"\r\nframe")?;
-    Ok(stream)
+fn request(alloc: Global, line: &[u8], minor: &[u8], fields: &[u8]) -> Result<Vec<u8>, Fail> {
+    joined(
+        alloc,
+        &[line, b" HTTP/1.", minor, b"\r\n", fields, b"\r\nframe"],
+    )
 }
 
-fn room(alloc: Global) -> Result<Vec<u8>, Fail> {
-    Ok(vec![in alloc; 0; 34_000]?)
+// The request of two cells.
+fn request_of(alloc: Global, line: &str, minor: &[u8], fields: &str) -> Result<Vec<u8>, Fail> {
+    let fields = bytes_of(alloc, fields)?;
+    request(alloc, line.as_bytes(), minor, fields.as_slice())
+}
+
+// Whether it is refused with that answer, however it is cut, and what follows its head is left.
+fn is_refused(alloc: Global, stream: &[u8], answer: &[u8]) -> Result<bool, Fail> {
+    for cut in 0..=stream.len() {
+        let mut reader = Pieces::cut_at(stream, cut);
+        let outcome = serve_packet(alloc, &mut reader)?;
+        if !outcome.is_unasked(Ok(Served::Closed), answer) || reader.bytes != b"frame".as_slice() {
+            return Ok(false);
+        }
+    }
+    Ok(true)
+}
+
+// Whether a row's request of that version is refused.
+fn is_row_refused(alloc: Global, row: &'static str, minor: &[u8]) -> Result<bool, Fail> {
+    let (line, rest) = first_cell(row)?;
+    let (fields, name) = first_cell(rest)?;
+    let stream = request_of(alloc, line, minor, fields)?;
+    is_refused(alloc, stream.as_slice(), answer_of(name))
 }
 
 #[test]
 fn refusals(rt: HostRuntime) -> Result<(), Fail> {
-    let mut room = room(rt.alloc())?;
-    assert!(rt; room.len() >= 34_000);
-    for (i, (line, fields, answer)) in REFUSED.iter().enumerate() {
-        for minor in [b'0', b'1'] {
-            let stream = request(rt.alloc(), line, minor, fields)?;
-            for cut in 0..=stream.len() {
-                let mut reader = Pieces::cut_at(stream.as_slice(), cut);
-                let mut writer = Taken::whole(rt.alloc());
-                let mut desk = Desk::new(RequestKind::Ilp, 0);
-                let served = serve_one(&mut reader, &mut writer, &mut desk, &mut room);
-                assert!(rt;
-                    served == Ok(Served::Closed) && desk.questions == 0,
-                    "{i} {cut}"
-                );
-                assert!(rt; writer.bytes.as_slice() == *answer, "{i} {cut}");
-                assert!(rt; reader.bytes == b"frame".as_slice(), "{i} {cut}");
-            }
-        }
+    for row in REFUSED.lines() {
+        assert!(rt; is_row_refused(rt.alloc(), row, b"0")?, "{row}");
+        assert!(rt; is_row_refused(rt.alloc(), row, b"1")?, "{row}");
     }
     Ok(())
 }
 
+// What is posted to a path, with the fields of a cell.
+fn posted(alloc: Global, path: &str, minor: &[u8], fields: &str) -> Result<Vec<u8>, Fail> {
+    let line = joined(alloc, &[b"POST ", path.as_bytes()])?;
+    let fields = bytes_of(alloc, fields)?;
+    request(alloc, line.as_slice(), minor, fields.as_slice())
+}
+
+// Whether that is asked, however the request is cut, and all of it is read.
+fn is_answered(
+    alloc: Global,
+    stream: &[u8],
+    kind: RequestKind,
+    tenant: usize,
+    is_closed: bool,
+) -> Result<bool, Fail> {
+    let (wanted, answer) = match (kind, is_closed) {
+        (RequestKind::Ilp, false) => (Served::Kept, KEPT),
+        (RequestKind::Ilp, true) => (Served::Closed, CLOSED),
+        (RequestKind::Admin, false) => (Served::Kept, LINES),
+        (RequestKind::Admin, true) => (Served::Closed, LINES_CLOSED),
+    };
+    for cut in 0..=stream.len() {
+        let mut reader = Pieces::cut_at(stream, cut);
+        let desk = Desk::new(kind, tenant);
+        let outcome = serve(alloc, &mut reader, Taken::whole(alloc), desk)?;
+        if !outcome.is_answered(wanted, answer) || !reader.bytes.is_empty() {
+            return Ok(false);
+        }
+    }
+    Ok(true)
+}
+
+// Whether a row's question is asked in that version.
+fn is_row_answered(alloc: Global, row: &'static str, minor: &[u8]) -> Result<bool, Fail> {
+    let (path, rest) = first_cell(row)?;
+    let (fields, rest) = first_cell(rest)?;
+    let (question, connection) = first_cell(rest)?;
+    let (kind, tenant) = question_of(question)?;
+    let is_closed = minor == b"0".as_slice() || connection == "closed";
+    let stream = posted(alloc, path, minor, fields)?;
+    is_answered(alloc, stream.as_slice(), kind, tenant, is_closed)
+}
+
 #[test]
 fn questions(rt: HostRuntime) -> Result<(), Fail> {
-    let mut room = room(rt.alloc())?;
-    assert!(rt; room.len() >= 34_000);
-    for (i, (line, fields, kind, tenant, closes)) in ASKED.iter().enumerate() {
-        for minor in [b'0', b'1'] {
-            let stream = request(rt.alloc(), line, minor, fields)?;
-            let is_closed = *closes || minor == b'0';
-            for cut in 0..=stream.len() {
-                let mut reader = Pieces::cut_at(stream.as_slice(), cut);
-                let mut writer = Taken::whole(rt.alloc());
-                let mut desk = Desk::new(*kind, *tenant);
-                let served = serve_one(&mut reader, &mut writer, &mut desk, &mut room);
-                let wanted = if is_closed {
-                    Served::Closed
-                } else {
-                    Served::Kept
-                };
-                assert!(rt; served == Ok(wanted) && desk.was_asked(), "{i} {cut}");
-                assert!(rt; reader.bytes.is_empty(), "{i} {cut}");
-                let answer = match (kind, is_closed) {
-                    (RequestKind::Ilp, false) => KEPT,
-                    (RequestKind::Ilp, true) => CLOSED,
-                    (RequestKind::Admin, false) => LINES,
-                    (RequestKind::Admin, true) => LINES_CLOSED,
-                };
-                assert!(rt; writer.bytes.as_slice() == answer, "{i} {cut}");
-            }
-        }
+    for row in ASKED.lines() {
+        assert!(rt; is_row_answered(rt.alloc(), row, b"0")?, "{row}");
+        assert!(rt; is_row_answered(rt.alloc(), row, b"1")?, "{row}");
     }
     Ok(())
 }
@@ -404,147 +320,158 @@ static STATUSES: [(u16, &[u8]); 8] = [
 
 #[test]
 fn statuses(rt: HostRuntime) -> Result<(), Fail> {
-    let mut room = room(rt.alloc())?;
-    assert!(rt; room.len() >= 34_000);
-    for (status, answer) in STATUSES {
-        let mut reader = Pieces::cut_at(POSTED, 0);
-        let mut writer = Taken::whole(rt.alloc());
+    for (status, answer) in &STATUSES {
         let mut desk = Desk::new(RequestKind::Ilp, 0);
-        desk.status = status;
-        let served = serve_one(&mut reader, &mut writer, &mut desk, &mut room);
-        assert!(rt; served == Ok(Served::Kept) && desk.was_asked(), "{status}");
-        assert!(rt; writer.bytes.as_slice() == answer, "{status}");
+        desk.status = *status;
+        let mut reader = Pieces::cut_at(POSTED, 0);
+        let outcome = serve(rt.alloc(), &mut reader, Taken::whole(rt.alloc()), desk)?;
+        assert!(rt; outcome.is_answered(Served::Kept, answer), "{status}");
     }
     Ok(())
 }
 
 // A stream that begins with no head, and the text that is written; none where the stream ends before a line does.
-static TURNED_AWAY: [(&[u8], &[u8]); 15] = [
-    (b"", b""),
-    (b"\r\n", b""),
-    (b"POST /ilp/acme HT", b""),
-    (b"POST /ilp/acme HTTP/1.1\r\n", b""),
-    (
-        b"POST /ilp/acme HTTP/1.1\r\nContent-Length: 5\r\nAuthorization: Bearer tok-Bob\r\n\r",
-        b"",
-    ),
-    (b"X\r\n\r\n", BAD),
-    (b"\0", b""),
-    (b"\0\n", BAD),
-    (b"POST /ilp/acme HTTP/2\r\n\r\n", BAD),
-    (b"POST /ilp/acme HTTP/1.2\r\n\r\n", BAD),
-    (b"POST /ilp/acme\r\n\r\n", BAD),
-    (b"POST  /ilp/acme HTTP/1.1\r\n\r\n", BAD),
-    (b"PO(ST /ilp/acme HTTP/1.1\r\n\r\n", BAD),
-    (b"POST /ilp/acme HTTP/1.1\r\nA B: c\r\n\r\n", BAD),
-    (b"POST /ilp/acme HTTP/1.1\r\nA: b\r\n c\r\n\r\n", BAD),
-];
+static TURNED_AWAY: &str = r"|
+\r\n|
+POST /ilp/acme HT|
+POST /ilp/acme HTTP/1.1\r\n|
+POST /ilp/acme HTTP/1.1\r\nContent-Length: 5\r\nAuthorization: Bearer tok-Bob\r\n\r|
+X\r\n\r\n|BAD
+\0|
+\0\n|BAD
+POST /ilp/acme HTTP/2\r\n\r\n|BAD
+POST /ilp/acme HTTP/1.2\r\n\r\n|BAD
+POST /ilp/acme\r\n\r\n|BAD
+POST  /ilp/acme HTTP/1.1\r\n\r\n|BAD
+PO(ST /ilp/acme HTTP/1.1\r\n\r\n|BAD
+POST /ilp/acme HTTP/1.1\r\nA B: c\r\n\r\n|BAD
+POST /ilp/acme HTTP/1.1\r\nA: b\r\n c\r\n\r\n|BAD";
+
+// Whether a stream is turned away with that text, however it is cut.
+fn is_turned_away(alloc: Global, stream: &[u8], text: &[u8]) -> Result<bool, Fail> {
+    let wanted = if text.is_empty() {
+        Served::Ended
+    } else {
+        Served::Closed
+    };
+    for cut in 0..=stream.len() {
+        let outcome = serve_packet(alloc, &mut Pieces::cut_at(stream, cut))?;
+        if !outcome.is_unasked(Ok(wanted), text) {
+            return Ok(false);
+        }
+    }
+    Ok(true)
+}
+
+fn is_row_turned_away(alloc: Global, row: &'static str) -> Result<bool, Fail> {
+    let (stream, name) = first_cell(row)?;
+    let stream = bytes_of(alloc, stream)?;
+    is_turned_away(alloc, stream.as_slice(), answer_of(name))
+}
 
 #[test]
 fn no_heads(rt: HostRuntime) -> Result<(), Fail> {
-    let mut room = room(rt.alloc())?;
-    assert!(rt; room.len() >= 34_000);
-    for (i, (stream, answer)) in TURNED_AWAY.iter().enumerate() {
-        for cut in 0..=stream.len() {
-            let mut reader = Pieces::cut_at(stream, cut);
-            let mut writer = Taken::whole(rt.alloc());
-            let mut desk = Desk::new(RequestKind::Ilp, 0);
-            let served = serve_one(&mut reader, &mut writer, &mut desk, &mut room);
-            let wanted = if answer.is_empty() {
-                Served::Ended
-            } else {
-                Served::Closed
-            };
-            assert!(rt; served == Ok(wanted) && desk.questions == 0, "{i} {cut}");
-            assert!(rt; writer.bytes.as_slice() == *answer, "{i} {cut}");
-        }
+    for row in TURNED_AWAY.lines() {
+        assert!(rt; is_row_turned_away(rt.alloc(), row)?, "{row}");
     }
     Ok(())
 }
 
-fn served_with(
-    alloc: Global,
-    stream: &[u8],
-    room: &mut [u8],
-) -> Result<(Result<Served, LinkFault>, u32, Vec<u8>), Fail>
-    requires { 34_000 ≤ length room.old }
-    ensures { length room.new ≡ length room.old }
-{
-    let mut reader = Pieces::cut_at(stream, 0);
-    let mut writer = Taken::whole(alloc);
-    let mut desk = Desk::new(RequestKind::Ilp, 0);
-    let served = serve_one(&mut reader, &mut writer, &mut desk, room);
-    Ok((served, desk.questions, writer.bytes))
+fn served(alloc: Global, stream: &[u8]) -> Result<Outcome, Fail> {
+    serve_packet(alloc, &mut Pieces::cut_at(stream, 0))
+}
+
+// The bytes of the head with the empty lines before it, its lines, those empty lines, and whether it is served.
+static HEADS: [(usize, usize, usize, bool); 7] = [
+    (8_192, 64, 0, true),
+    (8_193, 64, 0, false),
+    (8_192, 65, 0, false),
+    (8_192, 3, 2, true),
+    (8_193, 3, 2, false),
+    (8_192, 3, 8_092, true),
+    (8_193, 3, 8_092, false),
+];
+
+// POSTED's line and fields, with the version and without the end of its head.
+const LINES_OF_POSTED: &[u8] =
+    b"POST /ilp/acme HTTP/1.1\r\nContent-Length: 5\r\nAuthorization: Bearer tok-Bob\r\n";
+
+fn with_head(alloc: Global, size: usize, lines: usize, empty: usize) -> Result<Vec<u8>, Fail> {
+    let mut stream = Vec::new(alloc);
+    repeat(&mut stream, b"\n", empty)?;
+    stream.extend_from_slice(LINES_OF_POSTED)?;
+    repeat(&mut stream, b"A:\r\n", lines.saturating_sub(3))?;
+    stream.extend_from_slice(b"B:")?;
+    fill(&mut stream, b'b', size.saturating_sub(4))?;
+    stream.extend_from_slice(b"\r\n\r\nframe")?;
+    Ok(stream)
+}
+
+fn is_head_served(alloc: Global, stream: &[u8], is_served: bool) -> Result<bool, Fail> {
+    let outcome = served(alloc, stream)?;
+    Ok(if is_served {
+        outcome.is_asked(Served::Kept, KEPT)
+    } else {
+        outcome.is_unasked(Ok(Served::Closed), BAD)
+    })
 }
 
 #[test]
 fn heads_at_their_limits(rt: HostRuntime) -> Result<(), Fail> {
-    let mut room = room(rt.alloc())?;
-    // The bytes of the head with the empty lines before it, its lines, those empty lines, and whether it is served.
-    let rows = [
-        (8_192, 64, 0, true),
-        (8_193, 64, 0, false),
-        (8_192, 65, 0, false),
-        (8_192, 3, 2, true),
-        (8_193, 3, 2, false),
-        (8_192, 3, 8_092, true),
-        (8_193, 3, 8_092, false),
-    ];
-    for (size, lines, empty, is_served) in rows {
-        let mut stream = vec![in rt.alloc(); b'\n'; empty]?;
-        stream.extend_from_slice(&POSTED[..75])?;
-        for _ in 3..lines {
-            stream.extend_from_slice(b"A:\r\n")?;
-        }
-        stream.extend_from_slice(b"B:")?;
-        for _ in stream.len()..size - 4 {
-            stream.push(b'b')?;
-        }
-        stream.extend_from_slice(b"\r\n\r\nframe")?;
-        assert!(rt; room.len() >= 34_000);
-        let (served, questions, text) = served_with(rt.alloc(), stream.as_slice(), &mut room)?;
-        let wanted = if is_served {
-            Served::Kept
-        } else {
-            Served::Closed
-        };
+    for (size, lines, empty, is_served) in &HEADS {
+        let stream = with_head(rt.alloc(), *size, *lines, *empty)?;
         assert!(rt;
-            served == Ok(wanted) && (questions == 1) == is_served,
+            is_head_served(rt.alloc(), stream.as_slice(), *is_served)?,
             "{size} {lines}"
         );
-        let answer = if is_served { KEPT } else { BAD };
-        assert!(rt; text.as_slice() == answer, "{size} {lines}");
     }
     Ok(())
 }
 
+// The line with the version, the length, and the answer where the body is whole.
+static BODIES: [(&[u8], &[u8], usize, &[u8]); 3] = [
+    (b"POST /ilp/acme HTTP/1.1\r\n", b"34000", 34_000, KEPT),
+    (b"POST /admin/acme HTTP/1.1\r\n", b"2048", 2_048, LINES),
+    (b"POST /ilp/acme HTTP/1.1\r\n", b"0", 0, KEPT),
+];
+
+fn with_body(alloc: Global, line: &[u8], digits: &[u8], size: usize) -> Result<Vec<u8>, Fail> {
+    let mut stream = joined(
+        alloc,
+        &[line, b"Authorization: Bearer tok-Bob\r\nContent-Length: "],
+    )?;
+    stream.extend_from_slice(digits)?;
+    stream.extend_from_slice(b"\r\n\r\n")?;
+    repeat(&mut stream, b"b", size)?;
+    Ok(stream)
+}
+
+// Whether a stream whose last byte is gone is not served, and that text is written before it ends.
+fn is_cut(alloc: Global, stream: &[u8], text: &[u8]) -> Result<bool, Fail> {
+    let (front, _) = stream.split_at(stream.len().saturating_sub(1));
+    let outcome = served(alloc, front)?;
+    Ok(outcome.is_unasked(Ok(Served::Ended), text))
+}
+
+// Whether a request is served, and is not where it has a body whose last byte is gone.
+fn is_body_served(
+    alloc: Global,
+    stream: &[u8],
+    answer: &[u8],
+    has_body: bool,
+) -> Result<bool, Fail> {
+    let is_whole = served(alloc, stream)?.is_asked(Served::Kept, answer);
+    Ok(is_whole && (!has_body || is_cut(alloc, stream, b"")?))
+}
+
 #[test]
 fn bodies_at_their_limits(rt: HostRuntime) -> Result<(), Fail> {
-    let mut room = room(rt.alloc())?;
-    assert!(rt; room.len() >= 34_000);
-    // The line with the version, the length, and the answer where the body is whole.
-    let rows: [(&[u8], &[u8], usize, &[u8]); 3] = [
-        (b"POST /ilp/acme HTTP/1.1\r\n", b"34000", 34_000, KEPT),
-        (b"POST /admin/acme HTTP/1.1\r\n", b"2048", 2_048, LINES),
-        (b"POST /ilp/acme HTTP/1.1\r\n", b"0", 0, KEPT),
-    ];
-    for (line, digits, size, answer) in rows {
-        let mut stream = Vec::from_slice(rt.alloc(), line)?;
-        stream.extend_from_slice(b"Authorization: Bearer tok-Bob\r\nContent-Length: ")?;
-        stream.extend_from_slice(digits)?;
-        stream.extend_from_slice(b"\r\n\r\n")?;
-        for _ in 0..size {
-            stream.push(b'b')?;
-        }
-        let (served, questions, text) = served_with(rt.alloc(), stream.as_slice(), &mut room)?;
-        assert!(rt; served == Ok(Served::Kept) && questions == 1, "{size}");
-        assert!(rt; text.as_slice() == answer, "{size}");
-        if size > 0 {
-            let cut = &stream.as_slice()[..stream.len().saturating_sub(1)];
-            let (served, questions, text) = served_with(rt.alloc(), cut, &mut room)?;
-            assert!(rt; served == Ok(Served::Ended) && questions == 0, "{size}");
-            assert!(rt; text.is_empty(), "{size}");
-        }
+    for (line, digits, size, answer) in &BODIES {
+        let stream = with_body(rt.alloc(), line, digits, *size)?;
+        assert!(rt;
+            is_body_served(rt.alloc(), stream.as_slice(), answer, *size > 0)?,
+            "{size}"
+        );
     }
     Ok(())
 }
@@ -570,110 +497,99 @@ static WAITING: [(&[u8], usize); 4] = [
     ),
 ];
 
+// Whether that is told to a client that waits, and then the answer; and the first also where the last byte never comes.
+fn is_told(
+    alloc: Global,
+    stream: &[u8],
+    interim: &[u8],
+    answer: &[u8],
+    has_body: bool,
+) -> Result<bool, Fail> {
+    let outcome = served(alloc, stream)?;
+    let is_whole = is_joined(outcome.text.as_slice(), interim, answer);
+    let is_right = outcome.questions == 1 && is_whole;
+    Ok(is_right && (!has_body || is_cut(alloc, stream, interim)?))
+}
+
+fn is_told_in_old(alloc: Global, fields: &[u8], has_body: bool) -> Result<bool, Fail> {
+    let stream = request(alloc, b"POST /ilp/acme", b"0", fields)?;
+    is_told(alloc, stream.as_slice(), b"", CLOSED, has_body)
+}
+
+fn is_told_in_new(alloc: Global, fields: &[u8], has_body: bool) -> Result<bool, Fail> {
+    let stream = request(alloc, b"POST /ilp/acme", b"1", fields)?;
+    is_told(alloc, stream.as_slice(), CONTINUE, KEPT, has_body)
+}
+
+fn is_unknown(alloc: Global, fields: &[u8]) -> Result<bool, Fail> {
+    let stream = request(alloc, b"POST /ilp/none", b"1", fields)?;
+    let outcome = served(alloc, stream.as_slice())?;
+    Ok(outcome.text.as_slice() == UNKNOWN)
+}
+
 #[test]
 fn clients_that_wait(rt: HostRuntime) -> Result<(), Fail> {
-    let mut room = room(rt.alloc())?;
-    assert!(rt; room.len() >= 34_000);
     for (i, (fields, size)) in WAITING.iter().enumerate() {
-        for minor in [b'0', b'1'] {
-            let stream = request(rt.alloc(), b"POST /ilp/acme", minor, fields)?;
-            let interim: &[u8] = if minor == b'1' { CONTINUE } else { b"" };
-            let answer = if minor == b'1' { KEPT } else { CLOSED };
-            let (_, questions, text) = served_with(rt.alloc(), stream.as_slice(), &mut room)?;
-            let (front, rest) = text.as_slice().split_at(interim.len().min(text.len()));
-            assert!(rt;
-                questions == 1 && front == interim && rest == answer,
-                "{i} {minor}"
-            );
-            if *size > 0 {
-                let cut = &stream.as_slice()[..stream.len().saturating_sub(1)];
-                let (served, questions, text) = served_with(rt.alloc(), cut, &mut room)?;
-                assert!(rt;
-                    served == Ok(Served::Ended) && questions == 0,
-                    "{i} {minor}"
-                );
-                assert!(rt; text.as_slice() == interim, "{i} {minor}");
-            }
-        }
+        assert!(rt; is_told_in_old(rt.alloc(), fields, *size > 0)?, "{i}");
+        assert!(rt; is_told_in_new(rt.alloc(), fields, *size > 0)?, "{i}");
     }
     // Who is refused is not told to go on.
-    let stream = request(
-        rt.alloc(),
-        b"POST /ilp/none",
-        b'1',
-        b"Expect: 100-continue\r\n",
-    )?;
-    let (_, _, text) = served_with(rt.alloc(), stream.as_slice(), &mut room)?;
-    assert!(rt; text.as_slice() == UNKNOWN);
+    assert!(rt; is_unknown(rt.alloc(), b"Expect: 100-continue\r\n")?);
     Ok(())
+}
+
+const CLOSING: &[u8] =
+    b"POST /ilp/acme HTTP/1.0\r\nContent-Length: 5\r\nAuthorization: Bearer tok-Bob\r\n\r\nframe";
+
+// Whether two packets are served, the next one is too and closes the connection, and the last is left.
+fn are_served(alloc: Global, stream: &[u8], cut: usize) -> Result<bool, Fail> {
+    let mut reader = Pieces::cut_at(stream, cut);
+    let first = serve_packet(alloc, &mut reader)?.is_answered(Served::Kept, KEPT);
+    let second = serve_packet(alloc, &mut reader)?.is_answered(Served::Kept, KEPT);
+    let third = serve_packet(alloc, &mut reader)?.is_answered(Served::Closed, CLOSED);
+    Ok(first && second && third && reader.bytes == POSTED)
 }
 
 #[test]
 fn requests_in_one_stream(rt: HostRuntime) -> Result<(), Fail> {
-    let mut room = room(rt.alloc())?;
-    assert!(rt; room.len() >= 34_000);
-    let mut stream = Vec::from_slice(rt.alloc(), POSTED)?;
-    stream.extend_from_slice(POSTED)?;
-    let closing = request(
-        rt.alloc(),
-        b"POST /ilp/acme",
-        b'0',
-        b"Content-Length: 5\r\nAuthorization: Bearer tok-Bob\r\n",
-    )?;
-    stream.extend_from_slice(closing.as_slice())?;
-    stream.extend_from_slice(POSTED)?;
+    let stream = joined(rt.alloc(), &[POSTED, POSTED, CLOSING, POSTED])?;
     for cut in 0..=stream.len() {
-        let mut reader = Pieces::cut_at(stream.as_slice(), cut);
-        for (served, answer) in [
-            (Served::Kept, KEPT),
-            (Served::Kept, KEPT),
-            (Served::Closed, CLOSED),
-        ] {
-            let mut writer = Taken::whole(rt.alloc());
-            let mut desk = Desk::new(RequestKind::Ilp, 0);
-            let found = serve_one(&mut reader, &mut writer, &mut desk, &mut room);
-            assert!(rt; found == Ok(served) && desk.was_asked(), "{cut}");
-            assert!(rt; writer.bytes.as_slice() == answer, "{cut}");
-        }
-        assert!(rt; reader.bytes == POSTED, "{cut}");
+        assert!(rt; are_served(rt.alloc(), stream.as_slice(), cut)?, "{cut}");
     }
     Ok(())
 }
 
+// Whether POSTED is served, or a fault is told, where so many reads of a byte succeed.
+fn is_read(alloc: Global, reads: usize) -> Result<bool, Fail> {
+    let outcome = serve_packet(alloc, &mut Pieces::failing_after(POSTED, reads))?;
+    Ok(if reads < POSTED.len() {
+        outcome.is_unasked(Err(LinkFault::Read), b"")
+    } else {
+        outcome.is_answered(Served::Kept, KEPT)
+    })
+}
+
+// Whether POSTED is served, or a fault is told, where so many writes of a byte succeed, and those are written.
+fn is_written(alloc: Global, writes: usize) -> Result<bool, Fail> {
+    let writer = Taken::failing_after(alloc, writes);
+    let desk = Desk::new(RequestKind::Ilp, 0);
+    let outcome = serve(alloc, &mut Pieces::cut_at(POSTED, 0), writer, desk)?;
+    let wanted = if writes < KEPT.len() {
+        Err(LinkFault::Write)
+    } else {
+        Ok(Served::Kept)
+    };
+    let is_text = Some(outcome.text.as_slice()) == KEPT.get(..writes);
+    Ok(outcome.served == wanted && outcome.is_right && is_text)
+}
+
 #[test]
 fn devices_that_fail(rt: HostRuntime) -> Result<(), Fail> {
-    let mut room = room(rt.alloc())?;
-    assert!(rt; room.len() >= 34_000);
     for reads in 0..=POSTED.len() {
-        let mut reader = Pieces::failing_after(POSTED, reads);
-        let mut writer = Taken::whole(rt.alloc());
-        let mut desk = Desk::new(RequestKind::Ilp, 0);
-        let served = serve_one(&mut reader, &mut writer, &mut desk, &mut room);
-        if reads < POSTED.len() {
-            assert!(rt;
-                served == Err(LinkFault::Read) && desk.questions == 0,
-                "{reads}"
-            );
-            assert!(rt; writer.bytes.is_empty(), "{reads}");
-        } else {
-            assert!(rt; served == Ok(Served::Kept) && desk.was_asked(), "{reads}");
-        }
+        assert!(rt; is_read(rt.alloc(), reads)?, "{reads}");
     }
     for writes in 0..=KEPT.len() {
-        let mut reader = Pieces::cut_at(POSTED, 0);
-        let mut writer = Taken::failing_after(rt.alloc(), writes);
-        let mut desk = Desk::new(RequestKind::Ilp, 0);
-        let served = serve_one(&mut reader, &mut writer, &mut desk, &mut room);
-        let wanted = if writes < KEPT.len() {
-            Err(LinkFault::Write)
-        } else {
-            Ok(Served::Kept)
-        };
-        assert!(rt; served == wanted && desk.was_asked(), "{writes}");
-        assert!(rt;
-            Some(writer.bytes.as_slice()) == KEPT.get(..writes),
-            "{writes}"
-        );
+        assert!(rt; is_written(rt.alloc(), writes)?, "{writes}");
     }
     Ok(())
 }

@@ -12,6 +12,10 @@ mod http_devices;
 #[cfg(test)]
 mod http_host;
 #[cfg(test)]
+mod http_outcomes;
+#[cfg(test)]
 mod http_posted;
 #[cfg(test)]
 mod http_served;
+#[cfg(test)]
+mod http_texts;
