@@ -20,7 +20,6 @@ use money_core::Rate;
 use one_list::{Opened, Run};
 use std::alloc::Global;
 use std::marker::Brand;
-use std::process::Abort;
 use std::sync::Wait;
 use std::test::Fail;
 use tenant_core::{
@@ -152,36 +151,37 @@ fn two_books<J: Run>(
 
 /// What a test does with the books of acme and beta, and with the shares of two workers.
 trait Trial {
-    fn act<J: Run, R: Wait + Abort>(
+    /// Does it, and tells whether all came of it that should.
+    fn act<J: Run, R: Wait>(
         &self,
         rt: &R,
         alloc: Global,
         books: Books<J>,
         first: Share<J>,
         second: Share<J>,
-    ) -> Result<(), Fail>;
+    ) -> Result<bool, Fail>;
 }
 
 // Does it, with so many places in each journal.
-fn on_two_books<R: Wait + Abort, T: Trial>(
+fn on_two_books<R: Wait, T: Trial>(
     rt: &R,
     alloc: Global,
     journal: u64,
     trial: &T,
-) -> Result<(), Fail> {
+) -> Result<bool, Fail> {
     let setups = two_setups(alloc, journal)?;
     let opened = Opened::new(alloc, 2, 2)?;
     on_books::<Brand, R, T>(rt, alloc, opened, &setups, start()?, trial)
 }
 
-fn on_books<J: Run, R: Wait + Abort, T: Trial>(
+fn on_books<J: Run, R: Wait, T: Trial>(
     rt: &R,
     alloc: Global,
     opened: Opened,
     setups: &[TenantSetup; 2],
     start: Moment,
     trial: &T,
-) -> Result<(), Fail>
+) -> Result<bool, Fail>
     requires list { (opened.table ≡ J.table) × (opened.size ≡ J.size) }
     requires size { J.size ≡ record { tenants = 2; workers = 2 } }
     requires openings { J.openings ≡ openings_of setups.now start }
@@ -256,17 +256,34 @@ fn owed(book: &Book) -> Option<(i64, i64, u64, u64)> {
     Some((alice.balance, bob.balance, alice.held_in, bob.held_out))
 }
 
-// The balances of acme's book and its number, where the shares are all there and add up.
+// The books and their numbers, where the shares are all there and add up.
 fn gathered<J: Run>(
     alloc: Global,
     books: Books<J>,
     shares: Vec<Share<J>>,
-) -> Result<Option<(i64, i64, u64, u64, u64)>, Fail> {
-    let Ok(books) = books.gather(alloc, shares) else {
-        return Err("the books differ".into());
-    };
-    let Some((book, number)) = books.first() else {
-        return Ok(None);
-    };
-    Ok(owed(book).map(|(alice, bob, held_in, held_out)| (alice, bob, held_in, held_out, *number)))
+) -> Result<Vec<(Book, u64)>, Fail> {
+    match books.gather(alloc, shares) {
+        Ok(books) => Ok(books),
+        Err(_) => Err("the books differ".into()),
+    }
+}
+
+// The balances of acme's book and its number.
+fn outcome(books: &[(Book, u64)]) -> Option<(i64, i64, u64, u64, u64)> {
+    let (book, number) = books.first()?;
+    let (alice, bob, held_in, held_out) = owed(book)?;
+    Some((alice, bob, held_in, held_out, *number))
+}
+
+// Whether acme's balances and its book's number are these, once the books are gathered with their shares.
+fn come_to<J: Run>(
+    alloc: Global,
+    books: Books<J>,
+    first: Share<J>,
+    second: Share<J>,
+    wanted: (i64, i64, u64, u64, u64),
+) -> Result<bool, Fail> {
+    let shares = vec![in alloc; first, second]?;
+    let books = gathered(alloc, books, shares)?;
+    Ok(outcome(books.as_slice()) == Some(wanted))
 }

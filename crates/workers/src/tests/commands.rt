@@ -7,7 +7,6 @@ use ilp_addr::Prefix;
 use meters::Meters;
 use one_list::Run;
 use std::alloc::Global;
-use std::process::Abort;
 use std::sync::Wait;
 use std::test::Fail;
 use tenant_core::{Answered, Command, CommandFault, Order, Period};
@@ -86,27 +85,58 @@ pub(super) fn closed<J: Run, R: Wait>(
 struct Commands;
 
 impl Trial for Commands {
-    fn act<J: Run, R: Wait + Abort>(
+    fn act<J: Run, R: Wait>(
         &self,
         rt: &R,
         alloc: Global,
         books: Books<J>,
         mut first: Share<J>,
         _second: Share<J>,
-    ) -> Result<(), Fail> {
-        let command = Command::Order(Order::RemoveRoute(Prefix::parse(alloc, b"g.acme.bob")?));
-        assert!(rt; is_done(rt, alloc, &books, &mut first, &command)?);
-        assert!(rt; entries_of(&first) == Some(1));
-        assert!(rt; is_absent(rt, alloc, &books, &mut first, &command)?);
-        assert!(rt; balances(rt, alloc, &books, &mut first)? == Some(2));
-        assert!(rt; entries_of(&first) == Some(1));
-        assert!(rt; closed(rt, alloc, &books, &mut first)?.len() == 2);
-        assert!(rt; entries_of(&first) == Some(2));
-        Ok(())
+    ) -> Result<bool, Fail> {
+        are_governed(rt, alloc, &books, &mut first)
     }
+}
+
+fn are_governed<J: Run, R: Wait>(
+    rt: &R,
+    alloc: Global,
+    books: &Books<J>,
+    share: &mut Share<J>,
+) -> Result<bool, Fail> {
+    let is_removed = is_removed_once(rt, alloc, books, share)?;
+    let balances = balances(rt, alloc, books, share)?;
+    let is_one = balances == Some(2) && entries_of(share) == Some(1);
+    Ok(is_removed && is_one && closes_all(rt, alloc, books, share)?)
+}
+
+// Whether bob's route is removed, and is absent then.
+fn is_removed_once<J: Run, R: Wait>(
+    rt: &R,
+    alloc: Global,
+    books: &Books<J>,
+    share: &mut Share<J>,
+) -> Result<bool, Fail> {
+    let prefix = Prefix::parse(alloc, b"g.acme.bob")?;
+    let command = Command::Order(Order::RemoveRoute(prefix));
+    let is_done = is_done(rt, alloc, books, share, &command)?;
+    let is_one = entries_of(share) == Some(1);
+    let is_absent = is_absent(rt, alloc, books, share, &command)?;
+    Ok(is_done && is_one && is_absent)
+}
+
+// Whether the period that is closed has two balances, and that is the second entry.
+fn closes_all<J: Run, R: Wait>(
+    rt: &R,
+    alloc: Global,
+    books: &Books<J>,
+    share: &mut Share<J>,
+) -> Result<bool, Fail> {
+    let period = closed(rt, alloc, books, share)?;
+    Ok(period.len() == 2 && entries_of(share) == Some(2))
 }
 
 #[test]
 fn commands_are_done_and_refused(rt: HostRuntime) -> Result<(), Fail> {
-    on_two_books(&rt, rt.alloc(), 64, &Commands)
+    assert!(rt; on_two_books(&rt, rt.alloc(), 64, &Commands)?);
+    Ok(())
 }

@@ -4,7 +4,6 @@ use super::{Trial, on_two_books, start};
 use books_shared::{Books, Share};
 use one_list::Run;
 use std::alloc::Global;
-use std::process::Abort;
 use std::sync::Wait;
 use std::test::Fail;
 
@@ -45,22 +44,22 @@ fn entries_at_once<J: Run>(books: &Books<J>) -> Option<usize> {
 struct OwnLock;
 
 impl Trial for OwnLock {
-    fn act<J: Run, R: Wait + Abort>(
+    fn act<J: Run, R: Wait>(
         &self,
         rt: &R,
         alloc: Global,
         books: Books<J>,
         mut first: Share<J>,
         _second: Share<J>,
-    ) -> Result<(), Fail> {
-        assert!(rt; ticked(rt, alloc, &books, &mut first)?);
-        assert!(rt; entries(rt, &books) == Some(1));
-        assert!(rt; entries_at_once(&books) == Some(1));
-        Ok(())
+    ) -> Result<bool, Fail> {
+        let is_locked = ticked(rt, alloc, &books, &mut first)?;
+        let has_one = entries(rt, &books) == Some(1) && entries_at_once(&books) == Some(1);
+        Ok(is_locked && has_one)
     }
 }
 
 #[test]
 fn a_lock_is_a_tenants_own(rt: HostRuntime) -> Result<(), Fail> {
-    on_two_books(&rt, rt.alloc(), 64, &OwnLock)
+    assert!(rt; on_two_books(&rt, rt.alloc(), 64, &OwnLock)?);
+    Ok(())
 }

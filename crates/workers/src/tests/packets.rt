@@ -1,8 +1,8 @@
 //! Packets that one worker carries.
 
 use super::{
-    BASE, BOB_URL, FULFILL, ONE_ANSWERED, START, Tally, Trial, counts_of, entries_of, gathered,
-    on_two_books, put,
+    BASE, BOB_URL, FULFILL, ONE_ANSWERED, START, Tally, Trial, come_to, counts_of, entries_of,
+    gathered, on_two_books, put,
 };
 use crate::{Clock, Gate, Job, Link, Point, Reply, carry};
 use books_shared::{Books, GatherFault, Share};
@@ -11,10 +11,10 @@ use ilp_addr::{Moment, Target};
 use meters::Meters;
 use one_list::Run;
 use std::alloc::Global;
-use std::process::Abort;
 use std::sync::Wait;
 use std::sync::atomic::{AtomicU64, Ordering};
 use std::test::Fail;
+use tenant_core::Book;
 
 // BASE as it goes on.
 const SENT: &[u8; 73] = b"\x0cG\0\0\0\0\0\0\x05\xdc20300101000009000\
@@ -195,21 +195,20 @@ pub(super) fn is_carried<J: Run, R: Wait>(
         sends: 0,
         is_right: false,
     };
-    let (reply, told, tally) = carried(rt, alloc, books, share, &mut link, packet)?;
-    Ok(
-        reply == packet.reply
-            && reply.status().code() == packet.code
-            && told.as_slice() == packet.told
-            && tally == packet.tally
-            && link.sends == packet.sends
-            && link.is_right == (packet.sends == 1)
-            && entries_of(share) == Some(packet.entries)
-            && share.strangers(0) == packet.strangers
-            && share.full_journals(0) == packet.full_journals,
-    )
+    let (reply, is_told, tally) = carried(rt, alloc, books, share, &mut link, packet)?;
+    let is_replied = reply == packet.reply && reply.status().code() == packet.code;
+    let is_sent = link.sends == packet.sends && link.is_right == (packet.sends == 1);
+    Ok(is_replied && is_told && tally == packet.tally && is_sent && is_counted(share, packet))
 }
 
-// The reply to the packet, what the sender is told, and what the meters have counted.
+// Whether the share has counted what it should.
+fn is_counted<J: Run>(share: &Share<J>, packet: &Packet) -> bool {
+    entries_of(share) == Some(packet.entries)
+        && share.strangers(0) == packet.strangers
+        && share.full_journals(0) == packet.full_journals
+}
+
+// The reply to the packet, whether the sender is told what it should be, and what the meters have counted.
 fn carried<J: Run, R: Wait>(
     rt: &R,
     alloc: Global,
@@ -217,7 +216,7 @@ fn carried<J: Run, R: Wait>(
     share: &mut Share<J>,
     link: &mut Looking,
     packet: &Packet,
-) -> Result<(Reply, Vec<u8>, Tally), Fail> {
+) -> Result<(Reply, bool, Tally), Fail> {
     if books.tenants() == 0 {
         return Err("a tenant".into());
     }
@@ -235,49 +234,48 @@ fn carried<J: Run, R: Wait>(
     let reply = carry(
         rt, alloc, books, &meters, &mut seat, &mut slot, share, link, &Open, &clock, job,
     );
-    let told = slot.reply().to_vec(alloc)?;
-    Ok((reply, told, counts_of(&meters.close(seat))))
+    let is_told = slot.reply() == packet.told;
+    Ok((reply, is_told, counts_of(&meters.close(seat))))
 }
 
 impl Trial for Packet {
-    fn act<J: Run, R: Wait + Abort>(
+    fn act<J: Run, R: Wait>(
         &self,
         rt: &R,
         alloc: Global,
         books: Books<J>,
         mut first: Share<J>,
         second: Share<J>,
-    ) -> Result<(), Fail> {
-        let title = self.title;
-        assert!(rt; is_carried(rt, alloc, &books, &mut first, self)?, "{title}");
-        let shares = vec![in alloc; first, second]?;
-        assert!(rt;
-            gathered(alloc, books, shares)? == Some(self.gathered),
-            "{title}"
-        );
-        Ok(())
+    ) -> Result<bool, Fail> {
+        let is_carried = is_carried(rt, alloc, &books, &mut first, self)?;
+        let is_gathered = come_to(alloc, books, first, second, self.gathered)?;
+        Ok(is_carried && is_gathered)
     }
 }
 
 #[test]
 fn a_packet_is_settled(rt: HostRuntime) -> Result<(), Fail> {
-    on_two_books(&rt, rt.alloc(), 64, &FULFILLED)
+    assert!(rt; on_two_books(&rt, rt.alloc(), 64, &FULFILLED)?);
+    Ok(())
 }
 
 #[test]
 fn a_fulfillment_that_comes_late_is_none(rt: HostRuntime) -> Result<(), Fail> {
-    on_two_books(&rt, rt.alloc(), 64, &LATE)
+    assert!(rt; on_two_books(&rt, rt.alloc(), 64, &LATE)?);
+    Ok(())
 }
 
 #[test]
 fn a_packet_that_nobody_answers_is_refused(rt: HostRuntime) -> Result<(), Fail> {
-    on_two_books(&rt, rt.alloc(), 64, &UNANSWERED)
+    assert!(rt; on_two_books(&rt, rt.alloc(), 64, &UNANSWERED)?);
+    Ok(())
 }
 
 #[test]
 fn packets_are_refused(rt: HostRuntime) -> Result<(), Fail> {
     for packet in &REFUSED {
-        on_two_books(&rt, rt.alloc(), 64, packet)?;
+        let title = packet.title;
+        assert!(rt; on_two_books(&rt, rt.alloc(), 64, packet)?, "{title}");
     }
     Ok(())
 }
@@ -286,58 +284,80 @@ fn packets_are_refused(rt: HostRuntime) -> Result<(), Fail> {
 struct FullJournal;
 
 impl Trial for FullJournal {
-    fn act<J: Run, R: Wait + Abort>(
+    fn act<J: Run, R: Wait>(
         &self,
         rt: &R,
         alloc: Global,
         books: Books<J>,
         mut first: Share<J>,
         second: Share<J>,
-    ) -> Result<(), Fail> {
-        assert!(rt; is_carried(rt, alloc, &books, &mut first, &FULFILLED)?);
-        BUSY.act(rt, alloc, books, first, second)
+    ) -> Result<bool, Fail> {
+        let is_filled = is_carried(rt, alloc, &books, &mut first, &FULFILLED)?;
+        let is_full = BUSY.act(rt, alloc, books, first, second)?;
+        Ok(is_filled && is_full)
     }
 }
 
 #[test]
 fn a_journal_of_two_places_is_full(rt: HostRuntime) -> Result<(), Fail> {
-    on_two_books(&rt, rt.alloc(), 2, &FullJournal)
+    assert!(rt; on_two_books(&rt, rt.alloc(), 2, &FullJournal)?);
+    Ok(())
 }
 
 /// Books are gathered without the share of a worker that has done nothing, and then with both shares.
 struct MissingShare;
 
 impl Trial for MissingShare {
-    fn act<J: Run, R: Wait + Abort>(
+    fn act<J: Run, R: Wait>(
         &self,
         rt: &R,
         alloc: Global,
         books: Books<J>,
         mut first: Share<J>,
         second: Share<J>,
-    ) -> Result<(), Fail> {
-        assert!(rt; is_carried(rt, alloc, &books, &mut first, &FULFILLED)?);
-        let Err(GatherFault::Missing(books, mut shares)) = books.gather(
-            alloc,
-            vec![in alloc; first]?,
-        ) else {
-            panic!(rt; "a share is missing");
-        };
-        assert!(rt; shares.len() == 1);
-        shares.push(second)?;
-        let Ok(books) = books.gather(alloc, shares) else {
-            panic!(rt; "the shares are all there");
-        };
-        let mut numbers = Vec::new(alloc);
-        for book in books.as_slice() {
-            numbers.push(book.1)?;
-        }
-        assert!(rt; numbers.as_slice() == [2, 0].as_slice());
-        Ok(())
+    ) -> Result<bool, Fail> {
+        let is_carried = is_carried(rt, alloc, &books, &mut first, &FULFILLED)?;
+        let are_numbered = are_numbered_in_the_end(alloc, books, first, second)?;
+        Ok(is_carried && are_numbered)
+    }
+}
+
+// What is handed back where the books are gathered with one share alone.
+fn refused<J: Run>(
+    alloc: Global,
+    books: Books<J>,
+    share: Share<J>,
+) -> Result<(Books<J>, Vec<Share<J>>), Fail> {
+    let shares = vec![in alloc; share]?;
+    match books.gather(alloc, shares) {
+        Err(GatherFault::Missing(books, shares)) => Ok((books, shares)),
+        _ => Err("a share is missing".into()),
+    }
+}
+
+// Whether the first share is handed back, and the books have these numbers once both are there.
+fn are_numbered_in_the_end<J: Run>(
+    alloc: Global,
+    books: Books<J>,
+    first: Share<J>,
+    second: Share<J>,
+) -> Result<bool, Fail> {
+    let (books, mut shares) = refused(alloc, books, first)?;
+    let is_alone = shares.len() == 1;
+    shares.push(second)?;
+    let books = gathered(alloc, books, shares)?;
+    Ok(is_alone && have_numbers(books.as_slice(), 2, 0))
+}
+
+fn have_numbers(books: &[(Book, u64)], acme: u64, beta: u64) -> bool {
+    match books {
+        [first, second] => first.1 == acme && second.1 == beta,
+        _ => false,
     }
 }
 
 #[test]
 fn books_are_gathered_with_their_shares(rt: HostRuntime) -> Result<(), Fail> {
-    on_two_books(&rt, rt.alloc(), 64, &MissingShare)
+    assert!(rt; on_two_books(&rt, rt.alloc(), 64, &MissingShare)?);
+    Ok(())
 }

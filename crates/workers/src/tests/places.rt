@@ -34,50 +34,75 @@ fn picked_up(lending: &mut Lending, tenant: usize) -> bool {
     tenant < lending.tenants() && lending.pick_up(tenant)
 }
 
-// Eight places for two tenants: two are each one's own, and four anyone's.
+// Whether each of these tenants, one after another, gets that where it asks for a place.
+fn are_asked(lending: &mut Lending, asks: &[(usize, Turn)]) -> bool {
+    for (tenant, turn) in asks {
+        if asked(lending, *tenant) != *turn {
+            return false;
+        }
+    }
+    true
+}
+
+// Of eight places for two tenants two are each one's own, and four anyone's.
+static EIGHT_FOR_TWO: [(usize, Turn); 11] = [
+    (0, Turn::Taken),
+    (0, Turn::Taken),
+    (0, Turn::Taken),
+    (0, Turn::Taken),
+    (0, Turn::Taken),
+    (0, Turn::Taken),
+    (0, Turn::Waits),
+    (0, Turn::Full),
+    (1, Turn::Taken),
+    (1, Turn::Taken),
+    (1, Turn::Waits),
+];
+
 #[test]
 fn what_nobody_is_owed_is_for_anyone(rt: HostRuntime) -> Result<(), Fail> {
     let mut lending = Lending::new(rt.alloc(), 8, 2, 1)?;
-    for _ in 0..6 {
-        assert_eq!(rt; asked(&mut lending, 0), Turn::Taken);
-    }
-    assert_eq!(rt; asked(&mut lending, 0), Turn::Waits);
-    assert_eq!(rt; asked(&mut lending, 0), Turn::Full);
-    assert_eq!(rt; asked(&mut lending, 1), Turn::Taken);
-    assert_eq!(rt; asked(&mut lending, 1), Turn::Taken);
-    assert_eq!(rt; asked(&mut lending, 1), Turn::Waits);
+    assert!(rt; are_asked(&mut lending, &EIGHT_FOR_TWO));
     Ok(())
 }
 
-// What a tenant gives back within its share is its own again; what another gives back beyond its share is for who comes next.
+// What a tenant gives back within its share is its own again; what another gives back beyond its share is for who comes
+// next.
+fn comes_back(lending: &mut Lending) -> bool {
+    given_back(lending, 1) == Some(1)
+        && picked_up(lending, 1)
+        && !picked_up(lending, 1)
+        && given_back(lending, 0) == Some(0)
+        && given_back(lending, 0) == None
+        && asked(lending, 1) == Turn::Taken
+}
+
 #[test]
 fn who_gets_what_came_back(rt: HostRuntime) -> Result<(), Fail> {
     let mut lending = Lending::new(rt.alloc(), 4, 2, 1)?;
     for tenant in [0, 0, 0, 0, 1, 1] {
         asked(&mut lending, tenant);
     }
-    assert_eq!(rt; given_back(&mut lending, 1), Some(1));
-    assert!(rt; picked_up(&mut lending, 1));
-    assert!(rt; !picked_up(&mut lending, 1));
-    assert_eq!(rt; given_back(&mut lending, 0), Some(0));
-    assert_eq!(rt; given_back(&mut lending, 0), None);
-    assert_eq!(rt; asked(&mut lending, 1), Turn::Taken);
+    assert!(rt; comes_back(&mut lending));
     Ok(())
 }
 
 // With fewer places than tenants none is sure of one; where there is one for each, each has its own.
+static TWO_FOR_THREE: [(usize, Turn); 3] = [(2, Turn::Taken), (2, Turn::Taken), (1, Turn::Full)];
+
+static THREE_FOR_THREE: [(usize, Turn); 4] = [
+    (2, Turn::Taken),
+    (2, Turn::Full),
+    (0, Turn::Taken),
+    (1, Turn::Taken),
+];
+
 #[test]
 fn shares_of_few_places(rt: HostRuntime) -> Result<(), Fail> {
-    let alloc = rt.alloc();
-    let mut few = Lending::new(alloc, 2, 3, 0)?;
-    assert_eq!(rt; asked(&mut few, 2), Turn::Taken);
-    assert_eq!(rt; asked(&mut few, 2), Turn::Taken);
-    assert_eq!(rt; asked(&mut few, 1), Turn::Full);
-    let mut equal = Lending::new(alloc, 3, 3, 0)?;
-    assert_eq!(rt; asked(&mut equal, 2), Turn::Taken);
-    assert_eq!(rt; asked(&mut equal, 2), Turn::Full);
-    assert_eq!(rt; asked(&mut equal, 0), Turn::Taken);
-    assert_eq!(rt; asked(&mut equal, 1), Turn::Taken);
+    let mut few = Lending::new(rt.alloc(), 2, 3, 0)?;
+    assert!(rt; are_asked(&mut few, &TWO_FOR_THREE));
+    let mut equal = Lending::new(rt.alloc(), 3, 3, 0)?;
+    assert!(rt; are_asked(&mut equal, &THREE_FOR_THREE));
     Ok(())
 }
 

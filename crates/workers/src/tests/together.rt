@@ -3,7 +3,9 @@
 ghost use Rattle.std.specs.Prelude.{◌≡◌};
 ghost use Rattle.books_shared.specs.Traced.{openings_of};
 
-use super::{BASE, FULFILL, FixedClock, START, gathered, put, start, two_books, two_setups};
+use super::{
+    BASE, FULFILL, FixedClock, START, gathered, outcome, put, start, two_books, two_setups,
+};
 use crate::{Gate, Job, Lane, Link, Point, Reply, StartFault, carry, run_workers};
 use books_shared::laws::books_are_shared;
 use books_shared::{Books, Share};
@@ -13,7 +15,6 @@ use meters::Meters;
 use one_list::{Opened, Run};
 use std::alloc::Global;
 use std::marker::Brand;
-use std::process::Abort;
 use std::sync::Wait;
 use std::sync::atomic::{AtomicU64, Ordering};
 use std::test::Fail;
@@ -182,26 +183,41 @@ fn work_all<'a, J: Run + Send + Sync, R: Threads + Wait + Sync>(
     run_workers(rt, lanes)
 }
 
-// Lets worker 0 carry BASE for acme, and worker 1 the same for that tenant: the statuses of their replies, and their shares.
+// Whether both replies have status 200.
+fn are_good<J: Run>(lanes: &[Carrier<'_, J>]) -> bool {
+    for lane in lanes {
+        if lane.code != 200 {
+            return false;
+        }
+    }
+    lanes.len() == 2
+}
+
+fn shares_of<'a, J: Run>(alloc: Global, lanes: Vec<Carrier<'a, J>>) -> Result<Vec<Share<J>>, Fail> {
+    let mut shares = Vec::new(alloc);
+    for lane in lanes {
+        shares.push(lane.share)?;
+    }
+    Ok(shares)
+}
+
+// Lets worker 0 carry BASE for acme, and worker 1 the same for that tenant: whether both replies have status 200, and their
+// shares.
 fn both_carried<'a, J: Run + Send + Sync, R: Threads + Wait + Sync>(
     rt: &R,
     alloc: Global,
     books: &'a Books<J>,
     meeting: &'a Meeting,
-    workers: (Share<J>, Share<J>),
+    first: Share<J>,
+    second: Share<J>,
     tenant: usize,
-) -> Result<(Vec<u16>, Vec<Share<J>>), Fail> {
-    let mut lanes = Vec::new(alloc);
-    lanes.push(new_carrier(alloc, books, meeting, workers.0, 0))?;
-    lanes.push(new_carrier(alloc, books, meeting, workers.1, tenant))?;
+) -> Result<(bool, Vec<Share<J>>), Fail> {
+    let first = new_carrier(alloc, books, meeting, first, 0);
+    let second = new_carrier(alloc, books, meeting, second, tenant);
+    let mut lanes = vec![in alloc; first, second]?;
     work_all(rt, lanes.as_mut_slice())?;
-    let mut codes = Vec::new(alloc);
-    let mut shares = Vec::new(alloc);
-    for lane in lanes {
-        codes.push(lane.code)?;
-        shares.push(lane.share)?;
-    }
-    Ok((codes, shares))
+    let are_good = are_good(lanes.as_slice());
+    Ok((are_good, shares_of(alloc, lanes)?))
 }
 
 fn new_meeting(place: Place) -> Meeting {
@@ -221,38 +237,44 @@ struct Together {
     gathered: (i64, i64, u64, u64, u64),
 }
 
-// Lets both carry, on the books of acme and beta. This is no `Trial`: nothing is proved of a method that starts threads with
-// what its own bounds give it.
-fn carry_together<R: Threads + Wait + Abort + Sync>(
+// Lets both carry, on the books of acme and beta, and tells whether all came of it that should. This is no `Trial`:
+// nothing is proved of a method that starts threads with what its own bounds give it.
+fn carry_together<R: Threads + Wait + Sync>(
     rt: &R,
     alloc: Global,
     together: &Together,
-) -> Result<(), Fail> {
+) -> Result<bool, Fail> {
     let setups = two_setups(alloc, 64)?;
     let opened = Opened::new(alloc, 2, 2)?;
     carry_on_books::<Brand, R>(rt, alloc, opened, &setups, start()?, together)
 }
 
-fn carry_on_books<J: Run + Send + Sync, R: Threads + Wait + Abort + Sync>(
+fn carry_on_books<J: Run + Send + Sync, R: Threads + Wait + Sync>(
     rt: &R,
     alloc: Global,
     opened: Opened,
     setups: &[TenantSetup; 2],
     start: Moment,
     together: &Together,
-) -> Result<(), Fail>
+) -> Result<bool, Fail>
     requires list { (opened.table ≡ J.table) × (opened.size ≡ J.size) }
     requires size { J.size ≡ record { tenants = 2; workers = 2 } }
     requires openings { J.openings ≡ openings_of setups.now start }
 {
     let (books, first, second) = two_books::<J>(alloc, opened, setups, start)?;
     let meeting = new_meeting(together.place);
-    let workers = (first, second);
-    let (codes, shares) = both_carried(rt, alloc, &books, &meeting, workers, together.tenant)?;
-    assert!(rt; codes.as_slice() == [200, 200].as_slice());
-    assert!(rt; meeting.given_up.load(Ordering::SeqCst) == 0);
-    assert!(rt; gathered(alloc, books, shares)? == Some(together.gathered));
-    Ok(())
+    let (are_good, shares) = both_carried(
+        rt,
+        alloc,
+        &books,
+        &meeting,
+        first,
+        second,
+        together.tenant,
+    )?;
+    let is_met = are_good && meeting.given_up.load(Ordering::SeqCst) == 0;
+    let books = gathered(alloc, books, shares)?;
+    Ok(is_met && outcome(books.as_slice()) == Some(together.gathered))
 }
 
 #[test]
@@ -262,7 +284,8 @@ fn a_tenant_does_not_wait_for_another(rt: HostRuntime) -> Result<(), Fail> {
         tenant: 1,
         gathered: (1_000, -1_500, 0, 0, 2),
     };
-    carry_together(&rt, rt.alloc(), &together)
+    assert!(rt; carry_together(&rt, rt.alloc(), &together)?);
+    Ok(())
 }
 
 #[test]
@@ -272,5 +295,6 @@ fn no_lock_is_held_over_a_send(rt: HostRuntime) -> Result<(), Fail> {
         tenant: 0,
         gathered: (2_000, -3_000, 0, 0, 4),
     };
-    carry_together(&rt, rt.alloc(), &together)
+    assert!(rt; carry_together(&rt, rt.alloc(), &together)?);
+    Ok(())
 }
