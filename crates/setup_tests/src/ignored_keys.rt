@@ -1,7 +1,9 @@
 //! The keys of setups that nobody reads, in words for people.
 
+use crate::texts::joined;
 use admin_text::ignored_keys;
 use std::alloc::Global;
+use std::process::Abort;
 use std::test::Fail;
 
 const KEYS: &str = "colour = \"red\"
@@ -64,6 +66,8 @@ peers = []
 0123456789012345678901234567890123456789012345678901234567890123456789 = 1
 ";
 
+const COLOUR: &str = "colour = \"red\": an unknown key, ignored\n";
+
 const IN_TENANTS: &str = "tenant 0 acme: jurnal = 64: an unknown key, ignored
 tenant 0 acme: \"two words\" = true: an unknown key, ignored
 tenant 0 acme: peer 1 alice: balence = 5: an unknown key, ignored
@@ -79,7 +83,7 @@ const FEE: &str = "tenant 0 acme: route 1 *: fee = 5: a key of version 2, ignore
 
 // What is said of a setup of that version, a line for each key.
 fn said_of(alloc: Global, version: &str) -> Result<String, Fail> {
-    let text = format!(in alloc; "version = {version}\nstart = 0\n{KEYS}")?;
+    let text = joined(alloc, &["version = ", version, "\nstart = 0\n", KEYS])?;
     let keys = ignored_keys(alloc, text.as_bytes())?;
     let mut said = String::new(alloc);
     for key in keys.as_slice() {
@@ -89,14 +93,20 @@ fn said_of(alloc: Global, version: &str) -> Result<String, Fail> {
     Ok(said)
 }
 
+fn expect_said(rt: &impl Abort, alloc: Global, version: &str, wanted: &[&str]) -> Result<(), Fail> {
+    let said = said_of(alloc, version)?;
+    let wanted = joined(alloc, wanted)?;
+    assert!(rt;
+        said.as_str() == wanted.as_str(),
+        "version {version}: {said}"
+    );
+    Ok(())
+}
+
 #[test]
 fn keys_that_nobody_reads_are_said(rt: HostRuntime) -> Result<(), Fail> {
     let alloc = rt.alloc();
-    let colour = "colour = \"red\": an unknown key, ignored\n";
-    let second = format!(in alloc; "{colour}{IN_TENANTS}{BEHIND}")?;
-    assert_eq!(rt; said_of(alloc, "2")?.as_str(), second.as_str());
-    let first = format!(in alloc; "{colour}{IN_TENANTS}{FEE}{BEHIND}")?;
-    assert_eq!(rt; said_of(alloc, "1")?.as_str(), first.as_str());
-    assert_eq!(rt; said_of(alloc, "3")?.as_str(), "");
-    Ok(())
+    expect_said(&rt, alloc, "2", &[COLOUR, IN_TENANTS, BEHIND])?;
+    expect_said(&rt, alloc, "1", &[COLOUR, IN_TENANTS, FEE, BEHIND])?;
+    expect_said(&rt, alloc, "3", &[])
 }

@@ -2,6 +2,8 @@
 #![tactic(auto)]
 
 #[cfg(test)]
+mod changes;
+#[cfg(test)]
 mod commands;
 #[cfg(test)]
 mod ignored_keys;
@@ -11,5 +13,7 @@ mod setup_limits;
 mod setup_texts;
 #[cfg(test)]
 mod setup_words;
+#[cfg(test)]
+mod texts;
 #[cfg(test)]
 mod written_setups;

@@ -4,10 +4,12 @@ mod drawn;
 mod running;
 mod texts;
 
+use crate::changes::changed_setup;
 use admin_text::{Setup, read_setup, write_setup};
 use std::alloc::Global;
+use std::process::Abort;
 use std::test::Fail;
-use test_texts::{Line, PEER, RATE, ROUTE, TENANT, setup_with};
+use test_texts::setup_with;
 
 // The usual setup as it is written: each table's keys in their order, and those that had been left out.
 const USUAL: &str = "start = 1893456000000
@@ -67,54 +69,49 @@ fn written(alloc: Global, setup: &Setup) -> Result<String, Fail> {
     Ok(write_setup(alloc, setup.start, setup.tenants.as_slice())?)
 }
 
+fn written_again(alloc: Global, text: &str) -> Result<String, Fail> {
+    let setup = read_setup(alloc, text.as_bytes())?;
+    written(alloc, &setup)
+}
+
 #[test]
 fn the_usual_setup_as_text(rt: HostRuntime) -> Result<(), Fail> {
-    let alloc = rt.alloc();
-    let text = setup_with(alloc, &[])?;
-    let setup = read_setup(alloc, text.as_bytes())?;
-    assert!(rt; written(alloc, &setup)?.as_str() == USUAL);
+    let usual = setup_with(rt.alloc(), &[])?;
+    let text = written_again(rt.alloc(), usual.as_str())?;
+    assert!(rt; text.as_str() == USUAL);
     Ok(())
 }
 
 // Changes of the usual setup.
-static CHANGES: [&[Line]; 4] = [
-    &[],
-    &[
-        ("carol", "", PEER),
-        ("rate before", "", RATE),
-        ("rate back", "", RATE),
-    ],
-    &[
-        ("", "version", "2"),
-        ("", "start", "0"),
-        ("route", "fee", "4611686018427387904"),
-        ("route before", "", ROUTE),
-        ("route after", "", ROUTE),
-        ("alice", "balance", "-4611686018427387904"),
-        ("bob", "balance", "4611686018427387904"),
-        ("bob", "cap", "0"),
-    ],
-    &[
-        ("beta", "", TENANT),
-        ("beta alice", "", PEER),
-        ("beta bob", "", PEER),
-        ("beta route", "", ROUTE),
-        ("beta rate", "", RATE),
-    ],
+static CHANGES: [&str; 3] = [
+    "carol||[[tenant.peer]], rate before||[[tenant.rate]], rate back||[[tenant.rate]]",
+    "|version|2, |start|0, route|fee|4611686018427387904, route before||[[tenant.route]], \
+    route after||[[tenant.route]], alice|balance|-4611686018427387904, bob|balance|4611686018427387904, bob|cap|0",
+    "beta||[[tenant]], beta alice||[[tenant.peer]], beta bob||[[tenant.peer]], beta route||[[tenant.route]], \
+    beta rate||[[tenant.rate]]",
 ];
 
 // What is read back of a written setup is written in the same way, and has as many tenants.
+fn expect_back(rt: &impl Abort, alloc: Global, setup: &Setup, text: &str) -> Result<(), Fail> {
+    let back = read_setup(alloc, text.as_bytes())?;
+    assert!(rt; back.start == setup.start);
+    assert!(rt; back.tenants.as_slice().len() == setup.tenants.as_slice().len());
+    assert!(rt; written(alloc, &back)?.as_str() == text);
+    Ok(())
+}
+
+fn expect_read_back(rt: &impl Abort, alloc: Global, text: &str) -> Result<(), Fail> {
+    let setup = read_setup(alloc, text.as_bytes())?;
+    let first = written(alloc, &setup)?;
+    expect_back(rt, alloc, &setup, first.as_str())
+}
+
 #[test]
 fn written_setups_are_read_back(rt: HostRuntime) -> Result<(), Fail> {
     let alloc = rt.alloc();
-    for changes in &CHANGES {
-        let text = setup_with(alloc, changes)?;
-        let setup = read_setup(alloc, text.as_bytes())?;
-        let first = written(alloc, &setup)?;
-        let back = read_setup(alloc, first.as_bytes())?;
-        assert!(rt; back.start == setup.start);
-        assert!(rt; back.tenants.as_slice().len() == setup.tenants.as_slice().len());
-        assert!(rt; written(alloc, &back)?.as_str() == first.as_str());
+    expect_read_back(&rt, alloc, setup_with(alloc, &[])?.as_str())?;
+    for changes in CHANGES {
+        expect_read_back(&rt, alloc, changed_setup(alloc, changes)?.as_str())?;
     }
     Ok(())
 }

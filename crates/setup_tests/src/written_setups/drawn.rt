@@ -1,10 +1,10 @@
 //! A setup of as many tenants as there can be, drawn by numbers that look random, many of which are bounds.
 
 use super::texts::{
-    PeerLines, RateLines, RouteLines, TenantLines, peers_text, rates_text, routes_text, setup_text,
-    tenant_text,
+    Dealings, PeerLines, RateLines, RouteLines, TenantLines, push_head, push_tenant,
 };
 use super::written;
+use crate::texts::joined;
 use admin_text::read_setup;
 use std::alloc::Global;
 use std::process::Abort;
@@ -185,93 +185,126 @@ fn drawn_rates(
     Ok(rates)
 }
 
-// The tenant's own lines, before those of the peers, rates and routes.
-fn drawn_terms(
-    alloc: Global,
+fn drawn_terms<'a>(
     draws: &mut Draws,
-    number: u64,
-    peers: &str,
-    rates: &str,
-    routes: &str,
-) -> Result<String, Fail> {
-    let name = format!(in alloc; "t{number}")?;
-    let address = format!(in alloc; "g.t{number}")?;
-    let admin = format!(in alloc; "root-{number}")?;
-    let tenant = TenantLines {
-        name: name.as_str(),
-        address: address.as_str(),
-        admin: admin.as_str(),
+    name: &'a str,
+    address: &'a str,
+    admin: &'a str,
+) -> TenantLines<'a> {
+    TenantLines {
+        name,
+        address,
+        admin,
         journal: draws.within(2, 16_384),
         margin: draws.within(0, 60_000),
         hold: draws.within(1, 600_000),
-    };
-    Ok(tenant_text(alloc, &tenant, peers, rates, routes)?)
+    }
 }
 
-fn drawn_tenant(alloc: Global, draws: &mut Draws, number: u64) -> Result<String, Fail> {
+fn push_numbered(
+    alloc: Global,
+    text: &mut String,
+    draws: &mut Draws,
+    number: &str,
+    dealings: &Dealings,
+) -> Result<(), Fail> {
+    let name = joined(alloc, &["t", number])?;
+    let address = joined(alloc, &["g.t", number])?;
+    let admin = joined(alloc, &["root-", number])?;
+    let tenant = drawn_terms(draws, name.as_str(), address.as_str(), admin.as_str());
+    Ok(push_tenant(alloc, text, &tenant, dealings)?)
+}
+
+fn push_drawn(
+    alloc: Global,
+    text: &mut String,
+    draws: &mut Draws,
+    number: &str,
+    peers: &[PeerLines],
+) -> Result<(), Fail> {
+    let rates = drawn_rates(alloc, draws, peers)?;
+    let routes = drawn_routes(alloc, draws, peers)?;
+    let dealings = Dealings {
+        peers,
+        rates: rates.as_slice(),
+        routes: routes.as_slice(),
+    };
+    push_numbered(alloc, text, draws, number, &dealings)
+}
+
+fn push_drawn_tenant(
+    alloc: Global,
+    text: &mut String,
+    draws: &mut Draws,
+    number: u64,
+) -> Result<(), Fail> {
+    let number = number.to_string(alloc)?;
     let peers = drawn_peers(alloc, draws)?;
-    let rates = drawn_rates(alloc, draws, peers.as_slice())?;
-    let routes = drawn_routes(alloc, draws, peers.as_slice())?;
-    let peers = peers_text(alloc, peers.as_slice())?;
-    let rates = rates_text(alloc, rates.as_slice())?;
-    let routes = routes_text(alloc, routes.as_slice())?;
-    drawn_terms(
-        alloc,
-        draws,
-        number,
-        peers.as_str(),
-        rates.as_str(),
-        routes.as_str(),
-    )
+    push_drawn(alloc, text, draws, number.as_str(), peers.as_slice())
+}
+
+fn push_drawn_setup(alloc: Global, text: &mut String, seed: u64) -> Result<(), Fail> {
+    let mut draws = Draws::new(seed);
+    push_head(alloc, text, LATEST)?;
+    for number in 0..64u64 {
+        push_drawn_tenant(alloc, text, &mut draws, number)?;
+    }
+    Ok(())
 }
 
 // The text of a setup of 64 tenants.
 fn drawn_setup(alloc: Global, seed: u64) -> Result<String, Fail> {
-    let mut draws = Draws::new(seed);
-    let mut tenants = String::new(alloc);
-    for number in 0..64u64 {
-        tenants.push_str(drawn_tenant(alloc, &mut draws, number)?.as_str())?;
-    }
-    Ok(setup_text(alloc, LATEST, tenants.as_str())?)
+    let mut text = String::new(alloc);
+    push_drawn_setup(alloc, &mut text, seed)?;
+    Ok(text)
 }
 
 // Lines that are drawn for some tenant: each number at both its bounds, each role, and no rates and no routes.
-static BOUNDS: [&str; 30] = [
-    "\nbalance = -4611686018427387904\n",
-    "\nbalance = 4611686018427387904\n",
-    "\nburst = 1\n",
-    "\nburst = 1000000\n",
-    "\ncap = 0\n",
-    "\ncap = 4611686018427387904\n",
-    "\nceiling = 0\n",
-    "\nceiling = 4611686018427387904\n",
-    "\ncredit = 0\n",
-    "\ncredit = 4611686018427387904\n",
-    "\nper_second = 0\n",
-    "\nper_second = 1000000\n",
-    "\nscale = 0\n",
-    "\nscale = 255\n",
-    "\nden = 1\n",
-    "\nden = 1000000000000\n",
-    "\nnum = 1\n",
-    "\nnum = 1000000000000\n",
-    "\nfee = 0\n",
-    "\nfee = 4611686018427387904\n",
-    "\nhold = 1\n",
-    "\nhold = 600000\n",
-    "\njournal = 2\n",
-    "\njournal = 16384\n",
-    "\nmargin = 0\n",
-    "\nmargin = 60000\n",
-    "\nrole = \"child\"\n",
-    "\nrole = \"peer\"\n",
-    "\nrate = []\n",
-    "\nroute = []\n",
-];
+static BOUNDS: &str = "\
+balance = -4611686018427387904
+balance = 4611686018427387904
+burst = 1
+burst = 1000000
+cap = 0
+cap = 4611686018427387904
+ceiling = 0
+ceiling = 4611686018427387904
+credit = 0
+credit = 4611686018427387904
+per_second = 0
+per_second = 1000000
+scale = 0
+scale = 255
+den = 1
+den = 1000000000000
+num = 1
+num = 1000000000000
+fee = 0
+fee = 4611686018427387904
+hold = 1
+hold = 600000
+journal = 2
+journal = 16384
+margin = 0
+margin = 60000
+role = \"child\"
+role = \"peer\"
+rate = []
+route = []
+";
+
+fn has_line(text: &str, wanted: &str) -> bool {
+    for line in text.lines() {
+        if line == wanted {
+            return true;
+        }
+    }
+    false
+}
 
 fn expect_bounds(rt: &impl Abort, drawn: &str) {
-    for line in BOUNDS {
-        assert!(rt; drawn.contains(line), "{line}");
+    for line in BOUNDS.lines() {
+        assert!(rt; has_line(drawn, line), "{line}");
     }
 }
 

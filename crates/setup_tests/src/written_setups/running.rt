@@ -1,10 +1,9 @@
 //! The setup of a running book: what is written of it after each of some steps, and the book that begins with it.
 
 use super::texts::{
-    PeerLines, RateLines, RouteLines, TenantLines, peers_text, rates_text, routes_text, setup_text,
-    tenant_text,
+    Dealings, PeerLines, RateLines, RouteLines, TenantLines, push_head, push_tenant,
 };
-use super::written;
+use super::written_again;
 use admin_text::{parse_command, read_setup, write_setup};
 use common_types::Token;
 use ilp_addr::{Address, Moment};
@@ -384,17 +383,15 @@ fn expect_all_done(
 }
 
 fn wanted_text(alloc: Global, stage: &Stage) -> Result<String, Fail> {
-    let peers = peers_text(alloc, stage.peers)?;
-    let rates = rates_text(alloc, stage.rates)?;
-    let routes = routes_text(alloc, stage.routes)?;
-    let tenant = tenant_text(
-        alloc,
-        &ACME,
-        peers.as_str(),
-        rates.as_str(),
-        routes.as_str(),
-    )?;
-    Ok(setup_text(alloc, START, tenant.as_str())?)
+    let dealings = Dealings {
+        peers: stage.peers,
+        rates: stage.rates,
+        routes: stage.routes,
+    };
+    let mut text = String::new(alloc);
+    push_head(alloc, &mut text, START)?;
+    push_tenant(alloc, &mut text, &ACME, &dealings)?;
+    Ok(text)
 }
 
 // Whether the peer owes what a setup says, and nothing is held from it or for it.
@@ -411,11 +408,6 @@ fn expect_rows(rt: &impl Abort, rows: &[Row], stage: &Stage) {
     for (row, peer) in rows.iter().zip(stage.peers) {
         assert!(rt; owes_as_said(row, peer), "{title}: {}", peer.name);
     }
-}
-
-fn written_again(alloc: Global, text: &str) -> Result<String, Fail> {
-    let setup = read_setup(alloc, text.as_bytes())?;
-    written(alloc, &setup)
 }
 
 // The book that begins with what was written owes what it says, and of it the same is written.
@@ -435,14 +427,33 @@ fn expect_begun(
     Ok(())
 }
 
-fn expect_text(rt: &impl Abort, alloc: Global, text: &str, stage: &Stage) -> Result<(), Fail> {
-    let title = stage.title;
+fn expect_next(rt: &impl Abort, alloc: Global, text: &str, stage: &Stage) -> Result<(), Fail> {
+    let mut next = begun(alloc, text)?;
+    expect_begun(rt, alloc, &mut next, text, stage)
+}
+
+fn expect_wanted(rt: &impl Abort, alloc: Global, text: &str, stage: &Stage) -> Result<(), Fail> {
     assert!(rt;
         wanted_text(alloc, stage)?.as_str() == text,
-        "{title}: {text}"
+        "{}: {text}",
+        stage.title
     );
-    assert!(rt; written_again(alloc, text)?.as_str() == text, "{title}");
     Ok(())
+}
+
+fn expect_again(rt: &impl Abort, alloc: Global, text: &str, stage: &Stage) -> Result<(), Fail> {
+    assert!(rt;
+        written_again(alloc, text)?.as_str() == text,
+        "{}",
+        stage.title
+    );
+    Ok(())
+}
+
+fn expect_text(rt: &impl Abort, alloc: Global, text: &str, stage: &Stage) -> Result<(), Fail> {
+    expect_wanted(rt, alloc, text, stage)?;
+    expect_again(rt, alloc, text, stage)?;
+    expect_next(rt, alloc, text, stage)
 }
 
 fn expect_stage(
@@ -453,18 +464,28 @@ fn expect_stage(
 ) -> Result<(), Fail> {
     expect_all_done(rt, alloc, book, stage)?;
     let text = present_text(alloc, book)?;
-    expect_text(rt, alloc, text.as_str(), stage)?;
-    let mut next = begun(alloc, text.as_str())?;
-    expect_begun(rt, alloc, &mut next, text.as_str(), stage)
+    expect_text(rt, alloc, text.as_str(), stage)
+}
+
+fn expect_stages(
+    rt: &impl Abort,
+    alloc: Global,
+    book: &mut Book,
+    stages: &[Stage],
+) -> Result<(), Fail> {
+    for stage in stages {
+        expect_stage(rt, alloc, book, stage)?;
+    }
+    Ok(())
+}
+
+fn usual_book(alloc: Global) -> Result<Book, Fail> {
+    let usual = setup_with(alloc, &[])?;
+    begun(alloc, usual.as_str())
 }
 
 #[test]
 fn what_is_written_of_a_running_book_begins_one_like_it(rt: HostRuntime) -> Result<(), Fail> {
-    let alloc = rt.alloc();
-    let usual = setup_with(alloc, &[])?;
-    let mut book = begun(alloc, usual.as_str())?;
-    for stage in &STAGES {
-        expect_stage(&rt, alloc, &mut book, stage)?;
-    }
-    Ok(())
+    let mut book = usual_book(rt.alloc())?;
+    expect_stages(&rt, rt.alloc(), &mut book, &STAGES)
 }

@@ -45,109 +45,129 @@ pub struct RateLines {
     pub den: u64,
 }
 
+/// Whom a tenant deals with, at which rates and by which routes. There is one peer at least.
+#[derive(Clone, Copy)]
+pub struct Dealings<'a> {
+    pub peers: &'a [PeerLines],
+    pub rates: &'a [RateLines],
+    pub routes: &'a [RouteLines],
+}
+
+fn push_line(text: &mut String, key: &str, value: &str) -> Result<(), AllocError> {
+    text.push_str(key)?;
+    text.push_str(" = ")?;
+    text.push_str(value)?;
+    text.push_str("\n")
+}
+
+fn push_text(text: &mut String, key: &str, value: &str) -> Result<(), AllocError> {
+    text.push_str(key)?;
+    text.push_str(" = \"")?;
+    text.push_str(value)?;
+    text.push_str("\"\n")
+}
+
+fn push_number(alloc: Global, text: &mut String, key: &str, value: u64) -> Result<(), AllocError> {
+    push_line(text, key, value.to_string(alloc)?.as_str())
+}
+
 // The keys of a peer from `asset` to `credit`.
-fn money_text(alloc: Global, peer: &PeerLines) -> Result<String, AllocError> {
-    let PeerLines {
-        asset,
-        balance,
-        burst,
-        cap,
-        ceiling,
-        credit,
-        ..
-    } = *peer;
-    format!(in alloc;
-        "asset = \"{asset}\"\nbalance = {balance}\nburst = {burst}\ncap = {cap}\nceiling = {ceiling}\ncredit = {credit}\n"
-    )
+fn push_money(alloc: Global, text: &mut String, peer: &PeerLines) -> Result<(), AllocError> {
+    push_text(text, "asset", peer.asset)?;
+    push_line(text, "balance", peer.balance.to_string(alloc)?.as_str())?;
+    push_number(alloc, text, "burst", peer.burst)?;
+    push_number(alloc, text, "cap", peer.cap)?;
+    push_number(alloc, text, "ceiling", peer.ceiling)?;
+    push_number(alloc, text, "credit", peer.credit)
 }
 
 // Those from `name` to `url`.
-fn party_text(alloc: Global, peer: &PeerLines) -> Result<String, AllocError> {
-    let PeerLines {
-        name,
-        out_token,
-        per_second,
-        role,
-        scale,
-        token,
-        url,
-        ..
-    } = *peer;
-    format!(in alloc;
-        "name = \"{name}\"\nout_token = \"{out_token}\"\nper_second = {per_second}\n\
-        role = \"{role}\"\nscale = {scale}\ntoken = \"{token}\"\nurl = \"{url}\"\n"
-    )
+fn push_party(alloc: Global, text: &mut String, peer: &PeerLines) -> Result<(), AllocError> {
+    push_text(text, "name", peer.name)?;
+    push_text(text, "out_token", peer.out_token)?;
+    push_number(alloc, text, "per_second", peer.per_second)?;
+    push_text(text, "role", peer.role)?;
+    push_number(alloc, text, "scale", peer.scale)?;
+    push_text(text, "token", peer.token)?;
+    push_text(text, "url", peer.url)
 }
 
-pub fn peers_text(alloc: Global, peers: &[PeerLines]) -> Result<String, AllocError> {
-    let mut text = String::new(alloc);
+fn push_peers(alloc: Global, text: &mut String, peers: &[PeerLines]) -> Result<(), AllocError> {
     for peer in peers {
         text.push_str("\n[[tenant.peer]]\n")?;
-        text.push_str(money_text(alloc, peer)?.as_str())?;
-        text.push_str(party_text(alloc, peer)?.as_str())?;
+        push_money(alloc, text, peer)?;
+        push_party(alloc, text, peer)?;
     }
-    Ok(text)
+    Ok(())
 }
 
-fn rate_text(alloc: Global, rate: &RateLines) -> Result<String, AllocError> {
-    let RateLines { from, to, num, den } = *rate;
-    format!(in alloc;
-        "\n[[tenant.rate]]\nden = {den}\nfrom = \"{from}\"\nnum = {num}\nto = \"{to}\"\n"
-    )
+fn push_rate(alloc: Global, text: &mut String, rate: &RateLines) -> Result<(), AllocError> {
+    text.push_str("\n[[tenant.rate]]\n")?;
+    push_number(alloc, text, "den", rate.den)?;
+    push_text(text, "from", rate.from)?;
+    push_number(alloc, text, "num", rate.num)?;
+    push_text(text, "to", rate.to)
 }
 
-pub fn rates_text(alloc: Global, rates: &[RateLines]) -> Result<String, AllocError> {
-    let mut text = String::new(alloc);
+fn push_rates(alloc: Global, text: &mut String, rates: &[RateLines]) -> Result<(), AllocError> {
     for rate in rates {
-        text.push_str(rate_text(alloc, rate)?.as_str())?;
+        push_rate(alloc, text, rate)?;
     }
-    Ok(text)
+    Ok(())
 }
 
-fn route_text(alloc: Global, route: &RouteLines) -> Result<String, AllocError> {
-    let RouteLines { prefix, peer, fee } = *route;
-    format!(in alloc; "\n[[tenant.route]]\nfee = {fee}\npeer = \"{peer}\"\nprefix = \"{prefix}\"\n")
+fn push_route(alloc: Global, text: &mut String, route: &RouteLines) -> Result<(), AllocError> {
+    text.push_str("\n[[tenant.route]]\n")?;
+    push_number(alloc, text, "fee", route.fee)?;
+    push_text(text, "peer", route.peer)?;
+    push_text(text, "prefix", route.prefix)
 }
 
-pub fn routes_text(alloc: Global, routes: &[RouteLines]) -> Result<String, AllocError> {
-    let mut text = String::new(alloc);
+fn push_routes(alloc: Global, text: &mut String, routes: &[RouteLines]) -> Result<(), AllocError> {
     for route in routes {
-        text.push_str(route_text(alloc, route)?.as_str())?;
+        push_route(alloc, text, route)?;
     }
-    Ok(text)
+    Ok(())
 }
 
-// The line of an array without tables, which stands among the tenant's own.
-fn line_of_none(tables: &str, line: &'static str) -> &'static str {
-    if tables.is_empty() { line } else { "" }
+// A tenant's own lines.
+fn push_terms(alloc: Global, text: &mut String, tenant: &TenantLines) -> Result<(), AllocError> {
+    text.push_str("\n[[tenant]]\n")?;
+    push_text(text, "address", tenant.address)?;
+    push_text(text, "admin", tenant.admin)?;
+    push_number(alloc, text, "hold", tenant.hold)?;
+    push_number(alloc, text, "journal", tenant.journal)?;
+    push_number(alloc, text, "margin", tenant.margin)?;
+    push_text(text, "name", tenant.name)
 }
 
-/// A tenant who deals with these peers, of whom there is one at least.
-pub fn tenant_text(
+// The lines of the arrays without tables, which stand among the tenant's own.
+fn push_none(text: &mut String, dealings: &Dealings) -> Result<(), AllocError> {
+    if dealings.rates.is_empty() {
+        text.push_str("rate = []\n")?;
+    }
+    if dealings.routes.is_empty() {
+        text.push_str("route = []\n")?;
+    }
+    Ok(())
+}
+
+/// A tenant's lines.
+pub fn push_tenant(
     alloc: Global,
+    text: &mut String,
     tenant: &TenantLines,
-    peers: &str,
-    rates: &str,
-    routes: &str,
-) -> Result<String, AllocError> {
-    let TenantLines {
-        name,
-        address,
-        admin,
-        journal,
-        margin,
-        hold,
-    } = *tenant;
-    let no_rates = line_of_none(rates, "rate = []\n");
-    let no_routes = line_of_none(routes, "route = []\n");
-    let own = format!(in alloc;
-        "\n[[tenant]]\naddress = \"{address}\"\nadmin = \"{admin}\"\nhold = {hold}\n\
-        journal = {journal}\nmargin = {margin}\nname = \"{name}\"\n"
-    )?;
-    format!(in alloc; "{own}{no_rates}{no_routes}{peers}{rates}{routes}")
+    dealings: &Dealings,
+) -> Result<(), AllocError> {
+    push_terms(alloc, text, tenant)?;
+    push_none(text, dealings)?;
+    push_peers(alloc, text, dealings.peers)?;
+    push_rates(alloc, text, dealings.rates)?;
+    push_routes(alloc, text, dealings.routes)
 }
 
-/// A setup of version 2 with these tenants.
-pub fn setup_text(alloc: Global, start: u64, tenants: &str) -> Result<String, AllocError> {
-    format!(in alloc; "start = {start}\nversion = 2\n{tenants}")
+/// How a setup of version 2 begins.
+pub fn push_head(alloc: Global, text: &mut String, start: u64) -> Result<(), AllocError> {
+    push_number(alloc, text, "start", start)?;
+    push_number(alloc, text, "version", 2)
 }
