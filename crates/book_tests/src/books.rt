@@ -1,6 +1,7 @@
 //! Books of tenants: the limits of their setups and networks, verdicts at the bounds of what was agreed, what comes back,
-//! closed periods, copies, entries of one's own, and random lists of all of these.
+//! closed periods, what an audit says of them, copies, entries of one's own, and random lists of all of these.
 
+mod audits;
 mod limits;
 mod owned;
 mod periods;

@@ -12,7 +12,7 @@ use std::alloc::Global;
 use std::process::Abort;
 use std::str;
 use std::test::Fail;
-use tenant_core::{Answered, Command, TenantSetup};
+use tenant_core::{Answered, Command, CommandFault, TenantSetup};
 use test_texts::{Line, filled, setup_with};
 
 // 2030-01-01T00:00:00Z, when the books begin.
@@ -70,79 +70,150 @@ fn load<'a>(worker: usize, tenant: usize, token: &'a [u8], bytes: &'a [u8]) -> S
     }
 }
 
-// The step of a row, which has these bytes, and the text of its output.
-fn step_of<'a>(
-    alloc: Global,
-    row: &Row,
-    bytes: &'a [u8],
-) -> Result<(Step<'a>, &'static str), Fail> {
-    let now = moment(START)?;
-    Ok(match *row {
-        Row::Load(worker, tenant, _, output) => (load(worker, tenant, b"tok-alice", bytes), output),
-        Row::Show(token, output) => (load(0, 0, token, bytes), output),
-        Row::Decide(worker, output) => (Step::Decide { worker, now }, output),
-        Row::Answer(worker, _, output) => {
-            let given = Given::Bytes(Octets::of(bytes));
-            (Step::Answer { worker, now, given }, output)
-        }
-        Row::Lost(worker, output) => {
-            let given = Given::Fault;
-            (Step::Answer { worker, now, given }, output)
-        }
-        Row::Tick(tenant, output) => (Step::Tick { tenant, now }, output),
-        Row::Balances(tenant, output) => {
-            let command = Boxed::new(alloc, Command::Balances)?;
-            let step = Step::Govern {
-                tenant,
-                now,
-                command,
-            };
-            (step, output)
-        }
+fn balances<'a>(alloc: Global, tenant: usize, now: Moment) -> Result<Step<'a>, Fail> {
+    let command = Boxed::new(alloc, Command::Balances)?;
+    Ok(Step::Govern {
+        tenant,
+        now,
+        command,
     })
 }
 
-// What each peer owes, and what is held from it and for it.
-fn answered(alloc: Global, answer: &Answered) -> Result<String, Fail> {
-    let Answered::Balances(rows) = answer else {
-        return Err(Fail::from("balances"));
-    };
+// The step of a row, which has these bytes.
+fn step_of<'a>(alloc: Global, row: &Row, bytes: &'a [u8]) -> Result<Step<'a>, Fail> {
+    let now = moment(START)?;
+    match *row {
+        Row::Load(worker, tenant, _, _) => Ok(load(worker, tenant, b"tok-alice", bytes)),
+        Row::Show(token, _) => Ok(load(0, 0, token, bytes)),
+        Row::Decide(worker, _) => Ok(Step::Decide { worker, now }),
+        Row::Answer(worker, _, _) => {
+            let given = Given::Bytes(Octets::of(bytes));
+            Ok(Step::Answer { worker, now, given })
+        }
+        Row::Lost(worker, _) => {
+            let given = Given::Fault;
+            Ok(Step::Answer { worker, now, given })
+        }
+        Row::Tick(tenant, _) => Ok(Step::Tick { tenant, now }),
+        Row::Balances(tenant, _) => balances(alloc, tenant, now),
+    }
+}
+
+// The text of a row's output, with names in braces.
+fn output_of(row: &Row) -> &'static str {
+    match *row {
+        Row::Load(_, _, _, output)
+        | Row::Show(_, output)
+        | Row::Decide(_, output)
+        | Row::Answer(_, _, output)
+        | Row::Lost(_, output)
+        | Row::Tick(_, output)
+        | Row::Balances(_, output) => output,
+    }
+}
+
+fn joined(alloc: Global, parts: &[&str]) -> Result<String, Fail> {
     let mut text = String::new(alloc);
-    for row in rows.as_slice() {
-        let name = str::from_utf8(row.name.as_bytes())?;
-        let part = format!(in alloc; " {name} {} {} {}", row.balance, row.held_in, row.held_out)?;
-        text.push_str(part.as_str())?;
+    for part in parts {
+        text.push_str(part)?;
     }
     Ok(text)
 }
 
-fn text_of(alloc: Global, output: &Output) -> Result<String, Fail> {
-    Ok(match output {
-        Output::Busy => String::from_str(alloc, "busy")?,
-        Output::Idle => String::from_str(alloc, "idle")?,
-        Output::Loaded { tenant, call } => format!(in alloc; "{tenant} loaded {call}")?,
-        Output::Bad { tenant, kind } => format!(in alloc; "{tenant} bad {kind:?}")?,
-        Output::Stranger { tenant } => format!(in alloc; "{tenant} stranger")?,
-        Output::Reply { tenant, bytes } => {
-            let digits = hex::encode(alloc, bytes.as_slice())?;
-            format!(in alloc; "{tenant} reply {digits}")?
-        }
+// What a peer owes, and what is held from it and for it.
+fn balance_text(alloc: Global, row: &tenant_core::Row) -> Result<String, Fail> {
+    let name = str::from_utf8(row.name.as_bytes())?;
+    let balance = row.balance.to_string(alloc)?;
+    let held_in = row.held_in.to_string(alloc)?;
+    let held_out = row.held_out.to_string(alloc)?;
+    joined(
+        alloc,
+        &[
+            " ",
+            name,
+            " ",
+            balance.as_str(),
+            " ",
+            held_in.as_str(),
+            " ",
+            held_out.as_str(),
+        ],
+    )
+}
+
+fn balances_text(alloc: Global, rows: &[tenant_core::Row]) -> Result<String, Fail> {
+    let mut text = String::new(alloc);
+    for row in rows {
+        text.push_str(balance_text(alloc, row)?.as_str())?;
+    }
+    Ok(text)
+}
+
+fn governed_text(alloc: Global, answer: &Result<Answered, CommandFault>) -> Result<String, Fail> {
+    match answer {
+        Ok(Answered::Balances(rows)) => balances_text(alloc, rows.as_slice()),
+        Ok(_) => Err(Fail::from("balances")),
+        Err(fault) => Ok(format!(in alloc; " {fault}")?),
+    }
+}
+
+fn reply_text(alloc: Global, bytes: &[u8]) -> Result<String, Fail> {
+    let digits = hex::encode(alloc, bytes)?;
+    joined(alloc, &[" reply ", digits.as_str()])
+}
+
+fn sent_text(alloc: Global, peer: &[u8], hold: u64, frame: &[u8]) -> Result<String, Fail> {
+    let peer = str::from_utf8(peer)?;
+    let hold = hold.to_string(alloc)?;
+    let digits = hex::encode(alloc, frame)?;
+    joined(
+        alloc,
+        &[" send ", peer, " ", hold.as_str(), " ", digits.as_str()],
+    )
+}
+
+// The text of an output behind the number of its tenant.
+fn rest_of(alloc: Global, output: &Output) -> Result<String, Fail> {
+    match output {
+        Output::Busy => joined(alloc, &["busy"]),
+        Output::Idle => joined(alloc, &["idle"]),
+        Output::Loaded { call, .. } => Ok(format!(in alloc; " loaded {call}")?),
+        Output::Bad { kind, .. } => Ok(format!(in alloc; " bad {kind:?}")?),
+        Output::Stranger { .. } => joined(alloc, &[" stranger"]),
+        Output::Reply { bytes, .. } => reply_text(alloc, bytes.as_slice()),
         Output::Send {
-            tenant,
             peer,
             hold,
             frame,
-        } => {
-            let peer = str::from_utf8(peer.as_bytes())?;
-            let digits = hex::encode(alloc, frame.as_slice())?;
-            format!(in alloc; "{tenant} send {peer} {hold} {digits}")?
+            ..
+        } => sent_text(alloc, peer.as_bytes(), *hold, frame.as_slice()),
+        Output::Ticked { answer, .. } => Ok(format!(in alloc; " ticked {answer:?}")?),
+        Output::Governed { answer, .. } => governed_text(alloc, answer),
+    }
+}
+
+fn tenant_of(output: &Output) -> Option<usize> {
+    match *output {
+        Output::Busy | Output::Idle => None,
+        Output::Loaded { tenant, .. }
+        | Output::Bad { tenant, .. }
+        | Output::Stranger { tenant }
+        | Output::Reply { tenant, .. }
+        | Output::Send { tenant, .. }
+        | Output::Ticked { tenant, .. }
+        | Output::Governed { tenant, .. } => Some(tenant),
+    }
+}
+
+fn text_of(alloc: Global, output: &Output) -> Result<String, Fail> {
+    let rest = rest_of(alloc, output)?;
+    match tenant_of(output) {
+        Some(tenant) => {
+            let tenant = tenant.to_string(alloc)?;
+            joined(alloc, &[tenant.as_str(), rest.as_str()])
         }
-        Output::Ticked { tenant, answer } => format!(in alloc; "{tenant} ticked {answer:?}")?,
-        Output::Governed { tenant, answer } => match answer {
-            Ok(answer) => format!(in alloc; "{tenant}{}", answered(alloc, answer)?)?,
-            Err(fault) => format!(in alloc; "{tenant} {fault}")?,
-        },
-    })
+        None => Ok(rest),
+    }
 }
 
 // The tenants of the usual setup, so changed.
@@ -151,16 +222,27 @@ fn tenants(alloc: Global, changes: &[Line]) -> Result<Vec<TenantSetup>, Fail> {
     Ok(read_setup(alloc, text.as_bytes())?.tenants.into_vec())
 }
 
-// Two tenants, and two workers.
-fn floor_of(alloc: Global, first: &[Line], second: &[Line]) -> Result<Floor, Fail> {
+// The tenants of both setups.
+fn both(alloc: Global, first: &[Line], second: &[Line]) -> Result<Vec<TenantSetup>, Fail> {
     let mut setups = tenants(alloc, first)?;
     for setup in tenants(alloc, second)? {
         setups.push(setup)?;
     }
+    Ok(setups)
+}
+
+// A floor with two workers.
+fn begun(alloc: Global, setups: &[TenantSetup]) -> Result<Floor, Fail> {
     if setups.len() == 0 || setups.len() > 64 {
         return Err(Fail::from("two tenants"));
     }
-    Ok(Floor::new(alloc, setups.as_slice(), moment(START)?, 2)?)
+    Ok(Floor::new(alloc, setups, moment(START)?, 2)?)
+}
+
+// Two tenants, and two workers.
+fn floor_of(alloc: Global, first: &[Line], second: &[Line]) -> Result<Floor, Fail> {
+    let setups = both(alloc, first, second)?;
+    begun(alloc, setups.as_slice())
 }
 
 fn all_fit(floor: &Floor, steps: &[Step]) -> bool
@@ -184,30 +266,53 @@ fn run(alloc: Global, floor: &mut Floor, steps: &[Step]) -> Result<Vec<Output>, 
     }
 }
 
-fn expect_rows(
+fn all_bytes(alloc: Global, rows: &[Row]) -> Result<Vec<Vec<u8>>, Fail> {
+    let mut all = Vec::new(alloc);
+    for row in rows {
+        all.push(bytes_of(alloc, row)?)?;
+    }
+    Ok(all)
+}
+
+fn all_steps<'a>(alloc: Global, rows: &[Row], all: &'a [Vec<u8>]) -> Result<Vec<Step<'a>>, Fail> {
+    let mut steps = Vec::new(alloc);
+    for (row, bytes) in rows.iter().zip(all.iter()) {
+        steps.push(step_of(alloc, row, bytes.as_slice())?)?;
+    }
+    Ok(steps)
+}
+
+fn outputs_of(alloc: Global, floor: &mut Floor, rows: &[Row]) -> Result<Vec<Output>, Fail> {
+    let bytes = all_bytes(alloc, rows)?;
+    let steps = all_steps(alloc, rows, bytes.as_slice())?;
+    run(alloc, floor, steps.as_slice())
+}
+
+fn expect_output(rt: &impl Abort, alloc: Global, output: &Output, row: &Row) -> Result<(), Fail> {
+    let told = text_of(alloc, output)?;
+    let text = filled(alloc, output_of(row))?;
+    assert!(rt; told.as_str() == text.as_str(), "{told} is not {text}");
+    Ok(())
+}
+
+fn expect_outputs(
     rt: &impl Abort,
     alloc: Global,
-    floor: &mut Floor,
+    outputs: &[Output],
     rows: &[Row],
 ) -> Result<(), Fail> {
-    let mut parts = Vec::new(alloc);
-    for row in rows {
-        parts.push(bytes_of(alloc, row)?)?;
-    }
-    let mut steps = Vec::new(alloc);
-    let mut texts = Vec::new(alloc);
-    for (row, bytes) in rows.iter().zip(parts.iter()) {
-        let (step, text) = step_of(alloc, row, bytes.as_slice())?;
-        steps.push(step)?;
-        texts.push(filled(alloc, text)?)?;
-    }
-    let outputs = run(alloc, floor, steps.as_slice())?;
-    assert!(rt; outputs.len() == texts.len());
-    for (output, text) in outputs.iter().zip(texts.iter()) {
-        let told = text_of(alloc, output)?;
-        assert!(rt; told.as_str() == text.as_str(), "{told} is not {text}");
+    assert!(rt; outputs.len() == rows.len());
+    for (output, row) in outputs.iter().zip(rows.iter()) {
+        expect_output(rt, alloc, output, row)?;
     }
     Ok(())
+}
+
+// What a floor of two tenants puts out.
+fn expect_rows(rt: &impl Abort, alloc: Global, first: &[Line], rows: &[Row]) -> Result<(), Fail> {
+    let mut floor = floor_of(alloc, first, &BETA)?;
+    let outputs = outputs_of(alloc, &mut floor, rows)?;
+    expect_outputs(rt, alloc, outputs.as_slice(), rows)
 }
 
 // Two workers for one tenant: the calls are decided and answered crosswise.
@@ -229,9 +334,7 @@ static CROSSWISE: [Row; 13] = [
 
 #[test]
 fn two_workers_crosswise(rt: HostRuntime) -> Result<(), Fail> {
-    let alloc = rt.alloc();
-    let mut floor = floor_of(alloc, &[], &BETA)?;
-    expect_rows(&rt, alloc, &mut floor, &CROSSWISE)
+    expect_rows(&rt, rt.alloc(), &[], &CROSSWISE)
 }
 
 // Two tenants by one worker: the full journal of the first is nothing to the second, whose holds begin at 0.
@@ -260,9 +363,7 @@ static APART: [Row; 14] = [
 
 #[test]
 fn two_tenants_apart(rt: HostRuntime) -> Result<(), Fail> {
-    let alloc = rt.alloc();
-    let mut floor = floor_of(alloc, &ACME, &BETA)?;
-    expect_rows(&rt, alloc, &mut floor, &APART)
+    expect_rows(&rt, rt.alloc(), &ACME, &APART)
 }
 
 // No byte, 65 bytes, and bytes beside those that tokens have: nothing is taken in hand, and no call has a number.
@@ -303,7 +404,5 @@ static TOKENS: [Row; 26] = [
 
 #[test]
 fn tokens_that_are_none(rt: HostRuntime) -> Result<(), Fail> {
-    let alloc = rt.alloc();
-    let mut floor = floor_of(alloc, &[], &BETA)?;
-    expect_rows(&rt, alloc, &mut floor, &TOKENS)
+    expect_rows(&rt, rt.alloc(), &[], &TOKENS)
 }

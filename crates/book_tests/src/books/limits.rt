@@ -18,21 +18,34 @@ static SETUPS: [(u64, u64, u64, bool); 8] = [
     (2, u64::MAX, 30_000, false),
 ];
 
+fn is_setup(alloc: Global, journal: u64, margin: u64, hold: u64) -> Result<bool, Fail> {
+    Ok(tenant(alloc, journal, margin, hold, USUAL)?.is_some())
+}
+
 #[test]
 fn limits_of_a_setup(rt: HostRuntime) -> Result<(), Fail> {
-    let alloc = rt.alloc();
     for (journal, margin, hold, is_within) in SETUPS {
-        let found = tenant(alloc, journal, margin, hold, USUAL)?;
-        assert!(rt; found.is_some() == is_within, "{journal} {margin} {hold}");
+        let found = is_setup(rt.alloc(), journal, margin, hold)?;
+        assert!(rt; found == is_within, "{journal} {margin} {hold}");
     }
     Ok(())
 }
 
+fn expect_fault(rt: &impl Abort, found: Result<(), CommandFault>, wanted: CommandFault) {
+    assert!(rt; found == Err(wanted));
+}
+
 fn expect_no_more_peers(rt: &impl Abort, alloc: Global, network: &mut Network) -> Result<(), Fail> {
-    let full = Err(CommandFault::Limit);
-    assert!(rt; add_peer(alloc, network, 256, USUAL)? == full);
-    let present = Err(CommandFault::Present);
-    assert!(rt; add_peer(alloc, network, 255, USUAL)? == present);
+    expect_fault(
+        rt,
+        add_peer(alloc, network, 256, USUAL)?,
+        CommandFault::Limit,
+    );
+    expect_fault(
+        rt,
+        add_peer(alloc, network, 255, USUAL)?,
+        CommandFault::Present,
+    );
     Ok(())
 }
 
@@ -44,9 +57,18 @@ fn expect_no_more_rates(rt: &impl Abort, alloc: Global, network: &mut Network) -
         let to = if other < from { other } else { other + 1 };
         set_rate(alloc, network, from, to, (1, 1))??;
     }
-    let full = Err(CommandFault::Limit);
-    assert!(rt; set_rate(alloc, network, 64, 0, (1, 1))? == full);
-    assert!(rt; set_rate(alloc, network, 0, 1, (2, 1))? == Ok(()));
+    expect_fault(
+        rt,
+        set_rate(alloc, network, 64, 0, (1, 1))?,
+        CommandFault::Limit,
+    );
+    set_rate(alloc, network, 0, 1, (2, 1))??;
+    Ok(())
+}
+
+fn add_numbered_route(alloc: Global, network: &mut Network, number: u32) -> Result<(), Fail> {
+    let prefix = format!(in alloc; "g.r{number}")?;
+    add_route(alloc, network, prefix.as_bytes(), b"p0")??;
     Ok(())
 }
 
@@ -56,23 +78,26 @@ fn expect_no_more_routes(
     network: &mut Network,
 ) -> Result<(), Fail> {
     for route in 1..4_096u32 {
-        let prefix = format!(in alloc; "g.r{route}")?;
-        add_route(alloc, network, prefix.as_bytes(), b"p0")??;
+        add_numbered_route(alloc, network, route)?;
     }
-    let full = Err(CommandFault::Limit);
-    assert!(rt; add_route(alloc, network, b"g.one-more", b"p0")? == full);
-    let present = Err(CommandFault::Present);
-    assert!(rt; add_route(alloc, network, b"g.r1", b"p0")? == present);
+    let more = add_route(alloc, network, b"g.one-more", b"p0")?;
+    expect_fault(rt, more, CommandFault::Limit);
+    let again = add_route(alloc, network, b"g.r1", b"p0")?;
+    expect_fault(rt, again, CommandFault::Present);
     Ok(())
+}
+
+fn expect_limits(rt: &impl Abort, alloc: Global, network: &mut Network) -> Result<(), Fail> {
+    expect_no_more_peers(rt, alloc, network)?;
+    expect_no_more_rates(rt, alloc, network)?;
+    expect_no_more_routes(rt, alloc, network)
 }
 
 #[test]
 fn limits_of_a_network(rt: HostRuntime) -> Result<(), Fail> {
     let alloc = rt.alloc();
     let mut network = network(alloc, USUAL, 256)?;
-    expect_no_more_peers(&rt, alloc, &mut network)?;
-    expect_no_more_rates(&rt, alloc, &mut network)?;
-    expect_no_more_routes(&rt, alloc, &mut network)
+    expect_limits(&rt, alloc, &mut network)
 }
 
 // A peer that comes, has this number, and goes.
@@ -92,14 +117,16 @@ fn expect_number(
     Ok(())
 }
 
+fn expect_numbers(rt: &impl Abort, alloc: Global, network: &mut Network) -> Result<(), Fail> {
+    for number in 0..65_535u32 {
+        expect_number(rt, alloc, network, number)?;
+    }
+    expect_fault(rt, add_peer(alloc, network, 0, USUAL)?, CommandFault::Limit);
+    Ok(())
+}
+
 #[test]
 fn numbers_of_peers_are_never_used_again(rt: HostRuntime) -> Result<(), Fail> {
-    let alloc = rt.alloc();
-    let mut network = Network::new(alloc);
-    for number in 0..65_535u32 {
-        expect_number(&rt, alloc, &mut network, number)?;
-    }
-    let used_up = Err(CommandFault::Limit);
-    assert!(rt; add_peer(alloc, &mut network, 0, USUAL)? == used_up);
-    Ok(())
+    let mut network = Network::new(rt.alloc());
+    expect_numbers(&rt, rt.alloc(), &mut network)
 }

@@ -1,29 +1,33 @@
 //! Entries of one's own, and what is told apart.
 
 use super::periods::closed;
-use super::setups::{START, USUAL, answer, book, send, tick};
+use super::setups::{START, USUAL, answer, book, moment, send, tick};
 use common_types::Spare;
-use ilp_addr::{MAX_ADDRESS, Moment, Prefix};
+use ilp_addr::{MAX_ADDRESS, Prefix};
 use std::alloc::Global;
 use std::process::Abort;
 use std::test::Fail;
-use tenant_core::{AnswerKey, Book, Command, Entry, Journal, Order, Period, Record};
+use tenant_core::{AnswerKey, Book, Command, Entry, Journal, Opening, Order, Period, Record};
 
 fn take_route(alloc: Global, book: &mut Book) -> Result<(), Fail> {
     let order = Order::RemoveRoute(Prefix::parse(alloc, b"g.acme.bob")?);
-    let now = Moment::new(START + 1).ok_or("a moment")?;
+    let now = moment(START + 1)?;
     let _ = book.command(alloc, &Command::Order(order), now)?;
     Ok(())
+}
+
+fn enter_each(alloc: Global, book: &mut Book) -> Result<Period, Fail> {
+    send(book, START)?;
+    answer(book, 0, START + 1, AnswerKey::Rejected)?.ok();
+    tick(book, START + 1)?.ok();
+    take_route(alloc, book)?;
+    closed(alloc, book)
 }
 
 // A period in which each kind of entry came once.
 fn period_of_each(alloc: Global) -> Result<Period, Fail> {
     let mut book = book(alloc, 8, USUAL, START)?;
-    send(&mut book, START)?;
-    answer(&mut book, 0, START + 1, AnswerKey::Rejected)?.ok();
-    tick(&mut book, START + 1)?.ok();
-    take_route(alloc, &mut book)?;
-    closed(alloc, &mut book)
+    enter_each(alloc, &mut book)
 }
 
 // The entry at that place, as one's own.
@@ -75,15 +79,26 @@ fn entries_of_ones_own_are_told_apart(rt: HostRuntime) -> Result<(), Fail> {
     expect_owned(&rt, rt.alloc(), journal)
 }
 
+fn expect_same_copy(rt: &impl Abort, alloc: Global, opening: &Opening) -> Result<(), Fail> {
+    let copy = opening.copy(alloc)?;
+    assert!(rt; opening.is_same(&copy));
+    Ok(())
+}
+
+fn expect_openings(rt: &impl Abort, period: &Period, again: &Period) {
+    assert!(rt; period.opening().is_same(again.opening()));
+    assert!(rt; period.ending().is_same(again.ending()));
+    assert!(rt; !period.opening().is_same(period.ending()));
+    assert!(rt;
+        period.tenant() == 0 && period.ending().period == period.number().saturating_add(1)
+    );
+}
+
 #[test]
 fn openings_are_told_apart(rt: HostRuntime) -> Result<(), Fail> {
     let period = period_of_each(rt.alloc())?;
     let again = period_of_each(rt.alloc())?;
-    let copy = period.opening().copy(rt.alloc())?;
-    assert!(rt; period.opening().is_same(&copy));
-    assert!(rt; period.opening().is_same(again.opening()));
-    assert!(rt; period.ending().is_same(again.ending()));
-    assert!(rt; !period.opening().is_same(period.ending()));
-    assert!(rt; period.tenant() == 0 && period.ending().period == period.number() + 1);
+    expect_same_copy(&rt, rt.alloc(), period.opening())?;
+    expect_openings(&rt, &period, &again);
     Ok(())
 }

@@ -1,9 +1,8 @@
 //! Closed periods, and copies.
 
 use super::setups::{
-    START, USUAL, Wanted, answer, book, expect_sent, owed_and_held, send, tick, verdict,
+    START, USUAL, Wanted, answer, book, expect_sent, moment, owed_and_held, send, tick, verdict,
 };
-use ilp_addr::Moment;
 use std::alloc::Global;
 use std::process::Abort;
 use std::test::Fail;
@@ -11,7 +10,7 @@ use tenant_core::{AnswerKey, Answered, Book, Command, CommandFault, Period, Verd
 
 // A command to close the period, a millisecond after the book's start.
 fn roll(alloc: Global, book: &mut Book) -> Result<Result<Answered, CommandFault>, Fail> {
-    let now = Moment::new(START + 1).ok_or("a moment")?;
+    let now = moment(START + 1)?;
     Ok(book.command(alloc, &Command::Roll, now))
 }
 
@@ -68,11 +67,15 @@ fn expect_next_period(rt: &impl Abort, book: &mut Book) -> Result<(), Fail> {
     Ok(())
 }
 
+fn expect_two_periods(rt: &impl Abort, alloc: Global, book: &mut Book) -> Result<(), Fail> {
+    expect_rolled(rt, alloc, book)?;
+    expect_next_period(rt, book)
+}
+
 #[test]
 fn a_closed_period_has_its_entries(rt: HostRuntime) -> Result<(), Fail> {
     let mut book = book(rt.alloc(), 8, USUAL, START)?;
-    expect_rolled(&rt, rt.alloc(), &mut book)?;
-    expect_next_period(&rt, &mut book)
+    expect_two_periods(&rt, rt.alloc(), &mut book)
 }
 
 fn expect_fulfilled(rt: &impl Abort, book: &mut Book) -> Result<(), Fail> {
@@ -96,9 +99,17 @@ fn expect_copied(rt: &impl Abort, alloc: Global, book: &Book) -> Result<(), Fail
     expect_apart(rt, &mut copy, book)
 }
 
+fn expect_fulfilled_and_copied(
+    rt: &impl Abort,
+    alloc: Global,
+    book: &mut Book,
+) -> Result<(), Fail> {
+    expect_fulfilled(rt, book)?;
+    expect_copied(rt, alloc, book)
+}
+
 #[test]
 fn a_copy_has_what_the_book_had(rt: HostRuntime) -> Result<(), Fail> {
     let mut book = book(rt.alloc(), 8, USUAL, START)?;
-    expect_fulfilled(&rt, &mut book)?;
-    expect_copied(&rt, rt.alloc(), &book)
+    expect_fulfilled_and_copied(&rt, rt.alloc(), &mut book)
 }

@@ -7,18 +7,18 @@ mod told;
 mod wanted;
 
 use super::setups::{
-    Agreed, CONDITION, FULL, START, add_route, answer, name, number, set_rate, terms, tick, token,
+    Agreed, CONDITION, FULL, START, add_route_to, answer, begun, called, moment, number, set_rate,
+    tenant_of, terms, tick,
 };
-use common_types::Name;
 use draws::Draws;
-use ilp_addr::{Address, Moment, OwnAddress, Prefix};
+use ilp_addr::{Address, Moment, Prefix};
 use money_core::Rate;
 use std::alloc::Global;
 use std::process::Abort;
 use std::test::Fail;
 use tenant_core::{
     AnswerKey, Answered, Balance, Book, BookFault, Command, CommandFault, Expiry, Network, Order,
-    Pair, PeerNo, Period, PrepareKey, RejectCode, Row, TenantSetup, TenantTerms, Verdict,
+    Pair, PeerNo, Period, PrepareKey, RejectCode, Row, Side, Verdict,
 };
 use told::{Priced, Sums, Told};
 use wanted::{Ask, HOLD, MARGIN, Packet, decided, has_place, refusal, settled};
@@ -48,6 +48,9 @@ static BOOKS: [(usize, u64); 10] = [
 // The slots of the first peers, and what they owe.
 static FIRST: [(u32, i64); 3] = [(0, 500), (1, -300), (2, 0)];
 
+// The peers of the first rates.
+static FIRST_RATES: [(PeerNo, PeerNo); 6] = [(0, 1), (0, 2), (1, 0), (1, 2), (2, 0), (2, 1)];
+
 const AGREED: Agreed = Agreed {
     cap: 1_500,
     ceiling: 8_000,
@@ -64,37 +67,35 @@ struct Course {
     draws: Draws,
 }
 
-fn moment(millis: u64) -> Result<Moment, Fail> {
-    Ok(Moment::new(millis).ok_or("a moment")?)
-}
-
-fn called(alloc: Global, slot: u32) -> Result<Name, Fail> {
-    name(format!(in alloc; "p{slot}")?.as_bytes())
-}
-
 fn prefix(alloc: Global, slot: u32) -> Result<Prefix, Fail> {
     let text = format!(in alloc; "g.acme.p{slot}")?;
     Ok(Prefix::parse(alloc, text.as_bytes())?)
 }
 
+// A peer who owes so much.
+fn begin_peer(alloc: Global, network: &mut Network, slot: u32, owed: i64) -> Result<(), Fail> {
+    let balance = Balance::new(owed).ok_or("a balance")?;
+    network.add_peer(terms(alloc, slot, AGREED)?, balance, FULL)?;
+    Ok(())
+}
+
+fn begin_route(alloc: Global, network: &mut Network, slot: u32) -> Result<(), Fail> {
+    let to = called(alloc, slot)?;
+    add_route_to(network, prefix(alloc, slot)?, &to, number(0)?)??;
+    Ok(())
+}
+
 // A peer of the opening, with a route.
-fn begin_peer(
+fn begin_peer_and_route(
     alloc: Global,
     network: &mut Network,
     told: &mut Told,
     slot: u32,
     owed: i64,
 ) -> Result<(), Fail> {
-    let balance = Balance::new(owed).ok_or("a balance")?;
-    network.add_peer(terms(alloc, slot, AGREED)?, balance, FULL)?;
+    begin_peer(alloc, network, slot, owed)?;
     told.add_peer(slot, owed, AGREED)?;
-    let prefix = format!(in alloc; "g.acme.p{slot}")?;
-    add_route(
-        alloc,
-        network,
-        prefix.as_bytes(),
-        called(alloc, slot)?.as_bytes(),
-    )??;
+    begin_route(alloc, network, slot)?;
     told.routes.push((slot, 0))?;
     Ok(())
 }
@@ -112,42 +113,53 @@ fn begin_rate(
     Ok(())
 }
 
+// The peers of the opening, with routes and rates.
+fn begin_peers(alloc: Global, network: &mut Network, told: &mut Told) -> Result<(), Fail> {
+    for (slot, owed) in FIRST {
+        begin_peer_and_route(alloc, network, told, slot, owed)?;
+    }
+    for (from, to) in FIRST_RATES {
+        begin_rate(alloc, network, told, from, to)?;
+    }
+    Ok(())
+}
+
 fn begin_network(alloc: Global, told: &mut Told) -> Result<Network, Fail> {
     let mut network = Network::new(alloc);
-    for (slot, owed) in FIRST {
-        begin_peer(alloc, &mut network, told, slot, owed)?;
-    }
-    for (from, to) in [(0, 1), (0, 2), (1, 0), (1, 2), (2, 0), (2, 1)] {
-        begin_rate(alloc, &mut network, told, from, to)?;
-    }
+    begin_peers(alloc, &mut network, told)?;
     Ok(network)
 }
 
 fn begin_book(alloc: Global, told: &mut Told) -> Result<Book, Fail> {
-    let setup = TenantSetup::new(TenantTerms {
-        name: name(b"acme")?,
-        address: OwnAddress::new(b"g.acme").ok_or("an address")?,
-        admin: token(b"root-a")?,
-        journal: told.journal as u64,
-        margin: MARGIN,
-        hold: HOLD,
-        network: begin_network(alloc, told)?,
-    })
-    .ok_or("a setup")?;
-    Ok(Book::new(alloc, 0, &setup, moment(START)?)?)
+    let network = begin_network(alloc, told)?;
+    match tenant_of(told.journal as u64, MARGIN, HOLD, network)? {
+        Some(setup) => begun(alloc, 0, &setup, moment(START)?),
+        None => Err(Fail::from("a setup")),
+    }
 }
 
-fn decide(alloc: Global, book: &mut Book, packet: &Packet, now: u64) -> Result<Verdict, Fail> {
-    let token = format!(in alloc; "p{}", packet.from)?;
-    let text = format!(in alloc; "g.acme.p{}.x", packet.to)?;
-    let destination = Address::parse(text.as_bytes())?;
+fn decide_at(
+    book: &mut Book,
+    token: &[u8],
+    destination: &[u8],
+    packet: &Packet,
+    now: Moment,
+) -> Result<Verdict, Fail> {
+    let destination = Address::parse(destination)?;
     let key = PrepareKey {
         amount: packet.amount,
         expiry: Expiry::new(packet.expiry).ok_or("an expiry")?,
         condition: &CONDITION,
         destination: &destination,
     };
-    Ok(book.decide(token.as_bytes(), &key, moment(now)?))
+    Ok(book.decide(token, &key, now))
+}
+
+fn decide(alloc: Global, book: &mut Book, packet: &Packet, now: u64) -> Result<Verdict, Fail> {
+    let token = format!(in alloc; "p{}", packet.from)?;
+    let destination = format!(in alloc; "g.acme.p{}.x", packet.to)?;
+    let now = moment(now)?;
+    decide_at(book, token.as_bytes(), destination.as_bytes(), packet, now)
 }
 
 fn expect_decided(
@@ -197,34 +209,48 @@ fn expect_ticked(rt: &impl Abort, book: &mut Book, course: &mut Course) -> Resul
     Ok(())
 }
 
+fn limits(alloc: Global, slot: u32, agreed: Agreed) -> Result<Order, Fail> {
+    let peer = called(alloc, slot)?;
+    let limits = terms(alloc, slot, agreed)?.limits;
+    Ok(Order::SetLimits { peer, limits })
+}
+
+fn bucket(alloc: Global, slot: u32, agreed: Agreed) -> Result<Order, Fail> {
+    let peer = called(alloc, slot)?;
+    let bucket = terms(alloc, slot, agreed)?.bucket;
+    Ok(Order::SetBucket { peer, bucket })
+}
+
+fn route(alloc: Global, slot: u32, fee: u64) -> Result<Order, Fail> {
+    let peer = called(alloc, slot)?;
+    let fee = number(fee)?;
+    let prefix = prefix(alloc, slot)?;
+    Ok(Order::AddRoute { prefix, peer, fee })
+}
+
+fn rate(alloc: Global, from: u32, to: u32, rate: (u64, u64)) -> Result<Order, Fail> {
+    let pair = Pair::new(called(alloc, from)?, called(alloc, to)?).ok_or("a pair")?;
+    let rate = Rate::new(rate.0, rate.1)?;
+    Ok(Order::SetRate { pair, rate })
+}
+
+fn settlement(alloc: Global, slot: u32, side: Side, amount: u64) -> Result<Order, Fail> {
+    let peer = called(alloc, slot)?;
+    let amount = number(amount)?;
+    Ok(Order::Settle { peer, side, amount })
+}
+
 fn order_of(alloc: Global, ask: Ask) -> Result<Order, Fail> {
-    Ok(match ask {
-        Ask::AddPeer(slot, agreed) => Order::AddPeer(terms(alloc, slot, agreed)?),
-        Ask::RemovePeer(slot) => Order::RemovePeer(called(alloc, slot)?),
-        Ask::SetLimits(slot, agreed) => Order::SetLimits {
-            peer: called(alloc, slot)?,
-            limits: terms(alloc, slot, agreed)?.limits,
-        },
-        Ask::SetBucket(slot, agreed) => Order::SetBucket {
-            peer: called(alloc, slot)?,
-            bucket: terms(alloc, slot, agreed)?.bucket,
-        },
-        Ask::AddRoute(slot, fee) => Order::AddRoute {
-            prefix: prefix(alloc, slot)?,
-            peer: called(alloc, slot)?,
-            fee: number(fee)?,
-        },
-        Ask::RemoveRoute(slot) => Order::RemoveRoute(prefix(alloc, slot)?),
-        Ask::SetRate(from, to, rate) => Order::SetRate {
-            pair: Pair::new(called(alloc, from)?, called(alloc, to)?).ok_or("a pair")?,
-            rate: Rate::new(rate.0, rate.1)?,
-        },
-        Ask::Settle(slot, side, amount) => Order::Settle {
-            peer: called(alloc, slot)?,
-            side,
-            amount: number(amount)?,
-        },
-    })
+    match ask {
+        Ask::AddPeer(slot, agreed) => Ok(Order::AddPeer(terms(alloc, slot, agreed)?)),
+        Ask::RemovePeer(slot) => Ok(Order::RemovePeer(called(alloc, slot)?)),
+        Ask::SetLimits(slot, agreed) => limits(alloc, slot, agreed),
+        Ask::SetBucket(slot, agreed) => bucket(alloc, slot, agreed),
+        Ask::AddRoute(slot, fee) => route(alloc, slot, fee),
+        Ask::RemoveRoute(slot) => Ok(Order::RemoveRoute(prefix(alloc, slot)?)),
+        Ask::SetRate(from, to, parts) => rate(alloc, from, to, parts),
+        Ask::Settle(slot, side, amount) => settlement(alloc, slot, side, amount),
+    }
 }
 
 fn command(

@@ -3,12 +3,13 @@
 use super::setups::{
     START, USUAL, Wanted, answer, book, expect_sent, owed_and_held, tick, verdict,
 };
+use std::alloc::Global;
 use std::process::Abort;
 use std::test::Fail;
 use tenant_core::{AnswerKey, Book, HoldFault, RejectCode, Verdict};
 
-/// What comes back for a packet of 1,000 units that goes on as 1,500, when, and whether a tick comes just before:
-/// the verdict, and what is owed after it.
+/// What comes back for a packet of 1,000 units that goes on as 1,500, how long after the start, and whether a tick
+/// comes just before: the verdict, and what is owed after it.
 struct Return {
     title: &'static str,
     key: AnswerKey,
@@ -22,7 +23,7 @@ static RETURNS: [Return; 8] = [
     Return {
         title: "a Fulfill that fits",
         key: AnswerKey::Fulfilled([0; 32]),
-        at: START + 28_999,
+        at: 28_999,
         is_marked: false,
         verdict: Ok(()),
         owed: (1_000, -1_500),
@@ -30,7 +31,7 @@ static RETURNS: [Return; 8] = [
     Return {
         title: "a Fulfill that does not fit",
         key: AnswerKey::Fulfilled([1; 32]),
-        at: START,
+        at: 0,
         is_marked: false,
         verdict: Err(RejectCode::WrongCondition),
         owed: (0, 0),
@@ -38,7 +39,7 @@ static RETURNS: [Return; 8] = [
     Return {
         title: "a Reject",
         key: AnswerKey::Rejected,
-        at: START,
+        at: 0,
         is_marked: false,
         verdict: Ok(()),
         owed: (0, 0),
@@ -46,7 +47,7 @@ static RETURNS: [Return; 8] = [
     Return {
         title: "no answer",
         key: AnswerKey::Fault,
-        at: START,
+        at: 0,
         is_marked: false,
         verdict: Err(RejectCode::PeerUnreachable),
         owed: (0, 0),
@@ -54,7 +55,7 @@ static RETURNS: [Return; 8] = [
     Return {
         title: "a Fulfill that is late",
         key: AnswerKey::Fulfilled([0; 32]),
-        at: START + 29_000,
+        at: 29_000,
         is_marked: false,
         verdict: Err(RejectCode::TimedOut),
         owed: (0, 0),
@@ -62,7 +63,7 @@ static RETURNS: [Return; 8] = [
     Return {
         title: "a Fulfill after the mark",
         key: AnswerKey::Fulfilled([0; 32]),
-        at: START,
+        at: 0,
         is_marked: true,
         verdict: Err(RejectCode::TimedOut),
         owed: (0, 0),
@@ -70,7 +71,7 @@ static RETURNS: [Return; 8] = [
     Return {
         title: "a Reject after the mark",
         key: AnswerKey::Rejected,
-        at: START,
+        at: 0,
         is_marked: true,
         verdict: Err(RejectCode::TimedOut),
         owed: (0, 0),
@@ -78,12 +79,24 @@ static RETURNS: [Return; 8] = [
     Return {
         title: "no answer after the mark",
         key: AnswerKey::Fault,
-        at: START,
+        at: 0,
         is_marked: true,
         verdict: Err(RejectCode::TimedOut),
         owed: (0, 0),
     },
 ];
+
+fn expect_answer(
+    rt: &impl Abort,
+    book: &mut Book,
+    row: &Return,
+    hold: u64,
+    wanted: Result<Verdict, HoldFault>,
+) -> Result<(), Fail> {
+    let found = answer(book, hold, START.saturating_add(row.at), row.key)?;
+    assert!(rt; found == wanted, "{}: hold {hold}", row.title);
+    Ok(())
+}
 
 // Nothing is held any more, and a second tick marks nothing.
 fn expect_marked(rt: &impl Abort, book: &mut Book) -> Result<(), Fail> {
@@ -95,38 +108,50 @@ fn expect_marked(rt: &impl Abort, book: &mut Book) -> Result<(), Fail> {
 
 // No other hold is answered, and this one is once.
 fn expect_answered(rt: &impl Abort, book: &mut Book, row: &Return) -> Result<(), Fail> {
-    let title = row.title;
-    let none = Err(HoldFault::NoSuchHold);
     let wanted = match row.verdict {
         Ok(()) => Verdict::Relay,
         Err(code) => verdict(Wanted::Refused(code)),
     };
-    assert!(rt; answer(book, 1, row.at, row.key)? == none, "{title}");
-    assert!(rt; answer(book, 0, row.at, row.key)? == Ok(wanted), "{title}");
-    assert!(rt; answer(book, 0, row.at, row.key)? == none, "{title}");
+    expect_answer(rt, book, row, 1, Err(HoldFault::NoSuchHold))?;
+    expect_answer(rt, book, row, 0, Ok(wanted))?;
+    expect_answer(rt, book, row, 0, Err(HoldFault::NoSuchHold))
+}
+
+fn expect_owed(rt: &impl Abort, book: &Book, row: &Return) -> Result<(), Fail> {
+    let (sender, receiver) = row.owed;
+    assert!(rt;
+        owed_and_held(book)? == (sender, receiver, 0, 0),
+        "{}",
+        row.title
+    );
     Ok(())
 }
 
 fn expect_return(rt: &impl Abort, book: &mut Book, row: &Return) -> Result<(), Fail> {
-    let title = row.title;
     expect_sent(rt, book)?;
     if row.is_marked {
         expect_marked(rt, book)?;
     }
     expect_answered(rt, book, row)?;
-    let (sender, receiver) = row.owed;
-    assert!(rt; owed_and_held(book)? == (sender, receiver, 0, 0), "{title}");
+    expect_owed(rt, book, row)?;
     let entries = if row.is_marked { 4 } else { 2 };
-    assert!(rt; book.entries() == entries, "{title}");
-    assert!(rt; book.period() == 0, "{title}");
+    assert!(rt;
+        book.entries() == entries && book.period() == 0,
+        "{}",
+        row.title
+    );
     Ok(())
+}
+
+fn expect_row(rt: &impl Abort, alloc: Global, row: &Return) -> Result<(), Fail> {
+    let mut book = book(alloc, 8, USUAL, START)?;
+    expect_return(rt, &mut book, row)
 }
 
 #[test]
 fn what_is_held_moves_once_on_both_sides(rt: HostRuntime) -> Result<(), Fail> {
     for row in &RETURNS {
-        let mut book = book(rt.alloc(), 8, USUAL, START)?;
-        expect_return(&rt, &mut book, row)?;
+        expect_row(&rt, rt.alloc(), row)?;
     }
     Ok(())
 }

@@ -7,8 +7,8 @@ use std::alloc::Global;
 use std::process::Abort;
 use std::test::Fail;
 use tenant_core::{
-    AnswerKey, Balance, Book, BookFault, BucketTerms, CommandFault, Expiry, HoldFault, Hop, Level,
-    Network, PeerLimits, PeerTerms, PrepareKey, RateTerms, RejectCode, Role, TenantSetup,
+    AnswerKey, Balance, Book, BookFault, BucketTerms, CommandFault, Expiry, Fee, HoldFault, Hop,
+    Level, Network, PeerLimits, PeerTerms, PrepareKey, RateTerms, RejectCode, Role, TenantSetup,
     TenantTerms, Verdict, number_named,
 };
 
@@ -102,6 +102,27 @@ pub fn add_peer(
     Ok(network.add_peer(terms(alloc, place, agreed)?, Balance::zero(), FULL))
 }
 
+/// The name of the peer of that number.
+pub fn called(alloc: Global, place: u32) -> Result<Name, Fail> {
+    let called = format!(in alloc; "p{place}")?;
+    name(called.as_bytes())
+}
+
+// A rate between two peers of the network.
+fn set_rate_between(
+    network: &mut Network,
+    from: &Name,
+    to: &Name,
+    rate: Rate,
+) -> Result<Result<(), CommandFault>, Fail> {
+    let from = number_named(network, from).ok_or("the first peer")?;
+    let to = number_named(network, to).ok_or("the second peer")?;
+    if from == to {
+        return Err(Fail::from("two peers"));
+    }
+    Ok(network.set_rate(&RateTerms { from, to, rate }))
+}
+
 pub fn set_rate(
     alloc: Global,
     network: &mut Network,
@@ -109,15 +130,22 @@ pub fn set_rate(
     to: u32,
     rate: (u64, u64),
 ) -> Result<Result<(), CommandFault>, Fail> {
-    let from = format!(in alloc; "p{from}")?;
-    let to = format!(in alloc; "p{to}")?;
-    let from = number_named(network, &name(from.as_bytes())?).ok_or("the first peer")?;
-    let to = number_named(network, &name(to.as_bytes())?).ok_or("the second peer")?;
-    if from == to {
-        return Err(Fail::from("two peers"));
+    let from = called(alloc, from)?;
+    let to = called(alloc, to)?;
+    set_rate_between(network, &from, &to, Rate::new(rate.0, rate.1)?)
+}
+
+/// A route to a peer of the network.
+pub fn add_route_to(
+    network: &mut Network,
+    prefix: Prefix,
+    to: &Name,
+    fee: Fee,
+) -> Result<Result<(), CommandFault>, Fail> {
+    match number_named(network, to) {
+        Some(peer) => Ok(network.add_route(prefix, Hop { peer, fee })),
+        None => Err(Fail::from("the peer of the route")),
     }
-    let rate = Rate::new(rate.0, rate.1)?;
-    Ok(network.set_rate(&RateTerms { from, to, rate }))
 }
 
 pub fn add_route(
@@ -126,20 +154,50 @@ pub fn add_route(
     prefix: &[u8],
     to: &[u8],
 ) -> Result<Result<(), CommandFault>, Fail> {
-    let peer = number_named(network, &name(to)?).ok_or("the peer of the route")?;
+    let to = name(to)?;
     let fee = number(0)?;
-    Ok(network.add_route(Prefix::parse(alloc, prefix)?, Hop { peer, fee }))
+    add_route_to(network, Prefix::parse(alloc, prefix)?, &to, fee)
+}
+
+fn agree(alloc: Global, network: &mut Network, agreed: Agreed, peers: u32) -> Result<(), Fail> {
+    for place in 0..peers {
+        add_peer(alloc, network, place, agreed)??;
+    }
+    add_route(alloc, network, b"g.acme.bob", b"p1")??;
+    set_rate(alloc, network, 0, 1, agreed.rate)??;
+    Ok(())
 }
 
 // p0, p1 and so on, with a route for g.acme.bob to p1, and a rate from p0 to p1.
 pub fn network(alloc: Global, agreed: Agreed, peers: u32) -> Result<Network, Fail> {
     let mut network = Network::new(alloc);
-    for place in 0..peers {
-        add_peer(alloc, &mut network, place, agreed)??;
-    }
-    add_route(alloc, &mut network, b"g.acme.bob", b"p1")??;
-    set_rate(alloc, &mut network, 0, 1, agreed.rate)??;
+    agree(alloc, &mut network, agreed, peers)?;
     Ok(network)
+}
+
+// The tenant's name, its address and the token of its orders.
+fn named() -> Result<(Name, OwnAddress, Token), Fail> {
+    let address = OwnAddress::new(b"g.acme").ok_or("an address")?;
+    Ok((name(b"acme")?, address, token(b"root-a")?))
+}
+
+/// A tenant with that network.
+pub fn tenant_of(
+    journal: u64,
+    margin: u64,
+    hold: u64,
+    network: Network,
+) -> Result<Option<TenantSetup>, Fail> {
+    let (name, address, admin) = named()?;
+    Ok(TenantSetup::new(TenantTerms {
+        name,
+        address,
+        admin,
+        journal,
+        margin,
+        hold,
+        network,
+    }))
 }
 
 // A tenant of two peers.
@@ -150,15 +208,7 @@ pub fn tenant(
     hold: u64,
     agreed: Agreed,
 ) -> Result<Option<TenantSetup>, Fail> {
-    Ok(TenantSetup::new(TenantTerms {
-        name: name(b"acme")?,
-        address: OwnAddress::new(b"g.acme").ok_or("an address")?,
-        admin: token(b"root-a")?,
-        journal,
-        margin,
-        hold,
-        network: network(alloc, agreed, 2)?,
-    }))
+    tenant_of(journal, margin, hold, network(alloc, agreed, 2)?)
 }
 
 /// A verdict, in short.
@@ -192,10 +242,29 @@ pub fn verdict(wanted: Wanted) -> Verdict {
     }
 }
 
+pub fn moment(millis: u64) -> Result<Moment, Fail> {
+    Ok(Moment::new(millis).ok_or("a moment")?)
+}
+
+/// The book of the tenant of that number.
+pub fn begun(
+    alloc: Global,
+    number: usize,
+    setup: &TenantSetup,
+    start: Moment,
+) -> Result<Book, Fail> {
+    if number >= 64 {
+        return Err(Fail::from("a tenant"));
+    }
+    Ok(Book::new(alloc, number, setup, start)?)
+}
+
 pub fn book(alloc: Global, journal: u64, agreed: Agreed, start: u64) -> Result<Book, Fail> {
-    let setup = tenant(alloc, journal, 1_000, 30_000, agreed)?.ok_or("a setup")?;
-    let start = Moment::new(start).ok_or("a moment")?;
-    Ok(Book::new(alloc, 0, &setup, start)?)
+    let start = moment(start)?;
+    match tenant(alloc, journal, 1_000, 30_000, agreed)? {
+        Some(setup) => begun(alloc, 0, &setup, start),
+        None => Err(Fail::from("a setup")),
+    }
 }
 
 pub fn decide(book: &mut Book, amount: u64, expiry: u64, now: u64) -> Result<Verdict, Fail> {
@@ -206,7 +275,7 @@ pub fn decide(book: &mut Book, amount: u64, expiry: u64, now: u64) -> Result<Ver
         condition: &[7; 32],
         destination: &destination,
     };
-    let now = Moment::new(now).ok_or("a moment")?;
+    let now = moment(now)?;
     Ok(book.decide(b"p0", &key, now))
 }
 
@@ -236,7 +305,7 @@ pub fn send(book: &mut Book, now: u64) -> Result<Verdict, Fail> {
         condition: &CONDITION,
         destination: &destination,
     };
-    let now = Moment::new(now).ok_or("a moment")?;
+    let now = moment(now)?;
     Ok(book.decide(b"p0", &key, now))
 }
 
@@ -246,12 +315,12 @@ pub fn answer(
     now: u64,
     key: AnswerKey,
 ) -> Result<Result<Verdict, HoldFault>, Fail> {
-    let now = Moment::new(now).ok_or("a moment")?;
+    let now = moment(now)?;
     Ok(book.answer(hold, now, key))
 }
 
 pub fn tick(book: &mut Book, now: u64) -> Result<Result<u32, BookFault>, Fail> {
-    let now = Moment::new(now).ok_or("a moment")?;
+    let now = moment(now)?;
     Ok(book.tick(now))
 }
 

@@ -8,7 +8,8 @@ use std::process::Abort;
 use std::test::Fail;
 use tenant_core::{Book, RejectCode, Verdict};
 
-/// Packets of p0 for p1, one after another: the amount, the expiry and the moment of each, and its verdict.
+/// Packets of p0 for p1, one after another: the amount, the expiry and the moment of each, and its verdict. Moments are
+/// counted from the start.
 struct Packets {
     title: &'static str,
     journal: u64,
@@ -25,19 +26,9 @@ static PACKETS: [Packets; 9] = [
         agreed: USUAL,
         start: START,
         steps: &[
-            (
-                1_000,
-                START + 30_000,
-                START,
-                Wanted::Forwarded(0, 1_500, START + 29_000),
-            ),
-            (
-                1_000,
-                START + 30_000,
-                START,
-                Wanted::Forwarded(1, 1_500, START + 29_000),
-            ),
-            (1_000, START + 30_000, START, Wanted::NoRoom),
+            (1_000, 30_000, 0, Wanted::Forwarded(0, 1_500, 29_000)),
+            (1_000, 30_000, 0, Wanted::Forwarded(1, 1_500, 29_000)),
+            (1_000, 30_000, 0, Wanted::NoRoom),
         ],
         entries: 2,
     },
@@ -51,78 +42,18 @@ static PACKETS: [Packets; 9] = [
         },
         start: START,
         steps: &[
-            (
-                1,
-                START + 60_000,
-                START,
-                Wanted::Forwarded(0, 1, START + 30_000),
-            ),
-            (
-                1,
-                START + 60_000,
-                START,
-                Wanted::Forwarded(1, 1, START + 30_000),
-            ),
-            (
-                1,
-                START + 60_000,
-                START,
-                Wanted::Refused(RejectCode::RateLimited),
-            ),
-            (
-                1,
-                START + 60_000,
-                START + 999,
-                Wanted::Refused(RejectCode::RateLimited),
-            ),
-            (
-                1,
-                START + 60_000,
-                START + 1_000,
-                Wanted::Forwarded(2, 1, START + 31_000),
-            ),
-            (
-                1,
-                START + 60_000,
-                START + 500,
-                Wanted::Refused(RejectCode::RateLimited),
-            ),
-            (
-                1,
-                START + 60_000,
-                START + 1_999,
-                Wanted::Refused(RejectCode::RateLimited),
-            ),
-            (
-                1,
-                START + 60_000,
-                START + 2_000,
-                Wanted::Forwarded(3, 1, START + 32_000),
-            ),
-            (
-                1,
-                START + 60_000,
-                START,
-                Wanted::Refused(RejectCode::RateLimited),
-            ),
-            (
-                1,
-                START + 60_000,
-                START + 9_000,
-                Wanted::Forwarded(4, 1, START + 39_000),
-            ),
-            (
-                1,
-                START + 60_000,
-                START + 9_000,
-                Wanted::Forwarded(5, 1, START + 39_000),
-            ),
-            (
-                1,
-                START + 60_000,
-                START + 9_000,
-                Wanted::Refused(RejectCode::RateLimited),
-            ),
+            (1, 60_000, 0, Wanted::Forwarded(0, 1, 30_000)),
+            (1, 60_000, 0, Wanted::Forwarded(1, 1, 30_000)),
+            (1, 60_000, 0, Wanted::Refused(RejectCode::RateLimited)),
+            (1, 60_000, 999, Wanted::Refused(RejectCode::RateLimited)),
+            (1, 60_000, 1_000, Wanted::Forwarded(2, 1, 31_000)),
+            (1, 60_000, 500, Wanted::Refused(RejectCode::RateLimited)),
+            (1, 60_000, 1_999, Wanted::Refused(RejectCode::RateLimited)),
+            (1, 60_000, 2_000, Wanted::Forwarded(3, 1, 32_000)),
+            (1, 60_000, 0, Wanted::Refused(RejectCode::RateLimited)),
+            (1, 60_000, 9_000, Wanted::Forwarded(4, 1, 39_000)),
+            (1, 60_000, 9_000, Wanted::Forwarded(5, 1, 39_000)),
+            (1, 60_000, 9_000, Wanted::Refused(RejectCode::RateLimited)),
         ],
         entries: 12,
     },
@@ -156,18 +87,8 @@ static PACKETS: [Packets; 9] = [
         },
         start: START,
         steps: &[
-            (
-                1_000,
-                START + 30_000,
-                START,
-                Wanted::Forwarded(0, 1_500, START + 29_000),
-            ),
-            (
-                1_000,
-                START + 30_000,
-                START,
-                Wanted::Forwarded(1, 1_500, START + 29_000),
-            ),
+            (1_000, 30_000, 0, Wanted::Forwarded(0, 1_500, 29_000)),
+            (1_000, 30_000, 0, Wanted::Forwarded(1, 1_500, 29_000)),
         ],
         entries: 2,
     },
@@ -181,16 +102,11 @@ static PACKETS: [Packets; 9] = [
         },
         start: START,
         steps: &[
+            (1_000, 30_000, 0, Wanted::Forwarded(0, 1_500, 29_000)),
             (
                 1_000,
-                START + 30_000,
-                START,
-                Wanted::Forwarded(0, 1_500, START + 29_000),
-            ),
-            (
-                1_000,
-                START + 30_000,
-                START,
+                30_000,
+                0,
                 Wanted::Refused(RejectCode::InsufficientLiquidity),
             ),
         ],
@@ -206,16 +122,11 @@ static PACKETS: [Packets; 9] = [
         },
         start: START,
         steps: &[
+            (1_000, 30_000, 0, Wanted::Forwarded(0, 1_500, 29_000)),
             (
                 1_000,
-                START + 30_000,
-                START,
-                Wanted::Forwarded(0, 1_500, START + 29_000),
-            ),
-            (
-                1_000,
-                START + 30_000,
-                START,
+                30_000,
+                0,
                 Wanted::Refused(RejectCode::InsufficientLiquidity),
             ),
         ],
@@ -291,30 +202,68 @@ static RATES: [((u64, u64), u64, Wanted); 5] = [
     ),
 ];
 
-fn expect_verdicts(rt: &impl Abort, book: &mut Book, packets: &Packets) -> Result<(), Fail> {
-    let title = packets.title;
-    for (amount, expiry, now, wanted) in packets.steps {
-        let found = decide(book, *amount, *expiry, *now)?;
-        assert!(rt; found == verdict(*wanted), "{title}: {amount} at {now}");
+// The verdict, whose expiry is counted from the start.
+fn verdict_from(start: u64, wanted: Wanted) -> Verdict {
+    match wanted {
+        Wanted::Forwarded(hold, amount, expiry) => {
+            verdict(Wanted::Forwarded(hold, amount, start.saturating_add(expiry)))
+        }
+        _ => verdict(wanted),
     }
-    assert!(rt; book.entries() == packets.entries, "{title}");
+}
+
+fn expect_verdict(
+    rt: &impl Abort,
+    book: &mut Book,
+    start: u64,
+    (amount, expiry, now, wanted): (u64, u64, u64, Wanted),
+    title: &str,
+) -> Result<(), Fail> {
+    let found = decide(
+        book,
+        amount,
+        start.saturating_add(expiry),
+        start.saturating_add(now),
+    )?;
+    assert!(rt;
+        found == verdict_from(start, wanted),
+        "{title}: {amount} at {now}"
+    );
     Ok(())
 }
 
-fn first_verdict(alloc: Global, rate: (u64, u64), amount: u64) -> Result<Verdict, Fail> {
+fn expect_verdicts(rt: &impl Abort, book: &mut Book, packets: &Packets) -> Result<(), Fail> {
+    for step in packets.steps {
+        expect_verdict(rt, book, packets.start, *step, packets.title)?;
+    }
+    assert!(rt; book.entries() == packets.entries, "{}", packets.title);
+    Ok(())
+}
+
+fn expect_packets(rt: &impl Abort, alloc: Global, packets: &Packets) -> Result<(), Fail> {
+    let mut book = book(alloc, packets.journal, packets.agreed, packets.start)?;
+    expect_verdicts(rt, &mut book, packets)
+}
+
+// The verdict on the first packet, at that rate.
+fn expect_at_rate(
+    rt: &impl Abort,
+    alloc: Global,
+    rate: (u64, u64),
+    amount: u64,
+    wanted: Wanted,
+) -> Result<(), Fail> {
     let mut book = book(alloc, 4, Agreed { rate, ..GREATEST }, 0)?;
-    decide(&mut book, amount, 30_000, 0)
+    expect_verdict(rt, &mut book, 0, (amount, 30_000, 0, wanted), "at a rate")
 }
 
 #[test]
 fn packets_at_the_bounds_of_what_was_agreed(rt: HostRuntime) -> Result<(), Fail> {
     for packets in &PACKETS {
-        let mut book = book(rt.alloc(), packets.journal, packets.agreed, packets.start)?;
-        expect_verdicts(&rt, &mut book, packets)?;
+        expect_packets(&rt, rt.alloc(), packets)?;
     }
     for (rate, amount, wanted) in RATES {
-        let found = first_verdict(rt.alloc(), rate, amount)?;
-        assert!(rt; found == verdict(wanted), "{amount} at {rate:?}");
+        expect_at_rate(&rt, rt.alloc(), rate, amount, wanted)?;
     }
     Ok(())
 }

@@ -129,6 +129,15 @@ pub fn decided(told: &Told, packet: &Packet, now: u64) -> Verdict {
     verdict_for(told, packet, &from, told.clock.max(now))
 }
 
+fn is_zero(bytes: &[u8]) -> bool {
+    for byte in bytes {
+        if *byte != 0 {
+            return false;
+        }
+    }
+    true
+}
+
 /// The verdict on an answer: 32 zero bytes fulfill what goes on, and no other ones do.
 pub fn settled(told: &Told, hold: usize, key: AnswerKey, now: u64) -> Result<Verdict, HoldFault> {
     let Some(packet) = told.sent.get(hold) else {
@@ -141,7 +150,7 @@ pub fn settled(told: &Told, hold: usize, key: AnswerKey, now: u64) -> Result<Ver
         return Ok(refused(RejectCode::TimedOut));
     }
     Ok(match key {
-        AnswerKey::Fulfilled(bytes) if bytes != [0; 32] => refused(RejectCode::WrongCondition),
+        AnswerKey::Fulfilled(bytes) if !is_zero(&bytes) => refused(RejectCode::WrongCondition),
         AnswerKey::Fault => refused(RejectCode::PeerUnreachable),
         _ => Verdict::Relay,
     })
