@@ -94,84 +94,116 @@ fn replay_of<'a>(alloc: Global) -> Result<Command<'a>, AllocError> {
 }
 
 fn check_of<'a>(alloc: Global) -> Result<Command<'a>, AllocError> {
-    let script = Arg::new(alloc, "SCRIPT")
-        .help("The file of a script for the setup's tenants")
-        .action(ArgAction::Set);
-    let workers = script_workers(alloc).requires_arg("SCRIPT")?;
     Command::new(alloc, "check")
         .about("Says whether a setup is good, and a script for it, and else what is wrong")
         .override_usage("ilpd check SETUP [SCRIPT [--workers W]]")
         .after_help("Example: ilpd check examples/s1.toml examples/forward.script")
         .arg(setup_of(alloc))?
-        .arg(script)?
-        .arg(workers)
+        .arg(script_of(alloc))?
+        .arg(script_workers(alloc).requires_arg("SCRIPT")?)
 }
 
-fn serve_of<'a>(alloc: Global) -> Result<Command<'a>, AllocError> {
-    let workers = Arg::new(alloc, "workers")
+fn script_of<'a>(alloc: Global) -> Arg<'a> {
+    Arg::new(alloc, "SCRIPT")
+        .help("The file of a script for the setup's tenants")
+        .action(ArgAction::Set)
+}
+
+fn service_workers<'a>(alloc: Global) -> Arg<'a> {
+    Arg::new(alloc, "workers")
         .long("workers")
         .value_name("W")
         .help("How many packets may be on their way to next peers at once, 1 to 64")
         .required(true)
-        .value_parser(value_parser!(u64).range(1..=MAX_SEATS as i64));
-    let rounds = Arg::new(alloc, "rounds")
-        .long("rounds")
-        .value_name("N")
-        .help("To end once W times N connections were served; N is 1 to 1000000")
-        .value_parser(value_parser!(u64).range(1..=i64::from(MAX_ROUNDS)));
-    let connections = Arg::new(alloc, "connections")
+        .value_parser(value_parser!(u64).range(1..=MAX_SEATS as i64))
+}
+
+fn service_connections<'a>(alloc: Global) -> Arg<'a> {
+    Arg::new(alloc, "connections")
         .long("connections")
         .value_name("C")
         .help("How many connections may be open at once, each on a thread of its own, 1 to 4096")
         .default_value("256")
-        .value_parser(value_parser!(u64).range(1..=MAX_WORKERS as i64));
-    let balances = Arg::new(alloc, "balances")
-        .long("balances")
-        .help("To print in the end what each peer owes, as the command balances does")
-        .action(ArgAction::SetTrue);
-    let audit = Arg::new(alloc, "audit")
-        .long("audit")
-        .help("To keep a receipt of all that is done, and to audit the receipts in the end")
-        .action(ArgAction::SetTrue);
-    let listen = Arg::new(alloc, "listen")
+        .value_parser(value_parser!(u64).range(1..=MAX_WORKERS as i64))
+}
+
+fn service_rounds<'a>(alloc: Global) -> Arg<'a> {
+    Arg::new(alloc, "rounds")
+        .long("rounds")
+        .value_name("N")
+        .help("To end once W times N connections were served; N is 1 to 1000000")
+        .value_parser(value_parser!(u64).range(1..=i64::from(MAX_ROUNDS)))
+}
+
+fn flag_of<'a>(alloc: Global, name: &'static str, help: &'static str) -> Arg<'a> {
+    Arg::new(alloc, name)
+        .long(name)
+        .help(help)
+        .action(ArgAction::SetTrue)
+}
+
+fn listen_of<'a>(alloc: Global) -> Arg<'a> {
+    Arg::new(alloc, "listen")
         .long("listen")
         .value_name("ADDR")
         .help("The address to listen on: an IP address and a port")
-        .default_value(ADDRESS);
-    Command::new(alloc, "serve")
-        .about(
-            "Serves packets and commands over HTTP, and prints in the end how many were answered how",
-        )
-        .override_usage(
-            "ilpd serve SETUP --workers W [--connections C] [--rounds N] [--balances] [--audit] [--listen ADDR]\n                  [--host ADDR --host-token FILE]",
-        )
-        .after_help("Example: ilpd serve examples/serve.toml --workers 4")
-        .arg(setup_of(alloc))?
-        .arg(workers)?
-        .arg(connections)?
-        .arg(rounds)?
-        .arg(balances)?
-        .arg(audit)?
-        .arg(listen)
+        .default_value(ADDRESS)
 }
 
-// The words of the host's door, of which each wants the other.
-fn with_host<'a>(alloc: Global, serve: Command<'a>) -> Result<Command<'a>, AllocError> {
-    let host = Arg::new(alloc, "host")
+// How many there are of what a service has.
+fn with_extent<'a>(alloc: Global, serve: Command<'a>) -> Result<Command<'a>, AllocError> {
+    serve
+        .arg(setup_of(alloc))?
+        .arg(service_workers(alloc))?
+        .arg(service_connections(alloc))?
+        .arg(service_rounds(alloc))
+}
+
+// What a service prints in the end.
+fn with_reports<'a>(alloc: Global, serve: Command<'a>) -> Result<Command<'a>, AllocError> {
+    let balances = "To print in the end what each peer owes, as the command balances does";
+    let audit = "To keep a receipt of all that is done, and to audit the receipts in the end";
+    serve
+        .arg(flag_of(alloc, "balances", balances))?
+        .arg(flag_of(alloc, "audit", audit))
+}
+
+fn host_address<'a>(alloc: Global) -> Result<Arg<'a>, AllocError> {
+    Arg::new(alloc, "host")
         .long("host")
         .value_name("ADDR")
         .help(
             "The address at which whoever runs the process asks for health, metrics and the present setup, and stops it",
         )
         .action(ArgAction::Set)
-        .requires_arg("host-token")?;
-    let host_token = Arg::new(alloc, "host-token")
+        .requires_arg("host-token")
+}
+
+fn host_token<'a>(alloc: Global) -> Result<Arg<'a>, AllocError> {
+    Arg::new(alloc, "host-token")
         .long("host-token")
         .value_name("FILE")
         .help("The file of the token that is shown there")
         .action(ArgAction::Set)
-        .requires_arg("host")?;
-    serve.arg(host)?.arg(host_token)
+        .requires_arg("host")
+}
+
+// The words of the host's door, of which each wants the other.
+fn with_host<'a>(alloc: Global, serve: Command<'a>) -> Result<Command<'a>, AllocError> {
+    serve.arg(host_address(alloc)?)?.arg(host_token(alloc)?)
+}
+
+fn serve_of<'a>(alloc: Global) -> Result<Command<'a>, AllocError> {
+    let serve = Command::new(alloc, "serve")
+        .about(
+            "Serves packets and commands over HTTP, and prints in the end how many were answered how",
+        )
+        .override_usage(
+            "ilpd serve SETUP --workers W [--connections C] [--rounds N] [--balances] [--audit] [--listen ADDR]\n                  [--host ADDR --host-token FILE]",
+        )
+        .after_help("Example: ilpd serve examples/serve.toml --workers 4");
+    let serve = with_reports(alloc, with_extent(alloc, serve)?)?;
+    with_host(alloc, serve.arg(listen_of(alloc))?)
 }
 
 // How many workers there are, 1 where nothing is said.
@@ -282,7 +314,7 @@ pub fn arguments<'a>(alloc: Global, words: &'a [String]) -> Result<CommandLine<'
         .subcommand_required(true)
         .subcommand(replay_of(alloc)?)?
         .subcommand(check_of(alloc)?)?
-        .subcommand(with_host(alloc, serve_of(alloc)?)?)?;
+        .subcommand(serve_of(alloc)?)?;
     let matches = command.try_get_matches_from(words)?;
     Ok(line_in(&matches))
 }

@@ -42,6 +42,7 @@ pub use hosting::HostDoor;
 use oer_core::Counted;
 pub use replay_text::{ReplayFault, replay};
 pub use serving::{Doors, Extent, Report, ServeFault, serve};
+use std::alloc::AllocError;
 use std::io::ErrorKind;
 use std::net::{Net, SocketAddr, TcpListener, TcpStream};
 use std::process::ExitCode;
@@ -51,19 +52,47 @@ use std::thread::Threads;
 use std::time::Clock;
 use std::{env, fs, io};
 
-// Says on standard error where a service is too small for what it promises its tenants.
-fn warn(rt: &impl Eprint, extent: Extent, tenants: usize) {
-    if extent.workers < tenants {
-        let _ = eprintln!(rt;
-            "ilpd: {} workers for {} tenants: no tenant is sure of one",
-            extent.workers, tenants
-        );
+// Says on standard error that there are only so many of something for so many others, and what comes of it.
+fn complain(
+    rt: &(impl Eprint + AllocGlobal),
+    few: usize,
+    of: &str,
+    many: usize,
+    effect: &str,
+) -> Result<(), AllocError> {
+    let alloc = rt.alloc();
+    let (few, many) = (few.to_string(alloc)?, many.to_string(alloc)?);
+    let mut text = String::new(alloc);
+    for part in [
+        "ilpd: ",
+        few.as_str(),
+        " ",
+        of,
+        " for ",
+        many.as_str(),
+        " ",
+        effect,
+    ] {
+        text.push_str(part)?;
     }
-    if extent.connections <= extent.workers {
-        let _ = eprintln!(rt;
-            "ilpd: {} connections for {} workers: peers that hang can keep all of them",
-            extent.connections, extent.workers
-        );
+    let _ = rt.eprintln(text.as_str());
+    Ok(())
+}
+
+// Says on standard error where a service is too small for what it promises its tenants, if there is memory for the words.
+fn warn(rt: &(impl Eprint + AllocGlobal), extent: Extent, tenants: usize) {
+    let Extent {
+        workers,
+        connections,
+        ..
+    } = extent;
+    if workers < tenants {
+        let effect = "tenants: no tenant is sure of one";
+        let _ = complain(rt, workers, "workers", tenants, effect);
+    }
+    if connections <= workers {
+        let effect = "workers: peers that hang can keep all of them";
+        let _ = complain(rt, connections, "connections", workers, effect);
     }
 }
 

@@ -89,11 +89,18 @@ fn terms_of(alloc: Global, tenants: &[TenantSetup]) -> Result<Vec<Terms>, AllocE
 {
     let mut terms = Vec::with_capacity(alloc, tenants.len())?;
     for tenant in tenants {
-        let agreed = tenant.terms();
-        terms.push_reserved(Terms {
-            admin: agreed.admin.copy(),
-            hold: agreed.hold,
-        });
+        terms.push_reserved(agreed_with(tenant));
     }
     Ok(terms)
+}
+
+fn agreed_with(tenant: &TenantSetup) -> Terms
+    ensures operator { result.admin ≡ tenant.now.admin }
+    ensures hold { result.hold ≡ tenant.now.hold }
+{
+    let agreed = tenant.terms();
+    Terms {
+        admin: agreed.admin.copy(),
+        hold: agreed.hold,
+    }
 }

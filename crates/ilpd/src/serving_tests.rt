@@ -8,7 +8,7 @@ mod crowd;
 mod host;
 mod neighbours;
 mod patience;
-mod wire;
+pub mod wire;
 
 use crate::serving::{Doors, Extent, Report, ServeFault, serve};
 use admin_text::laws::setups;
@@ -23,7 +23,8 @@ use std::thread::{Threads, join};
 use std::time::{Clock, Duration};
 use std::{io, thread};
 use wire::{
-    BEGINNING, FULFILL, FixedClock, Terms, bytes, good, joined, posted, request, tenant_text,
+    BEGINNING, FULFILL, FixedClock, Terms, bytes, good, is_reply, is_text, joined, posted, request,
+    tenant_text,
 };
 
 const CONFIG: &str =
@@ -324,18 +325,22 @@ fn expect(
     balances: &str,
     lines: &str,
 ) -> Result<(), Fail> {
-    let alloc = rt.alloc();
     let (answers, printed) = came;
-    let reply = good(
-        alloc,
-        "application/octet-stream",
-        bytes(alloc, reply)?.as_slice(),
-    )?;
-    let balances = good(alloc, "text/plain", balances.as_bytes())?;
-    assert!(rt; answers.len() == 2);
-    assert_eq!(rt; answers[0].as_slice(), reply.as_slice());
-    assert_eq!(rt; answers[1].as_slice(), balances.as_slice());
-    assert_eq!(rt; printed.as_slice(), lines.as_bytes());
+    assert!(rt; printed.as_slice() == lines.as_bytes());
+    expect_answers(rt, answers.as_slice(), reply, balances)
+}
+
+fn expect_answers(
+    rt: &(impl Abort + AllocGlobal),
+    answers: &[Vec<u8>],
+    reply: &str,
+    balances: &str,
+) -> Result<(), Fail> {
+    let [first, second] = answers else {
+        return Err("two answers".into());
+    };
+    assert!(rt; is_reply(rt.alloc(), first.as_slice(), reply)?);
+    assert!(rt; is_text(rt.alloc(), second.as_slice(), balances)?);
     Ok(())
 }
 

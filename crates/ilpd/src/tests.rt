@@ -2,11 +2,12 @@
 
 use crate::checking::{Script, check};
 use crate::clock::SystemClock;
-use crate::command_line::{Task, arguments};
+use crate::command_line::{CommandLine, Task, arguments};
 use crate::ending::exit_status;
 use crate::replay;
-use crate::serving::Report;
+use crate::serving_tests::wire::{digits, joined};
 use std::alloc::{AllocError, Global};
+use std::process::Abort;
 use std::test::Fail;
 use std::time::Clock;
 
@@ -18,223 +19,180 @@ address = \"g.acme\"
 admin = \"root-a\"
 ";
 
-// The words after the program's name, and the task, the file of the setup and the number of workers, or what the error
-// begins with.
-type Words = (
-    &'static [&'static str],
-    Result<(Task, &'static str, usize), &'static str>,
-);
+// The words after the program's name, and what they ask for: the file of the setup, the number of workers, and the task, of
+// a service with its connections, its rounds and what it reports. Or the words, and what the text begins with that they are
+// refused with.
+static LINES: &str = "\
+replay s1.toml -> s1.toml 1 replay
+replay s1.toml --workers 2 -> s1.toml 2 replay
+replay --workers=64 s1.toml -> s1.toml 64 replay
+check s1.toml -> s1.toml 1 check
+check s1.toml a.script -> s1.toml 1 check
+check s1.toml a.script --workers 2 -> s1.toml 2 check
+check s1.toml a.script b.script -> error:
+check -- -1.toml -> -1.toml 1 check
+replay check -> check 1 replay
+-> error:
+replay -> error:
+check -> error:
+check s1.toml --workers 1 -> error:
+replay s1.toml s2.toml -> error:
+replay s1.toml --workers 0 -> error:
+replay s1.toml --workers 65 -> error:
+replay s1.toml --workers one -> error:
+replay s1.toml --workers -> error:
+serve s1.toml --workers 2 --rounds 3 -> s1.toml 2 serve 256 3
+serve --rounds=1000000 --workers=64 s1.toml --listen=[::1]:80 -> s1.toml 64 serve 256 1000000
+serve s1.toml -> error:
+serve s1.toml --rounds 1 -> error:
+serve s1.toml --workers 1 --connections 4096 --balances --audit -> s1.toml 1 serve 4096 - balances audit
+serve s1.toml --workers 1 --host 127.0.0.1:7769 --host-token host.token -> s1.toml 1 serve 256 -
+serve s1.toml --workers 1 --host 127.0.0.1:7769 -> error:
+serve s1.toml --workers 1 --host-token host.token -> error:
+serve s1.toml --workers 65 -> error:
+serve s1.toml --workers 1 --connections 0 -> error:
+serve s1.toml --workers 1 --connections 4097 -> error:
+serve s1.toml --workers 1 --rounds 0 -> error:
+serve s1.toml --workers 1 --rounds 1000001 -> error:
+--help -> A connector
+--version -> ilpd 0.1.0
+-V -> ilpd 0.1.0
+check --version -> error:
+help -> A connector
+replay --help -> Runs the script
+";
 
-static LINES: [Words; 37] = [
-    (&["replay", "s1.toml"], Ok((Task::Replay, "s1.toml", 1))),
-    (
-        &["replay", "s1.toml", "--workers", "2"],
-        Ok((Task::Replay, "s1.toml", 2)),
-    ),
-    (
-        &["replay", "--workers=64", "s1.toml"],
-        Ok((Task::Replay, "s1.toml", 64)),
-    ),
-    (&["check", "s1.toml"], Ok((Task::Check, "s1.toml", 1))),
-    (
-        &["check", "s1.toml", "a.script"],
-        Ok((Task::Check, "s1.toml", 1)),
-    ),
-    (
-        &["check", "s1.toml", "a.script", "--workers", "2"],
-        Ok((Task::Check, "s1.toml", 2)),
-    ),
-    (&["check", "s1.toml", "a.script", "b.script"], Err("error:")),
-    (&["check", "--", "-1.toml"], Ok((Task::Check, "-1.toml", 1))),
-    (&["replay", "check"], Ok((Task::Replay, "check", 1))),
-    (&[], Err("error:")),
-    (&["replay"], Err("error:")),
-    (&["check"], Err("error:")),
-    (&["check", "s1.toml", "--workers", "1"], Err("error:")),
-    (&["replay", "s1.toml", "s2.toml"], Err("error:")),
-    (&["replay", "s1.toml", "--workers", "0"], Err("error:")),
-    (&["replay", "s1.toml", "--workers", "65"], Err("error:")),
-    (&["replay", "s1.toml", "--workers", "one"], Err("error:")),
-    (&["replay", "s1.toml", "--workers"], Err("error:")),
-    (
-        &["serve", "s1.toml", "--workers", "2", "--rounds", "3"],
-        Ok((
-            Task::Serve {
-                connections: 256,
-                rounds: Some(3),
-                report: Report {
-                    balances: false,
-                    audit: false,
-                },
-            },
-            "s1.toml",
-            2,
-        )),
-    ),
-    (
-        &[
-            "serve",
-            "--rounds=1000000",
-            "--workers=64",
-            "s1.toml",
-            "--listen=[::1]:80",
-        ],
-        Ok((
-            Task::Serve {
-                connections: 256,
-                rounds: Some(1_000_000),
-                report: Report {
-                    balances: false,
-                    audit: false,
-                },
-            },
-            "s1.toml",
-            64,
-        )),
-    ),
-    (&["serve", "s1.toml"], Err("error:")),
-    (&["serve", "s1.toml", "--rounds", "1"], Err("error:")),
-    (
-        &[
-            "serve",
-            "s1.toml",
-            "--workers",
-            "1",
-            "--connections",
-            "4096",
-            "--balances",
-            "--audit",
-        ],
-        Ok((
-            Task::Serve {
-                connections: 4096,
-                rounds: None,
-                report: Report {
-                    balances: true,
-                    audit: true,
-                },
-            },
-            "s1.toml",
-            1,
-        )),
-    ),
-    (
-        &[
-            "serve",
-            "s1.toml",
-            "--workers",
-            "1",
-            "--host",
-            "127.0.0.1:7769",
-            "--host-token",
-            "host.token",
-        ],
-        Ok((
-            Task::Serve {
-                connections: 256,
-                rounds: None,
-                report: Report {
-                    balances: false,
-                    audit: false,
-                },
-            },
-            "s1.toml",
-            1,
-        )),
-    ),
-    (
-        &[
-            "serve",
-            "s1.toml",
-            "--workers",
-            "1",
-            "--host",
-            "127.0.0.1:7769",
-        ],
-        Err("error:"),
-    ),
-    (
-        &[
-            "serve",
-            "s1.toml",
-            "--workers",
-            "1",
-            "--host-token",
-            "host.token",
-        ],
-        Err("error:"),
-    ),
-    (&["serve", "s1.toml", "--workers", "65"], Err("error:")),
-    (
-        &["serve", "s1.toml", "--workers", "1", "--connections", "0"],
-        Err("error:"),
-    ),
-    (
-        &[
-            "serve",
-            "s1.toml",
-            "--workers",
-            "1",
-            "--connections",
-            "4097",
-        ],
-        Err("error:"),
-    ),
-    (
-        &["serve", "s1.toml", "--workers", "1", "--rounds", "0"],
-        Err("error:"),
-    ),
-    (
-        &["serve", "s1.toml", "--workers", "1", "--rounds", "1000001"],
-        Err("error:"),
-    ),
-    (&["--help"], Err("A connector")),
-    (&["--version"], Err("ilpd 0.1.0\n")),
-    (&["-V"], Err("ilpd 0.1.0\n")),
-    (&["check", "--version"], Err("error:")),
-    (&["help"], Err("A connector")),
-    (&["replay", "--help"], Err("Runs the script")),
-];
+// The program's name and these words.
+fn line_of(alloc: Global, words: &str) -> Result<Vec<String>, AllocError> {
+    let mut line = Vec::new(alloc);
+    line.push("ilpd".to_string(alloc)?)?;
+    for word in words.split_whitespace() {
+        line.push(word.to_string(alloc)?)?;
+    }
+    Ok(line)
+}
+
+fn rounds_told(alloc: Global, rounds: Option<u32>) -> Result<String, Fail> {
+    match rounds {
+        Some(rounds) => digits(alloc, rounds as usize),
+        None => joined(alloc, &["-"]),
+    }
+}
+
+fn word_where(is_said: bool, word: &'static str) -> &'static str {
+    if is_said { word } else { "" }
+}
+
+fn task_told(alloc: Global, task: Task) -> Result<String, Fail> {
+    match task {
+        Task::Replay => joined(alloc, &["replay"]),
+        Task::Check => joined(alloc, &["check"]),
+        Task::Serve {
+            connections,
+            rounds,
+            report,
+        } => {
+            let connections = digits(alloc, connections)?;
+            let rounds = rounds_told(alloc, rounds)?;
+            let balances = word_where(report.balances, " balances");
+            let audit = word_where(report.audit, " audit");
+            joined(
+                alloc,
+                &[
+                    "serve ",
+                    connections.as_str(),
+                    " ",
+                    rounds.as_str(),
+                    balances,
+                    audit,
+                ],
+            )
+        }
+    }
+}
+
+fn told(alloc: Global, line: &CommandLine<'_>) -> Result<String, Fail> {
+    let workers = digits(alloc, line.workers)?;
+    let task = task_told(alloc, line.task)?;
+    joined(
+        alloc,
+        &[line.setup, " ", workers.as_str(), " ", task.as_str()],
+    )
+}
+
+fn is_read_as(alloc: Global, words: &[String], wanted: &str) -> Result<bool, Fail> {
+    match arguments(alloc, words) {
+        Ok(found) => Ok(told(alloc, &found)?.as_str() == wanted),
+        Err(error) => Ok(error.to_string(alloc)?.as_str().starts_with(wanted)),
+    }
+}
+
+fn expect_lines(rt: &impl Abort, alloc: Global, rows: &str) -> Result<(), Fail> {
+    for row in rows.lines() {
+        let (words, wanted) = row.split_once("-> ").ok_or("an arrow")?;
+        let line = line_of(alloc, words)?;
+        let is_read = is_read_as(alloc, line.as_slice(), wanted)?;
+        assert!(rt; is_read, "{words}");
+    }
+    Ok(())
+}
+
+#[test]
+fn command_lines(rt: HostRuntime) -> Result<(), Fail> {
+    expect_lines(&rt, rt.alloc(), LINES)
+}
+
+// The text that these words are refused with.
+fn refusal_of(alloc: Global, words: &str) -> Result<String, Fail> {
+    let line = line_of(alloc, words)?;
+    match arguments(alloc, line.as_slice()) {
+        Ok(_) => Err(Fail::from("no words to be refused")),
+        Err(error) => Ok(error.to_string(alloc)?),
+    }
+}
+
+#[test]
+fn the_version(rt: HostRuntime) -> Result<(), Fail> {
+    let alloc = rt.alloc();
+    assert!(rt; refusal_of(alloc, "--version")?.as_str() == "ilpd 0.1.0\n");
+    assert!(rt; refusal_of(alloc, "-V")?.as_str() == "ilpd 0.1.0\n");
+    Ok(())
+}
+
+fn names_address(alloc: Global, words: &str, wanted: &str) -> Result<bool, Fail> {
+    let line = line_of(alloc, words)?;
+    let found = arguments(alloc, line.as_slice())?;
+    Ok(found.address == wanted)
+}
 
 #[test]
 fn addresses(rt: HostRuntime) -> Result<(), Fail> {
     let alloc = rt.alloc();
-    let words = ["serve", "s1.toml", "--workers", "1", "--rounds", "1"];
-    let line = line_of(alloc, &words)?;
-    let found = arguments(alloc, line.as_slice())?;
-    assert_eq!(rt; found.address, "127.0.0.1:7768");
-    let words = [
-        "serve",
-        "s1.toml",
-        "--workers",
-        "1",
-        "--rounds",
-        "1",
-        "--listen",
-        "[::1]:80",
-    ];
-    let line = line_of(alloc, &words)?;
-    let found = arguments(alloc, line.as_slice())?;
-    assert_eq!(rt; found.address, "[::1]:80");
+    let words = "serve s1.toml --workers 1 --rounds 1";
+    assert!(rt; names_address(alloc, words, "127.0.0.1:7768")?);
+    let words = "serve s1.toml --workers 1 --rounds 1 --listen [::1]:80";
+    assert!(rt; names_address(alloc, words, "[::1]:80")?);
     Ok(())
+}
+
+fn names_script(alloc: Global, words: &str, wanted: Option<&str>) -> Result<bool, Fail> {
+    let line = line_of(alloc, words)?;
+    let found = arguments(alloc, line.as_slice())?;
+    Ok(found.script == wanted)
 }
 
 #[test]
 fn scripts_to_check(rt: HostRuntime) -> Result<(), Fail> {
     let alloc = rt.alloc();
-    let words = ["check", "s1.toml", "a.script"];
-    let line = line_of(alloc, &words)?;
-    let found = arguments(alloc, line.as_slice())?;
-    assert_eq!(rt; found.script, Some("a.script"));
-    let words = ["check", "s1.toml"];
-    let line = line_of(alloc, &words)?;
-    let found = arguments(alloc, line.as_slice())?;
-    assert_eq!(rt; found.script, None);
+    assert!(rt; names_script(alloc, "check s1.toml a.script", Some("a.script"))?);
+    assert!(rt; names_script(alloc, "check s1.toml", None)?);
     Ok(())
 }
 
 // More lines of the setup, a script, what is said of them, and the exit status.
-static CHECKS: [(&str, Option<&str>, &str, u8); 6] = [
+type Checked = (&'static str, Option<&'static str>, &'static str, u8);
+
+static CHECKS: [Checked; 6] = [
     ("", None, "good\n", 0),
     (
         "jurnal = 64\n",
@@ -263,53 +221,27 @@ static CHECKS: [(&str, Option<&str>, &str, u8); 6] = [
     ),
 ];
 
-#[test]
-fn what_check_says(rt: HostRuntime) -> Result<(), Fail> {
-    let alloc = rt.alloc();
-    for (lines, script, said, status) in CHECKS {
-        let mut setup = String::from_str(alloc, SETUP)?;
-        setup.push_str(lines)?;
-        let script = match script {
-            Some(text) => Some(Script {
-                text: text.as_bytes(),
-                workers: 2,
-            }),
-            None => None,
-        };
-        let mut text = Vec::new(alloc);
-        let ended = check(alloc, setup.as_bytes(), script, &mut text);
-        assert_eq!(rt; text.as_slice(), said.as_bytes());
-        assert_eq!(rt; exit_status(&ended), status);
-    }
+fn expect_said(rt: &impl Abort, alloc: Global, row: &Checked) -> Result<(), Fail> {
+    let (lines, script, said, status) = row;
+    let setup = joined(alloc, &[SETUP, *lines])?;
+    let script = match script {
+        Some(text) => Some(Script {
+            text: text.as_bytes(),
+            workers: 2,
+        }),
+        None => None,
+    };
+    let mut text = Vec::new(alloc);
+    let ended = check(alloc, setup.as_bytes(), script, &mut text);
+    assert!(rt; text.as_slice() == said.as_bytes());
+    assert!(rt; exit_status(&ended) == *status);
     Ok(())
 }
 
-// The program's name and the words after it.
-fn line_of(alloc: Global, words: &[&str]) -> Result<Vec<String>, AllocError> {
-    let mut line = Vec::new(alloc);
-    line.push("ilpd".to_string(alloc)?)?;
-    for word in words {
-        line.push(word.to_string(alloc)?)?;
-    }
-    Ok(line)
-}
-
 #[test]
-fn command_lines(rt: HostRuntime) -> Result<(), Fail> {
-    let alloc = rt.alloc();
-    for (words, wanted) in LINES {
-        let line = line_of(alloc, words)?;
-        match (arguments(alloc, line.as_slice()), wanted) {
-            (Ok(found), Ok((task, setup, workers))) => {
-                assert!(rt; found.task == task && found.workers == workers, "{words:?}");
-                assert_eq!(rt; found.setup, setup);
-            }
-            (Err(error), Err(begin)) => {
-                let text = error.to_string(alloc)?;
-                assert!(rt; text.as_str().starts_with(begin), "{words:?}");
-            }
-            _ => panic!(rt; "{words:?}"),
-        }
+fn what_check_says(rt: HostRuntime) -> Result<(), Fail> {
+    for row in &CHECKS {
+        expect_said(&rt, rt.alloc(), row)?;
     }
     Ok(())
 }
@@ -320,7 +252,7 @@ fn an_idle_worker(rt: HostRuntime) -> Result<(), Fail> {
     let mut script = "decide 0 1893456000000\n".as_bytes();
     let mut text = Vec::new(alloc);
     replay(alloc, SETUP.as_bytes(), 1, &mut script, &mut text)?;
-    assert_eq!(rt; text.as_slice(), b"- idle\n".as_slice());
+    assert!(rt; text.as_slice() == b"- idle\n".as_slice());
     Ok(())
 }
 

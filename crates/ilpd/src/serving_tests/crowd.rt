@@ -256,15 +256,19 @@ fn clients() -> [Told; 8] {
     [acme, beta, acme, beta, acme, beta, acme, beta]
 }
 
-pub fn setup_text(alloc: Global, port: u16) -> Result<String, Fail> {
-    let terms = |name| Terms {
+fn tenant_at(alloc: Global, name: &str, port: u16) -> Result<String, Fail> {
+    let terms = Terms {
         name,
         port,
         journal: 2048,
         hold: 30_000,
     };
-    let acme = tenant_text(alloc, terms("acme"))?;
-    let beta = tenant_text(alloc, terms("beta"))?;
+    tenant_text(alloc, terms)
+}
+
+pub fn setup_text(alloc: Global, port: u16) -> Result<String, Fail> {
+    let acme = tenant_at(alloc, "acme", port)?;
+    let beta = tenant_at(alloc, "beta", port)?;
     joined(alloc, &[BEGINNING, acme.as_str(), beta.as_str()])
 }
 

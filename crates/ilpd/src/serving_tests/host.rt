@@ -3,7 +3,7 @@
 use super::crowd::{
     Exchange, FRAME, connected, exchange_of, fulfils_all, is_told, peer_answer, setup_text,
 };
-use super::wire::{FixedClock, bytes, digits, good, joined, posted, request};
+use super::wire::{FixedClock, bytes, digits, is_reply, joined, posted, request};
 use super::{CHILD, CONFIG, NOTHING_MORE, asked};
 use crate::hosting::HostDoor;
 use crate::serving::{Doors, Extent, ServeFault, serve};
@@ -12,6 +12,7 @@ use admin_text::read_setup;
 use common_types::Token;
 use std::alloc::Global;
 use std::net::{Net, OpenListener, SocketAddr, TcpListener, TcpStream};
+use std::process::Abort;
 use std::sync::Wait;
 use std::sync::atomic::{AtomicU64, Ordering};
 use std::test::Fail;
@@ -256,68 +257,72 @@ fn served_in_turn<
     Ok((answers, lines))
 }
 
-// The number behind that name, with its labels, in a text of metrics.
-fn metric(text: &str, name: &str) -> Option<u64> {
+// Lines of the metrics after one packet of acme's was answered.
+const METRICS_WANTED: &str = "\
+ilpd_accepts_connections 1
+ilpd_answers_total{tenant=\"acme\",status=\"200\"} 1
+ilpd_answers_total{tenant=\"acme\",status=\"4xx\"} 0
+ilpd_answers_total{tenant=\"acme\",status=\"503\"} 0
+ilpd_answers_total{tenant=\"beta\",status=\"200\"} 0
+ilpd_link_faults_total{tenant=\"acme\"} 0
+ilpd_operator_tokens_refused_total{tenant=\"acme\"} 0
+ilpd_places_share{tenant=\"acme\"} 1
+ilpd_places_used{tenant=\"acme\"} 0
+ilpd_places_awaited{tenant=\"acme\"} 0
+ilpd_period{tenant=\"acme\"} 0
+ilpd_journal_entries{tenant=\"acme\"} 1
+ilpd_journal_entries{tenant=\"beta\"} 0
+ilpd_journal_places{tenant=\"beta\"} 2048
+ilpd_holds_open{tenant=\"acme\"} 0
+ilpd_holds_open{tenant=\"beta\"} 0
+";
+
+fn has_line(text: &str, wanted: &str) -> bool {
     for line in text.lines() {
-        if let Some((found, number)) = line.rsplit_once(" ")
-            && found == name
-        {
-            return number.parse::<u64>().ok();
+        if line == wanted {
+            return true;
         }
     }
-    None
+    false
 }
 
-// Metrics after one packet of acme's was answered.
-static METRICS_WANTED: [(&str, u64); 16] = [
-    ("ilpd_accepts_connections", 1),
-    ("ilpd_answers_total{tenant=\"acme\",status=\"200\"}", 1),
-    ("ilpd_answers_total{tenant=\"acme\",status=\"4xx\"}", 0),
-    ("ilpd_answers_total{tenant=\"acme\",status=\"503\"}", 0),
-    ("ilpd_answers_total{tenant=\"beta\",status=\"200\"}", 0),
-    ("ilpd_link_faults_total{tenant=\"acme\"}", 0),
-    ("ilpd_operator_tokens_refused_total{tenant=\"acme\"}", 0),
-    ("ilpd_places_share{tenant=\"acme\"}", 1),
-    ("ilpd_places_used{tenant=\"acme\"}", 0),
-    ("ilpd_places_awaited{tenant=\"acme\"}", 0),
-    ("ilpd_period{tenant=\"acme\"}", 0),
-    ("ilpd_journal_entries{tenant=\"acme\"}", 1),
-    ("ilpd_journal_entries{tenant=\"beta\"}", 0),
-    ("ilpd_journal_places{tenant=\"beta\"}", 2048),
-    ("ilpd_holds_open{tenant=\"acme\"}", 0),
-    ("ilpd_holds_open{tenant=\"beta\"}", 0),
-];
+fn expect_metrics(rt: &impl Abort, metrics: &[u8], wanted: &str) -> Result<(), Fail> {
+    let text = str::from_utf8(metrics)?;
+    assert!(rt; text.starts_with(METRICS_HEAD));
+    for line in wanted.lines() {
+        assert!(rt; has_line(text, line), "{line}");
+    }
+    Ok(())
+}
 
 const METRICS_HEAD: &str =
     "HTTP/1.1 200 OK\r\nContent-Type: text/plain; version=0.0.4\r\nContent-Length: ";
 
-#[test]
-fn what_a_host_is_told(rt: HostRuntime) -> Result<(), Fail> {
-    let alloc = rt.alloc();
-    let (answers, lines) = served_in_turn(&rt)?;
-    let [health, stranger, before, packet, metrics, after] = answers.as_slice() else {
+fn is_setup(alloc: Global, answer: &[u8]) -> Result<bool, Fail> {
+    let text = standing_text(alloc, 7802, 0, 0)?;
+    let wanted = told_setup(alloc, text.as_str())?;
+    Ok(answer == wanted.as_slice())
+}
+
+fn expect_told(rt: &impl Abort, alloc: Global, answers: &[Vec<u8>]) -> Result<(), Fail> {
+    let [health, stranger, before, packet, metrics, after] = answers else {
         return Err("six answers".into());
     };
-    let child = good(
-        alloc,
-        "application/octet-stream",
-        bytes(alloc, CHILD)?.as_slice(),
-    )?;
-    let setup = told_setup(alloc, standing_text(alloc, 7802, 0, 0)?.as_str())?;
-    assert_eq!(rt; health.as_slice(), HEALTHY);
-    assert_eq!(rt; stranger.as_slice(), UNAUTHORIZED);
-    assert!(rt; before == &setup && after == &setup);
-    assert_eq!(rt; packet.as_slice(), child.as_slice());
-    let text = str::from_utf8(metrics.as_slice())?;
-    assert!(rt; text.starts_with(METRICS_HEAD));
-    for (name, number) in METRICS_WANTED {
-        assert!(rt; metric(text, name) == Some(number), "{name}");
-    }
-    assert_eq!(rt;
-        lines.as_slice(),
-        b"acme 200 1 4xx 0 503 0 link 0\nbeta 200 0 4xx 0 503 0 link 0\n".as_slice()
-    );
-    Ok(())
+    assert!(rt; health.as_slice() == HEALTHY);
+    assert!(rt; stranger.as_slice() == UNAUTHORIZED);
+    assert!(rt; is_setup(alloc, before.as_slice())?);
+    assert!(rt; is_setup(alloc, after.as_slice())?);
+    assert!(rt; is_reply(alloc, packet.as_slice(), CHILD)?);
+    expect_metrics(rt, metrics.as_slice(), METRICS_WANTED)
+}
+
+const LINES_WANTED: &[u8] = b"acme 200 1 4xx 0 503 0 link 0\nbeta 200 0 4xx 0 503 0 link 0\n";
+
+#[test]
+fn what_a_host_is_told(rt: HostRuntime) -> Result<(), Fail> {
+    let (answers, lines) = served_in_turn(&rt)?;
+    assert!(rt; lines.as_slice() == LINES_WANTED);
+    expect_told(&rt, rt.alloc(), answers.as_slice())
 }
 
 // How many packets are fulfilled before the host stops the service.
@@ -473,8 +478,6 @@ fn fulfilled_of(clients: &[Client], beta: bool) -> u64 {
     sum
 }
 
-// What a stop leaves is what clients and peers were told: each packet that the peer fulfilled was told so, and stands in the
-// balances of the setup.
 // What a service prints that answered so many packets of each tenant.
 fn lines_after(alloc: Global, acme: u64, beta: u64) -> Result<String, Fail> {
     let acme = number(alloc, acme)?;
@@ -491,6 +494,8 @@ fn lines_after(alloc: Global, acme: u64, beta: u64) -> Result<String, Fail> {
     )
 }
 
+// What a stop leaves is what clients and peers were told: each packet that the peer fulfilled was told so, and stands in the
+// balances of the setup.
 #[test]
 fn a_stop_loses_nothing(rt: HostRuntime) -> Result<(), Fail> {
     let alloc = rt.alloc();

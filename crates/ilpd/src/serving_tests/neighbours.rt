@@ -1,6 +1,6 @@
 //! Neighbours that bring nothing, and a tenant whose peer says nothing.
 
-use super::wire::{BEGINNING, Terms, bytes, good, joined, request, tenant_text};
+use super::wire::{BEGINNING, Terms, bytes, is_reply, is_text, joined, request, tenant_text};
 use super::{
     ALL, BASE, NOTHING, NOTHING_MORE, UNREACHABLE, answer_of, asked, lonely_port, sent, serve_as,
     setup_with,
@@ -8,6 +8,7 @@ use super::{
 use crate::serving::Extent;
 use std::alloc::Global;
 use std::net::{Net, OpenListener, SocketAddr, TcpListener, TcpStream};
+use std::process::Abort;
 use std::test::Fail;
 use std::thread::join;
 use std::time::{Clock, Duration, Instant};
@@ -72,14 +73,10 @@ fn idle_connections_yield(rt: HostRuntime) -> Result<(), Fail> {
     end?;
     let (answers, fast) = came?;
     assert!(rt; fast);
-    let balances = good(alloc, "text/plain", NOTHING.as_bytes())?;
+    assert!(rt; lines.as_slice() == b"acme 200 3 4xx 0 503 0 link 0\n".as_slice());
     for answer in &answers {
-        assert_eq!(rt; answer.as_slice(), balances.as_slice());
+        assert!(rt; is_text(alloc, answer.as_slice(), NOTHING)?);
     }
-    assert_eq!(rt;
-        lines.as_slice(),
-        b"acme 200 3 4xx 0 503 0 link 0\n".as_slice()
-    );
     Ok(())
 }
 
@@ -123,46 +120,59 @@ fn asked_beside_silence(
     })
 }
 
-// A setup of both, where acme's peer listens at the first port and beta's at the second one.
-fn two_tenants(alloc: Global, acme: u16, beta: u16) -> Result<String, Fail> {
+fn tenant_at(alloc: Global, name: &str, port: u16) -> Result<String, Fail> {
     let terms = Terms {
-        name: "acme",
-        port: acme,
+        name,
+        port,
         journal: 64,
         hold: HOLD,
     };
-    let first = tenant_text(alloc, terms)?;
-    let second = tenant_text(
-        alloc,
-        Terms {
-            name: "beta",
-            port: beta,
-            ..terms
-        },
-    )?;
-    joined(alloc, &[BEGINNING, first.as_str(), second.as_str()])
+    tenant_text(alloc, terms)
+}
+
+// A setup of both, where acme's peer listens at the first port and beta's at the second one.
+fn two_tenants(alloc: Global, acme: u16, beta: u16) -> Result<String, Fail> {
+    let acme = tenant_at(alloc, "acme", acme)?;
+    let beta = tenant_at(alloc, "beta", beta)?;
+    joined(alloc, &[BEGINNING, acme.as_str(), beta.as_str()])
+}
+
+// What the service prints in the end. Of each of the five packets there are two receipts, and one of each tenant's roll.
+const PRINTED: &str = "acme balance alice 0 0 0
+acme balance bob 0 0 0
+acme ok
+beta balance alice 0 0 0
+beta balance bob 0 0 0
+beta ok
+acme 200 4 4xx 0 503 0 link 4
+beta 200 2 4xx 0 503 0 link 1
+audit ok 12
+";
+
+fn expect_answers(rt: &impl Abort, alloc: Global, came: &Answers) -> Result<(), Fail> {
+    assert!(rt; came.fast);
+    for answer in &came.acme {
+        assert!(rt; is_reply(alloc, answer.as_slice(), UNREACHABLE)?);
+    }
+    assert!(rt; is_reply(alloc, came.beta.as_slice(), BETA_UNREACHABLE)?);
+    assert!(rt; came.operator.as_slice().starts_with(b"HTTP/1.1 200 OK\r\n"));
+    Ok(())
+}
+
+fn packet_of(alloc: Global, path: &str, frame: &str) -> Result<Vec<u8>, Fail> {
+    let frame = bytes(alloc, frame)?;
+    request(alloc, path, "tok-alice", frame.as_slice())
 }
 
 // Of two places each tenant has one. Of acme's four packets one is with a peer that says nothing, one waits, and for two there
-// is no room; beta's packet, whose peer refuses the connection, and its command are answered meanwhile. Of each of the five
-// packets there are two receipts in the end, and one of each tenant's roll.
+// is no room; beta's packet, whose peer refuses the connection, and its command are answered meanwhile.
 #[test]
 fn a_silent_peer_keeps_no_other_tenant(rt: HostRuntime) -> Result<(), Fail> {
     let alloc = rt.alloc();
     let silent = TcpListener::bind(&rt, "127.0.0.1:0")?;
     let setup = two_tenants(alloc, silent.local_addr()?.port(), lonely_port(&rt)?)?;
-    let acme = request(
-        alloc,
-        "/ilp/acme",
-        "tok-alice",
-        bytes(alloc, BASE)?.as_slice(),
-    )?;
-    let beta = request(
-        alloc,
-        "/ilp/beta",
-        "tok-alice",
-        bytes(alloc, BETA)?.as_slice(),
-    )?;
+    let acme = packet_of(alloc, "/ilp/acme", BASE)?;
+    let beta = packet_of(alloc, "/ilp/beta", BETA)?;
     let operator = request(alloc, "/admin/beta", "root", b"balances\n")?;
     let requests = [acme.as_slice(), beta.as_slice(), operator.as_slice()];
     let listener = TcpListener::bind(&rt, "127.0.0.1:0")?;
@@ -183,28 +193,6 @@ fn a_silent_peer_keeps_no_other_tenant(rt: HostRuntime) -> Result<(), Fail> {
     end?;
     let came = came?;
     drop(silent);
-    assert!(rt; came.fast);
-    let acme_told = good(
-        alloc,
-        "application/octet-stream",
-        bytes(alloc, UNREACHABLE)?.as_slice(),
-    )?;
-    for answer in &came.acme {
-        assert_eq!(rt; answer.as_slice(), acme_told.as_slice());
-    }
-    let beta_told = good(
-        alloc,
-        "application/octet-stream",
-        bytes(alloc, BETA_UNREACHABLE)?.as_slice(),
-    )?;
-    assert_eq!(rt; came.beta.as_slice(), beta_told.as_slice());
-    assert!(rt; came.operator.as_slice().starts_with(b"HTTP/1.1 200 OK\r\n"));
-    assert_eq!(rt;
-        lines.as_slice(),
-        b"acme balance alice 0 0 0\nacme balance bob 0 0 0\nacme ok\n\
-        beta balance alice 0 0 0\nbeta balance bob 0 0 0\nbeta ok\n\
-        acme 200 4 4xx 0 503 0 link 4\nbeta 200 2 4xx 0 503 0 link 1\naudit ok 12\n"
-            .as_slice()
-    );
-    Ok(())
+    assert!(rt; lines.as_slice() == PRINTED.as_bytes());
+    expect_answers(&rt, alloc, &came)
 }

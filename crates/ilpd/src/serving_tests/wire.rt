@@ -151,6 +151,19 @@ pub fn good(alloc: Global, kind: &str, body: &[u8]) -> Result<Vec<u8>, Fail> {
     with_body(alloc, head.as_str(), body)
 }
 
+/// Whether an answer is of status 200, with the reply of these hexadecimal digits.
+pub fn is_reply(alloc: Global, answer: &[u8], reply: &str) -> Result<bool, Fail> {
+    let reply = bytes(alloc, reply)?;
+    let wanted = good(alloc, "application/octet-stream", reply.as_slice())?;
+    Ok(answer == wanted.as_slice())
+}
+
+/// Whether an answer is of status 200, with that text.
+pub fn is_text(alloc: Global, answer: &[u8], text: &str) -> Result<bool, Fail> {
+    let wanted = good(alloc, "text/plain", text.as_bytes())?;
+    Ok(answer == wanted.as_slice())
+}
+
 /// What the peer that listens at the port is sent for that packet.
 pub fn posted(alloc: Global, port: u16, frame: &[u8]) -> Result<Vec<u8>, Fail> {
     let port = digits(alloc, port as usize)?;
