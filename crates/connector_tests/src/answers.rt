@@ -1,7 +1,6 @@
 //! Packets that come back, and packets that are overdue: the sender is told once, and each hold ends once.
 
 use crate::rows::{expect_rows, expect_written};
-use crate::texts::joined;
 use std::alloc::Global;
 use std::process::Abort;
 use std::test::Fail;
@@ -158,17 +157,17 @@ fn answers_and_ticks(rt: HostRuntime) -> Result<(), Fail> {
 // A Fulfill of the packet that went on, with that first part and so many zeros behind it.
 fn fulfill_with_zeros(alloc: Global, head: &str, zeros: usize) -> Result<String, Fail> {
     let zeros = "00".repeat(alloc, zeros)?;
-    joined(alloc, &[head, zeros.as_str()])
+    Ok([head, zeros.as_str()].concat(alloc)?)
 }
 
 // What the sender is told where the packet that went on is answered so.
 fn expect_reply(rt: &impl Abort, alloc: Global, answer: &str, reply: &str) -> Result<(), Fail> {
     let setup = setup_with(alloc, &[])?;
     let asked = "load 0 acme tok-alice {base}\ndecide 0 {T}\nanswer 0 {T} ";
-    let script = joined(alloc, &[asked, answer])?;
+    let script = [asked, answer].concat(alloc)?;
     let script = filled(alloc, script.as_str())?;
     let sent = "acme loaded 0\nacme send bob 0 {sent}\nacme reply ";
-    let lines = joined(alloc, &[sent, reply, "\n"])?;
+    let lines = [sent, reply, "\n"].concat(alloc)?;
     let lines = filled(alloc, lines.as_str())?;
     expect_written(rt, alloc, setup.as_str(), script.as_str(), lines.as_str())
 }

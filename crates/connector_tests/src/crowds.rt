@@ -1,13 +1,12 @@
 //! Many tenants and many workers, through replays.
 
 use crate::rows::{expect_rows, expect_rows_by, written_by};
-use crate::texts::{digits, put};
 use admin_text::{SetupFault, read_setup};
 use common_types::ReadError;
-use std::alloc::Global;
+use std::alloc::{AllocError, Global};
 use std::process::Abort;
 use std::test::Fail;
-use test_texts::filled;
+use test_texts::{filled, put};
 
 static TENANTS: &str = "\
 == two tenants by one worker
@@ -208,7 +207,7 @@ cap = 1500\nceiling = 2000\ncredit = 3000\nburst = 2\nper_second = 0\n";
 const WAY: &str = "[[tenant.route]]\nprefix = \"*\"\npeer = \"bob\"\n\
 [[tenant.rate]]\nfrom = \"alice\"\nto = \"bob\"\nnum = 3\nden = 2\n";
 
-fn put_peer(setup: &mut String, name: &str) -> Result<(), Fail> {
+fn put_peer(setup: &mut String, name: &str) -> Result<(), AllocError> {
     put(
         setup,
         &[
@@ -222,7 +221,7 @@ fn put_peer(setup: &mut String, name: &str) -> Result<(), Fail> {
     )
 }
 
-fn put_tenant(setup: &mut String, number: &str) -> Result<(), Fail> {
+fn put_tenant(setup: &mut String, number: &str) -> Result<(), AllocError> {
     put(
         setup,
         &[
@@ -242,7 +241,7 @@ fn put_tenant(setup: &mut String, number: &str) -> Result<(), Fail> {
 fn crowd(alloc: Global, tenants: usize) -> Result<String, Fail> {
     let mut setup = String::from_str(alloc, "version = 1\nstart = 1893456000000\n")?;
     for tenant in 0..tenants {
-        let number = digits(alloc, tenant)?;
+        let number = tenant.to_string(alloc)?;
         put_tenant(&mut setup, number.as_str())?;
     }
     Ok(setup)
@@ -259,13 +258,13 @@ struct Turn {
 fn turn_of(alloc: Global, worker: usize, round: usize) -> Result<Turn, Fail> {
     let tenant = worker.saturating_add(round) % 64;
     Ok(Turn {
-        worker: digits(alloc, worker)?,
-        tenant: digits(alloc, tenant)?,
-        round: digits(alloc, round)?,
+        worker: worker.to_string(alloc)?,
+        tenant: tenant.to_string(alloc)?,
+        round: round.to_string(alloc)?,
     })
 }
 
-fn put_load(script: &mut String, lines: &mut String, turn: &Turn) -> Result<(), Fail> {
+fn put_load(script: &mut String, lines: &mut String, turn: &Turn) -> Result<(), AllocError> {
     let (worker, tenant) = (turn.worker.as_str(), turn.tenant.as_str());
     put(
         script,
@@ -274,13 +273,13 @@ fn put_load(script: &mut String, lines: &mut String, turn: &Turn) -> Result<(), 
     put(lines, &["t", tenant, " loaded ", turn.round.as_str(), "\n"])
 }
 
-fn put_decide(script: &mut String, lines: &mut String, turn: &Turn) -> Result<(), Fail> {
+fn put_decide(script: &mut String, lines: &mut String, turn: &Turn) -> Result<(), AllocError> {
     put(script, &["decide ", turn.worker.as_str(), " {T}\n"])?;
     let (tenant, round) = (turn.tenant.as_str(), turn.round.as_str());
     put(lines, &["t", tenant, " send bob ", round, " {sent}\n"])
 }
 
-fn put_answer(script: &mut String, lines: &mut String, turn: &Turn) -> Result<(), Fail> {
+fn put_answer(script: &mut String, lines: &mut String, turn: &Turn) -> Result<(), AllocError> {
     put(
         script,
         &["answer ", turn.worker.as_str(), " {T} {fulfill}\n"],

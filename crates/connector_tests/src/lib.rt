@@ -1,5 +1,5 @@
-//! Tests of scripts and replays through public functions, as tables of cases. The crate has nothing else: a crate with
-//! tests is proved twice, so the crates below have none of their own.
+//! Tests of scripts and replays, and of HTTP, through public functions, as tables of cases. The crate has nothing else: a crate
+//! with tests is proved twice, so the crates below have none of their own.
 #![tactic(auto)]
 
 #[cfg(test)]
@@ -15,6 +15,8 @@ mod fees;
 #[cfg(test)]
 mod governed;
 #[cfg(test)]
+mod http;
+#[cfg(test)]
 mod replays;
 #[cfg(test)]
 mod rows;
@@ -22,7 +24,5 @@ mod rows;
 mod script_words;
 #[cfg(test)]
 mod scripts;
-#[cfg(test)]
-mod texts;
 #[cfg(test)]
 mod verdicts;

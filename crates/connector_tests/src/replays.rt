@@ -1,7 +1,6 @@
 //! Replays of whole scripts: what is loaded, what is malformed, and what goes on.
 
 use crate::rows::{expect_rows, expect_written, written};
-use crate::texts::joined;
 use admin_text::SetupFault;
 use replay_text::{ReplayFault, ScriptFault};
 use std::alloc::Global;
@@ -125,7 +124,7 @@ fn expect_large(rt: &impl Abort, alloc: Global, rows: &[(usize, &str)]) -> Resul
     let setup = setup_with(alloc, &[])?;
     for (bytes, line) in rows {
         let frame = "0c".repeat(alloc, *bytes)?;
-        let script = joined(alloc, &["load 0 acme tok-alice ", frame.as_str(), "\n"])?;
+        let script = ["load 0 acme tok-alice ", frame.as_str(), "\n"].concat(alloc)?;
         expect_written(rt, alloc, setup.as_str(), script.as_str(), line)?;
     }
     Ok(())

@@ -4,12 +4,11 @@
 
 ghost use Rattle.std.specs.Prelude.{◌≤◌};
 
-use crate::texts::put;
 use replay_text::{ReplayFault, replay};
 use std::alloc::Global;
 use std::process::Abort;
 use std::test::Fail;
-use test_texts::{Line, filled, setup_with};
+use test_texts::{Line, filled, put, setup_with};
 
 /// What a replay of the script writes, for the setup and one worker.
 pub fn written(alloc: Global, setup: &str, script: &str) -> Result<Vec<u8>, ReplayFault> {

@@ -1,6 +1,5 @@
 //! What is wrong with a script, in words for people: a row for each cause.
 
-use crate::texts::joined;
 use common_types::Name;
 use replay_text::explain_script;
 use std::alloc::Global;
@@ -153,7 +152,7 @@ fn what_is_wrong_with_scripts_is_said(rt: HostRuntime) -> Result<(), Fail> {
 fn long_words_are_counted(rt: HostRuntime) -> Result<(), Fail> {
     let alloc = rt.alloc();
     let digits = "0".repeat(alloc, 101)?;
-    let script = joined(alloc, &["load 0 acme tok ", digits.as_str()])?;
+    let script = ["load 0 acme tok ", digits.as_str()].concat(alloc)?;
     let wanted = "script: line 1: HEX has 101 bytes: an even count of digits";
     expect(&rt, alloc, script.as_str(), wanted)?;
     let line = "#".repeat(alloc, 70_001)?;

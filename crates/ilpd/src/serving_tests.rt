@@ -23,7 +23,7 @@ use std::thread::{Threads, join};
 use std::time::{Clock, Duration};
 use std::{io, thread};
 use wire::{
-    BEGINNING, FULFILL, FixedClock, Terms, bytes, good, is_reply, is_text, joined, posted, request,
+    BEGINNING, FULFILL, FixedClock, Terms, bytes, good, is_reply, is_text, posted, request,
     tenant_text,
 };
 
@@ -57,7 +57,7 @@ fn setup_holding(alloc: Global, port: u16, hold: u32) -> Result<String, Fail> {
             hold,
         },
     )?;
-    joined(alloc, &[BEGINNING, tenant.as_str()])
+    Ok([BEGINNING, tenant.as_str()].concat(alloc)?)
 }
 
 // The same, for 400 milliseconds.
@@ -484,14 +484,12 @@ static REFUSALS: [(&str, &str); 3] = [
 
 // A request of acme's operator that is refused for its head, and whose body is a request that would be obeyed.
 fn refused_request(alloc: Global, stated: &str) -> Result<Vec<u8>, Fail> {
-    let head = joined(
-        alloc,
-        &[
-            "POST /admin/acme HTTP/1.1\r\nAuthorization: Bearer root\r\n",
-            stated,
-            "\r\n\r\n",
-        ],
-    )?;
+    let head = [
+        "POST /admin/acme HTTP/1.1\r\nAuthorization: Bearer root\r\n",
+        stated,
+        "\r\n\r\n",
+    ]
+    .concat(alloc)?;
     let mut whole = Vec::new(alloc);
     whole.extend_from_slice(head.as_bytes())?;
     let body = request(alloc, "/admin/acme", "root", b"peer remove alice")?;

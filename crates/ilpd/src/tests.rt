@@ -5,7 +5,6 @@ use crate::clock::SystemClock;
 use crate::command_line::{CommandLine, Task, arguments};
 use crate::ending::exit_status;
 use crate::replay;
-use crate::serving_tests::wire::{digits, joined};
 use std::alloc::{AllocError, Global};
 use std::process::Abort;
 use std::test::Fail;
@@ -74,8 +73,8 @@ fn line_of(alloc: Global, words: &str) -> Result<Vec<String>, AllocError> {
 
 fn rounds_told(alloc: Global, rounds: Option<u32>) -> Result<String, Fail> {
     match rounds {
-        Some(rounds) => digits(alloc, rounds as usize),
-        None => joined(alloc, &["-"]),
+        Some(rounds) => Ok(rounds.to_string(alloc)?),
+        None => Ok(String::from_str(alloc, "-")?),
     }
 }
 
@@ -85,39 +84,34 @@ fn word_where(is_said: bool, word: &'static str) -> &'static str {
 
 fn task_told(alloc: Global, task: Task) -> Result<String, Fail> {
     match task {
-        Task::Replay => joined(alloc, &["replay"]),
-        Task::Check => joined(alloc, &["check"]),
+        Task::Replay => Ok(String::from_str(alloc, "replay")?),
+        Task::Check => Ok(String::from_str(alloc, "check")?),
         Task::Serve {
             connections,
             rounds,
             report,
         } => {
-            let connections = digits(alloc, connections)?;
+            let connections = connections.to_string(alloc)?;
             let rounds = rounds_told(alloc, rounds)?;
             let balances = word_where(report.balances, " balances");
             let audit = word_where(report.audit, " audit");
-            joined(
-                alloc,
-                &[
-                    "serve ",
-                    connections.as_str(),
-                    " ",
-                    rounds.as_str(),
-                    balances,
-                    audit,
-                ],
-            )
+            Ok([
+                "serve ",
+                connections.as_str(),
+                " ",
+                rounds.as_str(),
+                balances,
+                audit,
+            ]
+            .concat(alloc)?)
         }
     }
 }
 
 fn told(alloc: Global, line: &CommandLine<'_>) -> Result<String, Fail> {
-    let workers = digits(alloc, line.workers)?;
+    let workers = line.workers.to_string(alloc)?;
     let task = task_told(alloc, line.task)?;
-    joined(
-        alloc,
-        &[line.setup, " ", workers.as_str(), " ", task.as_str()],
-    )
+    Ok([line.setup, " ", workers.as_str(), " ", task.as_str()].concat(alloc)?)
 }
 
 fn is_read_as(alloc: Global, words: &[String], wanted: &str) -> Result<bool, Fail> {
@@ -223,7 +217,7 @@ static CHECKS: [Checked; 6] = [
 
 fn expect_said(rt: &impl Abort, alloc: Global, row: &Checked) -> Result<(), Fail> {
     let (lines, script, said, status) = row;
-    let setup = joined(alloc, &[SETUP, *lines])?;
+    let setup = [SETUP, *lines].concat(alloc)?;
     let script = match script {
         Some(text) => Some(Script {
             text: text.as_bytes(),

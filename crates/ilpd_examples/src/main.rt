@@ -7,17 +7,8 @@ use std::process::ExitCode;
 use std::rt::{Env, Files};
 use std::{env, fs, io};
 
-// These texts, one behind the other.
-fn joined(alloc: Global, parts: &[&str]) -> Result<String, AllocError> {
-    let mut text = String::new(alloc);
-    for part in parts {
-        text.push_str(part)?;
-    }
-    Ok(text)
-}
-
 fn read(rt: &(impl Files + AllocGlobal), name: &str, ending: &str) -> io::Result<Vec<u8>> {
-    let file = joined(rt.alloc(), &[name, ending])?;
+    let file = [name, ending].concat(rt.alloc())?;
     fs::read(rt, file.as_str())
 }
 
@@ -38,7 +29,7 @@ fn is_as_told(rt: &(impl Files + AllocGlobal), setup: &str, name: &str) -> io::R
 }
 
 fn say(rt: &(impl Print + AllocGlobal), name: &str, verb: &str) -> io::Result<()> {
-    let line = joined(rt.alloc(), &[name, ".script ", verb, " ", name, ".lines"])?;
+    let line = [name, ".script ", verb, " ", name, ".lines"].concat(rt.alloc())?;
     rt.println(line.as_str())
 }
 

@@ -119,3 +119,9 @@ pub fn filled(alloc: Global, text: &str) -> Result<String, Fail> {
     let once = with_values(alloc, NAMES, text)?;
     with_values(alloc, NAMES, once.as_str())
 }
+
+/// The bytes that hexadecimal digits and names in braces stand for.
+pub fn frame(alloc: Global, text: &str) -> Result<Vec<u8>, Fail> {
+    let digits = filled(alloc, text)?;
+    Ok(hex::decode(alloc, digits.as_str())?)
+}

@@ -5,7 +5,9 @@
 mod draws;
 mod frames;
 mod setups;
+mod texts;
 
 pub use draws::Draws;
-pub use frames::filled;
+pub use frames::{filled, frame};
 pub use setups::{ABSENT, Line, PEER, RATE, ROUTE, TENANT, setup_with};
+pub use texts::put;

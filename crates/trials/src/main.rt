@@ -12,7 +12,6 @@ mod packets;
 mod scripts;
 mod seen;
 mod steps;
-mod texts;
 
 use fault::Fault;
 use receipts::AuditFault;
@@ -20,7 +19,6 @@ use seen::{are_all_seen, complain};
 use std::process::ExitCode;
 use std::rt::{Env, Files};
 use std::{env, fs, str};
-use texts::{digits, joined};
 
 // Runs a script's steps, and says on standard error where memory was refused among them.
 fn run_steps(
@@ -56,18 +54,16 @@ fn run_crowd(
         complain(rt, &played.seen);
         return Err(Fault::Unseen);
     }
-    let own = digits(rt.alloc(), played.own_steps as u64)?;
-    let line = joined(
-        rt.alloc(),
-        &[
-            rounds,
-            " rounds of ",
-            steps,
-            " steps of ten tenants: the calm one's ",
-            own.as_str(),
-            " steps printed what they print alone",
-        ],
-    )?;
+    let own = played.own_steps.to_string(rt.alloc())?;
+    let line = [
+        rounds,
+        " rounds of ",
+        steps,
+        " steps of ten tenants: the calm one's ",
+        own.as_str(),
+        " steps printed what they print alone",
+    ]
+    .concat(rt.alloc())?;
     Ok(rt.println(line.as_str())?)
 }
 

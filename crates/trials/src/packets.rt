@@ -1,6 +1,5 @@
 //! Packets of a crowd, and what comes back for them, in hexadecimal digits. (RFC 0027)
 
-use crate::texts::{digits, joined};
 use std::alloc::{AllocError, Global};
 use test_texts::Draws;
 
@@ -32,7 +31,7 @@ fn put_padded(
     number: u64,
     count: usize,
 ) -> Result<(), AllocError> {
-    let digits = digits(alloc, number)?;
+    let digits = number.to_string(alloc)?;
     for _ in digits.len()..count {
         text.push_str("0")?;
     }
@@ -87,8 +86,8 @@ pub fn hostile_frame(
     name: &str,
     millis: u64,
 ) -> Result<String, AllocError> {
-    let usual = joined(alloc, &["g.", name, ".bob.x"])?;
-    let neighbour = joined(alloc, &["peer.", name])?;
+    let usual = ["g.", name, ".bob.x"].concat(alloc)?;
+    let neighbour = ["peer.", name].concat(alloc)?;
     let mut prepare = Prepare {
         amount: draws.below(1_200),
         expiry: millis.saturating_add(draws.below(40_000)),
@@ -132,9 +131,9 @@ fn change(alloc: Global, draws: &mut Draws, frame: &mut Vec<u8>) -> Result<(), A
 pub fn answer(alloc: Global, draws: &mut Draws) -> Result<String, AllocError> {
     match draws.below(10) {
         0 => String::from_str(alloc, "fault"),
-        1 => joined(alloc, &["0d21", ZEROS, "0100"]),
+        1 => ["0d21", ZEROS, "0100"].concat(alloc),
         2 => String::from_str(alloc, "0e0746303001410000"),
         3 => String::from_str(alloc, draws.one_of(&["-", "0d21", "0e80", "0c00"])),
-        _ => joined(alloc, &["0d21", ZEROS, "0000"]),
+        _ => ["0d21", ZEROS, "0000"].concat(alloc),
     }
 }

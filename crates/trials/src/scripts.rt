@@ -2,9 +2,8 @@
 
 use crate::orders::hostile_command;
 use crate::packets::{HOUR, Prepare, answer, frame_of, hostile_frame};
-use crate::texts::{digits, joined, put};
 use std::alloc::{AllocError, Global};
-use test_texts::Draws;
+use test_texts::{Draws, put};
 
 // 2030-01-01T00:00:00Z, when all books begin, and the greatest moment.
 const START: u64 = 1_893_456_000_000;
@@ -48,7 +47,7 @@ fn put_tenant(
     name: &str,
     journal: u64,
 ) -> Result<(), AllocError> {
-    let journal = digits(alloc, journal)?;
+    let journal = journal.to_string(alloc)?;
     put(
         setup,
         &[
@@ -136,10 +135,7 @@ fn load_of(
     token: &str,
     frame: &str,
 ) -> Result<String, AllocError> {
-    joined(
-        alloc,
-        &["load ", worker, " ", name, " ", token, " ", frame, "\n"],
-    )
+    ["load ", worker, " ", name, " ", token, " ", frame, "\n"].concat(alloc)
 }
 
 // A packet comes for a hostile tenant.
@@ -154,7 +150,7 @@ fn hostile_load(alloc: Global, course: &mut Course, name: &str) -> Result<String
         "tok-none",
     ]);
     let frame = hostile_frame(alloc, &mut course.draws, name, course.millis)?;
-    let worker = digits(alloc, course.worker())?;
+    let worker = course.worker().to_string(alloc)?;
     load_of(alloc, worker.as_str(), name, token, frame.as_str())
 }
 
@@ -169,43 +165,38 @@ fn calm_load(alloc: Global, course: &mut Course) -> Result<String, AllocError> {
         payload: usize::try_from(course.draws.below(100)).unwrap_or(0),
     };
     let frame = hex::encode(alloc, frame_of(alloc, &prepare)?.as_slice())?;
-    let worker = digits(alloc, course.worker())?;
+    let worker = course.worker().to_string(alloc)?;
     load_of(alloc, worker.as_str(), CALM, "tok-alice", frame.as_str())
 }
 
 // What no tenant is named in: whoever's packet the worker has.
 fn workers_step(alloc: Global, course: &mut Course) -> Result<String, AllocError> {
-    let now = digits(alloc, course.moment())?;
-    let worker = digits(alloc, course.worker())?;
+    let now = course.moment().to_string(alloc)?;
+    let worker = course.worker().to_string(alloc)?;
     if course.draws.is_one_in(2) {
-        return joined(
-            alloc,
-            &["decide ", worker.as_str(), " ", now.as_str(), "\n"],
-        );
+        return ["decide ", worker.as_str(), " ", now.as_str(), "\n"].concat(alloc);
     }
     let answer = answer(alloc, &mut course.draws)?;
-    joined(
-        alloc,
-        &[
-            "answer ",
-            worker.as_str(),
-            " ",
-            now.as_str(),
-            " ",
-            answer.as_str(),
-            "\n",
-        ],
-    )
+    [
+        "answer ",
+        worker.as_str(),
+        " ",
+        now.as_str(),
+        " ",
+        answer.as_str(),
+        "\n",
+    ]
+    .concat(alloc)
 }
 
 fn tick_of(alloc: Global, name: &str, now: u64) -> Result<String, AllocError> {
-    let now = digits(alloc, now)?;
-    joined(alloc, &["tick ", name, " ", now.as_str(), "\n"])
+    let now = now.to_string(alloc)?;
+    ["tick ", name, " ", now.as_str(), "\n"].concat(alloc)
 }
 
 fn order_of(alloc: Global, name: &str, now: u64, command: &str) -> Result<String, AllocError> {
-    let now = digits(alloc, now)?;
-    joined(alloc, &["do ", name, " ", now.as_str(), " ", command, "\n"])
+    let now = now.to_string(alloc)?;
+    ["do ", name, " ", now.as_str(), " ", command, "\n"].concat(alloc)
 }
 
 fn hostile_order(alloc: Global, course: &mut Course, name: &str) -> Result<String, AllocError> {

@@ -1,8 +1,6 @@
 //! Eight clients at once, in ten waves, each followed by a roll of both tenants.
 
-use super::wire::{
-    BEGINNING, FULFILL, Terms, bytes, digits, good, joined, posted, request, tenant_text,
-};
+use super::wire::{BEGINNING, FULFILL, Terms, bytes, good, posted, request, tenant_text};
 use super::{ALL, serve_as};
 use crate::serving::{Extent, ServeFault};
 use std::alloc::Global;
@@ -53,12 +51,12 @@ pub struct Exchange {
 
 pub fn exchange_of(alloc: Global, name: &str) -> Result<Exchange, Fail> {
     let middle = hex::encode(alloc, name.as_bytes())?;
-    let frame = joined(alloc, &[FRONT, middle.as_str(), BACK])?;
+    let frame = [FRONT, middle.as_str(), BACK].concat(alloc)?;
     let frame = bytes(alloc, frame.as_str())?;
-    let ilp = joined(alloc, &["/ilp/", name])?;
-    let admin = joined(alloc, &["/admin/", name])?;
+    let ilp = ["/ilp/", name].concat(alloc)?;
+    let admin = ["/admin/", name].concat(alloc)?;
     let command = b"peer limits bob 1000000 1000000000 1000000000";
-    let done = joined(alloc, &[name, " ok\n"])?;
+    let done = [name, " ok\n"].concat(alloc)?;
     Ok(Exchange {
         packet: request(alloc, ilp.as_str(), "tok-alice", frame.as_slice())?,
         fulfilled: good(
@@ -76,26 +74,24 @@ pub fn exchange_of(alloc: Global, name: &str) -> Result<Exchange, Fail> {
 // What a roll after so many waves, counted from 0, tells: four clients have sent 500 packets and 20 commands in each.
 fn rolled(alloc: Global, name: &str, wave: u32) -> Result<Vec<u8>, Fail> {
     let waves = (wave as usize).saturating_add(1);
-    let alice = digits(alloc, waves.saturating_mul(500_000))?;
-    let bob = digits(alloc, waves.saturating_mul(750_000))?;
-    let period = digits(alloc, wave as usize)?;
-    let text = joined(
-        alloc,
-        &[
-            name,
-            " balance alice ",
-            alice.as_str(),
-            " 0 0\n",
-            name,
-            " balance bob -",
-            bob.as_str(),
-            " 0 0\n",
-            name,
-            " rolled ",
-            period.as_str(),
-            " 1021\n",
-        ],
-    )?;
+    let alice = waves.saturating_mul(500_000).to_string(alloc)?;
+    let bob = waves.saturating_mul(750_000).to_string(alloc)?;
+    let period = wave.to_string(alloc)?;
+    let text = [
+        name,
+        " balance alice ",
+        alice.as_str(),
+        " 0 0\n",
+        name,
+        " balance bob -",
+        bob.as_str(),
+        " 0 0\n",
+        name,
+        " rolled ",
+        period.as_str(),
+        " 1021\n",
+    ]
+    .concat(alloc)?;
     good(alloc, "text/plain", text.as_bytes())
 }
 
@@ -269,7 +265,7 @@ fn tenant_at(alloc: Global, name: &str, port: u16) -> Result<String, Fail> {
 pub fn setup_text(alloc: Global, port: u16) -> Result<String, Fail> {
     let acme = tenant_at(alloc, "acme", port)?;
     let beta = tenant_at(alloc, "beta", port)?;
-    joined(alloc, &[BEGINNING, acme.as_str(), beta.as_str()])
+    Ok([BEGINNING, acme.as_str(), beta.as_str()].concat(alloc)?)
 }
 
 pub fn peer_answer(alloc: Global) -> Result<Vec<u8>, Fail> {

@@ -3,7 +3,7 @@
 use super::crowd::{
     Exchange, FRAME, connected, exchange_of, fulfils_all, is_told, peer_answer, setup_text,
 };
-use super::wire::{FixedClock, bytes, digits, is_reply, joined, posted, request};
+use super::wire::{FixedClock, bytes, is_reply, posted, request};
 use super::{CHILD, CONFIG, NOTHING_MORE, asked};
 use crate::hosting::HostDoor;
 use crate::serving::{Doors, Extent, ServeFault, serve};
@@ -86,14 +86,12 @@ fn serve_with_host<
 fn standing_text(alloc: Global, port: u16, acme: u64, beta: u64) -> Result<String, Fail> {
     let acme = tenant_standing(alloc, "acme", port, acme)?;
     let beta = tenant_standing(alloc, "beta", port, beta)?;
-    joined(
-        alloc,
-        &[
-            "start = 1893456000000\nversion = 2\n",
-            acme.as_str(),
-            beta.as_str(),
-        ],
-    )
+    Ok([
+        "start = 1893456000000\nversion = 2\n",
+        acme.as_str(),
+        beta.as_str(),
+    ]
+    .concat(alloc)?)
 }
 
 // A tenant of which so many packets of 1,000 units were fulfilled, for 1,500 each.
@@ -102,25 +100,23 @@ fn tenant_standing(alloc: Global, name: &str, port: u16, packets: u64) -> Result
     let bob = number(alloc, packets.saturating_mul(1_500))?;
     let sign = if packets == 0 { "" } else { "-" };
     let port = number(alloc, u64::from(port))?;
-    joined(
-        alloc,
-        &[
-            "\n[[tenant]]\naddress = \"g.",
-            name,
-            TERMS,
-            name,
-            ALICE,
-            alice.as_str(),
-            ALICES,
-            sign,
-            bob.as_str(),
-            BOBS,
-            port.as_str(),
-            RATE,
-            name,
-            ".bob\"\n",
-        ],
-    )
+    Ok([
+        "\n[[tenant]]\naddress = \"g.",
+        name,
+        TERMS,
+        name,
+        ALICE,
+        alice.as_str(),
+        ALICES,
+        sign,
+        bob.as_str(),
+        BOBS,
+        port.as_str(),
+        RATE,
+        name,
+        ".bob\"\n",
+    ]
+    .concat(alloc)?)
 }
 
 const TERMS: &str = "\"
@@ -186,16 +182,14 @@ fn number(alloc: Global, number: u64) -> Result<String, Fail> {
 
 // An answer of status 200 at the host's door with that setup.
 fn told_setup(alloc: Global, text: &str) -> Result<Vec<u8>, Fail> {
-    let size = digits(alloc, text.len())?;
-    let whole = joined(
-        alloc,
-        &[
-            "HTTP/1.1 200 OK\r\nContent-Type: application/toml\r\nContent-Length: ",
-            size.as_str(),
-            "\r\nConnection: close\r\n\r\n",
-            text,
-        ],
-    )?;
+    let size = text.len().to_string(alloc)?;
+    let whole = [
+        "HTTP/1.1 200 OK\r\nContent-Type: application/toml\r\nContent-Length: ",
+        size.as_str(),
+        "\r\nConnection: close\r\n\r\n",
+        text,
+    ]
+    .concat(alloc)?;
     Ok(whole.into_bytes())
 }
 
@@ -482,16 +476,14 @@ fn fulfilled_of(clients: &[Client], beta: bool) -> u64 {
 fn lines_after(alloc: Global, acme: u64, beta: u64) -> Result<String, Fail> {
     let acme = number(alloc, acme)?;
     let beta = number(alloc, beta)?;
-    joined(
-        alloc,
-        &[
-            "acme 200 ",
-            acme.as_str(),
-            " 4xx 0 503 0 link 0\nbeta 200 ",
-            beta.as_str(),
-            " 4xx 0 503 0 link 0\n",
-        ],
-    )
+    Ok([
+        "acme 200 ",
+        acme.as_str(),
+        " 4xx 0 503 0 link 0\nbeta 200 ",
+        beta.as_str(),
+        " 4xx 0 503 0 link 0\n",
+    ]
+    .concat(alloc)?)
 }
 
 // What a stop leaves is what clients and peers were told: each packet that the peer fulfilled was told so, and stands in the

@@ -1,6 +1,6 @@
 //! Neighbours that bring nothing, and a tenant whose peer says nothing.
 
-use super::wire::{BEGINNING, Terms, bytes, is_reply, is_text, joined, request, tenant_text};
+use super::wire::{BEGINNING, Terms, bytes, is_reply, is_text, request, tenant_text};
 use super::{
     ALL, BASE, NOTHING, NOTHING_MORE, UNREACHABLE, answer_of, asked, lonely_port, sent, serve_as,
     setup_with,
@@ -134,7 +134,7 @@ fn tenant_at(alloc: Global, name: &str, port: u16) -> Result<String, Fail> {
 fn two_tenants(alloc: Global, acme: u16, beta: u16) -> Result<String, Fail> {
     let acme = tenant_at(alloc, "acme", acme)?;
     let beta = tenant_at(alloc, "beta", beta)?;
-    joined(alloc, &[BEGINNING, acme.as_str(), beta.as_str()])
+    Ok([BEGINNING, acme.as_str(), beta.as_str()].concat(alloc)?)
 }
 
 // What the service prints in the end. Of each of the five packets there are two receipts, and one of each tenant's roll.

@@ -33,50 +33,34 @@ pub struct Terms<'a> {
     pub hold: u32,
 }
 
-/// These texts, one behind the other.
-pub fn joined(alloc: Global, parts: &[&str]) -> Result<String, Fail> {
-    let mut text = String::new(alloc);
-    for part in parts {
-        text.push_str(part)?;
-    }
-    Ok(text)
-}
-
-/// A number in decimal digits.
-pub fn digits(alloc: Global, number: usize) -> Result<String, Fail> {
-    Ok(number.to_string(alloc)?)
-}
-
 /// How a setup begins.
 pub const BEGINNING: &str = "version = 1\nstart = 1893456000000\n";
 
 /// A tenant with two peers, and a rate from the first to the second one.
 pub fn tenant_text(alloc: Global, terms: Terms<'_>) -> Result<String, Fail> {
     let name = terms.name;
-    let port = digits(alloc, terms.port as usize)?;
-    let journal = digits(alloc, terms.journal as usize)?;
-    let hold = digits(alloc, terms.hold as usize)?;
-    joined(
-        alloc,
-        &[
-            "[[tenant]]\nname = \"",
-            name,
-            "\"\naddress = \"g.",
-            name,
-            "\"\nadmin = \"root\"\njournal = ",
-            journal.as_str(),
-            "\nhold = ",
-            hold.as_str(),
-            ALICE,
-            "http://127.0.0.1:",
-            port.as_str(),
-            BOB,
-            "[[tenant.route]]\nprefix = \"g.",
-            name,
-            ".bob\"\npeer = \"bob\"\n",
-            RATE,
-        ],
-    )
+    let port = terms.port.to_string(alloc)?;
+    let journal = terms.journal.to_string(alloc)?;
+    let hold = terms.hold.to_string(alloc)?;
+    Ok([
+        "[[tenant]]\nname = \"",
+        name,
+        "\"\naddress = \"g.",
+        name,
+        "\"\nadmin = \"root\"\njournal = ",
+        journal.as_str(),
+        "\nhold = ",
+        hold.as_str(),
+        ALICE,
+        "http://127.0.0.1:",
+        port.as_str(),
+        BOB,
+        "[[tenant.route]]\nprefix = \"g.",
+        name,
+        ".bob\"\npeer = \"bob\"\n",
+        RATE,
+    ]
+    .concat(alloc)?)
 }
 
 const ALICE: &str = "
@@ -119,35 +103,31 @@ den = 2
 
 /// A request with that token and that body.
 pub fn request(alloc: Global, path: &str, token: &str, body: &[u8]) -> Result<Vec<u8>, Fail> {
-    let size = digits(alloc, body.len())?;
-    let head = joined(
-        alloc,
-        &[
-            "POST ",
-            path,
-            " HTTP/1.1\r\nAuthorization: Bearer ",
-            token,
-            "\r\nContent-Length: ",
-            size.as_str(),
-            "\r\n\r\n",
-        ],
-    )?;
+    let size = body.len().to_string(alloc)?;
+    let head = [
+        "POST ",
+        path,
+        " HTTP/1.1\r\nAuthorization: Bearer ",
+        token,
+        "\r\nContent-Length: ",
+        size.as_str(),
+        "\r\n\r\n",
+    ]
+    .concat(alloc)?;
     with_body(alloc, head.as_str(), body)
 }
 
 /// An answer of status 200 with that body.
 pub fn good(alloc: Global, kind: &str, body: &[u8]) -> Result<Vec<u8>, Fail> {
-    let size = digits(alloc, body.len())?;
-    let head = joined(
-        alloc,
-        &[
-            "HTTP/1.1 200 OK\r\nContent-Type: ",
-            kind,
-            "\r\nContent-Length: ",
-            size.as_str(),
-            "\r\n\r\n",
-        ],
-    )?;
+    let size = body.len().to_string(alloc)?;
+    let head = [
+        "HTTP/1.1 200 OK\r\nContent-Type: ",
+        kind,
+        "\r\nContent-Length: ",
+        size.as_str(),
+        "\r\n\r\n",
+    ]
+    .concat(alloc)?;
     with_body(alloc, head.as_str(), body)
 }
 
@@ -166,18 +146,16 @@ pub fn is_text(alloc: Global, answer: &[u8], text: &str) -> Result<bool, Fail> {
 
 /// What the peer that listens at the port is sent for that packet.
 pub fn posted(alloc: Global, port: u16, frame: &[u8]) -> Result<Vec<u8>, Fail> {
-    let port = digits(alloc, port as usize)?;
-    let size = digits(alloc, frame.len())?;
-    let head = joined(
-        alloc,
-        &[
-            "POST /ilp HTTP/1.1\r\nHost: 127.0.0.1:",
-            port.as_str(),
-            "\r\nAuthorization: Bearer out-bob\r\nAccept: application/octet-stream\r\nContent-Type: application/octet-stream\r\nContent-Length: ",
-            size.as_str(),
-            "\r\nConnection: close\r\n\r\n",
-        ],
-    )?;
+    let port = port.to_string(alloc)?;
+    let size = frame.len().to_string(alloc)?;
+    let head = [
+        "POST /ilp HTTP/1.1\r\nHost: 127.0.0.1:",
+        port.as_str(),
+        "\r\nAuthorization: Bearer out-bob\r\nAccept: application/octet-stream\r\nContent-Type: application/octet-stream\r\nContent-Length: ",
+        size.as_str(),
+        "\r\nConnection: close\r\n\r\n",
+    ]
+    .concat(alloc)?;
     with_body(alloc, head.as_str(), frame)
 }
 

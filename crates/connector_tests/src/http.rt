@@ -1,0 +1,11 @@
+//! Requests that are served and packets that are posted over HTTP, by devices over memory.
+
+mod books;
+mod chunked;
+mod connections;
+mod devices;
+mod host;
+mod outcomes;
+mod posted;
+mod served;
+mod texts;
