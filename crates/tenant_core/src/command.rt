@@ -3,6 +3,7 @@
 ghost use Rattle.std.specs.Prelude.{◌≡◌, not, Some, None, if◌then◌else◌};
 ghost use Rattle.std.specs.Str.{bytes_eq};
 
+use crate::limits::MAX_MONEY;
 use crate::period::Period;
 use crate::row::Row;
 use crate::terms::{BucketTerms, PeerLimits, PeerTerms};
@@ -13,7 +14,7 @@ use route_table::Fee;
 use std::marker::Model;
 
 /// An amount that is settled, in a peer's units: from 1 to 2^62.
-pub type Amount = Between<1, 4_611_686_018_427_387_904>;
+pub type Amount = Between<1, { MAX_MONEY }>;
 
 /// Which way money went that was settled outside.
 #[derive(Clone, Copy, Debug, PartialEq, Eq)]

@@ -2,7 +2,7 @@
 
 ghost use Rattle.std.specs.Prelude.{◌≡◌, true};
 
-use crate::limits::MAX_MONEY;
+use crate::limits::{MAX_BURST, MAX_MONEY, MAX_PER_SECOND};
 use crate::network::Network;
 use common_types::{AssetCode, Between, Name, Token};
 use ildcp_core::Role;
@@ -12,7 +12,7 @@ use route_table::PeerNo;
 use std::marker::Model;
 
 /// An amount of money in a peer's units, at most 2^62.
-pub type Money = Between<0, 4_611_686_018_427_387_904>;
+pub type Money = Between<0, { MAX_MONEY }>;
 
 /// How far a peer is trusted, in its units.
 #[derive(Clone, Copy)]
@@ -28,8 +28,8 @@ pub struct PeerLimits {
 /// How many packets of a peer pass: so many at once, and so many a second after that.
 #[derive(Clone, Copy)]
 pub struct BucketTerms {
-    pub burst: Between<1, 1_000_000>,
-    pub per_second: Between<0, 1_000_000>,
+    pub burst: Between<1, { MAX_BURST }>,
+    pub per_second: Between<0, { MAX_PER_SECOND }>,
 }
 
 impl PeerLimits {
