@@ -9,7 +9,6 @@ ghost use Rattle.admin_text.specs.Commands.{NAME, TOKEN, ASSET, two_word_verbs, 
 ghost use Rattle.admin_text.specs.Commands.{command_in, IsCommandText};
 ghost use Rattle.admin_text.specs.declared.commands.Verb.TheVariants as verb;
 
-use crate::laws::commands;
 use crate::prefixes::written_prefix;
 use common_types::{AssetCode, Between, Name, NumberFault, ReadError, Token, Words, number_in};
 use ilp_addr::{Prefix, Target};
@@ -422,6 +421,6 @@ pub fn parse_command(alloc: Global, text: &[u8]) -> Result<Command, ReadError<Te
     // Which fault comes: that of the first word that fails.
     ensures exact { GivesUnlessMemory (λ c. c) result (command_in text.now) }
 {
-    commands();
+    crate::laws::commands();
     command_among(alloc, Words::of(text))
 }

@@ -12,7 +12,6 @@ ghost use Rattle.admin_text.specs.Told.{AllTold, IsKnown, TellsPeer, TellsRoute,
 
 use crate::tables::{no_keys, put_integer, put_number, put_tables, put_text};
 use common_types::Name;
-use ilp_addr::laws::{prefix_words, targets};
 use ilp_addr::{Moment, Prefix};
 use money_core::Rate;
 use route_table::Route;
@@ -261,8 +260,8 @@ pub fn write_setup(
     ensures read_back { IfOk result (λ text. AreTenants tenants.now
         → setup_of (string_bytes text) ≡ Ok (record { start = start; tenants = map anew tenants.now })) }
 {
-    prefix_words();
-    targets();
+    ilp_addr::laws::prefix_words();
+    ilp_addr::laws::targets();
     let _ = start.millis();
     let tenants = tenant_values(alloc, tenants)?;
     let table = setup_members(alloc, start, tenants)?;

@@ -11,9 +11,7 @@ ghost use Rattle.tenant_core.specs.declared.command.Command.TheVariants as spec;
 ghost use Rattle.tenant_core.specs.declared.command.Order.TheVariants as order;
 ghost use Rattle.tenant_core.specs.declared.command.Side.TheVariants.{In, Out};
 
-use common_types::laws::numerals;
 use common_types::{AssetCode, Between, Name, Token};
-use ilp_addr::laws::prefix_words;
 use ilp_addr::{Prefix, Target};
 use money_core::Rate;
 use std::alloc::{AllocError, Global};
@@ -60,7 +58,7 @@ fn put_target(out: &mut Vec<u8>, target: &Target) -> Result<(), AllocError>
 fn put_prefix(out: &mut Vec<u8>, prefix: &Prefix) -> Result<(), AllocError>
     ensures { OnOk result (IsPut PREFIX prefix.now out.old.items out.new.items) }
 {
-    prefix_words();
+    ilp_addr::laws::prefix_words();
     match prefix.bytes() {
         [] => put_word(out, b"*"),
         bytes => put_word(out, bytes),
@@ -86,7 +84,7 @@ fn put_role(out: &mut Vec<u8>, role: Role) -> Result<(), AllocError>
 fn put_number(alloc: Global, out: &mut Vec<u8>, number: u64) -> Result<(), AllocError>
     ensures { OnOk result (words_of out.new.items ≡ words_of out.old.items ++ decimal number ∷ []) }
 {
-    numerals();
+    common_types::laws::numerals();
     let text = number.to_string(alloc)?;
     put_word(out, text.as_bytes())
 }
@@ -265,7 +263,7 @@ pub fn write_command(alloc: Global, command: &Command) -> Result<Vec<u8>, AllocE
     // They spell it.
     ensures spelled { IfOk result (λ text. IsCommandText text.items command.now) }
 {
-    prefix_words();
+    ilp_addr::laws::prefix_words();
     let text = command_text(alloc, command)?;
     Ok(text)
 }

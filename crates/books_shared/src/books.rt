@@ -9,7 +9,6 @@ use crate::guard::Guard;
 use crate::kept::Kept;
 use crate::share::Share;
 use ilp_addr::Moment;
-use one_list::laws::histories;
 use one_list::{Chronicle, Opened, Run, Unclaimed};
 use std::alloc::{AllocError, Global};
 use std::marker::Model;
@@ -152,7 +151,7 @@ fn locks_of<J: Run>(
     ensures locks { IfOk result (λ locks. vec_len locks ≡ length setups.now) }
     ensures workers { unclaimed.new.workers ≡ unclaimed.old.workers }
 {
-    histories();
+    one_list::laws::histories();
     let mut locks: Vec<Mutex<Kept<J>>> = Vec::with_capacity(alloc, setups.len())?;
     for (tenant, setup) in setups.iter().enumerate() {
         let book = Book::new(alloc, tenant, setup, start)?;

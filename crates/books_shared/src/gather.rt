@@ -9,12 +9,10 @@ ghost use Rattle.books_shared.specs.Traced.{AreTraced, part_of};
 use crate::books::Books;
 use crate::kept::Kept;
 use crate::share::Share;
-use floor_core::laws::records_are_a_run;
 use one_list::{Chronicle, Gathering, Run};
 use std::alloc::Global;
 use std::sync::Mutex;
 use tenant_core::Book;
-use tenant_core::laws::book_is_sound;
 
 /// Why books were not gathered, in the order in which it is looked for. All is handed back.
 #[derive(Drop)]
@@ -79,7 +77,7 @@ impl<J: Run> Books<J> {
         }
         add_all(&chronicle, &mut parts, shares);
         parts.close(&chronicle);
-        records_are_a_run();
+        floor_core::laws::records_are_a_run();
         Ok(gathered)
     }
 }
@@ -130,7 +128,7 @@ fn agree<J: Run>(books: &[(Book, u64)], shares: &[Share<J>]) -> bool
     ensures { result ≡ agree books.now shares.now }
 {
     for book in books {
-        book_is_sound(&book.0);
+        tenant_core::laws::book_is_sound(&book.0);
         if book.1 != total_at(book.0.tenant(), shares) {
             return false;
         }

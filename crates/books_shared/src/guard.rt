@@ -8,7 +8,6 @@ use one_list::{Chronicle, Run};
 use std::alloc::Global;
 use std::marker::Model;
 use std::sync::MutexGuard;
-use tenant_core::laws::book_is_sound;
 use tenant_core::{Answered, Book, BookFault, Command, CommandFault};
 
 /// A tenant's book whose lock is held, until the guard is dropped. Contracts see it as a `Kept`: the book's state, how many

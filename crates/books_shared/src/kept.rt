@@ -16,11 +16,9 @@ use crate::rise::{Rise, command_rise, entries_closed, rise_of_turn, tick_rise};
 use crate::share::Share;
 use floor_core::{Got, Slot, Turn};
 use ilp_addr::Moment;
-use one_list::laws::histories;
 use one_list::{Chronicle, Run, TenantPart};
 use std::alloc::Global;
 use std::marker::Model;
-use tenant_core::laws::{book_is_sound, calls, records_are_made};
 use tenant_core::{Answered, Book, BookFault, Command, CommandFault};
 
 /// A tenant's book, how many entries its closed periods had, and the tenant's part of the one list. Contracts see it as a
@@ -83,7 +81,7 @@ impl<J: Run> Kept<J> {
         ensures kept { IsKept self.now }
         ensures led { IsLedTo J.openings self.now.state self.now.steps }
     {
-        book_is_sound(&self.book);
+        tenant_core::laws::book_is_sound(&self.book);
         let _closed = self.closed;
     }
 
@@ -92,7 +90,7 @@ impl<J: Run> Kept<J> {
         ensures value { result ≡ number_of self.now }
         ensures within { result < 2 ^ 47 }
     {
-        book_is_sound(&self.book);
+        tenant_core::laws::book_is_sound(&self.book);
         self.closed + self.book.entries() as u64
     }
 
@@ -125,11 +123,11 @@ impl<J: Run> Kept<J> {
             (decide_call slot.old self.old.state now).made share.old }
         ensures number { number_of self.new ≡ number_of self.old + (rise_of (decide_call slot.old self.old.state now)).entries }
     {
-        records_are_made();
-        histories();
+        tenant_core::laws::records_are_made();
+        one_list::laws::histories();
         slot.is_work();
         let (turn, rise) = decide_in(&mut self.book, slot, now);
-        book_is_sound(&self.book);
+        tenant_core::laws::book_is_sound(&self.book);
         trace(chronicle, &mut self.part, share, &self.book, rise);
         turn
     }
@@ -154,10 +152,10 @@ impl<J: Run> Kept<J> {
             (answer_call slot.old self.old.state now got).made share.old }
         ensures number { number_of self.new ≡ number_of self.old + (rise_of (answer_call slot.old self.old.state now got)).entries }
     {
-        records_are_made();
-        histories();
+        tenant_core::laws::records_are_made();
+        one_list::laws::histories();
         let (turn, rise) = answer_in(&mut self.book, slot, now, got);
-        book_is_sound(&self.book);
+        tenant_core::laws::book_is_sound(&self.book);
         trace(chronicle, &mut self.part, share, &self.book, rise);
         turn
     }
@@ -179,10 +177,10 @@ impl<J: Run> Kept<J> {
             (tick_made self.old.state now) share.old }
         ensures number { number_of self.new ≡ number_of self.old + (tick_rise result).entries }
     {
-        records_are_made();
-        histories();
+        tenant_core::laws::records_are_made();
+        one_list::laws::histories();
         let (count, rise) = tick_in(&mut self.book, now);
-        book_is_sound(&self.book);
+        tenant_core::laws::book_is_sound(&self.book);
         trace(chronicle, &mut self.part, share, &self.book, rise);
         count
     }
@@ -206,11 +204,11 @@ impl<J: Run> Kept<J> {
             (made_by result self.old.state command.now now) share.old }
         ensures number { number_of self.new ≡ number_of self.old + (command_rise result).entries }
     {
-        calls();
-        records_are_made();
-        histories();
+        tenant_core::laws::calls();
+        tenant_core::laws::records_are_made();
+        one_list::laws::histories();
         let (answer, closed) = command_in(&mut self.book, alloc, command, now);
-        book_is_sound(&self.book);
+        tenant_core::laws::book_is_sound(&self.book);
         self.closed += closed;
         trace_command(chronicle, &mut self.part, share, &self.book, &answer);
         answer
@@ -322,7 +320,7 @@ fn command_in(
     ensures most { most_entries book.old.opening.period + result.1 ≤ most_entries book.new.opening.period }
     ensures appended { HasAppended result.0 book.new }
 {
-    book_is_sound(book);
+    tenant_core::laws::book_is_sound(book);
     let entries = book.entries() as u64;
     let answer = book.command(alloc, command, now);
     let closed = entries_closed(&answer, entries);

@@ -15,17 +15,14 @@ ghost use Rattle.floor_core.specs.Told.{shown};
 ghost use Rattle.floor_core.specs.World.{peer_name, malformed_by};
 ghost use Rattle.floor_core.specs.declared.step.Step.TheVariants.{Load, Decide, Answer, Tick, Govern};
 
-use crate::laws::frames_that_go_on;
 use crate::parts::{Got, LoadFault, Turn};
 use crate::slot::Slot;
 use crate::step::{Given, Malformed, Output, Step, Told};
 use common_types::{Bytes, Items, Text};
 use ilp_addr::Moment;
-use ilp_view::laws::what_is_read_is_a_prepare;
 use ilp_view::{MAX_FRAME, ViewFault};
 use std::alloc::{AllocError, Global};
 use std::marker::Model;
-use tenant_core::laws::{book_is_sound, calls, open_holds, what_stays};
 use tenant_core::{Answered, Book, Command, CommandFault, PeerNo, TenantSetup};
 
 /// The most workers of a floor, each of which has a seat.
@@ -178,13 +175,13 @@ fn decide_on(seats: &mut [Seat], books: &mut [Book], worker: usize, now: Moment)
     ensures asked { IsAsked (parts seats.old books.old [])
         (tenant_in (seat_at (parts seats.old books.old []) worker).slot.job) }
 {
-    what_stays();
+    tenant_core::laws::what_stays();
     let seat = &mut seats[worker];
     let Some(tenant) = seat.slot.tenant() else {
         return Told::Whole(Output::Idle);
     };
     let book = &mut books[tenant];
-    book_is_sound(book);
+    tenant_core::laws::book_is_sound(book);
     match seat.slot.decide(book, now) {
         Turn::Idle => Told::Whole(Output::Idle),
         Turn::Stray => unreachable!(),
@@ -224,7 +221,7 @@ fn answer_on(
     ensures seats { seats.new ≡ (moved (parts seats.old books.old []) (Answer worker now given.now)).seats }
     ensures books { books.new ≡ (moved (parts seats.old books.old []) (Answer worker now given.now)).books }
 {
-    calls();
+    tenant_core::laws::calls();
     let seat = &mut seats[worker];
     let Some(tenant) = seat.slot.waiting() else {
         return Told::Whole(Output::Idle);
@@ -256,7 +253,7 @@ fn governed(
     ensures book { OnOk result (book.new ≡ commanded book.old command.now now) }
     ensures same { OnErr result (book.new ≡ book.old) }
 {
-    what_stays();
+    tenant_core::laws::what_stays();
     match book.command(alloc, command, now) {
         Ok(answered) => Ok(Ok(answered)),
         Err(fault) => match fault {
@@ -366,9 +363,9 @@ impl Floor {
         ensures tenants { length self.new.books ≡ length self.old.books }
         ensures counted { (t : ℕ) → slice_index self.new.next_calls t ≤ slice_index self.old.next_calls t + 1 }
     {
-        open_holds();
-        calls();
-        frames_that_go_on();
+        tenant_core::laws::open_holds();
+        tenant_core::laws::calls();
+        crate::laws::frames_that_go_on();
         self.has_taken();
         self.parts.step(alloc, step)
     }
@@ -377,7 +374,7 @@ impl Floor {
     pub fn has_taken(&self)
         ensures { AreTaken (length self.now.books) (world_of self.now) (frames_on self.now) }
     {
-        what_is_read_is_a_prepare();
+        ilp_view::laws::what_is_read_is_a_prepare();
         let _ = &self.parts;
     }
 
@@ -453,7 +450,7 @@ impl Floor {
         ensures room { (n : ℕ) → HasRoom self.old (length steps.now + n) → HasRoom self.new n }
     {
         self.has_taken();
-        frames_that_go_on();
+        crate::laws::frames_that_go_on();
         let mut outputs: Vec<Output> = Vec::new(alloc);
         for step in steps {
             let Ok(room) = room_for_one(alloc, &mut outputs) else {

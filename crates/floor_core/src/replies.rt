@@ -8,7 +8,6 @@ ghost use Rattle.std.specs.Prelude.{Some, codes};
 ghost use Rattle.floor_core.specs.Replies.{code_of, message_of, amounts_data, refusal_reply, decision_reply};
 ghost use Rattle.floor_core.specs.World.{settled_reply};
 
-use ilp_view::laws::written_frames_are_short;
 use ilp_view::write_reject;
 use tenant_core::{Book, RejectCode, Verdict};
 
@@ -60,7 +59,7 @@ fn put_reject(out: &mut [u8], address: &[u8], code: RejectCode, payload: &[u8]) 
         (reject_frame (code_of code) address.now (message_of code) payload.now) out.new result }
     ensures within { result ≤ max_frame }
 {
-    written_frames_are_short();
+    ilp_view::laws::written_frames_are_short();
     write_reject(out, code_of(code), address, message_of(code), payload).unwrap()
 }
 

@@ -20,7 +20,6 @@ use ilp_view::{FulfillView, MAX_FRAME, PrepareView, RejectView};
 use route_table::PeerNo;
 use std::alloc::{AllocError, Global};
 use std::marker::Model;
-use tenant_core::laws::what_stays;
 use tenant_core::{AnswerKey, Book, Expiry, PrepareKey, Verdict};
 
 /// What a slot does.
@@ -309,7 +308,7 @@ fn decided(book: &mut Book, token: &[u8], room: &[u8], len: usize, now: Moment) 
     ensures opening { book.new.opening ≡ book.old.opening }
     ensures network { network_of book.new ≡ network_of book.old }
 {
-    what_stays();
+    tenant_core::laws::what_stays();
     let packet = PrepareView::read(&room[..len]).unwrap();
     let key = PrepareKey {
         amount: packet.amount(),

@@ -7,7 +7,6 @@ ghost use Rattle.ildcp_core.specs.Client.{IsClient, address_below};
 ghost use Rattle.ildcp_core.specs.Answer.{configuration, max_configuration, config_answer, max_answer};
 
 use crate::child::Child;
-use crate::laws::{configurations, laws_below};
 use ilp_view::write_fulfill;
 use oer_core::{put_bytes, put_length, put_octets};
 
@@ -22,7 +21,7 @@ fn put_address(room: &mut [u8], tenant: &[u8], name: &[u8]) -> usize
     ensures end { result ≡ length (octet_string (address_below tenant.now name.now)) }
     ensures written { room.new ≡ overwritten room.old 0 (octet_string (address_below tenant.now name.now)) }
 {
-    laws_below();
+    crate::laws::laws_below();
     let at = put_length(room, 0, tenant.len() + 1 + name.len());
     put_bytes(room, at, tenant);
     let dot_at = at + tenant.len();
@@ -36,8 +35,8 @@ fn put_configuration(room: &mut [u8], child: &Child<'_>) -> usize
     ensures written { Writes room.old 0 (configuration child.now) room.new result }
     ensures limits { IsClient child.now }
 {
-    laws_below();
-    configurations();
+    crate::laws::laws_below();
+    crate::laws::configurations();
     let parts = child.parts();
     let at = put_address(room, parts.tenant.as_bytes(), parts.name.as_bytes());
     put_bytes(room, at, &[parts.scale]);
@@ -54,7 +53,7 @@ pub fn answer(child: &Child<'_>, out: &mut [u8]) -> usize
     ensures written { Writes out.old 0 (config_answer child.now) out.new result }
     ensures within { result ≤ max_answer }
 {
-    configurations();
+    crate::laws::configurations();
     let mut room = [0; MAX_CONFIGURATION];
     let end = put_configuration(&mut room, child);
     write_fulfill(out, &[0; 32], &room[..end]).unwrap()

@@ -7,7 +7,6 @@ ghost use Rattle.ilp_view.specs.Packet.{max_frame, max_data, fulfill_frame, reje
 
 use crate::fault::ViewFault;
 use crate::fulfill::FULFILL;
-use crate::laws::laws_below;
 use crate::reject::REJECT;
 use oer_core::{length_size, put_bytes, put_length, put_octets};
 
@@ -36,7 +35,7 @@ pub fn write_fulfill(
         Writes out.old 0 (fulfill_frame fulfillment.now payload.now) out.new end) }
     ensures err { IfErr result (λ e. (e ≡ ViewFault.Short) × (out.new ≡ out.old)) }
 {
-    laws_below();
+    crate::laws::laws_below();
     let size = 32 + octets_size(payload);
     if out.len() < 1 + length_size(size) + size {
         return Err(ViewFault::Short);
@@ -70,7 +69,7 @@ pub fn write_reject(
         Writes out.old 0 (reject_frame code.now triggered_by.now message.now payload.now) out.new end) }
     ensures err { IfErr result (λ e. (e ≡ ViewFault.Short) × (out.new ≡ out.old)) }
 {
-    laws_below();
+    crate::laws::laws_below();
     let size = 3 + octets_size(triggered_by) + octets_size(message) + octets_size(payload);
     if out.len() < 1 + length_size(size) + size {
         return Err(ViewFault::Short);

@@ -8,7 +8,6 @@ ghost use Rattle.ilp_view.specs.Seen.{fulfill_of};
 
 use crate::fault::ViewFault;
 use crate::fields;
-use crate::laws::laws_below;
 use std::marker::Model;
 
 /// The type byte of a Fulfill (RFC 0027).
@@ -80,7 +79,7 @@ impl<'a> FulfillView<'a> {
         // Which fault it is.
         ensures exact { result ≡ fulfill_at frame.now }
     {
-        laws_below();
+        crate::laws::laws_below();
         let parts = parts_of(frame)?;
         Ok(FulfillView { parts })
     }

@@ -9,7 +9,6 @@ ghost use Rattle.common_types.specs.Outcomes.{Gives};
 
 use crate::fault::ViewFault;
 use crate::fields;
-use crate::laws::laws_below;
 use ilp_addr::Address;
 use oer_core::read_u64;
 use std::marker::Model;
@@ -101,7 +100,7 @@ impl<'a> PrepareView<'a> {
         // Which fault it is.
         ensures exact { result ≡ prepare_at frame.now }
     {
-        laws_below();
+        crate::laws::laws_below();
         let parts = parts_of(frame)?;
         Ok(PrepareView { parts })
     }

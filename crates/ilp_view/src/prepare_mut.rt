@@ -10,7 +10,6 @@ ghost use Rattle.ilp_view.specs.Reading.{prepare_at};
 
 use crate::fault::ViewFault;
 use crate::fields;
-use crate::laws::laws_below;
 use crate::prepare::{PREPARE, PrepareView};
 use std::slice::from_raw_parts_mut;
 
@@ -29,7 +28,7 @@ fn place_of_amount(frame: &[u8]) -> usize
     ensures place { IfOk (prepare_at frame.now) (λ p. result ≡ 1 + length p.contents_length) }
     ensures parts { IfOk (prepare_at frame.now) (λ p. IsPrepare frame.now p) }
 {
-    laws_below();
+    crate::laws::laws_below();
     let (spelling, _) = fields::envelope(PREPARE, frame).unwrap();
     1 + spelling.len()
 }
@@ -50,7 +49,7 @@ impl<'a> PrepareMut<'a> {
         ensures bytes { IfOk result (λ m. frame_of m ≡ frame.old) }
         ensures fields { IfOk result HasFields }
     {
-        laws_below();
+        crate::laws::laws_below();
         PrepareView::read(frame)?;
         Ok(PrepareMut::of_known(frame))
     }

@@ -8,7 +8,6 @@ ghost use Rattle.ilp_view.specs.Seen.{reject_of};
 
 use crate::fault::ViewFault;
 use crate::fields;
-use crate::laws::laws_below;
 use std::marker::Model;
 
 /// The type byte of a Reject (RFC 0027).
@@ -90,7 +89,7 @@ impl<'a> RejectView<'a> {
         // Which fault it is.
         ensures exact { result ≡ reject_at frame.now }
     {
-        laws_below();
+        crate::laws::laws_below();
         let parts = parts_of(frame)?;
         Ok(RejectView { parts })
     }

@@ -30,7 +30,6 @@ mod tests;
 mod timed;
 mod worker;
 
-use admin_text::laws::setups;
 use admin_text::{Setup, read_setup};
 use answering::without_line_feed;
 use checking::{Script, check, ending_of, printing};
@@ -169,7 +168,7 @@ fn serve_at<
     requires connections { (1 ≤ extent.connections) × (extent.connections ≤ max_workers) }
 {
     let alloc = rt.alloc();
-    setups();
+    admin_text::laws::setups();
     let setup = match read_setup(alloc, setup) {
         Ok(setup) => setup,
         Err(ReadError::Memory) => return Err(Ending::Fault(ReplayFault::Memory)),

@@ -26,7 +26,6 @@ use admin_text::Setup;
 use books_shared::{GatherFault, Share};
 use common_types::Name;
 use floor_core::Slot;
-use meters::laws::meters_are_shared;
 use meters::{Kind, MeterSeat, Totals};
 use one_list::{Opened, Run};
 use std::alloc::{AllocError, Global};
@@ -255,7 +254,7 @@ fn work_all<
     ensures worked { OnOk result (All (λ lane. HasWorked (C.gives clock.now) office.now lane.desk) lanes.new) }
     ensures seat { option_map (λ host. host.seat) host.new ≡ option_map (λ host. host.seat) host.old }
 {
-    meters_are_shared();
+    meters::laws::meters_are_shared();
     match run_beside(handle, &office.door, lanes, host) {
         Ok(()) => Ok(()),
         Err(_) => Err(ServeFault::Device),

@@ -11,7 +11,6 @@ mod patience;
 pub mod wire;
 
 use crate::serving::{Doors, Extent, Report, ServeFault, serve};
-use admin_text::laws::setups;
 use admin_text::read_setup;
 use std::alloc::Global;
 use std::io::{Read, Write};
@@ -117,7 +116,7 @@ fn serve_as<
     requires workers { (1 ≤ extent.workers) × (extent.workers ≤ max_places) }
     requires connections { (1 ≤ extent.connections) × (extent.connections ≤ max_workers) }
 {
-    setups();
+    admin_text::laws::setups();
     let Ok(setup) = read_setup(rt.alloc(), text.as_bytes()) else {
         return Err(ServeFault::Device);
     };

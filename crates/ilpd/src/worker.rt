@@ -7,7 +7,6 @@ ghost use Rattle.ilpd.specs.Served.{tenant_named, told_text};
 use crate::desk::Desk;
 use crate::office::Office;
 use crate::timed::{Paced, Timed};
-use http_link::laws::more_may_come;
 use http_link::{Inbox, LinkFault, RequestKind, Served, Service, serve_next};
 use one_list::Run;
 use std::alloc::Global;
@@ -193,7 +192,7 @@ impl<H: Wait + Net<Stream = TcpStream> + std::time::Clock, C: Clock, J: Run> Wor
         ensures clock { self.new.clock ≡ self.old.clock }
         ensures heard { HasHeard (C.gives self.old.clock.now) self.old.office.now self.old.desk (P.remaining reader.old) (P.remaining reader.new) result self.new.desk }
     {
-        more_may_come();
+        http_link::laws::more_may_come();
         for _ in self.handle.forever() {
             let patience = self.patience();
             reader.allow(patience, Duration::from_millis(PATIENCE - MOMENT));

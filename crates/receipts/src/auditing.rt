@@ -9,7 +9,6 @@ ghost use Rattle.receipts.specs.Runs.{AreOfRun};
 use crate::chains::{are_kept, check_joined, index_of};
 use crate::check::{are_held_whole, note_lists};
 use crate::fault::AuditFault;
-use crate::laws::complete_receipts_are_a_run;
 use crate::layout::lay_out;
 use crate::receipt::Receipt;
 use common_types::Items;
@@ -83,7 +82,7 @@ pub fn audit(alloc: Global, periods: &[Period], lists: &[&[Receipt]]) -> Result<
     ensures fault { IfErr result (IsFault periods.now (map (λ list. list.now) lists.now)) }
 {
     are_kept(periods);
-    complete_receipts_are_a_run();
+    crate::laws::complete_receipts_are_a_run();
     let (points, holders) = matched(alloc, periods, lists)?;
     match join(alloc, &points, &holders)? {
         Joined::Order(order) => Ok(Audited {

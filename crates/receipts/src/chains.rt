@@ -8,14 +8,13 @@ use crate::fault::AuditFault;
 use crate::index::Index;
 use std::alloc::Global;
 use tenant_core::Period;
-use tenant_core::laws::period_is_kept;
 
 // What the type of each period keeps.
 pub(crate) fn are_kept(periods: &[Period])
     ensures { AreKept periods.now }
 {
     for k in 0..periods.len() {
-        period_is_kept(&periods[k]);
+        tenant_core::laws::period_is_kept(&periods[k]);
     }
 }
 

@@ -13,10 +13,8 @@ ghost use Rattle.replay_text.specs.Streams.{AppendsFront, ConsumesAtMost, Writes
 use crate::printed::put_told;
 use crate::script::{MAX_SCRIPT, Meaning, ScriptFault, check_script, first_line, meaning_of};
 use crate::streams::{StreamFault, read_script, write_text};
-use admin_text::laws::setups;
 use admin_text::{Setup, SetupFault, read_setup};
 use common_types::{Name, ReadError};
-use floor_core::laws::{frames_that_go_on, one_after_the_other, outputs_are_there};
 use floor_core::{Floor, Step};
 use oer_core::Device;
 use std::alloc::{AllocError, Global};
@@ -97,7 +95,7 @@ fn run_step(
     ensures tenants { length floor.new.books ≡ length floor.old.books }
     ensures room { (n : ℕ) → HasRoom floor.old (1 + n) → HasRoom floor.new n }
 {
-    outputs_are_there();
+    floor_core::laws::outputs_are_there();
     if text.reserve(STEP_ROOM).is_err() {
         return Err(Refusal::Before);
     }
@@ -132,7 +130,7 @@ fn run_line(
     ensures tenants { length floor.new.books ≡ length floor.old.books }
     ensures room { (n : ℕ) → HasRoom floor.old (1 + n) → HasRoom floor.new n }
 {
-    outputs_are_there();
+    floor_core::laws::outputs_are_there();
     let Ok(meaning) = meaning_of(alloc, names, workers, line, room) else {
         return Err(Refusal::Before);
     };
@@ -189,8 +187,8 @@ fn run_lines<W: Write + Device>(
     ensures size { result ≢ Err StreamFault.Size }
     ensures device { (result ≡ Err StreamFault.Device) ↔ (before < W.failure_count writer.new) }
 {
-    one_after_the_other();
-    outputs_are_there();
+    floor_core::laws::one_after_the_other();
+    floor_core::laws::outputs_are_there();
     let mut room = Vec::new(alloc);
     let mut text = Vec::new(alloc);
     let mut rest = script;
@@ -345,8 +343,8 @@ pub fn replay<R: Read + Device, W: Write + Device>(
         → IfSome (R.remaining reader.old) (λ script. refusal_of (setup_of setup.now) workers script ≡ None) }
     ensures taken { ConsumesAtMost (MAX_SCRIPT + 1) (R.remaining reader.old) (R.remaining reader.new) }
 {
-    setups();
-    frames_that_go_on();
+    admin_text::laws::setups();
+    floor_core::laws::frames_that_go_on();
     match read_setup(alloc, setup) {
         Ok(setup) => replay_for(alloc, &setup, workers, reader, writer),
         Err(ReadError::Memory) => Err(ReplayFault::Memory),

@@ -29,7 +29,6 @@ use ildcp_core::Child;
 use ilp_addr::{Moment, Target};
 use money_core::Purse;
 use rate_bucket::Bucket;
-use rate_bucket::laws::running;
 use route_table::PeerNo;
 use std::alloc::{AllocError, Global};
 use std::marker::Model;
@@ -96,7 +95,7 @@ impl Book {
         let mut network = terms.network.copy(alloc)?;
         network.begin(clock);
         network.is_network();
-        running();
+        rate_bucket::laws::running();
         let fresh = begin_period(alloc, &network, terms.journal)?;
         let opening = Opening {
             tenant,
@@ -293,7 +292,7 @@ impl Book {
         ensures records { self.new ≡ decided self.old token.now (key_of key.now) now }
         ensures sooner { IsSooner result key.now.expiry }
     {
-        running();
+        rate_bucket::laws::running();
         let standing = self.standing();
         let Some(from) = standing.sender(token) else {
             return Verdict::Unknown;
@@ -402,7 +401,7 @@ impl Book {
         self.network.is_network();
         follow_purses(&mut self.purses, change, place);
         follow_buckets(&mut self.buckets, change, place, clock);
-        running();
+        rate_bucket::laws::running();
         self.clock = clock;
         self.journal.push_change(entry);
         Ok(())
@@ -445,7 +444,7 @@ impl Book {
         let clock = self.clock.max(now.millis());
         let next = next_period(alloc, &self.standing(), clock)?;
         next.network.is_network();
-        running();
+        rate_bucket::laws::running();
         let opening = next_opening(&self.opening, clock, self.holds.len() as u64, next.network);
         let mut closed = PeriodParts::begun(alloc, opening, next.rows)?;
         let mut journal = mem::replace(&mut self.journal, next.fresh.journal);

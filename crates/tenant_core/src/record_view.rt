@@ -11,7 +11,6 @@ use crate::journal::{
     AnswerEntry, ChangeEntry, DecideEntry, Entry, Expiry, Outcome, PrepareKey, RollEntry, TickEntry,
 };
 use common_types::{Bytes, Spare};
-use ilp_addr::laws::addresses;
 use ilp_addr::{Address, Moment};
 use route_table::PeerNo;
 
@@ -98,7 +97,7 @@ fn is_sayable(amount: u64, expiry: Expiry, condition: &[u8; 32], destination: &A
       destination = destination.now;
     }) ≡ true }
 {
-    addresses();
+    ilp_addr::laws::addresses();
     expiry.get();
     destination.bytes();
 }

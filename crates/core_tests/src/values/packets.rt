@@ -3,7 +3,6 @@
 ghost use Rattle.std.specs.Prelude.{◌≡◌, ◌≤◌, length};
 
 use super::rows::expect;
-use ilp_view::laws::written_frames_are_short;
 use ilp_view::{
     FulfillView, PrepareMut, PrepareView, RejectView, ViewFault, write_fulfill, write_reject,
 };
@@ -175,7 +174,7 @@ fn expect_rejects(rt: &impl Abort, alloc: Global, rows: &[Reject]) -> Result<(),
 
 // What is given where the last of the Rejects is written.
 fn write_last(out: &mut [u8]) -> Result<usize, ViewFault> {
-    written_frames_are_short();
+    ilp_view::laws::written_frames_are_short();
     write_reject(out, b"F08", b"g.acme", b"amount too large", AMOUNTS)
 }
 

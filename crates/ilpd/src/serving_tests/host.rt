@@ -7,7 +7,6 @@ use super::wire::{FixedClock, bytes, is_reply, posted, request};
 use super::{CHILD, CONFIG, NOTHING_MORE, asked};
 use crate::hosting::HostDoor;
 use crate::serving::{Doors, Extent, ServeFault, serve};
-use admin_text::laws::setups;
 use admin_text::read_setup;
 use common_types::Token;
 use std::alloc::Global;
@@ -53,7 +52,7 @@ fn serve_with_host<
     door: &'a TcpListener,
     lines: &mut Vec<u8>,
 ) -> Result<(), ServeFault> {
-    setups();
+    admin_text::laws::setups();
     let (Ok(setup), Some(token)) = (read_setup(rt.alloc(), text.as_bytes()), Token::new(b"host"))
     else {
         return Err(ServeFault::Device);

@@ -10,14 +10,13 @@ use super::Node;
 use crate::hop::Hop;
 use crate::route::Route;
 use ilp_addr::Prefix;
-use ilp_addr::laws::prefix_words;
 use std::alloc::{AllocError, Global};
 
 // The prefix that these bytes are.
 fn prefix_of(alloc: Global, bytes: &[u8]) -> Result<Prefix, AllocError>
     ensures { IfOk result (λ prefix. IsPrefix bytes.now → prefix ≡ bytes.now) }
 {
-    prefix_words();
+    ilp_addr::laws::prefix_words();
     match Prefix::parse(alloc, bytes) {
         Ok(prefix) => Ok(prefix),
         Err(_) => Err(AllocError),

@@ -7,7 +7,6 @@ use super::{
     BASE, FULFILL, FixedClock, START, gathered, outcome, put, start, two_books, two_setups,
 };
 use crate::{Gate, Job, Lane, Link, Point, Reply, StartFault, carry, run_workers};
-use books_shared::laws::books_are_shared;
 use books_shared::{Books, Share};
 use floor_core::{Got, Slot};
 use ilp_addr::{Moment, Target};
@@ -179,7 +178,7 @@ fn work_all<'a, J: Run + Send + Sync, R: Threads + Wait + Sync>(
     rt: &R,
     lanes: &mut [Carrier<'a, J>],
 ) -> Result<(), StartFault> {
-    books_are_shared::<J>();
+    books_shared::laws::books_are_shared::<J>();
     run_workers(rt, lanes)
 }
 
