@@ -46,7 +46,7 @@ impl Model for Purse {
 
 impl Purse {
     ghost use Rattle.std.specs.Prelude.{◌≡◌, ◌≤◌, ◌-◌, ◌+◌, unsigned_abs, pos, neg_ℤ, ◌+ℤ◌, ◌-ℤ◌, ◌≤ℤ◌, true, false, if◌then◌else◌, Ok, Err, OnOk, OnErr};
-    ghost use Rattle.money_core.specs.Account.{max_money, is_past_ceiling, is_past_credit, is_past_most, is_past_least};
+    ghost use Rattle.money_core.specs.Account.{IsAccount, max_money, is_past_ceiling, is_past_credit, is_past_most, is_past_least};
     ghost use Rattle.money_core.specs.declared.purse.PurseFault.TheVariants as fault;
 
     /// A purse with this balance, from -2^62 to 2^62, with nothing held, and these limits, of at most 2^62.
@@ -99,6 +99,20 @@ impl Purse {
             ceiling: self.ceiling,
             credit: self.credit,
         }
+    }
+
+    /// What holds of each purse: what the peer owes and what is held from it are at most 2^62 together, so are what it is owed
+    /// and what is held for it, and so is each limit.
+    pub fn is_account(&self)
+        ensures { IsAccount self.now }
+    {
+        let _ = (
+            self.level,
+            self.held_in,
+            self.held_out,
+            self.ceiling,
+            self.credit,
+        );
     }
 
     /// Whether the peer would owe more than its ceiling, with so much more held from it.
