@@ -44,7 +44,7 @@ impl Model for Inbox {
 }
 
 impl Inbox {
-    ghost use Rattle.std.specs.Prelude.{◌≡◌, ◌≢◌, ◌↔◌, ◌<◌, [], Ok, Err, IfOk};
+    ghost use Rattle.std.specs.Prelude.{◌≡◌, ◌≢◌, ◌↔◌, ◌<◌, [], Ok, Err, IfOk, IsTrue};
     ghost use Rattle.http_link.specs.Connections.{Awaits};
     ghost use Rattle.http_link.specs.Counts.{MadeAll};
 
@@ -63,6 +63,13 @@ impl Inbox {
         ensures { self.new ≡ [] }
     {
         self.held = Held { from: 0, to: 0 };
+    }
+
+    /// Whether nothing is in it.
+    pub fn is_empty(&self) -> bool
+        ensures { IsTrue result ↔ (self.now ≡ []) }
+    {
+        self.room[self.held.from..self.held.to].is_empty()
     }
 
     /// Waits until something has come, unless something is there already; `false` where the stream has ended.

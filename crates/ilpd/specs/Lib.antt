@@ -1,11 +1,3 @@
-pub mod Served
-pub mod Balances
 pub mod CommandLine
-pub mod Answering
-pub mod Exchanges
-pub mod Hosting
-pub mod Presence
 pub mod Endings
-pub mod Ahead
-pub mod Auditing
 pub mod Checking

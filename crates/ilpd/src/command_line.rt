@@ -5,10 +5,10 @@ ghost use Rattle.books_shared.specs.Gathers.{max_workers};
 ghost use Rattle.floor_core.specs.FloorView.{max_seats};
 ghost use Rattle.ilpd.specs.CommandLine.{IsBounded};
 
-use crate::serving::Report;
 use books_shared::MAX_WORKERS;
 use clap::{Arg, ArgAction, ArgMatches, Command, Error, value_parser};
 use floor_core::MAX_SEATS;
+use service::Report;
 use std::alloc::{AllocError, Global};
 
 /// What the program is to do with a setup.

@@ -6,41 +6,24 @@ ghost use Rattle.allotment.specs.Loans.{max_places};
 ghost use Rattle.books_shared.specs.Gathers.{max_workers};
 ghost use Rattle.tenant_core.specs.Limits.{max_tenants};
 
-mod ahead;
-mod answering;
-mod auditing;
-mod balances;
 mod checking;
 mod clock;
 mod command_line;
-mod desk;
-mod door;
 mod ending;
-mod hosting;
-mod link;
-mod metrics;
-mod office;
-mod opening;
-mod presence;
-mod serving;
-#[cfg(test)]
-mod serving_tests;
 #[cfg(test)]
 mod tests;
-mod timed;
-mod worker;
 
 use admin_text::{Setup, read_setup};
-use answering::without_line_feed;
 use checking::{Script, check, ending_of, printing};
 use clock::SystemClock;
 use command_line::{HostWords, Task, arguments};
 use common_types::{ReadError, Token};
 use ending::{Ending, asks_version, exit_status, words_refused};
-pub use hosting::HostDoor;
 use oer_core::Counted;
 pub use replay_text::{ReplayFault, replay};
-pub use serving::{Doors, Extent, Report, ServeFault, serve};
+use service::{
+    Doors, Extent, HostDoor, Report, ServeFault, can_open, files_of, serve, without_line_feed,
+};
 use std::alloc::AllocError;
 use std::io::ErrorKind;
 use std::net::{Net, SocketAddr, TcpListener, TcpStream};
@@ -145,6 +128,24 @@ fn token_in(rt: &(impl Files + Print + AllocGlobal), file: &str) -> Result<Token
     Ok(token)
 }
 
+// Says in a line on standard output what to do where so many files can't be open at once.
+fn expect_files(
+    rt: &(impl Print + AllocGlobal),
+    listener: &TcpListener,
+    files: usize,
+) -> Result<(), Ending> {
+    match can_open(rt.alloc(), listener, files) {
+        Ok(true) => Ok(()),
+        Ok(false) => {
+            let _ = println!(rt;
+                "ilpd: cannot have {files} files open at once: raise the limit of open files, as by 'ulimit -n {files}' or LimitNOFILE={files}, or ask for fewer --connections"
+            );
+            Err(Ending::Fault(ReplayFault::Device))
+        }
+        Err(AllocError) => Err(Ending::Fault(ReplayFault::Memory)),
+    }
+}
+
 // Serves the setup at the doors that the command line names.
 fn serve_at<
     R: Net<Listener = TcpListener, Stream = TcpStream>
@@ -176,6 +177,7 @@ fn serve_at<
     };
     let Some(words) = host else {
         let packets = listener_on(rt, address)?;
+        expect_files(rt, &packets, files_of(extent, false))?;
         println!(rt; "listening {address}").map_err(printing)?;
         return serve_by(rt, &setup, extent, report, &packets, None);
     };
@@ -183,6 +185,7 @@ fn serve_at<
     let packets = listener_on(rt, address)?;
     let listener = listener_on(rt, words.address)?;
     let door = HostDoor::new(&listener, &token, &packets).map_err(printing)?;
+    expect_files(rt, &packets, files_of(extent, true))?;
     println!(rt; "listening {address}\nhost {}", words.address).map_err(printing)?;
     serve_by(rt, &setup, extent, report, &packets, Some(door))
 }

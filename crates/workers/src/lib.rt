@@ -7,8 +7,6 @@ mod governing;
 mod lanes;
 mod places;
 mod reply;
-#[cfg(test)]
-mod tests;
 mod traits;
 
 pub use carrying::{Job, carry};

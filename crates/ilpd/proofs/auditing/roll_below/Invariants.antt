@@ -1,9 +1,0 @@
-use Rattle.std.proofs.Common.{◌≡◌}
-use Rattle.ilpd.specs.Auditing.{HaveRolled}
-use Rattle.ilpd.proofs.auditing.roll_below.Given as goal
-
-abbrev pub invariant-loop-tenant : goal.invariant-loop-tenant
-invariant-loop-tenant g l = record {
-  rolled : HaveRolled (g.C.Clock.gives l.fn.clock) l.tenant l.fn.share l.share;
-  seat : l.seat.meters ≡ l.fn.meters.id;
-}

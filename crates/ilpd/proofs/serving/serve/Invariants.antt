@@ -1,5 +1,0 @@
-use Rattle.ilpd.specs.Answering.{run_of}
-use Rattle.ilpd.proofs.serving.serve.Given as goal
-
-abbrev pub ghosts-serve_run : goal.ghosts-serve_run
-ghosts-serve_run g a = run_of a.opened.table a.setup.now a.workers

@@ -1,0 +1,78 @@
+-- What a worker holds may go to a thread of its own.
+use denote.Struct.Declared.{shape}
+use denote.Param.Send.{IsSend, IsSync, struct_send, struct_sync, recorded_send, recorded_sync, sendable}
+use Rattle.std.proofs.Crossing as std
+use Rattle.floor_core.specs.contracts.slot.Slot as Slot
+use Rattle.one_list.specs.declared.run.Run as Run
+use Rattle.one_list.proofs.parts.WorkerPart.TheSendSync as of_part
+use Rattle.tenant_core.specs.contracts.opening.Opening as Opening
+use Rattle.tenant_core.specs.contracts.period.Period as Period
+use Rattle.tenant_core.specs.contracts.period.PeriodParts as PeriodParts
+use Rattle.tenant_core.specs.contracts.period.Records as Records
+use Rattle.tenant_core.proofs.period.Records.TheSendSync as of_records
+use Rattle.tenant_core.proofs.row.Row.TheSendSync as of_row
+use Rattle.receipts.proofs.ledger.Ledger.TheSendSync as of_ledger
+use Rattle.books_shared.proofs.Crossing.{network_send}
+use Rattle.books_shared.specs.contracts.books.Books as Books
+use Rattle.books_shared.specs.contracts.share.Share as Share
+use Rattle.meters.specs.contracts.meters.Meters as Meters
+use Rattle.common_types.specs.contracts.names.Name as Name
+use denote.RattleType.{RattleType}
+use denote.Ref.{NamedLft}
+use Rattle.meters.specs.contracts.meters.MeterSeat as MeterSeat
+use Rattle.service.specs.contracts.worker.Worker as Worker
+use Rattle.service.specs.contracts.worker.desk.Desk as Desk
+use Rattle.service.specs.contracts.office.Office as Office
+use Rattle.service.specs.contracts.office.Terms as Terms
+use Rattle.service.specs.contracts.connection.door.Door as Door
+use Rattle.workers.specs.contracts.places.Places as Places
+
+opening_send : IsSend Opening.the_field.row
+opening_send = search (sendable, std.crosses, network_send) depth 40
+
+records_send : IsSend Records.the_row
+records_send = of_records.the_send
+
+parts_send : IsSend PeriodParts.the_row
+parts_send = recorded_send _ _ _ PeriodParts.the_type.to_one (struct_send (shape PeriodParts.the_type)
+    (opening_send, (records_send, (search (sendable, std.crosses, of_row.the_send) depth 40, (opening_send, tt)))))
+
+pub period_send : IsSend Period.the_row
+period_send = search (sendable, std.crosses, parts_send) depth 40
+
+pub share_send : (J : RattleType) (r : Run.Ghosts J.Denot) → IsSend (Share.the_row J r)
+share_send J r = search (sendable, std.crosses, of_part.the_send, of_ledger.the_send) depth 40
+
+pub slot_send : IsSend Slot.the_row
+slot_send = search (sendable, std.crosses) depth 40
+
+pub name_sync : IsSync Name.the_row
+name_sync = search (sendable, std.crosses) depth 40
+
+pub terms_sync : IsSync Terms.the_row
+terms_sync = search (sendable, std.crosses) depth 40
+
+pub places_sync : IsSync Places.the_field.row
+places_sync = search (sendable, std.crosses) depth 40
+
+pub door_sync : IsSync Door.the_field.row
+door_sync = search (sendable, std.crosses) depth 40
+
+pub office_sync : (J : RattleType) (r : Run.Ghosts J.Denot) → IsSync (Books.the_row J r) → IsSync Meters.the_row
+    → IsSync (Office.the_row J r)
+office_sync J r books meters =
+    let fields = struct_sync (shape (Office.the_type J r)) (
+      search (sendable, std.crosses, name_sync) depth 40,
+      (search (sendable, std.crosses, terms_sync) depth 40, (books, (meters, (places_sync, (door_sync, (search (sendable, std.crosses) depth 40, (search (sendable, std.crosses) depth 40, tt))))))),
+    ) in
+    search (recorded_sync, fields) depth 10
+
+pub desk_send : (J : RattleType) (r : Run.Ghosts J.Denot) → IsSend MeterSeat.the_row → IsSend (Desk.the_field J r).row
+desk_send J r seat = struct_send (shape (Desk.the_type J r))
+    (share_send J r, (seat, (slot_send, (search (sendable, std.crosses) depth 40, (search (sendable, std.crosses) depth 40, (search (sendable, std.crosses) depth 40, (search (sendable, std.crosses, period_send) depth 40, tt)))))))
+
+pub worker_send : (κ : NamedLft) (H C J : RattleType) (r : Run.Ghosts J.Denot) → IsSync H → IsSync C
+    → IsSync (Office.the_row J r) → IsSend MeterSeat.the_row → IsSend (Worker.the_row κ H C J r)
+worker_send κ H C J r h c office seat =
+    recorded_send _ _ _ (Worker.the_type κ H C J r).to_one (struct_send (shape (Worker.the_type κ H C J r))
+    (search (sendable, std.crosses, h) depth 40, (search (sendable, std.crosses) depth 40, (search (sendable, std.crosses, office) depth 40, (search (sendable, std.crosses, c) depth 40, (search (sendable, std.crosses) depth 40, (search (sendable, std.crosses) depth 40, (search (sendable, std.crosses) depth 40, (desk_send J r seat, tt)))))))))

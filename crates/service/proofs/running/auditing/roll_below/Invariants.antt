@@ -1,0 +1,9 @@
+use Rattle.std.proofs.Common.{◌≡◌}
+use Rattle.service.specs.Auditing.{HaveRolled}
+use Rattle.service.proofs.running.auditing.roll_below.Given as goal
+
+abbrev pub invariant-loop-tenant : goal.invariant-loop-tenant
+invariant-loop-tenant g l = record {
+  rolled : HaveRolled (g.C.Clock.gives l.fn.clock) l.tenant l.fn.share l.share;
+  seat : l.seat.meters ≡ l.fn.meters.id;
+}

@@ -1,0 +1,46 @@
+use Rattle.std.proofs.Common.{ℕ, ◌≡◌, ◌++◌, [], List, length, true, rules, ap, subst, ◌∙◌, if◌then◌else◌}
+use Rattle.std.specs.Io.KnownBytes.{Appends}
+use Rattle.service.specs.Auditing.{HaveEnded}
+use Rattle.service.specs.declared.running.ending.AuditEnd.TheVariants.{Good}
+use Rattle.service.specs.Served.{lines_upto}
+use Rattle.service.specs.Balances.{balance_lines}
+use Rattle.service.proofs.Sums.{length_map}
+use Rattle.service.proofs.running.serving.serve_run.Goals as goal
+
+pub returns-in-Ok : goal.returns-in-Ok
+returns-in-Ok g c =
+    let office = c.in_ok-office.field-0.office in
+    let known = c.in_ok-office.ensures.known in
+    let counted = c.in_ok-done.ensures.counted in
+    let exact = c.close-totals.ensures.exact (search rules) (search rules) in
+    let names : length office.names.items ≡ length c.args.setup.now.tenants
+    = ap length known.names ∙ length_map _ c.args.setup.now.tenants in
+    let front : List ℕ = if c.args.report.balances then balance_lines office.names.items c.in-Ok.gathered.items else [] in
+    let audit = c.finish_audit-line in
+    let last : List ℕ = audit.result.line.items in
+    let text_is : c.in_ok-text-in-Ok.text.items ≡ front = search rules in
+    let Told : List ℕ → ℕ → Type 0 = λ text n. Appends (g.W.Write.contents c.args.writer.now) (g.W.Write.contents c.tell.new.writer)
+    (text ++ lines_upto n office.names.items c.close-totals.result ++ last) in
+    let told : Told c.in_ok-text-in-Ok.text.items (length office.names.items) = search rules in
+    let good : audit.result.end ≡ Good = search (rules, c.end_of.ensures.good) in
+    record {
+      office = office;
+      known = known;
+      totals = c.close-totals.result;
+      worked = c.in_ok-done.done.shares.items;
+      counted = record {
+        desks = counted.desks;
+        each = search (rules, counted.each);
+        shares_are = counted.shares_are;
+        worked = counted.worked;
+        sums = λ tenant kind below. exact tenant kind (search rules) ∙ counted.sums tenant kind below;
+      };
+      shares = audit.new.shares.items;
+      ended = subst (λ (n : ℕ). HaveEnded (g.C.Clock.gives c.args.clock.now) c.args.report.audit n c.in_ok-done.done.shares.items audit.new.shares.items)
+          known.books (audit.ensures.ended good);
+      books = c.in-Ok.gathered.items;
+      audit = last;
+      audited = audit.ensures.audited good;
+      told = subst (λ n. Told front n) names (subst (λ text. Told text (length office.names.items)) text_is told);
+      one_list = c.in-Ok.ensures.one_list;
+    }

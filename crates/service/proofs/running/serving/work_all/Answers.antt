@@ -1,0 +1,30 @@
+use Rattle.std.proofs.Common.{◌<◌, length, rules, slice_index_or, subst}
+use Rattle.service.specs.Answering.{HasServed}
+use denote.Param.{param}
+use denote.Param.Send.{IsSend, sendable}
+use denote.Ref.{NamedLft}
+use Rattle.service.specs.contracts.worker.Worker as Worker
+use Rattle.books_shared.proofs.Crossing.{books_sync}
+use Rattle.service.proofs.Sending.{office_sync, worker_send}
+use Rattle.service.proofs.running.serving.work_all.Goals as goal
+
+pub run_beside-requires-send-W : goal.run_beside-requires-send-W
+run_beside-requires-send-W g c κs within =
+    let office = office_sync (param 2 g.row.J) g.J.Run (books_sync (param 2 g.row.J) g.J.Run) c.meters_are_shared.ensures.shared in
+    let seat = c.meters_are_shared.ensures.sent in
+    let lane : (κ : NamedLft) → IsSend (Worker.the_row κ (param 0 g.row.H) (param 1 g.row.C) (param 2 g.row.J) g.J.Run)
+    = λ κ. worker_send κ (param 0 g.row.H) (param 1 g.row.C) (param 2 g.row.J) g.J.Run c.type_bounds.sync-H c.type_bounds.sync-C office seat in
+    search (sendable, lane) depth 60
+
+pub returns-in-Ok-clause-worked : goal.returns-in-Ok-clause-worked
+returns-in-Ok-clause-worked g c k d below =
+    let within : k < length c.args.lanes.now = search rules in
+    let works = c.in-Ok.ensures.ok k d within in
+    record {
+      new = (slice_index_or c.args.lanes.now k d).desk;
+      is_new = c.requires.new k d within;
+      served = subst (λ clock. HasServed (g.C.Clock.gives clock) c.args.office.now (slice_index_or c.args.lanes.now k d).desk
+          (slice_index_or c.run_beside.new.lanes k d).desk) (c.requires.clock k d within)
+          (subst (λ office. HasServed (g.C.Clock.gives (slice_index_or c.args.lanes.now k d).clock.now) office (slice_index_or c.args.lanes.now k d).desk
+          (slice_index_or c.run_beside.new.lanes k d).desk) (c.requires.office k d within) works.1);
+    }

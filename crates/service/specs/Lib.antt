@@ -1,0 +1,12 @@
+pub mod Served
+pub mod Balances
+pub mod Answering
+pub mod Exchanges
+pub mod Hosting
+pub mod Presence
+pub mod Ahead
+pub mod Auditing
+pub mod Pace
+pub mod Files
+pub mod Ending
+pub mod Extents

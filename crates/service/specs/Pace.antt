@@ -1,0 +1,33 @@
+-- How long a connection may do what, and when it gives up its thread.
+use Rattle.std.specs.Prelude.{ℕ, ◌-◌, ◌==◌, ◌||◌, Bool, true, false, nat_le, if◌then◌else◌}
+use Rattle.service.specs.declared.connection.pace.Rush.{Rush}
+use Rattle.service.specs.declared.connection.pace.Rush.TheVariants.{Calm, Crowded, Stopping}
+use Rattle.service.specs.declared.connection.pace.Activity.{Activity}
+use Rattle.service.specs.declared.connection.pace.Activity.TheVariants.{Idle, Busy}
+
+-- a stop comes first, then others that wait for a thread or are refused
+abbrev pub rush_of : (is_closed : Bool) → (waiting : ℕ) → (is_refused : Bool) → Rush
+rush_of true waiting is_refused = Stopping
+rush_of false waiting true = Crowded
+rush_of false waiting false = if waiting == 0 then Crowded else Calm
+
+-- for how many milliseconds in all: 30 seconds, and less where others wait or the service stops
+abbrev pub time_for : Activity → Rush → ℕ
+time_for Idle Calm = 30000
+time_for Busy Calm = 30000
+time_for Idle Crowded = 250
+time_for Busy Crowded = 1000
+time_for Idle Stopping = 1
+time_for Busy Stopping = 5000
+
+-- what is left of that; in a service that stops, after the milliseconds since the stop alone
+abbrev pub left_of : Activity → Rush → (spent stopping : ℕ) → ℕ
+left_of activity Calm spent stopping = time_for activity Calm - spent
+left_of activity Crowded spent stopping = time_for activity Crowded - spent
+left_of activity Stopping spent stopping = time_for activity Stopping - stopping
+
+-- only for others that wait: at once after an answer 400 or 401, and after a second in all
+abbrev pub yields : Rush → (status served : ℕ) → Bool
+yields Calm status served = false
+yields Crowded status served = status == 400 || status == 401 || nat_le 1000 served
+yields Stopping status served = false

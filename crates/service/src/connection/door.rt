@@ -1,0 +1,121 @@
+//! Which connections may still come, how many are there, and whether others wait for the thread of one.
+
+use crate::connection::pace::{Rush, rush_of};
+use std::sync::Wait;
+use std::sync::atomic::{AtomicBool, AtomicU64, Ordering};
+
+/// How many connections may still be served, how many are open, how many threads wait for one, and whether the system refuses
+/// them. A door that is closed lets no connection in any more, and presses those that are open to end.
+#[derive(Drop)]
+pub struct Door {
+    left: AtomicU64,
+    open: AtomicU64,
+    waiting: AtomicU64,
+    refused: AtomicBool,
+    closed: AtomicBool,
+    deserted: AtomicBool,
+}
+
+impl Door {
+    /// A door for so many connections.
+    pub fn new(connections: u64) -> Door {
+        Door {
+            left: AtomicU64::new(connections),
+            open: AtomicU64::new(0),
+            waiting: AtomicU64::new(0),
+            refused: AtomicBool::new(false),
+            closed: AtomicBool::new(false),
+            deserted: AtomicBool::new(false),
+        }
+    }
+
+    /// Whether one more connection may be served. It is the caller's from then on.
+    pub fn enter(&self, rt: &impl Wait) -> bool {
+        for _ in rt.forever() {
+            let left = self.left.load(Ordering::SeqCst);
+            if left == 0 || self.is_closed() {
+                return false;
+            }
+            let taken = self
+                .left
+                .compare_exchange(left, left - 1, Ordering::SeqCst, Ordering::SeqCst);
+            if taken.is_ok() {
+                return true;
+            }
+        }
+        unreachable!()
+    }
+
+    /// Another connection may be served in place of one that brought nothing, or did not come.
+    pub fn give_back(&self) {
+        self.left.fetch_add(1, Ordering::SeqCst);
+    }
+
+    /// A connection is open from now on.
+    pub fn connection_begins(&self) {
+        self.open.fetch_add(1, Ordering::SeqCst);
+    }
+
+    /// A connection has ended.
+    pub fn connection_ends(&self) {
+        self.open.fetch_sub(1, Ordering::SeqCst);
+    }
+
+    /// How many connections are open.
+    pub fn open(&self) -> u64 {
+        self.open.load(Ordering::SeqCst)
+    }
+
+    /// How many threads wait for a connection.
+    pub fn waiting(&self) -> u64 {
+        self.waiting.load(Ordering::SeqCst)
+    }
+
+    /// Lets nobody in any more.
+    pub fn close(&self) {
+        self.closed.store(true, Ordering::SeqCst);
+    }
+
+    pub fn is_closed(&self) -> bool {
+        self.closed.load(Ordering::SeqCst)
+    }
+
+    /// Says that no thread serves connections any more.
+    pub fn desert(&self) {
+        self.deserted.store(true, Ordering::SeqCst);
+    }
+
+    pub fn is_deserted(&self) -> bool {
+        self.deserted.load(Ordering::SeqCst)
+    }
+
+    /// Whether the system has just refused to accept a connection.
+    fn is_refused(&self) -> bool {
+        self.refused.load(Ordering::SeqCst)
+    }
+
+    /// Whether a connection that comes is let in: the door is open, and the system does not refuse it.
+    pub fn lets_in(&self) -> bool {
+        !self.is_closed() && !self.is_refused()
+    }
+
+    /// One more thread waits for a connection.
+    pub fn wait_begins(&self) {
+        self.waiting.fetch_add(1, Ordering::SeqCst);
+    }
+
+    /// One thread waits no longer.
+    pub fn wait_ends(&self) {
+        self.waiting.fetch_sub(1, Ordering::SeqCst);
+    }
+
+    /// Says whether the system has just refused to accept a connection, as it does where too many files are open.
+    pub fn set_refused(&self, refused: bool) {
+        self.refused.store(refused, Ordering::SeqCst);
+    }
+
+    /// What connections that are open have to hurry for.
+    pub fn rush(&self) -> Rush {
+        rush_of(self.is_closed(), self.waiting(), self.is_refused())
+    }
+}

@@ -1,0 +1,73 @@
+//! How long a connection may do what, and when it gives up its thread.
+
+ghost use Rattle.std.specs.Prelude.{◌≡◌};
+ghost use Rattle.service.specs.Pace.{left_of, rush_of, time_for, yields};
+
+/// What a service's connections have to hurry for.
+#[derive(Clone, Copy, Debug, PartialEq, Eq)]
+pub enum Rush {
+    /// Nothing: a thread waits for the next connection.
+    Calm,
+    /// Others: a connection that comes has to wait for a thread, or the system refuses it.
+    Crowded,
+    /// The end: the service stops.
+    Stopping,
+}
+
+/// What a connection does.
+#[derive(Clone, Copy, Debug, PartialEq, Eq)]
+pub enum Activity {
+    /// Its next request has not begun to come.
+    Idle,
+    /// A request comes, or an answer goes.
+    Busy,
+}
+
+/// What to hurry for: the end of a service that is closed comes first, then others, where no thread waits for a connection or
+/// the system has just refused one.
+pub fn rush_of(is_closed: bool, waiting: u64, is_refused: bool) -> Rush
+    ensures { result ≡ rush_of is_closed waiting is_refused }
+{
+    if is_closed {
+        Rush::Stopping
+    } else if waiting == 0 || is_refused {
+        Rush::Crowded
+    } else {
+        Rush::Calm
+    }
+}
+
+/// For how many milliseconds in all a connection may do that. Where the service stops these count from the stop on: what an
+/// idle connection has brought by then is read, and a request that has begun has five seconds.
+pub fn time_for(activity: Activity, rush: Rush) -> u64
+    ensures { result ≡ time_for activity rush }
+{
+    match (activity, rush) {
+        (_, Rush::Calm) => 30_000,
+        (Activity::Idle, Rush::Crowded) => 250,
+        (Activity::Busy, Rush::Crowded) => 1_000,
+        (Activity::Idle, Rush::Stopping) => 1,
+        (Activity::Busy, Rush::Stopping) => 5_000,
+    }
+}
+
+/// For how many milliseconds a connection may go on with what it does, after it has done it for `spent` milliseconds, of which
+/// the last `stopping` were in a service that stops.
+pub fn left_of(activity: Activity, rush: Rush, spent: u64, stopping: u64) -> u64
+    ensures { result ≡ left_of activity rush spent stopping }
+{
+    let gone = if rush == Rush::Stopping {
+        stopping
+    } else {
+        spent
+    };
+    time_for(activity, rush).saturating_sub(gone)
+}
+
+/// Whether a connection ends after an answer of that status, `served` milliseconds after it came, and gives its thread to
+/// another: only where others wait, and then at once after 400 and 401, and after a second in all.
+pub fn yields(rush: Rush, status: u16, served: u64) -> bool
+    ensures { result ≡ yields rush status served }
+{
+    rush == Rush::Crowded && (status == 400 || status == 401 || served >= 1_000)
+}

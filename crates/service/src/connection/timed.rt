@@ -1,0 +1,334 @@
+//! Connections whose reads and writes end in time.
+
+ghost use Rattle.std.specs.Prelude.{◌≡◌, None, is_err, length};
+ghost use Rattle.std.specs.Io.{ReadsAtMost, WritesAtMost};
+ghost use Rattle.std.specs.Io.KnownBytes.{ReadConsumes, WriteAppends};
+ghost use Rattle.oer_core.specs.Devices.{count_after, takes_nothing};
+
+use crate::connection::door::Door;
+use crate::connection::pace::{Activity, Rush, left_of};
+use http_link::{Sink, Source};
+use oer_core::Device;
+use std::io;
+use std::io::{Error, ErrorKind, Read, Write};
+use std::net::TcpStream;
+use std::sync::Wait;
+use std::time::{Clock, Duration, Instant};
+
+/// For how many milliseconds a read or write waits at most before it looks whether it may go on.
+const SLICE: u64 = 250;
+
+/// For how long something was done, and for how much of that the service was to stop.
+#[derive(Clone, Copy)]
+struct Spent {
+    all: Duration,
+    stopping: Duration,
+}
+
+const NO_TIME: Spent = Spent {
+    all: Duration::ZERO,
+    stopping: Duration::ZERO,
+};
+
+/// How long the reads or writes of one side may take.
+#[derive(Clone, Copy)]
+enum Limit<'a> {
+    /// Until a moment.
+    Until(Instant),
+    /// So long in all.
+    Within(Duration),
+    /// As long as that may be done by a connection that came through the door, which has done it for so long.
+    Paced(&'a Door, Activity, Spent),
+}
+
+// A connection, and how long reading or writing it may take.
+#[derive(Drop)]
+struct Side<'a, H> {
+    stream: &'a TcpStream,
+    clock: &'a H,
+    limit: Limit<'a>,
+    // How long a read and a write wait, as it was last set; zero where it was not.
+    read_wait: Duration,
+    write_wait: Duration,
+}
+
+impl<H: Clock> Side<'_, H> {
+    // What there is to hurry for.
+    fn rush(&self) -> Rush {
+        match self.limit {
+            Limit::Paced(door, _, _) => door.rush(),
+            Limit::Until(_) | Limit::Within(_) => Rush::Calm,
+        }
+    }
+
+    // How much time is left in such a hurry.
+    fn left(&self, now: Instant, rush: Rush) -> io::Result<Duration> {
+        let left = match self.limit {
+            Limit::Until(end) => end.saturating_duration_since(now),
+            Limit::Within(left) => left,
+            Limit::Paced(_, activity, spent) => {
+                let (all, stopping) = (millis_of(spent.all), millis_of(spent.stopping));
+                Duration::from_millis(left_of(activity, rush, all, stopping))
+            }
+        };
+        if left.is_zero() {
+            return Err(Error::from(ErrorKind::TimedOut));
+        }
+        Ok(left)
+    }
+
+    // Takes off the time that has gone by since then, in such a hurry.
+    fn spend(&mut self, begun: Instant, rush: Rush) -> io::Result<()> {
+        if let Limit::Until(_) = self.limit {
+            return Ok(());
+        }
+        let gone = Instant::now(self.clock)?.saturating_duration_since(begun);
+        self.limit = match self.limit {
+            Limit::Until(end) => Limit::Until(end),
+            Limit::Within(left) => Limit::Within(left.saturating_sub(gone)),
+            Limit::Paced(door, activity, spent) => {
+                Limit::Paced(door, activity, spent_also(spent, gone, rush))
+            }
+        };
+        Ok(())
+    }
+
+    fn set_read_wait(&mut self, left: Duration) -> io::Result<()> {
+        let wait = left.min(Duration::from_millis(SLICE));
+        if self.read_wait != wait {
+            self.stream.set_read_timeout(Some(wait))?;
+            self.read_wait = wait;
+        }
+        Ok(())
+    }
+
+    fn set_write_wait(&mut self, left: Duration) -> io::Result<()> {
+        let wait = left.min(Duration::from_millis(SLICE));
+        if self.write_wait != wait {
+            self.stream.set_write_timeout(Some(wait))?;
+            self.write_wait = wait;
+        }
+        Ok(())
+    }
+
+    // Reads once.
+    fn read_once(&mut self, buf: &mut [u8]) -> io::Result<usize>
+        ensures bound { ReadsAtMost result buf.new }
+        ensures len { length buf.new ≡ length buf.old }
+    {
+        let (begun, rush) = (Instant::now(self.clock)?, self.rush());
+        let left = self.left(begun, rush)?;
+        self.set_read_wait(left)?;
+        let mut stream = self.stream;
+        let result = stream.read(buf);
+        self.spend(begun, rush)?;
+        result
+    }
+
+    // Writes once.
+    fn write_once(&mut self, buf: &[u8]) -> io::Result<usize>
+        ensures { WritesAtMost result buf.now }
+    {
+        let (begun, rush) = (Instant::now(self.clock)?, self.rush());
+        let left = self.left(begun, rush)?;
+        self.set_write_wait(left)?;
+        let mut stream = self.stream;
+        let result = stream.write(buf);
+        self.spend(begun, rush)?;
+        result
+    }
+}
+
+// What was spent once some time more has gone by in such a hurry.
+fn spent_also(spent: Spent, gone: Duration, rush: Rush) -> Spent {
+    Spent {
+        all: spent.all.saturating_add(gone),
+        stopping: match rush {
+            Rush::Stopping => spent.stopping.saturating_add(gone),
+            Rush::Calm | Rush::Crowded => spent.stopping,
+        },
+    }
+}
+
+fn millis_of(time: Duration) -> u64 {
+    time.as_millis().min(u128::from(u64::MAX)) as u64
+}
+
+/// Whether it says only that nothing has come or gone yet.
+pub fn is_pause(error: &Error) -> bool {
+    match error.kind() {
+        ErrorKind::WouldBlock | ErrorKind::Interrupted => true,
+        _ => false,
+    }
+}
+
+impl<H: Wait + Clock> Side<'_, H> {
+    // Reads what comes in time.
+    fn receive(&mut self, buf: &mut [u8]) -> io::Result<usize>
+        ensures bound { ReadsAtMost result buf.new }
+        ensures len { length buf.new ≡ length buf.old }
+    {
+        let clock = self.clock;
+        for _ in clock.forever() {
+            match self.read_once(buf) {
+                Err(error) if is_pause(&error) => {}
+                result => return result,
+            }
+        }
+        unreachable!()
+    }
+
+    // Writes what can be written in time.
+    fn send(&mut self, buf: &[u8]) -> io::Result<usize>
+        ensures { WritesAtMost result buf.now }
+    {
+        let clock = self.clock;
+        for _ in clock.forever() {
+            match self.write_once(buf) {
+                Err(error) if is_pause(&error) => {}
+                result => return result,
+            }
+        }
+        unreachable!()
+    }
+}
+
+/// A side of a connection that has only so long for what it does.
+pub trait Paced: Source + Sink {
+    /// It does that from now on, and has done it for no time yet. Where it is to be sparing, it reads a byte at a time, so that
+    /// nothing is taken that comes after what is read.
+    fn begin(&mut self, activity: Activity, is_sparing: bool)
+        ensures reads { Self.remaining self.new ≡ Self.remaining self.old }
+        ensures writes { Self.contents self.new ≡ Self.contents self.old }
+        ensures counted { Self.failure_count self.new ≡ Self.failure_count self.old };
+}
+
+/// One side of a connection, whose reads and writes fail once their time is over. It counts what failed.
+#[derive(Drop)]
+pub struct Timed<'a, H> {
+    side: Side<'a, H>,
+    failures: u64,
+    has_read: bool,
+    is_sparing: bool,
+}
+
+impl<'a, H: Clock> Timed<'a, H> {
+    fn new(stream: &'a TcpStream, clock: &'a H, limit: Limit<'a>) -> Timed<'a, H> {
+        Timed {
+            side: Side {
+                stream,
+                clock,
+                limit,
+                read_wait: Duration::ZERO,
+                write_wait: Duration::ZERO,
+            },
+            failures: 0,
+            has_read: false,
+            is_sparing: false,
+        }
+    }
+
+    /// A side of the connection, whose reads and writes fail from that moment of the clock on.
+    pub fn until(stream: &'a TcpStream, clock: &'a H, end: Instant) -> Timed<'a, H> {
+        Timed::new(stream, clock, Limit::Until(end))
+    }
+
+    /// A side of the connection, whose reads and writes fail once they have taken so long in all.
+    pub fn within(stream: &'a TcpStream, clock: &'a H, time: Duration) -> Timed<'a, H> {
+        Timed::new(stream, clock, Limit::Within(time))
+    }
+
+    /// A side of a connection that came through the door, and is idle.
+    pub fn through(door: &'a Door, stream: &'a TcpStream, clock: &'a H) -> Timed<'a, H> {
+        Timed::new(stream, clock, Limit::Paced(door, Activity::Idle, NO_TIME))
+    }
+}
+
+impl<H> Timed<'_, H> {
+    /// Whether any byte was read.
+    pub fn has_read(&self) -> bool {
+        self.has_read
+    }
+
+    fn count(&mut self, failed: bool)
+        ensures { self.new.failures ≡ count_after failed self.old.failures }
+    {
+        if failed {
+            self.failures = self.failures.saturating_add(1);
+        }
+    }
+}
+
+impl<H: Wait + Clock> Paced for Timed<'_, H> {
+    fn begin(&mut self, activity: Activity, is_sparing: bool) {
+        if let Limit::Paced(door, _, _) = self.side.limit {
+            self.side.limit = Limit::Paced(door, activity, NO_TIME);
+        }
+        self.is_sparing = is_sparing;
+    }
+}
+
+impl<H> Device for Timed<'_, H> {
+    ghost failure_count = { λ t. t.failures };
+
+    fn failures(&self) -> u64 {
+        self.failures
+    }
+}
+
+impl<H: Wait + Clock> Read for Timed<'_, H> {
+    fn read(&mut self, buf: &mut [u8]) -> io::Result<usize>
+        ensures bound { ReadsAtMost result buf.new }
+        ensures bytes { ReadConsumes None None result buf.new }
+        // An error is counted, and nothing else.
+        ensures counted { self.new.failures ≡ count_after (is_err result) self.old.failures }
+    {
+        let most = if self.is_sparing {
+            buf.len().min(1)
+        } else {
+            buf.len()
+        };
+        let result = self.side.receive(&mut buf[..most]);
+        self.has_read |= matches!(result, Ok(n) if n > 0);
+        self.count(result.is_err());
+        result
+    }
+}
+
+impl<H: Wait + Clock> Write for Timed<'_, H> {
+    fn write(&mut self, buf: &[u8]) -> io::Result<usize>
+        ensures bound { WritesAtMost result buf.now }
+        ensures bytes { WriteAppends None None result buf.now }
+        // An error is counted, and a write of some bytes that takes none, and nothing else.
+        ensures counted { self.new.failures ≡ count_after (takes_nothing result buf.now) self.old.failures }
+    {
+        let result = self.side.send(buf);
+        self.count(match &result {
+            Ok(taken) => *taken == 0 && !buf.is_empty(),
+            Err(_) => true,
+        });
+        result
+    }
+
+    fn flush(&mut self) -> io::Result<()> {
+        Ok(())
+    }
+}
+
+impl<H: Wait + Clock> Source for Timed<'_, H> {
+    // No field counts the reads.
+    ghost was_read = { λ _ _. Unit {0} };
+
+    fn read_once(&mut self, buf: &mut [u8]) -> io::Result<usize> {
+        self.read(buf)
+    }
+}
+
+impl<H: Wait + Clock> Sink for Timed<'_, H> {
+    // No field counts the writes.
+    ghost was_written = { λ _ _. Unit {0} };
+
+    fn write_once(&mut self, buf: &[u8]) -> io::Result<usize> {
+        self.write(buf)
+    }
+}

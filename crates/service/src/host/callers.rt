@@ -1,0 +1,203 @@
+//! The connections at the host's door whose requests have not come whole.
+
+ghost use Rattle.std.specs.Prelude.{◌≡◌};
+
+use crate::connection::timed::is_pause;
+use crate::host::hosting::Host;
+use one_list::Run;
+use std::alloc::{AllocError, Global};
+use std::net::{Net, TcpListener, TcpStream};
+use std::sync::Wait;
+use std::thread;
+use std::time::{Clock, Duration, Instant};
+
+/// How many callers wait side by side at most: one more takes the place of the one that came first.
+pub const MAX_CALLERS: usize = 16;
+
+/// How many milliseconds a request may take to come.
+const PATIENCE: u64 = 500;
+
+/// How many milliseconds lie between two looks whether anything has come.
+const PAUSE: u64 = 20;
+
+/// As many bytes of a request as are looked at.
+const GLANCE: usize = 8192;
+
+/// A connection whose request has not come whole.
+#[derive(Drop)]
+struct Caller {
+    stream: TcpStream,
+    came: Instant,
+}
+
+/// Those that wait, the first one first, and the room in which their bytes are looked at.
+#[derive(Drop)]
+pub struct Callers {
+    waiting: Vec<Caller>,
+    room: Vec<u8>,
+}
+
+impl Callers {
+    /// Nobody, with room for as many as may wait.
+    pub fn new(alloc: Global) -> Result<Callers, AllocError> {
+        Ok(Callers {
+            waiting: Vec::with_capacity(alloc, MAX_CALLERS)?,
+            room: vec![in alloc; 0u8; GLANCE]?,
+        })
+    }
+
+    // Sends away who came first.
+    fn dismiss_first(&mut self) {
+        if !self.waiting.is_empty() {
+            let _ = self.waiting.remove(0);
+        }
+    }
+
+    // Lets a connection wait.
+    fn admit(&mut self, stream: TcpStream, came: Instant) {
+        if stream.set_nonblocking(true).is_err() {
+            return;
+        }
+        if self.waiting.len() >= MAX_CALLERS {
+            self.dismiss_first();
+        }
+        // There is room for one more.
+        let _ = self.waiting.push(Caller { stream, came });
+    }
+
+    // Lets those wait who have come.
+    fn admit_all(&mut self, listener: &TcpListener, clock: &impl Clock) {
+        for _ in 0..MAX_CALLERS {
+            let Ok(now) = Instant::now(clock) else {
+                return;
+            };
+            match listener.accept() {
+                Ok((stream, _)) => self.admit(stream, now),
+                Err(error) if is_pause(&error) => return,
+                // Perhaps too many files are open.
+                Err(_) => {
+                    self.dismiss_first();
+                    return;
+                }
+            }
+        }
+    }
+
+    // Takes out one whose request has come, or whose time is over, and says how long its request may still be read.
+    fn next_due(&mut self, now: Instant) -> Option<(TcpStream, Duration)> {
+        for at in 0..self.waiting.len() {
+            let Some(caller) = self.waiting.get(at) else {
+                return None;
+            };
+            if let Some(time) = time_to_read(caller, now, self.room.as_mut_slice()) {
+                return Some((self.waiting.remove(at).stream, time));
+            }
+        }
+        None
+    }
+}
+
+// How long the request of a caller may be read where it is to be read now: where it has come whole, or its time is over.
+fn time_to_read(caller: &Caller, now: Instant, room: &mut [u8]) -> Option<Duration> {
+    if has_come(&caller.stream, room) {
+        Some(Duration::from_millis(PATIENCE))
+    } else if is_over(caller.came, now) {
+        Some(Duration::from_millis(PAUSE))
+    } else {
+        None
+    }
+}
+
+// Whether one who came then has waited long enough.
+fn is_over(came: Instant, now: Instant) -> bool {
+    now.saturating_duration_since(came) >= Duration::from_millis(PATIENCE)
+}
+
+// Whether a request has come whole, or nothing more comes, as far as a look at the bytes tells, which stay where they are.
+fn has_come(stream: &TcpStream, room: &mut [u8]) -> bool {
+    match stream.peek(room) {
+        Ok(0) => true,
+        Ok(n) => n >= room.len() || has_head(&room[..n]),
+        Err(error) => !is_pause(&error),
+    }
+}
+
+// Whether an empty line follows the first line that is not empty.
+fn has_head(bytes: &[u8]) -> bool {
+    let (mut has_begun, mut is_empty) = (false, true);
+    for byte in bytes {
+        match byte {
+            b'\n' if has_begun && is_empty => return true,
+            b'\n' => is_empty = true,
+            b'\r' => {}
+            _ => {
+                has_begun = true;
+                is_empty = false;
+            }
+        }
+    }
+    false
+}
+
+/// What is done on one thread while others work on theirs.
+pub trait Beside {
+    /// What one call of `stay` leaves of it.
+    ghost stays: { Self → Self → Type 0 };
+
+    /// Does it, until the others have done their work.
+    fn stay(&mut self)
+        ensures { stays self.old self.new };
+}
+
+/// The host, and those who wait at its door: who brings no request keeps nobody from being answered.
+#[derive(Drop)]
+pub struct Porter<'a, H, J: Run> {
+    pub host: Host<'a, H, J>,
+    pub callers: Callers,
+}
+
+impl<H: Wait + Net<Stream = TcpStream> + Clock, J: Run> Porter<'_, H, J> {
+    // Answers the request of a connection, which may be read for so long.
+    fn answer(&mut self, stream: &TcpStream, time: Duration)
+        ensures seat { self.new.host.seat ≡ self.old.host.seat }
+        ensures office { self.new.host.office ≡ self.old.host.office }
+    {
+        if stream.set_nonblocking(false).is_ok() {
+            self.host.serve_connection(stream, time);
+        }
+    }
+
+    // Answers those whose requests have come.
+    fn attend(&mut self)
+        ensures seat { self.new.host.seat ≡ self.old.host.seat }
+        ensures office { self.new.host.office ≡ self.old.host.office }
+    {
+        let (listener, clock) = (self.host.listener(), self.host.clock());
+        self.callers.admit_all(listener, clock);
+        for _ in 0..MAX_CALLERS {
+            let Ok(now) = Instant::now(clock) else {
+                return;
+            };
+            let Some((stream, time)) = self.callers.next_due(now) else {
+                return;
+            };
+            self.answer(&stream, time);
+        }
+    }
+}
+
+impl<H: Wait + Net<Stream = TcpStream> + Clock, J: Run> Beside for Porter<'_, H, J> {
+    ghost stays = { λ before after. (after.host.seat ≡ before.host.seat) × (after.host.office ≡ before.host.office) };
+
+    // Answers at the door until nobody serves packets any more.
+    fn stay(&mut self) {
+        let clock = self.host.clock();
+        for _ in clock.forever() {
+            if self.host.is_deserted() {
+                return;
+            }
+            self.attend();
+            thread::sleep(clock, Duration::from_millis(PAUSE));
+        }
+    }
+}

@@ -1,0 +1,60 @@
+//! The setup of a service as it stands.
+
+ghost use Rattle.std.specs.Prelude.{◌≡◌, ◌<◌, ◌≤◌, ℕ, IfOk};
+ghost use Rattle.service.specs.Presence.{ArePresent, IsPresent, IsPresentText};
+
+use crate::office::Office;
+use admin_text::write_setup;
+use one_list::Run;
+use std::alloc::{AllocError, Global};
+use std::sync::Wait;
+use tenant_core::TenantSetup;
+
+// The tenant as it stands, with the token of its operator.
+fn present_setup<J: Run>(
+    handle: &impl Wait,
+    alloc: Global,
+    office: &Office<J>,
+    tenant: usize,
+) -> Result<TenantSetup, AllocError>
+    requires { tenant < office.now.books.tenants }
+    ensures { IfOk result (λ setup. IsPresent J.openings office.now tenant setup) }
+{
+    let admin = office.terms[tenant].admin.copy();
+    office
+        .books
+        .enter(handle, tenant)
+        .book()
+        .present_setup(alloc, admin)
+}
+
+// All tenants as they stand, in their order, one looked at after the other.
+fn present_setups<J: Run>(
+    handle: &impl Wait,
+    alloc: Global,
+    office: &Office<J>,
+) -> Result<Vec<TenantSetup>, AllocError>
+    ensures { IfOk result (λ setups. ArePresent J.openings office.now setups.items) }
+{
+    let tenants = office.books.tenants();
+    let mut setups = Vec::with_capacity(alloc, tenants)?;
+    for tenant in 0..tenants {
+        setups.push_reserved(present_setup(handle, alloc, office, tenant)?);
+    }
+    Ok(setups)
+}
+
+/// The text of a setup of all tenants as they stand, one looked at after the other: each peer with what it owes now, the
+/// routes, the rates and the limits, and the tokens. What is held is in no balance. The tenants' clocks begin where they
+/// began before. The one error is want of memory.
+pub fn present_text<J: Run>(
+    handle: &impl Wait,
+    alloc: Global,
+    office: &Office<J>,
+) -> Result<Vec<u8>, AllocError>
+    ensures { IfOk result (λ text. IsPresentText J.openings office.now text.items) }
+{
+    let setups = present_setups(handle, alloc, office)?;
+    let text = write_setup(alloc, office.start, setups.as_slice())?;
+    Ok(text.into_bytes())
+}

@@ -1,0 +1,22 @@
+//! The service that answers packets of peers and commands of operators over HTTP, and the door of its host.
+//!
+//! - `connection`: what a connection is: how many may come, how long each may do what, and when it gives way to others.
+//! - `worker`: what one worker does on its thread: it serves connections, carries packets and obeys commands.
+//! - `link`: the way out to the next peers.
+//! - `host`: the host's door: who waits there, and what the host is told.
+//! - `running`: how a service begins, runs and ends.
+//! - `office`: what all of them share.
+#![tactic(auto)]
+
+mod connection;
+mod host;
+mod link;
+mod office;
+mod running;
+mod worker;
+
+pub use host::hosting::HostDoor;
+pub use running::ending::ServeFault;
+pub use running::files::{can_open, files_of};
+pub use running::serving::{Doors, Extent, Report, serve};
+pub use worker::answering::without_line_feed;

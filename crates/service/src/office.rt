@@ -1,0 +1,69 @@
+//! What all workers share.
+
+ghost use Rattle.std.specs.Prelude.{◌≡◌, vec_len};
+ghost use Rattle.service.specs.Served.{tenant_named};
+
+use crate::connection::door::Door;
+use books_shared::Books;
+use common_types::{Name, Token};
+use ilp_addr::Moment;
+use meters::Meters;
+use one_list::Run;
+use std::sync::atomic::{AtomicU64, Ordering};
+use workers::Places;
+
+/// What a service knows of a tenant beside its book.
+#[derive(Drop)]
+pub struct Terms {
+    /// What an operator shows who governs the tenant.
+    pub admin: Token,
+    /// For how many milliseconds steps of an exchange with one of its peers may begin.
+    pub hold: u64,
+}
+
+/// What all workers share: the tenants by their numbers, their books, the meters, and the ways in and out. `J` says which list it is that tells,
+/// to the proofs alone, what is done to the books.
+#[derive(Drop)]
+pub struct Office<J: Run> {
+    pub names: Vec<Name>,
+    pub terms: Vec<Terms>,
+    pub books: Books<J>,
+    pub meters: Meters,
+    /// The places in which packets are exchanged with next peers.
+    pub places: Places,
+    /// Where connections come in.
+    pub door: Door,
+    /// How many commands came for each tenant under a token that is not its operator's.
+    pub refused_tokens: Vec<AtomicU64>,
+    /// Where the tenants' clocks began.
+    pub start: Moment,
+    ghost known: { vec_len terms ≡ books.tenants },
+    ghost metered: { meters.tenants ≡ books.tenants },
+}
+
+impl<J: Run> Office<J> {
+    /// The number of the tenant of that name.
+    pub fn tenant_named(&self, name: &[u8]) -> Option<usize>
+        ensures { result ≡ tenant_named self.now.names.items name.now }
+    {
+        self.names
+            .as_slice()
+            .iter()
+            .position(|known| known.as_bytes() == name)
+    }
+
+    /// Counts a command for the tenant under a token that is not its operator's.
+    pub fn refuse_token(&self, tenant: usize) {
+        if let Some(count) = self.refused_tokens.get(tenant) {
+            count.fetch_add(1, Ordering::SeqCst);
+        }
+    }
+
+    /// How many commands came so for the tenant.
+    pub fn refused_tokens(&self, tenant: usize) -> u64 {
+        match self.refused_tokens.get(tenant) {
+            Some(count) => count.load(Ordering::SeqCst),
+            None => 0,
+        }
+    }
+}

@@ -1,0 +1,9 @@
+//! How a service begins, runs and ends.
+
+pub mod auditing;
+pub mod balances;
+pub mod ending;
+pub mod files;
+pub mod meeting;
+pub mod opening;
+pub mod serving;

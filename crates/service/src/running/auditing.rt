@@ -1,0 +1,272 @@
+//! What a service audits in the end.
+
+ghost use Rattle.std.specs.Prelude.{◌≡◌, ◌<◌, map, vec_len, true, All, IfOk, OnOk};
+ghost use Rattle.books_shared.specs.Shares.{receipts_told};
+ghost use Rattle.service.specs.Auditing.{HaveEnded, HaveRolled, IsAudited, IsCount, WasRolled, audit_line, lists_of};
+
+use crate::office::Office;
+use crate::running::ending::AuditEnd;
+use books_shared::Share;
+use meters::{MeterSeat, Meters};
+use one_list::Run;
+use receipts::{AuditFault, Receipt, audit};
+use std::alloc::{AllocError, Global};
+use std::sync::Wait;
+use tenant_core::{Answered, Command, CommandFault, Period};
+use workers::{Clock, GovernFault, govern};
+
+// Rolls a tenant, and keeps the period that it closes. A roll that is refused, but for want of memory, is left to the audit.
+fn roll<J: Run, H: Wait, C: Clock>(
+    handle: &H,
+    alloc: Global,
+    office: &Office<J>,
+    meters: &Meters,
+    seat: &mut MeterSeat,
+    share: &mut Share<J>,
+    clock: &C,
+    tenant: usize,
+    periods: &mut Vec<Period>,
+) -> Result<(), AllocError>
+    requires seat { seat.old.meters ≡ meters.now.id }
+    requires books { tenant < office.now.books.tenants }
+    requires meters { tenant < meters.now.tenants }
+    ensures rolled { OnOk result (WasRolled (C.gives clock.now) tenant share.old share.new) }
+    ensures same_meters { seat.new.meters ≡ seat.old.meters }
+{
+    periods.reserve(1)?;
+    let answer = govern(
+        handle,
+        alloc,
+        &office.books,
+        meters,
+        seat,
+        share,
+        clock,
+        tenant,
+        &Command::Roll,
+    );
+    keep(answer, periods)
+}
+
+// Keeps the period that a roll closed, in room that was made for it.
+fn keep(
+    answer: Result<Answered, GovernFault>,
+    periods: &mut Vec<Period>,
+) -> Result<(), AllocError> {
+    match answer {
+        Ok(Answered::Rolled(period)) => Ok(periods.push(period)?),
+        Err(GovernFault::Memory | GovernFault::Refused(CommandFault::Memory)) => Err(AllocError),
+        Ok(Answered::Done | Answered::Balances(_)) | Err(_) => Ok(()),
+    }
+}
+
+// Rolls all tenants, one after another, with these meters.
+fn roll_below<J: Run, H: Wait, C: Clock>(
+    handle: &H,
+    alloc: Global,
+    office: &Office<J>,
+    meters: &Meters,
+    seat: &mut MeterSeat,
+    share: &mut Share<J>,
+    clock: &C,
+    periods: &mut Vec<Period>,
+) -> Result<(), AllocError>
+    requires seat { seat.old.meters ≡ meters.now.id }
+    requires meters { meters.now.tenants ≡ office.now.books.tenants }
+    ensures { OnOk result (HaveRolled (C.gives clock.now) office.now.books.tenants share.old share.new) }
+{
+    for tenant in 0..office.books.tenants() {
+        roll(
+            handle, alloc, office, meters, seat, share, clock, tenant, periods,
+        )?;
+    }
+    Ok(())
+}
+
+// The same, with meters that nobody reads.
+fn roll_each<J: Run, H: Wait, C: Clock>(
+    handle: &H,
+    alloc: Global,
+    office: &Office<J>,
+    share: &mut Share<J>,
+    clock: &C,
+    periods: &mut Vec<Period>,
+) -> Result<(), AllocError>
+    ensures { OnOk result (HaveRolled (C.gives clock.now) office.now.books.tenants share.old share.new) }
+{
+    let tenants = office.books.tenants();
+    if tenants == 0 {
+        return Ok(());
+    }
+    let (meters, mut seat) = Meters::new(alloc, tenants)?;
+    roll_below(
+        handle, alloc, office, &meters, &mut seat, share, clock, periods,
+    )
+}
+
+// Closes the running period of each tenant by one of the shares, where the run is audited, and keeps what was closed. The one
+// error is that memory was refused.
+fn roll_all<J: Run, H: Wait, C: Clock>(
+    handle: &H,
+    alloc: Global,
+    audited: bool,
+    office: &Office<J>,
+    shares: &mut Vec<Share<J>>,
+    clock: &C,
+    periods: &mut Vec<Period>,
+) -> Result<(), AllocError>
+    requires { 0 < vec_len shares.old }
+    ensures { OnOk result (HaveEnded (C.gives clock.now) audited office.now.books.tenants shares.old.items shares.new.items) }
+{
+    if !audited {
+        return Ok(());
+    }
+    let Some(mut share) = shares.pop() else {
+        unreachable!();
+    };
+    let rolled = roll_each(handle, alloc, office, &mut share, clock, periods);
+    shares.push_reserved(share);
+    rolled
+}
+
+// The receipts of each worker, where all have kept them.
+fn lists_of<J: Run>(alloc: Global, shares: &[Share<J>]) -> Result<Vec<&[Receipt]>, AuditFault>
+    ensures lists { IfOk result (λ lists. map (λ list. list.now) lists.items ≡ lists_of shares.now) }
+    ensures kept { IfOk result (λ lists. All (λ s. s.audited ≡ true) shares.now) }
+{
+    let mut lists = Vec::with_capacity(alloc, shares.len())?;
+    for share in shares {
+        lists.push_reserved(list_of(share)?);
+    }
+    Ok(lists)
+}
+
+// The receipts of a worker. One that has kept none lacks a receipt of each of its records.
+fn list_of<J: Run>(share: &Share<J>) -> Result<&[Receipt], AuditFault>
+    ensures list { IfOk result (λ list. list.now ≡ receipts_told share.now.steps) }
+    ensures kept { IfOk result (λ list. share.now.audited ≡ true) }
+{
+    match share.receipts() {
+        Some(list) => Ok(list),
+        None => Err(AuditFault::Missing),
+    }
+}
+
+// How many receipts the workers have, where they are complete.
+fn count_audited<J: Run>(
+    alloc: Global,
+    periods: &[Period],
+    shares: &[Share<J>],
+) -> Result<usize, AuditFault>
+    ensures { IfOk result (IsCount periods.now shares.now) }
+{
+    let lists = lists_of(alloc, shares)?;
+    let audited = audit(alloc, periods, lists.as_slice())?;
+    Ok(audited.receipts)
+}
+
+/// What an audit found.
+#[derive(Drop)]
+pub struct Found {
+    /// The line that tells it: nothing where no audit is wanted, or memory was refused for it.
+    pub line: Vec<u8>,
+    pub end: AuditEnd,
+}
+
+// Nothing, since memory was refused.
+fn lacked(alloc: Global) -> Found
+    ensures { result.end ≡ AuditEnd.Lacked }
+{
+    Found {
+        line: Vec::new(alloc),
+        end: AuditEnd::Lacked,
+    }
+}
+
+/// Closes the running periods, and audits what the workers did, where that is wanted: by the periods that were closed before,
+/// if there was memory to put them together. One of the workers closes the last ones.
+pub fn finish_audit<J: Run, H: Wait, C: Clock>(
+    handle: &H,
+    alloc: Global,
+    wanted: bool,
+    office: &Office<J>,
+    shares: &mut Vec<Share<J>>,
+    clock: &C,
+    periods: Option<Vec<Period>>,
+) -> Found
+    requires { 0 < vec_len shares.old }
+    ensures ended { result.end ≡ AuditEnd.Good → HaveEnded (C.gives clock.now) wanted office.now.books.tenants shares.old.items shares.new.items }
+    ensures audited { result.end ≡ AuditEnd.Good → IsAudited wanted shares.new.items result.line.items }
+{
+    let Some(mut periods) = periods else {
+        return lacked(alloc);
+    };
+    match roll_all(handle, alloc, wanted, office, shares, clock, &mut periods) {
+        Ok(()) => match audited(alloc, wanted, periods.as_slice(), shares.as_slice()) {
+            Ok(found) => found,
+            Err(AllocError) => lacked(alloc),
+        },
+        Err(AllocError) => lacked(alloc),
+    }
+}
+
+// Audits what the workers did, where that is wanted. The one error is that memory was refused.
+fn audited<J: Run>(
+    alloc: Global,
+    wanted: bool,
+    periods: &[Period],
+    shares: &[Share<J>],
+) -> Result<Found, AllocError>
+    ensures { IfOk result (λ found. found.end ≡ AuditEnd.Good → IsAudited wanted shares.now found.line.items) }
+{
+    if !wanted {
+        return Ok(Found {
+            line: Vec::new(alloc),
+            end: AuditEnd::Good,
+        });
+    }
+    match count_audited(alloc, periods, shares) {
+        Ok(receipts) => Ok(Found {
+            line: good_line(alloc, receipts)?,
+            end: AuditEnd::Good,
+        }),
+        Err(fault) => Ok(Found {
+            line: bad_line(alloc, word_of(&fault)?)?,
+            end: AuditEnd::Bad,
+        }),
+    }
+}
+
+// The line of an audit that says yes.
+fn good_line(alloc: Global, receipts: usize) -> Result<Vec<u8>, AllocError>
+    ensures { IfOk result (λ line. line.items ≡ audit_line receipts) }
+{
+    let mut line = Vec::new(alloc);
+    line.extend_from_slice(b"audit ok ")?;
+    let count = receipts.to_string(alloc)?;
+    line.extend_from_slice(count.as_bytes())?;
+    line.push(b'\n')?;
+    Ok(line)
+}
+
+/// The line of an audit that found a fault.
+pub fn bad_line(alloc: Global, word: &str) -> Result<Vec<u8>, AllocError> {
+    let mut line = Vec::new(alloc);
+    line.extend_from_slice(b"audit ")?;
+    line.extend_from_slice(word.as_bytes())?;
+    line.push(b'\n')?;
+    Ok(line)
+}
+
+// The word for a fault, but for want of memory.
+fn word_of(fault: &AuditFault) -> Result<&'static str, AllocError> {
+    match fault {
+        AuditFault::NoPeriod => Ok("no-period"),
+        AuditFault::Gap => Ok("gap"),
+        AuditFault::Twice => Ok("twice"),
+        AuditFault::Missing => Ok("missing"),
+        AuditFault::Differs => Ok("differs"),
+        AuditFault::Order(_) => Ok("order"),
+        AuditFault::Memory => Err(AllocError),
+    }
+}

@@ -1,0 +1,68 @@
+//! What a service tells of its books in the end.
+
+ghost use Rattle.std.specs.Prelude.{◌≡◌, [], ◌++◌, if◌then◌else◌, IfOk, OnOk};
+ghost use Rattle.std.specs.List.{flat_map};
+ghost use Rattle.replay_text.specs.Printed.{line_of};
+ghost use Rattle.service.specs.Balances.{balance_lines, balances_told};
+
+use common_types::Name;
+use floor_core::Output;
+use ilp_addr::Moment;
+use replay_text::print_lines;
+use std::alloc::{AllocError, Global};
+use tenant_core::{Book, Command};
+
+/// What the command `balances` tells of each of these books, for tenants of these names, where that is wanted. The one error
+/// is want of memory.
+pub fn balance_lines(
+    alloc: Global,
+    wanted: bool,
+    names: &[Name],
+    books: Vec<(Book, u64)>,
+) -> Result<Vec<u8>, AllocError>
+    ensures { IfOk result (λ text. text.items ≡ (if wanted then balance_lines names.now books.items else [])) }
+{
+    let mut text = Vec::new(alloc);
+    if wanted {
+        put_all(alloc, names, books, &mut text)?;
+    }
+    Ok(text)
+}
+
+fn put_all(
+    alloc: Global,
+    names: &[Name],
+    books: Vec<(Book, u64)>,
+    text: &mut Vec<u8>,
+) -> Result<(), AllocError>
+    ensures { OnOk result (text.new.items ≡ text.old.items ++ balance_lines names.now books.items) }
+{
+    for entry in books {
+        put_balances(alloc, names, entry.0, text)?;
+    }
+    Ok(())
+}
+
+fn put_balances(
+    alloc: Global,
+    names: &[Name],
+    book: Book,
+    text: &mut Vec<u8>,
+) -> Result<(), AllocError>
+    ensures { OnOk result (text.new.items ≡ text.old.items ++ line_of names.now (balances_told book)) }
+{
+    let Some(moment) = Moment::new(0) else {
+        unreachable!();
+    };
+    let tenant = book.tenant();
+    let mut book = book;
+    let Ok(answer) = book.command(alloc, &Command::Balances, moment) else {
+        return Err(AllocError);
+    };
+    let outputs = [Output::Governed {
+        tenant,
+        answer: Ok(answer),
+    }];
+    let lines = print_lines(alloc, names, &outputs)?;
+    text.extend_from_slice(lines.as_slice())
+}

@@ -1,0 +1,67 @@
+//! How a service ends.
+
+ghost use Rattle.std.specs.Prelude.{◌≡◌, OnOk};
+ghost use Rattle.service.specs.Ending.{end_of};
+
+use std::alloc::AllocError;
+use std::io;
+use std::io::ErrorKind;
+use thiserror::Error;
+
+/// Why a service ended otherwise than after its rounds, or where its host stopped it.
+#[derive(Clone, Copy, Debug, PartialEq, Eq, Error)]
+pub enum ServeFault {
+    /// Memory was refused.
+    #[error("out of memory")]
+    Memory,
+    /// A connection could not be accepted, a thread not started, or the lines not written.
+    #[error("device")]
+    Device,
+    /// The books in the end are not what the workers have counted. No lock that hands out what was left in it comes to this.
+    #[error("books differ")]
+    Differs,
+    /// An audit found a fault, which its line tells.
+    #[error("audit")]
+    Audit,
+}
+
+impl From<AllocError> for ServeFault {
+    fn from(_: AllocError) -> ServeFault {
+        ServeFault::Memory
+    }
+}
+
+impl From<io::Error> for ServeFault {
+    fn from(error: io::Error) -> ServeFault {
+        if error.kind() == ErrorKind::OutOfMemory {
+            ServeFault::Memory
+        } else {
+            ServeFault::Device
+        }
+    }
+}
+
+/// What became of the audit of a service.
+#[derive(Clone, Copy, Debug, PartialEq, Eq)]
+pub enum AuditEnd {
+    /// It found no fault, or none was wanted.
+    Good,
+    /// It found a fault.
+    Bad,
+    /// Memory was refused for it.
+    Lacked,
+}
+
+/// How a service ends whose books were gathered and whose lines were written: of which an accept has failed, or none, which its
+/// host stopped, or not, and whose audit came to that.
+pub fn end_of(has_failed: bool, was_stopped: bool, audit: AuditEnd) -> Result<(), ServeFault>
+    ensures end { result ≡ end_of has_failed was_stopped audit }
+    ensures good { OnOk result (audit ≡ AuditEnd.Good) }
+{
+    match audit {
+        AuditEnd::Lacked => Err(ServeFault::Memory),
+        AuditEnd::Good | AuditEnd::Bad if has_failed && !was_stopped => Err(ServeFault::Device),
+        AuditEnd::Good => Ok(()),
+        AuditEnd::Bad => Err(ServeFault::Audit),
+    }
+}

@@ -1,0 +1,43 @@
+//! How many files a service may have open at once.
+
+ghost use Rattle.std.specs.Prelude.{◌≡◌, ◌+◌, ◌≤◌, if◌then◌else◌};
+ghost use Rattle.allotment.specs.Loans.{max_places};
+ghost use Rattle.books_shared.specs.Gathers.{max_workers};
+ghost use Rattle.service.specs.Files.{files_of};
+
+use crate::host::callers::MAX_CALLERS;
+use crate::running::serving::Extent;
+use std::alloc::{AllocError, Global};
+use std::net::TcpListener;
+
+/// How many files the process has beside its connections and exchanges: its three streams, its listeners, and some to spare.
+const OTHERS: usize = 8;
+
+/// How many of them are open before a service begins.
+const BEFORE: usize = 6;
+
+/// How many files a process has open at once at most that serves so much: one for each connection, one for each exchange with a
+/// peer, one for each caller at the host's door, if there is one, and eight more.
+pub fn files_of(extent: Extent, has_host: bool) -> usize
+    requires workers { extent.workers ≤ max_places }
+    requires connections { extent.connections ≤ max_workers }
+    ensures { result ≡ files_of extent.connections extent.workers has_host }
+{
+    let callers = if has_host { MAX_CALLERS } else { 0 };
+    extent.connections + extent.workers + callers + OTHERS
+}
+
+/// Whether the process may have so many files open at once: as a probe, as many as are lacking are opened and closed again.
+///
+/// The one error is that memory was refused.
+pub fn can_open(alloc: Global, listener: &TcpListener, files: usize) -> Result<bool, AllocError> {
+    let lacking = files.saturating_sub(BEFORE);
+    let mut opened = Vec::with_capacity(alloc, lacking)?;
+    for _ in 0..lacking {
+        match listener.try_clone() {
+            Ok(file) => opened.push(file)?,
+            Err(_) => return Ok(false),
+        }
+    }
+    Ok(true)
+}

@@ -1,0 +1,56 @@
+//! Where two threads learn that both are there.
+
+use std::sync::atomic::{AtomicU8, Ordering};
+use std::thread;
+use std::time::{Clock, Duration};
+
+/// Nobody has come.
+const NOBODY: u8 = 0;
+
+/// One waits for the other.
+const ONE: u8 = 1;
+
+/// Both have come.
+const BOTH: u8 = 2;
+
+/// One has come and gone.
+const MISSED: u8 = 3;
+
+/// For how many milliseconds one waits for the other.
+const PATIENCE: u64 = 10_000;
+
+/// Where two threads meet before they begin, since one may never have been started.
+#[derive(Drop)]
+pub struct Meeting {
+    stage: AtomicU8,
+}
+
+impl Meeting {
+    pub fn new() -> Meeting {
+        Meeting {
+            stage: AtomicU8::new(NOBODY),
+        }
+    }
+
+    // Whether the stage was the first of these, and is the second from now on.
+    fn moves(&self, from: u8, to: u8) -> bool {
+        self.stage
+            .compare_exchange(from, to, Ordering::SeqCst, Ordering::SeqCst)
+            .is_ok()
+    }
+
+    /// Comes to the meeting, waits for the other one, and says whether it came. It is called once by each: both are told the
+    /// same.
+    pub fn attend(&self, clock: &impl Clock) -> bool {
+        if !self.moves(NOBODY, ONE) {
+            return self.moves(ONE, BOTH);
+        }
+        for _ in 0..PATIENCE {
+            if self.stage.load(Ordering::SeqCst) == BOTH {
+                return true;
+            }
+            thread::sleep(clock, Duration::from_millis(1));
+        }
+        !self.moves(ONE, MISSED)
+    }
+}

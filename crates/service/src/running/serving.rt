@@ -1,0 +1,564 @@
+//! The service: all its workers, and what they counted.
+
+ghost use Rattle.std.specs.Prelude.{ℕ, ◌≡◌, ◌+◌, ◌≤◌, ◌<◌, ◌⊎◌, ◌++◌, [], length, map, vec_len, vec_capacity, true, option_map, slice_index_or, All, IfOk, OnErr, OnOk};
+ghost use Rattle.std.specs.Io.KnownBytes.{Appends};
+ghost use Rattle.std.specs.List.{sum_by};
+ghost use Rattle.allotment.specs.Loans.{max_places};
+ghost use Rattle.books_shared.specs.Gathers.{max_workers};
+ghost use Rattle.books_shared.specs.Traced.{openings_of};
+ghost use Rattle.tenant_core.specs.Limits.{max_tenants};
+ghost use Rattle.std.specs.Fmt.{decimal};
+ghost use Rattle.meters.specs.Seats.{count_of, max_splits};
+ghost use Rattle.meters.specs.declared.kind.Kind as meter;
+ghost use Rattle.service.specs.Answering.{HasToldCounts, HasToldCountsIn, HasWorked, HaveCounted, IsFresh, IsNew};
+ghost use Rattle.service.specs.Hosting.{HasStayed, IsIdle, seats_in};
+ghost use Rattle.service.specs.Extents.{most_waiting_of, total_of};
+ghost use Rattle.service.specs.Served.{line_of, lines_upto};
+
+use crate::connection::door::Door;
+use crate::host::callers::{Beside, Callers, Porter};
+use crate::host::hosting::{Host, HostDoor};
+use crate::office::Office;
+use crate::running::auditing::{Found, bad_line, finish_audit};
+use crate::running::balances::balance_lines;
+use crate::running::ending::{ServeFault, end_of};
+use crate::running::meeting::Meeting;
+use crate::running::opening::{Begun, open_office};
+use crate::worker::Worker;
+use crate::worker::desk::Desk;
+use admin_text::Setup;
+use books_shared::{GatherFault, Share};
+use common_types::Name;
+use floor_core::Slot;
+use meters::{Kind, MeterSeat, Totals};
+use one_list::{Opened, Run};
+use std::alloc::{AllocError, Global};
+use std::io::Write;
+use std::marker::Brand;
+use std::net::{Net, TcpListener, TcpStream};
+use std::sync::Wait;
+use std::thread;
+use std::thread::{Threads, join_mut};
+use tenant_core::Period;
+use workers::{Lane, Places, StartFault, run_workers};
+
+/// What workers leave: what each has counted in books, the periods that they closed, where the run is audited and there was
+/// memory to put them together, and whether one of them could not accept a connection.
+#[derive(Drop)]
+pub struct Done<J: Run> {
+    pub shares: Vec<Share<J>>,
+    pub periods: Option<Vec<Period>>,
+    pub failed: bool,
+}
+
+// A worker for each share, with a seat of its own.
+fn hired<
+    'a,
+    H: Wait + Net<Listener = TcpListener, Stream = TcpStream> + std::time::Clock,
+    C: workers::Clock,
+    J: Run,
+>(
+    handle: &'a H,
+    alloc: Global,
+    office: &'a Office<J>,
+    first: &mut MeterSeat,
+    mut shares: Vec<Share<J>>,
+    listener: &'a TcpListener,
+    clock: &'a C,
+) -> Result<Vec<Worker<'a, H, C, J>>, AllocError>
+    requires here { first.old.meters ≡ office.now.meters.id }
+    requires first { first.old.first ≡ true }
+    requires whole { first.old.splits ≡ 0 }
+    requires few { vec_len shares ≤ max_workers }
+    requires new { All IsFresh shares.items }
+    ensures here { first.new.meters ≡ office.now.meters.id }
+    ensures first { first.new.first ≡ true }
+    ensures joins { first.new.joins ≡ first.old.joins }
+    ensures counts { first.new.counts ≡ first.old.counts }
+    ensures split { IfOk result (λ lanes. vec_len lanes ≡ first.new.splits) }
+    ensures each { IfOk result (λ lanes. vec_len lanes ≡ vec_len shares) }
+    ensures new { IfOk result (λ lanes. All (λ lane. IsNew lane.desk) lanes.items) }
+    ensures office { IfOk result (λ lanes. All (λ lane. lane.office.now ≡ office.now) lanes.items) }
+    ensures clock { IfOk result (λ lanes. All (λ lane. lane.clock.now ≡ clock.now) lanes.items) }
+{
+    let mut lanes = Vec::with_capacity(alloc, shares.len())?;
+    while let Some(share) = shares.pop() {
+        let slot = Slot::new(alloc)?;
+        let desk = Desk::new(alloc, share, office.meters.split(first), slot);
+        lanes.push_reserved(Worker::new(handle, alloc, office, clock, listener, desk));
+    }
+    Ok(lanes)
+}
+
+// What the workers leave, their shares in that room: what their seats have counted is the first one's from then on.
+fn dismissed<H, C, J: Run>(
+    alloc: Global,
+    office: &Office<J>,
+    first: &mut MeterSeat,
+    lanes: Vec<Worker<'_, H, C, J>>,
+    room: Vec<Share<J>>,
+) -> Done<J>
+    requires here { first.old.meters ≡ office.now.meters.id }
+    requires same { All (λ lane. lane.office.now ≡ office.now) lanes.items }
+    requires empty { room.items ≡ [] }
+    requires room { vec_len lanes ≤ vec_capacity room }
+    ensures here { first.new.meters ≡ office.now.meters.id }
+    ensures first { first.new.first ≡ first.old.first }
+    ensures splits { first.new.splits ≡ first.old.splits }
+    ensures joined { first.new.joins ≡ first.old.joins + length lanes.entry.items }
+    ensures each { vec_len result.shares ≡ length lanes.entry.items }
+    ensures shares { result.shares.items ≡ map (λ lane. lane.desk.share) lanes.entry.items }
+    ensures counts { (tenant : ℕ) (kind : meter.Kind)
+        → count_of tenant kind first.new ≡ count_of tenant kind first.old
+        + sum_by (λ lane. count_of tenant kind lane.desk.seat) lanes.entry.items }
+{
+    let mut shares = room;
+    let mut periods = Some(Vec::new(alloc));
+    let mut failed = false;
+    for lane in lanes {
+        let (desk, broken) = lane.into_desk();
+        let Desk {
+            seat,
+            share,
+            periods: closed,
+            ..
+        } = desk;
+        office.meters.join(first, seat);
+        shares.push_reserved(share);
+        periods = with_more(periods, closed);
+        failed |= broken;
+    }
+    Done {
+        shares,
+        periods,
+        failed,
+    }
+}
+
+// Periods and more of them, where there is memory to put them together.
+fn with_more(periods: Option<Vec<Period>>, more: Vec<Period>) -> Option<Vec<Period>> {
+    let mut all = periods?;
+    for period in more {
+        all.push(period).ok()?;
+    }
+    Some(all)
+}
+
+// The host at that door, who reads the meters through a seat of its own, and room for those who wait at the door.
+fn host_at<'a, H, J: Run>(
+    handle: &'a H,
+    alloc: Global,
+    office: &'a Office<J>,
+    first: &mut MeterSeat,
+    door: Option<HostDoor<'a>>,
+) -> Result<Option<Porter<'a, H, J>>, AllocError>
+    requires here { first.old.meters ≡ office.now.meters.id }
+    requires first { first.old.first ≡ true }
+    requires few { first.old.splits < max_splits }
+    ensures idle { IfOk result (λ porter. IsIdle office.now.meters.id (option_map (λ porter. porter.host.seat) porter)) }
+    ensures here { first.new.meters ≡ first.old.meters }
+    ensures first { first.new.first ≡ true }
+    ensures splits { IfOk result (λ porter. first.new.splits ≡ first.old.splits + seats_in (option_map (λ porter. porter.host.seat) porter)) }
+    ensures joins { first.new.joins ≡ first.old.joins }
+    ensures counts { first.new.counts ≡ first.old.counts }
+{
+    let Some(door) = door else {
+        return Ok(None);
+    };
+    let callers = Callers::new(alloc)?;
+    let seat = office.meters.split(first);
+    let host = Host::new(handle, alloc, office, door, seat);
+    Ok(Some(Porter { host, callers }))
+}
+
+// Takes the host's seat back, at which nothing was counted.
+fn host_leaves<H, J: Run>(
+    office: &Office<J>,
+    first: &mut MeterSeat,
+    porter: Option<Porter<'_, H, J>>,
+)
+    requires here { first.old.meters ≡ office.now.meters.id }
+    requires idle { IsIdle office.now.meters.id (option_map (λ porter. porter.host.seat) porter) }
+    ensures here { first.new.meters ≡ first.old.meters }
+    ensures first { first.new.first ≡ first.old.first }
+    ensures splits { first.new.splits ≡ first.old.splits }
+    ensures joins { first.new.joins ≡ first.old.joins + seats_in (option_map (λ porter. porter.host.seat) porter.entry) }
+    ensures counts { (tenant : ℕ) (kind : meter.Kind) → count_of tenant kind first.new ≡ count_of tenant kind first.old }
+{
+    if let Some(porter) = porter {
+        let Porter { host, .. } = porter;
+        office.meters.join(first, host.into_seat());
+    }
+}
+
+// Whether a thread can be started.
+fn can_start<R: Threads + Wait + Sync>(rt: &R) -> bool {
+    thread::scope(
+        thread::scope_env(),
+        rt,
+        |scope| scope.spawn(move || {}).is_ok(),
+    )
+}
+
+// Lets each lane work on a thread of its own, and the other, where there is one, stay beside them until all have ended. None of
+// them works where the other has no thread.
+fn run_beside<H: Threads + Wait + std::time::Clock + Sync, W: Lane, B: Beside>(
+    handle: &H,
+    door: &Door,
+    lanes: &mut [W],
+    other: &mut Option<B>,
+) -> Result<(), StartFault>
+    ensures ok { OnOk result ((i : ℕ) (d : W) → i < length lanes.old
+        → W.works (slice_index_or lanes.old i d) (slice_index_or lanes.new i d)) }
+    ensures err { OnErr result (lanes.new ≡ lanes.old) }
+    ensures other { HasStayed B.stays other.old other.new ⊎ (other.new ≡ other.old) }
+{
+    let Some(other) = other else {
+        return run_workers(handle, lanes);
+    };
+    if !can_start(handle) {
+        return Err(StartFault);
+    }
+    let meeting = Meeting::new();
+    let (started, ()) = join_mut(
+        handle,
+        &mut || {
+            let started = if meeting.attend(handle) {
+                run_workers(handle, lanes)
+            } else {
+                Err(StartFault)
+            };
+            door.desert();
+            started
+        },
+        &mut || {
+            if !meeting.attend(handle) {
+                door.desert();
+            }
+            other.stay();
+        },
+    );
+    started
+}
+
+// Lets all workers serve, on threads, and the host, where there is one, answer until they have ended.
+fn work_all<
+    H: Threads + Wait + Net<Listener = TcpListener, Stream = TcpStream> + std::time::Clock + Sync,
+    C: workers::Clock + Sync,
+    J: Run + Send + Sync,
+>(
+    handle: &H,
+    office: &Office<J>,
+    clock: &C,
+    lanes: &mut [Worker<'_, H, C, J>],
+    porter: &mut Option<Porter<'_, H, J>>,
+) -> Result<(), ServeFault>
+    requires new { All (λ lane. IsNew lane.desk) lanes.old }
+    requires office { All (λ lane. lane.office.now ≡ office.now) lanes.old }
+    requires clock { All (λ lane. lane.clock.now ≡ clock.now) lanes.old }
+    ensures office { All (λ lane. lane.office.now ≡ office.now) lanes.new }
+    ensures worked { OnOk result (All (λ lane. HasWorked (C.gives clock.now) office.now lane.desk) lanes.new) }
+    ensures seat { option_map (λ porter. porter.host.seat) porter.new ≡ option_map (λ porter. porter.host.seat) porter.old }
+{
+    meters::laws::meters_are_shared();
+    match run_beside(handle, &office.door, lanes, porter) {
+        Ok(()) => Ok(()),
+        Err(_) => Err(ServeFault::Device),
+    }
+}
+
+/// Lets a worker for each share serve connections, and joins them all.
+pub fn run_all<
+    'a,
+    H: Threads + Wait + Net<Listener = TcpListener, Stream = TcpStream> + std::time::Clock + Sync,
+    C: workers::Clock + Sync,
+    J: Run + Send + Sync,
+>(
+    handle: &'a H,
+    alloc: Global,
+    office: &'a Office<J>,
+    first: &mut MeterSeat,
+    shares: Vec<Share<J>>,
+    doors: Doors<'a>,
+    clock: &'a C,
+) -> Result<Done<J>, ServeFault>
+    requires here { first.old.meters ≡ office.now.meters.id }
+    requires first { first.old.first ≡ true }
+    requires whole { first.old.splits ≡ 0 }
+    requires none { first.old.joins ≡ 0 }
+    requires nothing { (tenant : ℕ) (kind : meter.Kind) → count_of tenant kind first.old ≡ 0 }
+    requires few { vec_len shares ≤ max_workers }
+    requires new { All IsFresh shares.items }
+    ensures here { first.new.meters ≡ office.now.meters.id }
+    ensures joined { OnOk result (first.new.joins ≡ first.new.splits) }
+    ensures each { IfOk result (λ done. vec_len done.shares ≡ vec_len shares) }
+    ensures first { first.new.first ≡ true }
+    ensures counted { IfOk result (λ done. HaveCounted (C.gives clock.now) office.now (vec_len shares) done.shares.items
+        (λ tenant kind. count_of tenant kind first.new)) }
+{
+    let room = Vec::with_capacity(alloc, shares.len())?;
+    let mut lanes = hired(handle, alloc, office, first, shares, doors.packets, clock)?;
+    let mut porter = host_at(handle, alloc, office, first, doors.host)?;
+    work_all(handle, office, clock, lanes.as_mut_slice(), &mut porter)?;
+    host_leaves(office, first, porter);
+    Ok(dismissed(alloc, office, first, lanes, room))
+}
+
+// A line for each tenant: how many packets and commands were answered with which status, and how often its peers gave no
+// answer.
+fn lines_of(alloc: Global, names: &[Name], totals: &Totals) -> Result<Vec<u8>, AllocError>
+    requires { length names.now ≤ totals.now.tenants }
+    ensures { IfOk result (λ text. text.items ≡ lines_upto (length names.now) names.now totals.now) }
+{
+    let mut text = Vec::new(alloc);
+    for tenant in 0..names.len() {
+        put_line(alloc, &mut text, names[tenant].as_bytes(), tenant, totals)?;
+    }
+    Ok(text)
+}
+
+#[tactic(auto, unfolding(crate::specs::Served::line_of))]
+fn put_line(
+    alloc: Global,
+    text: &mut Vec<u8>,
+    name: &[u8],
+    tenant: usize,
+    totals: &Totals,
+) -> Result<(), AllocError>
+    requires { tenant < totals.now.tenants }
+    ensures { OnOk result (text.new.items ≡ text.old.items ++ line_of name.now tenant totals.now) }
+{
+    text.extend_from_slice(name)?;
+    put_count(alloc, text, b" 200 ", totals.get(tenant, Kind::Answered))?;
+    put_count(alloc, text, b" 4xx ", totals.get(tenant, Kind::Refused))?;
+    put_count(alloc, text, b" 503 ", totals.get(tenant, Kind::Unavailable))?;
+    put_count(alloc, text, b" link ", totals.get(tenant, Kind::LinkFault))?;
+    text.push(b'\n')?;
+    Ok(())
+}
+
+fn put_count(alloc: Global, text: &mut Vec<u8>, words: &[u8], count: u64) -> Result<(), AllocError>
+    ensures { OnOk result (text.new.items ≡ text.old.items ++ words.now ++ decimal count) }
+{
+    text.extend_from_slice(words)?;
+    let count = count.to_string(alloc)?;
+    text.extend_from_slice(count.as_bytes())
+}
+
+// Writes a text, the lines of the tenants, and what is last.
+fn tell<W: Write>(
+    alloc: Global,
+    mut text: Vec<u8>,
+    names: &[Name],
+    totals: &Totals,
+    last: &[u8],
+    writer: &mut W,
+) -> Result<(), ServeFault>
+    requires { length names.now ≤ totals.now.tenants }
+    ensures { OnOk result (Appends (W.contents writer.old) (W.contents writer.new)
+        (text.items ++ lines_upto (length names.now) names.now totals.now ++ last.now)) }
+{
+    let lines = lines_of(alloc, names, totals)?;
+    text.extend_from_slice(lines.as_slice())?;
+    text.extend_from_slice(last)?;
+    Ok(writer.write_all(text.as_slice())?)
+}
+
+/// Where a service is asked.
+#[derive(Drop)]
+pub struct Doors<'a> {
+    /// Where packets and commands come.
+    pub packets: &'a TcpListener,
+    /// Where the host asks, if anywhere.
+    pub host: Option<HostDoor<'a>>,
+}
+
+/// How many threads serve, how many packets are exchanged with next peers at once, and how many connections are served.
+#[derive(Clone, Copy)]
+pub struct Extent {
+    /// 1 to 64: so many packets may be on their way to next peers at once.
+    pub workers: usize,
+    /// 1 to 4,096: so many connections may be open at once, each on a thread of its own.
+    pub connections: usize,
+    /// How many connections are served for each of `workers` before the service ends, if it does.
+    pub rounds: Option<u32>,
+}
+
+/// What a service tells in the end beside the lines of its tenants.
+#[derive(Clone, Copy, Debug, PartialEq, Eq)]
+pub struct Report {
+    /// What the command `balances` would tell of each tenant, before these lines.
+    pub balances: bool,
+    /// Whether receipts are kept of all that is done, and audited; and what the audit found, after these lines.
+    pub audit: bool,
+}
+
+// How many connections are served in all: so many rounds for each worker, or as many as can be counted.
+fn total_of(extent: Extent) -> u64
+    requires { extent.workers ≤ max_places }
+    ensures { result ≡ total_of extent.workers extent.rounds }
+{
+    match extent.rounds {
+        Some(rounds) => extent.workers as u64 * u64::from(rounds),
+        None => u64::MAX,
+    }
+}
+
+// How many packets of each tenant may wait for a place: what half of the connections beyond the places come to for each.
+fn most_waiting_of(extent: Extent, tenants: usize) -> usize
+    requires { 1 ≤ tenants }
+    ensures { result ≡ most_waiting_of extent.connections extent.workers tenants }
+{
+    extent.connections.saturating_sub(extent.workers) / 2 / tenants
+}
+
+/// Serves connections, each on a thread of its own, joins the threads once as many were served as are to be, and writes what
+/// the command `balances` would tell of each tenant, where that is wanted, a line for each tenant, and what an audit found, where
+/// one is wanted.
+///
+/// A connection that brings no byte is none of those that are served. A packet that goes on takes one of the places
+/// that the tenants share while it is exchanged with the next peer.
+///
+/// A line says how many packets and commands of the tenant were answered with which status, and how often its peers gave
+/// no answer: the sums of what the workers have counted, one on each thread, each of which begins with nothing and counts
+/// with each question that it is asked as `HasAnswered` says. It is asked what the requests of its connections ask, in their
+/// order, none passed over, and none behind one that closes a connection.
+///
+/// All that the workers did to the tenants' books is one list, whatever the threads did: of each tenant it has what led from
+/// the setup to the tenant's book, of each worker what it did, and nothing else; and it is a run of a `Floor` from the setup on
+/// (`Books::gather`).
+///
+/// Where an audit is wanted, each worker keeps a receipt of each entry that it appends, and the periods that it closes, so that
+/// memory grows with what is done. In the end one worker rolls each tenant, and all receipts are checked against all periods:
+/// `audit ok N` tells that these N receipts are complete, and `audit WORD` what is wrong.
+///
+/// `Memory` where memory was refused; `Device` where a thread could not be started, a connection not be accepted, or the
+/// lines not be written; `Differs` where the books in the end are not what the workers have counted, which comes of no lock
+/// that hands out what was left in it; `Audit` where an audit found a fault, or the books differ. The lines are written first, unless no thread was started or memory was refused.
+pub fn serve<
+    H: Threads + Wait + Net<Listener = TcpListener, Stream = TcpStream> + std::time::Clock + Sync,
+    C: workers::Clock + Sync,
+    W: Write,
+>(
+    handle: &H,
+    alloc: Global,
+    setup: &Setup,
+    extent: Extent,
+    report: Report,
+    doors: Doors<'_>,
+    clock: &C,
+    writer: &mut W,
+) -> Result<(), ServeFault>
+    requires tenants { (1 ≤ length setup.now.tenants) × (length setup.now.tenants ≤ max_tenants) }
+    requires workers { (1 ≤ extent.workers) × (extent.workers ≤ max_places) }
+    requires connections { (1 ≤ extent.connections) × (extent.connections ≤ max_workers) }
+    ensures { OnOk result (HasToldCounts (C.gives clock.now) setup.now extent.connections report (W.contents writer.old) (W.contents writer.new)) }
+{
+    let tenants = setup.tenants.as_slice().len();
+    let opened = Opened::new(alloc, tenants, extent.connections)?;
+    let places = Places::new(
+        alloc,
+        extent.workers,
+        tenants,
+        most_waiting_of(extent, tenants),
+    )?;
+    let door = Door::new(total_of(extent));
+    let workers = extent.connections;
+    serve_run::<Brand, _, _, _>(
+        handle, alloc, opened, setup, workers, report, places, door, doors, clock, writer,
+    )
+}
+
+// Serves, with one list of all that is done to the books, which has just been opened.
+fn serve_run<
+    J: Run + Send + Sync,
+    H: Threads + Wait + Net<Listener = TcpListener, Stream = TcpStream> + std::time::Clock + Sync,
+    C: workers::Clock + Sync,
+    W: Write,
+>(
+    handle: &H,
+    alloc: Global,
+    opened: Opened,
+    setup: &Setup,
+    workers: usize,
+    report: Report,
+    places: Places,
+    door: Door,
+    doors: Doors<'_>,
+    clock: &C,
+    writer: &mut W,
+) -> Result<(), ServeFault>
+    requires list { (opened.table ≡ J.table) × (opened.size ≡ J.size) }
+    requires size { J.size ≡ record { tenants = length setup.now.tenants; workers = workers } }
+    requires openings { J.openings ≡ openings_of setup.now.tenants setup.now.start }
+    requires tenants { (1 ≤ length setup.now.tenants) × (length setup.now.tenants ≤ max_tenants) }
+    requires workers { (1 ≤ workers) × (workers ≤ max_workers) }
+    ensures { OnOk result (HasToldCountsIn J.Run (C.gives clock.now) setup.now workers report (W.contents writer.old) (W.contents writer.new)) }
+{
+    let Begun {
+        office,
+        mut first,
+        shares,
+    } = open_office::<J>(alloc, opened, setup, workers, report.audit, places, door)?;
+    let done = run_all(handle, alloc, &office, &mut first, shares, doors, clock)?;
+    let Done {
+        mut shares,
+        periods,
+        failed,
+    } = done;
+    let Found { line, end } = finish_audit(
+        handle,
+        alloc,
+        report.audit,
+        &office,
+        &mut shares,
+        clock,
+        periods,
+    );
+    let was_stopped = office.door.is_closed();
+    let Office {
+        books,
+        names,
+        meters,
+        ..
+    } = office;
+    let totals = meters.close(first);
+    let names = names.as_slice();
+    match books.gather(alloc, shares) {
+        Ok(gathered) => {
+            let text = balance_lines(alloc, report.balances, names, gathered)?;
+            tell(alloc, text, names, &totals, line.as_slice(), writer)?;
+            end_of(failed, was_stopped, end)?;
+            Ok(())
+        }
+        Err(fault) => {
+            let (line, fault) = end_of_gathering(alloc, &fault, report.audit)?;
+            tell(
+                alloc,
+                Vec::new(alloc),
+                names,
+                &totals,
+                line.as_slice(),
+                writer,
+            )?;
+            Err(fault)
+        }
+    }
+}
+
+// What is told last where the books were not gathered, and how the service ends.
+fn end_of_gathering<J: Run>(
+    alloc: Global,
+    fault: &GatherFault<J>,
+    audited: bool,
+) -> Result<(Vec<u8>, ServeFault), AllocError> {
+    match fault {
+        GatherFault::Memory(..) => Ok((Vec::new(alloc), ServeFault::Memory)),
+        GatherFault::Missing(..) | GatherFault::Differs(..) if audited => {
+            Ok((bad_line(alloc, "differs")?, ServeFault::Audit))
+        }
+        GatherFault::Missing(..) | GatherFault::Differs(..) => {
+            Ok((Vec::new(alloc), ServeFault::Differs))
+        }
+    }
+}

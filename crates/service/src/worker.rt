@@ -1,0 +1,295 @@
+//! A worker, and what it answers to requests.
+
+ghost use Rattle.std.specs.Prelude.{◌≡◌, [], nat_lt};
+ghost use Rattle.workers.specs.Replies.{code_of};
+ghost use Rattle.http_link.specs.declared.request.RequestKind.TheVariants.{Admin};
+ghost use Rattle.service.specs.Answering.{HasAnswered, HasHeard, HasServed, WasOrdered};
+ghost use Rattle.service.specs.Served.{tenant_named, told_text};
+
+pub mod answering;
+pub mod desk;
+
+use crate::connection::pace::{Activity, Rush, yields};
+use crate::connection::timed::{Paced, Timed};
+use crate::office::Office;
+use crate::worker::desk::Desk;
+use http_link::{Inbox, LinkFault, RequestKind, Served, Service, serve_next};
+use one_list::Run;
+use std::alloc::Global;
+use std::net::{Net, TcpListener, TcpStream};
+use std::sync::Wait;
+use std::thread;
+use std::thread::Threads;
+use std::time::{Duration, Instant};
+use workers::{Clock, Lane, Status};
+
+/// How a connection ended whose devices did not fail.
+#[derive(Clone, Copy, Debug, PartialEq, Eq)]
+pub enum Over {
+    /// The client ended it.
+    Ended,
+    /// Its last request closed it, or the next one was turned away.
+    Closed,
+    /// It gave way to others, or to the end of the service, after an answer: no request that was read is left.
+    Yielded,
+}
+
+/// A worker that serves connections, one after another, as long as more may come, and ends early where none can be accepted
+/// for a minute. It carries packets to the next peers, and does the commands of those who show the tenant's token for them.
+#[derive(Drop)]
+pub struct Worker<'a, H, C, J: Run> {
+    handle: &'a H,
+    alloc: Global,
+    office: &'a Office<J>,
+    clock: &'a C,
+    listener: &'a TcpListener,
+    failed: bool,
+    // The status of the last answer that a request had.
+    status: u16,
+    desk: Desk<J>,
+    ghost seated: { desk.seat.meters ≡ office.now.meters.id },
+}
+
+impl<'a, H, C, J: Run> Worker<'a, H, C, J> {
+    pub fn new(
+        handle: &'a H,
+        alloc: Global,
+        office: &'a Office<J>,
+        clock: &'a C,
+        listener: &'a TcpListener,
+        desk: Desk<J>,
+    ) -> Worker<'a, H, C, J>
+        requires { desk.seat.meters ≡ office.now.meters.id }
+        ensures desk { result.desk ≡ desk }
+        ensures office { result.office.now ≡ office.now }
+        ensures clock { result.clock.now ≡ clock.now }
+    {
+        Worker {
+            handle,
+            alloc,
+            office,
+            clock,
+            listener,
+            failed: false,
+            status: 0,
+            desk,
+        }
+    }
+
+    /// What is left on its desk, and whether a connection could not be accepted.
+    pub fn into_desk(self) -> (Desk<J>, bool)
+        ensures { result.0 ≡ self.entry.desk }
+    {
+        let Worker { desk, failed, .. } = self;
+        (desk, failed)
+    }
+}
+
+impl<H: Wait + Net<Stream = TcpStream> + std::time::Clock, C: Clock, J: Run> Service
+    for Worker<'_, H, C, J> {
+    ghost asks = { λ before asked after. (after.office ≡ before.office) × (after.clock ≡ before.clock)
+        × HasAnswered (C.gives before.clock.now) before.office.now before.desk asked after.desk };
+
+    ghost tenant_of = { λ c name. tenant_named c.office.now.names.items name };
+
+    ghost answer = { λ c. told_text c.desk.told c.desk.slot.reply c.desk.printed.items };
+
+    fn tenant(&self, name: &[u8]) -> Option<usize> {
+        self.office.tenant_named(name)
+    }
+
+    fn ilp(&mut self, tenant: usize, token: &[u8], body: &[u8]) -> u16 {
+        self.desk.told = RequestKind::Ilp;
+        let office = self.office;
+        if tenant >= office.books.tenants() {
+            self.status = Status::Unavailable.code();
+            return self.status;
+        }
+        let (handle, alloc, clock) = (self.handle, self.alloc, self.clock);
+        let status = self
+            .desk
+            .carry(handle, alloc, office, clock, tenant, token, body);
+        self.status = status.code();
+        self.status
+    }
+
+    fn admin(&mut self, tenant: usize, token: &[u8], body: &[u8]) -> u16 {
+        self.desk.told = RequestKind::Admin;
+        self.status = self.ordered(tenant, token, body).code();
+        self.status
+    }
+
+    fn body(&self) -> &[u8] {
+        self.desk.told()
+    }
+}
+
+/// How often in a row a worker tries to accept a connection.
+const MAX_TRIES: u32 = 600;
+
+/// How many milliseconds it waits before it tries again.
+const PAUSE: u64 = 100;
+
+impl<H: Wait + Net<Stream = TcpStream> + std::time::Clock, C: Clock, J: Run> Worker<'_, H, C, J> {
+    // Does a command under the token of the tenant's operator.
+    fn ordered(&mut self, tenant: usize, token: &[u8], body: &[u8]) -> Status
+        ensures office { self.new.office ≡ self.old.office }
+        ensures clock { self.new.clock ≡ self.old.clock }
+        ensures kind { self.new.desk.told ≡ self.old.desk.told }
+        ensures ordered { WasOrdered (C.gives self.old.clock.now) (nat_lt tenant self.old.office.now.books.tenants) self.old.office.now
+            (record { kind = Admin; tenant = tenant; token = token.now; body = body.now; status = code_of result }) self.old.desk result self.new.desk }
+    {
+        let office = self.office;
+        let Some(terms) = office.terms.get(tenant) else {
+            return Status::Unavailable;
+        };
+        if terms.admin.as_bytes() != token {
+            office.refuse_token(tenant);
+            return Status::Unauthorized;
+        }
+        self.desk
+            .obey(self.handle, self.alloc, office, self.clock, tenant, body)
+    }
+
+    // Accepts a connection, and says whether one came. A try that fails is made again after a pause, and is reported in the end,
+    // but for one that fails since the service stops.
+    fn accepted(&mut self) -> Option<TcpStream>
+        ensures office { self.new.office ≡ self.old.office }
+        ensures clock { self.new.clock ≡ self.old.clock }
+        ensures desk { self.new.desk ≡ self.old.desk }
+    {
+        let door = &self.office.door;
+        for _ in 0..MAX_TRIES {
+            door.set_refused(false);
+            let accepted = self.listener.accept();
+            if let Ok((stream, _)) = accepted {
+                return Some(stream);
+            }
+            if door.is_closed() {
+                return None;
+            }
+            door.set_refused(true);
+            self.failed = true;
+            thread::sleep(self.handle, Duration::from_millis(PAUSE));
+        }
+        None
+    }
+
+    // Accepts a connection that may be served.
+    fn next_connection(&mut self) -> Option<TcpStream>
+        ensures office { self.new.office ≡ self.old.office }
+        ensures clock { self.new.clock ≡ self.old.clock }
+        ensures desk { self.new.desk ≡ self.old.desk }
+    {
+        let door = &self.office.door;
+        if !door.enter(self.handle) {
+            return None;
+        }
+        door.wait_begins();
+        let stream = self.accepted();
+        door.wait_ends();
+        if stream.is_none() || door.is_closed() {
+            door.give_back();
+            return None;
+        }
+        stream
+    }
+
+    // For how many milliseconds a connection was served that came then; for ever where the clock can't be read.
+    fn served_since(&self, came: Option<Instant>) -> u64 {
+        match (came, Instant::now(self.handle)) {
+            (Some(came), Ok(now)) => {
+                let served = now.saturating_duration_since(came).as_millis();
+                served.min(u128::from(u64::MAX)) as u64
+            }
+            _ => u64::MAX,
+        }
+    }
+
+    // Whether a connection that came then ends after the answer that it just had.
+    fn gives_way(&self, came: Option<Instant>) -> bool {
+        let rush = self.office.door.rush();
+        rush == Rush::Crowded && yields(rush, self.status, self.served_since(came))
+    }
+
+    // Serves the requests of a connection until it ends, and says how. Once it gives way to others, or what had come when the
+    // service was stopped is in the inbox, nothing is read that comes after the requests in the inbox, and it ends after the
+    // last of them.
+    fn converse<P: Paced>(
+        &mut self,
+        reader: &mut P,
+        writer: &mut P,
+        inbox: &mut Inbox,
+    ) -> Result<Over, LinkFault>
+        requires fresh { inbox.old ≡ [] }
+        ensures office { self.new.office ≡ self.old.office }
+        ensures clock { self.new.clock ≡ self.old.clock }
+        ensures heard { HasHeard (C.gives self.old.clock.now) self.old.office.now self.old.desk (P.remaining reader.old) (P.remaining reader.new) result self.new.desk }
+    {
+        http_link::laws::more_may_come();
+        let came = Instant::now(self.handle).ok();
+        let mut is_last = false;
+        for _ in self.handle.forever() {
+            if is_last && inbox.is_empty() {
+                return Ok(Over::Yielded);
+            }
+            let is_stopping = self.office.door.is_closed();
+            reader.begin(Activity::Idle, is_last);
+            if !inbox.await_more(reader)? {
+                return Ok(Over::Ended);
+            }
+            is_last |= is_stopping;
+            reader.begin(Activity::Busy, is_last);
+            writer.begin(Activity::Busy, is_last);
+            match serve_next(reader, writer, self, inbox)? {
+                Served::Kept => {}
+                Served::Closed => return Ok(Over::Closed),
+                Served::Ended => return Ok(Over::Ended),
+            }
+            is_last |= self.gives_way(came);
+        }
+        unreachable!()
+    }
+
+    // Serves a connection until it ends, and says whether it brought any byte.
+    fn serve_connection(&mut self, stream: &TcpStream, inbox: &mut Inbox) -> bool
+        ensures office { self.new.office ≡ self.old.office }
+        ensures clock { self.new.clock ≡ self.old.clock }
+        ensures served { HasServed (C.gives self.old.clock.now) self.old.office.now self.old.desk self.new.desk }
+    {
+        let door = &self.office.door;
+        let mut reader = Timed::through(door, stream, self.handle);
+        let mut writer = Timed::through(door, stream, self.handle);
+        if stream.set_nodelay(true).is_err() {
+            return false;
+        }
+        inbox.clear();
+        let _ = self.converse(&mut reader, &mut writer, inbox);
+        reader.has_read()
+    }
+}
+
+impl<
+    H: Wait + Net<Stream = TcpStream> + std::time::Clock + Sync,
+    C: Clock + Sync,
+    J: Run + Send + Sync,
+> Lane for Worker<'_, H, C, J> {
+    ghost works = { λ before after. (after.office ≡ before.office)
+        × HasServed (C.gives before.clock.now) before.office.now before.desk after.desk };
+
+    #[tactic(auto, using(crate::proofs::Leading::served_then, crate::proofs::Leading::served_nothing))]
+    fn work<R: Threads + Wait + Sync>(&mut self, _rt: &R) {
+        let mut inbox = Inbox::new();
+        for _ in self.handle.forever() {
+            let Some(stream) = self.next_connection() else {
+                return;
+            };
+            self.office.door.connection_begins();
+            let spoke = self.serve_connection(&stream, &mut inbox);
+            self.office.door.connection_ends();
+            if !spoke {
+                self.office.door.give_back();
+            }
+        }
+    }
+}

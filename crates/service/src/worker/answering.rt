@@ -1,0 +1,217 @@
+//! What a worker makes of a packet, and of a command.
+
+ghost use Rattle.std.specs.Prelude.{◌≡◌, ◌<◌};
+ghost use Rattle.admin_text.specs.Commands.{command_in};
+ghost use Rattle.service.specs.Answering.{IsPrinted, IsTold, IsUntouched, WasCarried, WasGoverned, WasObeyed, command_line};
+
+use crate::link::PeerLink;
+use crate::office::Office;
+use crate::worker::desk::Desk;
+use admin_text::parse_command;
+use common_types::ReadError;
+use floor_core::Output;
+use one_list::Run;
+use replay_text::print_lines;
+use std::alloc::{AllocError, Global};
+use std::net::{Net, TcpStream};
+use std::slice;
+use std::sync::Wait;
+use tenant_core::{Answered, Command, CommandFault, Period};
+use workers::{Clock, Gate, GovernFault, Job, Link, Point, Status, carry, govern};
+
+/// A gate that stands open.
+struct NoGate;
+
+impl Gate for NoGate {
+    fn pass(&self, _worker: usize, _point: Point) {}
+}
+
+impl<J: Run> Desk<J> {
+    /// Carries a packet of a tenant of the office, through a link to its next peers, and gives the status of the answer.
+    pub fn carry<H: Wait + Net<Stream = TcpStream> + std::time::Clock, C: Clock>(
+        &mut self,
+        handle: &H,
+        alloc: Global,
+        office: &Office<J>,
+        clock: &C,
+        tenant: usize,
+        token: &[u8],
+        frame: &[u8],
+    ) -> Status
+        requires seat { self.old.seat.meters ≡ office.now.meters.id }
+        requires tenant { tenant < office.now.books.tenants }
+        ensures carried { WasCarried (C.gives clock.now) self.old tenant token.now frame.now result self.new }
+        ensures same_meters { self.new.seat.meters ≡ self.old.seat.meters }
+        ensures told { self.new.told ≡ self.old.told }
+    {
+        let (terms, places) = (office.terms.as_slice(), &office.places);
+        let mut link = PeerLink::new(handle, clock, terms, places, self.sent);
+        let job = Job {
+            tenant,
+            token,
+            frame,
+        };
+        let reply = carry(
+            handle,
+            alloc,
+            &office.books,
+            &office.meters,
+            &mut self.seat,
+            &mut self.slot,
+            &mut self.share,
+            &mut link,
+            &NoGate,
+            clock,
+            job,
+        );
+        self.sent = link.sends();
+        reply.status()
+    }
+
+    // Makes room for the period that a command may close, where the run is audited. The one error is want of memory.
+    fn make_room(&mut self) -> Result<(), AllocError>
+        ensures untouched { IsUntouched self.old self.new }
+        ensures told { self.new.told ≡ self.old.told }
+    {
+        if self.share.is_audited() {
+            self.periods.reserve(1)?;
+        }
+        Ok(())
+    }
+
+    // Keeps the period that a command closed, where the run is audited: in the room that was made for it.
+    fn keep(&mut self, closed: Option<Period>)
+        ensures untouched { IsUntouched self.old self.new }
+        ensures told { self.new.told ≡ self.old.told }
+        ensures printed { self.new.printed ≡ self.old.printed }
+    {
+        let Some(period) = closed else {
+            return;
+        };
+        if self.share.is_audited() {
+            let _ = self.periods.push(period);
+        }
+    }
+
+    /// Does what stands in a body, where it is a command, for a tenant of the office, and gives the status of the answer.
+    pub fn obey<H: Wait, C: Clock>(
+        &mut self,
+        handle: &H,
+        alloc: Global,
+        office: &Office<J>,
+        clock: &C,
+        tenant: usize,
+        body: &[u8],
+    ) -> Status
+        requires seat { self.old.seat.meters ≡ office.now.meters.id }
+        requires tenant { tenant < office.now.books.tenants }
+        ensures obeyed { WasObeyed (C.gives clock.now) (command_in (command_line body.now)) office.now self.old tenant result self.new }
+        ensures same_meters { self.new.seat.meters ≡ self.old.seat.meters }
+        ensures told { self.new.told ≡ self.old.told }
+    {
+        let command = match parse_command(alloc, without_line_feed(body)) {
+            Ok(command) => command,
+            Err(ReadError::Fault(_)) => return Status::Malformed,
+            Err(ReadError::Memory) => return Status::Unavailable,
+        };
+        if self.make_room().is_err() {
+            return Status::Unavailable;
+        }
+        self.govern(handle, alloc, office, clock, tenant, &command)
+    }
+
+    // Governs a tenant of the office, and keeps what is printed of the answer.
+    fn govern<H: Wait, C: Clock>(
+        &mut self,
+        handle: &H,
+        alloc: Global,
+        office: &Office<J>,
+        clock: &C,
+        tenant: usize,
+        command: &Command,
+    ) -> Status
+        requires seat { self.old.seat.meters ≡ office.now.meters.id }
+        requires tenant { tenant < office.now.books.tenants }
+        ensures governed { WasGoverned (C.gives clock.now) office.now self.old tenant command.now result self.new }
+        ensures same_meters { self.new.seat.meters ≡ self.old.seat.meters }
+        ensures told { self.new.told ≡ self.old.told }
+    {
+        let answer = govern(
+            handle,
+            alloc,
+            &office.books,
+            &office.meters,
+            &mut self.seat,
+            &mut self.share,
+            clock,
+            tenant,
+            command,
+        );
+        let (status, closed) = tell(alloc, office, tenant, answer, &mut self.printed);
+        self.keep(closed);
+        status
+    }
+}
+
+// Keeps what is printed of the answer of a command, and gives the status, and the period that the command closed.
+fn tell<J: Run>(
+    alloc: Global,
+    office: &Office<J>,
+    tenant: usize,
+    answer: Result<Answered, GovernFault>,
+    printed: &mut Vec<u8>,
+) -> (Status, Option<Period>)
+    ensures { IsTold office.now tenant answer result.0 printed.new.items }
+{
+    match answer {
+        Ok(answered) => print(alloc, office, tenant, Ok(answered), printed),
+        Err(GovernFault::Spent | GovernFault::Memory | GovernFault::Stray) => (
+            Status::Unavailable,
+            None,
+        ),
+        Err(GovernFault::Refused(CommandFault::Memory)) => (Status::Unavailable, None),
+        Err(GovernFault::Refused(fault)) => print(alloc, office, tenant, Err(fault), printed),
+    }
+}
+
+// Keeps what is printed of what a tenant's book answered, and gives the status, and the period that was closed.
+fn print<J: Run>(
+    alloc: Global,
+    office: &Office<J>,
+    tenant: usize,
+    answer: Result<Answered, CommandFault>,
+    printed: &mut Vec<u8>,
+) -> (Status, Option<Period>)
+    ensures { IsPrinted office.now tenant answer result.0 printed.new.items }
+{
+    let output = Output::Governed { tenant, answer };
+    let status = match print_lines(alloc, office.names.as_slice(), slice::from_ref(&output)) {
+        Ok(text) => {
+            *printed = text;
+            Status::Answered
+        }
+        Err(_) => Status::Unavailable,
+    };
+    (status, closed_by(output))
+}
+
+// The period that a command closed, if it did.
+fn closed_by(output: Output) -> Option<Period> {
+    match output {
+        Output::Governed {
+            answer: Ok(Answered::Rolled(period)),
+            ..
+        } => Some(period),
+        _ => None,
+    }
+}
+
+/// A line without the line feed that may end it.
+pub fn without_line_feed(body: &[u8]) -> &[u8]
+    ensures { result.now ≡ command_line body.now }
+{
+    match body.split_last() {
+        Some((b'\n', command)) => command,
+        _ => body,
+    }
+}

@@ -1,0 +1,503 @@
+//! The door of whoever runs the process: what is told there, and a stop while clients send.
+
+use super::crowd::{
+    Exchange, FRAME, connected, exchange_of, fulfils_all, is_told, peer_answer, setup_text,
+};
+use super::wire::{FixedClock, bytes, is_reply, posted, request};
+use super::{CHILD, CONFIG, NOTHING_MORE, asked};
+use admin_text::read_setup;
+use common_types::Token;
+use service::{Doors, Extent, HostDoor, ServeFault, serve};
+use std::alloc::Global;
+use std::net::{Net, OpenListener, SocketAddr, TcpListener, TcpStream};
+use std::process::Abort;
+use std::sync::Wait;
+use std::sync::atomic::{AtomicU64, Ordering};
+use std::test::Fail;
+use std::thread::{Threads, join};
+use std::time::{Clock, Duration};
+use std::{io, thread};
+
+pub const HEALTH: &[u8] = b"GET /health HTTP/1.1\r\n\r\n";
+
+pub const METRICS: &[u8] = b"GET /metrics HTTP/1.1\r\nAuthorization: Bearer host\r\n\r\n";
+
+const SETUP: &[u8] = b"GET /setup HTTP/1.1\r\nAuthorization: Bearer host\r\n\r\n";
+
+pub const STOP: &[u8] = b"POST /stop HTTP/1.1\r\nAuthorization: Bearer host\r\n\r\n";
+
+// Under another token.
+const STRANGER: &[u8] = b"POST /stop HTTP/1.1\r\nAuthorization: Bearer root\r\n\r\n";
+
+const UNAUTHORIZED: &[u8] =
+    b"HTTP/1.1 401 Unauthorized\r\nWWW-Authenticate: Bearer\r\nContent-Length: 0\r\nConnection: close\r\n\r\n";
+
+pub const HEALTHY: &[u8] =
+    b"HTTP/1.1 200 OK\r\nContent-Type: text/plain\r\nContent-Length: 3\r\nConnection: close\r\n\r\nok\n";
+
+// Serves the setup of that text, with a host's door.
+pub fn serve_with_host<
+    'a,
+    R: Threads
+        + Wait
+        + Net<Listener = TcpListener, Stream = TcpStream>
+        + Clock
+        + AllocGlobal
+        + Sync,
+>(
+    rt: &R,
+    text: &str,
+    packets: &'a TcpListener,
+    door: &'a TcpListener,
+    lines: &mut Vec<u8>,
+) -> Result<(), ServeFault> {
+    admin_text::laws::setups();
+    let (Ok(setup), Some(token)) = (read_setup(rt.alloc(), text.as_bytes()), Token::new(b"host"))
+    else {
+        return Err(ServeFault::Device);
+    };
+    let Ok(host) = HostDoor::new(door, &token, packets) else {
+        return Err(ServeFault::Device);
+    };
+    let extent = Extent {
+        workers: 4,
+        connections: 8,
+        rounds: None,
+    };
+    let doors = Doors {
+        packets,
+        host: Some(host),
+    };
+    serve(
+        rt,
+        rt.alloc(),
+        &setup,
+        extent,
+        NOTHING_MORE,
+        doors,
+        &FixedClock,
+        lines,
+    )
+}
+
+/// What the setup of two tenants is, whose peers owe that.
+fn standing_text(alloc: Global, port: u16, acme: u64, beta: u64) -> Result<String, Fail> {
+    let acme = tenant_standing(alloc, "acme", port, acme)?;
+    let beta = tenant_standing(alloc, "beta", port, beta)?;
+    Ok([
+        "start = 1893456000000\nversion = 2\n",
+        acme.as_str(),
+        beta.as_str(),
+    ]
+    .concat(alloc)?)
+}
+
+// A tenant of which so many packets of 1,000 units were fulfilled, for 1,500 each.
+fn tenant_standing(alloc: Global, name: &str, port: u16, packets: u64) -> Result<String, Fail> {
+    let alice = number(alloc, packets.saturating_mul(1_000))?;
+    let bob = number(alloc, packets.saturating_mul(1_500))?;
+    let sign = if packets == 0 { "" } else { "-" };
+    let port = number(alloc, u64::from(port))?;
+    Ok([
+        "\n[[tenant]]\naddress = \"g.",
+        name,
+        TERMS,
+        name,
+        ALICE,
+        alice.as_str(),
+        ALICES,
+        sign,
+        bob.as_str(),
+        BOBS,
+        port.as_str(),
+        RATE,
+        name,
+        ".bob\"\n",
+    ]
+    .concat(alloc)?)
+}
+
+const TERMS: &str = "\"
+admin = \"root\"
+hold = 30000
+journal = 2048
+margin = 1000
+name = \"";
+
+const ALICE: &str = "\"
+
+[[tenant.peer]]
+asset = \"USD\"
+balance = ";
+
+const ALICES: &str = "
+burst = 1000000
+cap = 1000000
+ceiling = 1000000000
+credit = 1000000000
+name = \"alice\"
+out_token = \"out-alice\"
+per_second = 1000000
+role = \"peer\"
+scale = 2
+token = \"tok-alice\"
+url = \"http://127.0.0.1:7801/ilp\"
+
+[[tenant.peer]]
+asset = \"XRP\"
+balance = ";
+
+const BOBS: &str = "
+burst = 1000000
+cap = 1000000
+ceiling = 1000000000
+credit = 1000000000
+name = \"bob\"
+out_token = \"out-bob\"
+per_second = 1000000
+role = \"child\"
+scale = 9
+token = \"tok-bob\"
+url = \"http://127.0.0.1:";
+
+const RATE: &str = "/ilp\"
+
+[[tenant.rate]]
+den = 2
+from = \"alice\"
+num = 3
+to = \"bob\"
+
+[[tenant.route]]
+fee = 0
+peer = \"bob\"
+prefix = \"g.";
+
+// A number in decimal digits.
+fn number(alloc: Global, number: u64) -> Result<String, Fail> {
+    Ok(number.to_string(alloc)?)
+}
+
+// An answer of status 200 at the host's door with that setup.
+fn told_setup(alloc: Global, text: &str) -> Result<Vec<u8>, Fail> {
+    let size = text.len().to_string(alloc)?;
+    let whole = [
+        "HTTP/1.1 200 OK\r\nContent-Type: application/toml\r\nContent-Length: ",
+        size.as_str(),
+        "\r\nConnection: close\r\n\r\n",
+        text,
+    ]
+    .concat(alloc)?;
+    Ok(whole.into_bytes())
+}
+
+/// Where packets come, and where the host asks.
+#[derive(Clone, Copy)]
+struct Addresses {
+    packets: SocketAddr,
+    host: SocketAddr,
+}
+
+// The answers that a service without load gives at the host's door, and to one packet.
+fn told_in_turn(
+    net: &impl Net<Stream = TcpStream>,
+    alloc: Global,
+    to: Addresses,
+    packet: &[u8],
+) -> io::Result<Vec<Vec<u8>>> {
+    let mut answers = Vec::new(alloc);
+    answers.push(asked(net, alloc, &to.host, HEALTH)?)?;
+    answers.push(asked(net, alloc, &to.host, STRANGER)?)?;
+    answers.push(asked(net, alloc, &to.host, SETUP)?)?;
+    answers.push(asked(net, alloc, &to.packets, packet)?)?;
+    answers.push(asked(net, alloc, &to.host, METRICS)?)?;
+    answers.push(asked(net, alloc, &to.host, STOP)?)?;
+    Ok(answers)
+}
+
+// The same, and what the service prints in the end.
+fn served_in_turn<
+    R: Threads
+        + Wait
+        + Net<Listener = TcpListener, Stream = TcpStream>
+        + Clock
+        + AllocGlobal
+        + Sync,
+>(rt: &R) -> Result<(Vec<Vec<u8>>, Vec<u8>), Fail> {
+    let alloc = rt.alloc();
+    let text = setup_text(alloc, 7802)?;
+    let packets = TcpListener::bind(rt, "127.0.0.1:0")?;
+    let door = TcpListener::bind(rt, "127.0.0.1:0")?;
+    let to = Addresses {
+        packets: packets.local_addr()?,
+        host: door.local_addr()?,
+    };
+    let packet = request(
+        alloc,
+        "/ilp/acme",
+        "tok-bob",
+        bytes(alloc, CONFIG)?.as_slice(),
+    )?;
+    let mut lines = Vec::new(alloc);
+    let (end, answers) = join(
+        rt,
+        || serve_with_host(rt, text.as_str(), &packets, &door, &mut lines),
+        || told_in_turn(rt, alloc, to, packet.as_slice()),
+    );
+    let answers = answers?;
+    end?;
+    Ok((answers, lines))
+}
+
+// Lines of the metrics after one packet of acme's was answered.
+const METRICS_WANTED: &str = "\
+ilpd_accepts_connections 1
+ilpd_answers_total{tenant=\"acme\",status=\"200\"} 1
+ilpd_answers_total{tenant=\"acme\",status=\"4xx\"} 0
+ilpd_answers_total{tenant=\"acme\",status=\"503\"} 0
+ilpd_answers_total{tenant=\"beta\",status=\"200\"} 0
+ilpd_link_faults_total{tenant=\"acme\"} 0
+ilpd_operator_tokens_refused_total{tenant=\"acme\"} 0
+ilpd_places_share{tenant=\"acme\"} 1
+ilpd_places_used{tenant=\"acme\"} 0
+ilpd_places_awaited{tenant=\"acme\"} 0
+ilpd_period{tenant=\"acme\"} 0
+ilpd_journal_entries{tenant=\"acme\"} 1
+ilpd_journal_entries{tenant=\"beta\"} 0
+ilpd_journal_places{tenant=\"beta\"} 2048
+ilpd_holds_open{tenant=\"acme\"} 0
+ilpd_holds_open{tenant=\"beta\"} 0
+";
+
+fn has_line(text: &str, wanted: &str) -> bool {
+    for line in text.lines() {
+        if line == wanted {
+            return true;
+        }
+    }
+    false
+}
+
+fn expect_metrics(rt: &impl Abort, metrics: &[u8], wanted: &str) -> Result<(), Fail> {
+    let text = str::from_utf8(metrics)?;
+    assert!(rt; text.starts_with(METRICS_HEAD));
+    for line in wanted.lines() {
+        assert!(rt; has_line(text, line), "{line}");
+    }
+    Ok(())
+}
+
+const METRICS_HEAD: &str =
+    "HTTP/1.1 200 OK\r\nContent-Type: text/plain; version=0.0.4\r\nContent-Length: ";
+
+fn is_setup(alloc: Global, answer: &[u8]) -> Result<bool, Fail> {
+    let text = standing_text(alloc, 7802, 0, 0)?;
+    let wanted = told_setup(alloc, text.as_str())?;
+    Ok(answer == wanted.as_slice())
+}
+
+fn expect_told(rt: &impl Abort, alloc: Global, answers: &[Vec<u8>]) -> Result<(), Fail> {
+    let [health, stranger, before, packet, metrics, after] = answers else {
+        return Err("six answers".into());
+    };
+    assert!(rt; health.as_slice() == HEALTHY);
+    assert!(rt; stranger.as_slice() == UNAUTHORIZED);
+    assert!(rt; is_setup(alloc, before.as_slice())?);
+    assert!(rt; is_setup(alloc, after.as_slice())?);
+    assert!(rt; is_reply(alloc, packet.as_slice(), CHILD)?);
+    expect_metrics(rt, metrics.as_slice(), METRICS_WANTED)
+}
+
+const LINES_WANTED: &[u8] = b"acme 200 1 4xx 0 503 0 link 0\nbeta 200 0 4xx 0 503 0 link 0\n";
+
+#[test]
+fn what_a_host_is_told(rt: HostRuntime) -> Result<(), Fail> {
+    let (answers, lines) = served_in_turn(&rt)?;
+    assert!(rt; lines.as_slice() == LINES_WANTED);
+    expect_told(&rt, rt.alloc(), answers.as_slice())
+}
+
+// How many packets are fulfilled before the host stops the service.
+const ENOUGH: u64 = 100;
+
+// How many packets a client sends at most.
+const MOST: u32 = 20_000;
+
+/// A client, and how many of its packets were fulfilled before its connection ended, and how many were answered otherwise.
+#[derive(Clone, Copy)]
+struct Client {
+    beta: bool,
+    fulfilled: u64,
+    other: u64,
+}
+
+// Sends a packet after the other until the connection ends, and counts how many of all clients' were fulfilled.
+fn sends_until_stopped(
+    net: &impl Net<Stream = TcpStream>,
+    addr: &SocketAddr,
+    exchange: &Exchange,
+    client: &mut Client,
+    all: &AtomicU64,
+) -> io::Result<()> {
+    let stream = connected(net, addr)?;
+    for _ in 0..MOST {
+        if is_told(
+            &stream,
+            exchange.packet.as_slice(),
+            exchange.fulfilled.as_slice(),
+        )? {
+            client.fulfilled = client.fulfilled.saturating_add(1);
+            all.fetch_add(1, Ordering::SeqCst);
+        } else {
+            client.other = client.other.saturating_add(1);
+        }
+    }
+    Ok(())
+}
+
+// All clients at once, until the service has stopped.
+fn all_clients<R: Threads + Net<Listener = TcpListener, Stream = TcpStream> + Sync>(
+    rt: &R,
+    addr: &SocketAddr,
+    acme: &Exchange,
+    beta: &Exchange,
+    clients: &mut [Client],
+    all: &AtomicU64,
+) {
+    thread::for_each_mut(
+        rt,
+        clients,
+        4,
+        &|_, client| {
+            let exchange = if client.beta { beta } else { acme };
+            let _ = sends_until_stopped(rt, addr, exchange, client, all);
+        },
+    );
+}
+
+// Stops the service once enough packets were fulfilled, and gives the answer.
+fn stopped<R: Wait + Net<Stream = TcpStream>>(
+    rt: &R,
+    alloc: Global,
+    host: &SocketAddr,
+    all: &AtomicU64,
+) -> io::Result<Vec<u8>> {
+    for _ in rt.forever() {
+        if all.load(Ordering::SeqCst) >= ENOUGH {
+            break;
+        }
+        thread::yield_now();
+    }
+    asked(rt, alloc, host, STOP)
+}
+
+/// What came of a stop under load: how many packets the peer fulfilled, what the host was told, what the clients were told,
+/// and what the service printed.
+#[derive(Drop)]
+struct Stop {
+    fulfilled: io::Result<u32>,
+    answer: io::Result<Vec<u8>>,
+    clients: [Client; 4],
+    lines: Vec<u8>,
+    port: u16,
+}
+
+fn stop_under_load<
+    R: Threads
+        + Wait
+        + Net<Listener = TcpListener, Stream = TcpStream>
+        + Clock
+        + AllocGlobal
+        + Sync,
+>(rt: &R) -> Result<Stop, Fail> {
+    let alloc = rt.alloc();
+    let peer = TcpListener::bind(rt, "127.0.0.1:0")?;
+    let packets = TcpListener::bind(rt, "127.0.0.1:0")?;
+    let door = TcpListener::bind(rt, "127.0.0.1:0")?;
+    let (peer_addr, addr, host) = (
+        peer.local_addr()?,
+        packets.local_addr()?,
+        door.local_addr()?,
+    );
+    let text = setup_text(alloc, peer_addr.port())?;
+    let size = posted(alloc, peer_addr.port(), &[0; FRAME])?.len();
+    let answer = peer_answer(alloc)?;
+    let (acme, beta) = (exchange_of(alloc, "acme")?, exchange_of(alloc, "beta")?);
+    let mut clients = [false, true, false, true].map(|beta| Client {
+        beta,
+        fulfilled: 0,
+        other: 0,
+    });
+    let all = AtomicU64::new(0);
+    let mut lines = Vec::new(alloc);
+    let (fulfilled, (end, (_, told))) = join(
+        rt,
+        || fulfils_all(&peer, answer.as_slice(), size),
+        || {
+            let both = join(
+                rt,
+                || serve_with_host(rt, text.as_str(), &packets, &door, &mut lines),
+                || {
+                    join(
+                        rt,
+                        || all_clients(rt, &addr, &acme, &beta, &mut clients, &all),
+                        || stopped(rt, alloc, &host, &all),
+                    )
+                },
+            );
+            let _ = TcpStream::connect_timeout(rt, &peer_addr, Duration::from_secs(5));
+            both
+        },
+    );
+    end?;
+    Ok(Stop {
+        fulfilled,
+        answer: told,
+        clients,
+        lines,
+        port: peer_addr.port(),
+    })
+}
+
+// How many packets of a tenant's clients were fulfilled.
+fn fulfilled_of(clients: &[Client], beta: bool) -> u64 {
+    let mut sum = 0u64;
+    for client in clients {
+        if client.beta == beta {
+            sum = sum.saturating_add(client.fulfilled);
+        }
+    }
+    sum
+}
+
+// What a service prints that answered so many packets of each tenant.
+fn lines_after(alloc: Global, acme: u64, beta: u64) -> Result<String, Fail> {
+    let acme = number(alloc, acme)?;
+    let beta = number(alloc, beta)?;
+    Ok([
+        "acme 200 ",
+        acme.as_str(),
+        " 4xx 0 503 0 link 0\nbeta 200 ",
+        beta.as_str(),
+        " 4xx 0 503 0 link 0\n",
+    ]
+    .concat(alloc)?)
+}
+
+// What a stop leaves is what clients and peers were told: each packet that the peer fulfilled was told so, and stands in the
+// balances of the setup.
+#[test]
+fn a_stop_loses_nothing(rt: HostRuntime) -> Result<(), Fail> {
+    let alloc = rt.alloc();
+    let stop = stop_under_load(&rt)?;
+    let clients = stop.clients.as_slice();
+    let (acme, beta) = (fulfilled_of(clients, false), fulfilled_of(clients, true));
+    let setup = told_setup(alloc, standing_text(alloc, stop.port, acme, beta)?.as_str())?;
+    assert!(rt; clients.iter().all(|client| client.other == 0));
+    assert!(rt; acme.saturating_add(beta) >= ENOUGH);
+    assert!(rt; u64::from(stop.fulfilled?) == acme.saturating_add(beta));
+    assert!(rt; stop.answer?.as_slice() == setup.as_slice());
+    let lines = lines_after(alloc, acme, beta)?;
+    assert_eq!(rt; stop.lines.as_slice(), lines.as_bytes());
+    Ok(())
+}

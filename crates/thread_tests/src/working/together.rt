@@ -1,0 +1,299 @@
+//! Two workers on threads of their own.
+
+ghost use Rattle.std.specs.Prelude.{◌≡◌};
+ghost use Rattle.books_shared.specs.Traced.{openings_of};
+
+use super::{
+    BASE, FULFILL, FixedClock, START, gathered, outcome, put, start, two_books, two_setups,
+};
+use books_shared::{Books, Share};
+use floor_core::{Got, Slot};
+use ilp_addr::{Moment, Target};
+use meters::Meters;
+use one_list::{Opened, Run};
+use std::alloc::Global;
+use std::marker::Brand;
+use std::sync::Wait;
+use std::sync::atomic::{AtomicU64, Ordering};
+use std::test::Fail;
+use std::thread;
+use std::thread::Threads;
+use tenant_core::TenantSetup;
+use workers::{Gate, Job, Lane, Link, Point, Reply, StartFault, carry, run_workers};
+
+// BASE for g.beta.bob.x.
+const BETA: &[u8; 73] = b"\x0cG\0\0\0\0\0\0\x03\xe820300101000010000\
+    \x66\x68\x7a\xad\xf8\x62\xbd\x77\x6c\x8f\xc1\x8b\x8e\x9f\x8e\x20\
+    \x08\x97\x14\x85\x6e\xe2\x33\xb3\x90\x2a\x59\x1d\x0d\x5f\x29\x25\
+    \x0cg.beta.bob.x\0";
+
+/// Where worker 0 is kept until worker 1 has its answer settled.
+#[derive(Clone, Copy, Debug, PartialEq, Eq)]
+enum Place {
+    /// At its gate, once it has sent.
+    Gate,
+    /// While its link sends.
+    Link,
+}
+
+/// Where two workers meet.
+#[derive(Drop)]
+struct Meeting {
+    place: Place,
+    // 1 once worker 1 has its answer settled.
+    settled: AtomicU64,
+    // 1 once worker 0 has waited for it in vain.
+    given_up: AtomicU64,
+}
+
+impl Meeting {
+    fn wait(&self) {
+        for _ in 0..1_000_000u32 {
+            if self.settled.load(Ordering::SeqCst) == 1 {
+                return;
+            }
+            thread::yield_now();
+        }
+        self.given_up.store(1, Ordering::SeqCst);
+    }
+}
+
+impl Gate for Meeting {
+    fn pass(&self, worker: usize, point: Point) {
+        if worker == 1 && point == Point::Answered {
+            self.settled.store(1, Ordering::SeqCst);
+        }
+        if worker == 0 && point == Point::Sent && self.place == Place::Gate {
+            self.wait();
+        }
+    }
+}
+
+/// A link of a worker, which has a Fulfill for each packet.
+#[derive(Drop)]
+struct Fulfilling<'a> {
+    meeting: &'a Meeting,
+    worker: usize,
+    sends: u64,
+}
+
+impl Link for Fulfilling<'_> {
+    ghost sent = { λ link. link.sends };
+
+    ghost sends_so = { λ before sending after. Unit {0} };
+
+    fn sends(&self) -> u64 {
+        self.sends
+    }
+
+    fn send(&mut self, _tenant: usize, _target: &Target, _frame: &[u8], out: &mut [u8]) -> Got {
+        self.sends += 1;
+        if self.worker == 0 && self.meeting.place == Place::Link {
+            self.meeting.wait();
+        }
+        put(out, FULFILL);
+        Got::Filled(35)
+    }
+}
+
+/// A worker that carries one packet of alice's: BASE, or the same for beta.
+#[derive(Drop)]
+struct Carrier<'a, J: Run> {
+    alloc: Global,
+    books: &'a Books<J>,
+    meeting: &'a Meeting,
+    share: Share<J>,
+    tenant: usize,
+    // The status of its reply, or 0.
+    code: u16,
+}
+
+// Carries the packet, with meters and in a slot of the worker's own.
+fn carried_by<J: Run, R: Wait>(
+    rt: &R,
+    alloc: Global,
+    books: &Books<J>,
+    meeting: &Meeting,
+    share: &mut Share<J>,
+    tenant: usize,
+) -> Option<Reply> {
+    if tenant >= books.tenants() || tenant >= 2 {
+        return None;
+    }
+    let mut slot = Slot::new(alloc).ok()?;
+    let (meters, mut seat) = Meters::new(alloc, 2).ok()?;
+    let clock = FixedClock(Moment::new(START)?);
+    let mut link = Fulfilling {
+        meeting,
+        worker: share.worker(),
+        sends: 0,
+    };
+    let job = Job {
+        tenant,
+        token: b"tok-alice",
+        frame: if tenant == 0 { BASE } else { BETA },
+    };
+    Some(carry(
+        rt, alloc, books, &meters, &mut seat, &mut slot, share, &mut link, meeting, &clock, job,
+    ))
+}
+
+impl<J: Run + Send + Sync> Lane for Carrier<'_, J> {
+    ghost works = { λ before after. Unit {0} };
+
+    fn work<R: Threads + Wait + Sync>(&mut self, rt: &R) {
+        let reply = carried_by(
+            rt,
+            self.alloc,
+            self.books,
+            self.meeting,
+            &mut self.share,
+            self.tenant,
+        );
+        self.code = match reply {
+            Some(reply) => reply.status().code(),
+            None => 0,
+        };
+    }
+}
+
+fn new_carrier<'a, J: Run>(
+    alloc: Global,
+    books: &'a Books<J>,
+    meeting: &'a Meeting,
+    share: Share<J>,
+    tenant: usize,
+) -> Carrier<'a, J> {
+    Carrier {
+        alloc,
+        books,
+        meeting,
+        share,
+        tenant,
+        code: 0,
+    }
+}
+
+fn work_all<'a, J: Run + Send + Sync, R: Threads + Wait + Sync>(
+    rt: &R,
+    lanes: &mut [Carrier<'a, J>],
+) -> Result<(), StartFault> {
+    books_shared::laws::books_are_shared::<J>();
+    run_workers(rt, lanes)
+}
+
+// Whether both replies have status 200.
+fn are_good<J: Run>(lanes: &[Carrier<'_, J>]) -> bool {
+    for lane in lanes {
+        if lane.code != 200 {
+            return false;
+        }
+    }
+    lanes.len() == 2
+}
+
+fn shares_of<'a, J: Run>(alloc: Global, lanes: Vec<Carrier<'a, J>>) -> Result<Vec<Share<J>>, Fail> {
+    let mut shares = Vec::new(alloc);
+    for lane in lanes {
+        shares.push(lane.share)?;
+    }
+    Ok(shares)
+}
+
+// Lets worker 0 carry BASE for acme, and worker 1 the same for that tenant: whether both replies have status 200, and their
+// shares.
+fn both_carried<'a, J: Run + Send + Sync, R: Threads + Wait + Sync>(
+    rt: &R,
+    alloc: Global,
+    books: &'a Books<J>,
+    meeting: &'a Meeting,
+    first: Share<J>,
+    second: Share<J>,
+    tenant: usize,
+) -> Result<(bool, Vec<Share<J>>), Fail> {
+    let first = new_carrier(alloc, books, meeting, first, 0);
+    let second = new_carrier(alloc, books, meeting, second, tenant);
+    let mut lanes = vec![in alloc; first, second]?;
+    work_all(rt, lanes.as_mut_slice())?;
+    let are_good = are_good(lanes.as_slice());
+    Ok((are_good, shares_of(alloc, lanes)?))
+}
+
+fn new_meeting(place: Place) -> Meeting {
+    Meeting {
+        place,
+        settled: AtomicU64::new(0),
+        given_up: AtomicU64::new(0),
+    }
+}
+
+/// Worker 1 carries its packet for that tenant while worker 0 is kept there, and then acme's balances and its book's number
+/// are these.
+#[derive(Drop)]
+struct Together {
+    place: Place,
+    tenant: usize,
+    gathered: (i64, i64, u64, u64, u64),
+}
+
+// Lets both carry, on the books of acme and beta, and tells whether all came of it that should. This is no `Trial`:
+// nothing is proved of a method that starts threads with what its own bounds give it.
+fn carry_together<R: Threads + Wait + Sync>(
+    rt: &R,
+    alloc: Global,
+    together: &Together,
+) -> Result<bool, Fail> {
+    let setups = two_setups(alloc, 64)?;
+    let opened = Opened::new(alloc, 2, 2)?;
+    carry_on_books::<Brand, R>(rt, alloc, opened, &setups, start()?, together)
+}
+
+fn carry_on_books<J: Run + Send + Sync, R: Threads + Wait + Sync>(
+    rt: &R,
+    alloc: Global,
+    opened: Opened,
+    setups: &[TenantSetup; 2],
+    start: Moment,
+    together: &Together,
+) -> Result<bool, Fail>
+    requires list { (opened.table ≡ J.table) × (opened.size ≡ J.size) }
+    requires size { J.size ≡ record { tenants = 2; workers = 2 } }
+    requires openings { J.openings ≡ openings_of setups.now start }
+{
+    let (books, first, second) = two_books::<J>(alloc, opened, setups, start)?;
+    let meeting = new_meeting(together.place);
+    let (are_good, shares) = both_carried(
+        rt,
+        alloc,
+        &books,
+        &meeting,
+        first,
+        second,
+        together.tenant,
+    )?;
+    let is_met = are_good && meeting.given_up.load(Ordering::SeqCst) == 0;
+    let books = gathered(alloc, books, shares)?;
+    Ok(is_met && outcome(books.as_slice()) == Some(together.gathered))
+}
+
+#[test]
+fn a_tenant_does_not_wait_for_another(rt: HostRuntime) -> Result<(), Fail> {
+    let together = Together {
+        place: Place::Gate,
+        tenant: 1,
+        gathered: (1_000, -1_500, 0, 0, 2),
+    };
+    assert!(rt; carry_together(&rt, rt.alloc(), &together)?);
+    Ok(())
+}
+
+#[test]
+fn no_lock_is_held_over_a_send(rt: HostRuntime) -> Result<(), Fail> {
+    let together = Together {
+        place: Place::Link,
+        tenant: 0,
+        gathered: (2_000, -3_000, 0, 0, 4),
+    };
+    assert!(rt; carry_together(&rt, rt.alloc(), &together)?);
+    Ok(())
+}
