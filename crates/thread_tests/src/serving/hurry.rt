@@ -1,0 +1,308 @@
+//! What a connection is given where others wait, and where the service stops; and callers at the host's door who bring nothing.
+
+use super::crowd::setup_text;
+use super::host::{HEALTH, HEALTHY, METRICS, STOP, serve_with_host};
+use super::wire::{FULFILL, bytes, good, posted, request};
+use super::{
+    BASE, CHILD, CONFIG, GOOD_HEAD, NOTHING, NOTHING_MORE, answer_of, asked, serve_some,
+    setup_holding, setup_with,
+};
+use service::ServeFault;
+use std::alloc::Global;
+use std::io::{Read, Write};
+use std::net::{Net, OpenListener, SocketAddr, TcpListener, TcpStream};
+use std::process::Abort;
+use std::sync::Wait;
+use std::test::Fail;
+use std::thread::{Threads, join};
+use std::time::{Clock, Duration, Instant};
+use std::{io, thread};
+
+// How often a client asks at most on one connection: every 50 milliseconds, for five seconds.
+const MOST: u64 = 100;
+
+fn connected_to(net: &impl Net<Stream = TcpStream>, addr: &SocketAddr) -> io::Result<TcpStream> {
+    let stream = TcpStream::connect_timeout(net, addr, Duration::from_secs(5))?;
+    stream.set_read_timeout(Some(Duration::from_secs(20)))?;
+    Ok(stream)
+}
+
+// Whether that is the answer to the next request on a connection.
+fn is_answered(stream: &TcpStream, request: &[u8], answer: &[u8], room: &mut [u8]) -> bool {
+    let (mut out, mut input) = (stream, stream);
+    out.write_all(request).is_ok() && input.read_exact(room).is_ok() && *room == *answer
+}
+
+// How many times that answer comes on one connection before it is closed.
+fn answers_until_closed(
+    rt: &(impl Net<Stream = TcpStream> + Clock),
+    alloc: Global,
+    addr: &SocketAddr,
+    request: &[u8],
+    answer: &[u8],
+) -> io::Result<u64> {
+    let stream = connected_to(rt, addr)?;
+    let mut room = vec![in alloc; 0u8; answer.len()]?;
+    for count in 0..MOST {
+        if !is_answered(&stream, request, answer, room.as_mut_slice()) {
+            return Ok(count);
+        }
+        thread::sleep(rt, Duration::from_millis(50));
+    }
+    Ok(MOST)
+}
+
+const UNAUTHORIZED: &[u8] =
+    b"HTTP/1.1 401 Unauthorized\r\nWWW-Authenticate: Bearer\r\nContent-Length: 0\r\n\r\n";
+
+// How many times a stranger is answered on one connection, and then an operator, of a service that has one thread.
+fn asked_without_end(
+    rt: &(impl Net<Stream = TcpStream> + Clock),
+    alloc: Global,
+    addr: &SocketAddr,
+) -> Result<(u64, u64), Fail> {
+    let stranger = request(alloc, "/admin/acme", "toor", b"balances")?;
+    let operator = request(alloc, "/admin/acme", "root", b"balances")?;
+    let balances = good(alloc, "text/plain", NOTHING.as_bytes())?;
+    let strangers = answers_until_closed(rt, alloc, addr, stranger.as_slice(), UNAUTHORIZED)?;
+    let operators = answers_until_closed(
+        rt,
+        alloc,
+        addr,
+        operator.as_slice(),
+        balances.as_slice(),
+    )?;
+    Ok((strangers, operators))
+}
+
+// Where no other thread waits, a stranger's connection ends after its first answer, and an operator's after a second.
+#[test]
+fn who_asks_without_end_gives_way(rt: HostRuntime) -> Result<(), Fail> {
+    let alloc = rt.alloc();
+    let setup = setup_with(alloc, 7802)?;
+    let listener = TcpListener::bind(&rt, "127.0.0.1:0")?;
+    let addr = listener.local_addr()?;
+    let mut lines = Vec::new(alloc);
+    let (end, counts) = join(
+        &rt,
+        || serve_some(&rt, setup.as_str(), 2, NOTHING_MORE, &listener, &mut lines),
+        || asked_without_end(&rt, alloc, &addr),
+    );
+    let (strangers, operators) = counts?;
+    end?;
+    let count = operators.to_string(alloc)?;
+    let wanted = ["acme 200 ", count.as_str(), " 4xx 0 503 0 link 0\n"].concat(alloc)?;
+    assert!(rt; strangers == 1);
+    assert!(rt; 1 < operators && operators < MOST);
+    assert_eq!(rt; lines.as_slice(), wanted.as_bytes());
+    Ok(())
+}
+
+// Whether the host is told so within two seconds.
+fn is_soon(
+    rt: &(impl Net<Stream = TcpStream> + Clock),
+    alloc: Global,
+    host: &SocketAddr,
+    health: &[u8],
+) -> io::Result<bool> {
+    for _ in 0..100 {
+        if asked(rt, alloc, host, HEALTH)?.as_slice() == health {
+            return Ok(true);
+        }
+        thread::sleep(rt, Duration::from_millis(20));
+    }
+    Ok(false)
+}
+
+const UNWELL: &[u8] =
+    b"HTTP/1.1 503 Service Unavailable\r\nContent-Length: 0\r\nConnection: close\r\n\r\n";
+
+// Whether a service is unwell while its accepts fail, and well once they do not, though no connection comes. Then it is stopped.
+fn watched(
+    rt: &(impl Net<Stream = TcpStream> + Clock),
+    alloc: Global,
+    packets: &TcpListener,
+    host: &SocketAddr,
+) -> io::Result<[bool; 2]> {
+    let unwell = is_soon(rt, alloc, host, UNWELL);
+    packets.set_nonblocking(false)?;
+    let well = is_soon(rt, alloc, host, HEALTHY);
+    asked(rt, alloc, host, STOP)?;
+    Ok([unwell?, well?])
+}
+
+#[test]
+fn a_stop_is_clean_after_an_accept_that_failed(rt: HostRuntime) -> Result<(), Fail> {
+    let alloc = rt.alloc();
+    let text = setup_text(alloc, 7802)?;
+    let packets = TcpListener::bind(&rt, "127.0.0.1:0")?;
+    let door = TcpListener::bind(&rt, "127.0.0.1:0")?;
+    let host = door.local_addr()?;
+    packets.set_nonblocking(true)?;
+    let mut lines = Vec::new(alloc);
+    let (end, seen) = join(
+        &rt,
+        || serve_with_host(&rt, text.as_str(), &packets, &door, &mut lines),
+        || watched(&rt, alloc, &packets, &host),
+    );
+    assert!(rt; end == Ok(()));
+    assert!(rt; seen? == [true, true]);
+    Ok(())
+}
+
+// How long the host's questions and a stop take beside connections that bring nothing, and what the questions' answers begin
+// with.
+fn asked_beside_callers(
+    rt: &(impl Net<Stream = TcpStream> + Clock),
+    alloc: Global,
+    host: &SocketAddr,
+) -> io::Result<(Duration, bool)> {
+    let mut callers = Vec::new(alloc);
+    for _ in 0..20 {
+        callers.push(connected_to(rt, host)?)?;
+    }
+    let begun = Instant::now(rt)?;
+    let metrics = asked(rt, alloc, host, METRICS)?;
+    let stop = asked(rt, alloc, host, STOP)?;
+    let took = Instant::now(rt)?.saturating_duration_since(begun);
+    drop(callers);
+    let are_good = [metrics, stop].iter().all(|answer| answer
+        .as_slice()
+        .starts_with(b"HTTP/1.1 200 OK\r\n"));
+    Ok((took, are_good))
+}
+
+#[test]
+fn callers_who_bring_nothing_delay_no_host(rt: HostRuntime) -> Result<(), Fail> {
+    let alloc = rt.alloc();
+    let text = setup_text(alloc, 7802)?;
+    let packets = TcpListener::bind(&rt, "127.0.0.1:0")?;
+    let door = TcpListener::bind(&rt, "127.0.0.1:0")?;
+    let host = door.local_addr()?;
+    let mut lines = Vec::new(alloc);
+    let (end, came) = join(
+        &rt,
+        || serve_with_host(&rt, text.as_str(), &packets, &door, &mut lines),
+        || asked_beside_callers(&rt, alloc, &host),
+    );
+    end?;
+    let (took, are_good) = came?;
+    assert!(rt; are_good);
+    assert!(rt; took < Duration::from_secs(4));
+    Ok(())
+}
+
+// BASE as it goes on where it is held for three seconds at most.
+const SENT: &str =
+    "0c4700000000000005dc323033303031303130303030303330303066687aadf862bd776c8fc18b8e9f8e20089714856ee233b3902a591d0d5f29250c672e61636d652e626f622e7800";
+
+// Takes one packet, and fulfils it after almost a second.
+fn fulfils_late(
+    rt: &(impl Clock + AllocGlobal),
+    listener: &TcpListener,
+    wanted: &[u8],
+    fulfill: &[u8],
+) -> io::Result<bool> {
+    let alloc = rt.alloc();
+    let (stream, _) = listener.accept()?;
+    stream.set_read_timeout(Some(Duration::from_secs(20)))?;
+    let mut came = vec![in alloc; 0u8; wanted.len()]?;
+    let (mut input, mut out) = (&stream, &stream);
+    input.read_exact(came.as_mut_slice())?;
+    thread::sleep(rt, Duration::from_millis(900));
+    out.write_all(GOOD_HEAD)?;
+    out.write_all(fulfill)?;
+    Ok(came.as_slice() == wanted)
+}
+
+// What comes on a connection for two requests, of which the second one comes while the first one is under way, where the
+// service is stopped then.
+fn stopped_between(
+    rt: &(impl Net<Stream = TcpStream> + Clock),
+    alloc: Global,
+    addr: &SocketAddr,
+    host: &SocketAddr,
+    [first, second]: [&[u8]; 2],
+) -> io::Result<Vec<u8>> {
+    let stream = connected_to(rt, addr)?;
+    let mut out = &stream;
+    out.write_all(first)?;
+    thread::sleep(rt, Duration::from_millis(300));
+    out.write_all(second)?;
+    asked(rt, alloc, host, STOP)?;
+    answer_of(alloc, &stream)
+}
+
+// The two requests, what comes back for them, and what the peer is sent.
+#[derive(Drop)]
+struct Pipelined {
+    packet: Vec<u8>,
+    config: Vec<u8>,
+    answers: Vec<u8>,
+    posted: Vec<u8>,
+}
+
+fn two_requests(alloc: Global, port: u16) -> Result<Pipelined, Fail> {
+    let (base, config) = (bytes(alloc, BASE)?, bytes(alloc, CONFIG)?);
+    let (fulfill, child) = (bytes(alloc, FULFILL)?, bytes(alloc, CHILD)?);
+    let mut answers = good(alloc, "application/octet-stream", fulfill.as_slice())?;
+    let second = good(alloc, "application/octet-stream", child.as_slice())?;
+    answers.extend_from_slice(second.as_slice())?;
+    Ok(Pipelined {
+        packet: request(alloc, "/ilp/acme", "tok-alice", base.as_slice())?,
+        config: request(alloc, "/ilp/acme", "tok-bob", config.as_slice())?,
+        answers,
+        posted: posted(alloc, port, bytes(alloc, SENT)?.as_slice())?,
+    })
+}
+
+// What became of both requests.
+#[derive(Drop)]
+struct Between {
+    end: Result<(), ServeFault>,
+    peer: io::Result<bool>,
+    answers: io::Result<Vec<u8>>,
+}
+
+fn served_between<
+    R: Threads
+        + Wait
+        + Net<Listener = TcpListener, Stream = TcpStream>
+        + Clock
+        + AllocGlobal
+        + Sync,
+>(rt: &R, peer: &TcpListener, setup: &str, both: &Pipelined) -> Result<Between, Fail> {
+    let alloc = rt.alloc();
+    let packets = TcpListener::bind(rt, "127.0.0.1:0")?;
+    let door = TcpListener::bind(rt, "127.0.0.1:0")?;
+    let (addr, host) = (packets.local_addr()?, door.local_addr()?);
+    let fulfill = bytes(alloc, FULFILL)?;
+    let requests = [both.packet.as_slice(), both.config.as_slice()];
+    let mut lines = Vec::new(alloc);
+    let (end, (peer, answers)) = join(
+        rt,
+        || serve_with_host(rt, setup, &packets, &door, &mut lines),
+        || {
+            join(
+                rt,
+                || fulfils_late(rt, peer, both.posted.as_slice(), fulfill.as_slice()),
+                || stopped_between(rt, alloc, &addr, &host, requests),
+            )
+        },
+    );
+    Ok(Between { end, peer, answers })
+}
+
+#[test]
+fn a_second_request_is_answered_at_a_stop(rt: HostRuntime) -> Result<(), Fail> {
+    let alloc = rt.alloc();
+    let peer = TcpListener::bind(&rt, "127.0.0.1:0")?;
+    let port = peer.local_addr()?.port();
+    let setup = setup_holding(alloc, port, 3_000)?;
+    let both = two_requests(alloc, port)?;
+    let between = served_between(&rt, &peer, setup.as_str(), &both)?;
+    between.end?;
+    assert!(rt; between.peer?);
+    assert_eq!(rt; between.answers?.as_slice(), both.answers.as_slice());
+    Ok(())
+}
