@@ -13,3 +13,4 @@ pub mod SetupsAnew
 pub mod SetupsAgain
 pub mod CountingKeys
 pub mod IgnoredWalks
+pub mod SecretWords

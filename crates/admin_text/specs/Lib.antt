@@ -7,6 +7,8 @@ pub mod TenantTable
 pub mod OwnTerms
 pub mod Tenants
 pub mod Setup
+pub mod Secrets
+pub mod Shown
 pub mod Wrong
 pub mod Spaces
 pub mod Fields

@@ -1,6 +1,8 @@
 //! What each key of a setup wants, and its words for people.
 
 use crate::places::TableKind;
+use crate::secrets::{Found, Hidden};
+use common_types::MAX_TOKEN;
 use std::fmt;
 use tenant_core::limits::{MAX_MONEY, MAX_TENANTS};
 use toml::Value;
@@ -25,27 +27,30 @@ pub(crate) enum Expected {
     Balance,
 }
 
-/// What would be right at a key, where this value is wrong or nothing stands there.
+/// What would be right at a key, where this is found, which is wrong.
 #[derive(Clone, Copy)]
 pub(crate) struct Right<'a> {
     pub(crate) expected: Expected,
-    pub(crate) found: Option<&'a Value>,
+    pub(crate) found: Found<'a>,
 }
 
 impl fmt::Display for Right<'_> {
     fn fmt<W: fmt::Write>(&self, f: &mut fmt::Formatter<W>) -> fmt::Result {
         match (self.expected, self.found) {
-            (Expected::Whole(least, most), Some(Value::Integer(number))) => {
+            (Expected::Whole(least, most), Found::Plain(Value::Integer(number))) => {
                 match u64::try_from(*number) {
                     Ok(number) if number >= least => write!(f, "at most {most}"),
                     _ => write!(f, "at least {least}"),
                 }
             }
             (Expected::Whole(least, most), _) => write!(f, "a whole number from {least} to {most}"),
-            (Expected::Balance, Some(Value::Integer(number))) if *number < 0 => {
+            (Expected::Balance, Found::Plain(Value::Integer(number))) if *number < 0 => {
                 write!(f, "at least -{MAX_MONEY}")
             }
-            (Expected::Balance, Some(Value::Integer(_))) => write!(f, "at most {MAX_MONEY}"),
+            (Expected::Balance, Found::Plain(Value::Integer(_))) => write!(
+                f,
+                "at most {MAX_MONEY}"
+            ),
             (Expected::Balance, _) => {
                 write!(f, "a whole number from -{MAX_MONEY} to {MAX_MONEY}")
             }
@@ -57,6 +62,12 @@ impl fmt::Display for Right<'_> {
             }
             (Expected::Version, _) => f.write_str("1 and 2 are the versions"),
             (Expected::Name, _) => f.write_str("a text of 1 to 32 of a-z 0-9 -"),
+            (Expected::Token, Found::Hidden(Hidden::Character(number))) => {
+                write!(f, "character {number} is none of A-Z a-z 0-9 - . _ ~ + / =")
+            }
+            (Expected::Token, Found::Hidden(Hidden::Text(_))) => {
+                write!(f, "at most {MAX_TOKEN}")
+            }
             (Expected::Token, _) => {
                 f.write_str("a text of 1 to 64 of A-Z a-z 0-9 - . _ ~ + / =")
             }

@@ -14,6 +14,7 @@ ghost use Rattle.admin_text.specs.IgnoredKeys.{seen};
 use crate::expected::Shown;
 use crate::keys::{items_under, version_of};
 use crate::places::{Place, Spot, TableKind, TablePlace};
+use crate::secrets::Found;
 use crate::setup::{document_of, setup_of_table};
 use crate::version::{Version, has_fees};
 use common_types::{Items, ReadError};
@@ -122,6 +123,19 @@ fn reason(place: TablePlace, name: &str) -> &'static str {
     }
 }
 
+// What stands at such a key, if it may be told.
+#[derive(Clone, Copy)]
+struct Beside<'a>(Found<'a>);
+
+impl fmt::Display for Beside<'_> {
+    fn fmt<W: fmt::Write>(&self, f: &mut fmt::Formatter<W>) -> fmt::Result {
+        match self.0 {
+            Found::Plain(value) => write!(f, "{}", Shown(value)),
+            Found::Nothing | Found::Hidden(_) => Ok(()),
+        }
+    }
+}
+
 fn ignored_key(
     alloc: Global,
     spot: Spot<'_>,
@@ -132,7 +146,8 @@ fn ignored_key(
 {
     let place = spot.table();
     let why = reason(place, name);
-    let words = format!(in alloc; "{spot}{}{}: {why}", Named(name), Shown(value))?;
+    let beside = Beside(Found::at(name, Some(value)));
+    let words = format!(in alloc; "{spot}{}{beside}: {why}", Named(name))?;
     Ok(IgnoredKey {
         place,
         name: String::from_str(alloc, name)?,

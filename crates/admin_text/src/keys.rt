@@ -19,7 +19,8 @@ use ilp_addr::{Moment, OwnAddress, Target};
 use tenant_core::{Balance, BucketTerms, PeerLimits, PeerTerms, Role};
 use toml::{Table, Value};
 
-fn value_under<'a>(table: &'a Table, key: &str) -> Option<&'a Value>
+/// The value at a key.
+pub(crate) fn value_under<'a>(table: &'a Table, key: &str) -> Option<&'a Value>
     ensures { option_map (λ v. view v.now) result ≡ get_member key.now (table_view table.now) }
 {
     table.get(key)

@@ -10,6 +10,7 @@ pub mod laws;
 mod networks;
 mod places;
 mod prefixes;
+mod secrets;
 mod setup;
 mod setup_text;
 mod tables;

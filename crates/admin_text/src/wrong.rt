@@ -1,38 +1,44 @@
 //! What is wrong with a setup, and its words for people.
 
-use crate::expected::{Expected, Right, Shown};
+use crate::expected::{Expected, Right};
+use crate::keys::value_under;
 use crate::places::{Place, TableKind};
+use crate::secrets::Found;
 use crate::setup::SetupFault;
 use common_types::ReadError;
 use route_table::MAX_ROUTES;
 use std::fmt;
 use tenant_core::CommandFault;
 use tenant_core::limits::{MAX_PEERS, MAX_RATES, MAX_TENANTS};
-use toml::{Table, Value};
+use toml::Table;
 
-/// A key of a table, and what stands there.
+/// A key of a table, and what is told of what stands there.
 #[derive(Clone, Copy)]
 pub(crate) struct Key<'a> {
     name: &'a str,
-    found: Option<&'a Value>,
+    found: Found<'a>,
 }
 
 impl<'a> Key<'a> {
-    pub(crate) fn of(table: &'a Table, name: &'a str) -> Key<'a> {
+    ghost use Rattle.std.specs.Prelude.{◌≡◌};
+    ghost use Rattle.toml.specs.Data.{get_member};
+    ghost use Rattle.toml.specs.View.{table_view};
+    ghost use Rattle.admin_text.specs.Shown.{value_shown, value_to_show};
+
+    pub(crate) fn of(table: &'a Table, name: &'a str) -> Key<'a>
+        ensures name { result.name.now ≡ name.now }
+        ensures found { value_shown result.found ≡ value_to_show name.now (get_member name.now (table_view table.now)) }
+    {
         Key {
             name,
-            found: table.get(name),
+            found: Found::at(name, value_under(table, name)),
         }
     }
 }
 
 impl fmt::Display for Key<'_> {
     fn fmt<W: fmt::Write>(&self, f: &mut fmt::Formatter<W>) -> fmt::Result {
-        let name = self.name;
-        match self.found {
-            Some(value) => write!(f, "{name}{}", Shown(value)),
-            None => write!(f, "{name} is missing"),
-        }
+        write!(f, "{}{}", self.name, self.found)
     }
 }
 

@@ -10,6 +10,7 @@ const KEYS: &str = "colour = \"red\"
 name = \"acme\"
 address = \"g.acme\"
 admin = \"root-a\"
+admin-old = \"s3cret\"
 jurnal = 64
 \"two words\" = true
 [[tenant.peer]]
@@ -26,6 +27,7 @@ credit = 1
 burst = 1
 per_second = 1
 balence = 5
+Out_Token = \"s3cret\"
 [[tenant.peer]]
 name = \"bob\"
 role = \"child\"
@@ -67,8 +69,10 @@ peers = []
 
 const COLOUR: &str = "colour = \"red\": an unknown key, ignored\n";
 
-const IN_TENANTS: &str = "tenant 0 acme: jurnal = 64: an unknown key, ignored
+const IN_TENANTS: &str = "tenant 0 acme: admin-old: an unknown key, ignored
+tenant 0 acme: jurnal = 64: an unknown key, ignored
 tenant 0 acme: \"two words\" = true: an unknown key, ignored
+tenant 0 acme: peer 1 alice: Out_Token: an unknown key, ignored
 tenant 0 acme: peer 1 alice: balence = 5: an unknown key, ignored
 ";
 

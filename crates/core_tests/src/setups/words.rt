@@ -21,7 +21,9 @@ acme|name|- > tenant 0: name is missing: a text of 1 to 32 of a-z 0-9 -
 acme|name|'Acme' > tenant 0 Acme: name = \"Acme\": a text of 1 to 32 of a-z 0-9 -
 acme|address|'peer.acme' > tenant 0 acme: address = \"peer.acme\": an address as \"g.acme\", of at most 900 bytes: \
     one of the schemes g private example self test test1 test2 test3 local, and segments of A-Z a-z 0-9 _ ~ -
-acme|admin|'root a' > tenant 0 acme: admin = \"root a\": a text of 1 to 64 of A-Z a-z 0-9 - . _ ~ + / =
+acme|admin|'root a' > tenant 0 acme: admin: character 5 is none of A-Z a-z 0-9 - . _ ~ + / =
+acme|admin|'' > tenant 0 acme: admin is an empty text: a text of 1 to 64 of A-Z a-z 0-9 - . _ ~ + / =
+acme|admin|['root-a'] > tenant 0 acme: admin is an array: a text of 1 to 64 of A-Z a-z 0-9 - . _ ~ + / =
 acme|journal|1 > tenant 0 acme: journal = 1: at least 2
 acme|journal|16385 > tenant 0 acme: journal = 16385: at most 16384
 acme|journal|'64' > tenant 0 acme: journal = \"64\": a whole number from 2 to 16384
@@ -30,8 +32,15 @@ acme|hold|600001 > tenant 0 acme: hold = 600001: at most 600000
 alice|name|- > tenant 0 acme: peer 1: name is missing: a text of 1 to 32 of a-z 0-9 -
 bob|name|'alice' > tenant 0 acme: peer 2 alice: name = \"alice\": peer 1 has that name too
 bob|role|'parent' > tenant 0 acme: peer 2 bob: role = \"parent\": \"child\" or \"peer\"
-bob|token|true > tenant 0 acme: peer 2 bob: token = true: a text of 1 to 64 of A-Z a-z 0-9 - . _ ~ + / =
-bob|token|'tok-alice' > tenant 0 acme: peer 2 bob: token = \"tok-alice\": peer 1 has that token too
+bob|token|true > tenant 0 acme: peer 2 bob: token is a boolean: a text of 1 to 64 of A-Z a-z 0-9 - . _ ~ + / =
+bob|token|'tok-alice' > tenant 0 acme: peer 2 bob: token: peer 1 has that token too
+alice|token|'0123456789012345678901234567890123456789012345678901234567890123456789' > tenant 0 acme: peer 1 alice: \
+    token has 70 characters: at most 64
+alice|out_token|20301231 > tenant 0 acme: peer 1 alice: out_token is an integer: a text of 1 to 64 of \
+    A-Z a-z 0-9 - . _ ~ + / =
+bob|out_token|'out,bob' > tenant 0 acme: peer 2 bob: out_token: character 4 is none of A-Z a-z 0-9 - . _ ~ + / =
+bob|out_token|'01234567890123456789012345678901234567890123456789012345678901234' > tenant 0 acme: peer 2 bob: \
+    out_token has 65 characters: at most 64
 bob|url|'https://127.0.0.1/ilp' > tenant 0 acme: peer 2 bob: url = \"https://127.0.0.1/ilp\": \"http://HOST/PATH\" or \
     \"http://HOST:PORT/PATH\", of at most 255 bytes, HOST being localhost, an IPv4 address, or an IPv6 address in \
     brackets

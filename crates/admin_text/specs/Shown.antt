@@ -1,0 +1,17 @@
+-- What is shown of what stands at a key.
+use Rattle.std.specs.Prelude.{ℕ, List, if◌then◌else◌, Option, Some, None}
+use Rattle.toml.specs.Data.{Data}
+use Rattle.toml.specs.View.{view}
+use Rattle.admin_text.specs.Secrets.{is_secret}
+use Rattle.admin_text.specs.declared.secrets.Found.{Found}
+use Rattle.admin_text.specs.declared.secrets.Found.TheVariants.{Nothing, Plain, Hidden}
+
+-- the value that is shown, if one is
+abbrev pub value_shown : Found → Option Data
+value_shown Nothing = None
+value_shown (Plain value) = Some (view value.now)
+value_shown (Hidden hidden) = None
+
+-- of what stands at a key that is no secret the value, and of a secret nothing
+abbrev pub value_to_show : List ℕ → Option Data → Option Data
+value_to_show key found = if is_secret key then None else found

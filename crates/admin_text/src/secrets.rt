@@ -1,0 +1,125 @@
+//! What is told of what stands at a key: of a token, and of what may be meant as one, nothing that it says.
+
+ghost use Rattle.std.specs.Prelude.{◌≡◌, codes, option_map};
+ghost use Rattle.toml.specs.View.{view};
+ghost use Rattle.admin_text.specs.Secrets.{begins_with, has_word, is_secret};
+ghost use Rattle.admin_text.specs.Shown.{value_shown, value_to_show};
+
+use crate::expected::Shown;
+use common_types::{MAX_TOKEN, is_token};
+use std::fmt;
+use toml::Value;
+
+// Whether a text begins with a word, in letters of either case.
+fn begins_with(text: &[u8], word: &[u8]) -> bool
+    ensures { result ≡ begins_with text.now word.now }
+{
+    text.len() >= word.len() && text[..word.len()].eq_ignore_ascii_case(word)
+}
+
+// Whether a word stands somewhere in a text, in letters of either case.
+fn has_word(text: &[u8], word: &[u8]) -> bool
+    ensures { result ≡ has_word text.now word.now }
+{
+    for at in 0..text.len() {
+        if begins_with(&text[at..], word) {
+            return true;
+        }
+    }
+    false
+}
+
+/// Whether a token stands at a key of that name, or is meant to: it begins with `admin`, or `token` stands in it.
+pub(crate) fn is_secret(key: &str) -> bool
+    ensures { result ≡ is_secret key.now }
+{
+    begins_with(key.as_bytes(), b"admin") || has_word(key.as_bytes(), b"token")
+}
+
+/// What is told of a value in whose place a token belongs, which is nothing that it says.
+#[derive(Clone, Copy)]
+pub(crate) enum Hidden {
+    Integer,
+    Boolean,
+    Float,
+    Datetime,
+    Array,
+    Table,
+    /// A text without a character.
+    Empty,
+    /// A text whose character of that number, from 1, is in no token.
+    Character(usize),
+    /// A text of so many characters, each of which may be in a token.
+    Text(usize),
+}
+
+impl Hidden {
+    fn of_text(text: &str) -> Hidden {
+        if text.is_empty() {
+            return Hidden::Empty;
+        }
+        match text.bytes().position(|b| !is_token(&[b])) {
+            Some(at) => Hidden::Character(at.saturating_add(1)),
+            None => Hidden::Text(text.len()),
+        }
+    }
+
+    // Writes it behind the name of the key.
+    fn write<W: fmt::Write>(self, f: &mut fmt::Formatter<W>) -> fmt::Result {
+        match self {
+            Hidden::Integer => f.write_str(" is an integer"),
+            Hidden::Boolean => f.write_str(" is a boolean"),
+            Hidden::Float => f.write_str(" is a float"),
+            Hidden::Datetime => f.write_str(" is a date or a time"),
+            Hidden::Array => f.write_str(" is an array"),
+            Hidden::Table => f.write_str(" is a table"),
+            Hidden::Empty => f.write_str(" is an empty text"),
+            Hidden::Text(count) if count > MAX_TOKEN => write!(f, " has {count} characters"),
+            Hidden::Text(_) | Hidden::Character(_) => Ok(()),
+        }
+    }
+
+    fn of(value: &Value) -> Hidden {
+        match value {
+            Value::String(text) => Hidden::of_text(text.as_str()),
+            Value::Integer(_) => Hidden::Integer,
+            Value::Boolean(_) => Hidden::Boolean,
+            Value::Float(_) => Hidden::Float,
+            Value::Datetime(_) => Hidden::Datetime,
+            Value::Array(_) => Hidden::Array,
+            Value::Table(_) => Hidden::Table,
+        }
+    }
+}
+
+/// What is told of what stands at a key.
+#[derive(Clone, Copy)]
+pub(crate) enum Found<'a> {
+    Nothing,
+    Plain(&'a Value),
+    Hidden(Hidden),
+}
+
+impl<'a> Found<'a> {
+    /// What may be told of what stands at the key of that name.
+    pub(crate) fn at(name: &str, value: Option<&'a Value>) -> Found<'a>
+        ensures { value_shown result ≡ value_to_show name.now (option_map (λ v. view v.now) value.entry) }
+    {
+        match value {
+            None => Found::Nothing,
+            Some(value) if is_secret(name) => Found::Hidden(Hidden::of(value)),
+            Some(value) => Found::Plain(value),
+        }
+    }
+}
+
+/// Writes it behind the name of the key.
+impl fmt::Display for Found<'_> {
+    fn fmt<W: fmt::Write>(&self, f: &mut fmt::Formatter<W>) -> fmt::Result {
+        match *self {
+            Found::Nothing => f.write_str(" is missing"),
+            Found::Plain(value) => write!(f, "{}", Shown(value)),
+            Found::Hidden(hidden) => hidden.write(f),
+        }
+    }
+}
