@@ -1,7 +1,6 @@
 -- Tables that have the same at the keys that count say the same: each key is read by itself.
-use Rattle.std.proofs.Common.{◌≡◌, ℕ, List, [], ◌∷◌, Option, Some, None, refl, ap, ◌∙◌}
-use Rattle.std.specs.Prelude.{codes}
-use Rattle.toml.specs.Data.{Members, get_member}
+use Rattle.std.proofs.Common.{◌≡◌, Option, Some, None, refl, ap, ◌∙◌}
+use Rattle.toml.specs.Data.{Members}
 use Rattle.tenant_core.specs.Network.{Net}
 use Rattle.admin_text.specs.Ignored.{top_keys, keys_of}
 use Rattle.admin_text.specs.Keys.{string_under, name_under, token_under, address_under, asset_under, target_of, integer_under, number_under, between_under}

@@ -9,6 +9,7 @@ pub mod Tenants
 pub mod Setup
 pub mod Secrets
 pub mod Shown
+pub mod Notes
 pub mod Wrong
 pub mod Spaces
 pub mod Fields

@@ -4,6 +4,7 @@ mod changes;
 mod commands;
 mod ignored_keys;
 mod limits;
+mod notes;
 mod texts;
 mod words;
 mod written;
