@@ -7,7 +7,7 @@ use std::process::Abort;
 use std::test::Fail;
 
 // Scripts of two workers for the tenant acme, and what is said of them.
-static SCRIPTS: [(&str, &str); 31] = [
+static SCRIPTS: [(&str, &str); 36] = [
     ("", "good"),
     (
         "# what follows\n\ndecide 1 0\ntick acme 0\nanswer 0 1 fault\n",
@@ -38,7 +38,19 @@ static SCRIPTS: [(&str, &str); 31] = [
     ),
     (
         "decide 0 1\r\n",
-        "script: line 1: NOW = \"1\\r\": a number, 0 or digits without a 0 in front",
+        "script: line 1: it ends in CR: the lines of a script end in LF alone",
+    ),
+    (
+        "# a comment\r\n\r\nload 0 acme tok -\r\n",
+        "script: line 2: it ends in CR: the lines of a script end in LF alone",
+    ),
+    (
+        "do acme 0 roll\r",
+        "script: line 1: it ends in CR: the lines of a script end in LF alone",
+    ),
+    (
+        "decide 0 1\r2",
+        "script: line 1: NOW = \"1\\r2\": a number, 0 or digits without a 0 in front",
     ),
     (
         "decide  0 1",
@@ -67,7 +79,15 @@ static SCRIPTS: [(&str, &str); 31] = [
     ),
     (
         "load 0 acme tok!alice -",
-        "script: line 1: TOKEN = \"tok!alice\": 1 to 64 of A-Z a-z 0-9 - . _ ~ + / =",
+        "script: line 1: TOKEN: character 4 is none of A-Z a-z 0-9 - . _ ~ + / =",
+    ),
+    (
+        "load 0 acme  -",
+        "script: line 1: TOKEN is empty: 1 to 64 of A-Z a-z 0-9 - . _ ~ + / =",
+    ),
+    (
+        "load 0 acme 01234567890123456789012345678901234567890123456789012345678901234 -",
+        "script: line 1: TOKEN has 65 characters: at most 64",
     ),
     (
         "load 0 acme tok 0c0",

@@ -1,6 +1,7 @@
 //! What is wrong with a line of a script, in words for people.
 
 use admin_text::TextFault;
+use common_types::{MAX_TOKEN, is_token};
 use std::{fmt, str};
 
 /// What a line that is a step begins with.
@@ -86,9 +87,11 @@ impl Operand {
     }
 }
 
-/// Why a line says nothing that a script may say. A word is shown as it stands there.
+/// Why a line says nothing that a script may say. A word is shown as it stands there, unless a token was to stand there.
 #[derive(Clone, Copy)]
 pub enum LineFault<'a> {
+    /// Its last byte is a carriage return.
+    EndsInReturn,
     /// It has more bytes than a line may have, which are so many.
     Long(usize),
     /// Some byte is no ASCII character.
@@ -128,6 +131,26 @@ impl fmt::Display for Shown<'_> {
     }
 }
 
+const TOKEN_BYTES: &str = "A-Z a-z 0-9 - . _ ~ + / =";
+
+// What is wrong with a word that is no token, which is not shown.
+fn write_token_fault<W: fmt::Write>(f: &mut fmt::Formatter<W>, word: &[u8]) -> fmt::Result {
+    if word.is_empty() {
+        return write!(f, "TOKEN is empty: 1 to {MAX_TOKEN} of {TOKEN_BYTES}");
+    }
+    match word.iter().position(|b| !is_token(&[*b])) {
+        Some(at) => {
+            let number = at.saturating_add(1);
+            write!(f, "TOKEN: character {number} is none of {TOKEN_BYTES}")
+        }
+        None => write!(
+            f,
+            "TOKEN has {} characters: at most {MAX_TOKEN}",
+            word.len()
+        ),
+    }
+}
+
 fn write_command_fault<W: fmt::Write>(f: &mut fmt::Formatter<W>, fault: TextFault) -> fmt::Result {
     f.write_str(match fault {
         TextFault::Verb => "COMMAND: its first word or two name no command",
@@ -141,6 +164,9 @@ fn write_command_fault<W: fmt::Write>(f: &mut fmt::Formatter<W>, fault: TextFaul
 impl fmt::Display for LineFault<'_> {
     fn fmt<W: fmt::Write>(&self, f: &mut fmt::Formatter<W>) -> fmt::Result {
         match *self {
+            LineFault::EndsInReturn => {
+                f.write_str("it ends in CR: the lines of a script end in LF alone")
+            }
             LineFault::Long(most) => write!(f, "a line has at most {most} bytes"),
             LineFault::NoAscii => f.write_str("a line has ASCII characters alone"),
             LineFault::NoVerb(word) => {
@@ -154,6 +180,7 @@ impl fmt::Display for LineFault<'_> {
                 write!(f, "{} is missing: {}", operand.name(), verb.form())
             }
             LineFault::TooMany(verb) => write!(f, "a word too many: {}", verb.form()),
+            LineFault::Malformed(Operand::Token, word) => write_token_fault(f, word),
             LineFault::Malformed(operand, word) => {
                 write!(f, "{} {}: {}", operand.name(), Shown(word), operand.right())
             }

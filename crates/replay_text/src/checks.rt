@@ -326,9 +326,19 @@ fn step_fault<'a>(
     }
 }
 
+// What is told of a line with that fault: that it ends in a carriage return, where it does.
+fn told<'a>(line: &[u8], fault: Option<LineFault<'a>>) -> Option<LineFault<'a>>
+    ensures { is_some result ≡ is_some fault.entry }
+{
+    match fault {
+        Some(_) if line.ends_with(b"\r") => Some(LineFault::EndsInReturn),
+        _ => fault,
+    }
+}
+
 /// Why a line says nothing that a script may say, for the tenants of these names and so many workers; `None` where it does
-/// say something, or is skipped. The first word that is wrong decides, unless one is missing. It fails only where memory
-/// does.
+/// say something, or is skipped. The first word that is wrong decides, unless one is missing or the line ends in a carriage
+/// return. It fails only where memory does.
 #[tactic(auto, unfolding(crate::specs::Script::meaning_of))]
 pub fn line_fault<'a>(
     alloc: Global,
@@ -347,5 +357,6 @@ pub fn line_fault<'a>(
     if is_skipped(line) {
         return Ok(None);
     }
-    step_fault(alloc, names, workers, line)
+    let fault = step_fault(alloc, names, workers, line)?;
+    Ok(told(line, fault))
 }
