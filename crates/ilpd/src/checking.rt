@@ -5,10 +5,10 @@ ghost use Rattle.std.specs.List.{flat_map};
 ghost use Rattle.std.specs.Result.{result_err};
 ghost use Rattle.admin_text.specs.Setup.{setup_of};
 ghost use Rattle.replay_text.specs.Replay.{refusal_of};
-ghost use Rattle.ilpd.specs.Checking.{good_text, key_line, SaysGood};
+ghost use Rattle.ilpd.specs.Checking.{good_text, key_line, note_line, SaysGood};
 
 use crate::ending::Ending;
-use admin_text::{IgnoredKey, explain, ignored_keys, read_setup};
+use admin_text::{IgnoredKey, Note, explain, ignored_keys, notes, read_setup};
 use common_types::ReadError;
 use replay_text::{ReplayFault, explain_script};
 use std::alloc::{AllocError, Global};
@@ -38,13 +38,30 @@ fn put_lines(text: &mut Vec<u8>, keys: &[IgnoredKey]) -> Result<(), AllocError>
     Ok(())
 }
 
-// `good`, and a line for each key that is ignored.
-fn good_text(alloc: Global, keys: &[IgnoredKey]) -> Result<Vec<u8>, AllocError>
-    ensures { IfOk result (λ text. text.items ≡ good_text keys.now) }
+fn put_note(text: &mut Vec<u8>, note: &Note) -> Result<(), AllocError>
+    ensures { OnOk result (text.new.items ≡ text.old.items ++ note_line note.now) }
+{
+    note.put_words(text)?;
+    text.extend_from_slice(b"\n")
+}
+
+fn put_notes(text: &mut Vec<u8>, notes: &[Note]) -> Result<(), AllocError>
+    ensures { OnOk result (text.new.items ≡ text.old.items ++ flat_map note_line notes.now) }
+{
+    for note in notes {
+        put_note(text, note)?;
+    }
+    Ok(())
+}
+
+// `good`, and a line for each key that is ignored and for each note.
+fn good_text(alloc: Global, keys: &[IgnoredKey], notes: &[Note]) -> Result<Vec<u8>, AllocError>
+    ensures { IfOk result (λ text. text.items ≡ good_text keys.now notes.now) }
 {
     let mut text = Vec::new(alloc);
     text.extend_from_slice(b"good\n")?;
     put_lines(&mut text, keys)?;
+    put_notes(&mut text, notes)?;
     Ok(text)
 }
 
@@ -103,8 +120,8 @@ fn check_script<W: Write>(
     }
 }
 
-/// Says whether a setup is good, and a script for its tenants where there is one: `good`, and a line for each key of the
-/// setup that is ignored. Else it says in a line what is wrong, and ends with the fault that a replay has for it. It is
+/// Says whether a setup is good, and a script for its tenants where there is one: `good`, a line for each key of the setup
+/// that is ignored, and one for each thing that may be wrong with its money. Else it says in a line what is wrong, and ends with the fault that a replay has for it. It is
 /// well only where both are good.
 pub fn check<W: Write>(
     alloc: Global,
@@ -128,6 +145,7 @@ pub fn check<W: Write>(
         check_script(alloc, setup, script, writer)?;
     }
     let keys = ignored_keys(alloc, setup).map_err(memory_refused)?;
-    let text = good_text(alloc, keys.as_slice()).map_err(memory_refused)?;
+    let found = notes(alloc, setup).map_err(memory_refused)?;
+    let text = good_text(alloc, keys.as_slice(), found.as_slice()).map_err(memory_refused)?;
     writer.write_all(text.as_slice()).map_err(printing)
 }

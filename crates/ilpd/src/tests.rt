@@ -186,12 +186,17 @@ fn scripts_to_check(rt: HostRuntime) -> Result<(), Fail> {
 // More lines of the setup, a script, what is said of them, and the exit status.
 type Checked = (&'static str, Option<&'static str>, &'static str, u8);
 
-static CHECKS: [Checked; 6] = [
-    ("", None, "good\n", 0),
+static CHECKS: [Checked; 8] = [
+    (
+        "",
+        None,
+        "good\ntenant acme has no route: it sends no packet on\ntenant acme has no rate: it sends no packet on\n",
+        0,
+    ),
     (
         "jurnal = 64\n",
         None,
-        "good\ntenant 0 acme: jurnal = 64: an unknown key, ignored\n",
+        "good\ntenant 0 acme: jurnal = 64: an unknown key, ignored\ntenant acme has no route: it sends no packet on\ntenant acme has no rate: it sends no packet on\n",
         0,
     ),
     (
@@ -200,7 +205,24 @@ static CHECKS: [Checked; 6] = [
         "tenant 0 acme: hold = 0: at least 1\n",
         3,
     ),
-    ("", Some("tick acme 0\ndecide 1 0\n"), "good\n", 0),
+    (
+        "",
+        Some("tick acme 0\ndecide 1 0\n"),
+        "good\ntenant acme has no route: it sends no packet on\ntenant acme has no rate: it sends no packet on\n",
+        0,
+    ),
+    (
+        "",
+        Some("tick acme 0\r\ndecide 1 0\r\n"),
+        "script: line 1: it ends in CR: the lines of a script end in LF alone\n",
+        4,
+    ),
+    (
+        "admim = 1\n[[tenant.peer]]\nname = \"alice\"\nrole = \"peer\"\ntoken = \"tok alice\"\n",
+        None,
+        "tenant 0 acme: peer 1 alice: token: character 4 is none of A-Z a-z 0-9 - . _ ~ + / =\n",
+        3,
+    ),
     (
         "jurnal = 64\n",
         Some("tick acme 0\ndecide 2 0\n"),
