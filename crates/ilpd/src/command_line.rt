@@ -6,6 +6,7 @@ ghost use Rattle.floor_core.specs.FloorView.{max_seats};
 ghost use Rattle.ilpd.specs.CommandLine.{IsBounded};
 
 use books_shared::MAX_WORKERS;
+use clap::error::ErrorKind;
 use clap::{Arg, ArgAction, ArgMatches, Command, Error, value_parser};
 use floor_core::MAX_SEATS;
 use service::Report;
@@ -81,7 +82,7 @@ fn script_workers<'a>(alloc: Global) -> Arg<'a> {
         .value_name("W")
         .help("How many workers the script has, 1 to 64")
         .default_value("1")
-        .value_parser(value_parser!(u64).range(1..=MAX_SEATS as i64))
+        .value_parser(value_parser!(u64))
 }
 
 fn replay_of<'a>(alloc: Global) -> Result<Command<'a>, AllocError> {
@@ -115,7 +116,7 @@ fn service_workers<'a>(alloc: Global) -> Arg<'a> {
         .value_name("W")
         .help("How many packets may be on their way to next peers at once, 1 to 64")
         .required(true)
-        .value_parser(value_parser!(u64).range(1..=MAX_SEATS as i64))
+        .value_parser(value_parser!(u64))
 }
 
 fn service_connections<'a>(alloc: Global) -> Arg<'a> {
@@ -124,7 +125,7 @@ fn service_connections<'a>(alloc: Global) -> Arg<'a> {
         .value_name("C")
         .help("How many connections may be open at once, each on a thread of its own, 1 to 4096")
         .default_value("256")
-        .value_parser(value_parser!(u64).range(1..=MAX_WORKERS as i64))
+        .value_parser(value_parser!(u64))
 }
 
 fn service_rounds<'a>(alloc: Global) -> Arg<'a> {
@@ -132,7 +133,7 @@ fn service_rounds<'a>(alloc: Global) -> Arg<'a> {
         .long("rounds")
         .value_name("N")
         .help("To end once W times N connections were served; N is 1 to 1000000")
-        .value_parser(value_parser!(u64).range(1..=i64::from(MAX_ROUNDS)))
+        .value_parser(value_parser!(u64))
 }
 
 fn flag_of<'a>(alloc: Global, name: &'static str, help: &'static str) -> Arg<'a> {
@@ -294,6 +295,80 @@ fn line_in<'a>(matches: &ArgMatches<'a>) -> CommandLine<'a>
     }
 }
 
+// A number that is to be from 1 to a greatest one.
+#[derive(Clone, Copy)]
+struct Limited {
+    name: &'static str,
+    shown: &'static str,
+    most: u64,
+}
+
+const LIMITED: [Limited; 3] = [
+    Limited {
+        name: "workers",
+        shown: "--workers <W>",
+        most: MAX_SEATS as u64,
+    },
+    Limited {
+        name: "connections",
+        shown: "--connections <C>",
+        most: MAX_WORKERS as u64,
+    },
+    Limited {
+        name: "rounds",
+        shown: "--rounds <N>",
+        most: MAX_ROUNDS as u64,
+    },
+];
+
+impl Limited {
+    // Whether the words have such a number that is not from 1 to the greatest one.
+    fn is_passed(&self, words: &ArgMatches<'_>) -> bool {
+        match words.get_one::<u64>(self.name) {
+            Some(number) => number < 1 || number > self.most,
+            None => false,
+        }
+    }
+
+    // What is said of such a number.
+    fn refusal(&self, alloc: Global, given: &str) -> Result<String, AllocError> {
+        let most = self.most.to_string(alloc)?;
+        let mut said = String::from_str(alloc, "invalid value '")?;
+        said.push_str(given)?;
+        said.push_str("' for '")?;
+        said.push_str(self.shown)?;
+        said.push_str("': 1 to ")?;
+        said.push_str(most.as_str())?;
+        Ok(said)
+    }
+}
+
+// That each number which the words of a subcommand have is within its limits.
+fn within_limits(
+    alloc: Global,
+    mut command: Command<'_>,
+    words: &ArgMatches<'_>,
+) -> Result<(), Error> {
+    for limited in &LIMITED {
+        if limited.is_passed(words) {
+            let given = words.get_str(limited.name).unwrap_or("");
+            let said = limited.refusal(alloc, given)?;
+            return Err(command.error(ErrorKind::ValueValidation, said.as_str())?);
+        }
+    }
+    Ok(())
+}
+
+// That each number is within its limits.
+fn all_within_limits(alloc: Global, matches: &ArgMatches<'_>) -> Result<(), Error> {
+    match matches.subcommand() {
+        Some(("check", words)) => within_limits(alloc, check_of(alloc)?, words),
+        Some(("serve", words)) => within_limits(alloc, serve_of(alloc)?, words),
+        Some((_, words)) => within_limits(alloc, replay_of(alloc)?, words),
+        None => Ok(()),
+    }
+}
+
 /// Reads the words of `ilpd replay SETUP [--workers W]`, `ilpd check SETUP [SCRIPT [--workers W]]` or
 /// `ilpd serve SETUP --workers W [--connections C] [--rounds N] [--balances] [--audit] [--listen ADDR] [--host ADDR
 /// --host-token FILE]`, the program's name first. W is 1 to 64, and 1 for a script where it is left out; C is 1 to 4,096, and
@@ -316,5 +391,6 @@ pub fn arguments<'a>(alloc: Global, words: &'a [String]) -> Result<CommandLine<'
         .subcommand(check_of(alloc)?)?
         .subcommand(serve_of(alloc)?)?;
     let matches = command.try_get_matches_from(words)?;
+    all_within_limits(alloc, &matches)?;
     Ok(line_in(&matches))
 }

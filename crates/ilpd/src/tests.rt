@@ -36,8 +36,9 @@ replay -> error:
 check -> error:
 check s1.toml --workers 1 -> error:
 replay s1.toml s2.toml -> error:
-replay s1.toml --workers 0 -> error:
-replay s1.toml --workers 65 -> error:
+replay s1.toml --workers 0 -> error: invalid value '0' for '--workers <W>': 1 to 64
+replay s1.toml --workers 65 -> error: invalid value '65' for '--workers <W>': 1 to 64
+check s1.toml a.script --workers 65 -> error: invalid value '65' for '--workers <W>': 1 to 64
 replay s1.toml --workers one -> error:
 replay s1.toml --workers -> error:
 serve s1.toml --workers 2 --rounds 3 -> s1.toml 2 serve 256 3
@@ -48,11 +49,11 @@ serve s1.toml --workers 1 --connections 4096 --balances --audit -> s1.toml 1 ser
 serve s1.toml --workers 1 --host 127.0.0.1:7769 --host-token host.token -> s1.toml 1 serve 256 -
 serve s1.toml --workers 1 --host 127.0.0.1:7769 -> error:
 serve s1.toml --workers 1 --host-token host.token -> error:
-serve s1.toml --workers 65 -> error:
-serve s1.toml --workers 1 --connections 0 -> error:
-serve s1.toml --workers 1 --connections 4097 -> error:
-serve s1.toml --workers 1 --rounds 0 -> error:
-serve s1.toml --workers 1 --rounds 1000001 -> error:
+serve s1.toml --workers 65 -> error: invalid value '65' for '--workers <W>': 1 to 64
+serve s1.toml --workers 1 --connections 0 -> error: invalid value '0' for '--connections <C>': 1 to 4096
+serve s1.toml --workers 1 --connections 4097 -> error: invalid value '4097' for '--connections <C>': 1 to 4096
+serve s1.toml --workers 1 --rounds 0 -> error: invalid value '0' for '--rounds <N>': 1 to 1000000
+serve s1.toml --workers 1 --rounds 1000001 -> error: invalid value '1000001' for '--rounds <N>': 1 to 1000000
 --help -> A connector
 --version -> ilpd 0.1.0
 -V -> ilpd 0.1.0
@@ -150,6 +151,20 @@ fn the_version(rt: HostRuntime) -> Result<(), Fail> {
     let alloc = rt.alloc();
     assert!(rt; refusal_of(alloc, "--version")?.as_str() == "ilpd 0.1.0\n");
     assert!(rt; refusal_of(alloc, "-V")?.as_str() == "ilpd 0.1.0\n");
+    Ok(())
+}
+
+const WORKERS_REFUSED: &str = "error: invalid value '65' for '--workers <W>': 1 to 64
+
+Usage: ilpd replay SETUP [--workers W] < SCRIPT
+
+For more information, try '--help'.
+";
+
+#[test]
+fn what_is_said_of_too_many_workers(rt: HostRuntime) -> Result<(), Fail> {
+    let said = refusal_of(rt.alloc(), "replay s1.toml --workers 65")?;
+    assert!(rt; said.as_str() == WORKERS_REFUSED, "{said}");
     Ok(())
 }
 
