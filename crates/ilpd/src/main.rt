@@ -10,6 +10,7 @@ mod checking;
 mod clock;
 mod command_line;
 mod ending;
+mod reasons;
 #[cfg(test)]
 mod tests;
 
@@ -20,6 +21,7 @@ use command_line::{HostWords, Task, arguments};
 use common_types::{ReadError, Token};
 use ending::{Ending, asks_version, exit_status, words_refused};
 use oer_core::Counted;
+use reasons::reason_of;
 pub use replay_text::{ReplayFault, replay};
 use service::{
     Doors, Extent, HostDoor, Report, ServeFault, can_open, files_of, serve, without_line_feed,
@@ -78,16 +80,35 @@ fn warn(rt: &(impl Eprint + AllocGlobal), extent: Extent, tenants: usize) {
     }
 }
 
-// Says in a line on standard output what could not be done with what, and why, and gives how the run ends.
-fn cannot(rt: &(impl Print + AllocGlobal), doing: &str, what: &str, error: &io::Error) -> Ending {
-    let why = error.kind();
+// Says in a line on standard output what could not be done with what, and why.
+fn say_cannot(rt: &impl Print, doing: &str, what: &str, why: &str) {
     let _ = println!(rt; "ilpd: cannot {doing} {what}: {why}");
-    ending_of(why)
 }
 
-// All that is in a file.
+// Says so, unless memory was refused, and gives how the run ends.
+fn cannot(rt: &impl Print, doing: &str, what: &str, error: &io::Error) -> Ending {
+    let kind = error.kind();
+    if kind != ErrorKind::OutOfMemory {
+        say_cannot(rt, doing, what, reason_of(kind));
+    }
+    ending_of(kind)
+}
+
+// All that is in a file, or else a line that says why it can't be read.
 fn read_file(rt: &(impl Files + Print + AllocGlobal), file: &str) -> Result<Vec<u8>, Ending> {
     fs::read(rt, file).map_err(|error| cannot(rt, "read", file, &error))
+}
+
+// All that is in the file of the setup. A replay prints nothing but the lines of its steps.
+fn read_setup_file(
+    rt: &(impl Files + Print + AllocGlobal),
+    task: Task,
+    file: &str,
+) -> Result<Vec<u8>, Ending> {
+    match task {
+        Task::Replay => fs::read(rt, file).map_err(printing),
+        Task::Check | Task::Serve { .. } => read_file(rt, file),
+    }
 }
 
 // Says whether the setup is good, and the script of that file for it, where one is named.
@@ -106,14 +127,17 @@ fn check_at(
     check(alloc, setup, Some(Script { text, workers }), &mut writer)
 }
 
+// Why a word is no address to listen on.
+const NO_ADDRESS: &str = "not an address: an IP address and a port, as 127.0.0.1:7768";
+
 // A listener on an address, which is an IP address and a port.
 fn listener_on<R: Net<Listener = TcpListener, Stream = TcpStream> + Print + AllocGlobal>(
     rt: &R,
     address: &str,
 ) -> Result<TcpListener, Ending> {
     let Ok(parsed) = address.parse::<SocketAddr>() else {
-        let wrong = io::Error::from(ErrorKind::InvalidInput);
-        return Err(cannot(rt, "listen on", address, &wrong));
+        say_cannot(rt, "listen on", address, NO_ADDRESS);
+        return Err(Ending::Fault(ReplayFault::Device));
     };
     TcpListener::bind(rt, parsed).map_err(|error| cannot(rt, "listen on", address, &error))
 }
@@ -262,7 +286,7 @@ fn run<
         Err(error) if asks_version(&error) => return rt.print(error).map_err(printing),
         Err(error) => return Err(words_refused(error)),
     };
-    let setup = read_file(rt, line.setup)?;
+    let setup = read_setup_file(rt, line.task, line.setup)?;
     match line.task {
         Task::Check => check_at(rt, setup.as_slice(), line.script, line.workers),
         Task::Serve {
