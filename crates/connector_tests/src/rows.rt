@@ -7,8 +7,9 @@ ghost use Rattle.std.specs.Prelude.{◌≤◌};
 use replay_text::{ReplayFault, replay};
 use std::alloc::Global;
 use std::process::Abort;
+use std::str;
 use std::test::Fail;
-use test_texts::{Line, filled, put, setup_with};
+use test_texts::{Line, filled_in, put, setup_in};
 
 /// What a replay of the script writes, for the setup and one worker.
 pub fn written(alloc: Global, setup: &str, script: &str) -> Result<Vec<u8>, ReplayFault> {
@@ -51,14 +52,44 @@ pub fn expect_rows_by(
     Ok(())
 }
 
+fn title_of(row: &'static str) -> &'static str {
+    row.lines().next().unwrap_or("")
+}
+
 fn expect_row(rt: &impl Abort, alloc: Global, workers: usize, row: &'static str) -> Result<(), Fail>
     requires { (1 ≤ workers) × (workers ≤ 64) }
 {
     let text = printed(alloc, workers, row)?;
     let lines = lines_of(alloc, row)?;
-    let lines = filled(alloc, lines.as_str())?;
-    let title = row.lines().next().unwrap_or("");
-    assert!(rt; text.as_slice() == lines.as_bytes(), "{title}");
+    let lines = filled_in(alloc, title_of(row), lines.as_str())?;
+    expect_lines(rt, alloc, title_of(row), text.as_slice(), lines.as_str())
+}
+
+// The first line of one of the texts that the other has not at that place, and what it has there.
+fn first_unlike<'a>(found: &'a str, wanted: &'a str) -> (&'a str, &'a str) {
+    let mut lines = wanted.lines();
+    for line in found.lines() {
+        let other = lines.next().unwrap_or("nothing");
+        if line != other {
+            return (line, other);
+        }
+    }
+    ("nothing", lines.next().unwrap_or("nothing"))
+}
+
+// That a row printed these lines, and else where it did not.
+fn expect_lines(
+    rt: &impl Abort,
+    alloc: Global,
+    title: &str,
+    text: &[u8],
+    lines: &str,
+) -> Result<(), Fail> {
+    let (found, wanted) = first_unlike(str::from_utf8(text)?, lines);
+    let mut said = String::from_str(alloc, title)?;
+    put(&mut said, &[": printed ", found])?;
+    put(&mut said, &[", and not ", wanted])?;
+    assert!(rt; text == lines.as_bytes(), "{said}");
     Ok(())
 }
 
@@ -67,9 +98,9 @@ fn printed(alloc: Global, workers: usize, row: &'static str) -> Result<Vec<u8>, 
     requires { (1 ≤ workers) × (workers ≤ 64) }
 {
     let changes = changes_of(alloc, row)?;
-    let setup = setup_with(alloc, &changes)?;
+    let setup = setup_in(alloc, title_of(row), &changes)?;
     let script = script_of(alloc, row)?;
-    let script = filled(alloc, script.as_str())?;
+    let script = filled_in(alloc, title_of(row), script.as_str())?;
     Ok(written_by(alloc, setup.as_str(), workers, script.as_str())?)
 }
 
@@ -118,6 +149,5 @@ pub fn expect_written(
     lines: &str,
 ) -> Result<(), Fail> {
     let text = written(alloc, setup, script)?;
-    assert!(rt; text.as_slice() == lines.as_bytes());
-    Ok(())
+    expect_lines(rt, alloc, "a script", text.as_slice(), lines)
 }

@@ -1,6 +1,6 @@
 //! Frames, replies and moments, in hexadecimal digits and digits, by names that stand in braces.
 
-use std::alloc::Global;
+use std::alloc::{AllocError, Global};
 use std::test::Fail;
 
 // What stands for a name in braces: on each line a name, a colon and its value, which may have names of its own in it. The
@@ -102,22 +102,38 @@ fn value_of(names: &'static str, name: &str) -> Option<&'static str> {
     None
 }
 
+// That a text of a row has a name that has no value.
+fn unknown(alloc: Global, row: &str, name: &str) -> Result<Fail, AllocError> {
+    let mut said = String::from_str(alloc, row)?;
+    said.push_str(": no value has the name ")?;
+    said.push_str(name)?;
+    Ok(Fail::new(said))
+}
+
 // The text with each name in braces replaced by its value.
-fn with_values(alloc: Global, names: &'static str, text: &str) -> Result<String, Fail> {
+fn with_values(alloc: Global, names: &'static str, row: &str, text: &str) -> Result<String, Fail> {
     let mut pieces = text.split('{');
     let mut filled = String::from_str(alloc, pieces.next().unwrap_or(""))?;
     for piece in pieces {
         let (name, rest) = piece.split_once('}').ok_or("a brace that ends")?;
-        filled.push_str(value_of(names, name).ok_or("a name of the table")?)?;
+        let Some(value) = value_of(names, name) else {
+            return Err(unknown(alloc, row, name)?);
+        };
+        filled.push_str(value)?;
         filled.push_str(rest)?;
     }
     Ok(filled)
 }
 
+/// The text with the values of the names in braces. Where one has none, the failure has the row's title and the name.
+pub fn filled_in(alloc: Global, row: &str, text: &str) -> Result<String, Fail> {
+    let once = with_values(alloc, NAMES, row, text)?;
+    with_values(alloc, NAMES, row, once.as_str())
+}
+
 /// The text with the values of the names in braces.
 pub fn filled(alloc: Global, text: &str) -> Result<String, Fail> {
-    let once = with_values(alloc, NAMES, text)?;
-    with_values(alloc, NAMES, once.as_str())
+    filled_in(alloc, text, text)
 }
 
 /// The bytes that hexadecimal digits and names in braces stand for.

@@ -8,6 +8,6 @@ mod setups;
 mod texts;
 
 pub use draws::Draws;
-pub use frames::{filled, frame};
-pub use setups::{ABSENT, Line, PEER, RATE, ROUTE, TENANT, setup_with};
+pub use frames::{filled, filled_in, frame};
+pub use setups::{ABSENT, Line, PEER, RATE, ROUTE, TENANT, setup_in, setup_with};
 pub use texts::put;

@@ -171,14 +171,24 @@ fn lines_of(alloc: Global, text: &'static str) -> Result<Vec<Line>, Fail> {
     Ok(lines)
 }
 
-// Whether each of the changes changes one of the lines.
-fn are_known(lines: &[Line], changes: &[Line]) -> bool {
-    for (whose, key, _) in changes {
+// The first of the changes that changes none of the lines.
+fn unknown_of(lines: &[Line], changes: &[Line]) -> Option<Line> {
+    for (whose, key, value) in changes {
         if value_of(lines, whose, key).is_none() {
-            return false;
+            return Some((*whose, *key, *value));
         }
     }
-    true
+    None
+}
+
+// That a change of a row changes none of the lines.
+fn unknown(alloc: Global, row: &str, whose: &str, key: &str) -> Result<Fail, AllocError> {
+    let mut said = String::from_str(alloc, row)?;
+    said.push_str(": no line of the usual setup is ")?;
+    said.push_str(whose)?;
+    said.push_str("|")?;
+    said.push_str(key)?;
+    Ok(Fail::new(said))
 }
 
 // The lines with the values that the changes give.
@@ -204,12 +214,18 @@ fn changed_text(alloc: Global, lines: &[Line], changes: &[Line]) -> Result<Strin
     Ok(text)
 }
 
-/// The usual setup with the values of these lines in place of its own. Each names a line of `USUAL`.
-pub fn setup_with(alloc: Global, changes: &[Line]) -> Result<String, Fail> {
+/// The usual setup with the values of these lines in place of its own. Each names a line of `USUAL`; where one does not, the
+/// failure has the row's title and the line's name.
+pub fn setup_in(alloc: Global, row: &str, changes: &[Line]) -> Result<String, Fail> {
     let lines = lines_of(alloc, USUAL)?;
-    if !are_known(&lines, changes) {
-        return Err(Fail::from("a line of the setup"));
+    if let Some((whose, key, _)) = unknown_of(&lines, changes) {
+        return Err(unknown(alloc, row, whose, key)?);
     }
     let text = changed_text(alloc, &lines, changes)?;
     Ok(text.replace(alloc, "'", "\"")?)
+}
+
+/// The usual setup with the values of these lines in place of its own. Each names a line of `USUAL`.
+pub fn setup_with(alloc: Global, changes: &[Line]) -> Result<String, Fail> {
+    setup_in(alloc, "a setup", changes)
 }
