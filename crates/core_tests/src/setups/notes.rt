@@ -29,6 +29,9 @@ rate back||[[tenant.rate]], rate back|num|2, rate after||[[tenant.rate]] > nothi
 
 fn put_said(alloc: Global, text: &[u8], said: &mut Vec<u8>) -> Result<(), Fail> {
     let found = notes(alloc, text)?;
+    if found.as_slice().is_empty() {
+        said.extend_from_slice(b"nothing")?;
+    }
     for note in found.as_slice() {
         if !said.is_empty() {
             said.extend_from_slice(b"; ")?;
@@ -43,10 +46,7 @@ fn expect_said(rt: &impl Abort, alloc: Global, row: &'static str) -> Result<(), 
     let text = changed_setup(alloc, changes)?;
     let mut said = Vec::new(alloc);
     put_said(alloc, text.as_bytes(), &mut said)?;
-    let said = match str::from_utf8(said.as_slice())? {
-        "" => "nothing",
-        said => said,
-    };
+    let said = str::from_utf8(said.as_slice())?;
     assert!(rt; said == wanted, "{said}, and not {wanted}");
     Ok(())
 }
