@@ -17,7 +17,7 @@ const BOTH: u8 = 2;
 const MISSED: u8 = 3;
 
 /// For how many milliseconds one waits for the other.
-const PATIENCE: u64 = 10_000;
+const PATIENCE: u64 = 3_000;
 
 /// Where two threads meet before they begin, since one may never have been started.
 #[derive(Drop)]
