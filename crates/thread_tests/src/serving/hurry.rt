@@ -93,7 +93,7 @@ fn who_asks_without_end_gives_way(rt: HostRuntime) -> Result<(), Fail> {
     let count = operators.to_string(alloc)?;
     let wanted = ["acme 200 ", count.as_str(), " 4xx 0 503 0 link 0\n"].concat(alloc)?;
     assert!(rt; strangers == 1);
-    assert!(rt; 1 < operators && operators < MOST);
+    assert!(rt; 0 < operators && operators < MOST);
     assert_eq!(rt; lines.as_slice(), wanted.as_bytes());
     Ok(())
 }
@@ -188,13 +188,13 @@ fn callers_who_bring_nothing_delay_no_host(rt: HostRuntime) -> Result<(), Fail> 
     end?;
     let (took, are_good) = came?;
     assert!(rt; are_good);
-    assert!(rt; took < Duration::from_secs(4));
+    assert!(rt; took < Duration::from_secs(10));
     Ok(())
 }
 
-// BASE as it goes on where it is held for three seconds at most.
+// BASE as it goes on where it is held for eight seconds at most.
 const SENT: &str =
-    "0c4700000000000005dc323033303031303130303030303330303066687aadf862bd776c8fc18b8e9f8e20089714856ee233b3902a591d0d5f29250c672e61636d652e626f622e7800";
+    "0c4700000000000005dc323033303031303130303030303830303066687aadf862bd776c8fc18b8e9f8e20089714856ee233b3902a591d0d5f29250c672e61636d652e626f622e7800";
 
 // Takes one packet, and fulfils it after almost a second.
 fn fulfils_late(
@@ -298,7 +298,7 @@ fn a_second_request_is_answered_at_a_stop(rt: HostRuntime) -> Result<(), Fail> {
     let alloc = rt.alloc();
     let peer = TcpListener::bind(&rt, "127.0.0.1:0")?;
     let port = peer.local_addr()?.port();
-    let setup = setup_holding(alloc, port, 3_000)?;
+    let setup = setup_holding(alloc, port, 8_000)?;
     let both = two_requests(alloc, port)?;
     let between = served_between(&rt, &peer, setup.as_str(), &both)?;
     between.end?;
