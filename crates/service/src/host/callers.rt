@@ -73,12 +73,8 @@ impl Callers {
             };
             match listener.accept() {
                 Ok((stream, _)) => self.admit(stream, now),
-                Err(error) if is_pause(&error) => return,
-                // Perhaps too many files are open.
-                Err(_) => {
-                    self.dismiss_first();
-                    return;
-                }
+                // Perhaps too many files are open, which the system also says where nobody has come: those who wait stay.
+                Err(_) => return,
             }
         }
     }
@@ -167,13 +163,24 @@ impl<H: Wait + Net<Stream = TcpStream> + Clock, J: Run> Porter<'_, H, J> {
         }
     }
 
-    // Answers those whose requests have come.
+    // Lets those wait who have come, and answers those whose requests have: first of those who were there before, since one
+    // who comes may take the place of another.
     fn attend(&mut self)
         ensures seat { self.new.host.seat ≡ self.old.host.seat }
         ensures office { self.new.host.office ≡ self.old.host.office }
     {
+        self.answer_due();
         let (listener, clock) = (self.host.listener(), self.host.clock());
         self.callers.admit_all(listener, clock);
+        self.answer_due();
+    }
+
+    // Answers those whose requests have come.
+    fn answer_due(&mut self)
+        ensures seat { self.new.host.seat ≡ self.old.host.seat }
+        ensures office { self.new.host.office ≡ self.old.host.office }
+    {
+        let clock = self.host.clock();
         for _ in 0..MAX_CALLERS {
             let Ok(now) = Instant::now(clock) else {
                 return;

@@ -14,7 +14,8 @@ pub enum ServeFault {
     /// Memory was refused.
     #[error("out of memory")]
     Memory,
-    /// A connection could not be accepted, a thread not started, or the lines not written.
+    /// A thread could not be started, the lines not be written, or, unless its host stopped the service, a connection not be
+    /// accepted.
     #[error("device")]
     Device,
     /// The books in the end are not what the workers have counted. No lock that hands out what was left in it comes to this.

@@ -432,8 +432,8 @@ fn most_waiting_of(extent: Extent, tenants: usize) -> usize
 /// memory grows with what is done. In the end one worker rolls each tenant, and all receipts are checked against all periods:
 /// `audit ok N` tells that these N receipts are complete, and `audit WORD` what is wrong.
 ///
-/// `Memory` where memory was refused; `Device` where a thread could not be started, a connection not be accepted, or the
-/// lines not be written; `Differs` where the books in the end are not what the workers have counted, which comes of no lock
+/// `Memory` where memory was refused, also for the audit alone; `Device` where a thread could not be started, the lines not be
+/// written, or, unless the host stopped the service, a connection not be accepted; `Differs` where the books in the end are not what the workers have counted, which comes of no lock
 /// that hands out what was left in it; `Audit` where an audit found a fault, or the books differ. The lines are written first, unless no thread was started or memory was refused.
 pub fn serve<
     H: Threads + Wait + Net<Listener = TcpListener, Stream = TcpStream> + std::time::Clock + Sync,

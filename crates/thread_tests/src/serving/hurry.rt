@@ -1,6 +1,6 @@
 //! What a connection is given where others wait, and where the service stops; and callers at the host's door who bring nothing.
 
-use super::crowd::setup_text;
+use super::crowd::{connected, setup_text};
 use super::host::{HEALTH, HEALTHY, METRICS, STOP, serve_with_host};
 use super::wire::{FULFILL, bytes, good, posted, request};
 use super::{
@@ -21,12 +21,6 @@ use std::{io, thread};
 // How often a client asks at most on one connection: every 50 milliseconds, for five seconds.
 const MOST: u64 = 100;
 
-fn connected_to(net: &impl Net<Stream = TcpStream>, addr: &SocketAddr) -> io::Result<TcpStream> {
-    let stream = TcpStream::connect_timeout(net, addr, Duration::from_secs(5))?;
-    stream.set_read_timeout(Some(Duration::from_secs(20)))?;
-    Ok(stream)
-}
-
 // Whether that is the answer to the next request on a connection.
 fn is_answered(stream: &TcpStream, request: &[u8], answer: &[u8], room: &mut [u8]) -> bool {
     let (mut out, mut input) = (stream, stream);
@@ -41,7 +35,7 @@ fn answers_until_closed(
     request: &[u8],
     answer: &[u8],
 ) -> io::Result<u64> {
-    let stream = connected_to(rt, addr)?;
+    let stream = connected(rt, addr)?;
     let mut room = vec![in alloc; 0u8; answer.len()]?;
     for count in 0..MOST {
         if !is_answered(&stream, request, answer, room.as_mut_slice()) {
@@ -159,7 +153,7 @@ fn asked_beside_callers(
 ) -> io::Result<(Duration, bool)> {
     let mut callers = Vec::new(alloc);
     for _ in 0..20 {
-        callers.push(connected_to(rt, host)?)?;
+        callers.push(connected(rt, host)?)?;
     }
     let begun = Instant::now(rt)?;
     let metrics = asked(rt, alloc, host, METRICS)?;
@@ -224,7 +218,7 @@ fn stopped_between(
     host: &SocketAddr,
     [first, second]: [&[u8]; 2],
 ) -> io::Result<Vec<u8>> {
-    let stream = connected_to(rt, addr)?;
+    let stream = connected(rt, addr)?;
     let mut out = &stream;
     out.write_all(first)?;
     thread::sleep(rt, Duration::from_millis(300));

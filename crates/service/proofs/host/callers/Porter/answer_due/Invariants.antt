@@ -1,5 +1,5 @@
 use Rattle.std.proofs.Common.{◌≡◌}
-use Rattle.service.proofs.host.callers.Porter.attend.Given as goal
+use Rattle.service.proofs.host.callers.Porter.answer_due.Given as goal
 
 abbrev pub invariant-loop : goal.invariant-loop
 invariant-loop g l = record {
