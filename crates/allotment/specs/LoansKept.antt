@@ -8,7 +8,7 @@ abbrev pub loans_of : Inside → Loans
 loans_of a = record { places = a.places; share = a.share; used = a.used.items }
 
 -- both running numbers are right, what is free covers what is owed, and there are no more places than may be
-pub record IsKept (a : Inside) : Type 0 where
+pub record AllotmentInvariant (a : Inside) : Type 0 where
   pub whole : a.free + sum a.used.items ≡ a.places
   pub owed : a.owed ≡ sum_by (λ used. a.share - used) a.used.items
   pub covered : a.owed ≤ a.free

@@ -40,11 +40,11 @@ impl Model for Allotment {
 
     ghost Value = { Loans };
 
-    ghost use Rattle.allotment.specs.LoansKept.{IsKept, loans_of};
+    ghost use Rattle.allotment.specs.LoansKept.{AllotmentInvariant, loans_of};
 
     ghost view = { loans_of };
 
-    ghost invariant = { IsKept };
+    ghost invariant = { AllotmentInvariant };
 }
 
 impl Allotment {

@@ -9,7 +9,7 @@ use std::marker::Model;
 
 /// What a tenant is told that asks for a place.
 #[derive(Clone, Copy, Debug, PartialEq, Eq)]
-pub enum Turn {
+pub enum Admission {
     /// It has one.
     Taken,
     /// One more of it waits.
@@ -111,22 +111,22 @@ impl Lending {
     }
 
     /// Asks for a place for the tenant.
-    pub fn ask(&mut self, tenant: usize) -> Turn
+    pub fn ask(&mut self, tenant: usize) -> Admission
         requires { tenant < length self.old.loans.used }
-        ensures taken { (result ≡ Turn.Taken) ↔ IsTrue (is_granted tenant self.old.loans) }
-        ensures sure { used_by tenant self.old.loans < self.old.loans.share → result ≡ Turn.Taken }
-        ensures waits { (result ≡ Turn.Waits) ↔ ((is_granted tenant self.old.loans ≡ false) × (waiting_of tenant self.old < self.old.most_waiting)) }
+        ensures taken { (result ≡ Admission.Taken) ↔ IsTrue (is_granted tenant self.old.loans) }
+        ensures sure { used_by tenant self.old.loans < self.old.loans.share → result ≡ Admission.Taken }
+        ensures waits { (result ≡ Admission.Waits) ↔ ((is_granted tenant self.old.loans ≡ false) × (waiting_of tenant self.old < self.old.most_waiting)) }
         ensures asked { self.new ≡ asked_for tenant self.old }
     {
         if self.loans.try_take(tenant) {
-            return Turn::Taken;
+            return Admission::Taken;
         }
         let waiting = self.waiting[tenant];
         if waiting >= self.most_waiting {
-            return Turn::Full;
+            return Admission::Full;
         }
         self.waiting[tenant] = waiting + 1;
-        Turn::Waits
+        Admission::Waits
     }
 
     /// Whether a place is kept for one of the tenant that waited. It is the caller's from then on.

@@ -6,4 +6,4 @@ pub mod laws;
 mod lending;
 
 pub use allotted::{Allotment, MAX_PLACES};
-pub use lending::{Lending, Turn};
+pub use lending::{Admission, Lending};

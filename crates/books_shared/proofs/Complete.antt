@@ -31,7 +31,7 @@ use Rattle.one_list.specs.Steps.{of_tenant, of_worker}
 use Rattle.one_list.specs.declared.step.Done.{Done}
 use Rattle.one_list.specs.declared.step.Size.{Size}
 use Rattle.joint_order.specs.Orders.{TakesOn, list_at, none, one_more, point}
-use Rattle.joint_order.specs.declared.point.Point.{Point}
+use Rattle.joint_order.specs.declared.point.ListPoint.{ListPoint}
 use Rattle.receipts.specs.Audits.{AreJoined, AreMatched, IsAmong, IsComplete, IsNumbered, NameOne, Names, place_of, points_of, record_of, records_before}
 use Rattle.receipts.specs.declared.receipt.Receipt.{Receipt}
 use Rattle.books_shared.specs.Complete.{AreClosedIn, AreNumbered, AreReceiptsOf, AreRolled, closed_at, closed_by, closed_from}
@@ -819,7 +819,7 @@ takes_on openings log periods lists m [] taken done h rest so_taken so_done = λ
     let long = rest.long in
     let whole : take m log ≡ log = take_all m log (omega arith) in
     let here : taken i ≡ length (of_worker i log) = so_taken i ∙ ap (λ (l : List Done). length (of_worker i l)) whole in
-    let f : Receipt → Point = λ r. point r.tenant (place_of periods r) in
+    let f : Receipt → ListPoint = λ r. point r.tenant (place_of periods r) in
     let points : list_at (points_of periods lists) i ≡ map f (receipts_told (of_worker i log)) =
     points_at periods lists i ∙ ap (λ (l : List Receipt). map f l) (h.own_lists i) in
     here ∙ sym (ap length points ∙ (length-map (receipts_told (of_worker i log)) f ∙ length-map (of_worker i log) receipt_told))
@@ -827,10 +827,10 @@ takes_on openings log periods lists m (e ∷ es) taken done h rest so_taken so_d
     let same : m + 0 ≡ m = omega arith in
     let at : slice_get log m ≡ Some e = subst (λ n. slice_get log n ≡ Some e) same (rest.at 0 e refl) in
     let w : ℕ = e.worker in
-    let f : Receipt → Point = λ r. point r.tenant (place_of periods r) in
+    let f : Receipt → ListPoint = λ r. point r.tenant (place_of periods r) in
     let stands = step_stands openings log periods lists m e h at in
     let next : slice_get (list_at (points_of periods lists) w) (seen (is_worker w) log m) ≡ Some (f (receipt_told e)) =
-    subst (λ (l : List Point). slice_get l (seen (is_worker w) log m) ≡ Some (f (receipt_told e))) (sym (points_at periods lists w))
+    subst (λ (l : List ListPoint). slice_get l (seen (is_worker w) log m) ≡ Some (f (receipt_told e))) (sym (points_at periods lists w))
     (point_at f (list_at lists w) (seen (is_worker w) log m) (receipt_told e) (told_there openings log periods lists m e h at)) in
     let place : place_of periods (receipt_told e) ≡ done e.tenant = stands.place ∙ sym (so_done e.tenant) in
     let taken_next : slice_get (list_at (points_of periods lists) w) (taken w) ≡ Some (point e.tenant (done e.tenant)) =

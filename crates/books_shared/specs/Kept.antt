@@ -20,7 +20,7 @@ abbrev pub most_entries : ℕ → ℕ
 most_entries periods = (max_journal + 1) * periods
 
 -- what holds of a book whenever its lock is free
-pub record IsKept (k : Kept) : Type 0 where
+pub record LockInvariant (k : Kept) : Type 0 where
   -- it is the replay of its journal, and within its limits
   pub sound : IsSound k.state
   pub closed : k.closed ≤ most_entries k.state.opening.period

@@ -51,7 +51,7 @@ impl<J: Run> Books<J> {
     ghost use Rattle.std.specs.Prelude.{◌≡◌, ◌<◌, ◌≤◌, length, IfOk, IfSome};
     ghost use Rattle.tenant_core.specs.Limits.{max_tenants};
     ghost use Rattle.books_shared.specs.Gathers.{max_workers};
-    ghost use Rattle.books_shared.specs.Kept.{IsKept};
+    ghost use Rattle.books_shared.specs.Kept.{LockInvariant};
     ghost use Rattle.books_shared.specs.Shares.{fresh_shares};
     ghost use Rattle.books_shared.specs.Traced.{IsLedTo, openings_of};
 
@@ -108,7 +108,7 @@ impl<J: Run> Books<J> {
     pub fn enter(&self, rt: &impl Wait, tenant: usize) -> Guard<'_, J>
         requires { tenant < self.now.tenants }
         ensures own { result.state.opening.tenant ≡ tenant }
-        ensures kept { IsKept result }
+        ensures kept { LockInvariant result }
         ensures led { IsLedTo J.openings result.state result.steps }
     {
         for _ in rt.forever() {
@@ -125,7 +125,7 @@ impl<J: Run> Books<J> {
     pub fn try_enter(&self, tenant: usize) -> Option<Guard<'_, J>>
         requires { tenant < self.now.tenants }
         ensures own { IfSome result (λ guard. guard.state.opening.tenant ≡ tenant) }
-        ensures kept { IfSome result (λ guard. IsKept guard) }
+        ensures kept { IfSome result (λ guard. LockInvariant guard) }
         ensures led { IfSome result (λ guard. IsLedTo J.openings guard.state guard.steps) }
     {
         let guard = Guard::new(self.locks[tenant].try_lock()?, &self.chronicle);

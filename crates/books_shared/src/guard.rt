@@ -51,7 +51,7 @@ impl<J: Run> Guard<'_, J> {
     ghost use Rattle.tenant_core.specs.Answer.{tick_made, tick_result, ticked};
     ghost use Rattle.tenant_core.specs.Governed.{IsGoverned, made_by};
     ghost use Rattle.tenant_core.specs.Sound.{IsSound};
-    ghost use Rattle.books_shared.specs.Kept.{IsKept, number_of};
+    ghost use Rattle.books_shared.specs.Kept.{LockInvariant, number_of};
     ghost use Rattle.books_shared.specs.Rises.{command_rise, entries_closed, rise_of, tick_rise};
     ghost use Rattle.books_shared.specs.Traced.{IsLedTo, counted};
     ghost use Rattle.one_list.specs.Steps.{done_by, next_place};
@@ -59,7 +59,7 @@ impl<J: Run> Guard<'_, J> {
 
     // What the type keeps.
     pub(crate) fn is_kept(&self)
-        ensures kept { IsKept self.now }
+        ensures kept { LockInvariant self.now }
         ensures led { IsLedTo J.openings self.now.state self.now.steps }
     {
         self.kept.is_kept();

@@ -52,7 +52,7 @@ impl<J: Run> Kept<J> {
     ghost use Rattle.tenant_core.specs.Answer.{tick_made, tick_result, ticked};
     ghost use Rattle.tenant_core.specs.Governed.{IsGoverned, made_by};
     ghost use Rattle.tenant_core.specs.State.{opened, recorded};
-    ghost use Rattle.books_shared.specs.Kept.{IsKept, number_of};
+    ghost use Rattle.books_shared.specs.Kept.{LockInvariant, number_of};
     ghost use Rattle.books_shared.specs.Rises.{command_rise, entries_closed, rise_of, tick_rise};
     ghost use Rattle.books_shared.specs.Traced.{IsLedTo, IsTraced, counted};
     ghost use Rattle.one_list.specs.Steps.{done_by, next_place};
@@ -78,7 +78,7 @@ impl<J: Run> Kept<J> {
 
     /// What the type keeps.
     pub fn is_kept(&self)
-        ensures kept { IsKept self.now }
+        ensures kept { LockInvariant self.now }
         ensures led { IsLedTo J.openings self.now.state self.now.steps }
     {
         tenant_core::laws::book_is_sound(&self.book);

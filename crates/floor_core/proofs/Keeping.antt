@@ -14,7 +14,7 @@ use Rattle.tenant_core.specs.declared.faults.HoldFault.{HoldFault}
 use Rattle.tenant_core.specs.declared.journal.Record.{Record}
 use Rattle.tenant_core.specs.declared.verdict.Verdict.{Verdict}
 use Rattle.tenant_core.specs.declared.verdict.Verdict.TheVariants.{Unknown, NoRoom, Refuse, Fulfil, Forward, Relay}
-use Rattle.floor_core.specs.Kept.{IsKept}
+use Rattle.floor_core.specs.Kept.{CallsMatchHolds}
 use Rattle.floor_core.specs.World.{Effect, Stage, Tenant, Event, put, after_alone, arrived, call_answered, call_decided, call_settled, key_in, answer_key, heard, arrival}
 use Rattle.floor_core.specs.declared.step.Given.{Given}
 use Rattle.floor_core.specs.declared.step.Malformed.{Malformed}
@@ -36,7 +36,7 @@ unsent_ready token p h e = cc
 
 -- a call that is not sent takes the place of any other
 unsent : (s : Tenant) (book : State) (next k : ℕ) (v : Option Stage) → ((h : ℕ) → v ≢ Some (Stage.Sent h))
-    → ((h : ℕ) → is_awaited s.book h ≡ true → is_awaited book h ≡ true) → IsKept s → IsKept (of_parts book next (put s.calls k v))
+    → ((h : ℕ) → is_awaited s.book h ≡ true → is_awaited book h ≡ true) → CallsMatchHolds s → CallsMatchHolds (of_parts book next (put s.calls k v))
 unsent s book next k v ne more i = record {
   waits = λ n h p. elim (put_at s.calls k v n (Some (Stage.Sent h)) p) [
     | inl a ↦ absurd (ne h a.1)
@@ -49,7 +49,7 @@ unsent s book next k v ne more i = record {
 }
 
 -- calls that stay, where no hold ends
-stays : (s : Tenant) (book : State) → ((h : ℕ) → is_awaited book h ≡ is_awaited s.book h) → IsKept s → IsKept (of_parts book s.next_call s.calls)
+stays : (s : Tenant) (book : State) → ((h : ℕ) → is_awaited book h ≡ is_awaited s.book h) → CallsMatchHolds s → CallsMatchHolds (of_parts book s.next_call s.calls)
 stays s book same i = record { waits = λ n h p. same h ∙ i.waits n h p; apart = i.apart }
 
 same_hold : (g h : ℕ) → (let x : Option Stage = Some (Stage.Sent g) in x) ≡ Some (Stage.Sent h) → g ≡ h
@@ -57,7 +57,7 @@ same_hold g h e = cc
 
 -- a call that is sent under a hold that nobody awaited
 sent : (s : Tenant) (book : State) (next k hold : ℕ) → is_awaited s.book hold ≡ false → is_awaited book hold ≡ true
-    → ((h : ℕ) → is_awaited s.book h ≡ true → is_awaited book h ≡ true) → IsKept s → IsKept (of_parts book next (put s.calls k (Some (Stage.Sent hold))))
+    → ((h : ℕ) → is_awaited s.book h ≡ true → is_awaited book h ≡ true) → CallsMatchHolds s → CallsMatchHolds (of_parts book next (put s.calls k (Some (Stage.Sent hold))))
 sent s book next k hold new begun more i = record {
   waits = λ n h p. elim (put_at s.calls k (Some (Stage.Sent hold)) n (Some (Stage.Sent h)) p) [
     | inl a ↦ ap (is_awaited book) (sym (same_hold hold h a.1)) ∙ begun
@@ -87,7 +87,7 @@ or_right false b e = e
 
 -- a decide leaves a tenant kept
 decided_kept : (s : Tenant) (book : State) (k : ℕ) (v : Verdict) → ((h : ℕ) → is_awaited book h ≡ (is_awaited s.book h || begins h v))
-    → ((h : ℕ) → begins h v ≡ true → is_awaited s.book h ≡ false) → IsKept s → IsKept (of_parts book s.next_call (put s.calls k (stage_after v)))
+    → ((h : ℕ) → begins h v ≡ true → is_awaited s.book h ≡ false) → CallsMatchHolds s → CallsMatchHolds (of_parts book s.next_call (put s.calls k (stage_after v)))
 decided_kept s book k Unknown is new i = unsent s book s.next_call k None (unsent_none None refl) (λ h a. is h ∙ or_left (is_awaited s.book h) (begins h Unknown) a) i
 decided_kept s book k NoRoom is new i = unsent s book s.next_call k None (unsent_none None refl) (λ h a. is h ∙ or_left (is_awaited s.book h) (begins h NoRoom) a) i
 decided_kept s book k (Refuse code amounts) is new i = unsent s book s.next_call k None (unsent_none None refl) (λ h a. is h ∙ or_left (is_awaited s.book h) (begins h (Refuse code amounts)) a) i
@@ -98,11 +98,11 @@ decided_kept s book k (Forward hold peer amount expiry) is new i =
     sent s book s.next_call k hold (new hold here) (is hold ∙ or_right (is_awaited s.book hold) (eqb hold hold) here)
     (λ h a. is h ∙ or_left (is_awaited s.book h) (eqb hold h) a) i
 
-decide_kept : OpenHoldLaws → (s : Tenant) (k now : ℕ) (o : Option Stage) → IsSound s.book → IsKept s → IsKept (call_decided s k o now).after
+decide_kept : OpenHoldLaws → (s : Tenant) (k now : ℕ) (o : Option Stage) → IsSound s.book → CallsMatchHolds s → CallsMatchHolds (call_decided s k o now).after
 decide_kept laws s k now None sound i = i
 decide_kept laws s k now (Some (Stage.Ready token p)) sound i =
     let v = judge s.book token (key_in p) now in
-    subst (λ (x : Effect). IsKept x.after) (sym (decide_effect s k token p now (Some (Stage.Ready token p)) refl))
+    subst (λ (x : Effect). CallsMatchHolds x.after) (sym (decide_effect s k token p now (Some (Stage.Ready token p)) refl))
     (decided_kept s (decided s.book token (key_in p) now) k v (laws.decided s.book token (key_in p) now)
     (λ h b. ap (is_awaited s.book) (laws.begun s.book token (key_in p) now h sound b) ∙ laws.fresh s.book sound) i)
 decide_kept laws s k now (Some (Stage.Sent hold)) sound i = i
@@ -114,7 +114,7 @@ other_stays a n m ne e = rw e (rw (ne_eqb n m ne) refl)
 -- an answer leaves a tenant kept
 settled_kept : (s : Tenant) (given : Given) (made : Option Record) (k hold : ℕ) (r : Result Verdict HoldFault) → s.calls k ≡ Some (Stage.Sent hold)
     → ((h : ℕ) → is_awaited (recorded s.book made) h ≡ (is_awaited s.book h && not (eqb h hold)))
-    → IsKept s → IsKept (call_settled s k given made r).after
+    → CallsMatchHolds s → CallsMatchHolds (call_settled s k given made r).after
 settled_kept s given made k hold (Err f) here is i = i
 settled_kept s given made k hold (Ok v) here is i = record {
   waits = λ n h p. elim (put_at s.calls k None n (Some (Stage.Sent h)) p) [
@@ -127,14 +127,14 @@ settled_kept s given made k hold (Ok v) here is i = record {
   ];
 }
 
-answer_kept : OpenHoldLaws → (s : Tenant) (k now : ℕ) (given : Given) (o : Option Stage) → s.calls k ≡ o → IsKept s → IsKept (call_answered s k o now given).after
+answer_kept : OpenHoldLaws → (s : Tenant) (k now : ℕ) (given : Given) (o : Option Stage) → s.calls k ≡ o → CallsMatchHolds s → CallsMatchHolds (call_answered s k o now given).after
 answer_kept laws s k now given None e i = i
 answer_kept laws s k now given (Some (Stage.Ready token p)) e i = i
 answer_kept laws s k now given (Some (Stage.Sent hold)) e i =
     let key = answer_key given in
     settled_kept s given (answer_made s.book hold now key) k hold (answer_to s.book hold now key) e (laws.answered s.book hold now key) i
 
-arrive_kept : (s : Tenant) (token : List ℕ) (r : Result Prepare Malformed) → IsKept s → IsKept (arrived s token r).after
+arrive_kept : (s : Tenant) (token : List ℕ) (r : Result Prepare Malformed) → CallsMatchHolds s → CallsMatchHolds (arrived s token r).after
 arrive_kept s token (Ok p) i = unsent s s.book (s.next_call + 1) s.next_call (Some (Stage.Ready token p)) (unsent_ready token p) (λ h a. a) i
 arrive_kept s token (Err wrong) i = i
 
@@ -144,7 +144,7 @@ IsAskedOf s (Event.Decides call now) = IsSound s.book
 IsAskedOf s _ = Unit {0}
 
 -- each event leaves a tenant kept
-pub after_kept : OpenHoldLaws → (s : Tenant) (e : Event) → IsAskedOf s e → IsKept s → IsKept (after_alone s e)
+pub after_kept : OpenHoldLaws → (s : Tenant) (e : Event) → IsAskedOf s e → CallsMatchHolds s → CallsMatchHolds (after_alone s e)
 after_kept laws s (Event.Arrives token bytes) asked i = arrive_kept s token (arrival token bytes) i
 after_kept laws s (Event.Decides call now) asked i = decide_kept laws s call now (s.calls call) asked i
 after_kept laws s (Event.Answers call now given) asked i = answer_kept laws s call now (heard given) (s.calls call) refl i

@@ -23,7 +23,7 @@ use Rattle.tenant_core.specs.declared.verdict.Verdict.{Verdict}
 use Rattle.tenant_core.specs.declared.verdict.Verdict.TheVariants.{Unknown, NoRoom, Refuse, Fulfil, Forward, Relay}
 use Rattle.floor_core.specs.FloorView.{FloorState, hand_by, hands_of, carried_by, stage_in, stage_of_frame, calls_of, no_seat, tenant_of, carried_at, world_of, IsSound, Fits}
 use Rattle.floor_core.specs.Forwards.{HasBytes}
-use Rattle.floor_core.specs.Kept.{IsKept}
+use Rattle.floor_core.specs.Kept.{CallsMatchHolds}
 use Rattle.floor_core.specs.Moves.{put_both, output_of, moved, turn_output, got_of, filled}
 use Rattle.floor_core.specs.Work.{Job, Work, IsOfBytes, IsReadable, verdict_call, given_by, settled_call}
 use Rattle.floor_core.specs.World.{Effect, Stage, malformed_by, Tenant, Hand, World, bytes_given, put, heard, answer_key, key_in, settled_reply, told, no_book}
@@ -264,7 +264,7 @@ decide_by laws f w now lt i (Job.Carries t token frame) e =
     decides_ready laws f w now t token frame lt i e (prepare_at frame) refl (subst IsReadable e (i.readable w))
 decide_by laws f w now lt i (Job.Waits t hold frame) e = decides_sent f w now t hold frame i e
 
-answer_by : CallLaws → (f : FloorState) (w now : ℕ) (g : Given) → w < length f.seats → IsSound f → ((t : ℕ) → IsKept (tenant_of f t)) → (job : Job) → (get_or f.seats w no_seat).slot.job ≡ job
+answer_by : CallLaws → (f : FloorState) (w now : ℕ) (g : Given) → w < length f.seats → IsSound f → ((t : ℕ) → CallsMatchHolds (tenant_of f t)) → (job : Job) → (get_or f.seats w no_seat).slot.job ≡ job
     → Simulates f (Answer w now g)
 answer_by laws f w now g lt i kept Job.NoJob e = answers_idle f w now g i e
 answer_by laws f w now g lt i kept (Job.Carries t token frame) e = answers_ready f w now g t token frame i e
@@ -438,7 +438,7 @@ govern_by laws f t now command there i =
     }
 
 -- each step of a floor is the step of its world
-pub simulates : CallLaws → (f : FloorState) (step : Step) → IsSound f → ((t : ℕ) → IsKept (tenant_of f t)) → Fits f step → HasBytes step → Simulates f step
+pub simulates : CallLaws → (f : FloorState) (step : Step) → IsSound f → ((t : ℕ) → CallsMatchHolds (tenant_of f t)) → Fits f step → HasBytes step → Simulates f step
 simulates laws f (Load w t token bytes) i kept h are = load_by f w t token bytes h.0 h.1 i are (get_or f.seats w no_seat).slot.job refl
 simulates laws f (Decide w now) i kept h are = decide_by laws f w now h i (get_or f.seats w no_seat).slot.job refl
 simulates laws f (Answer w now g) i kept h are = answer_by laws f w now g h i kept (get_or f.seats w no_seat).slot.job refl

@@ -6,7 +6,7 @@ use Rattle.tenant_core.specs.Calls.{CallLaws}
 use Rattle.tenant_core.specs.OpenHolds.{OpenHoldLaws}
 use Rattle.floor_core.specs.FloorView.{FloorState, world_of, hands_of, hand_by, no_seat, Fits, IsWhole, IsMet}
 use Rattle.floor_core.specs.Forwards.{HasBytes}
-use Rattle.floor_core.specs.Kept.{IsKept}
+use Rattle.floor_core.specs.Kept.{CallsMatchHolds}
 use Rattle.floor_core.specs.Moves.{output_of, moved, AsksSound, IsAsked}
 use Rattle.floor_core.specs.Work.{Job, tenant_in}
 use Rattle.floor_core.specs.World.{World, Owner, owner, load_owner, decide_owner, answer_owner}
@@ -24,7 +24,7 @@ abbrev OwnerAsks : World → Owner → Type 0
 OwnerAsks w (Owner.Nobody out) = Unit {0}
 OwnerAsks w (Owner.Own t e) = IsAskedOf (w.tenants t) e
 
-tenants_kept : OpenHoldLaws → (w : World) (o : Owner) → OwnerAsks w o → ((t : ℕ) → IsKept (w.tenants t)) → (t : ℕ) → IsKept (tenants_after w o t)
+tenants_kept : OpenHoldLaws → (w : World) (o : Owner) → OwnerAsks w o → ((t : ℕ) → CallsMatchHolds (w.tenants t)) → (t : ℕ) → CallsMatchHolds (tenants_after w o t)
 tenants_kept laws w (Owner.Nobody out) asked i t = i t
 tenants_kept laws w (Owner.Own u e) asked i t = elim (eqb_tells t u) [ inl a ↦ rw a.0 (after_kept laws (w.tenants u) e asked (i u)) | inr a ↦ rw a.0 (i t) ]
 
@@ -63,7 +63,7 @@ steps laws calls f step i h are asked =
       world = s.world;
       whole = record {
         sound = s.sound;
-        tenants = λ t. subst IsKept (sym (ap (λ (w : World). w.tenants t) s.world)) (tenants_kept laws (world_of f) (owner (hands_of f.seats) step) (owner_asks f step asked) i.tenants t);
+        tenants = λ t. subst CallsMatchHolds (sym (ap (λ (w : World). w.tenants t) s.world)) (tenants_kept laws (world_of f) (owner (hands_of f.seats) step) (owner_asks f step asked) i.tenants t);
       };
     }
 

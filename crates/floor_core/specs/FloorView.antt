@@ -7,7 +7,7 @@ use Rattle.ilp_view.specs.Reading.{prepare_at}
 use Rattle.tenant_core.specs.OpenHolds.{is_awaited}
 use Rattle.tenant_core.specs.State.{State}
 use Rattle.tenant_core.specs.declared.terms.TenantTerms.{TenantTerms}
-use Rattle.floor_core.specs.Kept.{IsKept}
+use Rattle.floor_core.specs.Kept.{CallsMatchHolds}
 use Rattle.floor_core.specs.Work.{Job, carrying, IsReadable, IsOfBytes}
 use Rattle.floor_core.specs.World.{Stage, Tenant, Hand, World, FitsIn, no_book, world_at_start}
 use Rattle.floor_core.specs.declared.floor.Seat.{Seat}
@@ -134,7 +134,7 @@ pub record IsSound (f : FloorState) : Type 0 where
 -- and so is each tenant
 pub record IsWhole (f : FloorState) : Type 0 where
   pub sound : IsSound f
-  pub tenants : (t : ℕ) → IsKept (tenant_of f t)
+  pub tenants : (t : ℕ) → CallsMatchHolds (tenant_of f t)
 
 -- what a slot carries is of a tenant that is there, and where it waits the book awaits the answer
 abbrev pub IsMet : Job → List State → Type 0

@@ -35,8 +35,8 @@ IsQuiet Idle len = Unit {0}
 IsQuiet (Loaded tenant token) len = len ≡ 0
 IsQuiet (Waiting tenant hold target) len = len ≡ 0
 
--- what a slot keeps
-pub record IsKept (s : Inside) : Type 0 where
+-- what holds of every slot
+pub record SlotInvariant (s : Inside) : Type 0 where
   pub readable : IsReadable (job_of s.stage (take s.frame_len s.frame))
   pub frame_len : s.frame_len ≤ max_frame
   pub reply_len : s.reply_len ≤ max_frame

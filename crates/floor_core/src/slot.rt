@@ -56,11 +56,11 @@ impl Model for Slot {
 
     ghost Value = { Work };
 
-    ghost use Rattle.floor_core.specs.SlotView.{work_of, IsKept};
+    ghost use Rattle.floor_core.specs.SlotView.{work_of, SlotInvariant};
 
     ghost view = { work_of };
 
-    ghost invariant = { IsKept };
+    ghost invariant = { SlotInvariant };
 }
 
 impl Slot {

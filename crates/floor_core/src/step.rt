@@ -54,7 +54,10 @@ pub enum Given<'a> {
     Fault,
 }
 
-/// Why a tenant can't take what was loaded, in the order in which it is looked for.
+/// Why a tenant can't take what was loaded.
+///
+/// The token is looked at first. Of the frame come its size, its kind, and its length with what follows it (`Size`, `Kind`,
+/// `Oer`, `AfterEnd`); then its fields, one after another (`Oer`, `Field`, and `Size` for the data).
 #[derive(Clone, Copy, Debug, PartialEq, Eq)]
 pub enum Malformed {
     /// The token is none: it has no byte or over 64, or one that no token has.

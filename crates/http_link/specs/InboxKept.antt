@@ -9,6 +9,6 @@ abbrev pub waiting_in : Inside → List ℕ
 waiting_in i = held_in i.room i.held
 
 -- they stand in the room
-pub record IsKept (i : Inside) : Type 0 where
+pub record InboxInvariant (i : Inside) : Type 0 where
   pub ordered : i.held.from ≤ i.held.to
   pub within : i.held.to ≤ max_request

@@ -36,11 +36,11 @@ impl Model for Inbox {
 
     ghost Value = { List ℕ };
 
-    ghost use Rattle.http_link.specs.InboxKept.{IsKept, waiting_in};
+    ghost use Rattle.http_link.specs.InboxKept.{InboxInvariant, waiting_in};
 
     ghost view = { waiting_in };
 
-    ghost invariant = { IsKept };
+    ghost invariant = { InboxInvariant };
 }
 
 impl Inbox {

@@ -19,12 +19,13 @@ use crate::head::{MAX_HEAD, MAX_LINES, read_head};
 use crate::held::Held;
 use crate::line_buffer::{LineBuffer, write_message};
 use crate::streams::{LinkFault, MAX_READS, has_ended, read_up_to};
+use common_types::limits::MAX_FRAME;
 use httparse::spans::{EMPTY_HEADER_SPAN, HeaderSpan, ResponseSpans};
 use ilp_addr::Target;
 use thiserror::Error;
 
 /// The most bytes of an answer's body.
-pub const MAX_PEER_ANSWER: usize = 34_000;
+pub const MAX_PEER_ANSWER: usize = MAX_FRAME;
 
 /// The most heads of an answer: up to four of status 1xx, and the last.
 const MAX_HEADS: u32 = 5;

@@ -16,6 +16,7 @@ use crate::bodies::Framing;
 use crate::fields::{Found, Lines, is_chunked, is_length, is_same, value_up_to, without_spaces};
 use crate::service::Service;
 use common_types::is_token;
+use common_types::limits::MAX_FRAME;
 
 /// What a request asks of a service.
 #[derive(Clone, Copy, Debug, PartialEq, Eq)]
@@ -27,7 +28,7 @@ pub enum RequestKind {
 }
 
 /// The most bytes of a request's body.
-pub const MAX_BODY: usize = 34_000;
+pub const MAX_BODY: usize = MAX_FRAME;
 
 /// The most bytes of a command's body.
 const MAX_COMMAND: usize = 2048;

@@ -1,10 +1,11 @@
 -- What packets are: their frames and their parts (RFC 0027).
 use Rattle.std.specs.Prelude.{◌≡◌, ◌<◌, ◌≤◌, ◌^◌, ℕ, List, [], ◌∷◌, ◌++◌, length}
 use Rattle.std.specs.Int.{w64, to_be_bytes}
+use Rattle.common_types.specs.declared.limits.TheConstants.{MAX_FRAME}
 use Rattle.oer_core.specs.Length.{IsLength, shortest_length, octet_string}
 use Rattle.ilp_addr.specs.Address.{IsAddress}
 use Rattle.ilp_addr.specs.Timestamp.{IsTimestamp}
-use Rattle.ilp_view.specs.declared.fields.TheConstants.{MAX_DATA, MAX_FRAME}
+use Rattle.ilp_view.specs.declared.fields.TheConstants.{MAX_DATA}
 
 -- The most bytes of a frame.
 abbrev pub max_frame : ℕ

@@ -7,11 +7,9 @@ ghost use Rattle.ilp_view.specs.Reading.{fixed_at, string_at, expiry_at, destina
 ghost use Rattle.ilp_view.specs.Reading.{whole_string, behind_type};
 
 use crate::fault::ViewFault;
+use common_types::limits::MAX_FRAME;
 use ilp_addr::{Address, Stamp};
 use oer_core::read_length;
-
-/// The most bytes that a frame may have.
-pub const MAX_FRAME: usize = 34_000;
 
 /// The most bytes that the data of a packet may have (RFC 0027).
 pub const MAX_DATA: usize = 32_768;

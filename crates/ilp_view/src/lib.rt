@@ -19,8 +19,9 @@ mod prepare_mut;
 mod reject;
 
 pub use answers::{write_fulfill, write_reject};
+pub use common_types::limits::MAX_FRAME;
 pub use fault::ViewFault;
-pub use fields::{MAX_DATA, MAX_FRAME};
+pub use fields::MAX_DATA;
 pub use fulfill::FulfillView;
 pub use prepare::PrepareView;
 pub use prepare_mut::PrepareMut;

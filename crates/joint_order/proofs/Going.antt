@@ -7,7 +7,7 @@ use Rattle.std.proofs.lemmas.List.{length-append, length-replicate}
 use Rattle.std.proofs.lemmas.List.Sums.{sum_by-cons}
 use mathlib.Core.Logic.{dite}
 use native.Mathlib.Decide.{ℕ_discrete, dec_le}
-use Rattle.joint_order.specs.declared.point.Point.{Point}
+use Rattle.joint_order.specs.declared.point.ListPoint.{ListPoint}
 use Rattle.joint_order.specs.Orders.{AreHeld, IsStuck, IsTaken, TakesAll, TakesOn, at, list_at, none, one_more, point, points_count}
 use Rattle.joint_order.specs.Steps.{CanGoOn, IsGoing, Progress, Runs, holder_at, if_next, left_of, joined, listed, looked, next_at, raised}
 use Rattle.joint_order.proofs.Stuck.{done_taken, more_here, more_there, no_less}
@@ -40,7 +40,7 @@ one_more_here xs i j below = dite (ℕ_discrete j i)
 pub raised_at : (xs : List ℕ) (i : ℕ) → i < length xs → at (raised xs i) ≡ one_more (at xs) i
 raised_at xs i below = λ k j. one_more_here xs i j below k
 
-runs_on : (lists : List (List Point)) (order : List ℕ) (f d f' d' : ℕ → ℕ) (i t : ℕ) → Runs lists f d order f' d'
+runs_on : (lists : List (List ListPoint)) (order : List ℕ) (f d f' d' : ℕ → ℕ) (i t : ℕ) → Runs lists f d order f' d'
     → slice_get (list_at lists i) (f' i) ≡ Some (point t (d' t)) → Runs lists f d (order ++ i ∷ []) (one_more f' i) (one_more d' t)
 runs_on lists [] f d f' d' i t run next =
     let P : (ℕ → ℕ) → Type 0 = λ g. slice_get (list_at lists i) (g i) ≡ Some (point t (d' t)) in
@@ -49,18 +49,18 @@ runs_on lists [] f d f' d' i t run next =
 runs_on lists (j ∷ order) f d f' d' i t run next =
     (run.0, run.1, runs_on lists order (one_more f j) (one_more d run.0) f' d' i t run.2 next)
 
-takes_on : (lists : List (List Point)) (order : List ℕ) (f d f' d' : ℕ → ℕ) → Runs lists f d order f' d'
+takes_on : (lists : List (List ListPoint)) (order : List ℕ) (f d f' d' : ℕ → ℕ) → Runs lists f d order f' d'
     → ((i : ℕ) → f' i ≡ length (list_at lists i)) → TakesOn lists f d order
 takes_on lists [] f d f' d' run ends = λ i. (λ k. sym run.0 k i) ∙ ends i
 takes_on lists (j ∷ order) f d f' d' run ends = (run.0, run.1, takes_on lists order (one_more f j) (one_more d run.0) f' d' run.2 ends)
 
-same_parts : (t u a b : ℕ) → ◌≡◌ {A = Option Point} (Some (point t a)) (Some (point u b)) → (u ≡ t) × (b ≡ a)
+same_parts : (t u a b : ℕ) → ◌≡◌ {A = Option ListPoint} (Some (point t a)) (Some (point u b)) → (u ≡ t) × (b ≡ a)
 same_parts t u a b e =
-    let p : Point = point t a in
-    (sym (ap (λ (o : Option Point). (unwrap_or o p).group) e), sym (ap (λ (o : Option Point). (unwrap_or o p).place) e))
+    let p : ListPoint = point t a in
+    (sym (ap (λ (o : Option ListPoint). (unwrap_or o p).group) e), sym (ap (λ (o : Option ListPoint). (unwrap_or o p).place) e))
 
 -- no more of a group was taken than is done of it, with one more
-no_more_taken : (lists : List (List Point)) (f d : ℕ → ℕ) (i t : ℕ) → slice_get (list_at lists i) (f i) ≡ Some (point t (d t))
+no_more_taken : (lists : List (List ListPoint)) (f d : ℕ → ℕ) (i t : ℕ) → slice_get (list_at lists i) (f i) ≡ Some (point t (d t))
     → ((u p : ℕ) → IsTaken lists f (point u p) → p < d u) → (u p : ℕ) → IsTaken lists (one_more f i) (point u p) → p < one_more d t u
 no_more_taken lists f d i t next old u p n = dite (ℕ_discrete n.0 i)
     (λ e. dite (ℕ_discrete n.1 (f i))
@@ -97,7 +97,7 @@ no_more_taken lists f d i t next old u p n = dite (ℕ_discrete n.0 i)
         let q = same.1 in
         omega arith
 
-within_next : (lists : List (List Point)) (f : ℕ → ℕ) (i j : ℕ) (p : Point) → slice_get (list_at lists i) (f i) ≡ Some p
+within_next : (lists : List (List ListPoint)) (f : ℕ → ℕ) (i j : ℕ) (p : ListPoint) → slice_get (list_at lists i) (f i) ≡ Some p
     → f j ≤ length (list_at lists j) → one_more f i j ≤ length (list_at lists j)
 within_next lists f i j p next most = dite (ℕ_discrete j i)
     (λ e.
@@ -105,11 +105,11 @@ within_next lists f i j p next most = dite (ℕ_discrete j i)
     subst P (sym e) (let h = more_here f i in let below = slice_get_within (list_at lists i) (f i) p next in omega arith))
     (λ other. let h = more_there f i j other in omega arith)
 
-none_past : (lists : List (List Point)) (i : ℕ) → length lists ≤ i → list_at lists i ≡ []
-none_past lists i past = ap (λ (o : Option (List Point)). unwrap_or o []) (slice_get_past lists i past)
+none_past : (lists : List (List ListPoint)) (i : ℕ) → length lists ≤ i → list_at lists i ≡ []
+none_past lists i past = ap (λ (o : Option (List ListPoint)). unwrap_or o []) (slice_get_past lists i past)
 
 -- where all is taken, the order takes all
-pub all_end : (lists : List (List Point)) (holders : List (List (Option ℕ))) (g : Progress) → IsGoing lists holders g
+pub all_end : (lists : List (List ListPoint)) (holders : List (List (Option ℕ))) (g : Progress) → IsGoing lists holders g
     → ((i : ℕ) → i < length lists → nat_le (length (list_at lists i)) (slice_index g.taken i) ≡ true) → TakesAll lists g.order
 all_end lists holders g going taken = takes_on lists g.order none none (at g.taken) (at g.done) going.runs (λ i. dite (dec_le (length lists) i)
     (λ past. let e = ap length (none_past lists i past) in let w = going.within i in omega arith)
@@ -128,7 +128,7 @@ here_alone : (i : ℕ) → Contains (i ∷ []) i
 here_alone i = (0, omega arith, refl)
 
 -- a list that does not go on need not be looked at
-pub waits_without : (lists : List (List Point)) (taken done rest : List ℕ) (i : ℕ) → next_at lists taken done i ≡ None
+pub waits_without : (lists : List (List ListPoint)) (taken done rest : List ℕ) (i : ℕ) → next_at lists taken done i ≡ None
     → ((j : ℕ) → IsSome (next_at lists taken done j) → Contains (rest ++ i ∷ []) j)
     → (j : ℕ) → IsSome (next_at lists taken done j) → Contains rest j
 waits_without lists taken done rest i stands waits j goes = elim (Contains-append_cases rest (i ∷ []) j (waits j goes)) [
@@ -136,12 +136,12 @@ waits_without lists taken done rest i stands waits j goes = elim (Contains-appen
   | inr last ↦
       let P : ℕ → Type 0 = λ k. IsSome (next_at lists taken done k) in
       let goes_here : IsSome (next_at lists taken done i) = subst P (is_one i j last) goes in
-      let e : ◌≡◌ {A = Bool} false true = ap (λ (o : Option Point). is_some o) (sym stands) ∙ goes_here in
+      let e : ◌≡◌ {A = Bool} false true = ap (λ (o : Option ListPoint). is_some o) (sym stands) ∙ goes_here in
       absurd cc
 ]
 
 -- after a point was taken, a list goes on that went on before, or has the next point of the group, or is the same list
-pub waits_with : (lists : List (List Point)) (holders : List (List (Option ℕ))) (taken done rest : List ℕ) (i : ℕ) (p : Point)
+pub waits_with : (lists : List (List ListPoint)) (holders : List (List (Option ℕ))) (taken done rest : List ℕ) (i : ℕ) (p : ListPoint)
     → AreHeld lists holders → CanGoOn taken done i p
     → ((j : ℕ) → IsSome (next_at lists taken done j) → Contains (rest ++ i ∷ []) j)
     → (j : ℕ) → IsSome (next_at lists (raised taken i) (raised done p.group) j)
@@ -175,12 +175,12 @@ waits_with lists holders taken done rest i p held can waits j goes = dite (ℕ_d
     let same_length = length_set done p.group (slice_index done p.group + 1) in
     let below = at_q.1 in
     let next = at_q.2 in
-    let N : Option Point → Type 0 = λ o. IsSome (if_next done o) in
-    let S : Option Point → Type 0 = λ o. IsSome o in
+    let N : Option ListPoint → Type 0 = λ o. IsSome (if_next done o) in
+    let S : Option ListPoint → Type 0 = λ o. IsSome o in
     let went : IsSome (next_at lists taken done j) = subst N (sym there) (subst S (sym (is_next done q (omega arith) (sym same_done ∙ next))) refl) in
     Contains-append_left (rest ++ i ∷ []) _ j (waits j went)))
 
-left_at : (lists : List (List Point)) (taken : List ℕ) (i : ℕ) → i < length taken → slice_index taken i < length (list_at lists i)
+left_at : (lists : List (List ListPoint)) (taken : List ℕ) (i : ℕ) → i < length taken → slice_index taken i < length (list_at lists i)
     → left_of lists (raised taken i) + 1 ≡ left_of lists taken
 left_at [] taken i below less = absurd (omega arith)
 left_at (l ∷ ls) [] i below less = absurd (omega arith)
@@ -188,15 +188,15 @@ left_at (l ∷ ls) (n ∷ ns) zero below less = omega arith
 left_at (l ∷ ls) (n ∷ ns) (suc i) below less = let e = left_at ls ns i (omega arith) less in omega arith
 
 -- at first all are left
-none_left_out : (lists : List (List Point)) → 0 + left_of lists (replicate (length lists) 0) ≡ points_count lists
+none_left_out : (lists : List (List ListPoint)) → 0 + left_of lists (replicate (length lists) 0) ≡ points_count lists
 none_left_out [] = refl
 none_left_out (l ∷ ls) =
     let others = none_left_out ls in
-    let sum = sum_by-cons (λ (list : List Point). length list) l ls in
+    let sum = sum_by-cons (λ (list : List ListPoint). length list) l ls in
     omega arith
 
 -- where all were taken, none is left
-none_left : (lists : List (List Point)) (taken : List ℕ) → length taken ≡ length lists
+none_left : (lists : List (List ListPoint)) (taken : List ℕ) → length taken ≡ length lists
     → ((i : ℕ) → i < length lists → length (list_at lists i) ≤ slice_index taken i) → left_of lists taken ≡ 0
 none_left [] taken wide all = refl
 none_left (l ∷ ls) [] wide all = refl
@@ -206,7 +206,7 @@ none_left (l ∷ ls) (n ∷ ns) wide all =
     omega arith
 
 -- where all is taken, the order has as many numbers as there are points
-pub all_counted : (lists : List (List Point)) (holders : List (List (Option ℕ))) (g : Progress) → IsGoing lists holders g
+pub all_counted : (lists : List (List ListPoint)) (holders : List (List (Option ℕ))) (g : Progress) → IsGoing lists holders g
     → ((i : ℕ) → i < length lists → nat_le (length (list_at lists i)) (slice_index g.taken i) ≡ true) → length g.order ≡ points_count lists
 all_counted lists holders g going taken =
     let none = none_left lists g.taken going.wide (λ i below. let t = taken i below in let most : length (list_at lists i) ≤ slice_index g.taken i = grind (arith, nat_tests) in most) in
@@ -214,8 +214,8 @@ all_counted lists holders g going taken =
     omega arith
 
 -- where the search stands after a look
-pub look_on : (lists : List (List Point)) (holders : List (List (Option ℕ))) (taken done order rest : List ℕ) (i : ℕ) (o : Option Point)
-    → AreHeld lists holders → next_at lists taken done i ≡ o → ((p : Point) → o ≡ Some p → CanGoOn taken done i p)
+pub look_on : (lists : List (List ListPoint)) (holders : List (List (Option ℕ))) (taken done order rest : List ℕ) (i : ℕ) (o : Option ListPoint)
+    → AreHeld lists holders → next_at lists taken done i ≡ o → ((p : ListPoint) → o ≡ Some p → CanGoOn taken done i p)
     → IsGoing lists holders (record { taken = taken; done = done; order = order; waiting = rest ++ i ∷ [] })
     → IsGoing lists holders (looked holders i o (record { taken = taken; done = done; order = order; waiting = rest }))
 look_on lists holders taken done order rest i None held e can g = record {
@@ -232,7 +232,7 @@ look_on lists holders taken done order rest i (Some p) held e can g =
     let c = can p refl in
     let at_p = found done (slice_get (list_at lists i) (slice_index taken i)) p e in
     let place_is : p ≡ point p.group (slice_index done p.group) = λ k. point p.group (sym c.next k) in
-    let F : Point → Type 0 = λ q. slice_get (list_at lists i) (slice_index taken i) ≡ Some q in
+    let F : ListPoint → Type 0 = λ q. slice_get (list_at lists i) (slice_index taken i) ≡ Some q in
     let next : slice_get (list_at lists i) (at taken i) ≡ Some (point p.group (at done p.group)) = subst F place_is at_p.0 in
     let f : at (raised taken i) ≡ one_more (at taken) i = raised_at taken i c.list in
     let d : at (raised done p.group) ≡ one_more (at done) p.group = raised_at done p.group c.group in
@@ -261,7 +261,7 @@ look_on lists holders taken done order rest i (Some p) held e can g =
     }
 
 -- where nothing waits and a point is left, the search is stuck
-pub stands_still : (lists : List (List Point)) (holders : List (List (Option ℕ))) (g : Progress) → AreHeld lists holders → IsGoing lists holders g
+pub stands_still : (lists : List (List ListPoint)) (holders : List (List (Option ℕ))) (g : Progress) → AreHeld lists holders → IsGoing lists holders g
     → g.waiting ≡ [] → (left : (i : ℕ) × (nat_le (length (list_at lists i)) (slice_index g.taken i) ≡ false)) → IsStuck lists (at g.taken)
 stands_still lists holders g held going empty left = record {
   done = at g.done;
@@ -272,8 +272,8 @@ stands_still lists holders g held going empty left = record {
       let holds = held.held i (at g.taken i) (point t n) there in
       let below_all = has_list holders t n (Some i) holds in
       let all = going.all in
-      let N : Option Point → Type 0 = λ o. IsSome (if_next g.done o) in
-      let S : Option Point → Type 0 = λ o. IsSome o in
+      let N : Option ListPoint → Type 0 = λ o. IsSome (if_next g.done o) in
+      let S : Option ListPoint → Type 0 = λ o. IsSome o in
       let goes : IsSome (next_at lists g.taken g.done i) = subst N (sym there) (subst S (sym (is_next g.done (point t n) (omega arith) (sym same))) refl) in
       let P : List ℕ → Type 0 = λ w. Contains w i in
       let nowhere : Contains [] i = subst P empty (going.waits i goes) in
@@ -291,7 +291,7 @@ at_none (suc n) (suc i) = at_none n i
 nothing_taken : (n : ℕ) → at (replicate n 0) ≡ none
 nothing_taken n = λ k i. at_none n i k
 
-pub starts : (lists : List (List Point)) (holders : List (List (Option ℕ))) (numbers : List ℕ)
+pub starts : (lists : List (List ListPoint)) (holders : List (List (Option ℕ))) (numbers : List ℕ)
     → ((i : ℕ) → i < length lists → Contains numbers i)
     → IsGoing lists holders (record { taken = replicate (length lists) 0; done = replicate (length holders) 0; order = []; waiting = numbers })
 starts lists holders numbers all = record {
@@ -317,8 +317,8 @@ one_number_more numbers n all k below = dite (ℕ_discrete k n)
     (λ other. Contains-append_left numbers (n ∷ []) k (all k (omega arith)))
 
 -- a look leaves less to do: each point that is left brings two looks at most, and each list that waits one
-pub look_smaller : (lists : List (List Point)) (holders : List (List (Option ℕ))) (g : Progress) (i : ℕ) (o : Option Point)
-    → next_at lists g.taken g.done i ≡ o → ((p : Point) → o ≡ Some p → CanGoOn g.taken g.done i p)
+pub look_smaller : (lists : List (List ListPoint)) (holders : List (List (Option ℕ))) (g : Progress) (i : ℕ) (o : Option ListPoint)
+    → next_at lists g.taken g.done i ≡ o → ((p : ListPoint) → o ≡ Some p → CanGoOn g.taken g.done i p)
     → 2 * left_of lists (looked holders i o g).taken + length (looked holders i o g).waiting < 2 * left_of lists g.taken + (length g.waiting + 1)
 look_smaller lists holders g i None e can = omega arith
 look_smaller lists holders g i (Some p) e can =

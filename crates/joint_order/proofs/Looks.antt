@@ -4,7 +4,7 @@ use Rattle.std.proofs.lemmas.Bool.Decides.{nat_tests}
 use Rattle.std.proofs.lemmas.Option.{slice_get_within, slice_get_past}
 use mathlib.Core.Logic.{dite}
 use native.Mathlib.Decide.{dec_le}
-use Rattle.joint_order.specs.declared.point.Point.{Point}
+use Rattle.joint_order.specs.declared.point.ListPoint.{ListPoint}
 use Rattle.joint_order.specs.Orders.{AreHeld, list_at}
 use Rattle.joint_order.specs.Steps.{AreShort, CanGoOn, if_next, next_at}
 
@@ -19,23 +19,23 @@ has_list {A = A} lists i k x e = dite (dec_le (length lists) i)
     (λ here. omega arith)
 
 -- the point that is found is the one that was looked at, and the next of its group
-pub found : (done : List ℕ) (o : Option Point) (p : Point) → if_next done o ≡ Some p
+pub found : (done : List ℕ) (o : Option ListPoint) (p : ListPoint) → if_next done o ≡ Some p
     → (o ≡ Some p) × (p.group < length done) × (slice_index done p.group ≡ p.place)
 found done None p e = absurd cc
 found done (Some q) p e = by_test (nat_lt q.group (length done) && (slice_index done q.group == q.place)) refl e
   where
     by_test : (b : Bool) → b ≡ (nat_lt q.group (length done) && (slice_index done q.group == q.place))
         → (if b then Some q else None) ≡ Some p
-        → (◌≡◌ {A = Option Point} (Some q) (Some p)) × (p.group < length done) × (slice_index done p.group ≡ p.place)
+        → (◌≡◌ {A = Option ListPoint} (Some q) (Some p)) × (p.group < length done) × (slice_index done p.group ≡ p.place)
     by_test false is e = absurd cc
     by_test true is e =
-        let P : Point → Type 0 = λ r. (r.group < length done) × (slice_index done r.group ≡ r.place) in
+        let P : ListPoint → Type 0 = λ r. (r.group < length done) × (slice_index done r.group ≡ r.place) in
         let here : P q = (grind (arith, nat_tests), grind (arith, nat_tests)) in
-        let same : q ≡ p = ap (λ (o : Option Point). unwrap_or o q) e in
+        let same : q ≡ p = ap (λ (o : Option ListPoint). unwrap_or o q) e in
         let there : P p = subst P same here in
         (e, there.0, there.1)
 
-pub can_go_on : (lists : List (List Point)) (holders : List (List (Option ℕ))) (taken done : List ℕ) (i : ℕ) (p : Point)
+pub can_go_on : (lists : List (List ListPoint)) (holders : List (List (Option ℕ))) (taken done : List ℕ) (i : ℕ) (p : ListPoint)
     → length taken ≡ length lists → AreHeld lists holders → AreShort lists → AreShort holders
     → next_at lists taken done i ≡ Some p → CanGoOn taken done i p
 can_go_on lists holders taken done i p wide held lists_short holders_short e =
@@ -54,7 +54,7 @@ can_go_on lists holders taken done i p wide held lists_short holders_short e =
     }
 
 -- a point that is the next of its group is found
-pub is_next : (done : List ℕ) (p : Point) → p.group < length done → slice_index done p.group ≡ p.place → if_next done (Some p) ≡ Some p
+pub is_next : (done : List ℕ) (p : ListPoint) → p.group < length done → slice_index done p.group ≡ p.place → if_next done (Some p) ≡ Some p
 is_next done p below next =
     let passes : (nat_lt p.group (length done) && (slice_index done p.group == p.place)) ≡ true = grind (arith, nat_tests) in
     rw passes refl

@@ -2,7 +2,7 @@
 use Rattle.std.proofs.Common.{◌≡◌, ◌≢◌, ℕ, ◌+◌, ◌<◌, ◌≤◌, eq-eqb, ne_eqb, List, [], ◌∷◌, Option, Some, slice_get, refl, sym, ap, subst, ◌∙◌, arith}
 use mathlib.Core.Logic.{dite}
 use native.Mathlib.Decide.{ℕ_discrete, dec_le}
-use Rattle.joint_order.specs.declared.point.Point.{Point}
+use Rattle.joint_order.specs.declared.point.ListPoint.{ListPoint}
 use Rattle.joint_order.specs.Orders.{AreDistinct, IsStuck, IsTaken, TakesOn, TakesAll, list_at, none, one_more, point}
 
 pub more_here : (f : ℕ → ℕ) (i : ℕ) → one_more f i i ≡ f i + 1
@@ -17,7 +17,7 @@ no_less f i j = dite (ℕ_discrete j i)
     (λ other. rw (ne_eqb j i other) (omega arith))
 
 -- what was taken stays so
-pub taken_stays : (lists : List (List Point)) (f : ℕ → ℕ) (i : ℕ) (p : Point) → IsTaken lists f p → IsTaken lists (one_more f i) p
+pub taken_stays : (lists : List (List ListPoint)) (f : ℕ → ℕ) (i : ℕ) (p : ListPoint) → IsTaken lists f p → IsTaken lists (one_more f i) p
 taken_stays lists f i p n = (n.0, n.1, (let most = no_less f i n.0 in let below = n.2 in omega arith), n.3)
 
 below_more : (f front : ℕ → ℕ) (i : ℕ) → ((j : ℕ) → f j ≤ front j) → f i ≢ front i → (j : ℕ) → one_more f i j ≤ front j
@@ -29,11 +29,11 @@ below_more f front i below apart j = dite (ℕ_discrete j i)
     omega arith))
     (λ other. rw (ne_eqb j i other) (below j))
 
-pub same_point : (t u a b : ℕ) → u ≡ t → b ≡ a → ◌≡◌ {A = Option Point} (Some (point t a)) (Some (point u b))
+pub same_point : (t u a b : ℕ) → u ≡ t → b ≡ a → ◌≡◌ {A = Option ListPoint} (Some (point t a)) (Some (point u b))
 same_point t u a b e f = λ k. Some (point (sym e k) (sym f k))
 
 -- what was done of a group was taken, with one more
-pub done_taken : (lists : List (List Point)) (f d : ℕ → ℕ) (i t : ℕ) → slice_get (list_at lists i) (f i) ≡ Some (point t (d t))
+pub done_taken : (lists : List (List ListPoint)) (f d : ℕ → ℕ) (i t : ℕ) → slice_get (list_at lists i) (f i) ≡ Some (point t (d t))
     → ((u p : ℕ) → p < d u → IsTaken lists f (point u p)) → (u p : ℕ) → p < one_more d t u → IsTaken lists (one_more f i) (point u p)
 done_taken lists f d i t next taken u p below = dite (ℕ_discrete u t)
     (λ same. dite (ℕ_discrete p (d t))
@@ -46,7 +46,7 @@ done_taken lists f d i t next taken u p below = dite (ℕ_discrete u t)
     let there = more_there d t u other in
     taken_stays lists f i (point u p) (taken u p (omega arith)))
 
-not_at_front : (lists : List (List Point)) (front f d : ℕ → ℕ) (i t : ℕ) → AreDistinct lists → IsStuck lists front → ((j : ℕ) → f j ≤ front j)
+not_at_front : (lists : List (List ListPoint)) (front f d : ℕ → ℕ) (i t : ℕ) → AreDistinct lists → IsStuck lists front → ((j : ℕ) → f j ≤ front j)
     → ((u p : ℕ) → p < d u → IsTaken lists f (point u p)) → slice_get (list_at lists i) (f i) ≡ Some (point t (d t)) → f i ≡ front i → ⊥
 not_at_front lists front f d i t distinct s below taken next e =
     let P : ℕ → Type 0 = λ k. slice_get (list_at lists i) k ≡ Some (point t (d t)) in
@@ -66,7 +66,7 @@ not_at_front lists front f d i t distinct s below taken next e =
     let place_same = same.1 in
     omega arith)
 
-none_goes_on : (lists : List (List Point)) (front : ℕ → ℕ) → AreDistinct lists → (s : IsStuck lists front)
+none_goes_on : (lists : List (List ListPoint)) (front : ℕ → ℕ) → AreDistinct lists → (s : IsStuck lists front)
     → (order : List ℕ) (f d : ℕ → ℕ) → ((i : ℕ) → f i ≤ front i) → ((t p : ℕ) → p < d t → IsTaken lists f (point t p)) → TakesOn lists f d order → ⊥
 none_goes_on lists front distinct s [] f d below taken ends =
     let i = s.left.0 in
@@ -80,6 +80,6 @@ none_goes_on lists front distinct s (i ∷ order) f d below taken run =
     (λ apart. none_goes_on lists front distinct s order (one_more f i) (one_more d run.0) (below_more f front i below apart)
     (done_taken lists f d i run.0 run.1 taken) run.2)
 
-pub no_order : (lists : List (List Point)) (front : ℕ → ℕ) (order : List ℕ) → AreDistinct lists → IsStuck lists front → TakesAll lists order → ⊥
+pub no_order : (lists : List (List ListPoint)) (front : ℕ → ℕ) (order : List ℕ) → AreDistinct lists → IsStuck lists front → TakesAll lists order → ⊥
 no_order lists front order distinct s run =
     none_goes_on lists front distinct s order none none (λ i. omega arith) (λ t p below. absurd (omega arith)) run

@@ -1,11 +1,11 @@
 -- Lists of points, each a place of a group, and the orders in which they can be taken.
 use Rattle.std.specs.Prelude.{◌≡◌, ◌≢◌, ℕ, ◌+◌, ◌<◌, ◌==◌, if◌then◌else◌, List, [], ◌∷◌, length, Option, Some, slice_get, slice_index, sum_by, unwrap_or, ⊤}
-use Rattle.joint_order.specs.declared.point.Point.{Point}
+use Rattle.joint_order.specs.declared.point.ListPoint.{ListPoint}
 use Rattle.joint_order.specs.declared.joining.Joined.{Joined}
 use Rattle.joint_order.specs.declared.joining.Joined.TheVariants.{Order, Stuck}
 
 -- the point of that place of that group
-abbrev pub point : (group place : ℕ) → Point
+abbrev pub point : (group place : ℕ) → ListPoint
 point group place = record { group = group; place = place }
 
 -- the list of that number, and an empty one where there is none
@@ -13,7 +13,7 @@ abbrev pub list_at : {A : Type 0} → List (List A) → ℕ → List A
 list_at lists i = unwrap_or (slice_get lists i) []
 
 -- how many points there are
-abbrev pub points_count : List (List Point) → ℕ
+abbrev pub points_count : List (List ListPoint) → ℕ
 points_count lists = sum_by (λ list. length list) lists
 
 -- ---- orders
@@ -32,25 +32,25 @@ none i = 0
 
 -- Where so many points of each list were taken, and so many of each group: each number of the order takes the next point of
 -- that list, which is the next one of its group, and then none is left.
-abbrev pub TakesOn : List (List Point) → (taken done : ℕ → ℕ) → (order : List ℕ) → Type 0
+abbrev pub TakesOn : List (List ListPoint) → (taken done : ℕ → ℕ) → (order : List ℕ) → Type 0
 TakesOn lists taken done [] = (i : ℕ) → taken i ≡ length (list_at lists i)
 TakesOn lists taken done (i ∷ order) =
     (group : ℕ) × (slice_get (list_at lists i) (taken i) ≡ Some (point group (done group)))
     × TakesOn lists (one_more taken i) (one_more done group) order
 
 -- the order takes all points, those of each list and those of each group one after the other
-abbrev pub TakesAll : List (List Point) → (order : List ℕ) → Type 0
+abbrev pub TakesAll : List (List ListPoint) → (order : List ℕ) → Type 0
 TakesAll lists order = TakesOn lists none none order
 
 -- ---- fronts
 
 -- of each list so many points are taken, and this one is among them
-abbrev pub IsTaken : List (List Point) → (taken : ℕ → ℕ) → Point → Type 0
+abbrev pub IsTaken : List (List ListPoint) → (taken : ℕ → ℕ) → ListPoint → Type 0
 IsTaken lists taken p = (i : ℕ) × (k : ℕ) × (k < taken i) × (slice_get (list_at lists i) k ≡ Some p)
 
 -- The first points of each list, up to the front, are together the first ones of each group; a point is left, and no list's
 -- next one is the next of its group.
-pub record IsStuck (lists : List (List Point)) (front : ℕ → ℕ) : Type 0 where
+pub record IsStuck (lists : List (List ListPoint)) (front : ℕ → ℕ) : Type 0 where
   pub done : ℕ → ℕ
   pub prefix : (group place : ℕ) → place < done group → IsTaken lists front (point group place)
   pub no_more : (group place : ℕ) → IsTaken lists front (point group place) → place < done group
@@ -59,16 +59,16 @@ pub record IsStuck (lists : List (List Point)) (front : ℕ → ℕ) : Type 0 wh
       → place ≢ done group
 
 -- no point stands at two places
-abbrev pub AreDistinct : List (List Point) → Type 0
+abbrev pub AreDistinct : List (List ListPoint) → Type 0
 AreDistinct lists =
-    (i k j l : ℕ) (p : Point) → slice_get (list_at lists i) k ≡ Some p → slice_get (list_at lists j) l ≡ Some p
+    (i k j l : ℕ) (p : ListPoint) → slice_get (list_at lists i) k ≡ Some p → slice_get (list_at lists j) l ≡ Some p
     → (i ≡ j) × (k ≡ l)
 
 -- ---- what is given, and what is found
 
 -- of each group it is known which list holds the point of each place
-pub record AreHeld (lists : List (List Point)) (holders : List (List (Option ℕ))) : Type 0 where
-  pub held : (i k : ℕ) (p : Point) → slice_get (list_at lists i) k ≡ Some p
+pub record AreHeld (lists : List (List ListPoint)) (holders : List (List (Option ℕ))) : Type 0 where
+  pub held : (i k : ℕ) (p : ListPoint) → slice_get (list_at lists i) k ≡ Some p
       → slice_get (list_at holders p.group) p.place ≡ Some (Some i)
 
 -- an order was found, of which this holds

@@ -2,20 +2,20 @@
 use Rattle.std.specs.Prelude.{◌≡◌, ◌≤◌, ◌<◌, ℕ, ◌+◌, ◌-◌, ◌^◌, ◌==◌, ◌&&◌, nat_lt, if◌then◌else◌, List, [], ◌∷◌, ◌++◌, length, Contains, IsSome}
 use Rattle.std.specs.Prelude.{Option, Some, None, slice_get, slice_index, slice_set}
 use Rattle.joint_order.specs.Orders.{IsTaken, at, list_at, none, one_more, point, points_count}
-use Rattle.joint_order.specs.declared.point.Point.{Point}
+use Rattle.joint_order.specs.declared.point.ListPoint.{ListPoint}
 
 -- the point, if it is the next one of its group
-abbrev pub if_next : (done : List ℕ) → Option Point → Option Point
+abbrev pub if_next : (done : List ℕ) → Option ListPoint → Option ListPoint
 if_next done None = None
 if_next done (Some p) =
     if nat_lt p.group (length done) && (slice_index done p.group == p.place) then Some p else None
 
 -- the next point of a list, if it is the next one of its group
-abbrev pub next_in : List Point → (taken : ℕ) → (done : List ℕ) → Option Point
+abbrev pub next_in : List ListPoint → (taken : ℕ) → (done : List ℕ) → Option ListPoint
 next_in list taken done = if_next done (slice_get list taken)
 
 -- the next point of the list of that number, if it is the next one of its group
-abbrev pub next_at : List (List Point) → (taken done : List ℕ) → ℕ → Option Point
+abbrev pub next_at : List (List ListPoint) → (taken done : List ℕ) → ℕ → Option ListPoint
 next_at lists taken done i = next_in (list_at lists i) (slice_index taken i) done
 
 -- what stands there, if anything does
@@ -32,7 +32,7 @@ abbrev pub AreShort : {A : Type 0} → List (List A) → Type 0
 AreShort lists = (i : ℕ) → length (list_at lists i) < 2 ^ 63
 
 -- the next point of the list of that number is counted without going over
-pub record CanGoOn (taken done : List ℕ) (i : ℕ) (p : Point) : Type 0 where
+pub record CanGoOn (taken done : List ℕ) (i : ℕ) (p : ListPoint) : Type 0 where
   pub list : i < length taken
   pub group : p.group < length done
   pub next : slice_index done p.group ≡ p.place
@@ -57,7 +57,7 @@ pub record Progress : Type 0 where
 
 -- after a look at the list of that number: where its next point is the next of its group, it is taken, and the list is
 -- looked at again, and so is the one that holds the next point of the group
-abbrev pub looked : List (List (Option ℕ)) → (number : ℕ) → Option Point → Progress → Progress
+abbrev pub looked : List (List (Option ℕ)) → (number : ℕ) → Option ListPoint → Progress → Progress
 looked holders i None g = g
 looked holders i (Some p) g =
     record {
@@ -68,20 +68,20 @@ looked holders i (Some p) g =
     }
 
 -- points that were taken by that order lead from one state to the other
-abbrev pub Runs : List (List Point) → (taken done : ℕ → ℕ) → List ℕ → (taken' done' : ℕ → ℕ) → Type 0
+abbrev pub Runs : List (List ListPoint) → (taken done : ℕ → ℕ) → List ℕ → (taken' done' : ℕ → ℕ) → Type 0
 Runs lists f d [] f' d' = (f' ≡ f) × (d' ≡ d)
 Runs lists f d (i ∷ order) f' d' =
     (group : ℕ) × (slice_get (list_at lists i) (f i) ≡ Some (point group (d group)))
     × Runs lists (one_more f i) (one_more d group) order f' d'
 
 -- how many points are left
-abbrev pub left_of : List (List Point) → (taken : List ℕ) → ℕ
+abbrev pub left_of : List (List ListPoint) → (taken : List ℕ) → ℕ
 left_of [] taken = 0
 left_of (l ∷ ls) [] = 0
 left_of (l ∷ ls) (n ∷ ns) = (length l - n) + left_of ls ns
 
 -- where the search has come to
-pub record IsGoing (lists : List (List Point)) (holders : List (List (Option ℕ))) (g : Progress) : Type 0 where
+pub record IsGoing (lists : List (List ListPoint)) (holders : List (List (Option ℕ))) (g : Progress) : Type 0 where
   pub wide : length g.taken ≡ length lists
   pub all : length g.done ≡ length holders
   pub within : (i : ℕ) → at g.taken i ≤ length (list_at lists i)

@@ -4,7 +4,7 @@ ghost use Rattle.std.specs.Prelude.{◌≡◌, ◌≤◌, ◌<◌, ◌+◌, ℕ,
 ghost use Rattle.joint_order.specs.Orders.{AreHeld, IsStuck, OnOrder, OnStuck, TakesAll, list_at, points_count};
 ghost use Rattle.joint_order.specs.Steps.{AreShort, CanGoOn, Progress, holder_at, if_next, looked, next_at};
 
-use crate::point::Point;
+use crate::point::ListPoint;
 use common_types::Items;
 use std::alloc::{AllocError, Global};
 
@@ -18,7 +18,7 @@ pub enum Joined {
 }
 
 // The point, if it is the next one of its group.
-fn if_next(done: &[usize], point: Option<Point>) -> Option<Point>
+fn if_next(done: &[usize], point: Option<ListPoint>) -> Option<ListPoint>
     ensures { result ≡ if_next done.now point }
 {
     let point = point?;
@@ -30,7 +30,7 @@ fn if_next(done: &[usize], point: Option<Point>) -> Option<Point>
 }
 
 // The next point of the list of that number.
-fn point_at(lists: &[Items<Point>], taken: &[usize], i: usize) -> Option<Point>
+fn point_at(lists: &[Items<ListPoint>], taken: &[usize], i: usize) -> Option<ListPoint>
     requires { length taken.now ≡ length lists.now }
     ensures { result ≡ slice_get (list_at lists.now i) (slice_index taken.now i) }
 {
@@ -47,12 +47,12 @@ fn holder_at(holders: &[Items<Option<usize>>], group: usize, place: usize) -> Op
 
 // The next point of the list of that number, if it is the next one of its group.
 fn next_at(
-    lists: &[Items<Point>],
+    lists: &[Items<ListPoint>],
     holders: &[Items<Option<usize>>],
     taken: &[usize],
     done: &[usize],
     i: usize,
-) -> Option<Point>
+) -> Option<ListPoint>
     requires wide { length taken.now ≡ length lists.now }
     requires held { AreHeld lists.now holders.now }
     requires lists { AreShort lists.now }
@@ -65,7 +65,7 @@ fn next_at(
 
 // Looks at the list of that number: takes its next point, if that is the next one of its group.
 fn look(
-    lists: &[Items<Point>],
+    lists: &[Items<ListPoint>],
     holders: &[Items<Option<usize>>],
     taken: &mut Vec<usize>,
     done: &mut Vec<usize>,
@@ -96,7 +96,7 @@ fn look(
 }
 
 // What is known of the lists from their sizes.
-fn lists_are_short(lists: &[Items<Point>])
+fn lists_are_short(lists: &[Items<ListPoint>])
     ensures { AreShort lists.now }
 {
     for i in 0..lists.len() {
@@ -124,7 +124,7 @@ fn numbers(alloc: Global, count: usize) -> Result<Vec<usize>, AllocError>
 }
 
 // Whether all points of the list of that number were taken.
-fn is_taken(lists: &[Items<Point>], taken: &[usize], i: usize) -> bool
+fn is_taken(lists: &[Items<ListPoint>], taken: &[usize], i: usize) -> bool
     requires { length taken.now ≡ length lists.now }
     ensures { result ≡ nat_le (length (list_at lists.now i)) (slice_index taken.now i) }
 {
@@ -135,7 +135,7 @@ fn is_taken(lists: &[Items<Point>], taken: &[usize], i: usize) -> bool
 }
 
 // Whether all points of all lists were taken.
-fn all_taken(lists: &[Items<Point>], taken: &[usize]) -> bool
+fn all_taken(lists: &[Items<ListPoint>], taken: &[usize]) -> bool
     requires { length taken.now ≡ length lists.now }
     ensures yes { result ≡ true → (i : ℕ) → i < length lists.now
         → nat_le (length (list_at lists.now i)) (slice_index taken.now i) ≡ true }
@@ -155,7 +155,7 @@ fn all_taken(lists: &[Items<Point>], taken: &[usize]) -> bool
 /// `holders` says of each group which list holds the point of each place. The one error is want of memory.
 pub fn join(
     alloc: Global,
-    lists: &[Items<Point>],
+    lists: &[Items<ListPoint>],
     holders: &[Items<Option<usize>>],
 ) -> Result<Joined, AllocError>
     requires { AreHeld lists.now holders.now }

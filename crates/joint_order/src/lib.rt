@@ -7,4 +7,4 @@ pub mod laws;
 mod point;
 
 pub use joining::{Joined, join};
-pub use point::Point;
+pub use point::ListPoint;

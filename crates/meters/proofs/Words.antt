@@ -8,7 +8,7 @@ use Rattle.std.proofs.lemmas.List.{ext_get_or, length-replicate}
 use Rattle.atomic_table.specs.Table.{State, Me, step, Allows, Splits, Joins, keeps, opening}
 use Rattle.atomic_table.proofs.Lists.{at_set, set_again, at_snoc}
 use Rattle.meters.specs.declared.kind.Kind.{Kind}
-use Rattle.meters.specs.declared.kind.Kind.TheVariants.{Answered, Refused, Unavailable, LinkFault}
+use Rattle.meters.specs.declared.kind.Kind.TheVariants.{Answered, ClientError, Unavailable, LinkFault}
 use Rattle.meters.specs.declared.rule.View.{View}
 use Rattle.meters.specs.Counts.{place_of, word_of, count_in, both_rows}
 use Rattle.atomic_table.specs.Seated.{TableId}
@@ -23,7 +23,7 @@ at_place i v = slice_index v.counts i
 
 place_small : (k : Kind) → place_of k < 4
 place_small Answered = omega arith
-place_small Refused = omega arith
+place_small ClientError = omega arith
 place_small Unavailable = omega arith
 place_small LinkFault = omega arith
 
@@ -32,19 +32,19 @@ word_below t n k lt = let p = place_small k in omega arith
 
 place_own : (k l : Kind) → place_of k ≡ place_of l → k ≡ l
 place_own Answered Answered e = refl
-place_own Answered Refused e = absurd (omega arith)
+place_own Answered ClientError e = absurd (omega arith)
 place_own Answered Unavailable e = absurd (omega arith)
 place_own Answered LinkFault e = absurd (omega arith)
-place_own Refused Answered e = absurd (omega arith)
-place_own Refused Refused e = refl
-place_own Refused Unavailable e = absurd (omega arith)
-place_own Refused LinkFault e = absurd (omega arith)
+place_own ClientError Answered e = absurd (omega arith)
+place_own ClientError ClientError e = refl
+place_own ClientError Unavailable e = absurd (omega arith)
+place_own ClientError LinkFault e = absurd (omega arith)
 place_own Unavailable Answered e = absurd (omega arith)
-place_own Unavailable Refused e = absurd (omega arith)
+place_own Unavailable ClientError e = absurd (omega arith)
 place_own Unavailable Unavailable e = refl
 place_own Unavailable LinkFault e = absurd (omega arith)
 place_own LinkFault Answered e = absurd (omega arith)
-place_own LinkFault Refused e = absurd (omega arith)
+place_own LinkFault ClientError e = absurd (omega arith)
 place_own LinkFault Unavailable e = absurd (omega arith)
 place_own LinkFault LinkFault e = refl
 

@@ -1,12 +1,12 @@
 -- Rows of counts: four counts of each tenant, one for each kind.
 use Rattle.std.specs.Prelude.{ℕ, ◌+◌, ◌*◌, List, [], ◌∷◌, slice_index, slice_set}
 use Rattle.meters.specs.declared.kind.Kind.{Kind}
-use Rattle.meters.specs.declared.kind.Kind.TheVariants.{Answered, Refused, Unavailable, LinkFault}
+use Rattle.meters.specs.declared.kind.Kind.TheVariants.{Answered, ClientError, Unavailable, LinkFault}
 
 -- the place of a kind among the four counts of a tenant
 abbrev pub place_of : Kind → ℕ
 place_of Answered = 0
-place_of Refused = 1
+place_of ClientError = 1
 place_of Unavailable = 2
 place_of LinkFault = 3
 

@@ -10,7 +10,7 @@ pub enum Kind {
     /// An answer with the status 200.
     Answered,
     /// An answer with a status from 400 to 499.
-    Refused,
+    ClientError,
     /// An answer with the status 503.
     Unavailable,
     /// A fault of a link.
@@ -24,7 +24,7 @@ fn place_of(kind: Kind) -> usize
 {
     match kind {
         Kind::Answered => 0,
-        Kind::Refused => 1,
+        Kind::ClientError => 1,
         Kind::Unavailable => 2,
         Kind::LinkFault => 3,
     }

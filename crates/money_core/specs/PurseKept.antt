@@ -14,8 +14,8 @@ account_of p =
       credit = p.credit;
     }
 
--- what is kept of its fields
-pub record IsKept (p : Inside) : Type 0 where
+-- what holds of the fields of every purse
+pub record PurseInvariant (p : Inside) : Type 0 where
   pub most : p.level + p.held_in ≤ 2 ^ 63
   pub least : p.held_out ≤ p.level
   pub ceiling : p.ceiling ≤ max_money

@@ -37,11 +37,11 @@ impl Model for Purse {
 
     ghost Value = { Account };
 
-    ghost use Rattle.money_core.specs.PurseKept.{account_of, IsKept};
+    ghost use Rattle.money_core.specs.PurseKept.{account_of, PurseInvariant};
 
     ghost view = { account_of };
 
-    ghost invariant = { IsKept };
+    ghost invariant = { PurseInvariant };
 }
 
 impl Purse {

@@ -15,7 +15,7 @@ use Rattle.one_list.specs.declared.step.Done.{Done}
 use Rattle.one_list.specs.declared.step.Size.{Size}
 use Rattle.one_list.specs.declared.rule.Claim.{Claim}
 use Rattle.one_list.specs.Steps.{Place, done, done_by, done_last, last_place}
-use Rattle.one_list.specs.Rules.{new_claims, first_view, claim, concerns, Fits, AllFit, is_kind, is_of, count_of, AreBelow, IsKept, steps_by, claim_after, claims_after, Adds, Looks, first_claim, other_claims, claims_of}
+use Rattle.one_list.specs.Rules.{new_claims, first_view, claim, concerns, Fits, AllFit, is_kind, is_of, count_of, AreBelow, ChronicleInvariant, steps_by, claim_after, claims_after, Adds, Looks, first_claim, other_claims, claims_of}
 
 -- ---- sums over all views
 
@@ -108,7 +108,7 @@ fit_set log views id w others mine j u e =
 
 adds : (size : Size) (slots id word w t period : ℕ) (v : List Claim) (j : Recorded) (f : ℕ → ℕ) → steps_by v period j.records ≡ done_last w t period j.records → 0 < count_of true w v → 0 < count_of false t v
     → t < size.tenants → w < size.workers
-    → Allows (λ (s : State Recorded (List Claim)). IsKept size s.views) slots id (v, []) word f (Adds (step slots word 0 period (some j)) (v, []))
+    → Allows (λ (s : State Recorded (List Claim)). ChronicleInvariant size s.views) slots id (v, []) word f (Adds (step slots word 0 period (some j)) (v, []))
 adds size slots id word w t period v j f by p q tenant worker s k homes at small =
     let m = last_of j.records in
     let place = last_place t period j.records in
@@ -136,12 +136,12 @@ self_equal n = grind (arith, nat_tests)
 -- a step of the worker and the tenant that are claimed
 pub adds_as : (size : Size) (slots id word : ℕ) (me : Me Recorded (List Claim)) (worker tenant period : ℕ) (j : Recorded) (f : ℕ → ℕ) (ls js : List Done)
     → me ≡ (claim true worker ls ∷ claim false tenant js ∷ [], []) → tenant < size.tenants → worker < size.workers
-    → Allows (λ (s : State Recorded (List Claim)). IsKept size s.views) slots id me word f (Adds (step slots word 0 period (some j)) me)
+    → Allows (λ (s : State Recorded (List Claim)). ChronicleInvariant size s.views) slots id me word f (Adds (step slots word 0 period (some j)) me)
 adds_as size slots id word me worker tenant period j f ls js is t w =
     let v = claim true worker ls ∷ claim false tenant js ∷ [] in
     let here : 0 < count_of true worker v = rw (self_equal worker) (omega arith) in
     let there : 0 < count_of false tenant v = rw (self_equal tenant) (omega arith) in
-    subst (λ (m : Me Recorded (List Claim)). Allows (λ (s : State Recorded (List Claim)). IsKept size s.views) slots id m word f (Adds (step slots word 0 period (some j)) m)) (sym is)
+    subst (λ (m : Me Recorded (List Claim)). Allows (λ (s : State Recorded (List Claim)). ChronicleInvariant size s.views) slots id m word f (Adds (step slots word 0 period (some j)) m)) (sym is)
     (adds size slots id word worker tenant period v j f refl here there t w)
 
 -- what the step of a record made of both claims
@@ -166,13 +166,13 @@ after_add w t period j ls js theirs mine both after a b joined told =
 
 -- a look
 pub looks_as : (size : Size) (slots id word : ℕ) (me : Me Recorded (List Claim)) (known : Size) → size ≡ known
-    → Allows (λ (s : State Recorded (List Claim)). IsKept size s.views) slots id me word (λ n. n) (Looks known (step slots word 0 0 none) me)
+    → Allows (λ (s : State Recorded (List Claim)). ChronicleInvariant size s.views) slots id me word (λ n. n) (Looks known (step slots word 0 0 none) me)
 looks_as size slots id word me known is s k homes at small =
-    (me.0, keeps, tt, subst (λ l. IsKept size l) (sym (set_again s.views id me.0 at)) k, (k.log, k.fits id me.0 at, subst (λ (z : Size). AreBelow z k.log) is k.below, λ b n. omega (arith, k.once b n, at_most_sum (count_of b n) s.views id me.0 at)))
+    (me.0, keeps, tt, subst (λ l. ChronicleInvariant size l) (sym (set_again s.views id me.0 at)) k, (k.log, k.fits id me.0 at, subst (λ (z : Size). AreBelow z k.log) is k.below, λ b n. omega (arith, k.once b n, at_most_sum (count_of b n) s.views id me.0 at)))
 
 -- ---- cut in two, and put together
 
-pub joins : (size : Size) (id other : ℕ) (v w : List Claim) → Joins (λ (s : State Recorded (List Claim)). IsKept size s.views) id v other w (v ++ w) []
+pub joins : (size : Size) (id other : ℕ) (v w : List Claim) → Joins (λ (s : State Recorded (List Claim)). ChronicleInvariant size s.views) id v other w (v ++ w) []
 joins size id other v w s k at apart there =
     let both = v ++ w in
     let there' : get_elem? s.views other ≡ some w = ⊎_elim (λ (x : (other ≡ id) × (both ≡ w)). absurd (apart x.0)) (λ (x : (other ≢ id) × (get_elem? s.views other ≡ some w)). x.1) (at_set s.views id other both w there) in
@@ -186,7 +186,7 @@ joins size id other v w s k at apart there =
 -- a pass may be cut into parts whose claims are right and count as many
 splits : (size : Size) (id : ℕ) (v left right : List Claim) → ((log : List Done) → AllFit log v → AllFit log left × AllFit log right)
     → ((b : Bool) (n : ℕ) → count_of b n left + count_of b n right ≡ count_of b n v)
-    → Splits (λ (s : State Recorded (List Claim)). IsKept size s.views) id v left right
+    → Splits (λ (s : State Recorded (List Claim)). ChronicleInvariant size s.views) id v left right
 splits size id v left right fit counts s k at =
     let mine = fit k.log (k.fits id v at) in
     record {
@@ -207,7 +207,7 @@ count_first : (b : Bool) (n : ℕ) (v : List Claim) → count_of b n (other_clai
 count_first b n [] = refl
 count_first b n (c ∷ cs) = omega (arith, counts-cons b n c cs, counts-cons b n c [])
 
-pub splits_first : (size : Size) (id : ℕ) (v : List Claim) → Splits (λ (s : State Recorded (List Claim)). IsKept size s.views) id v (other_claims v) (first_claim v)
+pub splits_first : (size : Size) (id : ℕ) (v : List Claim) → Splits (λ (s : State Recorded (List Claim)). ChronicleInvariant size s.views) id v (other_claims v) (first_claim v)
 splits_first size id v = splits size id v (other_claims v) (first_claim v) (λ log. fit_first log v) (λ b n. count_first b n v)
 
 fit_by : (log : List Done) (c : Claim) (cs : List Claim) (b : Bool) → Fits log c → AllFit log cs → AllFit log (cond b (c ∷ cs) cs)
@@ -227,7 +227,7 @@ count_kinds : (b : Bool) (n : ℕ) (v : List Claim) → count_of b n (claims_of 
 count_kinds b n [] = refl
 count_kinds b n (c ∷ cs) = kinds_by b n c cs c.of_worker (count_kinds b n cs)
 
-pub splits_kinds : (size : Size) (id : ℕ) (v : List Claim) → Splits (λ (s : State Recorded (List Claim)). IsKept size s.views) id v (claims_of false v) (claims_of true v)
+pub splits_kinds : (size : Size) (id : ℕ) (v : List Claim) → Splits (λ (s : State Recorded (List Claim)). ChronicleInvariant size s.views) id v (claims_of false v) (claims_of true v)
 splits_kinds size id v = splits size id v (claims_of false v) (claims_of true v) (λ log f. (fit_kind log false v f, fit_kind log true v f)) (λ b n. count_kinds b n v)
 
 -- ---- the start
@@ -271,7 +271,7 @@ first_once size true m =
 first_once size false m =
     omega (arith, sum_by-append (λ c. cond (is_of false m c) 1 0) (new_claims false 0 size.tenants) (new_claims true 0 size.workers), new_other true m 0 size.workers, new_once false m 0 size.tenants)
 
-pub begins : (size : Size) → IsKept size (first_view size ∷ [])
+pub begins : (size : Size) → ChronicleInvariant size (first_view size ∷ [])
 begins size =
     record {
       log = [];
@@ -285,7 +285,7 @@ begins size =
     fits (suc by) v e = absurd (some-ne-none v (sym e))
 
 -- a pass with no claim
-pub enters : (size : Size) (slots word : ℕ) → Enters (λ (s : State Recorded (List Claim)). IsKept size s.views) slots word (λ _ w. w ≡ [])
+pub enters : (size : Size) (slots word : ℕ) → Enters (λ (s : State Recorded (List Claim)). ChronicleInvariant size s.views) slots word (λ _ w. w ≡ [])
 enters size slots word s k homes small = (
   [],
   record {

@@ -61,7 +61,7 @@ AreBelow size log = All (λ e. (e.tenant < size.tenants) × (e.worker < size.wor
 
 -- the rule: there is one list by which the claims of all passes are right, and each worker and each tenant is claimed once at
 -- most
-pub record IsKept (size : Size) (views : List (List Claim)) : Type 0 where
+pub record ChronicleInvariant (size : Size) (views : List (List Claim)) : Type 0 where
   pub log : List Done
   pub fits : (by : ℕ) (v : List Claim) → get_elem? views by ≡ some v → AllFit log v
   pub once : (of_worker : Bool) (number : ℕ) → sum_by (count_of of_worker number) views ≤ 1

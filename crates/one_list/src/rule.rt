@@ -29,9 +29,9 @@ pub type Words = Table<Journal, View, Size, OneList, Global>;
 pub struct OneList;
 
 impl TableRule<Journal, View, Size> for OneList {
-    ghost use Rattle.one_list.specs.Rules.{IsKept, first_view};
+    ghost use Rattle.one_list.specs.Rules.{ChronicleInvariant, first_view};
 
-    ghost holds = { λ size s. IsKept size s.views };
+    ghost holds = { λ size s. ChronicleInvariant size s.views };
 
     ghost first = { first_view };
 }

@@ -7,7 +7,7 @@ use native.Mathlib.Decide.{ℕ_discrete, dec_lt}
 use Rattle.tenant_core.specs.declared.journal.Record.{Record}
 use Rattle.tenant_core.specs.declared.period.PeriodParts.{PeriodParts}
 use Rattle.joint_order.specs.Orders.{AreDistinct, AreHeld, list_at, point, points_count}
-use Rattle.joint_order.specs.declared.point.Point.{Point}
+use Rattle.joint_order.specs.declared.point.ListPoint.{ListPoint}
 use Rattle.receipts.specs.Audits.{AreJoined, AreMatched, IsNumbered, LacksReceipt, NameOne, Names, place_of, points_of, receipts_of, record_of, records_before}
 use Rattle.receipts.specs.Layout.{AreLaid, AreNoted, HaveRows, IsBefore, IsFault, IsHeldNowhere, IsHeldWhole, IsIndexUpTo, IsLaid, IsNoted, IsRefused, held_of, place_in, points_in}
 use Rattle.receipts.specs.declared.fault.AuditFault.{AuditFault}
@@ -154,7 +154,7 @@ not_before j l i n (inl less) e = let same = e.0 in absurd (omega arith)
 not_before j l i n (inr (same, below)) e = let there = e.1 in absurd (omega arith)
 
 -- one more receipt is known
-pub noted_next : (periods : List PeriodParts) (lists : List (List Receipt)) (old new : List (List (Option ℕ))) (i n : ℕ) (r : Receipt) (p : Point)
+pub noted_next : (periods : List PeriodParts) (lists : List (List Receipt)) (old new : List (List (Option ℕ))) (i n : ℕ) (r : Receipt) (p : ListPoint)
     → AreNoted periods lists old i n → slice_get (list_at lists i) n ≡ Some r → IsNoted periods old new r i p
     → (r.tenant < length old) × (place_of periods r < length (list_at old r.tenant)) → AreNoted periods lists new i (n + 1)
 noted_next periods lists old new i n r p was at noted room =
@@ -349,10 +349,10 @@ pub points_held : (periods : List PeriodParts) (lists : List (List Receipt)) (ho
     → AreNoted periods lists holders n 0 → AreHeld (points_of periods lists) holders
 points_held periods lists holders n all noted = record {
   held = λ i k p at.
-      let P : List Point → Type 0 = λ l. slice_get l k ≡ Some p in
+      let P : List ListPoint → Type 0 = λ l. slice_get l k ≡ Some p in
       let from = point_from (λ r. point r.tenant (place_of periods r)) (list_at lists i) k p (subst P (points_at periods lists i) at) in
       let w = noted.right i k from.0 (inl (below i k from.0 from.1)) from.1 in
-      let Q : Point → Type 0 = λ q. slice_get (list_at holders q.group) q.place ≡ Some (Some i) in
+      let Q : ListPoint → Type 0 = λ q. slice_get (list_at holders q.group) q.place ≡ Some (Some i) in
       subst Q from.2 w.1;
 }
   where
@@ -411,17 +411,17 @@ as_many_points periods (l ∷ ls) =
     let others = as_many_points periods ls in
     let here = shown_length (λ (r : Receipt). point r.tenant (place_of periods r)) l in
     let sum = sum_by-cons (λ (list : List Receipt). length list) l ls in
-    let points = sum_by-cons (λ (list : List Point). length list) (points_in periods l) (points_of periods ls) in
+    let points = sum_by-cons (λ (list : List ListPoint). length list) (points_in periods l) (points_of periods ls) in
     omega arith
 
 -- receipts that match have points of their own
 pub are_distinct : (periods : List PeriodParts) (lists : List (List Receipt)) → AreMatched periods lists → AreDistinct (points_of periods lists)
 are_distinct periods lists matched i k j l p at there =
-    let P : List Point → ℕ → Type 0 = λ list n. slice_get list n ≡ Some p in
-    let f : Receipt → Point = λ r. point r.tenant (place_of periods r) in
+    let P : List ListPoint → ℕ → Type 0 = λ list n. slice_get list n ≡ Some p in
+    let f : Receipt → ListPoint = λ r. point r.tenant (place_of periods r) in
     let r = point_from f (list_at lists i) k p (subst (λ list. P list k) (points_at periods lists i) at) in
     let s = point_from f (list_at lists j) l p (subst (λ list. P list l) (points_at periods lists j) there) in
     let same : f r.0 ≡ f s.0 = r.2 ∙ sym s.2 in
     matched.once i k j l r.0 s.0 r.1 s.1
     (name_one periods r.0 s.0 (record_of r.0) (record_of s.0) (matched.right r.0 (i, k, r.1)) (matched.right s.0 (j, l, s.1))
-    (ap (λ (q : Point). q.group) same) (ap (λ (q : Point). q.place) same))
+    (ap (λ (q : ListPoint). q.group) same) (ap (λ (q : ListPoint). q.place) same))

@@ -22,7 +22,7 @@ use Rattle.tenant_core.specs.declared.period.PeriodParts.{PeriodParts}
 use Rattle.floor_core.specs.Causes.{AreCaused, ArePlaced, AreRun, Cause, Entered, book_opened, left_from, made_from}
 use Rattle.floor_core.specs.World.{no_book, put}
 use Rattle.joint_order.specs.Orders.{TakesOn, list_at, none, one_more, point}
-use Rattle.joint_order.specs.declared.point.Point.{Point}
+use Rattle.joint_order.specs.declared.point.ListPoint.{ListPoint}
 use Rattle.receipts.specs.Audits.{AreJoined, AreMatched, IsComplete, place_of, points_of, record_of, records_before}
 use Rattle.receipts.specs.Layout.{AreKept}
 use Rattle.receipts.specs.Runs.{AreOfRun, IsLast, entry_of, in_order, led_by, taken_in}
@@ -460,10 +460,10 @@ takes_one : FrameLaws → (periods : List PeriodParts) (lists : List (List Recei
     → slice_get (list_at (points_of periods lists) i) (taken i) ≡ Some (point group (done group)) → Takes periods lists taken done books i group
 takes_one laws periods lists taken done books i group kept matched stand at =
     let from = point_from (λ r. point r.tenant (place_of periods r)) (list_at lists i) (taken i) (point group (done group))
-    (subst (λ (ps : List Point). slice_get ps (taken i) ≡ Some (point group (done group))) (points_at periods lists i) at) in
+    (subst (λ (ps : List ListPoint). slice_get ps (taken i) ≡ Some (point group (done group))) (points_at periods lists i) at) in
     let r : Receipt = from.0 in
-    let tenant : r.tenant ≡ group = ap (λ (p : Point). p.group) from.2 in
-    let place : place_of periods r ≡ done r.tenant = ap (λ (p : Point). p.place) from.2 ∙ ap done (sym tenant) in
+    let tenant : r.tenant ≡ group = ap (λ (p : ListPoint). p.group) from.2 in
+    let place : place_of periods r ≡ done r.tenant = ap (λ (p : ListPoint). p.place) from.2 ∙ ap done (sym tenant) in
     let named = matched.right r (i, taken i, from.1) in
     let p : PeriodParts = named.0 in
     let has = named.1 in

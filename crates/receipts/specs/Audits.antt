@@ -3,7 +3,7 @@ use Rattle.std.specs.Prelude.{ℕ, ◌≡◌, ◌≢◌, ◌+◌, ◌<◌, ◌==
 use Rattle.tenant_core.specs.declared.journal.Record.{Record}
 use Rattle.tenant_core.specs.declared.period.PeriodParts.{PeriodParts}
 use Rattle.joint_order.specs.Orders.{IsStuck, TakesAll, list_at, point}
-use Rattle.joint_order.specs.declared.point.Point.{Point}
+use Rattle.joint_order.specs.declared.point.ListPoint.{ListPoint}
 use Rattle.receipts.specs.declared.receipt.Receipt.{Receipt}
 
 -- ---- what a receipt names
@@ -89,7 +89,7 @@ abbrev pub place_of : List PeriodParts → Receipt → ℕ
 place_of periods r = records_before periods r.tenant r.period + r.number
 
 -- of each receipt its tenant, and that place
-abbrev pub points_of : List PeriodParts → List (List Receipt) → List (List Point)
+abbrev pub points_of : List PeriodParts → List (List Receipt) → List (List ListPoint)
 points_of periods lists = map (λ list. map (λ r. point r.tenant (place_of periods r)) list) lists
 
 -- The receipts fit, and each number of the order takes the next receipt of that list, which names its tenant's first entry

@@ -7,7 +7,7 @@ use Rattle.tenant_core.specs.Closing.{IsPeriod}
 use Rattle.tenant_core.specs.declared.journal.Record.{Record}
 use Rattle.tenant_core.specs.declared.period.PeriodParts.{PeriodParts}
 use Rattle.joint_order.specs.Orders.{at, list_at, point}
-use Rattle.joint_order.specs.declared.point.Point.{Point}
+use Rattle.joint_order.specs.declared.point.ListPoint.{ListPoint}
 use Rattle.receipts.specs.Audits.{AreMatched, HasGap, IsNumbered, IsStuckAt, LacksReceipt, NamesNothing, NameOne, Names, NamesTwice, ShowsAnother, place_of, record_of, records_before}
 use Rattle.receipts.specs.declared.fault.AuditFault.{AuditFault}
 use Rattle.receipts.specs.declared.fault.AuditFault.TheVariants.{NoPeriod, Gap, Twice, Missing, Differs, Order, Memory}
@@ -107,7 +107,7 @@ pub record IsPlace (periods : List PeriodParts) (holders : List (List (Option �
   pub room : place < length (list_at holders r.tenant)
 
 -- a receipt of that list shows the record that it names, of which no receipt was known; now it is
-pub record IsNoted (periods : List PeriodParts) (old new : List (List (Option ℕ))) (r : Receipt) (list : ℕ) (noted : Point) : Type 0 where
+pub record IsNoted (periods : List PeriodParts) (old new : List (List (Option ℕ))) (r : Receipt) (list : ℕ) (noted : ListPoint) : Type 0 where
   pub right : Names periods r (record_of r)
   pub free : held_of periods old r ≡ Some None
   pub known : new ≡ slice_set old r.tenant (slice_set (list_at old r.tenant) (place_of periods r) (Some list))
@@ -136,7 +136,7 @@ pub record AreNoted (periods : List PeriodParts) (lists : List (List Receipt)) (
       → slice_get (list_at lists k) m ≡ Some s → NameOne r s → (j ≡ k) × (l ≡ m)
 
 -- the points of the receipts of a list
-abbrev pub points_in : List PeriodParts → List Receipt → List Point
+abbrev pub points_in : List PeriodParts → List Receipt → List ListPoint
 points_in periods list = map (λ r. point r.tenant (place_of periods r)) list
 
 -- a receipt holds the record of that number of a period

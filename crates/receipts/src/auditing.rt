@@ -12,7 +12,7 @@ use crate::fault::AuditFault;
 use crate::layout::lay_out;
 use crate::receipt::Receipt;
 use common_types::Items;
-use joint_order::{Joined, Point, join};
+use joint_order::{Joined, ListPoint, join};
 use std::alloc::Global;
 use tenant_core::Period;
 
@@ -47,7 +47,7 @@ fn matched(
     alloc: Global,
     periods: &[Period],
     lists: &[&[Receipt]],
-) -> Result<(Vec<Items<Point>>, Vec<Items<Option<usize>>>), AuditFault>
+) -> Result<(Vec<Items<ListPoint>>, Vec<Items<Option<usize>>>), AuditFault>
     requires kept { AreKept periods.now }
     ensures matched { IfOk result (λ found. AreMatched periods.now (map (λ list. list.now) lists.now)) }
     ensures points { IfOk result (λ found. found.0.items ≡ points_of periods.now (map (λ list. list.now) lists.now)) }

@@ -13,7 +13,7 @@ use crate::holders::Holders;
 use crate::index::Index;
 use crate::receipt::Receipt;
 use common_types::Items;
-use joint_order::Point;
+use joint_order::ListPoint;
 use std::alloc::Global;
 use tenant_core::{Period, RecordView};
 
@@ -76,7 +76,7 @@ fn note(
     holders: &mut Holders,
     receipt: &Receipt,
     list: usize,
-) -> Result<Point, AuditFault>
+) -> Result<ListPoint, AuditFault>
     requires index { IsIndexUpTo index.now periods.now (length periods.now) }
     requires rows { HaveRows index.now periods.now offsets.now holders.old }
     ensures noted { IfOk result (IsNoted periods.now holders.old holders.new receipt.now list) }
@@ -88,7 +88,7 @@ fn note(
         return Err(AuditFault::Twice);
     }
     holders.set(receipt.tenant, place, list);
-    Ok(Point {
+    Ok(ListPoint {
         group: receipt.tenant,
         place,
     })
@@ -104,7 +104,7 @@ fn note_at(
     i: usize,
     n: usize,
     receipt: &Receipt,
-) -> Result<Point, AuditFault>
+) -> Result<ListPoint, AuditFault>
     requires index { IsIndexUpTo index.now periods.now (length periods.now) }
     requires rows { HaveRows index.now periods.now offsets.now holders.old }
     requires there { slice_get (list_at (map (λ list. list.now) lists.now) i) n ≡ Some receipt.now }
@@ -130,7 +130,7 @@ fn note_list(
     lists: &[&[Receipt]],
     i: usize,
     list: &[Receipt],
-) -> Result<Vec<Point>, AuditFault>
+) -> Result<Vec<ListPoint>, AuditFault>
     requires index { IsIndexUpTo index.now periods.now (length periods.now) }
     requires rows { HaveRows index.now periods.now offsets.now holders.old }
     requires list { list.now ≡ list_at (map (λ list. list.now) lists.now) i }
@@ -156,7 +156,7 @@ pub(crate) fn note_lists(
     offsets: &[usize],
     holders: &mut Holders,
     lists: &[&[Receipt]],
-) -> Result<Vec<Items<Point>>, AuditFault>
+) -> Result<Vec<Items<ListPoint>>, AuditFault>
     requires index { IsIndexUpTo index.now periods.now (length periods.now) }
     requires rows { HaveRows index.now periods.now offsets.now holders.old }
     requires none { AreNoted periods.now (map (λ list. list.now) lists.now) holders.old 0 0 }

@@ -15,7 +15,7 @@ use Rattle.std.specs.FinMap.Entries.{below_all, is_sorted}
 use Rattle.ilp_addr.specs.Address.{prefix_segments}
 use Rattle.route_table.specs.Paths.{Path, PathMap}
 use Rattle.route_table.specs.Nodes.{PathRow}
-use Rattle.route_table.specs.Kept.{joined, routes_of, IsPrefixPath, ArePrefixes, IsKept}
+use Rattle.route_table.specs.Kept.{joined, routes_of, IsPrefixPath, ArePrefixes, RoutesInvariant}
 use Rattle.route_table.specs.Listing.{spelled, AreSpelled, entry_of}
 use Rattle.route_table.specs.Routes.{RouteMap, max_routes}
 use Rattle.route_table.specs.declared.route.Route.{Route}
@@ -92,7 +92,7 @@ length-spelled : (rows : List PathRow) → length (spelled None rows) ≡ length
 length-spelled [] = refl
 length-spelled (row ∷ rows) = omega (arith, length-spelled rows)
 
-pub few_listed : (m : PathMap) (count : ℕ) (list : List Route) → IsKept m count → list ≡ spelled None (entries m) → length list ≤ max_routes
+pub few_listed : (m : PathMap) (count : ℕ) (list : List Route) → RoutesInvariant m count → list ≡ spelled None (entries m) → length list ≤ max_routes
 few_listed m count list kept is =
     let long : length list ≡ length (entries m) = ap length is ∙ length-spelled (entries m) in
     let all = counted (entries m) (distinct (entries m) kept.prefixes (entries_sorted m)) in

@@ -14,7 +14,7 @@ use Rattle.ilp_addr.specs.Address.{IsPrefix, prefix_segments}
 use Rattle.route_table.specs.Paths.{Path, PathMap, is_same}
 use Rattle.route_table.specs.Nodes.{PathRow}
 use Rattle.route_table.specs.Routes.{RouteMap}
-use Rattle.route_table.specs.Kept.{joined, routes_of, IsPrefixPath, ArePrefixes, IsKept}
+use Rattle.route_table.specs.Kept.{joined, routes_of, IsPrefixPath, ArePrefixes, RoutesInvariant}
 use Rattle.route_table.proofs.Matching.{join_with_byte-prefix_segments}
 use Rattle.route_table.proofs.PathLemmas.{cases, same, same_test, ties, tied, tied_decides, at, get_at, path_cmp, paths_total, get_inserted, get_removed}
 use Rattle.route_table.specs.declared.hop.Hop.{Hop}
@@ -128,7 +128,7 @@ no_entries m e = nil (entries m) (sym (len-entries m) ∙ ap map.len e ∙ len-e
 pub empty_routes : (m : PathMap) → m ≡ map.empty → routes_of m ≡ map.empty
 empty_routes m e = ap (λ es. from_entries (joined es)) (no_entries m e)
 
-pub empty_kept : (m : PathMap) → m ≡ map.empty → IsKept m 0
+pub empty_kept : (m : PathMap) → m ≡ map.empty → RoutesInvariant m 0
 empty_kept m e = record {
   prefixes = subst ArePrefixes (sym (no_entries m e)) tt;
   counted = sym (ap map.len (empty_routes m e) ∙ len-empty (slice_cmp nat_cmp) Hop);
@@ -146,8 +146,8 @@ pub routes_more : (m new : PathMap) (routes : RouteMap) (b : List ℕ) (path : P
 routes_more m new routes b path n spelled view valid path_is is =
     ap routes_of (is ∙ ap (λ p. map.insert m p n) path_is) ∙ routes_insert m b n spelled valid ∙ ap (λ r. map.insert r b n) view
 
-pub kept_more : (m new : PathMap) (routes : RouteMap) (b : List ℕ) (path : Path) (n : Hop) (count : ℕ) → IsPrefix b → routes_of m ≡ routes → IsKept m count → path ≡ prefix_segments b → new ≡ map.insert m path n
-    → map.contains_key routes b ≡ false → count ≤ 4095 → IsKept new (count + 1)
+pub kept_more : (m new : PathMap) (routes : RouteMap) (b : List ℕ) (path : Path) (n : Hop) (count : ℕ) → IsPrefix b → routes_of m ≡ routes → RoutesInvariant m count → path ≡ prefix_segments b → new ≡ map.insert m path n
+    → map.contains_key routes b ≡ false → count ≤ 4095 → RoutesInvariant new (count + 1)
 kept_more m new routes b path n count spelled view kept path_is is absent few =
     let more : map.len (map.insert routes b n) ≡ map.len routes + 1 = len-insert nat_list_cmp_total routes b n ∙ ap (λ t. cond t (map.len routes) (map.len routes + 1)) absent in
     record {
@@ -158,7 +158,7 @@ kept_more m new routes b path n count spelled view kept path_is is absent few =
 
 -- ---- one route less
 
-pub some_kept : (m : PathMap) (routes : RouteMap) (b : List ℕ) (count : ℕ) → routes_of m ≡ routes → IsKept m count → map.contains_key routes b ≡ true → 0 < count
+pub some_kept : (m : PathMap) (routes : RouteMap) (b : List ℕ) (count : ℕ) → routes_of m ≡ routes → RoutesInvariant m count → map.contains_key routes b ≡ true → 0 < count
 some_kept m routes b count view kept present = positive count refl
   where
     positive : (k : ℕ) → k ≡ count → 0 < k
@@ -172,8 +172,8 @@ pub routes_less : (m new : PathMap) (routes : RouteMap) (b : List ℕ) (path : P
     → routes_of new ≡ map.remove routes b
 routes_less m new routes b path view valid path_is is = ap routes_of (is ∙ ap (map.remove m) path_is) ∙ routes_remove m b valid ∙ ap (λ r. map.remove r b) view
 
-pub kept_less : (m new : PathMap) (routes : RouteMap) (b : List ℕ) (path : Path) (count : ℕ) → routes_of m ≡ routes → IsKept m count → path ≡ prefix_segments b → new ≡ map.remove m path
-    → map.contains_key routes b ≡ true → IsKept new (count - 1)
+pub kept_less : (m new : PathMap) (routes : RouteMap) (b : List ℕ) (path : Path) (count : ℕ) → routes_of m ≡ routes → RoutesInvariant m count → path ≡ prefix_segments b → new ≡ map.remove m path
+    → map.contains_key routes b ≡ true → RoutesInvariant new (count - 1)
 kept_less m new routes b path count view kept path_is is present =
     let less : map.len (map.remove routes b) ≡ map.len routes - 1 = len-remove nat_list_cmp_total routes b ∙ ap (λ t. cond t (map.len routes - 1) (map.len routes)) present in
     let few = kept.few in

@@ -28,7 +28,7 @@ ArePrefixes [] = Unit {0}
 ArePrefixes (row ∷ rows) = IsPrefixPath row.0 × ArePrefixes rows
 
 -- the paths are those of prefixes, they are counted, and there are no more than an operator may have
-pub record IsKept (paths : PathMap) (count : ℕ) : Type 0 where
+pub record RoutesInvariant (paths : PathMap) (count : ℕ) : Type 0 where
   pub prefixes : ArePrefixes (entries paths)
   pub counted : count ≡ len (routes_of paths)
   pub few : count ≤ max_routes

@@ -39,11 +39,11 @@ impl Model for Routes {
 
     ghost coded = { map.code (coded_list coded_ℕ) hop_code };
 
-    ghost use Rattle.route_table.specs.Kept.{routes_of, IsKept};
+    ghost use Rattle.route_table.specs.Kept.{routes_of, RoutesInvariant};
 
     ghost view = { λ r. routes_of r.root.routes };
 
-    ghost invariant = { λ r. IsKept r.root.routes r.count };
+    ghost invariant = { λ r. RoutesInvariant r.root.routes r.count };
 }
 
 impl Routes {

@@ -22,7 +22,7 @@ told_text Admin reply printed = printed
 unfoldable pub line_of : List ℕ → ℕ → TotalsState → List ℕ
 line_of name tenant totals =
     name ++ codes " 200 " ++ decimal (total_of tenant kind.Answered totals)
-    ++ codes " 4xx " ++ decimal (total_of tenant kind.Refused totals)
+    ++ codes " 4xx " ++ decimal (total_of tenant kind.ClientError totals)
     ++ codes " 503 " ++ decimal (total_of tenant kind.Unavailable totals)
     ++ codes " link " ++ decimal (total_of tenant kind.LinkFault totals) ++ 10 ∷ []
 

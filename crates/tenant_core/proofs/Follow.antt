@@ -17,7 +17,7 @@ use Rattle.tenant_core.specs.Bucket.{bucket_of, stretch_of}
 use Rattle.tenant_core.specs.ChangedAt.{changed_where}
 use Rattle.tenant_core.specs.Following.{CanFollow, is_past_bound, levels_after, limited_so, new_bucket, new_purse, peer_changed, purses_after, settling, without}
 use Rattle.tenant_core.specs.Holds.{holds_of, holds_amounts, took_amounts}
-use Rattle.tenant_core.specs.Kept.{state_of, IsKept}
+use Rattle.tenant_core.specs.Kept.{state_of, BookInvariant}
 use Rattle.tenant_core.specs.Network.{Net, IsNetwork, peer_numbered}
 use Rattle.tenant_core.specs.Orders.{change_record, change_refusal, is_too_much, names_present}
 use Rattle.tenant_core.specs.Present.{changed, credit_of, level_left, network_of}
@@ -623,7 +623,7 @@ place_changed_is net c place is inside value n e =
     place_numbered_is net n place is inside (value ∙ ap (λ o. option_and_then (λ m. peer_numbered m net.peers) o) e)
 
 -- the same place among the peers that the records tell of
-place_kept : (b : Inside) (c : Changed) (place : Option ℕ) → IsKept b → IfSome place (λ at. at < length b.network.peers)
+place_kept : (b : Inside) (c : Changed) (place : Option ℕ) → BookInvariant b → IfSome place (λ at. at < length b.network.peers)
     → option_and_then (λ at. slice_get b.network.peers at) place ≡ option_and_then (λ n. peer_numbered n b.network.peers) (peer_changed c)
     → (n : ℕ) → peer_changed c ≡ Some n → IsPlaceOf n (network_of (state_of b)).peers place
 place_kept b c place k inside value n e =
@@ -631,7 +631,7 @@ place_kept b c place k inside value n e =
     subst (λ (x : Net). IsPlaceOf n x.peers place) k.network (place_changed_is b.network c place is inside value n e)
 
 -- the purses can follow a change that is not refused
-pub can_follow_kept : (b : Inside) (c : Changed) (place : Option ℕ) → IsKept b → IfSome place (λ at. at < length b.network.peers)
+pub can_follow_kept : (b : Inside) (c : Changed) (place : Option ℕ) → BookInvariant b → IfSome place (λ at. at < length b.network.peers)
     → option_and_then (λ at. slice_get b.network.peers at) place ≡ option_and_then (λ n. peer_numbered n b.network.peers) (peer_changed c)
     → change_refusal (state_of b) b.network c ≡ None → CanFollow c place b.purses.items
 can_follow_kept b c place k inside value allowed =
@@ -640,13 +640,13 @@ can_follow_kept b c place k inside value allowed =
     subst (λ xs. CanFollow c place xs) (sym k.purses) (can_follow s c place free (place_kept b c place k inside value))
 
 -- no bucket's clock is later than one that is no less than the book's
-pub buckets_before : (b : Inside) (clock : ℕ) → IsKept b → b.clock ≤ clock → (i : ℕ) (l : Level) → slice_get b.buckets.items i ≡ Some l → l.clock ≤ clock
+pub buckets_before : (b : Inside) (clock : ℕ) → BookInvariant b → b.clock ≤ clock → (i : ℕ) (l : Level) → slice_get b.buckets.items i ≡ Some l → l.clock ≤ clock
 buckets_before b clock k late i l at =
     let e = k.clock in
     levels_before (state_of b) (network_of (state_of b)).peers b.buckets.items clock i l k.buckets (omega arith) at
 
 -- the purses and the buckets of a book have followed a change
-pub changed_follows : (laws : RunningLaws) (b after : Inside) (c : Changed) (now clock : ℕ) (place : Option ℕ) → IsKept b → clock ≡ max b.clock now
+pub changed_follows : (laws : RunningLaws) (b after : Inside) (c : Changed) (now clock : ℕ) (place : Option ℕ) → BookInvariant b → clock ≡ max b.clock now
     → names_present b.network c ≡ true → IfSome place (λ at. at < length b.network.peers)
     → option_and_then (λ at. slice_get b.network.peers at) place ≡ option_and_then (λ n. peer_numbered n b.network.peers) (peer_changed c)
     → after.purses.items ≡ purses_after c place b.purses.items → after.buckets.items ≡ levels_after c place clock b.buckets.items

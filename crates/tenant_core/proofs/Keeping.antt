@@ -17,7 +17,7 @@ use Rattle.tenant_core.specs.Called.{is_answer}
 use Rattle.tenant_core.specs.declared.command.Order.{Order}
 use Rattle.tenant_core.specs.Judge.{decide_entry, decide_record, is_full, is_recorded, verdict_for_sender}
 use Rattle.tenant_core.specs.Journals.{Recorded, with_record}
-use Rattle.tenant_core.specs.Kept.{state_of, IsKept}
+use Rattle.tenant_core.specs.Kept.{state_of, BookInvariant}
 use Rattle.tenant_core.specs.declared.journal.Change.{Change as Changed}
 use Rattle.tenant_core.specs.Orders.{change_of, change_record, change_refusal, names_present}
 use Rattle.tenant_core.specs.Key.{Key}
@@ -77,14 +77,14 @@ state_after b c r f =
     ap (λ (o : Opening). record { opening = o; records = c.journal.records }) f.opening
     ∙ ap (λ (j : Recorded). record { opening = b.opening; records = j.records }) f.journal
 
-network_follows : (b c : Inside) (r : Record) → IsKept b → Follows b c r → c.network ≡ network_of (recorded (state_of b) (Some r))
+network_follows : (b c : Inside) (r : Record) → BookInvariant b → Follows b c r → c.network ≡ network_of (recorded (state_of b) (Some r))
 network_follows b c r k f =
     let s : State = state_of b in
     f.network
     ∙ (ap (λ (x : Net). net_after s x (later b.clock r) r.entry) k.network
     ∙ (ap (λ n. net_after s (network_of s) (later n r) r.entry) k.clock ∙ sym (network_of-recorded s r)))
 
-kept : (b c : Inside) (r : Record) → IsKept b → Follows b c r → HoldsFollow b c r → RunningFollows b c r → IsSound (recorded (state_of b) (Some r)) → IsKept c
+kept : (b c : Inside) (r : Record) → BookInvariant b → Follows b c r → HoldsFollow b c r → RunningFollows b c r → IsSound (recorded (state_of b) (Some r)) → BookInvariant c
 kept b c r k f h run sound =
     let is = state_after b c r f in
     let clock : c.clock ≡ clock_of (recorded (state_of b) (Some r)) =
@@ -115,7 +115,7 @@ kept b c r k f h run sound =
 -- ---- while a call is at work
 
 -- the purses, by the holds and the peers that are kept
-pub purses_here : (b : Inside) → IsKept b → b.purses.items ≡ map (purse_by (state_of b) b.holds.holds) b.network.peers
+pub purses_here : (b : Inside) → BookInvariant b → b.purses.items ≡ map (purse_by (state_of b) b.holds.holds) b.network.peers
 purses_here b k =
     let s : State = state_of b in
     k.purses
@@ -123,7 +123,7 @@ purses_here b k =
     ∙ ap (λ (n : Net). map (purse_by s b.holds.holds) n.peers) (sym k.network))
 
 -- what may be held, by them
-pub can_hold_here : (b : Inside) → IsKept b → (o : Option Hold)
+pub can_hold_here : (b : Inside) → BookInvariant b → (o : Option Hold)
     → CanHold (state_of b) (holds_of (state_of b)) (network_of (state_of b)).peers o → CanHold (state_of b) b.holds.holds b.network.peers o
 can_hold_here b k o can =
     subst (λ (n : Net). CanHold (state_of b) b.holds.holds n.peers o) (sym k.network)
@@ -180,12 +180,12 @@ named_stays s r i o net holds is =
       got = λ n late. sum_by_push (settled_out n) s.records r ∙ (ap (λ k. sum_by (settled_out n) s.records + k) (o n) ∙ (add-zero (sum_by (settled_out n) s.records) ∙ is.got n (subst (λ m. m ≤ n) (sym next) late)));
     }
 
-pub answered_kept : (b c : Inside) (n now clock : ℕ) (key : AnswerKey) (v : Verdict) → IsKept b → is_answer key ≡ true → now ≤ last_moment → clock ≡ max b.clock now
+pub answered_kept : (b c : Inside) (n now clock : ℕ) (key : AnswerKey) (v : Verdict) → BookInvariant b → is_answer key ≡ true → now ≤ last_moment → clock ≡ max b.clock now
     → Follows b c (answer_record n now key v)
     → Some v ≡ option_map (λ h. settle_answer h clock key) (find (is_open_under n) b.holds.holds)
     → c.holds.holds ≡ map (hold_ended n (is_fulfill key && is_relay v)) b.holds.holds
     → c.purses.items ≡ map (purse_by (state_of b) c.holds.holds) b.network.peers
-    → c.buckets.items ≡ b.buckets.items → IsKept c
+    → c.buckets.items ≡ b.buckets.items → BookInvariant c
 answered_kept b c n now clock key v k answer early at f settled ended moved same =
     let s : State = state_of b in
     let r : Record = answer_record n now key v in
@@ -229,7 +229,7 @@ begun_named s from key now (Forward hold peer price expiry) net known can all =
     All-push (λ (x : Hold). (x.from < (network_of s).next_peer) × (x.to < (network_of s).next_peer)) (holds_of s) h all
     (known, found_below peer (network_of s).peers (network_of s).next_peer can.0 net.next can.1.0)
 
-pub decided_kept : (laws : RunningLaws) (b c : Inside) (token : List ℕ) (key : Key) (now clock place : ℕ) (from : Peer) (v : Verdict) → IsKept b → now ≤ last_moment → clock ≡ max b.clock now
+pub decided_kept : (laws : RunningLaws) (b c : Inside) (token : List ℕ) (key : Key) (now clock place : ℕ) (from : Peer) (v : Verdict) → BookInvariant b → now ≤ last_moment → clock ≡ max b.clock now
     → IsNetwork (network_of (state_of b))
     → peer_with_token token (network_of (state_of b)).peers ≡ Some from → slice_get (network_of (state_of b)).peers place ≡ Some from → is_full (state_of b) ≡ false
     → is_sayable key ≡ true → v ≡ verdict_for_sender (state_of b) from key clock → is_recorded v ≡ true
@@ -237,7 +237,7 @@ pub decided_kept : (laws : RunningLaws) (b c : Inside) (token : List ℕ) (key :
     → Follows b c (decide_record from.number key now v)
     → c.holds.holds ≡ extended b.holds.holds (begun_by (decide_entry from.number key now) v)
     → c.purses.items ≡ map (purse_by (state_of b) c.holds.holds) b.network.peers
-    → c.buckets.items ≡ changed_at (charged clock) b.buckets.items place → IsKept c
+    → c.buckets.items ≡ changed_at (charged clock) b.buckets.items place → BookInvariant c
 decided_kept laws b c token key now clock place from v k early at network is stands room sayable verdict told limited can f begun moved charges =
     let s : State = state_of b in
     let r : Record = decide_record from.number key now v in
@@ -264,13 +264,13 @@ decided_kept laws b c token key now clock place from v k early at network is sta
     } in
     kept b c r k f (record { few = omega arith; holds = holds }) run sound
 
-pub ticked_kept : (b c : Inside) (now clock count : ℕ) → IsKept b → now ≤ last_moment → clock ≡ max b.clock now
+pub ticked_kept : (b c : Inside) (now clock count : ℕ) → BookInvariant b → now ≤ last_moment → clock ≡ max b.clock now
     → has_no_place (state_of b) ≡ false
     → count ≡ count_by (is_overdue clock) b.holds.holds
     → Follows b c (tick_record now count)
     → c.holds.holds ≡ map (hold_ticked clock) b.holds.holds
     → c.purses.items ≡ map (purse_by (state_of b) c.holds.holds) b.network.peers
-    → c.buckets.items ≡ b.buckets.items → IsKept c
+    → c.buckets.items ≡ b.buckets.items → BookInvariant c
 ticked_kept b c now clock count k early at room counted f marked moved same =
     let s : State = state_of b in
     let r : Record = tick_record now count in
@@ -294,9 +294,9 @@ ticked_kept b c now clock count k early at room counted f marked moved same =
     } in
     kept b c r k f (record { few = omega arith; holds = holds }) run sound
 
-pub changed_kept : (b c : Inside) (order : Order) (change : Changed) (now clock : ℕ) → IsKept b → now ≤ last_moment → clock ≡ max b.clock now
+pub changed_kept : (b c : Inside) (order : Order) (change : Changed) (now clock : ℕ) → BookInvariant b → now ≤ last_moment → clock ≡ max b.clock now
     → has_no_place (state_of b) ≡ false → change_of b.network order ≡ Some change → names_present b.network change ≡ true → change_refusal (state_of b) b.network change ≡ None
-    → IsNetwork c.network → Follows b c (change_record change now) → c.holds.holds ≡ b.holds.holds → RunningFollows b c (change_record change now) → IsKept c
+    → IsNetwork c.network → Follows b c (change_record change now) → c.holds.holds ≡ b.holds.holds → RunningFollows b c (change_record change now) → BookInvariant c
 changed_kept b c order change now clock k early at room found present allowed is f same run =
     let s : State = state_of b in
     let r : Record = change_record change now in
@@ -310,9 +310,9 @@ changed_kept b c order change now clock k early at room found present allowed is
     kept b c r k f (record { few = omega arith; holds = holds }) run sound
 
 -- a call that found nothing to do
-pub untouched_kept : (b : Inside) (holds : Table) (purses : Vec Account Global) → IsKept b → holds ≡ b.holds
+pub untouched_kept : (b : Inside) (holds : Table) (purses : Vec Account Global) → BookInvariant b → holds ≡ b.holds
     → purses.items ≡ map (purse_by (state_of b) holds.holds) b.network.peers
-    → IsKept (record { opening = b.opening; network = b.network; journal = b.journal; clock = b.clock; holds = holds; purses = purses; buckets = b.buckets })
+    → BookInvariant (record { opening = b.opening; network = b.network; journal = b.journal; clock = b.clock; holds = holds; purses = purses; buckets = b.buckets })
 untouched_kept b holds purses k same moved =
     let s : State = state_of b in
     record {

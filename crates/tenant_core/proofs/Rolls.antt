@@ -8,7 +8,7 @@ use Rattle.tenant_core.specs.declared.journal.Record.{Record}
 use Rattle.tenant_core.specs.declared.opening.Opening.{Opening}
 use Rattle.tenant_core.specs.Holds.{hold_count, open_holds, next_hold, is_open, AreNumbered}
 use Rattle.tenant_core.specs.Journals.{Recorded}
-use Rattle.tenant_core.specs.Kept.{state_of, IsKept}
+use Rattle.tenant_core.specs.Kept.{state_of, BookInvariant}
 use Rattle.tenant_core.specs.Limits.{max_period}
 use Rattle.tenant_core.specs.Network.{Net, IsNetwork}
 use Rattle.tenant_core.specs.Periods.{next_opening}
@@ -81,7 +81,7 @@ opened_sound o s clock sound few is before early network =
     }
 
 -- a book with an empty journal keeps what its type says
-pub empty_kept : (laws : RunningLaws) (c : Inside) → IsSound (opened c.opening) → IsNetwork c.opening.network → AreFresh c.opening.clock c.opening.network.peers → IsEmpty c → IsKept c
+pub empty_kept : (laws : RunningLaws) (c : Inside) → IsSound (opened c.opening) → IsNetwork c.opening.network → AreFresh c.opening.clock c.opening.network.peers → IsEmpty c → BookInvariant c
 empty_kept laws c sound network fresh e =
     let o : Opening = c.opening in
     let shown : state_of c ≡ opened o = ap (λ (rs : List Record). record { opening = o; records = rs }) e.records in
@@ -118,8 +118,8 @@ fresh_empty o clock f at is =
       buckets = is.buckets;
     }
 
-pub rolled_kept : (laws : RunningLaws) (b c : Inside) (clock : ℕ) → IsKept b → c.opening ≡ next_opening (state_of b) clock → b.opening.period < max_period → clock ≤ last_moment
-    → IsNetwork c.opening.network → IsEmpty c → IsKept c
+pub rolled_kept : (laws : RunningLaws) (b c : Inside) (clock : ℕ) → BookInvariant b → c.opening ≡ next_opening (state_of b) clock → b.opening.period < max_period → clock ≤ last_moment
+    → IsNetwork c.opening.network → IsEmpty c → BookInvariant c
 rolled_kept laws b c clock k is before early network e =
     let o : Opening = c.opening in
     let few : hold_count (state_of b) ≤ length (state_of b).records = subst (λ (hs : List Hold). length hs ≤ length b.journal.records) k.holds k.few in

@@ -11,8 +11,8 @@ use Rattle.tenant_core.specs.State.{State, clock_of}
 abbrev pub state_of : Inside → State
 state_of b = record { opening = b.opening; records = b.journal.records }
 
--- what is kept of the fields of a book
-pub record IsKept (b : Inside) : Type 0 where
+-- what holds of the fields of every book
+pub record BookInvariant (b : Inside) : Type 0 where
   -- there is room for each entry that the journal may have and for a roll's, and for each hold
   pub room : b.opening.journal + 1 ≤ b.journal.places
   pub holds_room : b.opening.journal ≤ b.holds.room

@@ -57,11 +57,11 @@ impl Model for Book {
 
     ghost coded = { Prim.hlevel (codes, routes.the_row.coded) };
 
-    ghost use Rattle.tenant_core.specs.Kept.{state_of, IsKept};
+    ghost use Rattle.tenant_core.specs.Kept.{state_of, BookInvariant};
 
     ghost view = { state_of };
 
-    ghost invariant = { IsKept };
+    ghost invariant = { BookInvariant };
 }
 
 impl Book {
@@ -280,10 +280,11 @@ impl Book {
     /// - the amount is within the sender's cap (F08);
     /// - the best route leads on, to another peer than the sender (F02);
     /// - the pair has a rate (F02);
-    /// - the price is within the next peer's cap (F08);
+    /// - the price is not below the fee of the route (R01);
+    /// - the price less that fee, the outgoing amount, is within the next peer's cap (F08);
     /// - the outgoing expiry is after the clock (R02);
     /// - the sender's balance, what is held from it and the amount are within its ceiling (T04);
-    /// - the receiver's balance less what is held for it and the price is within its credit (T04);
+    /// - the receiver's balance less what is held for it and the outgoing amount is within its credit (T04);
     /// - fewer than 1,024 packets await their answers (T03).
     ///
     /// After `Unknown` and `NoRoom` nothing has changed, the clock included. The clock is the greatest moment so far.

@@ -19,7 +19,15 @@ pub enum BookFault {
     Full,
 }
 
-/// Why a command is refused, in the order in which they are looked for. Nothing has changed then.
+/// Why a command is refused. Nothing has changed then.
+///
+/// `Full` is looked for first, by every command but `balances` and `roll`; `Memory` last. Between them each command has an
+/// order of its own:
+///
+/// - a peer added: `Present`, `Limit`; a peer removed: `Absent`, `InUse`; a peer's limits or bucket: `Absent`;
+/// - a route added: `Absent` (its peer), `Present` (its prefix), `Limit`; a route removed: `Absent`;
+/// - a rate set: `Absent`, `Limit`; a settlement: `Absent`, `Limit`;
+/// - a roll: `InUse`, `Limit`.
 #[derive(Clone, Copy, Debug, PartialEq, Eq, Error)]
 pub enum CommandFault {
     /// The journal has room for the answers that are still to come and for nothing else.

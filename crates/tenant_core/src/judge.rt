@@ -271,7 +271,7 @@ fn config_verdict(child: &Child<'_>, key: &PrepareKey<'_>) -> Verdict
     }
 }
 
-// The refusal of an amount, with the greatest that would go on.
+// The refusal of an amount, with the greatest that the caps allow.
 fn refuse_over(amount: u64, greatest: u64) -> Verdict
     ensures { result ≡ refuse_over amount greatest }
 {

@@ -42,7 +42,8 @@ pub enum Verdict {
     Unknown,
     /// The journal has no room for the packet and its answer. Nothing was recorded.
     NoRoom,
-    /// The packet is refused. For `AmountTooLarge` with the amount that came and the greatest that would go on.
+    /// The packet is refused. For `AmountTooLarge` with the amount that came and the greatest that the caps allow, even
+    /// where another check would refuse that amount.
     Refuse {
         code: RejectCode,
         amounts: Option<(u64, u64)>,

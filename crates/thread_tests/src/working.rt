@@ -233,7 +233,7 @@ fn counts_of(totals: &Totals) -> Tally
 {
     Tally {
         answered: totals.get(0, Kind::Answered),
-        refused: totals.get(0, Kind::Refused),
+        refused: totals.get(0, Kind::ClientError),
         unavailable: totals.get(0, Kind::Unavailable),
         faults: totals.get(0, Kind::LinkFault),
     }

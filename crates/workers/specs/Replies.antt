@@ -20,8 +20,8 @@ code_of status.Unavailable = 503
 -- what an answer with that status is counted as
 abbrev pub kind_of : Status → Kind
 kind_of status.Answered = kind.Answered
-kind_of status.Malformed = kind.Refused
-kind_of status.Unauthorized = kind.Refused
+kind_of status.Malformed = kind.ClientError
+kind_of status.Unauthorized = kind.ClientError
 kind_of status.Unavailable = kind.Unavailable
 
 -- the status of the answer to a packet

@@ -3,7 +3,7 @@
 ghost use Rattle.std.specs.Prelude.{◌≡◌, ◌≤◌, vec_len, IfOk, IfSome};
 ghost use Rattle.allotment.specs.Loans.{max_places, max_tenants};
 
-use allotment::{Lending, Turn};
+use allotment::{Admission, Lending};
 use std::alloc::{AllocError, Global};
 use std::sync::{Condvar, CondvarTimeouts, Mutex, MutexGuard, Wait};
 use std::time::{Clock, Duration, Instant};
@@ -75,9 +75,9 @@ impl Places {
             return None;
         }
         match lending.ask(tenant) {
-            Turn::Taken => return Some(Place { tenant }),
-            Turn::Full => return None,
-            Turn::Waits => {}
+            Admission::Taken => return Some(Place { tenant }),
+            Admission::Full => return None,
+            Admission::Waits => {}
         }
         for _ in rt.forever() {
             let left = left_until(rt, until);

@@ -38,7 +38,7 @@ impl Status {
     {
         match self {
             Status::Answered => Kind::Answered,
-            Status::Malformed | Status::Unauthorized => Kind::Refused,
+            Status::Malformed | Status::Unauthorized => Kind::ClientError,
             Status::Unavailable => Kind::Unavailable,
         }
     }

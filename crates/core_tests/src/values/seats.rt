@@ -14,7 +14,7 @@ fn refuse(meters: &Meters, seat: &mut MeterSeat) -> Result<(), Spent>
     ensures same { seat.new.meters ≡ seat.old.meters }
     ensures first { seat.new.first ≡ seat.old.first }
 {
-    meters.count(seat, 1, Kind::Refused)
+    meters.count(seat, 1, Kind::ClientError)
 }
 
 fn count_in_two_seats(
@@ -35,7 +35,7 @@ fn count_in_two_seats(
     refuse(meters, two)?;
     refuse(meters, two)?;
     meters.count(two, 0, Kind::LinkFault)?;
-    assert!(rt; meters.read(one, 1, Kind::Refused) == 3);
+    assert!(rt; meters.read(one, 1, Kind::ClientError) == 3);
     assert!(rt; meters.read(one, 0, Kind::LinkFault) == 1);
     Ok(())
 }
@@ -56,7 +56,7 @@ fn count_together(rt: &impl Abort, meters: &Meters, first: &mut MeterSeat) -> Re
 fn expect_totals(rt: &impl Abort, totals: &Totals)
     requires { totals.now.tenants ≡ 2 }
 {
-    assert!(rt; totals.get(1, Kind::Refused) == 4 && totals.get(0, Kind::LinkFault) == 1);
+    assert!(rt; totals.get(1, Kind::ClientError) == 4 && totals.get(0, Kind::LinkFault) == 1);
     for kind in [Kind::Answered, Kind::Unavailable] {
         assert!(rt; totals.get(0, kind) == 0 && totals.get(1, kind) == 0);
     }

@@ -330,7 +330,7 @@ fn put_line(
 {
     text.extend_from_slice(name)?;
     put_count(alloc, text, b" 200 ", totals.get(tenant, Kind::Answered))?;
-    put_count(alloc, text, b" 4xx ", totals.get(tenant, Kind::Refused))?;
+    put_count(alloc, text, b" 4xx ", totals.get(tenant, Kind::ClientError))?;
     put_count(alloc, text, b" 503 ", totals.get(tenant, Kind::Unavailable))?;
     put_count(alloc, text, b" link ", totals.get(tenant, Kind::LinkFault))?;
     text.push(b'\n')?;

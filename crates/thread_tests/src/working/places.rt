@@ -1,6 +1,6 @@
 //! Places that two tenants share: one of them holds all that it can get.
 
-use allotment::{Lending, Turn};
+use allotment::{Admission, Lending};
 use std::sync::Wait;
 use std::sync::atomic::{AtomicU64, Ordering};
 use std::test::Fail;
@@ -15,9 +15,9 @@ const HOLDERS: u64 = 8;
 // How often tenant 1 takes two places at once.
 const PAIRS: u32 = 100;
 
-fn asked(lending: &mut Lending, tenant: usize) -> Turn {
+fn asked(lending: &mut Lending, tenant: usize) -> Admission {
     if tenant >= lending.tenants() {
-        return Turn::Full;
+        return Admission::Full;
     }
     lending.ask(tenant)
 }
@@ -35,7 +35,7 @@ fn picked_up(lending: &mut Lending, tenant: usize) -> bool {
 }
 
 // Whether each of these tenants, one after another, gets that where it asks for a place.
-fn are_asked(lending: &mut Lending, asks: &[(usize, Turn)]) -> bool {
+fn are_asked(lending: &mut Lending, asks: &[(usize, Admission)]) -> bool {
     for (tenant, turn) in asks {
         if asked(lending, *tenant) != *turn {
             return false;
@@ -45,18 +45,18 @@ fn are_asked(lending: &mut Lending, asks: &[(usize, Turn)]) -> bool {
 }
 
 // Of eight places for two tenants two are each one's own, and four anyone's.
-static EIGHT_FOR_TWO: [(usize, Turn); 11] = [
-    (0, Turn::Taken),
-    (0, Turn::Taken),
-    (0, Turn::Taken),
-    (0, Turn::Taken),
-    (0, Turn::Taken),
-    (0, Turn::Taken),
-    (0, Turn::Waits),
-    (0, Turn::Full),
-    (1, Turn::Taken),
-    (1, Turn::Taken),
-    (1, Turn::Waits),
+static EIGHT_FOR_TWO: [(usize, Admission); 11] = [
+    (0, Admission::Taken),
+    (0, Admission::Taken),
+    (0, Admission::Taken),
+    (0, Admission::Taken),
+    (0, Admission::Taken),
+    (0, Admission::Taken),
+    (0, Admission::Waits),
+    (0, Admission::Full),
+    (1, Admission::Taken),
+    (1, Admission::Taken),
+    (1, Admission::Waits),
 ];
 
 #[test]
@@ -74,7 +74,7 @@ fn comes_back(lending: &mut Lending) -> bool {
         && !picked_up(lending, 1)
         && given_back(lending, 0) == Some(0)
         && given_back(lending, 0) == None
-        && asked(lending, 1) == Turn::Taken
+        && asked(lending, 1) == Admission::Taken
 }
 
 #[test]
@@ -88,13 +88,13 @@ fn who_gets_what_came_back(rt: HostRuntime) -> Result<(), Fail> {
 }
 
 // With fewer places than tenants none is sure of one; where there is one for each, each has its own.
-static TWO_FOR_THREE: [(usize, Turn); 3] = [(2, Turn::Taken), (2, Turn::Taken), (1, Turn::Full)];
+static TWO_FOR_THREE: [(usize, Admission); 3] = [(2, Admission::Taken), (2, Admission::Taken), (1, Admission::Full)];
 
-static THREE_FOR_THREE: [(usize, Turn); 4] = [
-    (2, Turn::Taken),
-    (2, Turn::Full),
-    (0, Turn::Taken),
-    (1, Turn::Taken),
+static THREE_FOR_THREE: [(usize, Admission); 4] = [
+    (2, Admission::Taken),
+    (2, Admission::Full),
+    (0, Admission::Taken),
+    (1, Admission::Taken),
 ];
 
 #[test]

@@ -1,6 +1,6 @@
 use Rattle.std.proofs.Common.{ℕ, List, Option, Bor, sym, subst, map, length, arith}
 use Rattle.joint_order.specs.Orders.{AreHeld}
-use Rattle.joint_order.specs.declared.point.Point.{Point}
+use Rattle.joint_order.specs.declared.point.ListPoint.{ListPoint}
 use Rattle.receipts.specs.Audits.{points_of}
 use Rattle.receipts.specs.declared.receipt.Receipt.{Receipt}
 use Rattle.receipts.proofs.Naming.{are_matched, is_lacking, points_held}
@@ -27,7 +27,7 @@ pub returns-clause-held : goal.returns-clause-held
 returns-clause-held c =
     let lists : List (List Receipt) = map (λ list. list.now) c.args.lists.now in
     let many = shown_length (λ (l : Bor (List Receipt)). l.now) c.args.lists.now in
-    let P : List (List Point) → Type 0 = λ points. AreHeld points c.in_ok-holders.holders.items in
+    let P : List (List ListPoint) → Type 0 = λ points. AreHeld points c.in_ok-holders.holders.items in
     let Q : List (List (Option ℕ)) → Type 0 = λ holders. AreHeld (points_of c.args.periods.now lists) holders in
     subst P (sym c.in_ok-points.ensures.points) (subst Q (sym c.in_ok-holders.ensures)
     (points_held c.args.periods.now lists c.note_lists.new.holders (length c.args.lists.now) (omega arith) c.in_ok-points.ensures.noted))

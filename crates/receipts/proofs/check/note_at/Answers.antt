@@ -1,6 +1,6 @@
 use Rattle.std.proofs.Common.{List, Some, sym, ◌∙◌, ap, map}
 use Rattle.joint_order.specs.Orders.{list_at, point}
-use Rattle.joint_order.specs.declared.point.Point.{Point}
+use Rattle.joint_order.specs.declared.point.ListPoint.{ListPoint}
 use Rattle.receipts.specs.Audits.{place_of}
 use Rattle.receipts.specs.declared.receipt.Receipt.{Receipt}
 use Rattle.receipts.proofs.Naming.{noted_next, point_at, refused_is_fault}
@@ -16,7 +16,7 @@ pub returns-in-Ok-clause-is : goal.returns-in-Ok-clause-is
 returns-in-Ok-clause-is c =
     let lists : List (List Receipt) = map (λ list. list.now) c.args.lists.now in
     point_at (λ r. point r.tenant (place_of c.args.periods.now r)) (list_at lists c.args.i) c.args.n c.args.receipt.now c.requires.there
-    ∙ ap (λ (p : Point). Some p) (sym c.in-Ok.ensures.noted.is)
+    ∙ ap (λ (p : ListPoint). Some p) (sym c.in-Ok.ensures.noted.is)
 
 pub returns-in-Err-clause-fault : goal.returns-in-Err-clause-fault
 returns-in-Err-clause-fault c =

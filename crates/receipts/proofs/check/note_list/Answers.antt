@@ -1,7 +1,7 @@
 use Rattle.std.proofs.Common.{◌≡◌, List, [], ◌∷◌, ◌++◌, Option, Some, refl, sym, ◌∙◌, ap, map, take, length, slice_get, unwrap_or, arith}
 use Rattle.std.proofs.lemmas.Option.{slice_get_read}
 use Rattle.joint_order.specs.Orders.{list_at, point}
-use Rattle.joint_order.specs.declared.point.Point.{Point}
+use Rattle.joint_order.specs.declared.point.ListPoint.{ListPoint}
 use Rattle.receipts.specs.Audits.{place_of}
 use Rattle.receipts.specs.Layout.{points_in}
 use Rattle.receipts.specs.declared.receipt.Receipt.{Receipt}
@@ -20,12 +20,12 @@ loop-n-preserved c =
     let periods = c.args.periods.now in
     let below = c.loop-n-test.true in
     let at = slice_get_read c.args.list.now (length c.args.list.now) c.loop-n.n c.index-list-n.result refl (omega arith) c.index-list-n.is in
-    let f : Receipt → Point = λ r. point r.tenant (place_of periods r) in
-    let one : ◌≡◌ {A = Option Point} (Some (f c.index-list-n.result)) (Some c.in_ok-point.point)
+    let f : Receipt → ListPoint = λ r. point r.tenant (place_of periods r) in
+    let one : ◌≡◌ {A = Option ListPoint} (Some (f c.index-list-n.result)) (Some c.in_ok-point.point)
     = sym (point_at f c.args.list.now c.loop-n.n c.index-list-n.result at)
     ∙ ap (λ (l : List Receipt). slice_get (points_in periods l) c.loop-n.n) c.requires.list
     ∙ c.in_ok-point.ensures.is in
-    let same : f c.index-list-n.result ≡ c.in_ok-point.point = ap (λ (o : Option Point). unwrap_or o c.in_ok-point.point) one in
+    let same : f c.index-list-n.result ≡ c.in_ok-point.point = ap (λ (o : Option ListPoint). unwrap_or o c.in_ok-point.point) one in
     let many = c.loop-n.invariant.3 in
     let room = c.loop-n.invariant.4 in
     let len = c.push_reserved.ensures.len in
@@ -33,8 +33,8 @@ loop-n-preserved c =
       c.in_ok-point.ensures.noted,
       c.in_ok-point.ensures.rows,
       c.push_reserved.ensures.items
-          ∙ ap (λ (l : List Point). l ++ c.in_ok-point.point ∷ []) c.loop-n.invariant.2
-          ∙ ap (λ (p : Point). take c.loop-n.n (points_in periods c.args.list.now) ++ p ∷ []) (sym same)
+          ∙ ap (λ (l : List ListPoint). l ++ c.in_ok-point.point ∷ []) c.loop-n.invariant.2
+          ∙ ap (λ (p : ListPoint). take c.loop-n.n (points_in periods c.args.list.now) ++ p ∷ []) (sym same)
           ∙ sym (point_more f c.args.list.now c.loop-n.n c.index-list-n.result at),
       omega arith,
       omega arith,

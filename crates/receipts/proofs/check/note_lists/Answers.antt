@@ -1,6 +1,6 @@
 use Rattle.std.proofs.Common.{◌≡◌, List, [], ◌∷◌, ◌++◌, Some, refl, sym, ◌∙◌, ap, map, take, length, slice_get, arith, Bor}
 use Rattle.std.proofs.lemmas.Option.{slice_get_read}
-use Rattle.joint_order.specs.declared.point.Point.{Point}
+use Rattle.joint_order.specs.declared.point.ListPoint.{ListPoint}
 use Rattle.receipts.specs.Audits.{points_of}
 use Rattle.receipts.specs.Layout.{points_in}
 use Rattle.receipts.specs.declared.receipt.Receipt.{Receipt}
@@ -22,8 +22,8 @@ loop-i-preserved c =
       c.in_ok-noted.ensures.noted,
       c.in_ok-noted.ensures.rows,
       c.push_reserved.ensures.items
-          ∙ ap (λ (l : List (List Point)). l ++ c.from_vec.result ∷ []) c.loop-i.invariant.2
-          ∙ ap (λ (p : List Point). take c.loop-i.i (points_of periods lists) ++ p ∷ []) (c.from_vec.ensures ∙ c.in_ok-noted.ensures.points)
+          ∙ ap (λ (l : List (List ListPoint)). l ++ c.from_vec.result ∷ []) c.loop-i.invariant.2
+          ∙ ap (λ (p : List ListPoint). take c.loop-i.i (points_of periods lists) ++ p ∷ []) (c.from_vec.ensures ∙ c.in_ok-noted.ensures.points)
           ∙ sym (point_more (points_in periods) lists c.loop-i.i list there),
       omega arith,
       omega arith,

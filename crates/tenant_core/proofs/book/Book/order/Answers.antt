@@ -15,7 +15,7 @@ use Rattle.rate_bucket.specs.Running.{Level}
 use Rattle.tenant_core.specs.Answer.{has_no_place}
 use Rattle.tenant_core.specs.Checks.{◌otherwise◌}
 use Rattle.tenant_core.specs.Following.{CanFollow, levels_after, purses_after}
-use Rattle.tenant_core.specs.Kept.{state_of, IsKept}
+use Rattle.tenant_core.specs.Kept.{state_of, BookInvariant}
 use Rattle.tenant_core.specs.Network.{Net}
 use Rattle.tenant_core.specs.Orders.{change_of, change_record, change_refusal, order_refusal, names_present}
 use Rattle.tenant_core.specs.Present.{changed, level_left, network_of}
@@ -26,7 +26,7 @@ use Rattle.tenant_core.proofs.Keeping.{changed_kept}
 use Rattle.tenant_core.proofs.book.Book.order.Goals as goal
 
 -- a change is allowed that nothing shown refuses
-allowed_by : (b : Inside) (order : Order) (change : Changed) (shown : State) (net : Net) → IsKept b → shown ≡ state_of b → net ≡ network_of shown
+allowed_by : (b : Inside) (order : Order) (change : Changed) (shown : State) (net : Net) → BookInvariant b → shown ≡ state_of b → net ≡ network_of shown
     → None ≡ order_refusal shown net order → change_of b.network order ≡ Some change → change_refusal (state_of b) b.network change ≡ None
 allowed_by b order change shown net k same there refused found =
     let s : State = state_of b in
