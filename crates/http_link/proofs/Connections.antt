@@ -1,43 +1,26 @@
 -- From a head that was found in what has come to what serving the next request of a connection does.
-use Rattle.std.proofs.Common.{◌≡◌, inl, inr, ℕ, ◌≤◌, List, [], ◌++◌, length, take, drop, refl, sym, ap, subst, ◌∙◌, arith, append_assoc, take-append-drop, take-take, Option, Result, Ok, Err, IfOk, Bool, false, ◌∷◌}
+use Rattle.std.proofs.Common.{◌≡◌, inl, inr, ℕ, List, [], ◌++◌, length, take, drop, refl, sym, ap, subst, ◌∙◌, append_assoc, append-nil, Option, Result, Ok, Err, IfOk, Bool, false, ◌∷◌}
 use Rattle.std.proofs.KnownBytes.{Consumes-trans}
 use Rattle.httparse.specs.declared.spans.HeaderSpan.{HeaderSpan}
 use Rattle.httparse.specs.declared.spans.RequestSpans.{RequestSpans}
 use Rattle.httparse.specs.Grammar.{RequestHead, print_request}
 use Rattle.httparse.proofs.GrammarLemmas.{ReadsRequest-append}
-use Rattle.http_link.specs.Limits.{max_head, max_lines}
+use Rattle.http_link.specs.Limits.{max_lines}
 use Rattle.http_link.specs.Answers.{refusal_text}
 use Rattle.http_link.specs.Connections.{AreAskedBy, AsksIt, AsksNext, IsAskedBy, ServesNext}
 use Rattle.http_link.specs.Heads.{BeginsWith, Head, head_of}
 use Rattle.http_link.specs.Lines.{head_in}
-use Rattle.http_link.specs.Grammars.{IsRequest, requests}
+use Rattle.http_link.specs.Grammars.{requests}
 use Rattle.http_link.specs.Reading.{HeadIsFound}
 use Rattle.http_link.specs.Requests.{Wanted, closes, wanted_of}
 use Rattle.http_link.specs.Running.{AsksWanted, Runs}
 use Rattle.http_link.specs.Serving.{Asked, IsAskedOnly, IsServed, Traces, asking}
-use Rattle.http_link.specs.declared.grammar.Offered.TheVariants.{Malformed, Whole}
+use Rattle.http_link.specs.declared.grammar.Offered.TheVariants.{Malformed, Partial, Whole}
 use Rattle.http_link.specs.declared.serve.Served.{Served}
 use Rattle.http_link.specs.declared.serve.Served.TheVariants.{Closed, Ended}
 use Rattle.http_link.specs.declared.streams.LinkFault.{LinkFault}
 use Rattle.http_link.proofs.Growing.{whole_more}
-use Rattle.http_link.specs.GrammarLaws.{request_printed}
-use Rattle.http_link.proofs.Serving.{begun_is, head_said}
-
--- a head that stands at the front of bytes begins them, with whatever follows
-begins_here : (has more : List ℕ) (lines : List HeaderSpan) (spans : RequestSpans) → spans.len ≤ length has → spans.len ≤ max_head → length lines ≡ max_lines
-    → (is : IsRequest (take spans.len has) lines spans) → BeginsWith (has ++ more) is.head (drop spans.len has ++ more)
-begins_here has more lines spans bound small room is =
-    let at = is.at in
-    let few = is.few in
-    let printed = at.len in
-    let front : take spans.len has ≡ print_request is.head = sym (take-take spans.len spans.len has (omega arith)) ∙ request_printed (take spans.len has) lines spans is in
-    let parts : has ++ more ≡ take spans.len has ++ (drop spans.len has ++ more) =
-    ap (λ (w : List ℕ). w ++ more) (sym (take-append-drop spans.len has)) ∙ append_assoc (take spans.len has) (drop spans.len has) more in
-    record {
-      reads = (at.reads.0, parts ∙ ap (λ (w : List ℕ). w ++ (drop spans.len has ++ more)) front);
-      short = omega arith;
-      few = omega arith;
-    }
+use Rattle.http_link.proofs.Serving.{begins_here, begun_is, head_said}
 
 -- what had come and came in two parts
 in_all : (had has one other : List ℕ) → has ≡ had ++ one → has ++ other ≡ had ++ (one ++ other)
@@ -88,10 +71,26 @@ none_found (Ok served) tenant_of had old mid has lines traces room found unasked
     }
   where
     none : (head : RequestHead) (rest : List ℕ) → BeginsWith (had ++ found.came) head rest → ⊥
-    none head rest begins = found.stands (print_request head) rest (begun_is (had ++ found.came) head rest (length lines) room begins) (found.grew ∙ begins.reads.1) begins.short
+    none head rest begins =
+        found.stands [] (print_request head) rest (begun_is (had ++ found.came) head rest (length lines) room begins) (append-nil has ∙ found.grew ∙ begins.reads.1) begins.short
 
     not_ended : Closed ≡ Ended → ⊥
     not_ended e = absurd cc
+
+-- where the stream has ended and none was found, nothing is asked or written
+pub partial_found : (tenant_of : List ℕ → Option ℕ) (had : List ℕ) (old mid : Option (List ℕ)) (has : List ℕ) (lines : List HeaderSpan) (traces : Traces)
+    → length lines ≡ max_lines → HeadIsFound requests had old mid has lines Partial → traces.Unasked → traces.Writes [] → ServesNext tenant_of had old mid traces Ended
+partial_found tenant_of had old mid has lines traces room found unasked written = record {
+  came = found.came;
+  taken = found.taken;
+  so = inr (record {
+    none = λ head rest begins.
+        found.stands.0 (print_request head) rest (begun_is (had ++ found.came) head rest (length lines) room begins) (found.grew ∙ begins.reads.1) begins.short;
+    unasked = unasked;
+    written = inl (refl, written);
+  });
+  ended = λ e. found.stands.1;
+}
 
 -- and what is asked for it is what the next request asks
 pub found_asks : (tenant_of : List ℕ → Option ℕ) (had : List ℕ) (old mid new : Option (List ℕ)) (has text : List ℕ) (lines : List HeaderSpan) (spans : RequestSpans)

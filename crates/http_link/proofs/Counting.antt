@@ -24,3 +24,15 @@ pub spent_in_two : {D : Type 0} {Other : Type 0} (Made : D → ℕ → Type 0) (
 spent_in_two Made old mid new turns left first (inl second) =
     inl (spent_all Made old new turns 0 (λ all least. second all (first all least)) refl)
 spent_in_two Made old mid new turns left first (inr other) = inr other
+
+-- all turns were spent, unless something else is so
+pub spent_whole : {D : Type 0} {Other : Type 0} (Made : D → ℕ → Type 0) (old new : D) (turns : ℕ)
+    → Spends Made old new turns 0 ⊎ Other → MadeMore Made old new turns ⊎ Other
+spent_whole Made old new turns (inl spends) = inl (spent_all Made old new turns 0 spends refl)
+spent_whole Made old new turns (inr other) = inr other
+
+-- turns were spent on one part, and all that were left on another, unless something else is so
+pub spends_then : {D : Type 0} {Other : Type 0} (Made : D → ℕ → Type 0) (old mid new : D) (turns left : ℕ)
+    → Spends Made old mid turns left → Spends Made mid new left 0 ⊎ Other → Spends Made old new turns 0 ⊎ Other
+spends_then Made old mid new turns left first (inl second) = inl (λ all least. second all (first all least))
+spends_then Made old mid new turns left first (inr other) = inr other

@@ -9,9 +9,8 @@ use Rattle.std.specs.List.{ends_with}
 use Rattle.std.specs.Io.KnownBytes.{Consumes}
 use Rattle.httparse.specs.declared.spans.HeaderSpan.{HeaderSpan}
 use Rattle.http_link.specs.Limits.{max_head}
-use Rattle.http_link.proofs.Known.{Consumes-more}
 use Rattle.http_link.specs.Grammars.{Grammar, IsGrammar, ends_empty_line}
-use Rattle.http_link.specs.Reading.{IsTaken, GoesOn, BeginsNone, BeginsNot, HasNoHead, StandsIn}
+use Rattle.http_link.specs.Reading.{BeginsNever, BeginsNone, BeginsNot, GoesOn, StandsIn}
 use Rattle.http_link.specs.declared.grammar.Offered.TheVariants.{Whole}
 
 -- of two fronts of one list the longer one goes on
@@ -108,13 +107,6 @@ module _ {S : Type 0} (grammar : Grammar S) where
   nothing_goes_on laws room [] more rest is parts = absurd (not_both false (laws.ended [] room is) refl)
   nothing_goes_on laws room (b ∷ head) more rest is parts = omega arith
 
-  -- where the bytes begin with no head of so many lines, there is no head
-  pub no_head_begins : (old new : Option (List ℕ)) (text : List ℕ) (size room lines : ℕ) → room ≡ lines → Consumes old new text → BeginsNone grammar text room
-      → HasNoHead grammar old size lines
-  no_head_begins old new text size room lines wide c none stream head rest e is parts short =
-      let begins = begins_with_taken old new text stream c e in
-      none head begins.0 rest (subst (λ n. grammar.IsHead head n) (sym wide) is) (sym begins.2 ∙ parts)
-
   -- a head that ends with the text, and not before
   whole_at : IsGrammar grammar → (front text : List ℕ) (b room : ℕ) (lines : List HeaderSpan) (spans : S) → text ≡ front ++ b ∷ [] → room ≡ length lines → GoesOn grammar front room
       → grammar.Covers text lines spans → grammar.len spans ≡ length text
@@ -134,20 +126,6 @@ module _ {S : Type 0} (grammar : Grammar S) where
       let len = whole_at laws (take k text) (take (k + 1) text) (slice_index text k) room lines spans grows wide on covers in
       omega (arith, length-take (k + 1) text)
 
-  -- where a byte more makes a head whole, it is taken
-  pub whole_taken : IsGrammar grammar → (old between new : Option (List ℕ)) (buffer front : List ℕ) (b n room : ℕ) (lines : List HeaderSpan) (spans : S)
-      → take (n + 1) buffer ≡ front ++ b ∷ [] → n < length buffer → room ≡ length lines → Consumes old between front → Consumes between new (b ∷ []) → GoesOn grammar front room
-      → grammar.Covers (take (n + 1) buffer) lines spans → IsTaken grammar old new buffer lines spans
-  whole_taken laws old between new buffer front b n room lines spans grows short wide begun byte on covers =
-      let text : List ℕ = take (n + 1) buffer in
-      let len = whole_at laws front text b room lines spans grows wide on covers in
-      let same : n + 1 ≡ grammar.len spans = omega (arith, length-take (n + 1) buffer) in
-      record {
-        bound = omega arith;
-        is = subst (λ (k : ℕ). grammar.Covers (take k buffer) lines spans) same covers;
-        taken = subst (λ (k : ℕ). Consumes old new (take k buffer)) same (Consumes-more old between new front (b ∷ []) text grows begun byte);
-      }
-
   -- ---- heads in what has come
 
   -- a head that was seen in a front stands at the front of all
@@ -162,19 +140,25 @@ module _ {S : Type 0} (grammar : Grammar S) where
         subst (λ (text : List ℕ). grammar.Covers text lines spans) same covers,
       )
 
-  -- where no head begins what was looked at, whatever follows, none begins all
+  -- where no head begins what was looked at, whatever follows, none begins all and what follows
   pub none_begins_all : (room : List ℕ) (had end seen lines other : ℕ) → lines ≡ other → end ≤ had → seen ≤ length (take end room)
-      → BeginsNone grammar (take seen (take end room)) lines → BeginsNot grammar (take had room) other
-  none_begins_all room had end seen lines other same le inside none head rest is parts short =
-      none head (drop seen (take had room)) rest (subst (λ n. grammar.IsHead head n) (sym same) is) (sym (looked_at room had end seen le inside) ∙ parts)
+      → BeginsNone grammar (take seen (take end room)) lines → BeginsNever grammar (take had room) other
+  none_begins_all room had end seen lines other same le inside none more head rest is parts short =
+      let front = looked_at room had end seen le inside in
+      none head (drop seen (take had room) ++ more) rest (subst (λ n. grammar.IsHead head n) (sym same) is)
+      (sym (append_assoc (take seen (take end room)) (drop seen (take had room)) more) ∙ ap (λ (w : List ℕ). w ++ more) (sym front) ∙ parts)
 
-  -- where a front goes on that is all there is, or as long as a head may be, no head begins all
-  pub going_on_begins_not : (bytes front back : List ℕ) (lines other : ℕ) → lines ≡ other → bytes ≡ front ++ back → GoesOn grammar front lines
-      → (length bytes ≤ length front) ⊎ (max_head ≤ length front) → BeginsNot grammar bytes other
-  going_on_begins_not bytes front back lines other same parts on (inl all) head rest is reads short =
+  -- where a front goes on that is as long as a head may be, no head begins all and what follows
+  pub too_long : (bytes front back : List ℕ) (lines other : ℕ) → lines ≡ other → bytes ≡ front ++ back → GoesOn grammar front lines → max_head ≤ length front
+      → BeginsNever grammar bytes other
+  too_long bytes front back lines other same parts on most more head rest is reads short =
+      let lt = on head (back ++ more) rest (subst (λ n. grammar.IsHead head n) (sym same) is) (sym (append_assoc front back more) ∙ ap (λ (w : List ℕ). w ++ more) (sym parts) ∙ reads) in
+      absurd (omega arith)
+
+  -- where a front goes on that is all there is, no head begins it
+  pub all_goes_on : (bytes front back : List ℕ) (lines other : ℕ) → lines ≡ other → bytes ≡ front ++ back → GoesOn grammar front lines → length bytes ≤ length front
+      → BeginsNot grammar bytes other
+  all_goes_on bytes front back lines other same parts on all head rest is reads short =
       let lt = on head back rest (subst (λ n. grammar.IsHead head n) (sym same) is) (sym parts ∙ reads) in
       let long = ap length reads in
       absurd (omega (arith, length-append head rest))
-  going_on_begins_not bytes front back lines other same parts on (inr most) head rest is reads short =
-      let lt = on head back rest (subst (λ n. grammar.IsHead head n) (sym same) is) (sym parts ∙ reads) in
-      absurd (omega arith)

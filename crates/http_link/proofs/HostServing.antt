@@ -9,7 +9,7 @@ use Rattle.http_link.specs.declared.serve.Served.{Served}
 use Rattle.http_link.specs.declared.serve.Served.TheVariants.{Closed}
 use Rattle.http_link.specs.declared.streams.LinkFault.{LinkFault}
 
--- what is done with the head that was taken is what serving the stream does
+-- what is done with the head that was found is what serving the stream does
 pub host_served : (result : Result Served LinkFault) (said : Head) (new : Option (List ℕ)) (traces : HostTraces) (head : RequestHead) (rest : List ℕ)
     → (said ≡ head_of head) × (new ≡ Some rest) → IfOk result (λ served. (served ≡ Closed) × AnswersHost (host_wanted_of said) traces)
     → IfOk result (IsHostServed (host_wanted_of (head_of head)) rest new traces)
@@ -17,7 +17,7 @@ host_served (Ok served) said new traces head rest is so =
     record { taken = is.1; answered = subst (λ (h : Head). AnswersHost (host_wanted_of h) traces) is.0 so.1; closed = so.0 }
 host_served (Err fault) said new traces head rest is so = tt
 
--- what is asked for the head that was taken is what the stream's head wants
+-- what is asked for the head that was found is what the stream's head wants
 pub host_asked : (said : Head) (new : Option (List ℕ)) (Unasked : Type 0) (Asks : HostAsked → Type 0) (head : RequestHead) (rest : List ℕ)
     → (said ≡ head_of head) × (new ≡ Some rest) → IsHostAskedOnly (host_wanted_of said) Unasked Asks → IsHostAskedOnly (host_wanted_of (head_of head)) Unasked Asks
 host_asked said new Unasked Asks head rest is asks = subst (λ (h : Head). IsHostAskedOnly (host_wanted_of h) Unasked Asks) is.0 asks

@@ -6,8 +6,6 @@ use Rattle.std.proofs.lemmas.List.{drop-take}
 use Rattle.std.proofs.lemmas.List.Edits.{take-paste}
 use Rattle.http_link.specs.declared.held.Held.{Held}
 use Rattle.http_link.specs.Running.{held_in}
-use Rattle.std.proofs.KnownBytes.{Consumes-trans}
-use Rattle.std.specs.Io.KnownBytes.{Consumes}
 use Rattle.http_link.specs.Connections.{Awaits}
 use Rattle.http_link.specs.Streams.{FillsOn, ReadsBehind}
 use Rattle.http_link.specs.Bodies.{IsSized}
@@ -19,12 +17,6 @@ use Rattle.http_link.proofs.Heads.{nothing_left}
 -- what is held from the front on
 pub held_front : (room : List ℕ) (h : Held) → h.from ≡ 0 → held_in room h ≡ take h.to room
 held_front room h zero = ap (λ n. drop n (take h.to room)) zero
-
--- all that stands in a room, once it was filled on
-pub filled_all : (old new : Option (List ℕ)) (room : List ℕ) (h : Held) (wanted n : ℕ) (buffer : List ℕ) → h.from ≡ 0
-    → (fills : FillsOn old new (take h.to room) wanted buffer n) → held_in room h ++ fills.came ≡ take n buffer
-filled_all old new room h wanted n buffer zero fills =
-    ap (λ (had : List ℕ). had ++ fills.came) (held_front room h zero) ∙ sym fills.grew
 
 -- nothing of a front is left behind all of it
 pub all_used : (room : List ℕ) (n : ℕ) → n ≤ length room → drop n (take n room) ≡ []
@@ -51,28 +43,32 @@ held_behind text rest len from to long =
     ∙ ap (drop (length text + from)) (take-append-add text rest to) ∙ drop-append-add text (take to rest) from
 
 -- what came where nothing was held
-pub first_came : (old between new : Option (List ℕ)) (before room after : List ℕ) (h now : Held) (limit n : ℕ) → h.to ≤ h.from → now.from ≡ 0 → now.to ≡ n
-    → limit ≤ length after → Consumes old between [] → ReadsBehind between new 0 limit room after (Some n) → Awaits (held_in before h) old new (held_in after now) (nat_lt 0 n)
-first_came old between new before room after h now limit n none from to within kept read =
+pub first_came : (old new : Option (List ℕ)) (before after : List ℕ) (h : Held) (limit n : ℕ) → h.to ≤ h.from
+    → limit ≤ length after → ReadsBehind old new 0 limit before after (Some n) → Awaits (held_in before h) old new (take n after) (nat_lt 0 n)
+first_came old new before after h limit n none within read =
     let nothing = none_held before h none in
     let bound = read.0 in
     let plain : n ≡ 0 + n = omega arith in
-    let has : held_in after now ≡ take n after = held_front after now from ∙ ap (λ k. take k after) to in
     let taken : take n after ≡ read.2.0 = ap (λ k. take k after) plain ∙ read.2.1 in
-    let long : length (held_in after now) ≡ n = ap length has ∙ omega (arith, length-take n after) in
+    let long : length (take n after) ≡ n = omega (arith, length-take n after) in
     record {
       came = read.2.0;
-      grew = has ∙ taken ∙ ap (λ (w : List ℕ). w ++ read.2.0) (sym nothing);
-      taken = Consumes-trans old between new [] read.2.0 kept read.2.2;
+      grew = taken ∙ ap (λ (w : List ℕ). w ++ read.2.0) (sym nothing);
+      taken = read.2.2;
       some = λ more. let lt = ltb-true 0 n more in omega arith;
-      ended = λ over. let le = ltb-false 0 n over in (nothing_left (held_in after now) (omega arith), read.1 (omega arith));
+      ended = λ over. let le = ltb-false 0 n over in (nothing_left (take n after) (omega arith), read.1 (omega arith));
     }
 
+-- all that stands in a room, once what was held there was filled on
+filled_all : (old new : Option (List ℕ)) (had front : List ℕ) (wanted n : ℕ) (buffer : List ℕ) → front ≡ had → (fills : FillsOn old new front wanted buffer n)
+    → had ++ fills.came ≡ take n buffer
+filled_all old new had front wanted n buffer same fills = ap (λ (w : List ℕ). w ++ fills.came) (sym same) ∙ sym fills.grew
+
 -- a body of a stated length that was read, or is cut
-pub sized_whole : (old new : Option (List ℕ)) (before room : List ℕ) (h now : Held) (size there : ℕ) → h.from ≡ 0 → FillsOn old new (take h.to before) size room there
-    → size ≤ there → now ≡ record { from = size; to = there } → ReadsAs (held_in before h) old new (held_in room now) room (IsSized size) (Whole size)
-sized_whole old new before room h now size there zero fills ge same =
-    let all : held_in before h ++ fills.came ≡ take there room = filled_all old new before h size there room zero fills in
+pub sized_whole : (old new : Option (List ℕ)) (had front room : List ℕ) (now : Held) (size there : ℕ) → front ≡ had → FillsOn old new front size room there
+    → size ≤ there → now ≡ record { from = size; to = there } → ReadsAs had old new (held_in room now) room (IsSized size) (Whole size)
+sized_whole old new had front room now size there moved fills ge same =
+    let all : had ++ fills.came ≡ take there room = filled_all old new had front size there room moved fills in
     let bound = fills.bound in
     record {
       came = fills.came;
@@ -88,10 +84,10 @@ sized_whole old new before room h now size there zero fills ge same =
     apart : Whole size ≡ Cut → ⊥
     apart e = absurd cc
 
-pub sized_cut : (old new : Option (List ℕ)) (before room : List ℕ) (h now : Held) (size there : ℕ) → h.from ≡ 0 → FillsOn old new (take h.to before) size room there
-    → there < size → now.to ≤ now.from → ReadsAs (held_in before h) old new (held_in room now) room (IsSized size) Cut
-sized_cut old new before room h now size there zero fills lt none =
-    let all : held_in before h ++ fills.came ≡ take there room = filled_all old new before h size there room zero fills in
+pub sized_cut : (old new : Option (List ℕ)) (had front room : List ℕ) (now : Held) (size there : ℕ) → front ≡ had → FillsOn old new front size room there
+    → there < size → now.to ≤ now.from → ReadsAs had old new (held_in room now) room (IsSized size) Cut
+sized_cut old new had front room now size there moved fills lt none =
+    let all : had ++ fills.came ≡ take there room = filled_all old new had front size there room moved fills in
     let bound = fills.bound in
     record {
       came = fills.came;

@@ -1,5 +1,5 @@
 -- From what is taken and written to what serving a known stream does.
-use Rattle.std.proofs.Common.{◌≡◌, inl, inr, ℕ, List, [], ◌++◌, length, take, refl, sym, ap, subst, ◌∙◌, arith, append-nil, take-take, Bool, true, false, Option, Some, None, Result, Ok, Err, IfOk}
+use Rattle.std.proofs.Common.{◌≡◌, inl, inr, ℕ, List, [], ◌++◌, length, length-drop, take, drop, take-append-drop, refl, sym, ap, subst, ◌∙◌, ◌≤◌, arith, append_assoc, append-nil, take-take, Bool, true, false, Option, Some, None, Result, Ok, Err, IfOk}
 use Rattle.std.proofs.KnownBytes.{Appends-trans, Consumes-nil}
 use Rattle.std.specs.Io.KnownBytes.{Appends, Consumes, IsAtEnd}
 use Rattle.httparse.specs.declared.spans.HeaderSpan.{HeaderSpan}
@@ -9,8 +9,9 @@ use Rattle.httparse.proofs.GrammarLemmas.{request_unique}
 use Rattle.httparse.specs.Spans.{IsRequestAt}
 use Rattle.http_link.specs.Limits.{max_head, max_lines}
 use Rattle.http_link.specs.Heads.{BeginsWith, Head, head_of}
-use Rattle.http_link.specs.Grammars.{IsRequestText, requests}
-use Rattle.http_link.specs.Reading.{IsTaken, HasNoHead}
+use Rattle.http_link.specs.Grammars.{IsRequest, IsRequestText, requests}
+use Rattle.http_link.specs.Reading.{HeadIsFound}
+use Rattle.http_link.specs.declared.grammar.Offered.TheVariants as offered
 use Rattle.http_link.specs.Lines.{head_in}
 use Rattle.http_link.specs.Bodies.{Body, IsBody, bad, cut, refusal_of, whole}
 use Rattle.http_link.specs.BodyReading.{ReadsAs}
@@ -25,7 +26,7 @@ use Rattle.http_link.specs.Serving.{Asked, Traces, IsServed, IsAskedOnly, AsksAt
 use Rattle.http_link.specs.Running.{Runs, AsksWanted}
 use Rattle.http_link.proofs.Growing.{bad_more, whole_more}
 use Rattle.http_link.specs.GrammarLaws.{request_printed}
-use Rattle.http_link.proofs.Heads.{begins_with_taken}
+use Rattle.http_link.proofs.Heads.{begins_with_taken, nothing_left}
 
 -- what is left behind what was taken
 taken_left : (rest body : List ℕ) (left : Option (List ℕ)) → Consumes (Some rest) left body → (ys : List ℕ) × (left ≡ Some ys) × (rest ≡ body ++ ys)
@@ -101,17 +102,31 @@ asks_once (Ok wanted) had old new Unasked Asks (inr once) = asked once.2
     asked (inl none) = absurd none
     asked (inr (body, after, is, so)) = inr (asking wanted body so.0, so.1)
 
--- a head that was taken begins the stream
-pub taken_begins : (old new : Option (List ℕ)) (text stream : List ℕ) (lines : List HeaderSpan) (spans : RequestSpans) → length text ≡ max_head → length lines ≡ max_lines
-    → (taken : IsTaken requests old new text lines spans) → old ≡ Some stream → (rest : List ℕ) × (new ≡ Some rest) × BeginsWith stream taken.is.head rest
-taken_begins old new text stream lines spans size room taken e =
-    let front = begins_with_taken old new (take spans.len text) stream taken.taken e in
-    let at = taken.is.at in
-    let front_is : take spans.len text ≡ print_request taken.is.head = sym (take-take spans.len spans.len text (omega arith)) ∙ request_printed (take spans.len text) lines spans taken.is in
+-- a head that stands at the front of bytes begins them, with whatever follows
+pub begins_here : (has more : List ℕ) (lines : List HeaderSpan) (spans : RequestSpans) → spans.len ≤ length has → spans.len ≤ max_head → length lines ≡ max_lines
+    → (is : IsRequest (take spans.len has) lines spans) → BeginsWith (has ++ more) is.head (drop spans.len has ++ more)
+begins_here has more lines spans bound small room is =
+    let at = is.at in
+    let few = is.few in
     let printed = at.len in
-    let bound = taken.bound in
-    let few = taken.is.few in
-    (front.0, front.1, record { reads = (at.reads.0, front.2 ∙ ap (λ (w : List ℕ). w ++ front.0) front_is); short = omega arith; few = omega arith })
+    let front : take spans.len has ≡ print_request is.head = sym (take-take spans.len spans.len has (omega arith)) ∙ request_printed (take spans.len has) lines spans is in
+    let parts : has ++ more ≡ take spans.len has ++ (drop spans.len has ++ more) =
+    ap (λ (w : List ℕ). w ++ more) (sym (take-append-drop spans.len has)) ∙ append_assoc (take spans.len has) (drop spans.len has) more in
+    record {
+      reads = (at.reads.0, parts ∙ ap (λ (w : List ℕ). w ++ (drop spans.len has ++ more)) front);
+      short = omega arith;
+      few = omega arith;
+    }
+
+-- a head that was found where nothing had come, and nothing that follows it was taken, begins the stream
+pub found_first : (old new : Option (List ℕ)) (has stream : List ℕ) (lines : List HeaderSpan) (spans : RequestSpans) → length lines ≡ max_lines → spans.len ≡ length has
+    → (found : HeadIsFound requests [] old new has lines (offered.Whole spans)) → old ≡ Some stream → (rest : List ℕ) × (new ≡ Some rest) × BeginsWith stream found.stands.2.head rest
+found_first old new has stream lines spans room all found e =
+    let front = begins_with_taken old new found.came stream found.taken e in
+    let none : drop spans.len has ≡ [] = nothing_left (drop spans.len has) (omega (arith, length-drop spans.len has)) in
+    let here : BeginsWith (has ++ front.0) found.stands.2.head front.0 =
+    subst (λ (w : List ℕ). BeginsWith (has ++ front.0) found.stands.2.head (w ++ front.0)) none (begins_here has front.0 lines spans found.stands.0 found.stands.1 room found.stands.2) in
+    (front.0, front.1, subst (λ (w : List ℕ). BeginsWith w found.stands.2.head front.0) (ap (λ (w : List ℕ). w ++ front.0) found.grew ∙ sym front.2) here)
 
 -- one head begins a stream
 pub one_head : (stream : List ℕ) (h k : RequestHead) (r q : List ℕ) → BeginsWith stream h r → BeginsWith stream k q → (h ≡ k) × (r ≡ q)
@@ -123,28 +138,40 @@ begun_is stream head rest lines room begins =
     let few = begins.few in
     record { head = head; is = begins.reads.0; printed = refl; few = omega arith }
 
--- where no head within the limits was read, none begins the stream
-pub none_begins : (known : Option (List ℕ)) (text stream : List ℕ) (lines : List HeaderSpan) (head : RequestHead) (rest : List ℕ) → length text ≡ max_head → length lines ≡ max_lines
-    → HasNoHead requests known (length text) (length lines) → known ≡ Some stream → BeginsWith stream head rest → ⊥
-none_begins known text stream lines head rest size room none e begins =
-    let short = begins.short in
-    none stream (print_request head) rest e (begun_is stream head rest (length lines) room begins) begins.reads.1 (omega arith)
+-- where the stream has ended and no head was found, none begins it
+pub partial_first : (old new : Option (List ℕ)) (has stream : List ℕ) (lines : List HeaderSpan) (head : RequestHead) (rest : List ℕ) → length lines ≡ max_lines
+    → HeadIsFound requests [] old new has lines offered.Partial → old ≡ Some stream → BeginsWith stream head rest → ⊥
+partial_first old new has stream lines head rest room found e begins =
+    let front = begins_with_taken old new found.came stream found.taken e in
+    let over : front.0 ≡ [] = subst IsAtEnd front.1 found.stands.1 in
+    let all : has ≡ stream = found.grew ∙ sym (append-nil found.came) ∙ ap (λ (w : List ℕ). found.came ++ w) (sym over) ∙ sym front.2 in
+    found.stands.0 (print_request head) rest (begun_is stream head rest (length lines) room begins) (all ∙ begins.reads.1) begins.short
+
+-- where no head can be found, none begins the stream
+pub malformed_first : (old new : Option (List ℕ)) (has stream : List ℕ) (lines : List HeaderSpan) (head : RequestHead) (rest : List ℕ) → length lines ≡ max_lines
+    → HeadIsFound requests [] old new has lines offered.Malformed → old ≡ Some stream → BeginsWith stream head rest → ⊥
+malformed_first old new has stream lines head rest room found e begins =
+    let front = begins_with_taken old new found.came stream found.taken e in
+    found.stands front.0 (print_request head) rest (begun_is stream head rest (length lines) room begins)
+    (ap (λ (w : List ℕ). w ++ front.0) found.grew ∙ sym front.2 ∙ begins.reads.1) begins.short
 
 -- what a head says is read off its spans
 pub head_said : (said : Head) (text : List ℕ) (lines : List HeaderSpan) (spans : RequestSpans) (head : RequestHead)
     → said ≡ head_in text lines spans → IsRequestAt text lines spans head → said ≡ head_of head
 head_said said text lines spans head says at = says ∙ rw (at.method, at.path, at.version, at.fields) refl
 
--- the head that was taken is the one that begins the stream, and what is left is what follows it
-pub taken_is : (said : Head) (old new : Option (List ℕ)) (text stream : List ℕ) (lines : List HeaderSpan) (spans : RequestSpans) (head : RequestHead) (rest : List ℕ)
-    → length text ≡ max_head → length lines ≡ max_lines → IsTaken requests old new text lines spans
-    → said ≡ head_in (take spans.len text) lines spans → old ≡ Some stream → BeginsWith stream head rest → (said ≡ head_of head) × (new ≡ Some rest)
-taken_is said old new text stream lines spans head rest size room taken says e begins =
-    let front = taken_begins old new text stream lines spans size room taken e in
-    let same = one_head stream taken.is.head head front.0 rest front.2 begins in
-    (head_said said (take spans.len text) lines spans taken.is.head says taken.is.at ∙ ap head_of same.0, front.1 ∙ ap Some same.1)
+-- the head that was found is the one that begins the stream, and what is left is what follows it
+pub found_is : (said : Head) (old new : Option (List ℕ)) (has text stream : List ℕ) (lines : List HeaderSpan) (spans : RequestSpans) (head : RequestHead) (rest : List ℕ)
+    → length lines ≡ max_lines → spans.len ≡ length has → text ≡ take spans.len has → HeadIsFound requests [] old new has lines (offered.Whole spans)
+    → said ≡ head_in text lines spans → old ≡ Some stream → BeginsWith stream head rest → (said ≡ head_of head) × (new ≡ Some rest)
+found_is said old new has text stream lines spans head rest room all same found says e begins =
+    let front = found_first old new has stream lines spans room all found e in
+    let one = one_head stream found.stands.2.head head front.0 rest front.2 begins in (
+      head_said said (take spans.len has) lines spans found.stands.2.head (says ∙ ap (λ (t : List ℕ). head_in t lines spans) same) found.stands.2.at ∙ ap head_of one.0,
+      front.1 ∙ ap Some one.1,
+    )
 
--- what is done with the head that was taken is what serving the stream does
+-- what is done with the head that was found is what serving the stream does
 pub head_served : (result : Result Served LinkFault) (tenant_of : List ℕ → Option ℕ) (said : Head) (new left : Option (List ℕ)) (traces : Traces) (head : RequestHead) (rest : List ℕ)
     → traces.left ≡ Some [] → (said ≡ head_of head) × (new ≡ Some rest) → IfOk result (Runs (wanted_of tenant_of said) said [] new left traces)
     → IfOk result (IsServed (wanted_of tenant_of (head_of head)) (head_of head) rest (leaving left traces))
@@ -154,7 +181,7 @@ head_served (Ok served) tenant_of said new left traces head rest none is runs =
     (subst (λ (h : Head). Runs (wanted_of tenant_of h) h [] new left traces served) is.0 runs))
 head_served (Err fault) tenant_of said new left traces head rest none is runs = tt
 
--- what is asked for the head that was taken is what the stream's head wants
+-- what is asked for the head that was found is what the stream's head wants
 pub head_asked : (tenant_of : List ℕ → Option ℕ) (said : Head) (new left : Option (List ℕ)) (Unasked : Type 0) (Asks : Asked → Type 0) (head : RequestHead) (rest : List ℕ)
     → (said ≡ head_of head) × (new ≡ Some rest) → AsksWanted (wanted_of tenant_of said) [] new left Unasked Asks → IsAskedOnly (wanted_of tenant_of (head_of head)) rest Unasked Asks
 head_asked tenant_of said new left Unasked Asks head rest is asks =

@@ -1,14 +1,14 @@
 -- Bytes that are taken of those that are there and of those that come.
-use Rattle.std.proofs.Common.{◌≡◌, ◌⊎◌, inl, inr, Bool, true, false, slice_set, ℕ, ◌+◌, ◌<◌, ◌≤◌, slice_index_or, List, [], ◌∷◌, ◌++◌, length, take, drop, refl, sym, ap, subst, ◌∙◌, arith, append_assoc, append-nil, length-append, length-take, length-drop, take-take, Option, Some, None}
+use Rattle.std.proofs.Common.{◌≡◌, ◌⊎◌, inl, inr, Bool, true, false, slice_set, ℕ, ◌+◌, ◌<◌, ◌≤◌, slice_index_or, List, [], ◌∷◌, ◌++◌, length, take, drop, sym, ap, subst, ◌∙◌, arith, append_assoc, append-nil, length-append, length-take, length-drop, take-take, Option, Some, None}
 use Rattle.std.proofs.KnownBytes.{Consumes-nil, Consumes-trans}
 use Rattle.std.specs.Io.KnownBytes.{Consumes}
 use Rattle.http_link.specs.declared.held.Held.{Held}
 use Rattle.std.proofs.lemmas.Grind.{common_steps}
 use Rattle.std.proofs.lemmas.List.{take-append-le}
 use Rattle.std.proofs.Math.Seq.{drop-append_seam}
-use Rattle.http_link.specs.Streams.{ReadsBehind}
+use Rattle.http_link.specs.Streams.{PullsNext, ReadsBehind}
 use Rattle.http_link.specs.Bodies.{BeginsNothing, EndsFirst}
-use Rattle.http_link.specs.BodyReading.{PullsNext, Takes, TakesAll, TakesNext}
+use Rattle.http_link.specs.BodyReading.{Takes, TakesAll, TakesNext}
 use Rattle.http_link.specs.Running.{held_in}
 use Rattle.http_link.proofs.Heads.{lt_or_ge, nothing_left}
 
@@ -45,20 +45,26 @@ front_kept old new at limit before after n read within =
     sym (take-take at (at + n) after (omega arith)) ∙ ap (take at) read.2.1 ∙ take-append-le at (take at before) read.2.0 (omega (arith, length-take at before))
     ∙ take-take at at before (omega arith)
 
+-- what a read brought, of what there was before reads that brought nothing
+pub reads_then : (old mid new : Option (List ℕ)) (at limit : ℕ) (before room after : List ℕ) (n : ℕ) → Consumes old mid [] → take at room ≡ take at before
+    → ReadsBehind mid new at limit room after (Some n) → ReadsBehind old new at limit before after (Some n)
+reads_then old mid new at limit before room after n none same read =
+    (read.0, read.1, (read.2.0, read.2.1 ∙ ap (λ (w : List ℕ). w ++ read.2.0) same, Consumes-trans old mid new [] read.2.0 none read.2.2))
+
 -- where nothing was held and nothing came, all is over
-pub over_now : (old mid new : Option (List ℕ)) (at limit : ℕ) (before room after : List ℕ) (h now : Held) → h.to ≤ h.from → now ≡ h → Consumes old mid []
-    → ReadsBehind mid new at limit room after (Some 0) → at ≤ length room → TakesAll (held_in before h) old new [] (held_in after now)
-over_now old mid new at limit before room after h now none same kept read within =
-    let taken : read.2.0 ≡ [] = nothing_left read.2.0 (omega (arith, ap length read.2.1, length-append (take at room) read.2.0, length-take at room, length-take (at + 0) after)) in
-    let gone : held_in after now ≡ [] = ap (held_in after) same ∙ none_held after h none in
+pub over_now : (old new : Option (List ℕ)) (at limit : ℕ) (before after : List ℕ) (h : Held) (n : ℕ) → h.to ≤ h.from → n ≡ 0
+    → ReadsBehind old new at limit before after (Some n) → at ≤ length before → TakesAll (held_in before h) old new [] (held_in after h)
+over_now old new at limit before after h n none zero read within =
+    let taken : read.2.0 ≡ [] = nothing_left read.2.0 (omega (arith, ap length read.2.1, length-append (take at before) read.2.0, length-take at before, length-take (at + n) after)) in
+    let gone : held_in after h ≡ [] = none_held after h none in
     record {
       takes = record {
         came = [];
         parts = append-nil (held_in before h) ∙ none_held before h none ∙ sym gone;
-        consumed = Consumes-trans old mid new [] [] kept (subst (λ (w : List ℕ). Consumes mid new w) taken read.2.2);
+        consumed = subst (λ (w : List ℕ). Consumes old new w) taken read.2.2;
       };
       none = gone;
-      ended = read.1 refl;
+      ended = read.1 zero;
     }
 
 -- the first of what is held
@@ -66,19 +72,19 @@ pub first_held : (room : List ℕ) (from to : ℕ) → from < to → to ≤ leng
 first_held room from to some within = grind (arith, common_steps)
 
 -- what a read brought, where nothing was held
-pub refilled : (old mid new : Option (List ℕ)) (at limit : ℕ) (before room after : List ℕ) (h : Held) (n : ℕ) → h.to ≤ h.from → Consumes old mid [] → 0 < n
-    → ReadsBehind mid new at limit room after (Some n) → at ≤ length room → limit ≤ length after
+pub refilled : (old new : Option (List ℕ)) (at limit : ℕ) (before after : List ℕ) (h : Held) (n : ℕ) → h.to ≤ h.from → 0 < n
+    → ReadsBehind old new at limit before after (Some n) → at ≤ length before → limit ≤ length after
     → Takes (held_in before h) old new (slice_index_or after at 0 ∷ []) (drop (at + 1) (take (at + n) after))
-refilled old mid new at limit before room after h n none kept some read within room_for =
+refilled old new at limit before after h n none some read within room_for =
     let bound = read.0 in
-    let long : length (take at room) ≡ at = omega (arith, length-take at room) in
+    let long : length (take at before) ≡ at = omega (arith, length-take at before) in
     let behind : drop at (take (at + n) after) ≡ read.2.0 =
-    ap (drop at) read.2.1 ∙ subst (λ m. drop m (take at room ++ read.2.0) ≡ read.2.0) long (drop-append_seam (take at room) read.2.0) in
+    ap (drop at) read.2.1 ∙ subst (λ m. drop m (take at before ++ read.2.0) ≡ read.2.0) long (drop-append_seam (take at before) read.2.0) in
     let first = first_held after at (at + n) (omega arith) (omega arith) in
     record {
       came = read.2.0;
       parts = ap (λ (w : List ℕ). w ++ read.2.0) (none_held before h none) ∙ sym behind ∙ first;
-      consumed = Consumes-trans old mid new [] read.2.0 kept read.2.2;
+      consumed = read.2.2;
     }
 
 -- the first of what is held was taken

@@ -17,6 +17,8 @@ use Rattle.http_link.specs.declared.chunks.Stated.{Stated}
 use Rattle.http_link.specs.declared.chunks.Stated.TheVariants as stated
 use Rattle.http_link.specs.declared.chunks.Step.{Step}
 use Rattle.http_link.specs.declared.chunks.Step.TheVariants.{More, Over}
+use Rattle.http_link.specs.declared.intake.Reach.{Reach}
+use Rattle.http_link.specs.declared.intake.Reach.TheVariants.{Needed}
 use Rattle.http_link.specs.declared.intake.Sought.{Sought}
 use Rattle.http_link.specs.declared.intake.Sought.TheVariants.{Line, Section}
 use Rattle.http_link.specs.declared.intake.Text.{Text}
@@ -45,9 +47,9 @@ abbrev pub TakesNext : List ℕ → Option (List ℕ) → Option (List ℕ) → 
 TakesNext had old new has (Some b) = Takes had old new (b ∷ []) has
 TakesNext had old new has None = TakesAll had old new [] has
 
--- without leave to read ahead nothing is left where nothing was there
-abbrev pub ReadsNoFurther : Bool → Held → Held → Type 0
-ReadsNoFurther ahead old new = ahead ≡ false → old.to ≤ old.from → new.to ≤ new.from
+-- where no more is taken than is needed, nothing is left where nothing was there
+abbrev pub ReadsNoFurther : Reach → Held → Held → Type 0
+ReadsNoFurther reach old new = reach ≡ Needed → old.to ≤ old.from → new.to ≤ new.from
 
 -- how the text ends that is looked for
 abbrev pub ends_sought : Sought → List ℕ → Bool
@@ -63,11 +65,6 @@ TakesText sought had old new has text Ended =
     (taken : List ℕ) × BeginsNothing (ends_sought sought) (length text) taken × TakesAll had old new taken has
 
 -- ---- chunks
-
--- what a read takes
-abbrev pub PullsNext : Option (List ℕ) → Option (List ℕ) → Option ℕ → Type 0
-PullsNext old new (Some b) = Consumes old new (b ∷ [])
-PullsNext old new None = Consumes old new [] × IsAtEnd new
 
 -- the line of a chunk, of that size
 pub record IsSizeOf (text : List ℕ) (size : ℕ) : Type 0 where

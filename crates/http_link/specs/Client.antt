@@ -1,11 +1,14 @@
 -- What a link sends to a peer, and what the peer's answer means (RFC 0035).
-use Rattle.std.specs.Prelude.{◌≡◌, ◌≢◌, ◌⊎◌, ℕ, suc, zero, List, ◌++◌, length, take, Bool, true, false, ◌&&◌, ◌==◌, nat_lt, if◌then◌else◌}
+use Rattle.std.specs.Prelude.{◌≡◌, ◌≢◌, ◌≤◌, ◌⊎◌, ℕ, suc, zero, List, ◌++◌, length, take, Bool, ◌&&◌, ◌==◌, nat_lt, if◌then◌else◌}
 use Rattle.std.specs.Prelude.{codes, decimal, Option, Some, Result, Ok, Err, IsTrue, IsFalse}
 use Rattle.common_types.specs.Numbers.{is_between}
 use Rattle.ilp_addr.specs.Target.{Parts, authority_of, path_of}
 use Rattle.httparse.specs.Grammar.{ResponseHead}
-use Rattle.http_link.specs.Bodies.{Body, IsChunked, bad, cut, whole}
+use Rattle.http_link.specs.Bodies.{Body, IsBody, bad, cut, most_of, whole}
 use Rattle.http_link.specs.declared.bodies.BodyFault.TheVariants.{Malformed, TooLarge}
+use Rattle.http_link.specs.declared.bodies.Framing.TheVariants.{Chunked, Sized}
+use Rattle.http_link.specs.declared.posting.AnswerFraming.{AnswerFraming}
+use Rattle.http_link.specs.declared.posting.AnswerFraming.TheVariants.{Framed, ToEnd}
 use Rattle.http_link.specs.declared.posting.PostFault.{PostFault}
 use Rattle.http_link.specs.declared.posting.PostFault.TheVariants.{Read, Write, Turns, Cut, Head, Status, Unframed}
 use Rattle.http_link.specs.declared.posting.PostFault.TheVariants.{Size}
@@ -33,48 +36,55 @@ abbrev pub post_text : Parts → List ℕ → List ℕ
 post_text target frame = post_head target (length frame) ++ frame
 
 -- a body of a stated length (RFC 9112, 6.2)
-abbrev pub sized_body : ℕ → List ℕ → Result (List ℕ) PostFault
-sized_body size rest =
-    if nat_lt max_peer_answer size then Err Size
-    else (if nat_lt (length rest) size then Err Cut else Ok (take size rest))
+abbrev pub sized_by : ℕ → Result AnswerFraming PostFault
+sized_by size = if nat_lt max_peer_answer size then Err Size else Ok (Framed (Sized size))
 
--- a body that goes to the end of the stream (RFC 9112, 6.3)
-abbrev pub body_to_end : List ℕ → Result (List ℕ) PostFault
-body_to_end rest = if nat_lt max_peer_answer (length rest) then Err Size else Ok rest
+-- a body in chunks; another coding we don't read (RFC 9112, 6.1 and 7.1)
+abbrev pub coded_by : (minor : ℕ) → List ℕ → Result AnswerFraming PostFault
+coded_by minor coding =
+    if (minor == 1) && is_chunked coding then Ok (Framed (Chunked max_peer_answer)) else Err Unframed
 
--- what a body in chunks means
+-- how a body is framed, by the lines on its coding and its length (RFC 9112, 6.3)
+abbrev pub framing_by : (minor : ℕ) → (coded length : Occurrence) → Result AnswerFraming PostFault
+framing_by minor missing missing = Ok ToEnd
+framing_by minor missing (once text) = if is_length text then sized_by (value_of text) else Err Unframed
+framing_by minor missing repeated = Err Unframed
+framing_by minor (once coding) missing = coded_by minor coding
+framing_by minor (once coding) (once text) = Err Unframed
+framing_by minor (once coding) repeated = Err Unframed
+framing_by minor repeated length = Err Unframed
+
+-- how the body behind the last head of an answer is framed, by its status (RFC 9110, 15.3.1)
+abbrev pub framing_in : Reply → Result AnswerFraming PostFault
+framing_in reply =
+    if reply.status == 200
+    then framing_by reply.minor (occurrence (codes "Transfer-Encoding") reply.lines) (occurrence (codes "Content-Length") reply.lines)
+    else Err Status
+
+-- what a body means
 abbrev pub told_of : Body → Result (List ℕ) PostFault
 told_of (whole bytes after) = Ok bytes
 told_of cut = Err Cut
 told_of (bad Malformed) = Err Unframed
 told_of (bad TooLarge) = Err Size
 
--- a body of a coding: in chunks, or in another, which we don't read (RFC 9112, 6.1 and 7.1)
-abbrev pub MeansCoded : Bool → List ℕ → Result (List ℕ) PostFault → Type 0
-MeansCoded true rest meaning = (body : Body) × IsChunked max_peer_answer rest body × (meaning ≡ told_of body)
-MeansCoded false rest meaning = meaning ≡ Err Unframed
+-- a body that goes to the end of the stream (RFC 9112, 6.3)
+abbrev pub body_to_end : List ℕ → Result (List ℕ) PostFault
+body_to_end rest = if nat_lt max_peer_answer (length rest) then Err Size else Ok rest
 
--- a body by the lines on its coding and its length (RFC 9112, 6.3)
-abbrev pub MeansBody : (minor : ℕ) → (coded length : Occurrence) → List ℕ → Result (List ℕ) PostFault → Type 0
-MeansBody minor missing missing rest meaning = meaning ≡ body_to_end rest
-MeansBody minor missing (once text) rest meaning =
-    meaning ≡ (if is_length text then sized_body (value_of text) rest else Err Unframed)
-MeansBody minor missing repeated rest meaning = meaning ≡ Err Unframed
-MeansBody minor (once coding) missing rest meaning = MeansCoded ((minor == 1) && is_chunked coding) rest meaning
-MeansBody minor (once coding) (once text) rest meaning = meaning ≡ Err Unframed
-MeansBody minor (once coding) repeated rest meaning = meaning ≡ Err Unframed
-MeansBody minor repeated length rest meaning = meaning ≡ Err Unframed
+-- what bytes mean as a body that is framed so
+abbrev pub MeansFramed : AnswerFraming → List ℕ → Result (List ℕ) PostFault → Type 0
+MeansFramed (Framed framing) rest meaning = (body : Body) × IsBody framing rest body × (meaning ≡ told_of body)
+MeansFramed ToEnd rest meaning = meaning ≡ body_to_end rest
 
--- what the last head of an answer and the bytes behind it mean, by its status (RFC 9110, 15.3.1)
-abbrev pub MeansFinal : Bool → Reply → List ℕ → Result (List ℕ) PostFault → Type 0
-MeansFinal true reply rest meaning =
-    MeansBody reply.minor (occurrence (codes "Transfer-Encoding") reply.lines) (occurrence (codes "Content-Length") reply.lines)
-    rest meaning
-MeansFinal false reply rest meaning = meaning ≡ Err Status
+-- or that there is none
+abbrev pub MeansAs : Result AnswerFraming PostFault → List ℕ → Result (List ℕ) PostFault → Type 0
+MeansAs (Ok framing) rest meaning = MeansFramed framing rest meaning
+MeansAs (Err fault) rest meaning = meaning ≡ Err fault
 
 -- what the last head of an answer and the bytes behind it mean
 abbrev pub IsMeaning : Reply → List ℕ → Result (List ℕ) PostFault → Type 0
-IsMeaning reply rest meaning = MeansFinal (reply.status == 200) reply rest meaning
+IsMeaning reply rest meaning = MeansAs (framing_in reply) rest meaning
 
 -- an interim answer (RFC 9110, 15.2)
 abbrev pub is_interim : Reply → Bool
@@ -110,12 +120,13 @@ post_fault_of links.Read = Read
 post_fault_of links.Write = Write
 post_fault_of links.Turns = Turns
 
--- what is given is what the known bytes mean, unless the device failed or too many reads were made
-abbrev pub GivesAs : (List ℕ → Result (List ℕ) PostFault → Type 0) → Option (List ℕ) → Result ℕ PostFault → List ℕ → Type 0
-GivesAs Means known result out =
-    (rest : List ℕ) → known ≡ Some rest → result ≢ Err Read → result ≢ Err Turns → Means rest (given result out)
+-- what is given is what bytes that had come and the known bytes behind them mean as a body that is framed so, unless the device
+-- failed or too many reads were made
+abbrev pub GivesAs : AnswerFraming → (had : List ℕ) → Option (List ℕ) → Result ℕ PostFault → List ℕ → Type 0
+GivesAs framing had known result out =
+    (rest : List ℕ) → known ≡ Some rest → result ≢ Err Read → result ≢ Err Turns → MeansFramed framing (had ++ rest) (given result out)
 
--- the same of a meaning that is computed
-abbrev pub GivesOf : (List ℕ → Result (List ℕ) PostFault) → Option (List ℕ) → Result ℕ PostFault → List ℕ → Type 0
-GivesOf meaning known result out =
-    (rest : List ℕ) → known ≡ Some rest → result ≢ Err Read → result ≢ Err Turns → given result out ≡ meaning rest
+-- a body that is framed so has no more bytes than there may be
+abbrev pub FitsAnswer : AnswerFraming → Type 0
+FitsAnswer (Framed framing) = most_of framing ≤ max_peer_answer
+FitsAnswer ToEnd = Unit {0}

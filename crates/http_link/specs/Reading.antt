@@ -1,5 +1,5 @@
--- Heads as they are read, byte by byte, by whichever grammar.
-use Rattle.std.specs.Prelude.{◌≡◌, ℕ, ◌<◌, ◌≤◌, List, ◌++◌, length, take, Option, Some}
+-- Heads as they are found in what has come, by whichever grammar.
+use Rattle.std.specs.Prelude.{◌≡◌, ℕ, ◌<◌, ◌≤◌, List, ◌++◌, length, take, Option}
 use Rattle.std.specs.Io.KnownBytes.{Consumes, IsAtEnd}
 use Rattle.httparse.specs.declared.spans.HeaderSpan.{HeaderSpan}
 use Rattle.http_link.specs.Grammars.{Grammar}
@@ -22,29 +22,14 @@ Decides grammar text room lines (Whole spans) = grammar.Covers text lines spans
 Decides grammar text room lines Partial = GoesOn grammar text room
 Decides grammar text room lines Malformed = BeginsNone grammar text room
 
--- no head within the limits begins the known bytes
-abbrev pub HasNoHead : {S : Type 0} → Grammar S → Option (List ℕ) → (size room : ℕ) → Type 0
-HasNoHead grammar known size room =
-    (stream head rest : List ℕ) → known ≡ Some stream → grammar.IsHead head room → stream ≡ head ++ rest
-    → length head ≤ size → ⊥
-
--- a head was taken, and stands at the front of the text
-pub record IsTaken {S : Type 0} (grammar : Grammar S) (old new : Option (List ℕ)) (text : List ℕ)
-    (lines : List HeaderSpan) (spans : S) : Type 0 where
-  pub bound : grammar.len spans ≤ length text
-  pub is : grammar.Covers (take (grammar.len spans) text) lines spans
-  pub taken : Consumes old new (take (grammar.len spans) text)
-
--- a head was taken, or none within the limits begins the known bytes
-abbrev pub HeadIsRead : {S : Type 0} → Grammar S → (old new : Option (List ℕ)) → List ℕ → List HeaderSpan → Offered S → Type 0
-HeadIsRead grammar old new text lines (Whole spans) = IsTaken grammar old new text lines spans
-HeadIsRead grammar old new text lines Partial = HasNoHead grammar old (length text) (length lines)
-HeadIsRead grammar old new text lines Malformed = HasNoHead grammar old (length text) (length lines)
-
 -- no head within the limits begins the bytes
 abbrev pub BeginsNot : {S : Type 0} → Grammar S → List ℕ → (lines : ℕ) → Type 0
 BeginsNot grammar bytes lines =
     (head rest : List ℕ) → grammar.IsHead head lines → bytes ≡ head ++ rest → length head ≤ max_head → ⊥
+
+-- nor the bytes and what follows
+abbrev pub BeginsNever : {S : Type 0} → Grammar S → List ℕ → (lines : ℕ) → Type 0
+BeginsNever grammar bytes lines = (more : List ℕ) → BeginsNot grammar (bytes ++ more) lines
 
 -- what was seen of a text, of which so many bytes were looked at: a head that ends there, that it goes on, or that none begins it
 abbrev pub Sees : {S : Type 0} → Grammar S → List ℕ → (seen room : ℕ) → List HeaderSpan → Offered S → Type 0
@@ -53,13 +38,25 @@ Sees grammar text seen room lines (Whole spans) =
 Sees grammar text seen room lines Partial = GoesOn grammar (take seen text) room × (seen ≡ length text)
 Sees grammar text seen room lines Malformed = BeginsNone grammar (take seen text) room
 
+-- a head was seen behind what had been looked at
+abbrev pub SeesFurther : {S : Type 0} → (before now : ℕ) → Offered S → Type 0
+SeesFurther before now (Whole spans) = before < now
+SeesFurther before now Partial = Unit {0}
+SeesFurther before now Malformed = Unit {0}
+
+-- a head that was found has so many bytes
+abbrev pub EndsAt : {S : Type 0} → Grammar S → ℕ → Offered S → Type 0
+EndsAt grammar there (Whole spans) = grammar.len spans ≡ there
+EndsAt grammar there Partial = Unit {0}
+EndsAt grammar there Malformed = Unit {0}
+
 -- what stands at the front of bytes, behind which no more are left where they are not enough
 abbrev pub StandsIn : {S : Type 0} → Grammar S → List ℕ → List HeaderSpan → Option (List ℕ) → Offered S → Type 0
 StandsIn grammar bytes lines left (Whole spans) =
     (grammar.len spans ≤ length bytes) × (grammar.len spans ≤ max_head)
     × grammar.Covers (take (grammar.len spans) bytes) lines spans
 StandsIn grammar bytes lines left Partial = BeginsNot grammar bytes (length lines) × IsAtEnd left
-StandsIn grammar bytes lines left Malformed = BeginsNot grammar bytes (length lines)
+StandsIn grammar bytes lines left Malformed = BeginsNever grammar bytes (length lines)
 
 -- bytes came behind those that there were, and that stands at the front of all of them
 pub record HeadIsFound {S : Type 0} (grammar : Grammar S) (had : List ℕ) (old new : Option (List ℕ)) (has : List ℕ)

@@ -2,18 +2,15 @@
 use Rattle.std.specs.Prelude.{◌≡◌, ◌<◌, ◌≤◌, ◌+◌, ◌-◌, ℕ, List, [], ◌∷◌, ◌++◌, length, take, Option, Some, None, Bool, true}
 use Rattle.std.specs.Prelude.{false}
 use Rattle.std.specs.Io.KnownBytes.{Appends, Consumes, Keeps, IsAtEnd}
-use Rattle.http_link.specs.declared.streams.Pulled.{Pulled}
-use Rattle.http_link.specs.declared.streams.Pulled.TheVariants.{Byte, End, Nothing}
 
 -- a front of the text was written, if not all of it
 abbrev pub AppendsFront : List ℕ → Option (List ℕ) → Option (List ℕ) → Type 0
 AppendsFront text old new = (n : ℕ) × Appends old new (take n text)
 
--- what a read of one byte takes
-abbrev pub PullsByte : Option (List ℕ) → Option (List ℕ) → Pulled → Type 0
-PullsByte old new (Byte b) = Consumes old new (b ∷ [])
-PullsByte old new End = Keeps old new × IsAtEnd new
-PullsByte old new Nothing = Keeps old new
+-- the next byte was taken, or there is none
+abbrev pub PullsNext : Option (List ℕ) → Option (List ℕ) → Option ℕ → Type 0
+PullsNext old new (Some b) = Consumes old new (b ∷ [])
+PullsNext old new None = Consumes old new [] × IsAtEnd new
 
 -- what a read into a buffer from a place on takes, and puts there
 abbrev pub ReadsBehind : Option (List ℕ) → Option (List ℕ) → ℕ → ℕ → List ℕ → List ℕ → Option ℕ → Type 0
@@ -30,12 +27,6 @@ pub record FillsOn (old new : Option (List ℕ)) (had : List ℕ) (wanted : ℕ)
   pub taken : Consumes old new came
   pub missing : length came ≤ wanted - length had
   pub bound : n ≤ length buffer
-  pub ended : n < wanted → IsAtEnd new
-
--- so many bytes were taken and stand at the front of the buffer; where they are fewer than wanted, no more are left
-pub record Fills (old new : Option (List ℕ)) (wanted : ℕ) (buffer : List ℕ) (n : ℕ) : Type 0 where
-  pub bound : n ≤ wanted
-  pub taken : Consumes old new (take n buffer)
   pub ended : n < wanted → IsAtEnd new
 
 -- nothing is left, or something is

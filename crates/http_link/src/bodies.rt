@@ -1,14 +1,15 @@
 //! Bodies that are read: of a stated length, or in chunks.
 
-ghost use Rattle.std.specs.Prelude.{◌≡◌, ◌≢◌, ◌↔◌, ◌<◌, ◌≤◌, length, min, false, Err, IfOk};
+ghost use Rattle.std.specs.Prelude.{◌≡◌, ◌≢◌, ◌↔◌, ◌<◌, ◌≤◌, length, min, Err, IfOk};
 ghost use Rattle.http_link.specs.Counts.{Spends};
 ghost use Rattle.http_link.specs.Bodies.{IsBody, IsSized, most_of};
-ghost use Rattle.http_link.specs.BodyReading.{ReadsAs, ReadsAtMost, ReadsNoFurther};
+ghost use Rattle.http_link.specs.BodyReading.{LiesBehind, ReadsAs, ReadsAtMost, ReadsNoFurther};
 ghost use Rattle.http_link.specs.Running.{held_in};
 
 use crate::chunks::read_chunks;
 use crate::devices::Source;
-use crate::held::Held;
+use crate::held::{Held, move_to_front};
+use crate::intake::{Intake, Manner, Reach};
 use crate::streams::{LinkFault, read_on};
 
 /// How the end of a body is known. (RFC 9112, 6.3)
@@ -40,35 +41,32 @@ pub(crate) enum BodyRead {
     Bad(BodyFault),
 }
 
-/// Reads a body into the front of the room, where some bytes of it are held already. Those that came behind it are held in
-/// the end. With leave to read `ahead` more may be taken from the reader than it has.
+/// Reads a body into the front of the room, in which some bytes of it are held already. Those that follow it are held in the
+/// end.
 pub(crate) fn read_body<R: Source>(
     r: &mut R,
     room: &mut [u8],
-    held: &mut Held,
+    intake: &mut Intake,
     framing: Framing,
-    ahead: bool,
-    before: u64,
-    turns: &mut u32,
+    manner: Manner,
 ) -> Result<BodyRead, LinkFault>
-    requires front { held.old.from ≡ 0 }
-    requires there { held.old.to ≤ length room.old }
+    requires lies { LiesBehind 0 room.old intake.old.held }
     requires wide { most_of framing ≤ length room.old }
-    requires unfailed { R.failure_count r.old ≤ before }
+    requires unfailed { R.failure_count r.old ≤ manner.before }
     ensures len { length room.new ≡ length room.old }
-    ensures held { (held.new.from ≤ held.new.to) × (held.new.to ≤ length room.new) }
-    ensures reads { IfOk result (ReadsAs (held_in room.old held.old) (R.remaining r.old) (R.remaining r.new)
-        (held_in room.new held.new) room.new (IsBody framing)) }
+    ensures lies { LiesBehind 0 room.new intake.new.held }
+    ensures reads { IfOk result (ReadsAs (held_in room.old intake.old.held) (R.remaining r.old) (R.remaining r.new)
+        (held_in room.new intake.new.held) room.new (IsBody framing)) }
     ensures fits { IfOk result (ReadsAtMost (most_of framing)) }
-    ensures exact { ReadsNoFurther ahead held.old held.new }
-    ensures read { (result ≡ Err LinkFault.Read) ↔ (before < R.failure_count r.new) }
+    ensures exact { ReadsNoFurther manner.reach intake.old.held intake.new.held }
+    ensures read { (result ≡ Err LinkFault.Read) ↔ (manner.before < R.failure_count r.new) }
     ensures write { result ≢ Err LinkFault.Write }
-    ensures spent { result ≡ Err LinkFault.Turns → turns.new ≡ 0 }
-    ensures made { Spends R.was_read r.old r.new turns.old turns.new }
+    ensures spent { result ≡ Err LinkFault.Turns → intake.new.turns ≡ 0 }
+    ensures made { Spends R.was_read r.old r.new intake.old.turns intake.new.turns }
 {
     match framing {
-        Framing::Sized(size) => read_sized(r, room, held, size, before, turns),
-        Framing::Chunked(most) => read_chunks(r, room, held, most, ahead, before, turns),
+        Framing::Sized(size) => read_sized(r, room, intake, size, manner),
+        Framing::Chunked(most) => read_chunks(r, room, intake, most, manner),
     }
 }
 
@@ -76,28 +74,28 @@ pub(crate) fn read_body<R: Source>(
 fn read_sized<R: Source>(
     r: &mut R,
     room: &mut [u8],
-    held: &mut Held,
+    intake: &mut Intake,
     size: usize,
-    before: u64,
-    turns: &mut u32,
+    manner: Manner,
 ) -> Result<BodyRead, LinkFault>
-    requires front { held.old.from ≡ 0 }
-    requires there { held.old.to ≤ length room.old }
+    requires lies { LiesBehind 0 room.old intake.old.held }
     requires wide { size ≤ length room.old }
-    requires unfailed { R.failure_count r.old ≤ before }
+    requires unfailed { R.failure_count r.old ≤ manner.before }
     ensures len { length room.new ≡ length room.old }
-    ensures held { (held.new.from ≤ held.new.to) × (held.new.to ≤ length room.new) }
-    ensures reads { IfOk result (ReadsAs (held_in room.old held.old) (R.remaining r.old) (R.remaining r.new)
-        (held_in room.new held.new) room.new (IsSized size)) }
+    ensures lies { LiesBehind 0 room.new intake.new.held }
+    ensures reads { IfOk result (ReadsAs (held_in room.old intake.old.held) (R.remaining r.old) (R.remaining r.new)
+        (held_in room.new intake.new.held) room.new (IsSized size)) }
     ensures fits { IfOk result (ReadsAtMost size) }
-    ensures exact { ReadsNoFurther false held.old held.new }
-    ensures read { (result ≡ Err LinkFault.Read) ↔ (before < R.failure_count r.new) }
+    ensures exact { ReadsNoFurther Reach.Needed intake.old.held intake.new.held }
+    ensures read { (result ≡ Err LinkFault.Read) ↔ (manner.before < R.failure_count r.new) }
     ensures write { result ≢ Err LinkFault.Write }
-    ensures spent { result ≡ Err LinkFault.Turns → turns.new ≡ 0 }
-    ensures made { Spends R.was_read r.old r.new turns.old turns.new }
+    ensures spent { result ≡ Err LinkFault.Turns → intake.new.turns ≡ 0 }
+    ensures made { Spends R.was_read r.old r.new intake.old.turns intake.new.turns }
 {
-    let there = read_on(r, room, held.to, size, before, turns)?;
-    *held = used(size, there);
+    move_to_front(room, &mut intake.held);
+    let had = intake.held.to;
+    let there = read_on(r, room, had, size, manner.before, &mut intake.turns)?;
+    intake.held = used(size, there);
     if there < size {
         return Ok(BodyRead::Cut);
     }

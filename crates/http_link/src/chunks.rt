@@ -1,6 +1,6 @@
 //! Bodies in chunks, decoded in place as they come. (RFC 9112, 7.1)
 
-ghost use Rattle.std.specs.Prelude.{◌≡◌, ◌≢◌, ◌↔◌, ◌+◌, ◌-◌, ◌<◌, ◌≤◌, ◌++◌, length, take, drop, min, false, Err, IfOk, IsTrue};
+ghost use Rattle.std.specs.Prelude.{◌≡◌, ◌≢◌, ◌↔◌, ◌+◌, ◌-◌, ◌<◌, ◌≤◌, ◌++◌, length, take, drop, min, Err, IfOk, IsTrue};
 ghost use Rattle.http_link.specs.Counts.{Spends};
 ghost use Rattle.http_link.specs.Bodies.{IsChunked};
 ghost use Rattle.http_link.specs.BodyReading.{AreTrailersIn, IsStatedIn, LiesBehind, ReadsAs, ReadsAtMost, ReadsNoFurther};
@@ -12,7 +12,7 @@ use crate::bodies::{BodyFault, BodyRead};
 use crate::devices::Source;
 use crate::head::{MAX_HEAD, MAX_LINES};
 use crate::held::Held;
-use crate::intake::{Sought, Text, next_byte, read_text};
+use crate::intake::{Intake, Manner, Reach, Sought, Text, next_byte, read_text};
 use crate::streams::{LinkFault, read_on};
 use httparse::spans::{EMPTY_HEADER_SPAN, parse_headers};
 use httparse::{Status, parse_chunk_size};
@@ -56,29 +56,27 @@ enum Step {
 pub(crate) fn read_chunks<R: Source>(
     r: &mut R,
     room: &mut [u8],
-    held: &mut Held,
+    intake: &mut Intake,
     most: usize,
-    ahead: bool,
-    before: u64,
-    turns: &mut u32,
+    manner: Manner,
 ) -> Result<BodyRead, LinkFault>
-    requires lies { LiesBehind 0 room.old held.old }
+    requires lies { LiesBehind 0 room.old intake.old.held }
     requires wide { most ≤ length room.old }
-    requires unfailed { R.failure_count r.old ≤ before }
+    requires unfailed { R.failure_count r.old ≤ manner.before }
     ensures len { length room.new ≡ length room.old }
-    ensures lies { LiesBehind 0 room.new held.new }
-    ensures reads { IfOk result (ReadsAs (held_in room.old held.old) (R.remaining r.old) (R.remaining r.new)
-        (held_in room.new held.new) room.new (IsChunked most)) }
+    ensures lies { LiesBehind 0 room.new intake.new.held }
+    ensures reads { IfOk result (ReadsAs (held_in room.old intake.old.held) (R.remaining r.old) (R.remaining r.new)
+        (held_in room.new intake.new.held) room.new (IsChunked most)) }
     ensures fits { IfOk result (ReadsAtMost most) }
-    ensures exact { ReadsNoFurther ahead held.old held.new }
-    ensures read { (result ≡ Err LinkFault.Read) ↔ (before < R.failure_count r.new) }
+    ensures exact { ReadsNoFurther manner.reach intake.old.held intake.new.held }
+    ensures read { (result ≡ Err LinkFault.Read) ↔ (manner.before < R.failure_count r.new) }
     ensures write { result ≢ Err LinkFault.Write }
-    ensures spent { result ≡ Err LinkFault.Turns → turns.new ≡ 0 }
-    ensures made { Spends R.was_read r.old r.new turns.old turns.new }
+    ensures spent { result ≡ Err LinkFault.Turns → intake.new.turns ≡ 0 }
+    ensures made { Spends R.was_read r.old r.new intake.old.turns intake.new.turns }
 {
     let mut done = 0;
     loop {
-        match read_step(r, room, held, most, done, ahead, before, turns)? {
+        match read_step(r, room, intake, most, done, manner)? {
             Step::More(size) => done += size,
             Step::Over(read) => return Ok(read),
         }
@@ -89,36 +87,34 @@ pub(crate) fn read_chunks<R: Source>(
 fn read_step<R: Source>(
     r: &mut R,
     room: &mut [u8],
-    held: &mut Held,
+    intake: &mut Intake,
     most: usize,
     done: usize,
-    ahead: bool,
-    before: u64,
-    turns: &mut u32,
+    manner: Manner,
 ) -> Result<Step, LinkFault>
-    requires lies { LiesBehind done room.old held.old }
+    requires lies { LiesBehind done room.old intake.old.held }
     requires fits { done ≤ most }
     requires wide { most ≤ length room.old }
-    requires unfailed { R.failure_count r.old ≤ before }
+    requires unfailed { R.failure_count r.old ≤ manner.before }
     ensures len { length room.new ≡ length room.old }
-    ensures held { LiesBehind 0 room.new held.new }
-    ensures lies { IfOk result (λ step. LiesBehind (done_after done step) room.new held.new) }
+    ensures held { LiesBehind 0 room.new intake.new.held }
+    ensures lies { IfOk result (λ step. LiesBehind (done_after done step) room.new intake.new.held) }
     ensures fits { IfOk result (StepsTo done) }
-    ensures taken { IfOk result (TakesStep (held_in room.old held.old) (R.remaining r.old) (R.remaining r.new)
-        (held_in room.new held.new) most done room.old room.new) }
-    ensures exact { ReadsNoFurther ahead held.old held.new }
-    ensures read { (result ≡ Err LinkFault.Read) ↔ (before < R.failure_count r.new) }
+    ensures taken { IfOk result (TakesStep (held_in room.old intake.old.held) (R.remaining r.old) (R.remaining r.new)
+        (held_in room.new intake.new.held) most done room.old room.new) }
+    ensures exact { ReadsNoFurther manner.reach intake.old.held intake.new.held }
+    ensures read { (result ≡ Err LinkFault.Read) ↔ (manner.before < R.failure_count r.new) }
     ensures write { result ≢ Err LinkFault.Write }
-    ensures spent { result ≡ Err LinkFault.Turns → turns.new ≡ 0 }
-    ensures made { Spends R.was_read r.old r.new turns.old turns.new }
+    ensures spent { result ≡ Err LinkFault.Turns → intake.new.turns ≡ 0 }
+    ensures made { Spends R.was_read r.old r.new intake.old.turns intake.new.turns }
 {
-    match read_size(r, room, held, done, ahead, before, turns)? {
-        Stated::Size(0) => read_end(r, room, held, done, ahead, before, turns),
+    match read_size(r, room, intake, done, manner)? {
+        Stated::Size(0) => read_end(r, room, intake, done, manner),
         Stated::Size(size) => {
             if size > (most - done) as u64 {
                 return Ok(Step::Over(BodyRead::Bad(BodyFault::TooLarge)));
             }
-            read_chunk(r, room, held, done, size as usize, ahead, before, turns)
+            read_chunk(r, room, intake, done, size as usize, manner)
         }
         Stated::Malformed => Ok(Step::Over(BodyRead::Bad(BodyFault::Malformed))),
         Stated::Short => Ok(Step::Over(BodyRead::Cut)),
@@ -129,37 +125,25 @@ fn read_step<R: Source>(
 fn read_size<R: Source>(
     r: &mut R,
     room: &mut [u8],
-    held: &mut Held,
+    intake: &mut Intake,
     done: usize,
-    ahead: bool,
-    before: u64,
-    turns: &mut u32,
+    manner: Manner,
 ) -> Result<Stated, LinkFault>
-    requires lies { LiesBehind done room.old held.old }
-    requires unfailed { R.failure_count r.old ≤ before }
+    requires lies { LiesBehind done room.old intake.old.held }
+    requires unfailed { R.failure_count r.old ≤ manner.before }
     ensures len { length room.new ≡ length room.old }
     ensures kept { IfOk result (λ given. take done room.new ≡ take done room.old) }
-    ensures lies { LiesBehind done room.new held.new }
-    ensures taken { IfOk result (TakesSize (held_in room.old held.old) (R.remaining r.old) (R.remaining r.new)
-        (held_in room.new held.new)) }
-    ensures exact { ReadsNoFurther ahead held.old held.new }
-    ensures read { (result ≡ Err LinkFault.Read) ↔ (before < R.failure_count r.new) }
+    ensures lies { LiesBehind done room.new intake.new.held }
+    ensures taken { IfOk result (TakesSize (held_in room.old intake.old.held) (R.remaining r.old) (R.remaining r.new)
+        (held_in room.new intake.new.held)) }
+    ensures exact { ReadsNoFurther manner.reach intake.old.held intake.new.held }
+    ensures read { (result ≡ Err LinkFault.Read) ↔ (manner.before < R.failure_count r.new) }
     ensures write { result ≢ Err LinkFault.Write }
-    ensures spent { result ≡ Err LinkFault.Turns → turns.new ≡ 0 }
-    ensures made { Spends R.was_read r.old r.new turns.old turns.new }
+    ensures spent { result ≡ Err LinkFault.Turns → intake.new.turns ≡ 0 }
+    ensures made { Spends R.was_read r.old r.new intake.old.turns intake.new.turns }
 {
     let mut line = [0u8; MAX_CHUNK_LINE];
-    match read_text(
-        r,
-        room,
-        held,
-        done,
-        ahead,
-        Sought::Line,
-        &mut line,
-        before,
-        turns,
-    )? {
+    match read_text(r, room, intake, done, Sought::Line, &mut line, manner)? {
         Text::Found(n) => match size_in(&line[..n]) {
             Some(size) => Ok(Stated::Size(size)),
             None => Ok(Stated::Malformed),
@@ -189,32 +173,30 @@ fn size_in(text: &[u8]) -> Option<u64>
 fn read_chunk<R: Source>(
     r: &mut R,
     room: &mut [u8],
-    held: &mut Held,
+    intake: &mut Intake,
     done: usize,
     size: usize,
-    ahead: bool,
-    before: u64,
-    turns: &mut u32,
+    manner: Manner,
 ) -> Result<Step, LinkFault>
-    requires lies { LiesBehind done room.old held.old }
+    requires lies { LiesBehind done room.old intake.old.held }
     requires wide { done + size ≤ length room.old }
-    requires unfailed { R.failure_count r.old ≤ before }
+    requires unfailed { R.failure_count r.old ≤ manner.before }
     ensures len { length room.new ≡ length room.old }
-    ensures held { LiesBehind 0 room.new held.new }
-    ensures lies { IfOk result (λ step. LiesBehind (done_after done step) room.new held.new) }
+    ensures held { LiesBehind 0 room.new intake.new.held }
+    ensures lies { IfOk result (λ step. LiesBehind (done_after done step) room.new intake.new.held) }
     ensures fits { IfOk result (StepsTo done) }
-    ensures taken { IfOk result (TakesChunk (held_in room.old held.old) (R.remaining r.old) (R.remaining r.new)
-        (held_in room.new held.new) size done room.old room.new) }
-    ensures exact { ReadsNoFurther ahead held.old held.new }
-    ensures read { (result ≡ Err LinkFault.Read) ↔ (before < R.failure_count r.new) }
+    ensures taken { IfOk result (TakesChunk (held_in room.old intake.old.held) (R.remaining r.old) (R.remaining r.new)
+        (held_in room.new intake.new.held) size done room.old room.new) }
+    ensures exact { ReadsNoFurther manner.reach intake.old.held intake.new.held }
+    ensures read { (result ≡ Err LinkFault.Read) ↔ (manner.before < R.failure_count r.new) }
     ensures write { result ≢ Err LinkFault.Write }
-    ensures spent { result ≡ Err LinkFault.Turns → turns.new ≡ 0 }
-    ensures made { Spends R.was_read r.old r.new turns.old turns.new }
+    ensures spent { result ≡ Err LinkFault.Turns → intake.new.turns ≡ 0 }
+    ensures made { Spends R.was_read r.old r.new intake.old.turns intake.new.turns }
 {
-    if !read_bytes(r, room, held, done, size, before, turns)? {
+    if !read_bytes(r, room, intake, done, size, manner)? {
         return Ok(Step::Over(BodyRead::Cut));
     }
-    match read_line_end(r, room, held, done + size, ahead, before, turns)? {
+    match read_line_end(r, room, intake, done + size, manner)? {
         Checked::Right => Ok(Step::More(size)),
         Checked::Wrong => Ok(Step::Over(BodyRead::Bad(BodyFault::Malformed))),
         Checked::Short => Ok(Step::Over(BodyRead::Cut)),
@@ -226,33 +208,32 @@ fn read_chunk<R: Source>(
 fn read_bytes<R: Source>(
     r: &mut R,
     room: &mut [u8],
-    held: &mut Held,
+    intake: &mut Intake,
     done: usize,
     size: usize,
-    before: u64,
-    turns: &mut u32,
+    manner: Manner,
 ) -> Result<bool, LinkFault>
-    requires lies { LiesBehind done room.old held.old }
+    requires lies { LiesBehind done room.old intake.old.held }
     requires wide { done + size ≤ length room.old }
-    requires unfailed { R.failure_count r.old ≤ before }
+    requires unfailed { R.failure_count r.old ≤ manner.before }
     ensures len { length room.new ≡ length room.old }
-    ensures held { LiesBehind done room.new held.new }
-    ensures lies { IfOk result (λ all. IsTrue all → LiesBehind (done + size) room.new held.new) }
-    ensures taken { IfOk result (TakesBytes (held_in room.old held.old) (R.remaining r.old) (R.remaining r.new)
-        (held_in room.new held.new) size done room.old room.new) }
-    ensures exact { ReadsNoFurther false held.old held.new }
-    ensures read { (result ≡ Err LinkFault.Read) ↔ (before < R.failure_count r.new) }
+    ensures held { LiesBehind done room.new intake.new.held }
+    ensures lies { IfOk result (λ all. IsTrue all → LiesBehind (done + size) room.new intake.new.held) }
+    ensures taken { IfOk result (TakesBytes (held_in room.old intake.old.held) (R.remaining r.old) (R.remaining r.new)
+        (held_in room.new intake.new.held) size done room.old room.new) }
+    ensures exact { ReadsNoFurther Reach.Needed intake.old.held intake.new.held }
+    ensures read { (result ≡ Err LinkFault.Read) ↔ (manner.before < R.failure_count r.new) }
     ensures write { result ≢ Err LinkFault.Write }
-    ensures spent { result ≡ Err LinkFault.Turns → turns.new ≡ 0 }
-    ensures made { Spends R.was_read r.old r.new turns.old turns.new }
+    ensures spent { result ≡ Err LinkFault.Turns → intake.new.turns ≡ 0 }
+    ensures made { Spends R.was_read r.old r.new intake.old.turns intake.new.turns }
 {
-    let moved = move_bytes(room, held, done, size);
+    let moved = move_bytes(room, &mut intake.held, done, size);
     if moved == size {
         return Ok(true);
     }
     let end = done + size;
-    let there = read_on(r, room, done + moved, end, before, turns)?;
-    *held = Held {
+    let there = read_on(r, room, done + moved, end, manner.before, &mut intake.turns)?;
+    intake.held = Held {
         from: there,
         to: there,
     };
@@ -282,29 +263,27 @@ fn move_bytes(room: &mut [u8], held: &mut Held, done: usize, size: usize) -> usi
 fn read_line_end<R: Source>(
     r: &mut R,
     room: &mut [u8],
-    held: &mut Held,
+    intake: &mut Intake,
     done: usize,
-    ahead: bool,
-    before: u64,
-    turns: &mut u32,
+    manner: Manner,
 ) -> Result<Checked, LinkFault>
-    requires lies { LiesBehind done room.old held.old }
-    requires unfailed { R.failure_count r.old ≤ before }
+    requires lies { LiesBehind done room.old intake.old.held }
+    requires unfailed { R.failure_count r.old ≤ manner.before }
     ensures len { length room.new ≡ length room.old }
     ensures kept { IfOk result (λ given. take done room.new ≡ take done room.old) }
-    ensures lies { LiesBehind done room.new held.new }
-    ensures taken { IfOk result (TakesEnd (held_in room.old held.old) (R.remaining r.old) (R.remaining r.new)
-        (held_in room.new held.new)) }
-    ensures exact { ReadsNoFurther ahead held.old held.new }
-    ensures read { (result ≡ Err LinkFault.Read) ↔ (before < R.failure_count r.new) }
+    ensures lies { LiesBehind done room.new intake.new.held }
+    ensures taken { IfOk result (TakesEnd (held_in room.old intake.old.held) (R.remaining r.old) (R.remaining r.new)
+        (held_in room.new intake.new.held)) }
+    ensures exact { ReadsNoFurther manner.reach intake.old.held intake.new.held }
+    ensures read { (result ≡ Err LinkFault.Read) ↔ (manner.before < R.failure_count r.new) }
     ensures write { result ≢ Err LinkFault.Write }
-    ensures spent { result ≡ Err LinkFault.Turns → turns.new ≡ 0 }
-    ensures made { Spends R.was_read r.old r.new turns.old turns.new }
+    ensures spent { result ≡ Err LinkFault.Turns → intake.new.turns ≡ 0 }
+    ensures made { Spends R.was_read r.old r.new intake.old.turns intake.new.turns }
 {
-    let Some(first) = next_byte(r, room, held, done, ahead, before, turns)? else {
+    let Some(first) = next_byte(r, room, intake, done, manner)? else {
         return Ok(Checked::Short);
     };
-    let Some(second) = next_byte(r, room, held, done, ahead, before, turns)? else {
+    let Some(second) = next_byte(r, room, intake, done, manner)? else {
         return Ok(Checked::Short);
     };
     if first != b'\r' {
@@ -320,27 +299,25 @@ fn read_line_end<R: Source>(
 fn read_end<R: Source>(
     r: &mut R,
     room: &mut [u8],
-    held: &mut Held,
+    intake: &mut Intake,
     done: usize,
-    ahead: bool,
-    before: u64,
-    turns: &mut u32,
+    manner: Manner,
 ) -> Result<Step, LinkFault>
-    requires lies { LiesBehind done room.old held.old }
-    requires unfailed { R.failure_count r.old ≤ before }
+    requires lies { LiesBehind done room.old intake.old.held }
+    requires unfailed { R.failure_count r.old ≤ manner.before }
     ensures len { length room.new ≡ length room.old }
-    ensures held { LiesBehind done room.new held.new }
-    ensures lies { IfOk result (λ step. LiesBehind (done_after done step) room.new held.new) }
+    ensures held { LiesBehind done room.new intake.new.held }
+    ensures lies { IfOk result (λ step. LiesBehind (done_after done step) room.new intake.new.held) }
     ensures fits { IfOk result (StepsTo done) }
-    ensures taken { IfOk result (TakesLast (held_in room.old held.old) (R.remaining r.old) (R.remaining r.new)
-        (held_in room.new held.new) done room.old room.new) }
-    ensures exact { ReadsNoFurther ahead held.old held.new }
-    ensures read { (result ≡ Err LinkFault.Read) ↔ (before < R.failure_count r.new) }
+    ensures taken { IfOk result (TakesLast (held_in room.old intake.old.held) (R.remaining r.old) (R.remaining r.new)
+        (held_in room.new intake.new.held) done room.old room.new) }
+    ensures exact { ReadsNoFurther manner.reach intake.old.held intake.new.held }
+    ensures read { (result ≡ Err LinkFault.Read) ↔ (manner.before < R.failure_count r.new) }
     ensures write { result ≢ Err LinkFault.Write }
-    ensures spent { result ≡ Err LinkFault.Turns → turns.new ≡ 0 }
-    ensures made { Spends R.was_read r.old r.new turns.old turns.new }
+    ensures spent { result ≡ Err LinkFault.Turns → intake.new.turns ≡ 0 }
+    ensures made { Spends R.was_read r.old r.new intake.old.turns intake.new.turns }
 {
-    match read_trailers(r, room, held, done, ahead, before, turns)? {
+    match read_trailers(r, room, intake, done, manner)? {
         Checked::Right => Ok(Step::Over(BodyRead::Whole(done))),
         Checked::Wrong => Ok(Step::Over(BodyRead::Bad(BodyFault::Malformed))),
         Checked::Short => Ok(Step::Over(BodyRead::Cut)),
@@ -351,37 +328,25 @@ fn read_end<R: Source>(
 fn read_trailers<R: Source>(
     r: &mut R,
     room: &mut [u8],
-    held: &mut Held,
+    intake: &mut Intake,
     done: usize,
-    ahead: bool,
-    before: u64,
-    turns: &mut u32,
+    manner: Manner,
 ) -> Result<Checked, LinkFault>
-    requires lies { LiesBehind done room.old held.old }
-    requires unfailed { R.failure_count r.old ≤ before }
+    requires lies { LiesBehind done room.old intake.old.held }
+    requires unfailed { R.failure_count r.old ≤ manner.before }
     ensures len { length room.new ≡ length room.old }
     ensures kept { IfOk result (λ given. take done room.new ≡ take done room.old) }
-    ensures lies { LiesBehind done room.new held.new }
-    ensures taken { IfOk result (TakesTrailers (held_in room.old held.old) (R.remaining r.old) (R.remaining r.new)
-        (held_in room.new held.new)) }
-    ensures exact { ReadsNoFurther ahead held.old held.new }
-    ensures read { (result ≡ Err LinkFault.Read) ↔ (before < R.failure_count r.new) }
+    ensures lies { LiesBehind done room.new intake.new.held }
+    ensures taken { IfOk result (TakesTrailers (held_in room.old intake.old.held) (R.remaining r.old) (R.remaining r.new)
+        (held_in room.new intake.new.held)) }
+    ensures exact { ReadsNoFurther manner.reach intake.old.held intake.new.held }
+    ensures read { (result ≡ Err LinkFault.Read) ↔ (manner.before < R.failure_count r.new) }
     ensures write { result ≢ Err LinkFault.Write }
-    ensures spent { result ≡ Err LinkFault.Turns → turns.new ≡ 0 }
-    ensures made { Spends R.was_read r.old r.new turns.old turns.new }
+    ensures spent { result ≡ Err LinkFault.Turns → intake.new.turns ≡ 0 }
+    ensures made { Spends R.was_read r.old r.new intake.old.turns intake.new.turns }
 {
     let mut text = [0u8; MAX_HEAD];
-    match read_text(
-        r,
-        room,
-        held,
-        done,
-        ahead,
-        Sought::Section,
-        &mut text,
-        before,
-        turns,
-    )? {
+    match read_text(r, room, intake, done, Sought::Section, &mut text, manner)? {
         Text::Found(n) => {
             if are_trailers(&text[..n]) {
                 return Ok(Checked::Right);

@@ -1,14 +1,15 @@
-//! The readers of heads: one byte at a time, so that no byte behind them is taken, or in what has come.
+//! The reader of heads.
 
-ghost use Rattle.std.specs.Prelude.{◌≡◌, ◌≢◌, ◌↔◌, ◌+◌, ◌-◌, ◌<◌, ◌≤◌, ◌++◌, ◌∷◌, [], length, take, false, Ok, Err, IfOk};
+ghost use Rattle.std.specs.Prelude.{◌≡◌, ◌≢◌, ◌↔◌, ◌-◌, ◌<◌, ◌≤◌, length, take, false, Err, IfOk};
 ghost use Rattle.http_link.specs.Counts.{Spends};
 ghost use Rattle.http_link.specs.Grammars.{ends_empty_line};
-ghost use Rattle.http_link.specs.Reading.{Decides, GoesOn, HeadIsFound, HeadIsRead, Sees};
+ghost use Rattle.http_link.specs.Reading.{Decides, EndsAt, GoesOn, HeadIsFound, Sees, SeesFurther};
 ghost use Rattle.http_link.specs.Limits.{max_head};
 
 use crate::devices::Source;
 use crate::grammar::{HeadSpans, Offered};
-use crate::streams::{LinkFault, Pulled, pull, read_some};
+use crate::intake::{Intake, Manner, Reach};
+use crate::streams::{LinkFault, fetch};
 use httparse::spans::HeaderSpan;
 
 /// The most bytes of a head.
@@ -46,25 +47,6 @@ fn examine<H: HeadSpans>(text: &[u8], parsed: &mut usize, lines: &mut [HeaderSpa
     H::parse(text, lines)
 }
 
-// Puts a byte behind the first n, of which so many were parsed before, and examines them.
-fn offer<H: HeadSpans>(
-    text: &mut [u8],
-    n: usize,
-    b: u8,
-    parsed: &mut usize,
-    lines: &mut [HeaderSpan],
-) -> Offered<H>
-    requires room { n < length text.old }
-    requires inside { GoesOn H.grammar (take n text.old) (length lines.old) }
-    ensures grows { take (n + 1) text.new ≡ take n text.old ++ b ∷ [] }
-    ensures len { length text.new ≡ length text.old }
-    ensures lines { length lines.new ≡ length lines.old }
-    ensures decides { Decides H.grammar (take (n + 1) text.new) (length lines.old) lines.new result }
-{
-    text[n] = b;
-    examine(&text[..n + 1], parsed, lines)
-}
-
 // Looks for the end of a head in a text, of which so many bytes were looked at before, and so many parsed.
 fn scan<H: HeadSpans>(
     text: &[u8],
@@ -76,6 +58,7 @@ fn scan<H: HeadSpans>(
     requires inside { GoesOn H.grammar (take seen.old text.now) (length lines.old) }
     ensures lines { length lines.new ≡ length lines.old }
     ensures seen { seen.new ≤ length text.now }
+    ensures further { SeesFurther seen.old seen.new result }
     ensures sees { Sees H.grammar text.now seen.new (length lines.old) lines.new result }
 {
     while *seen < text.len() {
@@ -89,33 +72,36 @@ fn scan<H: HeadSpans>(
     Offered::Partial
 }
 
-/// Reads on until a head stands at the front of the room, where some bytes stand already, or none can, and counts how many
-/// stand there. Where the stream has ended, the answer is `Partial`.
+/// Reads on until a head stands at the front of the room, where some bytes are held already, or none can. Where the stream has
+/// ended, the answer is `Partial`.
 pub(crate) fn find_head<H: HeadSpans, R: Source>(
     r: &mut R,
     room: &mut [u8],
-    had: &mut usize,
+    intake: &mut Intake,
     lines: &mut [HeaderSpan],
-    before: u64,
-    turns: &mut u32,
+    manner: Manner,
 ) -> Result<Offered<H>, LinkFault>
-    requires there { had.old ≤ length room.old }
+    requires front { intake.old.held.from ≡ 0 }
+    requires there { intake.old.held.to ≤ length room.old }
     requires wide { max_head ≤ length room.old }
-    requires unfailed { R.failure_count r.old ≤ before }
+    requires unfailed { R.failure_count r.old ≤ manner.before }
     ensures len { length room.new ≡ length room.old }
     ensures lines { length lines.new ≡ length lines.old }
-    ensures there { had.new ≤ length room.new }
-    ensures found { IfOk result (HeadIsFound H.grammar (take had.old room.old) (R.remaining r.old) (R.remaining r.new)
-        (take had.new room.new) lines.new) }
-    ensures read { (result ≡ Err LinkFault.Read) ↔ (before < R.failure_count r.new) }
+    ensures front { intake.new.held.from ≡ 0 }
+    ensures there { intake.new.held.to ≤ length room.new }
+    ensures found { IfOk result (HeadIsFound H.grammar (take intake.old.held.to room.old) (R.remaining r.old) (R.remaining r.new)
+        (take intake.new.held.to room.new) lines.new) }
+    ensures exact { manner.reach ≡ Reach.Needed → intake.old.held.to ≡ 0
+        → IfOk result (EndsAt H.grammar intake.new.held.to) }
+    ensures read { (result ≡ Err LinkFault.Read) ↔ (manner.before < R.failure_count r.new) }
     ensures write { result ≢ Err LinkFault.Write }
-    ensures spent { result ≡ Err LinkFault.Turns → turns.new ≡ 0 }
-    ensures made { Spends R.was_read r.old r.new turns.old turns.new }
+    ensures spent { result ≡ Err LinkFault.Turns → intake.new.turns ≡ 0 }
+    ensures made { Spends R.was_read r.old r.new intake.old.turns intake.new.turns }
 {
     let mut seen = 0;
     let mut parsed = 0;
-    while *turns > 0 {
-        let end = (*had).min(MAX_HEAD);
+    loop {
+        let end = intake.held.to.min(MAX_HEAD);
         match scan(&room[..end], &mut seen, &mut parsed, lines) {
             Offered::Partial => {}
             Offered::Whole(spans) => return Ok(Offered::Whole(spans)),
@@ -124,55 +110,11 @@ pub(crate) fn find_head<H: HeadSpans, R: Source>(
         if end == MAX_HEAD {
             return Ok(Offered::Malformed);
         }
-        *turns -= 1;
-        let limit = room.len();
-        match read_some(r, room, end, limit, before)? {
-            Some(0) => return Ok(Offered::Partial),
-            Some(n) => *had += n,
-            None => {}
+        let limit = manner.reach.limit(end, room.len());
+        let n = fetch(r, room, end, limit, manner.before, &mut intake.turns)?;
+        if n == 0 {
+            return Ok(Offered::Partial);
         }
+        intake.held.to += n;
     }
-    Err(LinkFault::Turns)
-}
-
-/// Reads a head. It has as many bytes as the text at most, and as many field lines as there are lines.
-/// Where the stream has ended, the answer is `Partial`.
-pub(crate) fn read_head<H: HeadSpans, R: Source>(
-    r: &mut R,
-    text: &mut [u8],
-    lines: &mut [HeaderSpan],
-    before: u64,
-    turns: &mut u32,
-) -> Result<Offered<H>, LinkFault>
-    requires unfailed { R.failure_count r.old ≤ before }
-    ensures len { length text.new ≡ length text.old }
-    ensures lines { length lines.new ≡ length lines.old }
-    ensures head { IfOk result (HeadIsRead H.grammar (R.remaining r.old) (R.remaining r.new) text.new lines.new) }
-    ensures read { (result ≡ Err LinkFault.Read) ↔ (before < R.failure_count r.new) }
-    ensures write { result ≢ Err LinkFault.Write }
-    ensures spent { result ≡ Err LinkFault.Turns → turns.new ≡ 0 }
-    ensures made { Spends R.was_read r.old r.new turns.old turns.new }
-{
-    let mut n = 0;
-    let mut parsed = 0;
-    while *turns > 0 {
-        if n >= text.len() {
-            return Ok(Offered::Malformed);
-        }
-        *turns -= 1;
-        match pull(r, before)? {
-            Pulled::Nothing => {}
-            Pulled::End => return Ok(Offered::Partial),
-            Pulled::Byte(b) => {
-                let offered = offer(text, n, b, &mut parsed, lines);
-                n += 1;
-                match offered {
-                    Offered::Partial => {}
-                    Offered::Whole(spans) => return Ok(Offered::Whole(spans)),
-                    Offered::Malformed => return Ok(Offered::Malformed),
-                }
-            }
-        }
-    }
-    Err(LinkFault::Turns)
 }

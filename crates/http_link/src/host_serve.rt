@@ -14,13 +14,14 @@ ghost use Rattle.http_link.specs.Serving.{AsksAtMostOnce, WritesNothingOr400};
 use crate::answer::head_with;
 use crate::devices::{Sink, Source};
 use crate::grammar::Offered;
-use crate::head::{MAX_HEAD, MAX_LINES, read_head};
+use crate::head::{MAX_HEAD, MAX_LINES, find_head};
 use crate::host_request::{HostRefusal, HostRequest, HostWanted, host_wanted_of};
 use crate::host_service::HostService;
+use crate::intake::NOTHING;
 use crate::line_buffer::write_message;
 use crate::request::RequestHead;
-use crate::serve::{Failures, Served, head_in, refuse};
-use crate::streams::{LinkFault, MAX_READS};
+use crate::serve::{Before, Served, head_in, refuse};
+use crate::streams::LinkFault;
 use httparse::spans::{EMPTY_HEADER_SPAN, RequestSpans};
 
 /// Reads one request of whoever runs the process, asks the service where nothing refuses it, and writes the answer, behind
@@ -68,14 +69,11 @@ pub fn serve_host<R: Source, W: Sink, S: HostService>(
     ensures turns { result ≡ Err LinkFault.Turns
         → MadeAll R.was_read r.old r.new ⊎ MadeAll W.was_written w.old w.new }
 {
-    let before = Failures {
-        reads: r.failures(),
-        writes: w.failures(),
-    };
-    let mut turns = MAX_READS;
+    let before = Before::one(r, w);
+    let mut intake = NOTHING;
     let mut text = [0u8; MAX_HEAD];
     let mut lines = [EMPTY_HEADER_SPAN; MAX_LINES];
-    match read_head::<RequestSpans, _>(r, &mut text, &mut lines, before.reads, &mut turns)? {
+    match find_head::<RequestSpans, _>(r, &mut text, &mut intake, &mut lines, before.manner)? {
         Offered::Partial => Ok(Served::Ended),
         Offered::Malformed => refuse(w, 400, before.writes),
         Offered::Whole(spans) => {

@@ -2,6 +2,7 @@
 
 ghost use Rattle.std.specs.Prelude.{◌≡◌, ◌≢◌, ◌↔◌, ◌+◌, ◌<◌, ◌≤◌, ◌⊎◌, List, ℕ, length, take, drop, Some, Ok, Err, IfOk};
 ghost use Rattle.std.specs.Io.KnownBytes.{Appends};
+ghost use Rattle.http_link.specs.BodyReading.{LiesBehind};
 ghost use Rattle.http_link.specs.Counts.{MadeAll, Spends};
 ghost use Rattle.http_link.specs.Connections.{AsksNext, Awaits, ServesNext};
 ghost use Rattle.http_link.specs.Lines.{head_in};
@@ -13,11 +14,12 @@ ghost use Rattle.http_link.specs.Limits.{max_body, max_request};
 use crate::devices::{Sink, Source};
 use crate::grammar::Offered;
 use crate::head::{MAX_HEAD, MAX_LINES, find_head};
-use crate::held::Held;
+use crate::held::{Held, move_to_front};
+use crate::intake::{Intake, Manner, Reach};
 use crate::request::MAX_BODY;
-use crate::serve::{Failures, Served, head_in, refuse, serve_head};
+use crate::serve::{Before, Served, head_in, refuse, serve_head};
 use crate::service::Service;
-use crate::streams::{LinkFault, MAX_READS, read_some};
+use crate::streams::{LinkFault, MAX_READS, fetch};
 use httparse::spans::{EMPTY_HEADER_SPAN, HeaderSpan, RequestSpans};
 use std::marker::Model;
 
@@ -137,34 +139,11 @@ fn await_any<R: Source>(r: &mut R, room: &mut [u8], held: &mut Held) -> Result<b
     if held.from < held.to {
         return Ok(true);
     }
-    *held = Held { from: 0, to: 0 };
-    let before = r.failures();
-    let limit = room.len();
+    let (before, limit) = (r.failures(), room.len());
     let mut turns = MAX_READS;
-    while turns > 0 {
-        turns -= 1;
-        if let Some(n) = read_some(r, room, 0, limit, before)? {
-            held.to = n;
-            return Ok(n > 0);
-        }
-    }
-    Err(LinkFault::Turns)
-}
-
-// Moves what is held to the front of the room.
-fn move_to_front(room: &mut [u8], held: &mut Held)
-    requires within { (held.old.from ≤ held.old.to) × (held.old.to ≤ length room.old) }
-    ensures len { length room.new ≡ length room.old }
-    ensures within { held.new.to ≤ length room.new }
-    ensures front { held.new.from ≡ 0 }
-    ensures same { take held.new.to room.new ≡ held_in room.old held.old }
-{
-    let Held { from, to } = *held;
-    room.copy_within(from..to, 0);
-    *held = Held {
-        from: 0,
-        to: to - from,
-    };
+    let n = fetch(r, room, 0, limit, before, &mut turns)?;
+    *held = Held { from: 0, to: n };
+    Ok(n > 0)
 }
 
 // Serves the next request, of which some bytes are held in the room.
@@ -194,27 +173,73 @@ fn serve_held<R: Source, W: Sink, S: Service>(
     ensures turns { result ≡ Err LinkFault.Turns
         → MadeAll R.was_read r.old r.new ⊎ MadeAll W.was_written w.old w.new }
 {
-    let before = Failures {
-        reads: r.failures(),
+    let before = Before {
+        manner: Manner {
+            reach: Reach::Ahead,
+            before: r.failures(),
+        },
         writes: w.failures(),
     };
     move_to_front(room, held);
-    let mut turns = MAX_READS;
+    let mut intake = Intake {
+        held: *held,
+        turns: MAX_READS,
+    };
+    let result = serve_from_front(r, w, service, room, &mut intake, before);
+    *held = intake.held;
+    result
+}
+
+// The same, of what is held at the front of the room.
+fn serve_from_front<R: Source, W: Sink, S: Service>(
+    r: &mut R,
+    w: &mut W,
+    service: &mut S,
+    room: &mut [u8],
+    intake: &mut Intake,
+    before: Before,
+) -> Result<Served, LinkFault>
+    requires wide { max_request ≤ length room.old }
+    requires front { intake.old.held.from ≡ 0 }
+    requires there { intake.old.held.to ≤ length room.old }
+    requires reads { R.failure_count r.old ≤ before.manner.before }
+    requires writes { W.failure_count w.old ≤ before.writes }
+    ensures len { length room.new ≡ length room.old }
+    ensures lies { LiesBehind 0 room.new intake.new.held }
+    ensures serves { IfOk result (ServesNext (S.tenant_of service.old) (take intake.old.held.to room.old) (R.remaining r.old) (R.remaining r.new) (record {
+      Unasked = service.new ≡ service.old;
+      Asks = λ question. S.asks service.old question service.new;
+      answer = S.answer service.new;
+      left = Some (held_in room.new intake.new.held);
+      Writes = λ text. Appends (W.contents w.old) (W.contents w.new) text;
+    })) }
+    ensures asks { AsksNext (S.tenant_of service.old) (take intake.old.held.to room.old) (R.remaining r.old) (R.remaining r.new)
+        (service.new ≡ service.old) (λ question. S.asks service.old question service.new) }
+    ensures unread { result ≡ Err LinkFault.Read → service.new ≡ service.old }
+    ensures read { (result ≡ Err LinkFault.Read) ↔ (before.manner.before < R.failure_count r.new) }
+    ensures write { (result ≡ Err LinkFault.Write) ↔ (before.writes < W.failure_count w.new) }
+    ensures turns { result ≡ Err LinkFault.Turns
+        → Spends R.was_read r.old r.new intake.old.turns 0 ⊎ MadeAll W.was_written w.old w.new }
+{
     let mut lines = [EMPTY_HEADER_SPAN; MAX_LINES];
-    match find_head::<RequestSpans, _>(
-        r,
-        room,
-        &mut held.to,
-        &mut lines,
-        before.reads,
-        &mut turns,
-    )? {
+    match find_head::<RequestSpans, _>(r, room, intake, &mut lines, before.manner)? {
         Offered::Partial => Ok(Served::Ended),
         Offered::Malformed => refuse(w, 400, before.writes),
         Offered::Whole(spans) => {
-            serve_found(r, w, service, room, held, &lines, spans, before, &mut turns)
+            let parsed = Parsed {
+                lines: &lines,
+                spans,
+            };
+            serve_found(r, w, service, room, intake, parsed, before)
         }
     }
+}
+
+// A head that stands at the front of a room: its field lines, and where its parts lie.
+#[derive(Clone, Copy)]
+struct Parsed<'b> {
+    lines: &'b [HeaderSpan],
+    spans: RequestSpans,
 }
 
 // Serves the request whose head was found at the front of what is held.
@@ -223,47 +248,47 @@ fn serve_found<R: Source, W: Sink, S: Service>(
     w: &mut W,
     service: &mut S,
     room: &mut [u8],
-    held: &mut Held,
-    lines: &[HeaderSpan],
-    spans: RequestSpans,
-    before: Failures,
-    turns: &mut u32,
+    intake: &mut Intake,
+    parsed: Parsed<'_>,
+    before: Before,
 ) -> Result<Served, LinkFault>
-    requires wide { spans.len + max_body ≤ length room.old }
-    requires front { held.old.from ≡ 0 }
-    requires there { (spans.len ≤ held.old.to) × (held.old.to ≤ length room.old) }
-    requires head { IsRequest (take spans.len room.old) lines.now spans }
-    requires reads { R.failure_count r.old ≤ before.reads }
+    requires wide { parsed.spans.len + max_body ≤ length room.old }
+    requires front { intake.old.held.from ≡ 0 }
+    requires there { (parsed.spans.len ≤ intake.old.held.to) × (intake.old.held.to ≤ length room.old) }
+    requires head { IsRequest (take parsed.spans.len room.old) parsed.lines.now parsed.spans }
+    requires reads { R.failure_count r.old ≤ before.manner.before }
     requires writes { W.failure_count w.old ≤ before.writes }
     ensures len { length room.new ≡ length room.old }
-    ensures within { (held.new.from ≤ held.new.to) × (held.new.to ≤ length room.new) }
-    ensures runs { IfOk result (Runs (wanted_of (S.tenant_of service.old) (head_in (take spans.len room.old) lines.now spans))
-        (head_in (take spans.len room.old) lines.now spans) (drop spans.len (take held.old.to room.old)) (R.remaining r.old) (R.remaining r.new) (record {
+    ensures lies { LiesBehind 0 room.new intake.new.held }
+    ensures runs { IfOk result (Runs (wanted_of (S.tenant_of service.old) (head_in (take parsed.entry.spans.len room.old) parsed.entry.lines.now parsed.entry.spans))
+        (head_in (take parsed.entry.spans.len room.old) parsed.entry.lines.now parsed.entry.spans) (drop parsed.entry.spans.len (take intake.old.held.to room.old)) (R.remaining r.old) (R.remaining r.new) (record {
           Unasked = service.new ≡ service.old;
           Asks = λ question. S.asks service.old question service.new;
           answer = S.answer service.new;
-          left = Some (held_in room.new held.new);
+          left = Some (held_in room.new intake.new.held);
           Writes = λ text. Appends (W.contents w.old) (W.contents w.new) text;
         })) }
-    ensures asks { AsksWanted (wanted_of (S.tenant_of service.old) (head_in (take spans.len room.old) lines.now spans))
-        (drop spans.len (take held.old.to room.old)) (R.remaining r.old) (R.remaining r.new)
+    ensures asks { AsksWanted (wanted_of (S.tenant_of service.old) (head_in (take parsed.entry.spans.len room.old) parsed.entry.lines.now parsed.entry.spans))
+        (drop parsed.entry.spans.len (take intake.old.held.to room.old)) (R.remaining r.old) (R.remaining r.new)
         (service.new ≡ service.old) (λ question. S.asks service.old question service.new) }
     ensures unread { result ≡ Err LinkFault.Read → service.new ≡ service.old }
-    ensures read { (result ≡ Err LinkFault.Read) ↔ (before.reads < R.failure_count r.new) }
+    ensures read { (result ≡ Err LinkFault.Read) ↔ (before.manner.before < R.failure_count r.new) }
     ensures write { (result ≡ Err LinkFault.Write) ↔ (before.writes < W.failure_count w.new) }
     ensures turns { result ≡ Err LinkFault.Turns
-        → Spends R.was_read r.old r.new turns.old 0 ⊎ MadeAll W.was_written w.old w.new }
+        → Spends R.was_read r.old r.new intake.old.turns 0 ⊎ MadeAll W.was_written w.old w.new }
 {
-    let (text, rest) = room.split_at_mut(spans.len);
-    let head = head_in(text, lines, spans);
-    let mut behind = Held {
+    let len = parsed.spans.len;
+    let (text, rest) = room.split_at_mut(len);
+    let head = head_in(text, parsed.lines, parsed.spans);
+    intake.held = Held {
         from: 0,
-        to: held.to - spans.len,
+        to: intake.held.to - len,
     };
-    let result = serve_head(r, w, service, rest, &mut behind, &head, true, before, turns);
-    *held = Held {
-        from: spans.len + behind.from,
-        to: spans.len + behind.to,
+    let result = serve_head(r, w, service, rest, intake, &head, before);
+    let Held { from, to } = intake.held;
+    intake.held = Held {
+        from: len + from,
+        to: len + to,
     };
     result
 }

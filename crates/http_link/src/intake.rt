@@ -1,15 +1,59 @@
-//! What follows a head, byte by byte: bytes that have come, and behind them those of the reader.
+//! What follows a head, byte by byte: bytes that have come, and then those of the reader.
 
-ghost use Rattle.std.specs.Prelude.{◌≡◌, ◌≢◌, ◌↔◌, ◌<◌, ◌≤◌, length, take, Err, IfOk};
+ghost use Rattle.std.specs.Prelude.{◌≡◌, ◌≢◌, ◌↔◌, ◌+◌, ◌<◌, ◌≤◌, length, take, Err, IfOk};
 ghost use Rattle.http_link.specs.Counts.{Spends};
 ghost use Rattle.http_link.specs.Grammars.{ends_empty_line};
-ghost use Rattle.http_link.specs.BodyReading.{LiesBehind, PullsNext, ReadsNoFurther, TakesNext, TakesText, ends_sought};
+ghost use Rattle.http_link.specs.BodyReading.{LiesBehind, ReadsNoFurther, TakesNext, TakesText, ends_sought};
 ghost use Rattle.http_link.specs.Running.{held_in};
 
 use crate::devices::Source;
 use crate::head::ends_empty_line;
 use crate::held::Held;
-use crate::streams::{LinkFault, Pulled, pull, read_some};
+use crate::streams::{LinkFault, MAX_READS, fetch, fetch_one};
+
+/// How much of a stream is taken.
+#[derive(Clone, Copy, Debug, PartialEq, Eq)]
+pub(crate) enum Reach {
+    /// No more than is needed: what follows stays in the reader.
+    Needed,
+    /// As much as there is room for.
+    Ahead,
+}
+
+impl Reach {
+    /// Up to where a read may fill a room of that size from a place on.
+    pub(crate) fn limit(self, at: usize, size: usize) -> usize
+        requires { at < size }
+        ensures some { at < result }
+        ensures within { result ≤ size }
+        ensures exact { self ≡ Reach.Needed → result ≡ at + 1 }
+    {
+        match self {
+            Reach::Needed => at + 1,
+            Reach::Ahead => size,
+        }
+    }
+}
+
+/// How a stream is read: how much of it, and how often the reader had failed before.
+#[derive(Clone, Copy)]
+pub(crate) struct Manner {
+    pub(crate) reach: Reach,
+    pub(crate) before: u64,
+}
+
+/// What of a stream has come and was not used, by its place in a room, and how many reads may still be made.
+#[derive(Clone, Copy)]
+pub(crate) struct Intake {
+    pub(crate) held: Held,
+    pub(crate) turns: u32,
+}
+
+/// Nothing has come, and all reads may still be made.
+pub(crate) const NOTHING: Intake = Intake {
+    held: Held { from: 0, to: 0 },
+    turns: MAX_READS,
+};
 
 /// A text that is looked for.
 #[derive(Clone, Copy, Debug, PartialEq, Eq)]
@@ -31,104 +75,46 @@ pub(crate) enum Text {
     Ended,
 }
 
-/// Takes the next byte: of those that are held in the room, else of the reader. Only with leave to read `ahead` more bytes
-/// may come, into the room behind those that are `done`.
+/// Takes the next byte: of those that are held in the room, else of the reader. What comes with it is held in the room from
+/// behind those bytes on that are done.
 pub(crate) fn next_byte<R: Source>(
     r: &mut R,
     room: &mut [u8],
-    held: &mut Held,
+    intake: &mut Intake,
     done: usize,
-    ahead: bool,
-    before: u64,
-    turns: &mut u32,
+    manner: Manner,
 ) -> Result<Option<u8>, LinkFault>
-    requires lies { LiesBehind done room.old held.old }
-    requires unfailed { R.failure_count r.old ≤ before }
+    requires lies { LiesBehind done room.old intake.old.held }
+    requires unfailed { R.failure_count r.old ≤ manner.before }
     ensures len { length room.new ≡ length room.old }
     ensures kept { IfOk result (λ given. take done room.new ≡ take done room.old) }
-    ensures lies { LiesBehind done room.new held.new }
-    ensures taken { IfOk result (TakesNext (held_in room.old held.old) (R.remaining r.old) (R.remaining r.new)
-        (held_in room.new held.new)) }
-    ensures exact { ReadsNoFurther ahead held.old held.new }
-    ensures read { (result ≡ Err LinkFault.Read) ↔ (before < R.failure_count r.new) }
+    ensures lies { LiesBehind done room.new intake.new.held }
+    ensures taken { IfOk result (TakesNext (held_in room.old intake.old.held) (R.remaining r.old) (R.remaining r.new)
+        (held_in room.new intake.new.held)) }
+    ensures exact { ReadsNoFurther manner.reach intake.old.held intake.new.held }
+    ensures read { (result ≡ Err LinkFault.Read) ↔ (manner.before < R.failure_count r.new) }
     ensures write { result ≢ Err LinkFault.Write }
-    ensures spent { result ≡ Err LinkFault.Turns → turns.new ≡ 0 }
-    ensures made { Spends R.was_read r.old r.new turns.old turns.new }
+    ensures spent { result ≡ Err LinkFault.Turns → intake.new.turns ≡ 0 }
+    ensures made { Spends R.was_read r.old r.new intake.old.turns intake.new.turns }
 {
-    if held.from < held.to {
-        let b = room[held.from];
-        held.from += 1;
-        return Ok(Some(b));
+    let Held { from, to } = intake.held;
+    if from < to {
+        intake.held.from += 1;
+        return Ok(Some(room[from]));
     }
-    if ahead && done < room.len() {
-        return refill(r, room, held, done, before, turns);
+    if done == room.len() {
+        return fetch_one(r, manner.before, &mut intake.turns);
     }
-    pull_next(r, before, turns)
-}
-
-// Reads into the room behind those bytes that are done, and takes the first that came.
-fn refill<R: Source>(
-    r: &mut R,
-    room: &mut [u8],
-    held: &mut Held,
-    done: usize,
-    before: u64,
-    turns: &mut u32,
-) -> Result<Option<u8>, LinkFault>
-    requires space { done < length room.old }
-    requires empty { held.old.to ≤ held.old.from }
-    requires lies { LiesBehind done room.old held.old }
-    requires unfailed { R.failure_count r.old ≤ before }
-    ensures len { length room.new ≡ length room.old }
-    ensures kept { IfOk result (λ given. take done room.new ≡ take done room.old) }
-    ensures lies { LiesBehind done room.new held.new }
-    ensures taken { IfOk result (TakesNext (held_in room.old held.old) (R.remaining r.old) (R.remaining r.new)
-        (held_in room.new held.new)) }
-    ensures read { (result ≡ Err LinkFault.Read) ↔ (before < R.failure_count r.new) }
-    ensures write { result ≢ Err LinkFault.Write }
-    ensures spent { result ≡ Err LinkFault.Turns → turns.new ≡ 0 }
-    ensures made { Spends R.was_read r.old r.new turns.old turns.new }
-{
-    while *turns > 0 {
-        *turns -= 1;
-        let limit = room.len();
-        match read_some(r, room, done, limit, before)? {
-            Some(0) => return Ok(None),
-            Some(n) => {
-                *held = Held {
-                    from: done + 1,
-                    to: done + n,
-                };
-                return Ok(Some(room[done]));
-            }
-            None => {}
-        }
+    let limit = manner.reach.limit(done, room.len());
+    let n = fetch(r, room, done, limit, manner.before, &mut intake.turns)?;
+    if n == 0 {
+        return Ok(None);
     }
-    Err(LinkFault::Turns)
-}
-
-/// Takes the next byte of the reader.
-pub(crate) fn pull_next<R: Source>(
-    r: &mut R,
-    before: u64,
-    turns: &mut u32,
-) -> Result<Option<u8>, LinkFault>
-    requires unfailed { R.failure_count r.old ≤ before }
-    ensures pulled { IfOk result (PullsNext (R.remaining r.old) (R.remaining r.new)) }
-    ensures read { (result ≡ Err LinkFault.Read) ↔ (before < R.failure_count r.new) }
-    ensures write { result ≢ Err LinkFault.Write }
-    ensures spent { result ≡ Err LinkFault.Turns → turns.new ≡ 0 }
-    ensures made { Spends R.was_read r.old r.new turns.old turns.new }
-{
-    while *turns > 0 {
-        *turns -= 1;
-        match pull(r, before)? {
-            Pulled::Byte(b) => return Ok(Some(b)),
-            Pulled::End => return Ok(None),
-            Pulled::Nothing => {}
-        }
-    }
-    Err(LinkFault::Turns)
+    intake.held = Held {
+        from: done + 1,
+        to: done + n,
+    };
+    Ok(Some(room[done]))
 }
 
 fn is_ended(sought: Sought, text: &[u8]) -> bool
@@ -146,31 +132,29 @@ fn is_ended(sought: Sought, text: &[u8]) -> bool
 pub(crate) fn read_text<R: Source>(
     r: &mut R,
     room: &mut [u8],
-    held: &mut Held,
+    intake: &mut Intake,
     done: usize,
-    ahead: bool,
     sought: Sought,
     text: &mut [u8],
-    before: u64,
-    turns: &mut u32,
+    manner: Manner,
 ) -> Result<Text, LinkFault>
-    requires lies { LiesBehind done room.old held.old }
-    requires unfailed { R.failure_count r.old ≤ before }
+    requires lies { LiesBehind done room.old intake.old.held }
+    requires unfailed { R.failure_count r.old ≤ manner.before }
     ensures len { length room.new ≡ length room.old }
     ensures kept { IfOk result (λ given. take done room.new ≡ take done room.old) }
-    ensures lies { LiesBehind done room.new held.new }
+    ensures lies { LiesBehind done room.new intake.new.held }
     ensures room { length text.new ≡ length text.old }
-    ensures taken { IfOk result (TakesText sought (held_in room.old held.old) (R.remaining r.old) (R.remaining r.new)
-        (held_in room.new held.new) text.new) }
-    ensures exact { ReadsNoFurther ahead held.old held.new }
-    ensures read { (result ≡ Err LinkFault.Read) ↔ (before < R.failure_count r.new) }
+    ensures taken { IfOk result (TakesText sought (held_in room.old intake.old.held) (R.remaining r.old) (R.remaining r.new)
+        (held_in room.new intake.new.held) text.new) }
+    ensures exact { ReadsNoFurther manner.reach intake.old.held intake.new.held }
+    ensures read { (result ≡ Err LinkFault.Read) ↔ (manner.before < R.failure_count r.new) }
     ensures write { result ≢ Err LinkFault.Write }
-    ensures spent { result ≡ Err LinkFault.Turns → turns.new ≡ 0 }
-    ensures made { Spends R.was_read r.old r.new turns.old turns.new }
+    ensures spent { result ≡ Err LinkFault.Turns → intake.new.turns ≡ 0 }
+    ensures made { Spends R.was_read r.old r.new intake.old.turns intake.new.turns }
 {
     let mut n = 0;
     while n < text.len() {
-        let Some(b) = next_byte(r, room, held, done, ahead, before, turns)? else {
+        let Some(b) = next_byte(r, room, intake, done, manner)? else {
             return Ok(Text::Ended);
         };
         text[n] = b;

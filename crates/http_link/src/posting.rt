@@ -6,19 +6,21 @@ ghost use Rattle.common_types.specs.Numbers.{is_between};
 ghost use Rattle.std.specs.Io.KnownBytes.{Appends};
 ghost use Rattle.http_link.specs.Counts.{MadeAll, Spends};
 ghost use Rattle.http_link.specs.Lines.{lines_at, occurrence_at};
-ghost use Rattle.http_link.specs.Client.{post_head, post_text, Means, given, GivesAs, GivesOf};
-ghost use Rattle.http_link.specs.Client.{IsMeaning, MeansBody, MeansCoded, sized_body, body_to_end};
+ghost use Rattle.http_link.specs.BodyReading.{LiesBehind};
+ghost use Rattle.http_link.specs.Client.{FitsAnswer, GivesAs, Means, framing_by, framing_in, given, post_head, post_text, sized_by};
+ghost use Rattle.http_link.specs.Fields.{value_of};
 ghost use Rattle.http_link.specs.Limits.{max_peer_answer, max_heads};
+ghost use Rattle.http_link.specs.Running.{held_in};
 
-use crate::bodies::{BodyFault, BodyRead};
-use crate::chunks::read_chunks;
+use crate::bodies::{BodyFault, BodyRead, Framing, read_body};
 use crate::devices::{Sink, Source};
 use crate::fields::{Found, Lines, is_chunked, is_length, value_up_to};
 use crate::grammar::Offered;
-use crate::head::{MAX_HEAD, MAX_LINES, read_head};
-use crate::held::Held;
+use crate::head::{MAX_LINES, find_head};
+use crate::held::move_to_front;
+use crate::intake::{Intake, Manner, NOTHING, Reach};
 use crate::line_buffer::{LineBuffer, write_message};
-use crate::streams::{LinkFault, MAX_READS, has_ended, read_up_to};
+use crate::streams::{LinkFault, has_ended, read_on};
 use common_types::limits::MAX_FRAME;
 use httparse::spans::{EMPTY_HEADER_SPAN, HeaderSpan, ResponseSpans};
 use ilp_addr::Target;
@@ -108,10 +110,14 @@ pub fn post<R: Source, W: Sink>(
     ensures turns { result ≡ Err PostFault.Turns
         → MadeAll R.was_read r.old r.new ⊎ MadeAll W.was_written w.old w.new }
 {
-    let (reads, writes) = (r.failures(), w.failures());
+    let (before, writes) = (r.failures(), w.failures());
     write_message(w, post_head(target, frame.len()), frame, writes)?;
-    let mut turns = MAX_READS;
-    read_answer(r, out, reads, &mut turns)
+    let manner = Manner {
+        reach: Reach::Ahead,
+        before,
+    };
+    let mut intake = NOTHING;
+    read_answer(r, out, &mut intake, manner)
 }
 
 // The head of the request that posts so many bytes.
@@ -133,36 +139,50 @@ fn post_head(target: &Target, size: usize) -> LineBuffer
     head
 }
 
-// Reads an answer: its heads and its body.
+// How the end of an answer's body is known. (RFC 9112, 6.3)
+#[derive(Clone, Copy, Debug, PartialEq, Eq)]
+pub(crate) enum AnswerFraming {
+    /// By its head.
+    Framed(Framing),
+    /// By the end of the stream.
+    ToEnd,
+}
+
+// Reads an answer, its heads and its body, in the room for it.
 fn read_answer<R: Source>(
     r: &mut R,
     out: &mut [u8],
-    before: u64,
-    turns: &mut u32,
+    intake: &mut Intake,
+    manner: Manner,
 ) -> Result<usize, PostFault>
     requires room { max_peer_answer ≤ length out.old }
-    requires unfailed { R.failure_count r.old ≤ before }
+    requires none { (intake.old.held.from ≡ 0) × (intake.old.held.to ≡ 0) }
+    requires unfailed { R.failure_count r.old ≤ manner.before }
     ensures means { (stream : List ℕ) → R.remaining r.old ≡ Some stream
         → result ≢ Err PostFault.Read → result ≢ Err PostFault.Turns → Means max_heads stream (given result out.new) }
     ensures bound { IfOk result (λ n. n ≤ max_peer_answer) }
     ensures len { length out.new ≡ length out.old }
-    ensures read { (result ≡ Err PostFault.Read) ↔ (before < R.failure_count r.new) }
+    ensures read { (result ≡ Err PostFault.Read) ↔ (manner.before < R.failure_count r.new) }
     ensures write { result ≢ Err PostFault.Write }
-    ensures spent { result ≡ Err PostFault.Turns → turns.new ≡ 0 }
-    ensures made { Spends R.was_read r.old r.new turns.old turns.new }
+    ensures spent { result ≡ Err PostFault.Turns → intake.new.turns ≡ 0 }
+    ensures made { Spends R.was_read r.old r.new intake.old.turns intake.new.turns }
 {
-    let mut text = [0u8; MAX_HEAD];
     let mut lines = [EMPTY_HEADER_SPAN; MAX_LINES];
     let mut heads = MAX_HEADS;
     while heads > 0 {
         heads -= 1;
-        match read_head::<ResponseSpans, _>(r, &mut text, &mut lines, before, turns)? {
+        move_to_front(out, &mut intake.held);
+        match find_head::<ResponseSpans, _>(r, out, intake, &mut lines, manner)? {
             Offered::Partial => return Err(PostFault::Cut),
             Offered::Malformed => return Err(PostFault::Head),
             Offered::Whole(spans) => {
+                intake.held.from = spans.len;
                 if !is_interim(spans.code) {
-                    let fields = lines_in(&text[..spans.len], &lines, spans);
-                    return read_last(r, out, spans.code, spans.version, fields, before, turns);
+                    let fields = lines_in(&out[..spans.len], &lines, spans);
+                    return match framing_in(spans.code, spans.version, fields) {
+                        Ok(framing) => read_framed(r, out, intake, framing, manner),
+                        Err(fault) => Err(fault),
+                    };
                 }
             }
         }
@@ -187,88 +207,74 @@ fn lines_in<'b>(text: &'b [u8], lines: &'b [HeaderSpan], spans: ResponseSpans) -
     }
 }
 
-// Reads the body behind the last head of an answer.
-fn read_last<R: Source>(
-    r: &mut R,
-    out: &mut [u8],
-    status: u16,
-    minor: u8,
-    fields: Lines<'_>,
-    before: u64,
-    turns: &mut u32,
-) -> Result<usize, PostFault>
-    requires room { max_peer_answer ≤ length out.old }
-    requires unfailed { R.failure_count r.old ≤ before }
-    ensures gives { GivesAs (IsMeaning (record { status = status; minor = minor; lines = lines_at fields.entry }))
-        (R.remaining r.old) result out.new }
-    ensures bound { IfOk result (λ n. n ≤ max_peer_answer) }
-    ensures len { length out.new ≡ length out.old }
-    ensures read { (result ≡ Err PostFault.Read) ↔ (before < R.failure_count r.new) }
-    ensures write { result ≢ Err PostFault.Write }
-    ensures spent { result ≡ Err PostFault.Turns → turns.new ≡ 0 }
-    ensures made { Spends R.was_read r.old r.new turns.old turns.new }
+// How the body behind the last head of an answer is framed.
+fn framing_in(status: u16, minor: u8, fields: Lines<'_>) -> Result<AnswerFraming, PostFault>
+    ensures value { result ≡ framing_in (record { status = status; minor = minor; lines = lines_at fields.entry }) }
+    ensures bound { IfOk result FitsAnswer }
+    ensures own { (result ≢ Err PostFault.Read) × (result ≢ Err PostFault.Write) × (result ≢ Err PostFault.Turns) }
 {
     if status != 200 {
         return Err(PostFault::Status);
     }
     let coded = fields.find(b"Transfer-Encoding");
-    let stated = fields.find(b"Content-Length");
-    read_framed(r, out, minor, coded, stated, before, turns)
+    framing_by(minor, coded, fields.find(b"Content-Length"))
 }
 
-// Reads a body by the lines on its coding and its length.
-fn read_framed<R: Source>(
-    r: &mut R,
-    out: &mut [u8],
-    minor: u8,
-    coded: Found<'_>,
-    stated: Found<'_>,
-    before: u64,
-    turns: &mut u32,
-) -> Result<usize, PostFault>
-    requires room { max_peer_answer ≤ length out.old }
-    requires unfailed { R.failure_count r.old ≤ before }
-    ensures gives { GivesAs (MeansBody minor (occurrence_at coded.entry) (occurrence_at stated.entry))
-        (R.remaining r.old) result out.new }
-    ensures bound { IfOk result (λ n. n ≤ max_peer_answer) }
-    ensures len { length out.new ≡ length out.old }
-    ensures read { (result ≡ Err PostFault.Read) ↔ (before < R.failure_count r.new) }
-    ensures write { result ≢ Err PostFault.Write }
-    ensures spent { result ≡ Err PostFault.Turns → turns.new ≡ 0 }
-    ensures made { Spends R.was_read r.old r.new turns.old turns.new }
+// How a body is framed by the lines on its coding and its length.
+fn framing_by(minor: u8, coded: Found<'_>, stated: Found<'_>) -> Result<AnswerFraming, PostFault>
+    ensures value { result ≡ framing_by minor (occurrence_at coded.entry) (occurrence_at stated.entry) }
+    ensures bound { IfOk result FitsAnswer }
+    ensures own { (result ≢ Err PostFault.Read) × (result ≢ Err PostFault.Write) × (result ≢ Err PostFault.Turns) }
 {
     match (coded, stated) {
-        (Found::Missing, Found::Missing) => read_to_end(r, out, before, turns),
-        (Found::Missing, Found::Once(text)) if is_length(text) => {
-            let size = value_up_to(text, MAX_PEER_ANSWER as u64 + 1) as usize;
-            read_sized(r, out, size, before, turns)
-        }
+        (Found::Missing, Found::Missing) => Ok(AnswerFraming::ToEnd),
+        (Found::Missing, Found::Once(text)) if is_length(text) => sized_by(text),
         (Found::Once(coding), Found::Missing) if minor == 1 && is_chunked(coding) => {
-            read_chunked(r, out, before, turns)
+            Ok(AnswerFraming::Framed(Framing::Chunked(MAX_PEER_ANSWER)))
         }
         _ => Err(PostFault::Unframed),
     }
 }
 
-// Reads a body in chunks.
-fn read_chunked<R: Source>(
+// A body of the length that a text states.
+fn sized_by(text: &[u8]) -> Result<AnswerFraming, PostFault>
+    ensures value { result ≡ sized_by (value_of text.now) }
+    ensures bound { IfOk result FitsAnswer }
+    ensures own { (result ≢ Err PostFault.Read) × (result ≢ Err PostFault.Write) × (result ≢ Err PostFault.Turns) }
+{
+    let size = value_up_to(text, MAX_PEER_ANSWER as u64 + 1) as usize;
+    if size > MAX_PEER_ANSWER {
+        Err(PostFault::Size)
+    } else {
+        Ok(AnswerFraming::Framed(Framing::Sized(size)))
+    }
+}
+
+// Reads a body that is framed so, of which some bytes are held in the room.
+fn read_framed<R: Source>(
     r: &mut R,
     out: &mut [u8],
-    before: u64,
-    turns: &mut u32,
+    intake: &mut Intake,
+    framing: AnswerFraming,
+    manner: Manner,
 ) -> Result<usize, PostFault>
     requires room { max_peer_answer ≤ length out.old }
-    requires unfailed { R.failure_count r.old ≤ before }
-    ensures gives { GivesAs (MeansCoded true) (R.remaining r.old) result out.new }
+    requires lies { LiesBehind 0 out.old intake.old.held }
+    requires fits { FitsAnswer framing }
+    requires unfailed { R.failure_count r.old ≤ manner.before }
+    ensures gives { GivesAs framing (held_in out.old intake.old.held) (R.remaining r.old) result out.new }
     ensures bound { IfOk result (λ n. n ≤ max_peer_answer) }
     ensures len { length out.new ≡ length out.old }
-    ensures read { (result ≡ Err PostFault.Read) ↔ (before < R.failure_count r.new) }
+    ensures read { (result ≡ Err PostFault.Read) ↔ (manner.before < R.failure_count r.new) }
     ensures write { result ≢ Err PostFault.Write }
-    ensures spent { result ≡ Err PostFault.Turns → turns.new ≡ 0 }
-    ensures made { Spends R.was_read r.old r.new turns.old turns.new }
+    ensures spent { result ≡ Err PostFault.Turns → intake.new.turns ≡ 0 }
+    ensures made { Spends R.was_read r.old r.new intake.old.turns intake.new.turns }
 {
-    let mut held = Held { from: 0, to: 0 };
-    match read_chunks(r, out, &mut held, MAX_PEER_ANSWER, true, before, turns)? {
+    let framing = match framing {
+        AnswerFraming::Framed(framing) => framing,
+        AnswerFraming::ToEnd => return read_to_end(r, out, intake, manner),
+    };
+    match read_body(r, out, intake, framing, manner)? {
         BodyRead::Whole(n) => Ok(n),
         BodyRead::Cut => Err(PostFault::Cut),
         BodyRead::Bad(BodyFault::Malformed) => Err(PostFault::Unframed),
@@ -276,50 +282,38 @@ fn read_chunked<R: Source>(
     }
 }
 
-// Reads a body of a stated length.
-fn read_sized<R: Source>(
-    r: &mut R,
-    out: &mut [u8],
-    size: usize,
-    before: u64,
-    turns: &mut u32,
-) -> Result<usize, PostFault>
-    requires room { max_peer_answer ≤ length out.old }
-    requires unfailed { R.failure_count r.old ≤ before }
-    ensures gives { GivesOf (sized_body size) (R.remaining r.old) result out.new }
-    ensures bound { IfOk result (λ n. n ≤ max_peer_answer) }
-    ensures len { length out.new ≡ length out.old }
-    ensures read { (result ≡ Err PostFault.Read) ↔ (before < R.failure_count r.new) }
-    ensures write { result ≢ Err PostFault.Write }
-    ensures spent { result ≡ Err PostFault.Turns → turns.new ≡ 0 }
-    ensures made { Spends R.was_read r.old r.new turns.old turns.new }
-{
-    if size > MAX_PEER_ANSWER {
-        return Err(PostFault::Size);
-    }
-    let n = read_up_to(r, out, size, before, turns)?;
-    if n < size { Err(PostFault::Cut) } else { Ok(n) }
-}
-
 // Reads a body that goes to the end of the stream.
 fn read_to_end<R: Source>(
     r: &mut R,
     out: &mut [u8],
-    before: u64,
-    turns: &mut u32,
+    intake: &mut Intake,
+    manner: Manner,
 ) -> Result<usize, PostFault>
     requires room { max_peer_answer ≤ length out.old }
-    requires unfailed { R.failure_count r.old ≤ before }
-    ensures gives { GivesOf body_to_end (R.remaining r.old) result out.new }
+    requires lies { LiesBehind 0 out.old intake.old.held }
+    requires unfailed { R.failure_count r.old ≤ manner.before }
+    ensures gives { GivesAs AnswerFraming.ToEnd (held_in out.old intake.old.held) (R.remaining r.old) result out.new }
     ensures bound { IfOk result (λ n. n ≤ max_peer_answer) }
     ensures len { length out.new ≡ length out.old }
-    ensures read { (result ≡ Err PostFault.Read) ↔ (before < R.failure_count r.new) }
+    ensures read { (result ≡ Err PostFault.Read) ↔ (manner.before < R.failure_count r.new) }
     ensures write { result ≢ Err PostFault.Write }
-    ensures spent { result ≡ Err PostFault.Turns → turns.new ≡ 0 }
-    ensures made { Spends R.was_read r.old r.new turns.old turns.new }
+    ensures spent { result ≡ Err PostFault.Turns → intake.new.turns ≡ 0 }
+    ensures made { Spends R.was_read r.old r.new intake.old.turns intake.new.turns }
 {
-    let n = read_up_to(r, out, MAX_PEER_ANSWER, before, turns)?;
-    if n < MAX_PEER_ANSWER || has_ended(r, before, turns)? {
+    move_to_front(out, &mut intake.held);
+    let had = intake.held.to;
+    let n = read_on(
+        r,
+        out,
+        had,
+        MAX_PEER_ANSWER,
+        manner.before,
+        &mut intake.turns,
+    )?;
+    if n > MAX_PEER_ANSWER {
+        return Err(PostFault::Size);
+    }
+    if n < MAX_PEER_ANSWER || has_ended(r, manner.before, &mut intake.turns)? {
         return Ok(n);
     }
     Err(PostFault::Size)

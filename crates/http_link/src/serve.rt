@@ -6,7 +6,7 @@ ghost use Rattle.httparse.specs.Grammar as grammar;
 ghost use Rattle.httparse.specs.Spans.{IsRequestWithin};
 ghost use Rattle.http_link.specs.Counts.{MadeAll, Spends};
 ghost use Rattle.http_link.specs.Bodies.{most_of, refusal_of};
-ghost use Rattle.http_link.specs.BodyReading.{ReadsNoFurther};
+ghost use Rattle.http_link.specs.BodyReading.{LiesBehind, ReadsNoFurther};
 ghost use Rattle.http_link.specs.Heads.{BeginsWith, head_of};
 ghost use Rattle.http_link.specs.Lines.{head_at, head_in, wanted_at};
 ghost use Rattle.http_link.specs.Requests.{closes, wanted_of};
@@ -21,12 +21,12 @@ use crate::bodies::{BodyFault, BodyRead, read_body};
 use crate::devices::{Sink, Source};
 use crate::fields::Lines;
 use crate::grammar::Offered;
-use crate::head::{MAX_HEAD, MAX_LINES, read_head};
-use crate::held::Held;
+use crate::head::{MAX_HEAD, MAX_LINES, find_head};
+use crate::intake::{Intake, Manner, NOTHING, Reach};
 use crate::line_buffer::write_message;
 use crate::request::{RequestHead, RequestKind, Wanted, closes, waits, wanted_of};
 use crate::service::Service;
-use crate::streams::{LinkFault, MAX_READS, write_all};
+use crate::streams::{LinkFault, write_all};
 use httparse::spans::{EMPTY_HEADER_SPAN, HeaderSpan, RequestSpans};
 
 /// What became of a connection.
@@ -40,11 +40,35 @@ pub enum Served {
     Ended,
 }
 
-/// How often both devices had failed before a request.
+/// How the stream of a request is read, and how often the writer had failed before it.
 #[derive(Clone, Copy)]
-pub(crate) struct Failures {
-    pub(crate) reads: u64,
+pub(crate) struct Before {
+    pub(crate) manner: Manner,
     pub(crate) writes: u64,
+}
+
+impl Before {
+    /// For one request alone: nothing that follows it is taken from the reader.
+    pub(crate) fn one<R: Source, W: Sink>(r: &R, w: &W) -> Before
+        ensures reach { result.manner.reach ≡ Reach.Needed }
+        ensures reads { result.manner.before ≡ R.failure_count r.now }
+        ensures writes { result.writes ≡ W.failure_count w.now }
+    {
+        Before {
+            manner: Manner {
+                reach: Reach::Needed,
+                before: r.failures(),
+            },
+            writes: w.failures(),
+        }
+    }
+}
+
+/// A request that nothing refuses: its head, and what it asks for.
+#[derive(Clone, Copy)]
+struct Request<'b> {
+    head: RequestHead<'b>,
+    wanted: Wanted<'b>,
 }
 
 /// Reads one request, asks the service where nothing refuses it, and writes the answer. (RFC 9112, 2 and 9.3)
@@ -95,22 +119,17 @@ pub fn serve_one<R: Source, W: Sink, S: Service>(
     ensures turns { result ≡ Err LinkFault.Turns
         → MadeAll R.was_read r.old r.new ⊎ MadeAll W.was_written w.old w.new }
 {
-    let before = Failures {
-        reads: r.failures(),
-        writes: w.failures(),
-    };
-    let mut turns = MAX_READS;
+    let before = Before::one(r, w);
+    let mut intake = NOTHING;
     let mut text = [0u8; MAX_HEAD];
     let mut lines = [EMPTY_HEADER_SPAN; MAX_LINES];
-    match read_head::<RequestSpans, _>(r, &mut text, &mut lines, before.reads, &mut turns)? {
+    match find_head::<RequestSpans, _>(r, &mut text, &mut intake, &mut lines, before.manner)? {
         Offered::Partial => Ok(Served::Ended),
         Offered::Malformed => refuse(w, 400, before.writes),
         Offered::Whole(spans) => {
             let head = head_in(&text[..spans.len], &lines, spans);
-            let mut held = Held { from: 0, to: 0 };
-            serve_head(
-                r, w, service, room, &mut held, &head, false, before, &mut turns,
-            )
+            intake.held = NOTHING.held;
+            serve_head(r, w, service, room, &mut intake, &head, before)
         }
     }
 }
@@ -149,47 +168,48 @@ pub(crate) fn refuse<W: Sink>(w: &mut W, status: u16, before: u64) -> Result<Ser
     Ok(Served::Closed)
 }
 
-/// Serves a request behind its head. At the front of the room stand the bytes that came with the head; in the end those are
-/// held that came behind the request. With leave to read `ahead` more may be taken from the reader than it has.
+/// Serves a request after its head. The bytes that came with the head are held in the room; in the end those are that follow
+/// the request.
 pub(crate) fn serve_head<R: Source, W: Sink, S: Service>(
     r: &mut R,
     w: &mut W,
     service: &mut S,
     room: &mut [u8],
-    held: &mut Held,
+    intake: &mut Intake,
     head: &RequestHead,
-    ahead: bool,
-    before: Failures,
-    turns: &mut u32,
+    before: Before,
 ) -> Result<Served, LinkFault>
     requires room { max_body ≤ length room.old }
-    requires front { held.old.from ≡ 0 }
-    requires there { held.old.to ≤ length room.old }
-    requires reads { R.failure_count r.old ≤ before.reads }
+    requires lies { LiesBehind 0 room.old intake.old.held }
+    requires reads { R.failure_count r.old ≤ before.manner.before }
     requires writes { W.failure_count w.old ≤ before.writes }
     ensures len { length room.new ≡ length room.old }
-    ensures held { (held.new.from ≤ held.new.to) × (held.new.to ≤ length room.new) }
+    ensures lies { LiesBehind 0 room.new intake.new.held }
     ensures runs { IfOk result (Runs (wanted_of (S.tenant_of service.old) (head_at head.now)) (head_at head.now)
-        (held_in room.old held.old) (R.remaining r.old) (R.remaining r.new) (record {
+        (held_in room.old intake.old.held) (R.remaining r.old) (R.remaining r.new) (record {
           Unasked = service.new ≡ service.old;
           Asks = λ question. S.asks service.old question service.new;
           answer = S.answer service.new;
-          left = Some (held_in room.new held.new);
+          left = Some (held_in room.new intake.new.held);
           Writes = λ text. Appends (W.contents w.old) (W.contents w.new) text;
         })) }
-    ensures asks { AsksWanted (wanted_of (S.tenant_of service.old) (head_at head.now)) (held_in room.old held.old)
+    ensures asks { AsksWanted (wanted_of (S.tenant_of service.old) (head_at head.now)) (held_in room.old intake.old.held)
         (R.remaining r.old) (R.remaining r.new) (service.new ≡ service.old) (λ question. S.asks service.old question service.new) }
     ensures unread { result ≡ Err LinkFault.Read → service.new ≡ service.old }
-    ensures no_further { ReadsNoFurther ahead held.old held.new }
-    ensures read { (result ≡ Err LinkFault.Read) ↔ (before.reads < R.failure_count r.new) }
+    ensures no_further { ReadsNoFurther before.manner.reach intake.old.held intake.new.held }
+    ensures read { (result ≡ Err LinkFault.Read) ↔ (before.manner.before < R.failure_count r.new) }
     ensures write { (result ≡ Err LinkFault.Write) ↔ (before.writes < W.failure_count w.new) }
     ensures turns { result ≡ Err LinkFault.Turns
-        → Spends R.was_read r.old r.new turns.old 0 ⊎ MadeAll W.was_written w.old w.new }
+        → Spends R.was_read r.old r.new intake.old.turns 0 ⊎ MadeAll W.was_written w.old w.new }
 {
     match wanted_of(service, head) {
-        Ok(wanted) => serve_wanted(
-            r, w, service, room, held, head, &wanted, ahead, before, turns,
-        ),
+        Ok(wanted) => {
+            let request = Request {
+                head: *head,
+                wanted,
+            };
+            serve_wanted(r, w, service, room, intake, request, before)
+        }
         Err(status) => refuse(w, status, before.writes),
     }
 }
@@ -200,40 +220,37 @@ fn serve_wanted<R: Source, W: Sink, S: Service>(
     w: &mut W,
     service: &mut S,
     room: &mut [u8],
-    held: &mut Held,
-    head: &RequestHead,
-    wanted: &Wanted,
-    ahead: bool,
-    before: Failures,
-    turns: &mut u32,
+    intake: &mut Intake,
+    request: Request<'_>,
+    before: Before,
 ) -> Result<Served, LinkFault>
-    requires size { most_of wanted.now.framing ≤ length room.old }
-    requires front { held.old.from ≡ 0 }
-    requires there { held.old.to ≤ length room.old }
-    requires reads { R.failure_count r.old ≤ before.reads }
+    requires size { most_of request.wanted.framing ≤ length room.old }
+    requires lies { LiesBehind 0 room.old intake.old.held }
+    requires reads { R.failure_count r.old ≤ before.manner.before }
     requires writes { W.failure_count w.old ≤ before.writes }
     ensures len { length room.new ≡ length room.old }
-    ensures held { (held.new.from ≤ held.new.to) × (held.new.to ≤ length room.new) }
-    ensures runs { IfOk result (Runs (Ok (wanted_at wanted.now)) (head_at head.now)
-        (held_in room.old held.old) (R.remaining r.old) (R.remaining r.new) (record {
+    ensures lies { LiesBehind 0 room.new intake.new.held }
+    ensures runs { IfOk result (Runs (Ok (wanted_at request.entry.wanted)) (head_at request.entry.head)
+        (held_in room.old intake.old.held) (R.remaining r.old) (R.remaining r.new) (record {
           Unasked = service.new ≡ service.old;
           Asks = λ question. S.asks service.old question service.new;
           answer = S.answer service.new;
-          left = Some (held_in room.new held.new);
+          left = Some (held_in room.new intake.new.held);
           Writes = λ text. Appends (W.contents w.old) (W.contents w.new) text;
         })) }
-    ensures asks { AsksWanted (Ok (wanted_at wanted.now)) (held_in room.old held.old) (R.remaining r.old)
+    ensures asks { AsksWanted (Ok (wanted_at request.entry.wanted)) (held_in room.old intake.old.held) (R.remaining r.old)
         (R.remaining r.new) (service.new ≡ service.old) (λ question. S.asks service.old question service.new) }
     ensures unread { result ≡ Err LinkFault.Read → service.new ≡ service.old }
-    ensures no_further { ReadsNoFurther ahead held.old held.new }
-    ensures read { (result ≡ Err LinkFault.Read) ↔ (before.reads < R.failure_count r.new) }
+    ensures no_further { ReadsNoFurther before.manner.reach intake.old.held intake.new.held }
+    ensures read { (result ≡ Err LinkFault.Read) ↔ (before.manner.before < R.failure_count r.new) }
     ensures write { (result ≡ Err LinkFault.Write) ↔ (before.writes < W.failure_count w.new) }
     ensures turns { result ≡ Err LinkFault.Turns
-        → Spends R.was_read r.old r.new turns.old 0 ⊎ MadeAll W.was_written w.old w.new }
+        → Spends R.was_read r.old r.new intake.old.turns 0 ⊎ MadeAll W.was_written w.old w.new }
 {
-    write_all(w, continue_text(waits(head)), before.writes)?;
-    match read_body(r, room, held, wanted.framing, ahead, before.reads, turns)? {
-        BodyRead::Whole(size) => answer(w, service, head, wanted, &room[..size], before.writes),
+    let Request { head, wanted } = request;
+    write_all(w, continue_text(waits(&head)), before.writes)?;
+    match read_body(r, room, intake, wanted.framing, before.manner)? {
+        BodyRead::Whole(size) => answer(w, service, &head, &wanted, &room[..size], before.writes),
         BodyRead::Cut => Ok(Served::Ended),
         BodyRead::Bad(fault) => refuse(w, refusal_of(fault), before.writes),
     }

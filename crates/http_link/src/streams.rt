@@ -1,9 +1,9 @@
-//! Single bytes and bodies that are read, and texts that are written.
+//! Reads, and texts that are written.
 
-ghost use Rattle.std.specs.Prelude.{◌≡◌, ◌≢◌, ◌↔◌, ◌<◌, ◌≤◌, length, take, Ok, Err, IfOk, OnOk};
+ghost use Rattle.std.specs.Prelude.{◌≡◌, ◌≢◌, ◌↔◌, ◌<◌, ◌≤◌, length, take, Some, Ok, Err, IfOk, OnOk};
 ghost use Rattle.std.specs.Io.KnownBytes.{Appends};
 ghost use Rattle.http_link.specs.Counts.{MadeMore, MadeAll, NoFewer, Spends};
-ghost use Rattle.http_link.specs.Streams.{AppendsFront, PullsByte, ReadsBehind, Fills, FillsOn, EndsOrNot};
+ghost use Rattle.http_link.specs.Streams.{AppendsFront, EndsOrNot, FillsOn, PullsNext, ReadsBehind};
 
 use crate::devices::{Sink, Source};
 use thiserror::Error;
@@ -23,38 +23,6 @@ pub enum LinkFault {
     /// 50,000 reads or writes did not suffice.
     #[error("too many reads or writes")]
     Turns,
-}
-
-/// What one read of one byte gave.
-#[derive(Clone, Copy, Debug, PartialEq, Eq)]
-pub(crate) enum Pulled {
-    /// The next byte.
-    Byte(u8),
-    /// The stream has ended.
-    End,
-    /// The read gave an error that the device did not count.
-    Nothing,
-}
-
-/// Reads one byte. Before the stream was begun, the reader had failed that often, and it has not failed since.
-pub(crate) fn pull<R: Source>(r: &mut R, before: u64) -> Result<Pulled, LinkFault>
-    requires unfailed { R.failure_count r.old ≤ before }
-    ensures pulled { IfOk result (PullsByte (R.remaining r.old) (R.remaining r.new)) }
-    ensures read { (result ≡ Err LinkFault.Read) ↔ (before < R.failure_count r.new) }
-    ensures only { result ≢ Err LinkFault.Write }
-    ensures turns { result ≢ Err LinkFault.Turns }
-    ensures one { MadeMore R.was_read r.old r.new 1 }
-{
-    let mut one = [0u8; 1];
-    let read = r.read_once(&mut one);
-    if r.failures() > before {
-        return Err(LinkFault::Read);
-    }
-    match read {
-        Ok(0) => Ok(Pulled::End),
-        Ok(_) => Ok(Pulled::Byte(one[0])),
-        Err(_) => Ok(Pulled::Nothing),
-    }
 }
 
 /// Reads once into a place of the buffer, and gives how many bytes came, or nothing after an error that the device did
@@ -86,6 +54,54 @@ pub(crate) fn read_some<R: Source>(
     }
 }
 
+/// Reads into a place of the buffer until something has come, and gives how many bytes. At 0 the stream has ended.
+pub(crate) fn fetch<R: Source>(
+    r: &mut R,
+    out: &mut [u8],
+    at: usize,
+    limit: usize,
+    before: u64,
+    turns: &mut u32,
+) -> Result<usize, LinkFault>
+    requires room { at < limit }
+    requires within { limit ≤ length out.old }
+    requires unfailed { R.failure_count r.old ≤ before }
+    ensures came { IfOk result (λ n. ReadsBehind (R.remaining r.old) (R.remaining r.new) at limit out.old out.new (Some n)) }
+    ensures len { length out.new ≡ length out.old }
+    ensures read { (result ≡ Err LinkFault.Read) ↔ (before < R.failure_count r.new) }
+    ensures write { result ≢ Err LinkFault.Write }
+    ensures spent { result ≡ Err LinkFault.Turns → turns.new ≡ 0 }
+    ensures made { Spends R.was_read r.old r.new turns.old turns.new }
+{
+    while *turns > 0 {
+        *turns -= 1;
+        if let Some(n) = read_some(r, out, at, limit, before)? {
+            return Ok(n);
+        }
+    }
+    Err(LinkFault::Turns)
+}
+
+/// Takes the next byte of the reader.
+pub(crate) fn fetch_one<R: Source>(
+    r: &mut R,
+    before: u64,
+    turns: &mut u32,
+) -> Result<Option<u8>, LinkFault>
+    requires unfailed { R.failure_count r.old ≤ before }
+    ensures pulled { IfOk result (PullsNext (R.remaining r.old) (R.remaining r.new)) }
+    ensures read { (result ≡ Err LinkFault.Read) ↔ (before < R.failure_count r.new) }
+    ensures write { result ≢ Err LinkFault.Write }
+    ensures spent { result ≡ Err LinkFault.Turns → turns.new ≡ 0 }
+    ensures made { Spends R.was_read r.old r.new turns.old turns.new }
+{
+    let mut one = [0u8; 1];
+    if fetch(r, &mut one, 0, 1, before, turns)? == 0 {
+        return Ok(None);
+    }
+    Ok(Some(one[0]))
+}
+
 /// Reads until so many bytes stand at the front of the buffer, where some stand already, or the stream has ended, and gives
 /// how many stand there.
 pub(crate) fn read_on<R: Source>(
@@ -108,37 +124,13 @@ pub(crate) fn read_on<R: Source>(
 {
     let mut done = had;
     while done < wanted {
-        if *turns == 0 {
-            return Err(LinkFault::Turns);
+        let n = fetch(r, out, done, wanted, before, turns)?;
+        if n == 0 {
+            return Ok(done);
         }
-        *turns -= 1;
-        match read_some(r, out, done, wanted, before)? {
-            Some(0) => return Ok(done),
-            Some(n) => done += n,
-            None => {}
-        }
+        done += n;
     }
     Ok(done)
-}
-
-/// Reads until so many bytes have come or the stream has ended, and gives how many came.
-pub(crate) fn read_up_to<R: Source>(
-    r: &mut R,
-    out: &mut [u8],
-    limit: usize,
-    before: u64,
-    turns: &mut u32,
-) -> Result<usize, LinkFault>
-    requires within { limit ≤ length out.old }
-    requires unfailed { R.failure_count r.old ≤ before }
-    ensures filled { IfOk result (Fills (R.remaining r.old) (R.remaining r.new) limit out.new) }
-    ensures len { length out.new ≡ length out.old }
-    ensures read { (result ≡ Err LinkFault.Read) ↔ (before < R.failure_count r.new) }
-    ensures write { result ≢ Err LinkFault.Write }
-    ensures spent { result ≡ Err LinkFault.Turns → turns.new ≡ 0 }
-    ensures made { Spends R.was_read r.old r.new turns.old turns.new }
-{
-    read_on(r, out, 0, limit, before, turns)
 }
 
 /// Whether the stream has ended. One byte more is taken from it at most.
@@ -154,15 +146,7 @@ pub(crate) fn has_ended<R: Source>(
     ensures spent { result ≡ Err LinkFault.Turns → turns.new ≡ 0 }
     ensures made { Spends R.was_read r.old r.new turns.old turns.new }
 {
-    while *turns > 0 {
-        *turns -= 1;
-        match pull(r, before)? {
-            Pulled::Byte(_) => return Ok(false),
-            Pulled::End => return Ok(true),
-            Pulled::Nothing => {}
-        }
-    }
-    Err(LinkFault::Turns)
+    Ok(fetch_one(r, before, turns)?.is_none())
 }
 
 // Writes once, and gives how many bytes were taken.

@@ -2,7 +2,6 @@ pub mod Sending
 pub mod Fresh
 pub mod Leading
 pub mod Sums
-pub mod Aheads
 pub mod Conversing
 pub mod Tallies
 pub mod Audits

@@ -4,7 +4,6 @@ pub mod Answering
 pub mod Exchanges
 pub mod Hosting
 pub mod Presence
-pub mod Ahead
 pub mod Auditing
 pub mod Pace
 pub mod Files

@@ -8,7 +8,6 @@ ghost use Rattle.http_link.specs.Counts.{MadeAll};
 ghost use Rattle.http_link.specs.Limits.{max_peer_answer, max_heads};
 ghost use Rattle.service.specs.Exchanges.{exchange_time};
 
-use crate::connection::ahead::Ahead;
 use crate::connection::timed::Timed;
 use crate::office::Terms;
 use floor_core::Got;
@@ -153,7 +152,7 @@ impl<H: Wait + Net<Stream = TcpStream> + Clock, C: workers::Clock> PeerLink<'_, 
         ensures { length out.new ≡ length out.old }
     {
         let stream = self.connect(target, until)?;
-        let mut reader = Ahead::new(Timed::until(&stream, self.handle, until));
+        let mut reader = Timed::until(&stream, self.handle, until);
         let mut writer = Timed::until(&stream, self.handle, until);
         match exchange(&mut reader, &mut writer, target, frame, out) {
             Ok(n) => Ok(n),

@@ -16,7 +16,7 @@ returns-then-there-end-clause-held g c =
 
 pub returns-then-there-end-clause-taken : goal.returns-then-there-end-clause-taken
 returns-then-there-end-clause-taken g c =
-    let h = c.args.held.now in
+    let h = c.args.intake.now.held in
     let moved = c.move_bytes-moved.result in
     let count = c.move_bytes-moved.ensures.count in
     let other = c.if-moved-size.false in
@@ -38,7 +38,7 @@ returns-clause-held g c =
 
 pub returns-clause-taken : goal.returns-clause-taken
 returns-clause-taken g c =
-    let h = c.args.held.now in
+    let h = c.args.intake.now.held in
     let moved = c.move_bytes-moved.result in
     let count = c.move_bytes-moved.ensures.count in
     let lies = c.move_bytes-moved.ensures.lies in

@@ -8,25 +8,25 @@ use Rattle.http_link.proofs.chunks.read_chunk.Goals as goal
 
 pub returns-in-Right-clause-taken : goal.returns-in-Right-clause-taken
 returns-in-Right-clause-taken g c =
-    let one : TakesBytes (held_in c.args.room.now c.args.held.now) (g.R.Read.remaining c.args.r.now) (g.R.Read.remaining c.read_bytes.new.r) (held_in c.read_bytes.new.room c.read_bytes.new.held) c.args.size c.args.done c.args.room.now c.read_bytes.new.room true =
+    let one : TakesBytes (held_in c.args.room.now c.args.intake.now.held) (g.R.Read.remaining c.args.r.now) (g.R.Read.remaining c.read_bytes.new.r) (held_in c.read_bytes.new.room c.read_bytes.new.intake.held) c.args.size c.args.done c.args.room.now c.read_bytes.new.room true =
     rw c.if-not-branch.false at c.in_ok-read_bytes.ensures.taken in
-    let two : TakesEnd (held_in c.read_bytes.new.room c.read_bytes.new.held) (g.R.Read.remaining c.read_bytes.new.r) (g.R.Read.remaining c.read_line_end.new.r) (held_in c.read_line_end.new.room c.read_line_end.new.held) Right =
+    let two : TakesEnd (held_in c.read_bytes.new.room c.read_bytes.new.intake.held) (g.R.Read.remaining c.read_bytes.new.r) (g.R.Read.remaining c.read_line_end.new.r) (held_in c.read_line_end.new.room c.read_line_end.new.intake.held) Right =
     rw c.in-Right.is at c.in_ok-read_line_end.ensures.taken in
     (refl, (one.0, one.1, c.in_ok-read_line_end.ensures.kept ∙ one.2, takes_then _ _ _ _ one.0 _ _ _ one.3 two))
 
 pub returns-in-Wrong-clause-taken : goal.returns-in-Wrong-clause-taken
 returns-in-Wrong-clause-taken g c =
-    let one : TakesBytes (held_in c.args.room.now c.args.held.now) (g.R.Read.remaining c.args.r.now) (g.R.Read.remaining c.read_bytes.new.r) (held_in c.read_bytes.new.room c.read_bytes.new.held) c.args.size c.args.done c.args.room.now c.read_bytes.new.room true =
+    let one : TakesBytes (held_in c.args.room.now c.args.intake.now.held) (g.R.Read.remaining c.args.r.now) (g.R.Read.remaining c.read_bytes.new.r) (held_in c.read_bytes.new.room c.read_bytes.new.intake.held) c.args.size c.args.done c.args.room.now c.read_bytes.new.room true =
     rw c.if-not-branch.false at c.in_ok-read_bytes.ensures.taken in
-    let two : TakesEnd (held_in c.read_bytes.new.room c.read_bytes.new.held) (g.R.Read.remaining c.read_bytes.new.r) (g.R.Read.remaining c.read_line_end.new.r) (held_in c.read_line_end.new.room c.read_line_end.new.held) Wrong =
+    let two : TakesEnd (held_in c.read_bytes.new.room c.read_bytes.new.intake.held) (g.R.Read.remaining c.read_bytes.new.r) (g.R.Read.remaining c.read_line_end.new.r) (held_in c.read_line_end.new.room c.read_line_end.new.intake.held) Wrong =
     rw c.in-Wrong.is at c.in_ok-read_line_end.ensures.taken in
     chunk_unended _ _ _ _ one.0 two.0 _ _ c.args.size one.1 two.1 two.2 one.3 two.3
 
 pub returns-in-Short-clause-taken : goal.returns-in-Short-clause-taken
 returns-in-Short-clause-taken g c =
-    let one : TakesBytes (held_in c.args.room.now c.args.held.now) (g.R.Read.remaining c.args.r.now) (g.R.Read.remaining c.read_bytes.new.r) (held_in c.read_bytes.new.room c.read_bytes.new.held) c.args.size c.args.done c.args.room.now c.read_bytes.new.room true =
+    let one : TakesBytes (held_in c.args.room.now c.args.intake.now.held) (g.R.Read.remaining c.args.r.now) (g.R.Read.remaining c.read_bytes.new.r) (held_in c.read_bytes.new.room c.read_bytes.new.intake.held) c.args.size c.args.done c.args.room.now c.read_bytes.new.room true =
     rw c.if-not-branch.false at c.in_ok-read_bytes.ensures.taken in
-    let two : TakesEnd (held_in c.read_bytes.new.room c.read_bytes.new.held) (g.R.Read.remaining c.read_bytes.new.r) (g.R.Read.remaining c.read_line_end.new.r) (held_in c.read_line_end.new.room c.read_line_end.new.held) Short =
+    let two : TakesEnd (held_in c.read_bytes.new.room c.read_bytes.new.intake.held) (g.R.Read.remaining c.read_bytes.new.r) (g.R.Read.remaining c.read_line_end.new.r) (held_in c.read_line_end.new.room c.read_line_end.new.intake.held) Short =
     rw c.in-Short.is at c.in_ok-read_line_end.ensures.taken in
     let long = one.1 in
     let few = two.1 in

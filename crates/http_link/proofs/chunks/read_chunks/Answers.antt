@@ -8,7 +8,7 @@ use Rattle.http_link.proofs.chunks.read_chunks.Goals as goal
 pub loop-size-init : goal.loop-size-init
 loop-size-init g c = record {
   fits = omega arith;
-  chunks = gathers_none (held_in c.args.room.now c.args.held.now) (g.R.Read.remaining c.args.r.now) c.args.room.now;
+  chunks = gathers_none (held_in c.args.room.now c.args.intake.now.held) (g.R.Read.remaining c.args.r.now) c.args.room.now;
   len = refl;
   lies = c.requires.lies;
   exact = λ no none. none;
@@ -18,9 +18,9 @@ loop-size-init g c = record {
 
 pub loop-size-preserved : goal.loop-size-preserved
 loop-size-preserved g c =
-    let step : TakesStep (held_in c.loop-size.room c.loop-size.held) (g.R.Read.remaining c.loop-size.r) (g.R.Read.remaining c.read_step.new.r) (held_in c.read_step.new.room c.read_step.new.held) c.args.most c.loop-size.done c.loop-size.room c.read_step.new.room (More c.in-More.size) =
+    let step : TakesStep (held_in c.loop-size.room c.loop-size.intake.held) (g.R.Read.remaining c.loop-size.r) (g.R.Read.remaining c.read_step.new.r) (held_in c.read_step.new.room c.read_step.new.intake.held) c.args.most c.loop-size.done c.loop-size.room c.read_step.new.room (More c.in-More.size) =
     rw c.in-More.is at c.in_ok-size.ensures.taken in
-    let lies : LiesBehind (c.loop-size.done + c.in-More.size) c.read_step.new.room c.read_step.new.held = rw c.in-More.is at c.in_ok-size.ensures.lies in
+    let lies : LiesBehind (c.loop-size.done + c.in-More.size) c.read_step.new.room c.read_step.new.intake.held = rw c.in-More.is at c.in_ok-size.ensures.lies in
     let few = step.3 in record {
       fits = let fits = c.loop-size.invariant.fits in omega arith;
       chunks = gathers_more _ _ _ _ _ _ c.loop-size.room c.read_step.new.room c.args.most c.loop-size.done c.in-More.size c.loop-size.invariant.chunks step;
@@ -33,7 +33,7 @@ loop-size-preserved g c =
 
 pub returns-in-Over-clause-reads : goal.returns-in-Over-clause-reads
 returns-in-Over-clause-reads g c =
-    let step : TakesStep (held_in c.loop-size.room c.loop-size.held) (g.R.Read.remaining c.loop-size.r) (g.R.Read.remaining c.read_step.new.r) (held_in c.read_step.new.room c.read_step.new.held) c.args.most c.loop-size.done c.loop-size.room c.read_step.new.room (Over c.in-Over.read) =
+    let step : TakesStep (held_in c.loop-size.room c.loop-size.intake.held) (g.R.Read.remaining c.loop-size.r) (g.R.Read.remaining c.read_step.new.r) (held_in c.read_step.new.room c.read_step.new.intake.held) c.args.most c.loop-size.done c.loop-size.room c.read_step.new.room (Over c.in-Over.read) =
     rw c.in-Over.is at c.in_ok-size.ensures.taken in
     gathers_all _ _ _ _ _ _ c.loop-size.room c.read_step.new.room c.args.most c.loop-size.done c.in-Over.read c.loop-size.invariant.chunks c.loop-size.invariant.fits (omega arith) step
 

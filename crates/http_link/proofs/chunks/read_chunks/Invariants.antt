@@ -8,12 +8,12 @@ use Rattle.http_link.proofs.chunks.read_chunks.Given as goal
 abbrev pub invariant-loop-size : goal.invariant-loop-size
 invariant-loop-size g l = record {
   fits : l.done ≤ l.most;
-  chunks : Gathers (held_in l.fn.room l.fn.held) (g.R.Read.remaining l.fn.r) (g.R.Read.remaining l.r) (held_in l.room l.held) l.room l.done;
+  chunks : Gathers (held_in l.fn.room l.fn.intake.held) (g.R.Read.remaining l.fn.r) (g.R.Read.remaining l.r) (held_in l.room l.intake.held) l.room l.done;
   len : length l.room ≡ length l.fn.room;
-  lies : LiesBehind l.done l.room l.held;
-  exact : ReadsNoFurther l.ahead l.fn.held l.held;
-  unfailed : g.R.Device.failure_count l.r ≤ l.before;
-  made : Spends g.R.Source.was_read l.fn.r l.r l.fn.turns l.turns;
+  lies : LiesBehind l.done l.room l.intake.held;
+  exact : ReadsNoFurther l.manner.reach l.fn.intake.held l.intake.held;
+  unfailed : g.R.Device.failure_count l.r ≤ l.manner.before;
+  made : Spends g.R.Source.was_read l.fn.r l.r l.fn.intake.turns l.intake.turns;
 }
 
 abbrev pub decreases-loop-size : goal.decreases-loop-size

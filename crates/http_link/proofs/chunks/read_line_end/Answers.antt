@@ -7,17 +7,17 @@ use Rattle.http_link.proofs.chunks.read_line_end.Goals as goal
 
 pub returns-in_default-2-clause-taken : goal.returns-in_default-2-clause-taken
 returns-in_default-2-clause-taken g c =
-    let one : Takes (held_in c.args.room.now c.args.held.now) (g.R.Read.remaining c.args.r.now) (g.R.Read.remaining c.next_byte.new.r) (c.in-Some.first ∷ []) (held_in c.next_byte.new.room c.next_byte.new.held) =
+    let one : Takes (held_in c.args.room.now c.args.intake.now.held) (g.R.Read.remaining c.args.r.now) (g.R.Read.remaining c.next_byte.new.r) (c.in-Some.first ∷ []) (held_in c.next_byte.new.room c.next_byte.new.intake.held) =
     rw c.in-Some.is at c.in_ok-first.ensures.taken in
-    let none : TakesAll (held_in c.next_byte.new.room c.next_byte.new.held) (g.R.Read.remaining c.next_byte.new.r) (g.R.Read.remaining c.next_byte-2.new.r) [] (held_in c.next_byte-2.new.room c.next_byte-2.new.held) =
+    let none : TakesAll (held_in c.next_byte.new.room c.next_byte.new.intake.held) (g.R.Read.remaining c.next_byte.new.r) (g.R.Read.remaining c.next_byte-2.new.r) [] (held_in c.next_byte-2.new.room c.next_byte-2.new.intake.held) =
     rw c.in_default-2.is at c.in_ok-second.ensures.taken in
     (c.in-Some.first ∷ [], omega arith, takes_all_then _ _ _ _ (c.in-Some.first ∷ []) [] _ _ one none)
 
 pub returns-then-first-ne13-clause-taken : goal.returns-then-first-ne13-clause-taken
 returns-then-first-ne13-clause-taken g c =
-    let one : Takes (held_in c.args.room.now c.args.held.now) (g.R.Read.remaining c.args.r.now) (g.R.Read.remaining c.next_byte.new.r) (c.in-Some.first ∷ []) (held_in c.next_byte.new.room c.next_byte.new.held) =
+    let one : Takes (held_in c.args.room.now c.args.intake.now.held) (g.R.Read.remaining c.args.r.now) (g.R.Read.remaining c.next_byte.new.r) (c.in-Some.first ∷ []) (held_in c.next_byte.new.room c.next_byte.new.intake.held) =
     rw c.in-Some.is at c.in_ok-first.ensures.taken in
-    let two : Takes (held_in c.next_byte.new.room c.next_byte.new.held) (g.R.Read.remaining c.next_byte.new.r) (g.R.Read.remaining c.next_byte-2.new.r) (c.in-Some-2.second ∷ []) (held_in c.next_byte-2.new.room c.next_byte-2.new.held) =
+    let two : Takes (held_in c.next_byte.new.room c.next_byte.new.intake.held) (g.R.Read.remaining c.next_byte.new.r) (g.R.Read.remaining c.next_byte-2.new.r) (c.in-Some-2.second ∷ []) (held_in c.next_byte-2.new.room c.next_byte-2.new.intake.held) =
     rw c.in-Some-2.is at c.in_ok-second.ensures.taken in (
       c.in-Some.first ∷ c.in-Some-2.second ∷ [],
       refl,
@@ -27,9 +27,9 @@ returns-then-first-ne13-clause-taken g c =
 
 pub returns-then-second-ne10-clause-taken : goal.returns-then-second-ne10-clause-taken
 returns-then-second-ne10-clause-taken g c =
-    let one : Takes (held_in c.args.room.now c.args.held.now) (g.R.Read.remaining c.args.r.now) (g.R.Read.remaining c.next_byte.new.r) (c.in-Some.first ∷ []) (held_in c.next_byte.new.room c.next_byte.new.held) =
+    let one : Takes (held_in c.args.room.now c.args.intake.now.held) (g.R.Read.remaining c.args.r.now) (g.R.Read.remaining c.next_byte.new.r) (c.in-Some.first ∷ []) (held_in c.next_byte.new.room c.next_byte.new.intake.held) =
     rw c.in-Some.is at c.in_ok-first.ensures.taken in
-    let two : Takes (held_in c.next_byte.new.room c.next_byte.new.held) (g.R.Read.remaining c.next_byte.new.r) (g.R.Read.remaining c.next_byte-2.new.r) (c.in-Some-2.second ∷ []) (held_in c.next_byte-2.new.room c.next_byte-2.new.held) =
+    let two : Takes (held_in c.next_byte.new.room c.next_byte.new.intake.held) (g.R.Read.remaining c.next_byte.new.r) (g.R.Read.remaining c.next_byte-2.new.r) (c.in-Some-2.second ∷ []) (held_in c.next_byte-2.new.room c.next_byte-2.new.intake.held) =
     rw c.in-Some-2.is at c.in_ok-second.ensures.taken in (
       c.in-Some.first ∷ c.in-Some-2.second ∷ [],
       refl,
@@ -39,8 +39,8 @@ returns-then-second-ne10-clause-taken g c =
 
 pub returns-clause-taken : goal.returns-clause-taken
 returns-clause-taken g c =
-    let one : Takes (held_in c.args.room.now c.args.held.now) (g.R.Read.remaining c.args.r.now) (g.R.Read.remaining c.next_byte.new.r) (13 ∷ []) (held_in c.next_byte.new.room c.next_byte.new.held) =
+    let one : Takes (held_in c.args.room.now c.args.intake.now.held) (g.R.Read.remaining c.args.r.now) (g.R.Read.remaining c.next_byte.new.r) (13 ∷ []) (held_in c.next_byte.new.room c.next_byte.new.intake.held) =
     rw (c.in-Some.is, c.if-first-ne13.false) at c.in_ok-first.ensures.taken in
-    let two : Takes (held_in c.next_byte.new.room c.next_byte.new.held) (g.R.Read.remaining c.next_byte.new.r) (g.R.Read.remaining c.next_byte-2.new.r) (10 ∷ []) (held_in c.next_byte-2.new.room c.next_byte-2.new.held) =
+    let two : Takes (held_in c.next_byte.new.room c.next_byte.new.intake.held) (g.R.Read.remaining c.next_byte.new.r) (g.R.Read.remaining c.next_byte-2.new.r) (10 ∷ []) (held_in c.next_byte-2.new.room c.next_byte-2.new.intake.held) =
     rw (c.in-Some-2.is, c.if-second-ne10.false) at c.in_ok-second.ensures.taken in
     takes_then _ _ _ _ (13 ∷ []) (10 ∷ []) _ _ one two

@@ -10,12 +10,12 @@ use Rattle.http_link.proofs.chunks.read_size.Goals as goal
 
 pub returns-in-None-clause-taken : goal.returns-in-None-clause-taken
 returns-in-None-clause-taken g c =
-    let taken : TakesText Line (held_in c.args.room.now c.args.held.now) (g.R.Read.remaining c.args.r.now) (g.R.Read.remaining c.read_text.new.r) (held_in c.read_text.new.room c.read_text.new.held) c.read_text.new.text (Found c.in-Found.n) =
+    let taken : TakesText Line (held_in c.args.room.now c.args.intake.now.held) (g.R.Read.remaining c.args.r.now) (g.R.Read.remaining c.read_text.new.r) (held_in c.read_text.new.room c.read_text.new.intake.held) c.read_text.new.text (Found c.in-Found.n) =
     rw c.in-Found.is at c.in_ok-n.ensures.taken in
     makes_wrong ends_line max_chunk_line IsSizeLine _ _ _ (take c.in-Found.n c.read_text.new.text) _ taken.1 taken.2 c.in-None.ensures
 
 pub returns-in-TooLong-clause-taken : goal.returns-in-TooLong-clause-taken
 returns-in-TooLong-clause-taken g c =
-    let taken : TakesText Line (held_in c.args.room.now c.args.held.now) (g.R.Read.remaining c.args.r.now) (g.R.Read.remaining c.read_text.new.r) (held_in c.read_text.new.room c.read_text.new.held) c.read_text.new.text TooLong =
+    let taken : TakesText Line (held_in c.args.room.now c.args.intake.now.held) (g.R.Read.remaining c.args.r.now) (g.R.Read.remaining c.read_text.new.r) (held_in c.read_text.new.room c.read_text.new.intake.held) c.read_text.new.text TooLong =
     rw c.in-TooLong.is at c.in_ok-n.ensures.taken in
     makes_long ends_line max_chunk_line IsSizeLine _ _ _ c.read_text.new.text _ (omega arith) taken.0 taken.1

@@ -7,31 +7,31 @@ use Rattle.http_link.proofs.chunks.read_step.Goals as goal
 
 pub returns-in-Size-eq0-clause-taken : goal.returns-in-Size-eq0-clause-taken
 returns-in-Size-eq0-clause-taken g c =
-    let one : TakesSize (held_in c.args.room.now c.args.held.now) (g.R.Read.remaining c.args.r.now) (g.R.Read.remaining c.read_size.new.r) (held_in c.read_size.new.room c.read_size.new.held) (Size 0) =
+    let one : TakesSize (held_in c.args.room.now c.args.intake.now.held) (g.R.Read.remaining c.args.r.now) (g.R.Read.remaining c.read_size.new.r) (held_in c.read_size.new.room c.read_size.new.intake.held) (Size 0) =
     rw (c.in-Size-eq0.is, c.in-Size-eq0.field-0-test) at c.in_ok-read_size.ensures.taken in
     last_read c.read_end.result _ _ _ _ one.0 _ _ c.args.most c.args.done c.args.room.now c.read_size.new.room c.read_end.new.room one.1 one.2 one.3 c.in_ok-read_size.ensures.kept c.read_end.ensures.taken
 
 pub returns-then-size-most-clause-taken : goal.returns-then-size-most-clause-taken
 returns-then-size-most-clause-taken g c =
-    let one : TakesSize (held_in c.args.room.now c.args.held.now) (g.R.Read.remaining c.args.r.now) (g.R.Read.remaining c.read_size.new.r) (held_in c.read_size.new.room c.read_size.new.held) (Size c.in-Size.size) =
+    let one : TakesSize (held_in c.args.room.now c.args.intake.now.held) (g.R.Read.remaining c.args.r.now) (g.R.Read.remaining c.read_size.new.r) (held_in c.read_size.new.room c.read_size.new.intake.held) (Size c.in-Size.size) =
     rw c.in-Size.is at c.in_ok-read_size.ensures.taken in
     too_large _ _ _ one.0 _ c.read_size.new.room c.in-Size.size c.args.most c.args.done (take c.args.done c.args.room.now) one.1 one.2 one.3 (omega arith)
 
 pub returns-else-size-most-clause-taken : goal.returns-else-size-most-clause-taken
 returns-else-size-most-clause-taken g c =
-    let one : TakesSize (held_in c.args.room.now c.args.held.now) (g.R.Read.remaining c.args.r.now) (g.R.Read.remaining c.read_size.new.r) (held_in c.read_size.new.room c.read_size.new.held) (Size c.in-Size.size) =
+    let one : TakesSize (held_in c.args.room.now c.args.intake.now.held) (g.R.Read.remaining c.args.r.now) (g.R.Read.remaining c.read_size.new.r) (held_in c.read_size.new.room c.read_size.new.intake.held) (Size c.in-Size.size) =
     rw c.in-Size.is at c.in_ok-read_size.ensures.taken in
     fitting_read c.read_chunk.result _ _ _ _ one.0 _ _ c.in-Size.size c.args.most c.args.done c.args.room.now c.read_size.new.room c.read_chunk.new.room one.1 one.2 one.3 (omega arith) (omega arith)
     c.in_ok-read_size.ensures.kept c.read_chunk.ensures.taken
 
 pub returns-in-Malformed-clause-taken : goal.returns-in-Malformed-clause-taken
 returns-in-Malformed-clause-taken g c =
-    let one : TakesSize (held_in c.args.room.now c.args.held.now) (g.R.Read.remaining c.args.r.now) (g.R.Read.remaining c.read_size.new.r) (held_in c.read_size.new.room c.read_size.new.held) Malformed =
+    let one : TakesSize (held_in c.args.room.now c.args.intake.now.held) (g.R.Read.remaining c.args.r.now) (g.R.Read.remaining c.read_size.new.r) (held_in c.read_size.new.room c.read_size.new.intake.held) Malformed =
     rw c.in-Malformed.is at c.in_ok-read_size.ensures.taken in
-    no_line (held_in c.args.room.now c.args.held.now) (g.R.Read.remaining c.args.r.now) (g.R.Read.remaining c.read_size.new.r) (held_in c.read_size.new.room c.read_size.new.held) c.read_size.new.room (c.args.most - c.args.done) (take c.args.done c.args.room.now) one
+    no_line (held_in c.args.room.now c.args.intake.now.held) (g.R.Read.remaining c.args.r.now) (g.R.Read.remaining c.read_size.new.r) (held_in c.read_size.new.room c.read_size.new.intake.held) c.read_size.new.room (c.args.most - c.args.done) (take c.args.done c.args.room.now) one
 
 pub returns-in-Short-clause-taken : goal.returns-in-Short-clause-taken
 returns-in-Short-clause-taken g c =
-    let one : TakesSize (held_in c.args.room.now c.args.held.now) (g.R.Read.remaining c.args.r.now) (g.R.Read.remaining c.read_size.new.r) (held_in c.read_size.new.room c.read_size.new.held) Short =
+    let one : TakesSize (held_in c.args.room.now c.args.intake.now.held) (g.R.Read.remaining c.args.r.now) (g.R.Read.remaining c.read_size.new.r) (held_in c.read_size.new.room c.read_size.new.intake.held) Short =
     rw c.in-Short.is at c.in_ok-read_size.ensures.taken in
     line_cut _ _ _ _ c.read_size.new.room (c.args.most - c.args.done) (take c.args.done c.args.room.now) one

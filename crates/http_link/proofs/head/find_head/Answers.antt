@@ -1,22 +1,23 @@
-use Rattle.std.proofs.Common.{rules, ◌≡◌, ◌+◌, ◌≤◌, ◌++◌, [], List, ℕ, length, take, drop, inl, inr, refl, sym, ap, subst, ◌∙◌, Some, arith, append-nil, length-take, take-take, take_all}
+use Rattle.std.proofs.Common.{rules, ◌≡◌, ◌+◌, ◌≤◌, ◌++◌, [], List, ℕ, length, take, drop, refl, sym, ap, subst, ◌∙◌, arith, append-nil, length-take, take-take, take_all}
 use Rattle.std.proofs.KnownBytes.{Consumes-nil}
 use Rattle.http_link.specs.Limits.{max_head}
-use Rattle.http_link.specs.Reading.{GoesOn, Sees}
-use Rattle.http_link.specs.Streams.{ReadsBehind}
+use Rattle.http_link.specs.Reading.{GoesOn, Sees, SeesFurther}
 use Rattle.http_link.specs.declared.grammar.Offered.TheVariants.{Malformed, Partial, Whole}
 use Rattle.std.proofs.lemmas.List.{take-append-le}
-use Rattle.http_link.proofs.Heads.{going_on_begins_not, looked_at, none_begins_all, nothing_goes_on, stands_whole}
+use Rattle.http_link.proofs.Heads.{all_goes_on, looked_at, none_begins_all, nothing_goes_on, stands_whole, too_long}
 use Rattle.http_link.proofs.Known.{came_more}
 use Rattle.http_link.proofs.head.find_head.Goals as goal
 
-pub loop-turns-init : goal.loop-turns-init
-loop-turns-init g c = record {
+pub loop-spans-init : goal.loop-spans-init
+loop-spans-init g c = record {
+  front = c.requires.front;
   there = c.requires.there;
   len = refl;
   lines = refl;
-  came = ([], sym (append-nil (take c.args.had.now c.args.room.now)), Consumes-nil (g.R.Read.remaining c.args.r.now));
+  came = ([], sym (append-nil (take c.args.intake.now.held.to c.args.room.now)), Consumes-nil (g.R.Read.remaining c.args.r.now));
   seen = omega arith;
   few = omega arith;
+  exact = λ needed none. omega arith;
   goes_on = nothing_goes_on g.H.HeadSpans.grammar g.met.H.HeadSpans.laws (length c.args.lines.now);
   unfailed = c.requires.unfailed;
   made = λ all least. least;
@@ -24,22 +25,22 @@ loop-turns-init g c = record {
 
 pub returns-in-Whole-clause-found : goal.returns-in-Whole-clause-found
 returns-in-Whole-clause-found g c =
-    let room : List ℕ = c.loop-turns.room in
-    let came = c.loop-turns.invariant.came in
-    let sees : Sees g.H.HeadSpans.grammar (take c.min-end.result room) c.scan.new.seen (length c.loop-turns.lines) c.scan.new.lines (Whole c.in-Whole.spans) = rw c.in-Whole.is at c.scan.ensures.sees in
+    let room : List ℕ = c.loop-spans.room in
+    let came = c.loop-spans.invariant.came in
+    let sees : Sees g.H.HeadSpans.grammar (take c.min-end.result room) c.scan.new.seen (length c.loop-spans.lines) c.scan.new.lines (Whole c.in-Whole.spans) = rw c.in-Whole.is at c.scan.ensures.sees in
     record {
       came = came.0;
       grew = came.1;
       taken = came.2;
-      stands = stands_whole g.H.HeadSpans.grammar room c.loop-turns.had c.min-end.result c.scan.new.seen c.scan.new.lines c.in-Whole.spans (g.R.Read.remaining c.loop-turns.r) (omega arith) (omega arith) (omega arith) c.scan.ensures.seen sees.0 sees.1;
+      stands = stands_whole g.H.HeadSpans.grammar room c.loop-spans.intake.held.to c.min-end.result c.scan.new.seen c.scan.new.lines c.in-Whole.spans (g.R.Read.remaining c.loop-spans.r) (omega arith) (omega arith) (omega arith) c.scan.ensures.seen sees.0 sees.1;
     }
 
 pub returns-in-Malformed-clause-found : goal.returns-in-Malformed-clause-found
 returns-in-Malformed-clause-found g c =
-    let room : List ℕ = c.loop-turns.room in
-    let came = c.loop-turns.invariant.came in
-    let sees : Sees g.H.HeadSpans.grammar (take c.min-end.result room) c.scan.new.seen (length c.loop-turns.lines) c.scan.new.lines Malformed = rw c.in-Malformed.is at c.scan.ensures.sees in
-    let none = none_begins_all g.H.HeadSpans.grammar room c.loop-turns.had c.min-end.result c.scan.new.seen (length c.loop-turns.lines) (length c.scan.new.lines) (omega arith) (omega arith) c.scan.ensures.seen sees in
+    let room : List ℕ = c.loop-spans.room in
+    let came = c.loop-spans.invariant.came in
+    let sees : Sees g.H.HeadSpans.grammar (take c.min-end.result room) c.scan.new.seen (length c.loop-spans.lines) c.scan.new.lines Malformed = rw c.in-Malformed.is at c.scan.ensures.sees in
+    let none = none_begins_all g.H.HeadSpans.grammar room c.loop-spans.intake.held.to c.min-end.result c.scan.new.seen (length c.loop-spans.lines) (length c.scan.new.lines) (omega arith) (omega arith) c.scan.ensures.seen sees in
     record {
       came = came.0;
       grew = came.1;
@@ -49,15 +50,15 @@ returns-in-Malformed-clause-found g c =
 
 pub returns-then-end-eq-MAX_HEAD-clause-found : goal.returns-then-end-eq-MAX_HEAD-clause-found
 returns-then-end-eq-MAX_HEAD-clause-found g c =
-    let room : List ℕ = c.loop-turns.room in
+    let room : List ℕ = c.loop-spans.room in
     let end = c.min-end.result in
     let seen = c.scan.new.seen in
-    let came = c.loop-turns.invariant.came in
-    let sees : Sees g.H.HeadSpans.grammar (take end room) seen (length c.loop-turns.lines) c.scan.new.lines Partial = rw c.in-Partial.is at c.scan.ensures.sees in
+    let came = c.loop-spans.invariant.came in
+    let sees : Sees g.H.HeadSpans.grammar (take end room) seen (length c.loop-spans.lines) c.scan.new.lines Partial = rw c.in-Partial.is at c.scan.ensures.sees in
     let all = sees.1 in
     let long : max_head ≤ length (take seen (take end room)) = omega (arith, length-take end room, length-take seen (take end room)) in
-    let parts = looked_at room c.loop-turns.had end seen (omega arith) c.scan.ensures.seen in
-    let none = going_on_begins_not g.H.HeadSpans.grammar (take c.loop-turns.had room) (take seen (take end room)) (drop seen (take c.loop-turns.had room)) (length c.loop-turns.lines) (length c.scan.new.lines) (omega arith) parts sees.0 (inr long) in
+    let parts = looked_at room c.loop-spans.intake.held.to end seen (omega arith) c.scan.ensures.seen in
+    let none = too_long g.H.HeadSpans.grammar (take c.loop-spans.intake.held.to room) (take seen (take end room)) (drop seen (take c.loop-spans.intake.held.to room)) (length c.loop-spans.lines) (length c.scan.new.lines) (omega arith) parts sees.0 long in
     record {
       came = came.0;
       grew = came.1;
@@ -65,25 +66,25 @@ returns-then-end-eq-MAX_HEAD-clause-found g c =
       stands = none;
     }
 
-pub returns-in-Some-eq0-clause-found : goal.returns-in-Some-eq0-clause-found
-returns-in-Some-eq0-clause-found g c =
-    let room : List ℕ = c.loop-turns.room in
-    let out : List ℕ = c.read_some.new.out in
-    let had = c.loop-turns.had in
+pub returns-then-n-eq0-clause-found : goal.returns-then-n-eq0-clause-found
+returns-then-n-eq0-clause-found g c =
+    let room : List ℕ = c.loop-spans.room in
+    let out : List ℕ = c.fetch.new.out in
+    let had = c.loop-spans.intake.held.to in
     let end = c.min-end.result in
     let seen = c.scan.new.seen in
-    let k = c.in-Some-eq0.field-0 in
-    let came = c.loop-turns.invariant.came in
-    let sees : Sees g.H.HeadSpans.grammar (take end room) seen (length c.loop-turns.lines) c.scan.new.lines Partial = rw c.in-Partial.is at c.scan.ensures.sees in
-    let read : ReadsBehind (g.R.Read.remaining c.loop-turns.r) (g.R.Read.remaining c.read_some.new.r) end (length room) room out (Some k) = rw c.in-Some-eq0.is at c.in_ok-read_some.ensures.some in
-    let zero = c.in-Some-eq0.field-0-test in
+    let k = c.in_ok-n.n in
+    let came = c.loop-spans.invariant.came in
+    let sees : Sees g.H.HeadSpans.grammar (take end room) seen (length c.loop-spans.lines) c.scan.new.lines Partial = rw c.in-Partial.is at c.scan.ensures.sees in
+    let read = c.in_ok-n.ensures.came in
+    let zero : k ≡ 0 = omega arith in
     let whole : end ≡ had = omega arith in
-    let more = came_more (g.R.Read.remaining c.args.r.now) (g.R.Read.remaining c.loop-turns.r) (g.R.Read.remaining c.read_some.new.r) (take c.args.had.now c.args.room.now) room out had end k whole came read.2 in
+    let more = came_more (g.R.Read.remaining c.args.r.now) (g.R.Read.remaining c.loop-spans.r) (g.R.Read.remaining c.fetch.new.r) (take c.args.intake.now.held.to c.args.room.now) room out had end k whole came read.2 in
     let all : take seen (take end room) ≡ take end room = take_all seen (take end room) (omega (arith, sees.1)) in
     let parts : take had out ≡ take seen (take end room) ++ read.2.0 =
     ap (λ n. take n out) (omega arith) ∙ read.2.1 ∙ ap (λ (w : List ℕ). w ++ read.2.0) (sym all) in
     let long : length (take had out) ≤ length (take seen (take end room)) = let s = sees.1 in omega (arith, length-take had out, length-take end room, length-take seen (take end room)) in
-    let none = going_on_begins_not g.H.HeadSpans.grammar (take had out) (take seen (take end room)) read.2.0 (length c.loop-turns.lines) (length c.scan.new.lines) (omega arith) parts sees.0 (inl long) in
+    let none = all_goes_on g.H.HeadSpans.grammar (take had out) (take seen (take end room)) read.2.0 (length c.loop-spans.lines) (length c.scan.new.lines) (omega arith) parts sees.0 long in
     record {
       came = more.0;
       grew = ap (λ n. take n out) (omega arith) ∙ more.1;
@@ -91,30 +92,46 @@ returns-in-Some-eq0-clause-found g c =
       stands = (none, read.1 zero);
     }
 
-pub loop-turns-preserved-in-Some : goal.loop-turns-preserved-in-Some
-loop-turns-preserved-in-Some g c =
-    let room : List ℕ = c.loop-turns.room in
-    let out : List ℕ = c.read_some.new.out in
-    let had = c.loop-turns.had in
+pub loop-spans-preserved : goal.loop-spans-preserved
+loop-spans-preserved g c =
+    let room : List ℕ = c.loop-spans.room in
+    let out : List ℕ = c.fetch.new.out in
+    let had = c.loop-spans.intake.held.to in
     let end = c.min-end.result in
     let seen = c.scan.new.seen in
-    let k = c.in-Some.n in
-    let sees : Sees g.H.HeadSpans.grammar (take end room) seen (length c.loop-turns.lines) c.scan.new.lines Partial = rw c.in-Partial.is at c.scan.ensures.sees in
-    let read : ReadsBehind (g.R.Read.remaining c.loop-turns.r) (g.R.Read.remaining c.read_some.new.r) end (length room) room out (Some k) = rw c.in-Some.is at c.in_ok-read_some.ensures.some in
+    let k = c.in_ok-n.n in
+    let sees : Sees g.H.HeadSpans.grammar (take end room) seen (length c.loop-spans.lines) c.scan.new.lines Partial = rw c.in-Partial.is at c.scan.ensures.sees in
+    let read = c.in_ok-n.ensures.came in
     let whole : end ≡ had = omega arith in
-    let most : seen ≤ end = let s = c.scan.ensures.seen in omega (arith, length-take end room) in
+    let inside = c.scan.ensures.seen in
+    let most : seen ≤ end = omega (arith, length-take end room) in
     let same : take seen out ≡ take seen (take end room) =
-    sym (take-take seen (end + k) out (omega arith)) ∙ ap (take seen) read.2.1 ∙ take-append-le seen (take end room) read.2.0 c.scan.ensures.seen in
+    sym (take-take seen (end + k) out (omega arith)) ∙ ap (take seen) read.2.1 ∙ take-append-le seen (take end room) read.2.0 inside in
     let fits = read.0 in
-    let lines : length c.loop-turns.lines ≡ length c.scan.new.lines = omega arith in
+    let lines : length c.loop-spans.lines ≡ length c.scan.new.lines = omega arith in
     record {
+      front = c.loop-spans.invariant.front;
       there = omega arith;
       len = omega arith;
       lines = omega arith;
-      came = came_more (g.R.Read.remaining c.args.r.now) (g.R.Read.remaining c.loop-turns.r) (g.R.Read.remaining c.read_some.new.r) (take c.args.had.now c.args.room.now) room out had end k whole c.loop-turns.invariant.came read.2;
+      came = came_more (g.R.Read.remaining c.args.r.now) (g.R.Read.remaining c.loop-spans.r) (g.R.Read.remaining c.fetch.new.r) (take c.args.intake.now.held.to c.args.room.now) room out had end k whole c.loop-spans.invariant.came read.2;
       seen = omega arith;
       few = omega arith;
-      goes_on = subst (λ (t : List ℕ). GoesOn g.H.HeadSpans.grammar t (length c.scan.new.lines)) (sym same) (subst (λ (room : ℕ). GoesOn g.H.HeadSpans.grammar (take seen (take end c.loop-turns.room)) room) lines sees.0);
+      exact = λ needed none.
+          let limit = c.limit-limit.ensures.exact needed in
+          let all = sees.1 in
+          omega (arith, length-take end room);
+      goes_on = subst (λ (t : List ℕ). GoesOn g.H.HeadSpans.grammar t (length c.scan.new.lines)) (sym same) (subst (λ (room : ℕ). GoesOn g.H.HeadSpans.grammar (take seen (take end c.loop-spans.room)) room) lines sees.0);
       unfailed = search rules;
       made = search rules;
     }
+
+pub returns-in-Whole-clause-exact : goal.returns-in-Whole-clause-exact
+returns-in-Whole-clause-exact g c needed none =
+    let room : List ℕ = c.loop-spans.room in
+    let few = c.loop-spans.invariant.exact needed none in
+    let sees : Sees g.H.HeadSpans.grammar (take c.min-end.result room) c.scan.new.seen (length c.loop-spans.lines) c.scan.new.lines (Whole c.in-Whole.spans) = rw c.in-Whole.is at c.scan.ensures.sees in
+    let further : SeesFurther c.loop-spans.seen c.scan.new.seen (Whole c.in-Whole.spans) = rw c.in-Whole.is at c.scan.ensures.further in
+    let inside = c.scan.ensures.seen in
+    let same = sees.1 in
+    omega (arith, length-take c.min-end.result room)

@@ -9,6 +9,7 @@ returns-in-Whole g c =
     record {
       lines = omega arith;
       seen = omega arith;
+      further = let on = c.loop-seen.invariant.further in omega arith;
       sees = (
         c.in-Whole.ensures.decides,
         ends_there g.H.HeadSpans.grammar g.met.H.HeadSpans.laws c.args.text.now c.loop-seen.seen (length c.loop-seen.lines) c.examine.new.lines c.in-Whole.spans (omega arith) (omega arith) on c.in-Whole.ensures.decides,

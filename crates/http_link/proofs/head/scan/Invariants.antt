@@ -4,6 +4,7 @@ use Rattle.http_link.proofs.head.scan.Given as goal
 
 abbrev pub invariant-loop-seen : goal.invariant-loop-seen
 invariant-loop-seen g l = record {
+  further : l.fn.seen ≤ l.seen;
   bound : l.seen ≤ length l.text;
   lines : length l.lines ≡ length l.fn.lines;
   goes_on : GoesOn g.H.HeadSpans.grammar (take l.seen l.text) (length l.lines);

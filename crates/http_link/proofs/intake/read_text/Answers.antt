@@ -6,13 +6,13 @@ use Rattle.http_link.proofs.intake.read_text.Goals as goal
 
 pub returns-in_default-clause-taken : goal.returns-in_default-clause-taken
 returns-in_default-clause-taken g c =
-    let all : TakesAll (held_in c.loop-n.room c.loop-n.held) (g.R.Read.remaining c.loop-n.r) (g.R.Read.remaining c.next_byte.new.r) [] (held_in c.next_byte.new.room c.next_byte.new.held) =
+    let all : TakesAll (held_in c.loop-n.room c.loop-n.intake.held) (g.R.Read.remaining c.loop-n.r) (g.R.Read.remaining c.next_byte.new.r) [] (held_in c.next_byte.new.room c.next_byte.new.intake.held) =
     rw c.in_default.is at c.in_ok-b.ensures.taken in
     text_cut (ends_sought c.args.sought) _ _ _ _ c.loop-n.text c.loop-n.n _ _ (omega arith) c.loop-n.invariant.unended c.loop-n.invariant.takes all
 
 pub returns-then-is_ended-clause-taken : goal.returns-then-is_ended-clause-taken
 returns-then-is_ended-clause-taken g c =
-    let byte : Takes (held_in c.loop-n.room c.loop-n.held) (g.R.Read.remaining c.loop-n.r) (g.R.Read.remaining c.next_byte.new.r) (c.in-Some.b ∷ []) (held_in c.next_byte.new.room c.next_byte.new.held) =
+    let byte : Takes (held_in c.loop-n.room c.loop-n.intake.held) (g.R.Read.remaining c.loop-n.r) (g.R.Read.remaining c.next_byte.new.r) (c.in-Some.b ∷ []) (held_in c.next_byte.new.room c.next_byte.new.intake.held) =
     rw c.in-Some.is at c.in_ok-b.ensures.taken in
     let now : ends_sought c.args.sought (take (c.loop-n.n + 1) (slice_set c.loop-n.text c.loop-n.n c.in-Some.b)) ≡ true = search rules in (
       search rules,
@@ -22,7 +22,7 @@ returns-then-is_ended-clause-taken g c =
 
 pub loop-n-preserved : goal.loop-n-preserved
 loop-n-preserved g c =
-    let byte : Takes (held_in c.loop-n.room c.loop-n.held) (g.R.Read.remaining c.loop-n.r) (g.R.Read.remaining c.next_byte.new.r) (c.in-Some.b ∷ []) (held_in c.next_byte.new.room c.next_byte.new.held) =
+    let byte : Takes (held_in c.loop-n.room c.loop-n.intake.held) (g.R.Read.remaining c.loop-n.r) (g.R.Read.remaining c.next_byte.new.r) (c.in-Some.b ∷ []) (held_in c.next_byte.new.room c.next_byte.new.intake.held) =
     rw c.in-Some.is at c.in_ok-b.ensures.taken in
     let kept = c.in_ok-b.ensures.kept in
     let now : ends_sought c.args.sought (take (c.loop-n.n + 1) (slice_set c.loop-n.text c.loop-n.n c.in-Some.b)) ≡ false = search rules in record {

@@ -8,14 +8,14 @@ abbrev pub invariant-loop-n : goal.invariant-loop-n
 invariant-loop-n g l = record {
   within : l.n ≤ length l.text;
   size : length l.text ≡ length l.fn.text;
-  takes : Takes (held_in l.fn.room l.fn.held) (g.R.Read.remaining l.fn.r) (g.R.Read.remaining l.r) (take l.n l.text) (held_in l.room l.held);
+  takes : Takes (held_in l.fn.room l.fn.intake.held) (g.R.Read.remaining l.fn.r) (g.R.Read.remaining l.r) (take l.n l.text) (held_in l.room l.intake.held);
   unended : (k : ℕ) → k ≤ l.n → ends_sought l.sought (take k l.text) ≡ false;
   len : length l.room ≡ length l.fn.room;
   kept : take l.done l.room ≡ take l.done l.fn.room;
-  lies : LiesBehind l.done l.room l.held;
-  exact : ReadsNoFurther l.ahead l.fn.held l.held;
-  unfailed : g.R.Device.failure_count l.r ≤ l.before;
-  made : Spends g.R.Source.was_read l.fn.r l.r l.fn.turns l.turns;
+  lies : LiesBehind l.done l.room l.intake.held;
+  exact : ReadsNoFurther l.manner.reach l.fn.intake.held l.intake.held;
+  unfailed : g.R.Device.failure_count l.r ≤ l.manner.before;
+  made : Spends g.R.Source.was_read l.fn.r l.r l.fn.intake.turns l.intake.turns;
 }
 
 abbrev pub decreases-loop-n : goal.decreases-loop-n

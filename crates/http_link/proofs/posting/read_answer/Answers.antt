@@ -1,66 +1,93 @@
-use Rattle.std.proofs.Common.{rules, ◌≡◌, ℕ, length, inl, inr, refl, sym, subst, arith, Err}
+use Rattle.std.proofs.Common.{rules, ◌≡◌, ◌++◌, ℕ, List, take, drop, length-take, take-take, refl, sym, subst, arith, Err, Result}
+use Rattle.http_link.specs.declared.grammar.Offered.TheVariants.{Malformed, Partial, Whole}
+use Rattle.http_link.specs.declared.posting.AnswerFraming.{AnswerFraming}
+use Rattle.http_link.specs.declared.posting.PostFault.{PostFault}
 use Rattle.http_link.specs.declared.posting.PostFault.TheVariants.{Head, Cut}
 use Rattle.http_link.specs.Lines.{lines_at}
 use Rattle.http_link.specs.Grammars.{replies}
-use Rattle.http_link.specs.Reading.{HasNoHead, IsTaken}
-use Rattle.http_link.specs.Client.{Means, given}
-use Rattle.http_link.proofs.Client.{final_read, interim_read, none_read}
+use Rattle.http_link.specs.Reading.{HeadIsFound}
+use Rattle.http_link.specs.Running.{held_in}
+use Rattle.http_link.specs.Client.{Means, MeansAs, given}
+use Rattle.http_link.proofs.Client.{final_read, interim_read, malformed_read, partial_read}
 use Rattle.http_link.proofs.posting.read_answer.Goals as goal
 
 pub returns-in-Partial-clause-means : goal.returns-in-Partial-clause-means
 returns-in-Partial-clause-means g c stream e not_read not_turns =
-    let known = g.R.Read.remaining c.loop-heads.r in
-    let text = c.read_head.new.text in
-    let lines = c.read_head.new.lines in
-    let none : HasNoHead replies known (length text) (length lines) = rw c.in-Partial.is at c.in_ok-read_head.ensures.head in
+    let had = held_in c.loop-heads.out c.loop-heads.intake.held in
+    let has : List ℕ = take c.find_head.new.intake.held.to c.find_head.new.room in
+    let lines = c.find_head.new.lines in
+    let found : HeadIsFound replies had (g.R.Read.remaining c.loop-heads.r) (g.R.Read.remaining c.find_head.new.r) has lines Partial =
+    subst (λ (h : List ℕ). HeadIsFound replies h (g.R.Read.remaining c.loop-heads.r) (g.R.Read.remaining c.find_head.new.r) has lines Partial) c.move_to_front.ensures.same (rw c.in-Partial.is at c.in_ok-find_head.ensures.found) in
     let so_far = c.loop-heads.invariant.means stream e in
-    so_far.2 (Err Cut) (none_read c.loop-heads.heads known text so_far.0 lines (Err Cut) (omega arith) (omega arith) (omega arith) none so_far.1 (inr refl))
+    so_far.2 (Err Cut) (partial_read c.loop-heads.heads _ _ had has so_far.0 lines (omega arith) (omega arith) found so_far.1)
 
 pub returns-in-Malformed-clause-means : goal.returns-in-Malformed-clause-means
 returns-in-Malformed-clause-means g c stream e not_read not_turns =
-    let known = g.R.Read.remaining c.loop-heads.r in
-    let text = c.read_head.new.text in
-    let lines = c.read_head.new.lines in
-    let none : HasNoHead replies known (length text) (length lines) = rw c.in-Malformed.is at c.in_ok-read_head.ensures.head in
+    let had = held_in c.loop-heads.out c.loop-heads.intake.held in
+    let has : List ℕ = take c.find_head.new.intake.held.to c.find_head.new.room in
+    let lines = c.find_head.new.lines in
+    let found : HeadIsFound replies had (g.R.Read.remaining c.loop-heads.r) (g.R.Read.remaining c.find_head.new.r) has lines Malformed =
+    subst (λ (h : List ℕ). HeadIsFound replies h (g.R.Read.remaining c.loop-heads.r) (g.R.Read.remaining c.find_head.new.r) has lines Malformed) c.move_to_front.ensures.same (rw c.in-Malformed.is at c.in_ok-find_head.ensures.found) in
     let so_far = c.loop-heads.invariant.means stream e in
-    so_far.2 (Err Head) (none_read c.loop-heads.heads known text so_far.0 lines (Err Head) (omega arith) (omega arith) (omega arith) none so_far.1 (inl refl))
+    so_far.2 (Err Head) (malformed_read c.loop-heads.heads _ _ had has so_far.0 lines (omega arith) (omega arith) found so_far.1)
 
-pub returns-then-not-is_interim-clause-means : goal.returns-then-not-is_interim-clause-means
-returns-then-not-is_interim-clause-means g c stream e not_read not_turns =
-    let known = g.R.Read.remaining c.loop-heads.r in
-    let left = g.R.Read.remaining c.read_head.new.r in
-    let text = c.read_head.new.text in
-    let lines = c.read_head.new.lines in
+pub returns-in-Ok-clause-means : goal.returns-in-Ok-clause-means
+returns-in-Ok-clause-means g c stream e not_read not_turns =
+    let had = held_in c.loop-heads.out c.loop-heads.intake.held in
+    let room : List ℕ = c.find_head.new.room in
+    let there = c.find_head.new.intake.held.to in
+    let lines = c.find_head.new.lines in
     let spans = c.in-Whole.spans in
-    let taken : IsTaken replies known left text lines spans = rw c.in-Whole.is at c.in_ok-read_head.ensures.head in
+    let found : HeadIsFound replies had (g.R.Read.remaining c.loop-heads.r) (g.R.Read.remaining c.find_head.new.r) (take there room) lines (Whole spans) =
+    subst (λ (h : List ℕ). HeadIsFound replies h (g.R.Read.remaining c.loop-heads.r) (g.R.Read.remaining c.find_head.new.r) (take there room) lines (Whole spans)) c.move_to_front.ensures.same (rw c.in-Whole.is at c.in_ok-find_head.ensures.found) in
+    let bound = found.stands.0 in
     let so_far = c.loop-heads.invariant.means stream e in
-    so_far.2 (given c.read_last.result c.read_last.new.out)
-    (final_read c.loop-heads.heads known left text so_far.0 lines spans (lines_at c.lines_in-fields.result) (given c.read_last.result c.read_last.new.out)
-    (omega arith) (omega arith) (omega arith) taken so_far.1 c.lines_in-fields.ensures (sym c.if-not-is_interim.ensures)
-    (λ rest is. c.read_last.ensures.gives rest is not_read not_turns))
+    let told : Result (List ℕ) PostFault = given c.read_framed.result c.read_framed.new.out in
+    so_far.2 told
+    (final_read c.loop-heads.heads _ _ had (take there room) so_far.0 (take spans.len room) lines spans (lines_at c.lines_in-fields.result) told (omega arith) (omega arith) found so_far.1
+    (sym (take-take spans.len there room (omega (arith, length-take there room)))) c.lines_in-fields.ensures (sym c.if-not-is_interim.ensures)
+    (λ left is. subst (λ (f : Result AnswerFraming PostFault). MeansAs f (drop spans.len (take there room) ++ left) told) c.in-Ok.ensures.value (c.read_framed.ensures.gives left is not_read not_turns)))
+
+pub returns-in-Err-clause-means : goal.returns-in-Err-clause-means
+returns-in-Err-clause-means g c stream e not_read not_turns =
+    let had = held_in c.loop-heads.out c.loop-heads.intake.held in
+    let room : List ℕ = c.find_head.new.room in
+    let there = c.find_head.new.intake.held.to in
+    let lines = c.find_head.new.lines in
+    let spans = c.in-Whole.spans in
+    let found : HeadIsFound replies had (g.R.Read.remaining c.loop-heads.r) (g.R.Read.remaining c.find_head.new.r) (take there room) lines (Whole spans) =
+    subst (λ (h : List ℕ). HeadIsFound replies h (g.R.Read.remaining c.loop-heads.r) (g.R.Read.remaining c.find_head.new.r) (take there room) lines (Whole spans)) c.move_to_front.ensures.same (rw c.in-Whole.is at c.in_ok-find_head.ensures.found) in
+    let bound = found.stands.0 in
+    let so_far = c.loop-heads.invariant.means stream e in
+    so_far.2 (Err c.in-Err.fault)
+    (final_read c.loop-heads.heads _ _ had (take there room) so_far.0 (take spans.len room) lines spans (lines_at c.lines_in-fields.result) (Err c.in-Err.fault) (omega arith) (omega arith) found so_far.1
+    (sym (take-take spans.len there room (omega (arith, length-take there room)))) c.lines_in-fields.ensures (sym c.if-not-is_interim.ensures)
+    (λ left is. subst (λ (f : Result AnswerFraming PostFault). MeansAs f (drop spans.len (take there room) ++ left) (Err c.in-Err.fault)) c.in-Err.ensures.value refl))
 
 pub loop-heads-preserved : goal.loop-heads-preserved
 loop-heads-preserved g c =
-    let known = g.R.Read.remaining c.loop-heads.r in
-    let left = g.R.Read.remaining c.read_head.new.r in
-    let text = c.read_head.new.text in
-    let lines = c.read_head.new.lines in
+    let had = held_in c.loop-heads.out c.loop-heads.intake.held in
+    let room : List ℕ = c.find_head.new.room in
+    let there = c.find_head.new.intake.held.to in
+    let lines = c.find_head.new.lines in
     let spans = c.in-Whole.spans in
-    let taken : IsTaken replies known left text lines spans = rw c.in-Whole.is at c.in_ok-read_head.ensures.head in
+    let found : HeadIsFound replies had (g.R.Read.remaining c.loop-heads.r) (g.R.Read.remaining c.find_head.new.r) (take there room) lines (Whole spans) =
+    subst (λ (h : List ℕ). HeadIsFound replies h (g.R.Read.remaining c.loop-heads.r) (g.R.Read.remaining c.find_head.new.r) (take there room) lines (Whole spans)) c.move_to_front.ensures.same (rw c.in-Whole.is at c.in_ok-find_head.ensures.found) in
+    let bound = found.stands.0 in
     record {
       means = λ stream e.
           let so_far = c.loop-heads.invariant.means stream e in
-          let next = interim_read c.loop-heads.heads known left text so_far.0 lines spans (omega arith) (omega arith) (omega arith) taken so_far.1 (sym c.if-not-is_interim.ensures) in
+          let next = interim_read c.loop-heads.heads _ _ had (take there room) so_far.0 lines spans (omega arith) (omega arith) found so_far.1 (sym c.if-not-is_interim.ensures) in
           (next.0, next.1, λ meaning means. so_far.2 meaning (next.2 meaning means));
       unfailed = search rules;
-      made = search rules;
-      out = c.loop-heads.invariant.out;
-      text = omega arith;
+      lies = record { behind = omega arith; ordered = omega (arith, length-take there room); within = omega arith };
+      len = omega arith;
       lines = omega arith;
+      made = search rules;
     }
 
 pub returns-clause-means : goal.returns-clause-means
 returns-clause-means g c stream e not_read not_turns =
     let so_far = c.loop-heads.invariant.means stream e in
     let none : c.loop-heads.heads ≡ 0 = omega arith in
-    so_far.2 (Err Head) (subst (λ (n : ℕ). Means n so_far.0 (Err Head)) (sym none) refl)
+    so_far.2 (Err Head) (subst (λ (n : ℕ). Means n (held_in c.loop-heads.out c.loop-heads.intake.held ++ so_far.0) (Err Head)) (sym none) refl)

@@ -14,4 +14,4 @@ returns-in-Ok-clause-asks g c = wanted_asks _ _ _ _ _ _ _ c.in-Ok.ensures.value 
 pub returns-in-Err-clause-runs : goal.returns-in-Err-clause-runs
 returns-in-Err-clause-runs g c =
     refused_runs c.refuse.result (wanted_of (g.S.Service.tenant_of c.args.service.now) (head_at c.args.head.now)) c.in-Err.status (head_at c.args.head.now)
-    (held_in c.args.room.now c.args.held.now) (g.R.Read.remaining c.args.r.now) _ c.in-Err.ensures.value refl refl c.refuse.ensures.refused
+    (held_in c.args.room.now c.args.intake.now.held) (g.R.Read.remaining c.args.r.now) _ c.in-Err.ensures.value refl refl c.refuse.ensures.refused

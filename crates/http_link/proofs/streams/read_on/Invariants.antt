@@ -1,4 +1,4 @@
-use Rattle.std.proofs.Common.{◌≡◌, ◌≤◌, length, take}
+use Rattle.std.proofs.Common.{◌≡◌, ◌≤◌, ◌-◌, length, take}
 use Rattle.http_link.specs.Counts.{Spends}
 use Rattle.http_link.proofs.Known.{CameBehind}
 use Rattle.http_link.proofs.streams.read_on.Given as goal
@@ -13,4 +13,4 @@ invariant-loop-done g l = record {
 }
 
 abbrev pub decreases-loop-done : goal.decreases-loop-done
-decreases-loop-done g l = l.turns
+decreases-loop-done g l = l.wanted - l.done

@@ -1,5 +1,5 @@
 use Rattle.http_link.proofs.Rooms.{moved_front}
-use Rattle.http_link.proofs.inbox.move_to_front.Goals as goal
+use Rattle.http_link.proofs.held.move_to_front.Goals as goal
 
 pub returns-clause-same : goal.returns-clause-same
 returns-clause-same c =

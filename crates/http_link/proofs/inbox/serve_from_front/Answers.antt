@@ -1,0 +1,56 @@
+use Rattle.std.proofs.Common.{List, ℕ, length-take, take, take-take, sym, arith, refl, inr}
+use Rattle.http_link.specs.Grammars.{requests}
+use Rattle.http_link.specs.Reading.{HeadIsFound}
+use Rattle.http_link.specs.declared.grammar.Offered.TheVariants.{Malformed, Partial, Whole}
+use Rattle.http_link.proofs.Connections.{found_asks, found_next, none_found, partial_found}
+use Rattle.http_link.proofs.Counting.{spends_then}
+use Rattle.std.proofs.KnownBytes.{Appends-nil}
+use Rattle.http_link.proofs.inbox.serve_from_front.Goals as goal
+
+pub returns-in-Whole-clause-serves : goal.returns-in-Whole-clause-serves
+returns-in-Whole-clause-serves g c =
+    let room : List ℕ = c.find_head.new.room in
+    let there = c.find_head.new.intake.held.to in
+    let lines = c.find_head.new.lines in
+    let spans = c.in-Whole.spans in
+    let found : HeadIsFound requests (take c.args.intake.now.held.to c.args.room.now) (g.R.Read.remaining c.args.r.now) (g.R.Read.remaining c.find_head.new.r) (take there room) lines (Whole spans) =
+    rw c.in-Whole.is at c.in_ok-find_head.ensures.found in
+    let bound = found.stands.0 in
+    found_next c.serve_found.result (g.S.Service.tenant_of c.args.service.now) _ _ _ _ (take there room) (take spans.len room) lines spans _ (omega arith)
+    (sym (take-take spans.len there room (omega (arith, length-take there room)))) found c.serve_found.ensures.runs
+
+pub returns-in-Malformed-clause-serves : goal.returns-in-Malformed-clause-serves
+returns-in-Malformed-clause-serves g c =
+    let has : List ℕ = take c.find_head.new.intake.held.to c.find_head.new.room in
+    let lines = c.find_head.new.lines in
+    let found : HeadIsFound requests (take c.args.intake.now.held.to c.args.room.now) (g.R.Read.remaining c.args.r.now) (g.R.Read.remaining c.find_head.new.r) has lines Malformed =
+    rw c.in-Malformed.is at c.in_ok-find_head.ensures.found in
+    none_found c.refuse.result (g.S.Service.tenant_of c.args.service.now) _ _ _ has lines _ (omega arith) found refl c.refuse.ensures.refused
+
+pub returns-in-Whole-clause-asks : goal.returns-in-Whole-clause-asks
+returns-in-Whole-clause-asks g c =
+    let room : List ℕ = c.find_head.new.room in
+    let there = c.find_head.new.intake.held.to in
+    let lines = c.find_head.new.lines in
+    let spans = c.in-Whole.spans in
+    let found : HeadIsFound requests (take c.args.intake.now.held.to c.args.room.now) (g.R.Read.remaining c.args.r.now) (g.R.Read.remaining c.find_head.new.r) (take there room) lines (Whole spans) =
+    rw c.in-Whole.is at c.in_ok-find_head.ensures.found in
+    let bound = found.stands.0 in
+    found_asks (g.S.Service.tenant_of c.args.service.now) _ _ _ _ (take there room) (take spans.len room) lines spans _ _ (omega arith)
+    (sym (take-take spans.len there room (omega (arith, length-take there room)))) found c.serve_found.ensures.asks
+
+pub returns-in-Partial-clause-serves : goal.returns-in-Partial-clause-serves
+returns-in-Partial-clause-serves g c =
+    let has : List ℕ = take c.find_head.new.intake.held.to c.find_head.new.room in
+    let lines = c.find_head.new.lines in
+    let found : HeadIsFound requests (take c.args.intake.now.held.to c.args.room.now) (g.R.Read.remaining c.args.r.now) (g.R.Read.remaining c.find_head.new.r) has lines Partial =
+    rw c.in-Partial.is at c.in_ok-find_head.ensures.found in
+    partial_found (g.S.Service.tenant_of c.args.service.now) _ _ _ has lines _ (omega arith) found refl (Appends-nil (g.W.Write.contents c.args.w.now))
+
+pub returns-in-Malformed-clause-turns : goal.returns-in-Malformed-clause-turns
+returns-in-Malformed-clause-turns g c told = inr (c.refuse.ensures.turns told)
+
+pub returns-in-Whole-clause-turns : goal.returns-in-Whole-clause-turns
+returns-in-Whole-clause-turns g c told =
+    spends_then g.R.Source.was_read c.args.r.now c.find_head.new.r c.serve_found.new.r c.args.intake.now.turns c.find_head.new.intake.turns
+    c.find_head.ensures.made (c.serve_found.ensures.turns told)
