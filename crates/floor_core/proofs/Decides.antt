@@ -227,10 +227,11 @@ written_front room reply out len written =
 -- ---- what a decide leaves of a slot
 
 abbrev pub ended : List ℕ → List ℕ → Work
-ended reply room = record { job = Job.NoJob; target = None; reply = reply; room = room }
+ended reply room = record { job = Job.NoJob; target = None; expiry = None; reply = reply; room = room }
 
-abbrev pub waiting : ℕ → ℕ → List ℕ → Option TargetParts → List ℕ → List ℕ → Work
-waiting tenant hold frame target reply room = record { job = Job.Waits tenant hold frame; target = target; reply = reply; room = room }
+abbrev pub waiting : ℕ → ℕ → List ℕ → Option TargetParts → ℕ → List ℕ → List ℕ → Work
+waiting tenant hold frame target expiry reply room =
+    record { job = Job.Waits tenant hold frame; target = target; expiry = Some expiry; reply = reply; room = room }
 
 -- the sender is told, and the slot is idle
 pub told : (w : Work) (s t : State) (tenant : ℕ) (token frame out : List ℕ) (now len : ℕ) (v : Verdict) → IsDecided w s t tenant token frame now v
@@ -264,12 +265,12 @@ pub sent : (w : Work) (s t : State) (tenant : ℕ) (token frame after reply : Li
     → IsDecided w s t tenant token frame now (Forward hold peer amount expiry)
     → IfOk (prepare_at frame) (λ p. after ≡ with_amount_and_expiry p amount (timestamp_of expiry))
     → network_of t ≡ network_of s → Some target ≡ target_of t peer → reply ≡ []
-    → record { turn = Send peer hold; work = waiting tenant hold after (Some target) reply w.room; made = (decide_call w s now).made } ≡ decide_call w s now
+    → record { turn = Send peer hold; work = waiting tenant hold after (Some target) expiry reply w.room; made = (decide_call w s now).made } ≡ decide_call w s now
 sent w s t tenant token frame after reply target now hold peer amount expiry d written net there quiet =
     let frame_is : after ≡ with_amount_and_expiry d.packet amount (timestamp_of expiry) =
     if_ok_at (prepare_at frame) (λ p. after ≡ with_amount_and_expiry p amount (timestamp_of expiry)) d.packet written d.reading in
     let target_is : Some target ≡ target_of s peer = there ∙ target_alike s t peer net in
-    (λ i. record { turn = Send peer hold; work = waiting tenant hold (frame_is i) (target_is i) (quiet i) w.room; made = (d.call i).made }) ∙ sym d.call
+    (λ i. record { turn = Send peer hold; work = waiting tenant hold (frame_is i) (target_is i) expiry (quiet i) w.room; made = (d.call i).made }) ∙ sym d.call
 
 -- ---- what a slot shows of it
 

@@ -327,7 +327,7 @@ loads_bad f w t token bytes fault there i e b r =
 
 -- the seat after a good load
 abbrev loaded_seat : FloorState → ℕ → ℕ → List ℕ → List ℕ → Seat
-loaded_seat f w t token bytes = record { slot = record { job = Job.Carries t token bytes; target = None; reply = []; room = (get_or f.seats w no_seat).slot.room }; call = get_or f.next_calls t 0 }
+loaded_seat f w t token bytes = record { slot = record { job = Job.Carries t token bytes; target = None; expiry = None; reply = []; room = (get_or f.seats w no_seat).slot.room }; call = get_or f.next_calls t 0 }
 
 fresh : (f : FloorState) (w t : ℕ) (token bytes : List ℕ) → w < length f.seats → t < length f.books → IsSound f → (get_or f.seats w no_seat).slot.job ≡ Job.NoJob → is_ok (prepare_at bytes) ≡ true → AreBytes bytes
     → Changes f w t (get_or f.next_calls t 0) (loaded_seat f w t token bytes)

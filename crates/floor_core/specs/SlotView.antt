@@ -11,13 +11,19 @@ use Rattle.floor_core.specs.declared.slot.Stage.TheVariants.{Idle, Loaded, Waiti
 abbrev pub job_of : Stage → List ℕ → Job
 job_of Idle frame = Job.NoJob
 job_of (Loaded tenant token) frame = Job.Carries tenant token frame
-job_of (Waiting tenant hold target) frame = Job.Waits tenant hold frame
+job_of (Waiting tenant hold target expiry) frame = Job.Waits tenant hold frame
 
 -- whom the frame was sent on to
 abbrev pub target_at : Stage → Option TargetParts
 target_at Idle = None
 target_at (Loaded tenant token) = None
-target_at (Waiting tenant hold target) = Some target
+target_at (Waiting tenant hold target expiry) = Some target
+
+-- when that frame expires
+abbrev pub expiry_at : Stage → Option ℕ
+expiry_at Idle = None
+expiry_at (Loaded tenant token) = None
+expiry_at (Waiting tenant hold target expiry) = Some expiry
 
 -- of the bytes in both rooms, those that a frame or a reply has now
 abbrev pub work_of : Inside → Work
@@ -25,6 +31,7 @@ work_of s =
     record {
       job = job_of s.stage (take s.frame_len s.frame);
       target = target_at s.stage;
+      expiry = expiry_at s.stage;
       reply = take s.reply_len s.reply;
       room = s.reply;
     }
@@ -33,7 +40,7 @@ work_of s =
 abbrev pub IsQuiet : Stage → ℕ → Type 0
 IsQuiet Idle len = Unit {0}
 IsQuiet (Loaded tenant token) len = len ≡ 0
-IsQuiet (Waiting tenant hold target) len = len ≡ 0
+IsQuiet (Waiting tenant hold target expiry) len = len ≡ 0
 
 -- what holds of every slot
 pub record SlotInvariant (s : Inside) : Type 0 where

@@ -38,11 +38,12 @@ pub data Job : Type 0 where
   Carries : (tenant : ℕ) (token frame : List ℕ) → Job
   Waits : (tenant hold : ℕ) (frame : List ℕ) → Job
 
--- a slot: its call, whom the frame that was sent on goes to, what the sender is told once the call has ended, and the
--- room that answers come into
+-- a slot: its call, whom the frame that was sent on goes to and when that frame expires, what the sender is told once the
+-- call has ended, and the room that answers come into
 pub record Work : Type 0 where
   pub job : Job
   pub target : Option TargetParts
+  pub expiry : Option ℕ
   pub reply : List ℕ
   pub room : List ℕ
 
@@ -65,11 +66,11 @@ waiting_in _ = None
 
 -- a slot with that call, whose frame goes nowhere, and with nothing to tell
 abbrev pub carrying : Job → List ℕ → Work
-carrying job room = record { job = job; target = None; reply = []; room = room }
+carrying job room = record { job = job; target = None; expiry = None; reply = []; room = room }
 
 -- a slot with no call, that tells these bytes: they stand at the front of the room
 abbrev pub telling : List ℕ → List ℕ → Work
-telling reply room = record { job = Job.NoJob; target = None; reply = reply; room = overwritten room 0 reply }
+telling reply room = record { job = Job.NoJob; target = None; expiry = None; reply = reply; room = overwritten room 0 reply }
 
 -- ---- a load
 
@@ -125,6 +126,7 @@ sent_on s tenant p hold peer amount expiry room =
     record {
       job = Job.Waits tenant hold (with_amount_and_expiry p amount (timestamp_of expiry));
       target = target_of s peer;
+      expiry = Some expiry;
       reply = [];
       room = room;
     }
@@ -205,10 +207,10 @@ abbrev pub IsOfBytes : Job → Type 0
 IsOfBytes (Job.Carries tenant token frame) = AreBytes frame
 IsOfBytes _ = Unit {0}
 
--- a frame that was sent on goes to someone
-abbrev pub IsSomewhere : Job → Option TargetParts → Type 0
-IsSomewhere (Job.Waits tenant hold frame) target = IsSome target
-IsSomewhere _ target = Unit {0}
+-- a frame that was sent on has that
+abbrev pub WaitsWith : {A : Type 0} → Job → Option A → Type 0
+WaitsWith (Job.Waits tenant hold frame) what = IsSome what
+WaitsWith _ what = Unit {0}
 
 -- and came with a token
 abbrev pub IsNamed : Job → Type 0
@@ -219,7 +221,8 @@ IsNamed _ = Unit {0}
 pub record IsWork (w : Work) : Type 0 where
   pub readable : IsReadable w.job
   pub named : IsNamed w.job
-  pub somewhere : IsSomewhere w.job w.target
+  pub somewhere : WaitsWith w.job w.target
+  pub until : WaitsWith w.job w.expiry
   pub frame : length (frame_of w.job) ≤ max_frame
   pub reply : length w.reply ≤ max_frame
   pub room : length w.room ≡ max_frame

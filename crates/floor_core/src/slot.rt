@@ -31,11 +31,12 @@ enum Stage {
         tenant: usize,
         token: Token,
     },
-    /// The tenant sent the frame on to the target, and awaits its answer under that hold.
+    /// The tenant sent the frame on to the target, with that expiry, and awaits its answer under that hold.
     Waiting {
         tenant: usize,
         hold: u64,
         target: Target,
+        expiry: u64,
     },
 }
 
@@ -213,6 +214,7 @@ impl Slot {
                     tenant,
                     hold,
                     target: target_of(book, peer),
+                    expiry,
                 };
                 Turn::Send { peer, hold }
             }
@@ -226,6 +228,17 @@ impl Slot {
                 self.stage = Stage::Idle;
                 Turn::Reply
             }
+        }
+    }
+
+    /// When the frame that was sent on expires, in milliseconds since 1970-01-01.
+    pub fn expiry(&self) -> u64
+        requires { IsWaiting self.now.job }
+        ensures { Some result ≡ self.now.expiry }
+    {
+        match &self.stage {
+            Stage::Waiting { expiry, .. } => *expiry,
+            Stage::Idle | Stage::Loaded { .. } => unreachable!(),
         }
     }
 

@@ -41,8 +41,8 @@ returns-in-Forward-clause-slot c =
     let written =
     subst (λ (f : List ℕ). IfOk (prepare_at (take x.frame_len f)) (λ p. take x.frame_len c.rewrite.new.room ≡ with_amount_and_expiry p v.amount (timestamp_of v.expiry)))
     value c.rewrite.ensures in
-    ap (λ (r : List ℕ). waiting c.in-Loaded.tenant v.hold (take x.frame_len r) (Some c.target_of.result) (take x.reply_len x.reply) x.reply) same
-    ∙ ap (λ (r : List ℕ). waiting c.in-Loaded.tenant v.hold (take x.frame_len c.rewrite.new.room) (Some c.target_of.result) (take x.reply_len x.reply) r) (ap (λ (w : Work). w.room) c.self.view_is)
+    ap (λ (r : List ℕ). waiting c.in-Loaded.tenant v.hold (take x.frame_len r) (Some c.target_of.result) v.expiry (take x.reply_len x.reply) x.reply) same
+    ∙ ap (λ (r : List ℕ). waiting c.in-Loaded.tenant v.hold (take x.frame_len c.rewrite.new.room) (Some c.target_of.result) v.expiry (take x.reply_len x.reply) r) (ap (λ (w : Work). w.room) c.self.view_is)
     ∙ ap (λ (z : Called). z.work) (sent c.args.self.now s c.decided-verdict.new.book c.in-Loaded.tenant token frame (take x.frame_len c.rewrite.new.room)
     (take x.reply_len x.reply) c.target_of.result c.args.now v.hold v.peer v.amount v.expiry d written
     c.decided-verdict.ensures.network c.target_of.ensures (ap (λ (n : ℕ). take n x.reply) quiet))
