@@ -9,7 +9,7 @@ ghost use Rattle.receipts.specs.Runs.{AreOfRun};
 use crate::chains::{are_kept, check_joined, index_of};
 use crate::check::{are_held_whole, note_lists};
 use crate::fault::AuditFault;
-use crate::layout::lay_out;
+use crate::layout::{Laid, lay_out};
 use crate::receipt::Receipt;
 use common_types::Items;
 use joint_order::{Joined, ListPoint, join};
@@ -57,8 +57,13 @@ fn matched(
     let index = index_of(alloc, periods)?;
     check_joined(&index, periods)?;
     let (offsets, mut holders) = lay_out(alloc, &index, periods)?;
-    let points = note_lists(alloc, periods, &index, &offsets, &mut holders, lists)?;
-    if !are_held_whole(periods, &index, &offsets, &holders) {
+    let laid = Laid {
+        periods,
+        index: &index,
+        offsets: &offsets,
+    };
+    let points = note_lists(alloc, &laid, &mut holders, lists)?;
+    if !are_held_whole(&laid, &holders) {
         return Err(AuditFault::Missing);
     }
     let holders = holders.into_items(alloc)?;

@@ -11,6 +11,14 @@ use std::alloc::{AllocError, Global};
 use tenant_core::Period;
 use tenant_core::limits::{MAX_PERIOD, MAX_TENANTS};
 
+/// Periods, where each of them stands, and how many entries stand in its tenant's journal before each.
+#[derive(Drop)]
+pub(crate) struct Laid<'a> {
+    pub periods: &'a [Period],
+    pub index: &'a Index,
+    pub offsets: &'a [usize],
+}
+
 // Lays out the tenant's period of that number, behind so many entries of those before it, and gives how many there are then;
 // nothing where there is no such period.
 fn lay_next(

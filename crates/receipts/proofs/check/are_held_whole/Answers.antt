@@ -12,12 +12,12 @@ returns-then-not-is_held_whole-clause-nowhere c = λ e.
 pub loop-k-preserved : goal.loop-k-preserved
 loop-k-preserved c = λ j p below there. dite (ℕ_discrete j c.loop-k.k)
     (λ same.
-    let P : ℕ → Type 0 = λ k. slice_get c.args.periods.now k ≡ Some p in
+    let P : ℕ → Type 0 = λ k. slice_get c.args.laid.now.periods.now k ≡ Some p in
     c.is_held_whole.ensures.whole c.if-not-is_held_whole.false p (subst P same there))
     (λ other. c.loop-k.invariant j p (omega arith) there)
 
 pub returns-clause-whole : goal.returns-clause-whole
 returns-clause-whole c = λ e k p there.
-    let below = slice_get_within c.args.periods.now k p there in
+    let below = slice_get_within c.args.laid.now.periods.now k p there in
     let past = c.loop-k-test.false in
     c.loop-k.invariant k p (omega arith) there

@@ -4,4 +4,4 @@ use Rattle.receipts.specs.Layout.{IsHeldWhole}
 use Rattle.receipts.proofs.check.are_held_whole.Given as goal
 
 abbrev pub invariant-loop-k : goal.invariant-loop-k
-invariant-loop-k l = (j : ℕ) (p : PeriodParts) → j < l.k → slice_get l.periods j ≡ Some p → IsHeldWhole l.periods l.holders p
+invariant-loop-k l = (j : ℕ) (p : PeriodParts) → j < l.k → slice_get l.laid.periods.now j ≡ Some p → IsHeldWhole l.laid.periods.now l.holders p

@@ -17,7 +17,7 @@ note_at-requires-clause-there c =
 
 pub loop-n-preserved : goal.loop-n-preserved
 loop-n-preserved c =
-    let periods = c.args.periods.now in
+    let periods = c.args.laid.now.periods.now in
     let below = c.loop-n-test.true in
     let at = slice_get_read c.args.list.now (length c.args.list.now) c.loop-n.n c.index-list-n.result refl (omega arith) c.index-list-n.is in
     let f : Receipt → ListPoint = λ r. point r.tenant (place_of periods r) in
@@ -46,10 +46,10 @@ returns-clause-noted c =
     let past = c.loop-n-test.false in
     let end = c.loop-n.auto.n-end in
     let whole : length c.args.list.now ≡ length (list_at lists c.args.i) = ap (λ (l : List Receipt). length l) c.requires.list in
-    list_noted c.args.periods.now lists c.loop-n.holders c.args.i c.loop-n.n (omega arith) c.loop-n.invariant.0
+    list_noted c.args.laid.now.periods.now lists c.loop-n.holders c.args.i c.loop-n.n (omega arith) c.loop-n.invariant.0
 
 pub returns-clause-points : goal.returns-clause-points
 returns-clause-points c =
     let past = c.loop-n-test.false in
-    let shown = shown_length (λ r. point r.tenant (place_of c.args.periods.now r)) c.args.list.now in
-    c.loop-n.invariant.2 ∙ all_points (points_in c.args.periods.now c.args.list.now) c.loop-n.n (omega arith)
+    let shown = shown_length (λ r. point r.tenant (place_of c.args.laid.now.periods.now r)) c.args.list.now in
+    c.loop-n.invariant.2 ∙ all_points (points_in c.args.laid.now.periods.now c.args.list.now) c.loop-n.n (omega arith)

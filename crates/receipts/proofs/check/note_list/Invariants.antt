@@ -4,8 +4,8 @@ use Rattle.receipts.proofs.check.note_list.Given as goal
 
 abbrev pub invariant-loop-n : goal.invariant-loop-n
 invariant-loop-n l =
-    AreNoted l.periods (map (λ list. list.now) l.lists) l.holders l.i l.n
-    × HaveRows l.index l.periods l.offsets l.holders
-    × (l.points.items ≡ take l.n (points_in l.periods l.list))
+    AreNoted l.laid.periods.now (map (λ list. list.now) l.lists) l.holders l.i l.n
+    × HaveRows l.laid.index.now l.laid.periods.now l.laid.offsets.now l.holders
+    × (l.points.items ≡ take l.n (points_in l.laid.periods.now l.list))
     × (vec_len l.points ≡ l.n)
     × (length l.list ≤ vec_capacity l.points)

@@ -9,7 +9,7 @@ use Rattle.receipts.proofs.check.note_lists.Goals as goal
 
 pub loop-i-preserved : goal.loop-i-preserved
 loop-i-preserved c =
-    let periods = c.args.periods.now in
+    let periods = c.args.laid.now.periods.now in
     let lists : List (List Receipt) = map (λ list. list.now) c.args.lists.now in
     let below = c.loop-i-test.true in
     let at = slice_get_read c.args.lists.now (length c.args.lists.now) c.loop-i.i c.index-lists-i.result refl (omega arith) c.index-lists-i.is in

@@ -4,7 +4,7 @@ use Rattle.receipts.proofs.check.place_of.Goals as goal
 
 pub overflow_add-result : goal.overflow_add-result
 overflow_add-result c =
-    let at = placed c.args.index.now c.args.periods.now c.args.offsets.now c.args.holders.now c.args.receipt.now c.in-Ok.k
+    let at = placed c.args.laid.now.index.now c.args.laid.now.periods.now c.args.laid.now.offsets.now c.args.holders.now c.args.receipt.now c.in-Ok.k
     c.requires.index c.requires.rows c.in-Ok.ensures.named.0 c.in-Ok.ensures.named.1 in
     let is = at.0 in
     let room = at.2 in
@@ -14,7 +14,7 @@ overflow_add-result c =
 
 pub returns-in-Ok-clause-place : goal.returns-in-Ok-clause-place
 returns-in-Ok-clause-place c =
-    let at = placed c.args.index.now c.args.periods.now c.args.offsets.now c.args.holders.now c.args.receipt.now c.in-Ok.k
+    let at = placed c.args.laid.now.index.now c.args.laid.now.periods.now c.args.laid.now.offsets.now c.args.holders.now c.args.receipt.now c.in-Ok.k
     c.requires.index c.requires.rows c.in-Ok.ensures.named.0 c.in-Ok.ensures.named.1 in
     let is = at.0 in
     let room = at.2 in
