@@ -1,10 +1,10 @@
 -- What a share keeps.
-use Rattle.std.specs.Prelude.{ℕ, ◌≡◌, ◌==◌, ◌+◌, ◌<◌, ◌≤◌, List, ◌++◌, Option, Some, None, Result, Ok, Err, count_by, slice_index}
+use Rattle.std.specs.Prelude.{ℕ, ◌≡◌, ◌==◌, ◌+◌, ◌<◌, ◌≤◌, Bool, ◌||◌, List, ◌++◌, Option, Some, None, Result, Ok, Err, count_by, slice_index}
 use Rattle.tenant_core.specs.Limits.{max_tenants}
 use Rattle.one_list.specs.declared.step.Done.{Done}
 use Rattle.receipts.specs.Ledgers.{LedgerView}
 use Rattle.receipts.specs.declared.receipt.Receipt.{Receipt}
-use Rattle.books_shared.specs.Shares.{max_count, receipts_told}
+use Rattle.books_shared.specs.Shares.{has_full, max_count, receipts_told}
 
 -- no count passes its limit in the calls that there is room for
 abbrev pub HaveRoom : List ℕ → ℕ → Type 0
@@ -39,7 +39,8 @@ HasKept (Some before) (Some after) more = (after.receipts ≡ before.receipts ++
 HasKept (Some before) None more = ⊥
 
 -- all of that
-pub record IsShare (entries unknown refused : List ℕ) (room : ℕ) (steps : List Done) (ledger : Option LedgerView) : Type 0 where
+pub record IsShare (entries unknown refused : List ℕ) (room : ℕ) (spent : Bool) (steps : List Done) (ledger : Option LedgerView) : Type 0 where
   pub roomy : IsRoomy entries unknown refused room
+  pub known : spent ≡ (has_full entries || has_full unknown || has_full refused)
   pub tallied : AreTallied entries steps
   pub kept : IsLedgerOf ledger steps room

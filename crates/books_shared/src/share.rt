@@ -54,6 +54,8 @@ pub struct Share<J: Run> {
     strangers: [u64; MAX_TENANTS],
     full: [u64; MAX_TENANTS],
     room: u64,
+    // Whether one of these counts is full.
+    spent: bool,
     ledger: Option<Ledger>,
 }
 
@@ -75,7 +77,7 @@ impl<J: Run> Model for Share<J> {
       audited = is_some s.ledger;
     } };
 
-    ghost invariant = { λ s. IsShare s.counts s.strangers s.full s.room s.part.steps s.ledger };
+    ghost invariant = { λ s. IsShare s.counts s.strangers s.full s.room s.spent s.part.steps s.ledger };
 }
 
 impl<J: Run> Share<J> {
@@ -98,6 +100,7 @@ impl<J: Run> Share<J> {
             strangers: [0; MAX_TENANTS],
             full: [0; MAX_TENANTS],
             room: 0,
+            spent: false,
             ledger: new_ledger(alloc, audited),
         }
     }
@@ -164,7 +167,7 @@ impl<J: Run> Share<J> {
     pub fn make_room(&mut self, alloc: Global, _command: Option<&Command>) -> Result<(), RoomFault>
         ensures { IsRoomMade result self.old self.new }
     {
-        if has_full(&self.counts) || has_full(&self.strangers) || has_full(&self.full) {
+        if self.spent {
             return Err(RoomFault::Spent);
         }
         make_room(&mut self.ledger, alloc)?;
@@ -201,9 +204,13 @@ impl<J: Run> Share<J> {
             period,
             journal,
         );
-        self.counts[number] += rise.entries;
-        self.strangers[number] += rise.strangers;
-        self.full[number] += rise.full;
+        let entries = self.counts[number] + rise.entries;
+        let strangers = self.strangers[number] + rise.strangers;
+        let full = self.full[number] + rise.full;
+        self.counts[number] = entries;
+        self.strangers[number] = strangers;
+        self.full[number] = full;
+        self.spent |= has_full(&[entries, strangers, full]);
         self.room -= 1;
     }
 

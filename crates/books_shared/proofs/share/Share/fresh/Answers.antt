@@ -1,4 +1,4 @@
-use Rattle.std.proofs.Common.{◌≡◌, ◌==◌, ap, arith, subst, sym}
+use Rattle.std.proofs.Common.{◌≡◌, ◌==◌, ap, arith, refl, subst, sym}
 use Rattle.std.specs.Prelude.{count_by}
 use Rattle.one_list.specs.Steps.{PartView}
 use Rattle.books_shared.specs.ShareKept.{IsLedgerOf}
@@ -12,6 +12,7 @@ invariant_of-result g c = record {
     strangers = λ t. omega (arith, get_or-zeros 64 t);
     full = λ t. omega (arith, get_or-zeros 64 t);
   };
+  known = refl;
   tallied = λ t lt. (
       let none : count_by (λ e. e.tenant == t) c.args.part.steps ≡ 0 =
       ap (λ (p : PartView). count_by (λ e. e.tenant == t) p.steps) c.requires in
