@@ -2,7 +2,6 @@
 
 ghost use Rattle.std.specs.Prelude.{◌≡◌, ◌≢◌, ◌↔◌, ◌+◌, ◌≤◌, ◌<◌, ◌^◌, ◌⊎◌, List, ℕ, length, Some, Err, IfOk};
 ghost use Rattle.std.specs.Io.KnownBytes.{Appends};
-ghost use Rattle.ilp_view.specs.Reading.{prepare_at};
 ghost use Rattle.http_link.specs.Client.{Means, given, post_text};
 ghost use Rattle.http_link.specs.Counts.{MadeAll};
 ghost use Rattle.http_link.specs.Limits.{max_peer_answer, max_heads};
@@ -13,13 +12,12 @@ use crate::office::Terms;
 use floor_core::Got;
 use http_link::{PostFault, Sink, Source, post};
 use ilp_addr::{Host, Target};
-use ilp_view::PrepareView;
 use std::io;
 use std::io::ErrorKind;
 use std::net::{IpAddr, Ipv4Addr, Ipv6Addr, Net, SocketAddr, TcpStream};
 use std::sync::Wait;
 use std::time::{Clock, Duration, Instant};
-use workers::{Link, Places};
+use workers::{Link, Outgoing, Places};
 
 /// A link that opens a connection for each packet, in one of the places that the tenants share. The waiting for a place, the
 /// connecting, and all reads and writes have in all the tenant's longest hold, or the time until the packet expires where
@@ -54,14 +52,11 @@ impl<'a, H, C> PeerLink<'a, H, C> {
     }
 }
 
-// For how many milliseconds an exchange of a frame may last that begins now.
-fn exchange_time(hold: u64, frame: &[u8], now: u64) -> u64
-    ensures { result ≡ exchange_time hold (prepare_at frame.now) now }
+// For how many milliseconds an exchange may last that begins now.
+fn exchange_time(hold: u64, expiry: u64, now: u64) -> u64
+    ensures { result ≡ exchange_time hold expiry now }
 {
-    match PrepareView::read(frame) {
-        Ok(prepare) => hold.min(prepare.expiry().saturating_sub(now)),
-        Err(_) => hold,
-    }
+    hold.min(expiry.saturating_sub(now))
 }
 
 // Sends a frame over a connection that is open, and reads the answer into `out`, as `post` does.
@@ -89,12 +84,12 @@ fn exchange<R: Source, W: Sink>(
 }
 
 impl<H: Wait + Net<Stream = TcpStream> + Clock, C: workers::Clock> PeerLink<'_, H, C> {
-    // Until when an exchange of that frame for that tenant may last that begins now.
-    fn end_of_exchange(&self, tenant: usize, frame: &[u8]) -> io::Result<Instant> {
-        let Some(terms) = self.terms.get(tenant) else {
+    // Until when an exchange of that packet may last that begins now.
+    fn end_of_exchange(&self, packet: Outgoing<'_>) -> io::Result<Instant> {
+        let Some(terms) = self.terms.get(packet.tenant) else {
             return Err(io::Error::from(ErrorKind::NotFound));
         };
-        let left = exchange_time(terms.hold, frame, self.clock.now().millis());
+        let left = exchange_time(terms.hold, packet.expiry, self.clock.now().millis());
         match Instant::now(self.handle)?.checked_add(Duration::from_millis(left)) {
             Some(end) => Ok(end),
             None => Err(io::Error::from(ErrorKind::InvalidInput)),
@@ -120,22 +115,16 @@ impl<H: Wait + Net<Stream = TcpStream> + Clock, C: workers::Clock> PeerLink<'_, 
         Ok(stream)
     }
 
-    // Sends a frame in one of the places, once the tenant has one, and gives how many bytes came back.
-    fn exchanged(
-        &self,
-        tenant: usize,
-        target: &Target,
-        frame: &[u8],
-        out: &mut [u8],
-    ) -> io::Result<usize>
+    // Sends a packet in one of the places, once the tenant has one, and gives how many bytes came back.
+    fn exchanged(&self, packet: Outgoing<'_>, out: &mut [u8]) -> io::Result<usize>
         requires { max_peer_answer ≤ length out.old }
         ensures { length out.new ≡ length out.old }
     {
-        let until = self.end_of_exchange(tenant, frame)?;
-        let Some(place) = self.places.take(self.handle, tenant, until) else {
+        let until = self.end_of_exchange(packet)?;
+        let Some(place) = self.places.take(self.handle, packet.tenant, until) else {
             return Err(io::Error::from(ErrorKind::TimedOut));
         };
-        let result = self.exchanged_until(until, target, frame, out);
+        let result = self.exchanged_until(until, packet.target, packet.frame, out);
         self.places.give_back(self.handle, place);
         result
     }
@@ -170,9 +159,9 @@ impl<H: Wait + Net<Stream = TcpStream> + Clock, C: workers::Clock> Link for Peer
         self.sent
     }
 
-    fn send(&mut self, tenant: usize, target: &Target, frame: &[u8], out: &mut [u8]) -> Got {
+    fn send(&mut self, packet: Outgoing<'_>, out: &mut [u8]) -> Got {
         self.sent += 1;
-        match self.exchanged(tenant, target, frame, out) {
+        match self.exchanged(packet, out) {
             Ok(n) => Got::Filled(n),
             Err(_) => Got::Fault,
         }

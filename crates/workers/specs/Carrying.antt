@@ -85,12 +85,14 @@ pub record WasForwarded (Gives : ℕ → Type 0) (g : Growth) (before after : Wo
 
 -- ---- a send
 
--- the frame of the slot was sent to the slot's target for the tenant, and this came back, into the slot's room
+-- the frame of the slot was sent to the slot's target for the tenant, with the slot's expiry, and this came back, into the
+-- slot's room
 pub record WasExchanged (owner : ℕ) (before : Work) (came : Got) (after : Work) (So : Sending → Type 0) : Type 0 where
   pub sending : Sending
   pub tenant : sending.tenant ≡ owner
   pub target : Some sending.target ≡ before.target
   pub frame : sending.frame ≡ frame_of before.job
+  pub expiry : Some sending.expiry ≡ before.expiry
   pub got : sending.got ≡ came
   pub so : So sending
   pub left : after ≡ record before { room = sending.room }

@@ -53,6 +53,7 @@ pub record Sending : Type 0 where
   pub tenant : ℕ
   pub target : TargetParts
   pub frame : List ℕ
+  pub expiry : ℕ
   pub got : Got
   pub room : List ℕ
 

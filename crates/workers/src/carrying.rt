@@ -12,7 +12,7 @@ ghost use Rattle.workers.specs.Replies.{IsOfPrepare, IsOver, IsSentSo, WasSent, 
 ghost use Rattle.workers.specs.declared.reply.Reply.TheVariants as reply;
 
 use crate::reply::{Reply, Status};
-use crate::traits::{Clock, Gate, Link, Point};
+use crate::traits::{Clock, Gate, Link, Outgoing, Point};
 use books_shared::{Books, RoomFault, Share};
 use floor_core::{Got, LoadFault, Slot, Turn};
 use meters::{Kind, MeterSeat, Meters};
@@ -232,8 +232,15 @@ fn send<L: Link>(slot: &mut Slot, link: &mut L, tenant: usize) -> Got
     ensures sends { L.sent link.new ≡ L.sent link.old + 1 }
     ensures job { slot.new.job ≡ slot.old.job }
 {
+    let expiry = slot.expiry();
     let (target, frame, out) = slot.exchange();
-    link.send(tenant, target, frame, out)
+    let packet = Outgoing {
+        tenant,
+        target,
+        frame,
+        expiry,
+    };
+    link.send(packet, out)
 }
 
 // Lets the tenant settle what came back, by its book, under its lock.

@@ -14,4 +14,4 @@ pub use governing::{GovernFault, govern};
 pub use lanes::{Lane, StartFault, run_workers};
 pub use places::{Place, PlaceUse, Places};
 pub use reply::{Reply, Status};
-pub use traits::{Clock, Gate, Link, Point};
+pub use traits::{Clock, Gate, Link, Outgoing, Point};

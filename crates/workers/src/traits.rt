@@ -7,6 +7,16 @@ ghost use Rattle.workers.specs.Replies.{Sending};
 use floor_core::Got;
 use ilp_addr::{Moment, Target};
 
+/// A packet that a tenant sends on.
+#[derive(Clone, Copy)]
+pub struct Outgoing<'a> {
+    pub tenant: usize,
+    pub target: &'a Target,
+    pub frame: &'a [u8],
+    /// When the frame expires, in milliseconds since 1970-01-01.
+    pub expiry: u64,
+}
+
 /// Where packets go.
 pub trait Link {
     /// How many packets it has sent.
@@ -19,16 +29,23 @@ pub trait Link {
     fn sends(&self) -> u64
         ensures { result ≡ sent self.now };
 
-    /// Sends a frame of a tenant to a target, and writes what comes back to the front of the room, which has 34,000 bytes
-    /// or more. It has sent fewer than 2^62 packets.
+    /// Sends the frame to the target, and writes what comes back to the front of the room, which has 34,000 bytes or more. It
+    /// has sent fewer than 2^62 packets.
     ///
     /// The result says how many bytes came back, or that there is no answer (`Fault`).
-    fn send(&mut self, tenant: usize, target: &Target, frame: &[u8], out: &mut [u8]) -> Got
+    fn send(&mut self, packet: Outgoing<'_>, out: &mut [u8]) -> Got
         requires few { sent self.old < 2 ^ 62 }
         requires room { max_frame ≤ length out.old }
         ensures counted { sent self.new ≡ sent self.old + 1 }
         ensures so { sends_so self.old
-            (record { tenant = tenant; target = target.now; frame = frame.now; got = result; room = out.new })
+            (record {
+              tenant = packet.entry.tenant;
+              target = packet.entry.target.now;
+              frame = packet.entry.frame.now;
+              expiry = packet.entry.expiry;
+              got = result;
+              room = out.new;
+            })
             self.new }
         ensures room { length out.new ≡ length out.old };
 }

@@ -6,7 +6,7 @@ use super::{
 };
 use books_shared::{Books, GatherFault, Share};
 use floor_core::{Got, Slot};
-use ilp_addr::{Moment, Target};
+use ilp_addr::Moment;
 use meters::Meters;
 use one_list::Run;
 use std::alloc::Global;
@@ -14,13 +14,16 @@ use std::sync::Wait;
 use std::sync::atomic::{AtomicU64, Ordering};
 use std::test::Fail;
 use tenant_core::Book;
-use workers::{Clock, Gate, Job, Link, Point, Reply, carry};
+use workers::{Clock, Gate, Job, Link, Outgoing, Point, Reply, carry};
 
 // BASE as it goes on.
 const SENT: &[u8; 73] = b"\x0cG\0\0\0\0\0\0\x05\xdc20300101000009000\
     \x66\x68\x7a\xad\xf8\x62\xbd\x77\x6c\x8f\xc1\x8b\x8e\x9f\x8e\x20\
     \x08\x97\x14\x85\x6e\xe2\x33\xb3\x90\x2a\x59\x1d\x0d\x5f\x29\x25\
     \x0cg.acme.bob.x\0";
+
+// When it expires: nine seconds after the start.
+const SENT_EXPIRY: u64 = START + 9_000;
 
 /// A packet for acme, what becomes of it, and what the share has counted then.
 #[derive(Clone, Copy)]
@@ -171,9 +174,12 @@ impl Link for Looking {
         self.sends
     }
 
-    fn send(&mut self, tenant: usize, target: &Target, frame: &[u8], out: &mut [u8]) -> Got {
+    fn send(&mut self, packet: Outgoing<'_>, out: &mut [u8]) -> Got {
         self.sends += 1;
-        self.is_right = tenant == 0 && target.url() == BOB_URL && frame == SENT.as_slice();
+        self.is_right = packet.tenant == 0
+            && packet.target.url() == BOB_URL
+            && packet.frame == SENT.as_slice()
+            && packet.expiry == SENT_EXPIRY;
         if !self.answers {
             return Got::Fault;
         }

@@ -8,7 +8,7 @@ use super::{
 };
 use books_shared::{Books, Share};
 use floor_core::{Got, Slot};
-use ilp_addr::{Moment, Target};
+use ilp_addr::Moment;
 use meters::Meters;
 use one_list::{Opened, Run};
 use std::alloc::Global;
@@ -19,7 +19,7 @@ use std::test::Fail;
 use std::thread;
 use std::thread::Threads;
 use tenant_core::TenantSetup;
-use workers::{Gate, Job, Lane, Link, Point, Reply, StartFault, carry, run_workers};
+use workers::{Gate, Job, Lane, Link, Outgoing, Point, Reply, StartFault, carry, run_workers};
 
 // BASE for g.beta.bob.x.
 const BETA: &[u8; 73] = b"\x0cG\0\0\0\0\0\0\x03\xe820300101000010000\
@@ -86,7 +86,7 @@ impl Link for Fulfilling<'_> {
         self.sends
     }
 
-    fn send(&mut self, _tenant: usize, _target: &Target, _frame: &[u8], out: &mut [u8]) -> Got {
+    fn send(&mut self, _packet: Outgoing<'_>, out: &mut [u8]) -> Got {
         self.sends += 1;
         if self.worker == 0 && self.meeting.place == Place::Link {
             self.meeting.wait();
