@@ -12,6 +12,7 @@ ghost use Rattle.workers.specs.Replies.{IsOfPrepare, IsOver, IsSentSo, WasSent, 
 ghost use Rattle.workers.specs.declared.reply.Reply.TheVariants as reply;
 
 use crate::reply::{Reply, Status};
+use crate::tools::Tools;
 use crate::traits::{Clock, Gate, Link, Outgoing, Point};
 use books_shared::{Books, RoomFault, Share};
 use floor_core::{Got, LoadFault, Slot, Turn};
@@ -82,7 +83,13 @@ pub fn carry<J: Run, R: Wait, L: Link, G: Gate, C: Clock>(
     ensures same_meters { seat.new.meters ≡ seat.old.meters }
     ensures idle { slot.new.job ≡ NoJob }
 {
-    let reply = carried(rt, alloc, books, slot, share, link, gate, clock, job);
+    let tools = Tools {
+        rt,
+        alloc,
+        books,
+        clock,
+    };
+    let reply = carried(&tools, gate, slot, share, link, job);
     close(slot, reply);
     tally(meters, seat, job.tenant, reply.status().kind());
     if reply.got() == Some(Got::Fault) {
@@ -112,18 +119,15 @@ pub(crate) fn tally(meters: &Meters, seat: &mut MeterSeat, tenant: usize, kind: 
 
 // Carries a packet, and leaves the call in the slot where the answer is that nothing was to be had.
 fn carried<J: Run, R: Wait, L: Link, G: Gate, C: Clock>(
-    rt: &R,
-    alloc: Global,
-    books: &Books<J>,
+    tools: &Tools<'_, J, R, C>,
+    gate: &G,
     slot: &mut Slot,
     share: &mut Share<J>,
     link: &mut L,
-    gate: &G,
-    clock: &C,
     job: Job<'_>,
 ) -> Reply
     requires idle { slot.old.job ≡ NoJob }
-    requires books { job.tenant < books.now.tenants }
+    requires books { job.tenant < tools.now.books.now.tenants }
     ensures nameless { result ≡ reply.Nameless ↔ is_token job.entry.token.now ≡ false }
     ensures malformed { result ≡ reply.Malformed
         ↔ (is_token job.entry.token.now ≡ true) × (is_ok (prepare_at job.entry.frame.now) ≡ false) }
@@ -133,7 +137,7 @@ fn carried<J: Run, R: Wait, L: Link, G: Gate, C: Clock>(
     ensures sends { L.sent link.new ≡ L.sent link.old + sends_of result }
     ensures sent { IsSentSo result job.entry.tenant
         (λ sending. L.sends_so link.old sending link.new) (link.new ≡ link.old) }
-    ensures carried { IsCarried (C.gives clock.now) result (growth job.entry.tenant share.old share.new)
+    ensures carried { IsCarried (C.gives tools.now.clock.now) result (growth job.entry.tenant share.old share.new)
         (loaded slot.old job.entry.tenant job.entry.token.now job.entry.frame.now) (closed result slot.new)
         (λ sending. L.sends_so link.old sending link.new) }
     ensures over { IsOver result slot.new.job }
@@ -145,22 +149,19 @@ fn carried<J: Run, R: Wait, L: Link, G: Gate, C: Clock>(
         Err(LoadFault::Busy) => unreachable!(),
     }
     gate.pass(share.worker(), Point::Loaded);
-    exchanged(rt, alloc, books, slot, share, link, gate, clock, job.tenant)
+    exchanged(tools, gate, slot, share, link, job.tenant)
 }
 
 // Lets the tenant decide the packet of the slot, sends it on, and lets the tenant settle what comes back.
 fn exchanged<J: Run, R: Wait, L: Link, G: Gate, C: Clock>(
-    rt: &R,
-    alloc: Global,
-    books: &Books<J>,
+    tools: &Tools<'_, J, R, C>,
+    gate: &G,
     slot: &mut Slot,
     share: &mut Share<J>,
     link: &mut L,
-    gate: &G,
-    clock: &C,
     tenant: usize,
 ) -> Reply
-    requires books { tenant < books.now.tenants }
+    requires books { tenant < tools.now.books.now.tenants }
     requires loaded { IsLoaded slot.old.job }
     requires tenant { tenant_in slot.old.job ≡ Some tenant }
     ensures loaded { IsOfPrepare result }
@@ -169,19 +170,19 @@ fn exchanged<J: Run, R: Wait, L: Link, G: Gate, C: Clock>(
     ensures sends { L.sent link.new ≡ L.sent link.old + sends_of result }
     ensures sent { IsSentSo result tenant
         (λ sending. L.sends_so link.old sending link.new) (link.new ≡ link.old) }
-    ensures carried { IsCarried (C.gives clock.now) result (growth tenant share.old share.new) slot.old (closed result slot.new)
+    ensures carried { IsCarried (C.gives tools.now.clock.now) result (growth tenant share.old share.new) slot.old (closed result slot.new)
         (λ sending. L.sends_so link.old sending link.new) }
     ensures over { IsOver result slot.new.job }
 {
     if link.sends() >= MAX_SENDS {
         return Reply::Spent;
     }
-    match share.make_room(alloc, None) {
+    match share.make_room(tools.alloc, None) {
         Ok(()) => {}
         Err(RoomFault::Spent) => return Reply::Spent,
         Err(RoomFault::Memory) => return Reply::Memory,
     }
-    let turn = decide(rt, books, slot, share, clock, tenant);
+    let turn = decide(tools, slot, share, tenant);
     gate.pass(share.worker(), Point::Decided);
     match turn {
         Turn::Idle | Turn::Stray => unreachable!(),
@@ -190,7 +191,7 @@ fn exchanged<J: Run, R: Wait, L: Link, G: Gate, C: Clock>(
         Turn::Send { .. } => {
             let got = send(slot, link, tenant);
             gate.pass(share.worker(), Point::Sent);
-            let turn = answer(rt, books, slot, share, clock, tenant, got);
+            let turn = answer(tools, slot, share, tenant, got);
             gate.pass(share.worker(), Point::Answered);
             match turn {
                 Turn::Reply => Reply::Settled(got),
@@ -202,24 +203,22 @@ fn exchanged<J: Run, R: Wait, L: Link, G: Gate, C: Clock>(
 
 // Lets the tenant decide, by its book, under its lock.
 fn decide<J: Run, R: Wait, C: Clock>(
-    rt: &R,
-    books: &Books<J>,
+    tools: &Tools<'_, J, R, C>,
     slot: &mut Slot,
     share: &mut Share<J>,
-    clock: &C,
     tenant: usize,
 ) -> Turn
-    requires books { tenant < books.now.tenants }
+    requires books { tenant < tools.now.books.now.tenants }
     requires loaded { IsLoaded slot.old.job }
     requires tenant { tenant_in slot.old.job ≡ Some tenant }
     requires room { 1 < share.old.room }
-    ensures decided { IsDecided (C.gives clock.now) result (growth tenant share.old share.new) slot.old slot.new }
+    ensures decided { IsDecided (C.gives tools.now.clock.now) result (growth tenant share.old share.new) slot.old slot.new }
     ensures left { IsLeft result slot.old slot.new }
     ensures room { 0 < share.new.room }
 {
     slot.is_work();
-    let mut guard = books.enter(rt, tenant);
-    guard.decide(share, slot, clock.now())
+    let mut guard = tools.books.enter(tools.rt, tenant);
+    guard.decide(share, slot, tools.clock.now())
 }
 
 // Sends the packet on. What comes back stands in the slot's room.
@@ -245,21 +244,19 @@ fn send<L: Link>(slot: &mut Slot, link: &mut L, tenant: usize) -> Got
 
 // Lets the tenant settle what came back, by its book, under its lock.
 fn answer<J: Run, R: Wait, C: Clock>(
-    rt: &R,
-    books: &Books<J>,
+    tools: &Tools<'_, J, R, C>,
     slot: &mut Slot,
     share: &mut Share<J>,
-    clock: &C,
     tenant: usize,
     got: Got,
 ) -> Turn
-    requires books { tenant < books.now.tenants }
+    requires books { tenant < tools.now.books.now.tenants }
     requires waits { IsWaiting slot.old.job }
     requires tenant { tenant_in slot.old.job ≡ Some tenant }
     requires room { 0 < share.old.room }
-    ensures answered { IsAnswered (C.gives clock.now) result (growth tenant share.old share.new) got slot.old slot.new }
+    ensures answered { IsAnswered (C.gives tools.now.clock.now) result (growth tenant share.old share.new) got slot.old slot.new }
     ensures ended { IsEnded result slot.old slot.new }
 {
-    let mut guard = books.enter(rt, tenant);
-    guard.answer(share, slot, clock.now(), got)
+    let mut guard = tools.books.enter(tools.rt, tenant);
+    guard.answer(share, slot, tools.clock.now(), got)
 }

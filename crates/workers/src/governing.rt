@@ -7,6 +7,7 @@ ghost use Rattle.workers.specs.Counting.{command_kind, tallied};
 ghost use Rattle.workers.specs.declared.governing.GovernFault.TheVariants as governing;
 
 use crate::carrying::tally;
+use crate::tools::Tools;
 use crate::traits::Clock;
 use books_shared::{Books, RoomFault, Share};
 use meters::{Kind, MeterSeat, Meters};
@@ -64,7 +65,13 @@ pub fn govern<J: Run, R: Wait, C: Clock>(
     ensures seat { seat.new ≡ tallied tenant (command_kind result) seat.old }
     ensures same_meters { seat.new.meters ≡ seat.old.meters }
 {
-    let answer = commanded(rt, alloc, books, share, clock, tenant, command);
+    let tools = Tools {
+        rt,
+        alloc,
+        books,
+        clock,
+    };
+    let answer = commanded(&tools, share, tenant, command);
     tally(meters, seat, tenant, kind_of(&answer));
     answer
 }
@@ -81,25 +88,22 @@ fn kind_of(answer: &Result<Answered, GovernFault>) -> Kind
 }
 
 fn commanded<J: Run, R: Wait, C: Clock>(
-    rt: &R,
-    alloc: Global,
-    books: &Books<J>,
+    tools: &Tools<'_, J, R, C>,
     share: &mut Share<J>,
-    clock: &C,
     tenant: usize,
     command: &Command,
 ) -> Result<Answered, GovernFault>
-    requires { tenant < books.now.tenants }
-    ensures done { IsDone (C.gives clock.now) result (growth tenant share.old share.new) command.now }
+    requires { tenant < tools.now.books.now.tenants }
+    ensures done { IsDone (C.gives tools.now.clock.now) result (growth tenant share.old share.new) command.now }
     ensures spent { result ≡ Err governing.Spent ↔ is_spent share.old ≡ true }
     ensures memory { result ≡ Err governing.Memory → share.old.audited ≡ true }
 {
-    match share.make_room(alloc, Some(command)) {
+    match share.make_room(tools.alloc, Some(command)) {
         Ok(()) => {}
         Err(RoomFault::Spent) => return Err(GovernFault::Spent),
         Err(RoomFault::Memory) => return Err(GovernFault::Memory),
     }
-    let mut guard = books.enter(rt, tenant);
-    let answer = guard.command(alloc, share, command, clock.now());
+    let mut guard = tools.books.enter(tools.rt, tenant);
+    let answer = guard.command(tools.alloc, share, command, tools.clock.now());
     answer.map_err(GovernFault::Refused)
 }

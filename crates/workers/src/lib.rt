@@ -7,6 +7,7 @@ mod governing;
 mod lanes;
 mod places;
 mod reply;
+mod tools;
 mod traits;
 
 pub use carrying::{Job, carry};
