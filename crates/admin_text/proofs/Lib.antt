@@ -4,7 +4,6 @@ pub mod Verbs
 pub mod Spaces
 pub mod Spelled
 pub mod Few
-pub mod OwnTerms
 pub mod MadeTables
 pub mod TellsPeers
 pub mod TellsRoutes

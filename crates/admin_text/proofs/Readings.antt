@@ -2,9 +2,11 @@
 use Rattle.std.proofs.Common.{◌≡◌, ◌<◌, ◌^◌, ◌∷◌, [], inl, inr, ℕ, Bool, true, false, not, cond, List, Option, Some, None, Result, Ok, Err, refl, sym, ap, ◌∙◌, subst, arith}
 use Rattle.std.specs.Prelude.{codes, ◌&&◌}
 use Rattle.std.specs.Result.{result_ok}
+use Rattle.std.specs.Fmt.{decimal}
 use Rattle.std.specs.Str.{bytes_eq}
 use Rattle.std.proofs.lemmas.Slice.Eq.{bytes_eq-Decides}
 use Rattle.common_types.specs.Names.{is_name}
+use Rattle.common_types.specs.Numbers.{is_between}
 use Rattle.common_types.specs.Numerals.{NumeralLaws, number_in}
 use Rattle.common_types.specs.ResultChain.{◌>>=◌}
 use Rattle.common_types.specs.declared.numerals.NumberFault.{NumberFault}
@@ -15,10 +17,14 @@ use Rattle.ilp_addr.specs.Address.{IsPrefix, prefix_at}
 use Rattle.ilp_addr.specs.Laws.{PrefixLaws, TargetLaws}
 use Rattle.ilp_addr.specs.Target.{IsTarget, target_in}
 use Rattle.ilp_addr.specs.declared.fault.AddrFault.{AddrFault}
+use Rattle.money_core.specs.declared.purse.TheConstants.{MAX_MONEY}
 use Rattle.tenant_core.specs.Commands.{Ends}
+use Rattle.tenant_core.specs.declared.limits.TheConstants.{MAX_BURST, MAX_PER_SECOND}
+use Rattle.tenant_core.specs.declared.terms.BucketTerms.{BucketTerms}
+use Rattle.tenant_core.specs.declared.terms.PeerLimits.{PeerLimits}
 use Rattle.admin_text.specs.Prefixes.{written_prefix}
-use Rattle.admin_text.specs.Fields.{Field, WORD, NUMBER, ROLE, PREFIX, TARGET, PAIR, FEE, Said, AllSaid, IsSpelled, AreSpelled, role_word}
-use Rattle.admin_text.specs.Fields.{argument, number_or_fault, role_in, pair_in, with_others, of_one, of_two, taken, ended, all_taken}
+use Rattle.admin_text.specs.Fields.{Field, WORD, NUMBER, ROLE, PREFIX, TARGET, PAIR, FEE, LIMITS, BUCKET, Said, AllSaid, IsSpelled, AreSpelled, role_word, limits_with, bucket_with}
+use Rattle.admin_text.specs.Fields.{argument, number_or_fault, role_in, pair_in, with_others, of_one, of_two, number_taken, taken, ended, all_taken}
 use Rattle.admin_text.specs.declared.commands.TextFault.{TextFault}
 use Rattle.admin_text.specs.declared.commands.TextFault.TheVariants.{Argument}
 
@@ -106,16 +112,41 @@ is_prefix : PrefixLaws → (word prefix : List ℕ) → written_prefix word ≡ 
 unfolding written_prefix
 is_prefix laws word prefix h = read_prefix laws word prefix (bytes_eq word (codes "*")) (bytes_eq word []) h
 
+-- a number of up to 64 bits at the front of words
+number_is_there : Known → (low high : ℕ) → high < 2 ^ 64 → (words : List (List ℕ)) (r : ℕ × List (List ℕ)) → number_taken low high words ≡ Ok r
+    → (words ≡ decimal r.0 ∷ r.1) × (is_between low high r.0 ≡ true)
+unfolding number_taken
+number_is_there laws low high small words r h =
+    let k = one _ words r h in
+    let m = laws.numbers.read_is_numeral low high k.0 r.0 small (number_is (number_in low high k.0) r.0 k.2) in
+    (k.1 ∙ ap (λ (w : List ℕ). w ∷ r.1) m.0, m.1)
+
 field_is : Known → (f : Field) → IsSmall f → (words : List (List ℕ)) (r : Said f × List (List ℕ)) → taken f words ≡ Ok r → IsSpelled f r.0 words r.1
 unfolding taken
 field_is laws (WORD test) small words r h =
     let k = one _ words r h in
     let m = chosen (test k.0) k.0 r.0 k.2 in
     (k.1 ∙ ap (λ (w : List ℕ). w ∷ r.1) m.1, subst (λ (w : List ℕ). test w ≡ true) m.1 m.0)
-field_is laws (NUMBER low high) small words r h =
-    let k = one _ words r h in
-    let m = laws.numbers.read_is_numeral low high k.0 r.0 small (number_is (number_in low high k.0) r.0 k.2) in
-    (k.1 ∙ ap (λ (w : List ℕ). w ∷ r.1) m.0, m.1)
+field_is laws (NUMBER low high) small words r h = number_is_there laws low high small words r h
+field_is laws LIMITS small words r h =
+    let m : MAX_MONEY < 2 ^ 64 = omega arith in
+    let a = bound (number_taken 0 MAX_MONEY words) _ r h in
+    let b = bound (number_taken 0 MAX_MONEY a.0.1) _ r a.2 in
+    let c = bound (number_taken 0 MAX_MONEY b.0.1) _ r b.2 in
+    let x = number_is_there laws 0 MAX_MONEY m words a.0 a.1 in
+    let y = number_is_there laws 0 MAX_MONEY m a.0.1 b.0 b.1 in
+    let z = number_is_there laws 0 MAX_MONEY m b.0.1 c.0 c.1 in
+    let e : (limits_with a.0.0 b.0.0 c.0.0, c.0.1) ≡ r = cc in
+    subst (λ (q : PeerLimits × List (List ℕ)). IsSpelled LIMITS q.0 words q.1) e
+    (x.0 ∙ ap (λ (ws : List (List ℕ)). decimal a.0.0 ∷ ws) (y.0 ∙ ap (λ (ws : List (List ℕ)). decimal b.0.0 ∷ ws) z.0), (x.1, (y.1, (z.1, tt))))
+field_is laws BUCKET small words r h =
+    let a = bound (number_taken 1 MAX_BURST words) _ r h in
+    let b = bound (number_taken 0 MAX_PER_SECOND a.0.1) _ r a.2 in
+    let x = number_is_there laws 1 MAX_BURST (omega arith) words a.0 a.1 in
+    let y = number_is_there laws 0 MAX_PER_SECOND (omega arith) a.0.1 b.0 b.1 in
+    let e : (bucket_with a.0.0 b.0.0, b.0.1) ≡ r = cc in
+    subst (λ (q : BucketTerms × List (List ℕ)). IsSpelled BUCKET q.0 words q.1) e
+    (x.0 ∙ ap (λ (ws : List (List ℕ)). decimal a.0.0 ∷ ws) y.0, (x.1, y.1))
 field_is laws ROLE small words r h =
     let k = one role_in words r h in
     let e = role_is k.0 (bytes_eq k.0 (codes "child")) (bytes_eq k.0 (codes "peer")) r.0 refl refl k.2 in
@@ -157,10 +188,24 @@ all_are laws (f ∷ fields) small words values h =
 
 -- ---- what is spelled is read
 
+number_there : Known → (low high n : ℕ) → high < 2 ^ 64 → is_between low high n ≡ true → (others : List (List ℕ)) → number_taken low high (decimal n ∷ others) ≡ Ok (n, others)
+unfolding number_taken
+number_there laws low high n small h others = rw (laws.numbers.numeral_is_read low high n small h) refl
+
 field_read : Known → (f : Field) → IsSmall f → (value : Said f) (words others : List (List ℕ)) → IsSpelled f value words others → taken f words ≡ Ok (value, others)
 unfolding taken
 field_read laws (WORD test) small value words others h = rw (h.0, h.1) refl
-field_read laws (NUMBER low high) small value words others h = rw (h.0, laws.numbers.numeral_is_read low high value small h.1) refl
+field_read laws (NUMBER low high) small value words others h = rw (h.0, number_there laws low high value small h.1 others) refl
+field_read laws LIMITS small value words others h =
+    let m : MAX_MONEY < 2 ^ 64 = omega arith in
+    let first = number_there laws 0 MAX_MONEY value.cap m h.1.0 in
+    let second = number_there laws 0 MAX_MONEY value.ceiling m h.1.1.0 in
+    let third = number_there laws 0 MAX_MONEY value.credit m h.1.1.1.0 in
+    rw (h.0, first (decimal value.ceiling ∷ decimal value.credit ∷ others), second (decimal value.credit ∷ others), third others) refl
+field_read laws BUCKET small value words others h =
+    let first = number_there laws 1 MAX_BURST value.burst (omega arith) h.1.0 in
+    let second = number_there laws 0 MAX_PER_SECOND value.per_second (omega arith) h.1.1 in
+    rw (h.0, first (decimal value.per_second ∷ others), second others) refl
 field_read laws ROLE small Child words others h = rw h.0 refl
 field_read laws ROLE small Peer words others h = rw h.0 refl
 field_read laws PREFIX small value words others h = rw (h.1, h.2) refl

@@ -8,10 +8,9 @@ use Rattle.toml.specs.Parse.{parse_document}
 use Rattle.std.specs.Option.{option_map_or}
 use Rattle.common_types.specs.ResultChain.{◌>>=◌}
 use Rattle.tenant_core.specs.Limits.{max_tenants}
-use Rattle.tenant_core.specs.Setup.{is_tenant_setup}
 use Rattle.admin_text.specs.Again.{SetupAgainLaw}
 use Rattle.admin_text.specs.Setup.{document_of, from_start, setup_of, setup_by, setup_of_table, start_of, then_setup, version_of}
-use Rattle.admin_text.specs.TenantTable.{terms_of, tenant_of_table, within_limits}
+use Rattle.admin_text.specs.TenantTable.{own_terms_of, tenant_of_table}
 use Rattle.admin_text.specs.Tenants.{is_there, unless_there, next_tenant, with_one_more, tenants_of_items, tenants_of_array}
 use Rattle.admin_text.specs.declared.setup.Setup.{Setup}
 use Rattle.admin_text.specs.declared.setup.SetupFault.{SetupFault}
@@ -20,35 +19,19 @@ use Rattle.admin_text.proofs.Few.{setup_law}
 use Rattle.tenant_core.specs.Network.{Net}
 use Rattle.tenant_core.specs.declared.terms.TenantTerms.{TenantTerms}
 use Rattle.admin_text.specs.Anew.{net_anew, anew}
-use Rattle.admin_text.specs.Keys.{name_under, address_under, token_under, number_or, array_under}
+use Rattle.admin_text.specs.Keys.{array_under}
 use Rattle.admin_text.specs.Networks.{network_of}
 use Rattle.admin_text.specs.declared.version.Version.{Version}
 use Rattle.admin_text.proofs.SetupsAnew.{bound, network_anew}
 
 -- ---- tenants
 
-terms_network : (t : Members) (net : Net) (terms : TenantTerms) → terms_of t net ≡ Some terms → net ≡ terms.network
-unfolding terms_of
-terms_network t net terms e =
-    let name = bound (name_under (codes "name") t) _ terms e in
-    let address = bound (address_under (codes "address") t) _ terms name.2 in
-    let admin = bound (token_under (codes "admin") t) _ terms address.2 in
-    let journal = bound (number_or 1024 (codes "journal") t) _ terms admin.2 in
-    let margin = bound (number_or 1000 (codes "margin") t) _ terms journal.2 in
-    let hold = bound (number_or 30000 (codes "hold") t) _ terms margin.2 in
-    ap (λ (o : Option TenantTerms). option_map_or (λ (x : TenantTerms). x.network) o net) hold.2
-
-kept_within : (b : Bool) (terms t : TenantTerms) → cond b (Some terms) None ≡ Some t → terms ≡ t
-kept_within true terms t e = cc
-kept_within false terms t e = absurd cc
-
 tenant_anew : (version : Version) (m : Members) (t : TenantTerms) → tenant_of_table version m ≡ Some t → anew t ≡ t
 unfolding tenant_of_table
 tenant_anew version m t e =
-    let net = bound (network_of version m) _ t e in
-    let terms = bound (terms_of m net.0) within_limits t net.2 in
-    let is = kept_within (is_tenant_setup terms.0) terms.0 t terms.2 in
-    let network = terms_network m net.0 terms.0 terms.1 ∙ ap (λ (x : TenantTerms). x.network) is in
+    let own = bound (own_terms_of m) _ t e in
+    let net = bound (network_of version m) _ t own.2 in
+    let network = ap (λ (o : Option TenantTerms). option_map_or (λ (x : TenantTerms). x.network) o net.0) net.2 in
     let same : net_anew t.network ≡ t.network = subst (λ (n : Net). net_anew n ≡ n) network (network_anew version m net.0 net.1) in
     λ i. record t { network = same i }
 

@@ -212,8 +212,8 @@ unfolding rate_of
 rate_below net k t r e =
     let from = bound (peer_under net (codes "from") t) _ r e in
     let to = bound (peer_under net (codes "to") t) _ r from.2 in
-    let num = bound (number_under 64 (codes "num") t) _ r to.2 in
-    let den = bound (number_under 64 (codes "den") t) _ r num.2 in
+    let num = bound (number_under (codes "num") t) _ r to.2 in
+    let den = bound (number_under (codes "den") t) _ r num.2 in
     let rate = bound (result_ok (rate_at num.0 den.0)) _ r den.2 in
     let is = chosen (eqb from.0 to.0) (record { from = from.0; to = to.0; rate = rate.0 }) r rate.2 in
     subst (IsBelow (length net.peers)) is (number_below net k (codes "from") t from.0 from.1, number_below net k (codes "to") t to.0 to.1)

@@ -13,7 +13,7 @@ use Rattle.admin_text.specs.declared.commands.Verb.{Verb}
 use Rattle.admin_text.specs.declared.commands.Verb.TheVariants.{RouteAdd}
 use Rattle.common_types.specs.Numbers.{is_between}
 use Rattle.std.specs.Fmt.{decimal}
-use Rattle.admin_text.specs.Fields.{Field, WORD, NUMBER, ROLE, PREFIX, TARGET, PAIR, FEE, Said, AllSaid, field_words, all_words, IsWithin, AreWithin, IsSpelled, AreSpelled}
+use Rattle.admin_text.specs.Fields.{Field, WORD, NUMBER, ROLE, PREFIX, TARGET, PAIR, FEE, LIMITS, BUCKET, Said, AllSaid, field_words, all_words, IsWithin, AreWithin, IsSpelled, AreSpelled}
 use Rattle.admin_text.specs.Commands.{fields, said, command_words, IsWritten, IsCommandText}
 
 -- a star is no prefix
@@ -68,6 +68,8 @@ in_order ROLE fields order = order
 in_order PREFIX fields order = order
 in_order TARGET fields order = order
 in_order PAIR fields order = order
+in_order LIMITS fields order = order
+in_order BUCKET fields order = order
 
 all_written : PrefixWordLaws → (fields : List Field) (values : AllSaid fields) → AreInOrder fields → AreWithin fields values
     → AreSpelled fields values (all_words fields values)

@@ -25,7 +25,7 @@ use Rattle.tenant_core.specs.declared.peer.Peer.{Peer}
 use Rattle.tenant_core.specs.declared.terms.PeerTerms.{PeerTerms}
 use Rattle.admin_text.specs.Anew.{peers_from}
 use Rattle.admin_text.specs.Fields.{role_word}
-use Rattle.admin_text.specs.Keys.{string_under, name_under, token_under, asset_under, target_of, integer_under, number_under, between_under, integer_or, role_of, role_under, peer_terms_of, balance_of}
+use Rattle.admin_text.specs.Keys.{string_under, integer_under, number_under, between_under, integer_or, role_of, under, peer_terms_of, balance_of}
 use Rattle.admin_text.specs.Made.{peer_members, number}
 use Rattle.admin_text.specs.Networks.{no_level, with_peers_of}
 use Rattle.admin_text.specs.Told.{AllTold, IsKnown, TellsPeer}
@@ -36,15 +36,11 @@ pub text_there : (key : List ℕ) (ms : Members) (s : List ℕ) → get_member k
 unfolding string_under
 text_there key ms s e = rw e refl
 
-pub below_word : (bits n : ℕ) → n < 2 ^ bits → nat_lt n (2 ^ bits) ≡ true
-below_word bits n h = grind (arith, nat_tests)
-
-pub number_there : (bits : ℕ) (key : List ℕ) (ms : Members) (n : ℕ) → get_member key ms ≡ Some (number n) → n < 2 ^ bits → number_under bits key ms ≡ Some n
+pub word_there : (key : List ℕ) (ms : Members) (n : ℕ) → get_member key ms ≡ Some (number n) → n ≤ max_money → number_under key ms ≡ Some n
 unfolding number_under integer_under
-number_there bits key ms n e h = rw (e, below_word bits n h) refl
-
-pub word_there : (key : List ℕ) (ms : Members) (n : ℕ) → get_member key ms ≡ Some (number n) → n ≤ max_money → number_under 64 key ms ≡ Some n
-word_there key ms n e h = number_there 64 key ms n e (omega arith)
+word_there key ms n e h =
+    let below : nat_lt n (2 ^ 64) ≡ true = grind (arith, nat_tests) in
+    rw (e, below) refl
 
 pub most : (low high n : ℕ) → is_between low high n ≡ true → n ≤ high
 most low high n e = grind (arith, nat_tests)
@@ -62,32 +58,39 @@ role_again PeerRole = refl
 -- ---- one peer
 
 pub terms_read : TargetLaws → (p : Peer) → IsKnown p → peer_terms_of (peer_members p) ≡ Some p.terms
-unfolding peer_terms_of name_under token_under asset_under role_under target_of peer_members
+unfolding peer_terms_of under peer_members
 terms_read laws p k =
     let ms : Members = peer_members p in
+    let name = k.0 in
+    let token = name.1.1 in
+    let target = token.1 in
+    let asset = target.1 in
+    let scale = asset.1 in
+    let limits = scale.1.0 in
+    let bucket = scale.1.1.0 in
     rw (
       text_there (codes "name") ms p.terms.name refl,
-      k.name,
+      name.0,
       text_there (codes "role") ms (role_word p.terms.role) refl,
       role_again p.terms.role,
       text_there (codes "token") ms p.terms.token refl,
-      k.token,
+      token.0,
       text_there (codes "url") ms p.terms.target.url refl,
       text_there (codes "out_token") ms p.terms.target.token refl,
-      laws.target_is_read p.terms.target.url p.terms.target.token p.terms.target k.target,
+      laws.target_is_read p.terms.target.url p.terms.target.token p.terms.target target.0,
       text_there (codes "asset") ms p.terms.asset refl,
-      k.asset,
-      number_there 8 (codes "scale") ms p.terms.scale refl k.scale,
-      between_there 0 max_money (codes "cap") ms p.terms.limits.cap refl k.cap (omega arith),
-      between_there 0 max_money (codes "ceiling") ms p.terms.limits.ceiling refl k.ceiling (omega arith),
-      between_there 0 max_money (codes "credit") ms p.terms.limits.credit refl k.credit (omega arith),
-      between_there 1 1_000_000 (codes "burst") ms p.terms.bucket.burst refl k.burst (omega arith),
-      between_there 0 1_000_000 (codes "per_second") ms p.terms.bucket.per_second refl k.per_second (omega arith),
+      asset.0,
+      between_there 0 255 (codes "scale") ms p.terms.scale refl scale.0 (omega arith),
+      between_there 0 max_money (codes "cap") ms p.terms.limits.cap refl limits.0 (omega arith),
+      between_there 0 max_money (codes "ceiling") ms p.terms.limits.ceiling refl limits.1.0 (omega arith),
+      between_there 0 max_money (codes "credit") ms p.terms.limits.credit refl limits.1.1.0 (omega arith),
+      between_there 1 1_000_000 (codes "burst") ms p.terms.bucket.burst refl bucket.0 (omega arith),
+      between_there 0 1_000_000 (codes "per_second") ms p.terms.bucket.per_second refl bucket.1 (omega arith),
     ) refl
 
 pub balance_read : (p : Peer) → IsKnown p → balance_of (peer_members p) ≡ Some p.balance
 unfolding balance_of integer_or integer_under peer_members
-balance_read p k = rw k.balance refl
+balance_read p k = rw k.1 refl
 
 -- ---- all peers
 

@@ -36,7 +36,7 @@ use Rattle.tenant_core.specs.Places.{pair, pair_cmp, ArePairsApart}
 use Rattle.tenant_core.specs.declared.peer.Peer.{Peer}
 use Rattle.tenant_core.specs.declared.terms.RateTerms.{RateTerms}
 use Rattle.admin_text.specs.Anew.{peers_from, number_anew, hop_anew, routes_anew, rate_anew}
-use Rattle.admin_text.specs.Keys.{name_under, number_or}
+use Rattle.admin_text.specs.Keys.{under, number_or}
 use Rattle.admin_text.specs.Made.{route_members, rate_members}
 use Rattle.admin_text.specs.Networks.{peer_under, fee_of, with_route_of, with_routes_of, rate_of, with_rate_of, with_rates_of}
 use Rattle.admin_text.specs.Prefixes.{prefix_word}
@@ -102,7 +102,7 @@ number_read net k n p e =
 -- the name at a key, and the number of the peer that has it
 pub peer_read : (net now : Net) → IsNetwork net → now.peers ≡ peers_from 0 net.peers → (n : ℕ) (p : Peer) (key : List ℕ) (ms : Members) → peer_numbered n net.peers ≡ Some p
     → is_name p.terms.name ≡ true → get_member key ms ≡ Some (string p.terms.name) → peer_under now key ms ≡ Some (number_anew net.peers n)
-unfolding peer_under name_under
+unfolding peer_under under
 peer_read net now k peers n p key ms there name e =
     rw (text_there key ms p.terms.name e, name, peers) (number_read net k n p there)
 

@@ -23,18 +23,16 @@ use Rattle.tenant_core.specs.declared.peer.Peer.{Peer}
 use Rattle.tenant_core.specs.declared.terms.RateTerms.{RateTerms}
 use Rattle.tenant_core.specs.declared.terms.TenantTerms.{TenantTerms}
 use Rattle.admin_text.specs.Anew.{peers_from, routes_anew, net_anew, anew, AreTenants}
-use Rattle.admin_text.specs.Keys.{items_under, array_under, name_under, address_under, token_under, number_or}
+use Rattle.admin_text.specs.Keys.{items_under, array_under, address_under, under, number_or}
 use Rattle.admin_text.specs.Made.{peer_members, route_members, rate_members, tenant_members, setup_members, number}
 use Rattle.admin_text.specs.Networks.{network_of}
-use Rattle.admin_text.specs.OwnTerms.{own_terms_of}
 use Rattle.admin_text.specs.Setup.{setup_of, setup_of_table}
-use Rattle.admin_text.specs.TenantTable.{tenant_of_table}
+use Rattle.admin_text.specs.TenantTable.{own_terms_of, tenant_of_table}
 use Rattle.admin_text.specs.Tenants.{is_there, next_tenant, tenants_of_items, tenants_of_array}
 use Rattle.admin_text.specs.Told.{AllTold, TellsPeer, TellsRoute, TellsRate, TellsNetwork, TellsTenant}
 use Rattle.admin_text.specs.declared.setup.OwnTerms.{OwnTerms}
 use Rattle.admin_text.specs.declared.version.Version.TheVariants.{Two}
 use Rattle.toml.specs.Parse.{parse_document}
-use Rattle.admin_text.proofs.OwnTerms.{tenant_is}
 use Rattle.admin_text.proofs.Texts.{setup_of-document}
 use Rattle.admin_text.proofs.TellsPeers.{text_there, word_there, peers_read, from_nobody, all_follow}
 use Rattle.admin_text.proofs.TellsRoutes.{routes_read, added_are, all_route, rates_read, all_rate}
@@ -79,7 +77,7 @@ own_terms : TenantTerms → OwnTerms
 own_terms t = record { name = t.name; address = t.address; admin = t.admin; journal = t.journal; margin = t.margin; hold = t.hold }
 
 own_read : (t : TenantTerms) (ps rs qs : Items) (d : Data) → TellsTenant d t → Some (own_terms t) ≡ own_terms_of (tenant_members t ps rs qs)
-unfolding name_under address_under token_under tenant_members own_terms
+unfolding under address_under tenant_members own_terms
 own_read t ps rs qs d k =
     let ms : Members = tenant_members t ps rs qs in
     let w = within_from t k.within in
@@ -99,11 +97,9 @@ own_read t ps rs qs d k =
     ) refl
 
 tenant_read : Laws → (d : Data) (t : TenantTerms) → TellsTenant d t → option_and_then (tenant_of_table Two) (as_table d) ≡ Some (anew t)
-unfolding own_terms
+unfolding own_terms tenant_of_table
 tenant_read laws d t k =
-    let ms : Members = tenant_members t k.peers k.routes k.rates in
-    let is = tenant_is Two ms (own_terms t) (net_anew t.network) (own_read t k.peers k.routes k.rates d k) (sym (network_read laws t k.peers k.routes k.rates k.network)) in
-    rw k.told (sym is)
+    rw (k.told, ← own_read t k.peers k.routes k.rates d k, network_read laws t k.peers k.routes k.rates k.network) refl
 
 -- ---- all tenants
 

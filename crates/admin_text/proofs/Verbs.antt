@@ -12,7 +12,7 @@ use Rattle.admin_text.specs.Fields.{AllSaid, all_taken}
 use Rattle.admin_text.specs.Commands.{fields, verb_words, meaning, said, AreWordsOf, begin_with, verb_among, verbs, verb_taken, command_behind, command_among}
 use Rattle.admin_text.specs.declared.commands.TextFault.{TextFault}
 use Rattle.admin_text.specs.declared.commands.Verb.{Verb}
-use Rattle.admin_text.specs.declared.commands.Verb.TheVariants.{Balances, PeerAdd, PeerLimits, PeerBucket, RouteAdd, RateSet, SettleIn, SettleOut}
+use Rattle.admin_text.specs.declared.commands.Verb.TheVariants.{Balances, PeerAdd, RouteAdd, RateSet, SettleIn, SettleOut}
 use Rattle.admin_text.proofs.Readings.{Known, AreSmall, bound, all_are, all_read}
 
 begun : (first words : List (List ℕ)) → begin_with first words ≡ true → words ≡ first ++ drop (length first) words
@@ -39,10 +39,8 @@ verb_read Balances others = refl
 verb_read _ others = refl
 
 small : (v : Verb) → AreSmall (fields v)
-small PeerAdd = let m : MAX_MONEY < 2 ^ 64 = omega arith in (tt, (tt, (tt, (tt, (tt, (omega arith, (m, (m, (m, (omega arith, (omega arith, tt)))))))))))
-small PeerLimits = let m : MAX_MONEY < 2 ^ 64 = omega arith in (tt, (m, (m, (m, tt))))
+small PeerAdd = (tt, (tt, (tt, (tt, (tt, (omega arith, (tt, (tt, tt))))))))
 small RouteAdd = let m : MAX_MONEY < 2 ^ 64 = omega arith in (tt, (tt, (m, tt)))
-small PeerBucket = (tt, (omega arith, (omega arith, tt)))
 small RateSet = (tt, (omega arith, (omega arith, tt)))
 small SettleIn = (tt, (omega arith, tt))
 small SettleOut = (tt, (omega arith, tt))

@@ -2,20 +2,17 @@
 use Rattle.std.specs.Prelude.{◌≡◌, ℕ, List, [], ◌∷◌, ◌++◌, Bool, true, false, ◌&&◌, ◌↔◌, if◌then◌else◌, codes, drop, length}
 use Rattle.std.specs.Prelude.{Result, Ok, Err}
 use Rattle.std.specs.Str.{bytes_eq}
-use Rattle.common_types.specs.Names.{is_name, is_asset_code}
 use Rattle.common_types.specs.ResultChain.{◌>>=◌}
-use Rattle.common_types.specs.Token.{is_token}
 use Rattle.common_types.specs.Words.{words_of}
 use Rattle.money_core.specs.declared.purse.TheConstants.{MAX_MONEY}
-use Rattle.tenant_core.specs.declared.limits.TheConstants.{MAX_BURST, MAX_PER_SECOND}
-use Rattle.money_core.specs.declared.rate.TheConstants.Rate.{MAX_TERM}
 use Rattle.tenant_core.specs.declared.command.Command.{Command}
 use Rattle.tenant_core.specs.declared.command.Command.TheVariants as command
 use Rattle.tenant_core.specs.declared.command.Order.TheVariants.{AddPeer, RemovePeer, SetLimits, SetBucket}
 use Rattle.tenant_core.specs.declared.command.Order.TheVariants.{AddRoute, RemoveRoute, SetRate, Settle}
 use Rattle.tenant_core.specs.declared.command.Side.TheVariants.{In, Out}
-use Rattle.admin_text.specs.Fields.{Field, WORD, NUMBER, ROLE, PREFIX, TARGET, PAIR, FEE}
+use Rattle.admin_text.specs.Fields.{Field, NAME, AMOUNT, TERM, PREFIX, PAIR, FEE, LIMITS, BUCKET}
 use Rattle.admin_text.specs.Fields.{◌&◌, AllSaid, AreSpelled, AreWithin, all_words, all_taken}
+use Rattle.admin_text.specs.PeerFields.{fields_of, peer_rows, peer_with, peer_values}
 use Rattle.admin_text.specs.declared.commands.TextFault.{TextFault}
 use Rattle.admin_text.specs.declared.commands.TextFault.TheVariants as fault
 use Rattle.admin_text.specs.declared.commands.Verb.{Verb}
@@ -49,41 +46,14 @@ verb_words RateSet = codes "rate" ∷ codes "set" ∷ []
 verb_words SettleIn = codes "settle" ∷ codes "in" ∷ []
 verb_words SettleOut = codes "settle" ∷ codes "out" ∷ []
 
--- a name, a token, an asset's code
-abbrev pub NAME : Field
-NAME = WORD is_name
-
-abbrev pub TOKEN : Field
-TOKEN = WORD is_token
-
-abbrev pub ASSET : Field
-ASSET = WORD is_asset_code
-
--- money; an amount that is settled; a term of a rate; the two numbers of a bucket
-abbrev pub MONEY : Field
-MONEY = NUMBER 0 MAX_MONEY
-
-abbrev pub AMOUNT : Field
-AMOUNT = NUMBER 1 MAX_MONEY
-
-abbrev pub TERM : Field
-TERM = NUMBER 1 MAX_TERM
-
-abbrev pub BURST : Field
-BURST = NUMBER 1 MAX_BURST
-
-abbrev pub PERSECOND : Field
-PERSECOND = NUMBER 0 MAX_PER_SECOND
-
 -- the fields behind a verb
 abbrev pub fields : Verb → List Field
 fields Balances = []
 fields Roll = []
-fields PeerAdd =
-    NAME ∷ ROLE ∷ TOKEN ∷ TARGET ∷ ASSET ∷ NUMBER 0 255 ∷ MONEY ∷ MONEY ∷ MONEY ∷ BURST ∷ PERSECOND ∷ []
+fields PeerAdd = fields_of peer_rows
 fields PeerRemove = NAME ∷ []
-fields PeerLimits = NAME ∷ MONEY ∷ MONEY ∷ MONEY ∷ []
-fields PeerBucket = NAME ∷ BURST ∷ PERSECOND ∷ []
+fields PeerLimits = NAME ∷ LIMITS ∷ []
+fields PeerBucket = NAME ∷ BUCKET ∷ []
 fields RouteAdd = PREFIX ∷ NAME ∷ FEE MAX_MONEY ∷ []
 fields RouteRemove = PREFIX ∷ []
 fields RateSet = PAIR ∷ TERM ∷ TERM ∷ []
@@ -94,22 +64,10 @@ fields SettleOut = NAME ∷ AMOUNT ∷ []
 abbrev pub meaning : (v : Verb) → AllSaid (fields v) → Command
 meaning Balances _ = command.Balances
 meaning Roll _ = command.Roll
-meaning PeerAdd (name, (role, (token, (target, (asset, (scale, (cap, (ceiling, (credit, (burst, (rate, _))))))))))) =
-    command.Order (AddPeer (record {
-      name = name;
-      role = role;
-      token = token;
-      target = target;
-      asset = asset;
-      scale = scale;
-      limits = record { cap = cap; ceiling = ceiling; credit = credit };
-      bucket = record { burst = burst; per_second = rate };
-    }))
+meaning PeerAdd values = command.Order (AddPeer (peer_with values))
 meaning PeerRemove (name, _) = command.Order (RemovePeer name)
-meaning PeerLimits (name, (cap, (ceiling, (credit, _)))) =
-    command.Order (SetLimits name (record { cap = cap; ceiling = ceiling; credit = credit }))
-meaning PeerBucket (name, (burst, (per_second, _))) =
-    command.Order (SetBucket name (record { burst = burst; per_second = per_second }))
+meaning PeerLimits (name, (limits, _)) = command.Order (SetLimits name limits)
+meaning PeerBucket (name, (bucket, _)) = command.Order (SetBucket name bucket)
 meaning RouteAdd (prefix, (name, (fee, _))) = command.Order (AddRoute prefix name fee)
 meaning RouteRemove (prefix, _) = command.Order (RemoveRoute prefix)
 meaning RateSet (pair, (numerator, (denominator, _))) =
@@ -121,14 +79,10 @@ meaning SettleOut (name, (amount, _)) = command.Order (Settle name Out amount)
 abbrev pub said : Command → (v : Verb) × AllSaid (fields v)
 said command.Balances = (Balances, tt)
 said command.Roll = (Roll, tt)
-said (command.Order (AddPeer t)) = (
-  PeerAdd,
-  t.name & t.role & t.token & t.target & t.asset & t.scale & t.limits.cap & t.limits.ceiling
-      & t.limits.credit & t.bucket.burst & t.bucket.per_second & tt,
-)
+said (command.Order (AddPeer t)) = (PeerAdd, peer_values t)
 said (command.Order (RemovePeer name)) = (PeerRemove, name & tt)
-said (command.Order (SetLimits name l)) = (PeerLimits, name & l.cap & l.ceiling & l.credit & tt)
-said (command.Order (SetBucket name b)) = (PeerBucket, name & b.burst & b.per_second & tt)
+said (command.Order (SetLimits name l)) = (PeerLimits, name & l & tt)
+said (command.Order (SetBucket name b)) = (PeerBucket, name & b & tt)
 said (command.Order (AddRoute prefix name fee)) = (RouteAdd, prefix & name & fee & tt)
 said (command.Order (RemoveRoute prefix)) = (RouteRemove, prefix & tt)
 said (command.Order (SetRate pair rate)) = (RateSet, pair & rate.numerator & rate.denominator & tt)

@@ -1,12 +1,14 @@
--- What stands in the text of a command, field by field: how a value is spelled, and what is read.
-use Rattle.std.specs.Prelude.{◌≡◌, ℕ, Bool, true, false, List, [], ◌∷◌, ◌++◌, ◌&&◌, ◌⊎◌, ◌==◌, not, if◌then◌else◌, codes}
+-- What stands in commands and in the tables of setups, field by field: how a value is spelled, and what is read.
+use Rattle.std.specs.Prelude.{◌≡◌, ℕ, Bool, true, false, List, [], ◌∷◌, ◌++◌, ◌&&◌, ◌⊎◌, ◌==◌, not, map, if◌then◌else◌, codes}
 use Rattle.std.specs.Prelude.{Option, Some, None, Result, Ok, Err}
 use Rattle.std.specs.Fmt.{decimal}
+use Rattle.std.specs.List.{AllByRecursion}
 use Rattle.std.specs.Str.{bytes_eq}
-use Rattle.common_types.specs.Names.{is_name}
+use Rattle.common_types.specs.Names.{is_name, is_asset_code}
 use Rattle.common_types.specs.Numbers.{is_between}
 use Rattle.common_types.specs.Numerals.{number_in}
 use Rattle.common_types.specs.ResultChain.{◌>>=◌}
+use Rattle.common_types.specs.Token.{is_token}
 use Rattle.common_types.specs.Words.{words_of}
 use Rattle.common_types.specs.declared.numerals.NumberFault.{NumberFault}
 use Rattle.common_types.specs.declared.numerals.NumberFault.TheVariants.{Malformed, Outside}
@@ -14,7 +16,12 @@ use Rattle.ildcp_core.specs.declared.child.Role.{Role}
 use Rattle.ildcp_core.specs.declared.child.Role.TheVariants.{Child, Peer}
 use Rattle.ilp_addr.specs.Address.{IsPrefix}
 use Rattle.ilp_addr.specs.Target.{Parts, IsTarget, target_in}
+use Rattle.money_core.specs.declared.purse.TheConstants.{MAX_MONEY}
+use Rattle.money_core.specs.declared.rate.TheConstants.Rate.{MAX_TERM}
 use Rattle.tenant_core.specs.Commands.{Ends}
+use Rattle.tenant_core.specs.declared.limits.TheConstants.{MAX_BURST, MAX_PER_SECOND}
+use Rattle.tenant_core.specs.declared.terms.BucketTerms.{BucketTerms}
+use Rattle.tenant_core.specs.declared.terms.PeerLimits.{PeerLimits}
 use Rattle.admin_text.specs.Prefixes.{written_prefix, prefix_word}
 use Rattle.admin_text.specs.declared.commands.TextFault.{TextFault}
 use Rattle.admin_text.specs.declared.commands.TextFault.TheVariants.{Argument, Range}
@@ -22,7 +29,8 @@ use Rattle.admin_text.specs.declared.commands.TextFault.TheVariants.{Argument, R
 -- ---- what a field is
 
 -- a word that passes a test; a number from low to high; the role of a peer; a prefix; the URL and the token of a
--- target; the names of two different peers; a number from 0, the last of a command, which is left out where it is 0
+-- target; the names of two different peers; a number from 0, the last of a command, which is left out where it is 0; how
+-- far a peer is trusted; how many of its packets pass
 pub data Field : Type 0 where
   WORD : (test : List ℕ → Bool) → Field
   NUMBER : (low high : ℕ) → Field
@@ -31,6 +39,28 @@ pub data Field : Type 0 where
   TARGET : Field
   PAIR : Field
   FEE : (high : ℕ) → Field
+  LIMITS : Field
+  BUCKET : Field
+
+-- a name, a token, an asset's code
+abbrev pub NAME : Field
+NAME = WORD is_name
+
+abbrev pub TOKEN : Field
+TOKEN = WORD is_token
+
+abbrev pub ASSET : Field
+ASSET = WORD is_asset_code
+
+-- an asset's decimal places; an amount that is settled; a term of a rate
+abbrev pub SCALE : Field
+SCALE = NUMBER 0 255
+
+abbrev pub AMOUNT : Field
+AMOUNT = NUMBER 1 MAX_MONEY
+
+abbrev pub TERM : Field
+TERM = NUMBER 1 MAX_TERM
 
 -- what it says
 abbrev pub Said : Field → Type 0
@@ -41,11 +71,27 @@ Said PREFIX = List ℕ
 Said TARGET = Parts
 Said PAIR = Ends
 Said (FEE high) = ℕ
+Said LIMITS = PeerLimits
+Said BUCKET = BucketTerms
 
 -- the word of a role
 abbrev pub role_word : Role → List ℕ
 role_word Child = codes "child"
 role_word Peer = codes "peer"
+
+-- the numbers of limits, and the limits of three numbers
+abbrev pub limit_numbers : PeerLimits → List ℕ
+limit_numbers l = l.cap ∷ l.ceiling ∷ l.credit ∷ []
+
+abbrev pub limits_with : (cap ceiling credit : ℕ) → PeerLimits
+limits_with cap ceiling credit = record { cap = cap; ceiling = ceiling; credit = credit }
+
+-- the numbers of a bucket, and the bucket of two numbers
+abbrev pub bucket_numbers : BucketTerms → List ℕ
+bucket_numbers b = b.burst ∷ b.per_second ∷ []
+
+abbrev pub bucket_with : (burst per_second : ℕ) → BucketTerms
+bucket_with burst per_second = record { burst = burst; per_second = per_second }
 
 -- the words that are written for it, a prefix without a dot at its end
 abbrev pub field_words : (f : Field) → Said f → List (List ℕ)
@@ -56,6 +102,8 @@ field_words PREFIX p = prefix_word p ∷ []
 field_words TARGET t = t.url ∷ t.token ∷ []
 field_words PAIR p = p.from ∷ p.to ∷ []
 field_words (FEE high) n = if n == 0 then [] else decimal n ∷ []
+field_words LIMITS l = map decimal (limit_numbers l)
+field_words BUCKET b = map decimal (bucket_numbers b)
 
 -- it is within the limits of its field
 abbrev pub IsWithin : (f : Field) → Said f → Type 0
@@ -65,6 +113,8 @@ IsWithin ROLE r = Unit {0}
 IsWithin PREFIX p = IsPrefix p
 IsWithin TARGET t = IsTarget t.url t.token t
 IsWithin (FEE high) n = is_between 0 high n ≡ true
+IsWithin LIMITS l = AllByRecursion (λ n. is_between 0 MAX_MONEY n ≡ true) (limit_numbers l)
+IsWithin BUCKET b = (is_between 1 MAX_BURST b.burst ≡ true) × (is_between 0 MAX_PER_SECOND b.per_second ≡ true)
 IsWithin PAIR p = (is_name p.from ≡ true) × (is_name p.to ≡ true) × (bytes_eq p.from p.to ≡ false)
 
 -- words begin with a spelling of it, and the others follow: a prefix has one spelling more, with a dot at its end, and so has a
@@ -109,11 +159,6 @@ AreSpelled (f ∷ fields) values words =
 -- its words stand behind those of a text, and it is within its limits
 abbrev pub IsPut : (f : Field) → Said f → List ℕ → List ℕ → Type 0
 IsPut f value before after = (words_of after ≡ words_of before ++ field_words f value) × IsWithin f value
-
--- so do those of several
-abbrev pub ArePut : (fields : List Field) → AllSaid fields → List ℕ → List ℕ → Type 0
-ArePut fields values before after =
-    (words_of after ≡ words_of before ++ all_words fields values) × AreWithin fields values
 
 -- ---- what is read of words
 
@@ -167,15 +212,36 @@ abbrev pub of_any : {A : Type 0} → A → (List ℕ → Result A TextFault) →
 of_any default read [] = Ok (default, [])
 of_any default read (word ∷ words) = with_others words (read word)
 
+-- the number at the front of words, and the words behind it
+unfoldable pub number_taken : (low high : ℕ) → List (List ℕ) → Result (ℕ × List (List ℕ)) TextFault
+number_taken low high words = of_one (λ word. number_or_fault (number_in low high word)) words
+
+-- the limits at the front of words
+abbrev pub limits_taken : List (List ℕ) → Result (PeerLimits × List (List ℕ)) TextFault
+limits_taken words = do
+  first ← number_taken 0 MAX_MONEY words
+  second ← number_taken 0 MAX_MONEY first.1
+  third ← number_taken 0 MAX_MONEY second.1
+  Ok (limits_with first.0 second.0 third.0, third.1)
+
+-- the bucket at the front of words
+abbrev pub bucket_taken : List (List ℕ) → Result (BucketTerms × List (List ℕ)) TextFault
+bucket_taken words = do
+  first ← number_taken 1 MAX_BURST words
+  second ← number_taken 0 MAX_PER_SECOND first.1
+  Ok (bucket_with first.0 second.0, second.1)
+
 -- what a field says at the front of words, and the words behind it
 unfoldable pub taken : (f : Field) → List (List ℕ) → Result (Said f × List (List ℕ)) TextFault
 taken (WORD test) words = of_one (λ word. if test word then Ok word else Err Argument) words
-taken (NUMBER low high) words = of_one (λ word. number_or_fault (number_in low high word)) words
+taken (NUMBER low high) words = number_taken low high words
 taken ROLE words = of_one role_in words
 taken PREFIX words = of_one (λ word. argument (written_prefix word)) words
 taken TARGET words = of_two (λ url token. argument (target_in url token)) words
 taken PAIR words = of_two pair_in words
 taken (FEE high) words = of_any 0 (λ word. number_or_fault (number_in 0 high word)) words
+taken LIMITS words = limits_taken words
+taken BUCKET words = bucket_taken words
 
 -- no word is left
 unfoldable pub ended : List (List ℕ) → Result (Unit {0}) TextFault

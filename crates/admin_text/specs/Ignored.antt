@@ -8,7 +8,7 @@ use Rattle.toml.specs.Data.{Data, Items, no_items, item, Members, no_members, me
 use Rattle.toml.specs.Parse.{parse_document}
 use Rattle.admin_text.specs.Keys.{items_under}
 use Rattle.admin_text.specs.Setup.{setup_of_table, version_of}
-use Rattle.admin_text.specs.Versions.{has_fees}
+use Rattle.admin_text.specs.Versions.{top_keys, keys_of}
 use Rattle.admin_text.specs.declared.places.TableKind.{TableKind}
 use Rattle.admin_text.specs.declared.places.TableKind.TheVariants.{Tenant, Peer, Route, Rate}
 use Rattle.admin_text.specs.declared.places.Spot.{Spot}
@@ -21,29 +21,13 @@ use Rattle.admin_text.specs.declared.version.Version.{Version}
 
 -- ---- the keys that count
 
--- those of a setup's own table
-abbrev pub top_keys : List (List ℕ)
-top_keys = codes "version" ∷ codes "start" ∷ codes "tenant" ∷ []
-
--- those of the table of a tenant, a peer, a route or a rate, in a setup of a version
-abbrev pub keys_of : Version → TableKind → List (List ℕ)
-keys_of version Tenant =
-    codes "name" ∷ codes "address" ∷ codes "admin" ∷ codes "journal" ∷ codes "margin" ∷ codes "hold"
-    ∷ codes "peer" ∷ codes "route" ∷ codes "rate" ∷ []
-keys_of version Peer =
-    codes "name" ∷ codes "role" ∷ codes "token" ∷ codes "url" ∷ codes "out_token" ∷ codes "asset" ∷ codes "scale"
-    ∷ codes "cap" ∷ codes "ceiling" ∷ codes "credit" ∷ codes "burst" ∷ codes "per_second" ∷ codes "balance" ∷ []
-keys_of version Route =
-    codes "prefix" ∷ codes "peer" ∷ (if has_fees version then codes "fee" ∷ [] else [])
-keys_of version Rate = codes "from" ∷ codes "to" ∷ codes "num" ∷ codes "den" ∷ []
-
 -- where the table of a spot stands
 abbrev pub place_of : Spot → TablePlace
 place_of spot.Top = place.Top
 place_of (spot.Tenant tenant) = place.Tenant tenant.number
 place_of (spot.Part tenant part) = place.Part tenant.number part.kind part.number
 
--- those of the table at a place
+-- those that count in the table at a place
 abbrev pub keys_at : Version → TablePlace → List (List ℕ)
 keys_at version place.Top = top_keys
 keys_at version (place.Tenant number) = keys_of version Tenant

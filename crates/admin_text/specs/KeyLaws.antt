@@ -2,9 +2,9 @@
 use Rattle.std.specs.Prelude.{ℕ, ◌≡◌, List, [], ◌∷◌}
 use Rattle.toml.specs.Data.{Members, get_member}
 use Rattle.tenant_core.specs.Network.{Net}
-use Rattle.admin_text.specs.Ignored.{top_keys, keys_of}
 use Rattle.admin_text.specs.Networks.{with_peer_of, with_route_of, with_rate_of}
 use Rattle.admin_text.specs.Setup.{setup_of_table}
+use Rattle.admin_text.specs.Versions.{top_keys, keys_of}
 use Rattle.admin_text.specs.TenantTable.{tenant_of_table}
 use Rattle.admin_text.specs.declared.places.TableKind.TheVariants.{Tenant, Peer, Route, Rate}
 use Rattle.admin_text.specs.declared.version.Version.{Version}

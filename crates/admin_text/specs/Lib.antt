@@ -4,7 +4,6 @@ pub mod Outcomes
 pub mod Versions
 pub mod Networks
 pub mod TenantTable
-pub mod OwnTerms
 pub mod Tenants
 pub mod Setup
 pub mod Secrets
@@ -13,6 +12,7 @@ pub mod Notes
 pub mod Wrong
 pub mod Spaces
 pub mod Fields
+pub mod PeerFields
 pub mod Commands
 pub mod Made
 pub mod Anew

@@ -1,13 +1,18 @@
 -- Tables as they are made for a setup: key by key.
-use Rattle.std.specs.Prelude.{ℕ, pos, List, [], ◌∷◌, codes, fold}
+use Rattle.std.specs.Prelude.{◌≡◌, ℕ, pos, List, [], ◌∷◌, ◌++◌, map, codes, fold, zip}
 use Rattle.std.specs.Ordering.{nat_cmp, match_ordering}
 use Rattle.std.specs.Cmp.Lexicographic.{slice_cmp}
 use Rattle.toml.specs.Data.{Data, string, integer, array, Items, Members, no_members, member}
 use Rattle.money_core.specs.Fraction.{Fraction}
 use Rattle.tenant_core.specs.declared.peer.Peer.{Peer}
 use Rattle.tenant_core.specs.declared.terms.TenantTerms.{TenantTerms}
-use Rattle.admin_text.specs.Fields.{role_word}
+use Rattle.admin_text.specs.Fields.{Field, WORD, NUMBER, ROLE, PREFIX, TARGET, PAIR, FEE, LIMITS, BUCKET}
+use Rattle.admin_text.specs.Fields.{Said, AllSaid, role_word, limit_numbers, bucket_numbers, IsWithin}
+use Rattle.admin_text.specs.PeerFields.{Row, fields_of, peer_rows, peer_values}
 use Rattle.admin_text.specs.Prefixes.{prefix_word}
+use Rattle.admin_text.specs.Versions.{top_keys, keys_of}
+use Rattle.admin_text.specs.declared.places.TableKind.TheVariants.{Tenant, Route, Rate}
+use Rattle.admin_text.specs.declared.version.Version.TheVariants.{Two}
 
 -- the members with one more at its place, or with another value at a key that is there
 abbrev pub with_member : List ℕ → Data → Members → Members
@@ -34,59 +39,48 @@ made pairs = fold with_pair no_members pairs
 abbrev pub number : ℕ → Data
 number n = integer (pos n)
 
+-- what stands at the keys of a field
+abbrev pub field_data : (f : Field) → Said f → List Data
+field_data (WORD test) word = string word ∷ []
+field_data (NUMBER low high) n = number n ∷ []
+field_data ROLE r = string (role_word r) ∷ []
+field_data PREFIX p = string (prefix_word p) ∷ []
+field_data TARGET t = string t.url ∷ string t.token ∷ []
+field_data PAIR p = string p.from ∷ string p.to ∷ []
+field_data (FEE high) n = number n ∷ []
+field_data LIMITS l = map number (limit_numbers l)
+field_data BUCKET b = map number (bucket_numbers b)
+
+-- the keys of fields, and what stands there
+abbrev pub all_pairs : (rows : List Row) → AllSaid (fields_of rows) → List Pair
+all_pairs [] values = []
+all_pairs (row ∷ rows) values = zip row.0 (field_data row.1 values.0) ++ all_pairs rows values.1
+
+-- a field stands at its keys too, within its limits
+abbrev pub IsSet : (f : Field) → List (List ℕ) → Said f → Members → Members → Type 0
+IsSet f keys value before after =
+    (after ≡ fold with_pair before (zip keys (field_data f value))) × IsWithin f value
+
 -- the table of a peer
 unfoldable pub peer_members : Peer → Members
-peer_members p = made (
-    (codes "name", string p.terms.name)
-    ∷ (codes "role", string (role_word p.terms.role))
-    ∷ (codes "token", string p.terms.token)
-    ∷ (codes "url", string p.terms.target.url)
-    ∷ (codes "out_token", string p.terms.target.token)
-    ∷ (codes "asset", string p.terms.asset)
-    ∷ (codes "scale", number p.terms.scale)
-    ∷ (codes "cap", number p.terms.limits.cap)
-    ∷ (codes "ceiling", number p.terms.limits.ceiling)
-    ∷ (codes "credit", number p.terms.limits.credit)
-    ∷ (codes "burst", number p.terms.bucket.burst)
-    ∷ (codes "per_second", number p.terms.bucket.per_second)
-    ∷ (codes "balance", integer p.balance)
-    ∷ [])
+peer_members p = made (all_pairs peer_rows (peer_values p.terms) ++ (codes "balance", integer p.balance) ∷ [])
 
 -- the table of a route to the peer of that name
 unfoldable pub route_members : List ℕ → List ℕ → ℕ → Members
-route_members prefix peer fee = made (
-    (codes "prefix", string (prefix_word prefix))
-    ∷ (codes "peer", string peer)
-    ∷ (codes "fee", number fee)
-    ∷ [])
+route_members prefix peer fee =
+    made (zip (keys_of Two Route) (string (prefix_word prefix) ∷ string peer ∷ number fee ∷ []))
 
 -- the table of a rate between the peers of these names
 unfoldable pub rate_members : List ℕ → List ℕ → Fraction → Members
-rate_members from to rate = made (
-    (codes "from", string from)
-    ∷ (codes "to", string to)
-    ∷ (codes "num", number rate.numerator)
-    ∷ (codes "den", number rate.denominator)
-    ∷ [])
+rate_members from to rate =
+    made (zip (keys_of Two Rate) (string from ∷ string to ∷ number rate.numerator ∷ number rate.denominator ∷ []))
 
 -- the table of a tenant, with those of its peers, routes and rates
 unfoldable pub tenant_members : TenantTerms → Items → Items → Items → Members
-tenant_members t peers routes rates = made (
-    (codes "name", string t.name)
-    ∷ (codes "address", string t.address)
-    ∷ (codes "admin", string t.admin)
-    ∷ (codes "journal", number t.journal)
-    ∷ (codes "margin", number t.margin)
-    ∷ (codes "hold", number t.hold)
-    ∷ (codes "peer", array peers)
-    ∷ (codes "route", array routes)
-    ∷ (codes "rate", array rates)
-    ∷ [])
+tenant_members t peers routes rates = made (zip (keys_of Two Tenant) (
+    string t.name ∷ string t.address ∷ string t.admin ∷ number t.journal ∷ number t.margin ∷ number t.hold
+    ∷ array peers ∷ array routes ∷ array rates ∷ []))
 
 -- the table of a setup of the second version
 unfoldable pub setup_members : ℕ → Items → Members
-setup_members start tenants = made (
-    (codes "version", number 2)
-    ∷ (codes "start", number start)
-    ∷ (codes "tenant", array tenants)
-    ∷ [])
+setup_members start tenants = made (zip top_keys (number 2 ∷ number start ∷ array tenants ∷ []))

@@ -75,8 +75,8 @@ unfoldable pub rate_of : Net → Members → Option RateTerms
 rate_of net t = do
   from ← peer_under net (codes "from") t
   to ← peer_under net (codes "to") t
-  num ← number_under 64 (codes "num") t
-  den ← number_under 64 (codes "den") t
+  num ← number_under (codes "num") t
+  den ← number_under (codes "den") t
   rate ← result_ok (rate_at num den)
   if from == to then None else Some (record { from = from; to = to; rate = rate })
 

@@ -28,11 +28,11 @@ from_start (Some start) (Err fault) = Err fault
 
 -- the moment at the key `start`
 abbrev pub start_of : Members → Option ℕ
-start_of t = number_under 64 (codes "start") t >>= moment_within
+start_of t = number_under (codes "start") t >>= moment_within
 
 -- the version at the key `version`
 abbrev pub version_of : Members → Option Version
-version_of t = number_under 64 (codes "version") t >>= version_numbered
+version_of t = number_under (codes "version") t >>= version_numbered
 
 -- what a document of a version says
 abbrev pub setup_by : Option Version → Members → Result Setup SetupFault

@@ -1,23 +1,24 @@
 -- What the table of a tenant says.
-use Rattle.std.specs.Prelude.{if◌then◌else◌, Option, Some, None, codes}
+use Rattle.std.specs.Prelude.{Option, Some, codes}
 use Rattle.toml.specs.Data.{Members}
+use Rattle.tenant_core.specs.Limits.{max_journal, max_margin, max_hold}
 use Rattle.tenant_core.specs.Network.{Net}
-use Rattle.tenant_core.specs.Setup.{is_tenant_setup}
 use Rattle.tenant_core.specs.declared.terms.TenantTerms.{TenantTerms}
 use Rattle.common_types.specs.OptionChain.{◌>>=◌}
-use Rattle.admin_text.specs.Keys.{name_under, address_under, token_under, number_or}
+use Rattle.admin_text.specs.Keys.{name_under, address_under, token_under, number_or, within}
 use Rattle.admin_text.specs.Networks.{network_of}
+use Rattle.admin_text.specs.declared.setup.OwnTerms.{OwnTerms}
 use Rattle.admin_text.specs.declared.version.Version.{Version}
 
--- what a tenant's table says, where it deals with these
-unfoldable pub terms_of : Members → Net → Option TenantTerms
-terms_of t network = do
+-- what its own keys say, but for whom it deals with: each within its limits
+abbrev pub own_terms_of : Members → Option OwnTerms
+own_terms_of t = do
   name ← name_under (codes "name") t
   address ← address_under (codes "address") t
   admin ← token_under (codes "admin") t
-  journal ← number_or 1024 (codes "journal") t
-  margin ← number_or 1000 (codes "margin") t
-  hold ← number_or 30000 (codes "hold") t
+  journal ← number_or 1024 (codes "journal") t >>= within 2 max_journal
+  margin ← number_or 1000 (codes "margin") t >>= within 0 max_margin
+  hold ← number_or 30000 (codes "hold") t >>= within 1 max_hold
   Some (record {
     name = name;
     address = address;
@@ -25,16 +26,23 @@ terms_of t network = do
     journal = journal;
     margin = margin;
     hold = hold;
-    network = network;
   })
 
--- the terms, if they keep the limits of a setup
-abbrev pub within_limits : TenantTerms → Option TenantTerms
-within_limits terms = if is_tenant_setup terms then Some terms else None
+-- the terms of a tenant that deals with these
+abbrev pub terms_with : OwnTerms → Net → TenantTerms
+terms_with own network = record {
+  name = own.name;
+  address = own.address;
+  admin = own.admin;
+  journal = own.journal;
+  margin = own.margin;
+  hold = own.hold;
+  network = network;
+}
 
 -- a tenant
 unfoldable pub tenant_of_table : Version → Members → Option TenantTerms
 tenant_of_table version t = do
+  own ← own_terms_of t
   network ← network_of version t
-  terms ← terms_of t network
-  within_limits terms
+  Some (terms_with own network)

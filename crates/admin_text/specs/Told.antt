@@ -1,15 +1,14 @@
 -- Values that tell peers, routes, rates and tenants, as they are made for a setup.
-use Rattle.std.specs.Prelude.{◌≡◌, ◌≤◌, ◌<◌, ◌^◌, List, [], ◌∷◌, Some, map, length, true}
+use Rattle.std.specs.Prelude.{◌≡◌, ◌≤◌, List, [], ◌∷◌, Some, map, length, true}
 use Rattle.std.specs.FinMap.{from_entries}
 use Rattle.std.specs.List.{IsDistinct}
 use Rattle.std.specs.Str.{bytes_eq}
 use Rattle.toml.specs.Data.{Data, table, Items, no_items, item}
-use Rattle.common_types.specs.Names.{is_name, is_asset_code}
+use Rattle.common_types.specs.Names.{is_name}
 use Rattle.common_types.specs.Numbers.{is_between}
 use Rattle.common_types.specs.Token.{is_token}
 use Rattle.ilp_addr.specs.Address.{IsPrefix}
 use Rattle.ilp_addr.specs.OwnAddress.{is_own_address}
-use Rattle.ilp_addr.specs.Target.{IsTarget}
 use Rattle.money_core.specs.Fraction.{IsFraction}
 use Rattle.route_table.specs.Listing.{entry_of}
 use Rattle.route_table.specs.Routes.{max_routes}
@@ -22,7 +21,9 @@ use Rattle.tenant_core.specs.Terms.{is_balance_within}
 use Rattle.tenant_core.specs.declared.peer.Peer.{Peer}
 use Rattle.tenant_core.specs.declared.terms.RateTerms.{RateTerms}
 use Rattle.tenant_core.specs.declared.terms.TenantTerms.{TenantTerms}
+use Rattle.admin_text.specs.Fields.{AreWithin}
 use Rattle.admin_text.specs.Made.{peer_members, route_members, rate_members, tenant_members}
+use Rattle.admin_text.specs.PeerFields.{fields_of, peer_rows, peer_values}
 
 -- each item tells what stands at its place in the list
 abbrev pub AllTold : {A : Type 0} → (Data → A → Type 0) → Items → List A → Type 0
@@ -32,18 +33,8 @@ AllTold tells (item first others) [] = ⊥
 AllTold tells (item first others) (x ∷ xs) = tells first x × AllTold tells others xs
 
 -- what the types of a peer's parts keep
-pub record IsKnown (p : Peer) : Type 0 where
-  pub name : is_name p.terms.name ≡ true
-  pub token : is_token p.terms.token ≡ true
-  pub target : IsTarget p.terms.target.url p.terms.target.token p.terms.target
-  pub asset : is_asset_code p.terms.asset ≡ true
-  pub scale : p.terms.scale < 2 ^ 8
-  pub cap : is_between 0 max_money p.terms.limits.cap ≡ true
-  pub ceiling : is_between 0 max_money p.terms.limits.ceiling ≡ true
-  pub credit : is_between 0 max_money p.terms.limits.credit ≡ true
-  pub burst : is_between 1 1_000_000 p.terms.bucket.burst ≡ true
-  pub per_second : is_between 0 1_000_000 p.terms.bucket.per_second ≡ true
-  pub balance : is_balance_within p.balance ≡ true
+abbrev pub IsKnown : Peer → Type 0
+IsKnown p = AreWithin (fields_of peer_rows) (peer_values p.terms) × (is_balance_within p.balance ≡ true)
 
 -- a peer
 abbrev pub TellsPeer : Data → Peer → Type 0

@@ -4,8 +4,9 @@ ghost use Rattle.std.specs.Prelude.{◌≡◌, [], ◌∷◌, ◌&&◌, Ok, IfOk
 ghost use Rattle.std.specs.Str.{bytes_eq};
 ghost use Rattle.common_types.specs.Outcomes.{GivesUnlessMemory};
 ghost use Rattle.tenant_core.specs.declared.command.Command as spec;
-ghost use Rattle.admin_text.specs.Fields.{NUMBER, ROLE, PREFIX, TARGET, PAIR, FEE, role_in, only_one, taken, all_taken, ended};
-ghost use Rattle.admin_text.specs.Commands.{NAME, TOKEN, ASSET, two_word_verbs, verb_among, verb_taken, command_behind, command_among};
+ghost use Rattle.admin_text.specs.Fields.{NAME, TOKEN, ASSET, NUMBER, ROLE, PREFIX, TARGET, PAIR, FEE, LIMITS, BUCKET};
+ghost use Rattle.admin_text.specs.Fields.{role_in, only_one, taken, all_taken, ended};
+ghost use Rattle.admin_text.specs.Commands.{two_word_verbs, verb_among, verb_taken, command_behind, command_among};
 ghost use Rattle.admin_text.specs.Commands.{command_in, IsCommandText};
 ghost use Rattle.admin_text.specs.declared.commands.Verb.TheVariants as verb;
 
@@ -115,7 +116,7 @@ fn next_pair(words: Words<'_>) -> Result<(Pair, Words<'_>), TextFault>
     Ok((pair, words))
 }
 
-#[tactic(auto, unfolding(crate::specs::Fields::taken))]
+#[tactic(auto, unfolding(crate::specs::Fields::taken, crate::specs::Fields::number_taken))]
 fn next_number<const LOW: u64, const HIGH: u64>(
     words: Words<'_>,
 ) -> Result<(Between<LOW, HIGH>, Words<'_>), TextFault>
@@ -127,6 +128,30 @@ fn next_number<const LOW: u64, const HIGH: u64>(
         Err(NumberFault::Malformed) => Err(TextFault::Argument),
         Err(NumberFault::Outside) => Err(TextFault::Range),
     }
+}
+
+#[tactic(auto, unfolding(crate::specs::Fields::taken))]
+fn next_limits(words: Words<'_>) -> Result<(PeerLimits, Words<'_>), TextFault>
+    ensures { result ≡ taken LIMITS words.entry }
+{
+    let (cap, words) = next_number(words)?;
+    let (ceiling, words) = next_number(words)?;
+    let (credit, words) = next_number(words)?;
+    let limits = PeerLimits {
+        cap,
+        ceiling,
+        credit,
+    };
+    Ok((limits, words))
+}
+
+#[tactic(auto, unfolding(crate::specs::Fields::taken))]
+fn next_bucket(words: Words<'_>) -> Result<(BucketTerms, Words<'_>), TextFault>
+    ensures { result ≡ taken BUCKET words.entry }
+{
+    let (burst, words) = next_number(words)?;
+    let (per_second, words) = next_number(words)?;
+    Ok((BucketTerms { burst, per_second }, words))
 }
 
 #[tactic(auto, unfolding(crate::specs::Fields::taken))]
@@ -162,11 +187,8 @@ fn added_peer(words: Words<'_>) -> Result<Command, TextFault>
     let (target, words) = next_target(words)?;
     let (asset, words) = next_asset(words)?;
     let (scale, words) = next_number::<0, 255>(words)?;
-    let (cap, words) = next_number(words)?;
-    let (ceiling, words) = next_number(words)?;
-    let (credit, words) = next_number(words)?;
-    let (burst, words) = next_number(words)?;
-    let (per_second, words) = next_number(words)?;
+    let (limits, words) = next_limits(words)?;
+    let (bucket, words) = next_bucket(words)?;
     end(words)?;
     Ok(Command::Order(Order::AddPeer(PeerTerms {
         name,
@@ -175,12 +197,8 @@ fn added_peer(words: Words<'_>) -> Result<Command, TextFault>
         target,
         asset,
         scale: scale.get() as u8,
-        limits: PeerLimits {
-            cap,
-            ceiling,
-            credit,
-        },
-        bucket: BucketTerms { burst, per_second },
+        limits,
+        bucket,
     })))
 }
 
@@ -198,15 +216,8 @@ fn limited_peer(words: Words<'_>) -> Result<Command, TextFault>
     ensures { result ≡ command_behind verb.PeerLimits words.entry }
 {
     let (peer, words) = next_name(words)?;
-    let (cap, words) = next_number(words)?;
-    let (ceiling, words) = next_number(words)?;
-    let (credit, words) = next_number(words)?;
+    let (limits, words) = next_limits(words)?;
     end(words)?;
-    let limits = PeerLimits {
-        cap,
-        ceiling,
-        credit,
-    };
     Ok(Command::Order(Order::SetLimits { peer, limits }))
 }
 
@@ -215,10 +226,8 @@ fn bucketed_peer(words: Words<'_>) -> Result<Command, TextFault>
     ensures { result ≡ command_behind verb.PeerBucket words.entry }
 {
     let (peer, words) = next_name(words)?;
-    let (burst, words) = next_number(words)?;
-    let (per_second, words) = next_number(words)?;
+    let (bucket, words) = next_bucket(words)?;
     end(words)?;
-    let bucket = BucketTerms { burst, per_second };
     Ok(Command::Order(Order::SetBucket { peer, bucket }))
 }
 

@@ -6,12 +6,18 @@ ghost use Rattle.std.specs.Option.{option_map_or};
 ghost use Rattle.std.specs.Str.{bytes_eq};
 ghost use Rattle.toml.specs.Data.{as_table};
 ghost use Rattle.toml.specs.View.{view, items_view, table_view};
-ghost use Rattle.admin_text.specs.Ignored.{items_of, is_key, keys_of, place_of, top_keys, ignored_at, ignored_by, ignored_in};
+ghost use Rattle.admin_text.specs.Ignored.{items_of, is_key, place_of, ignored_at, ignored_by, ignored_in};
 ghost use Rattle.admin_text.specs.Ignored.{ignored_in_parts, ignored_in_tenant, ignored_in_tenant_value, ignored_in_tenants, ignored_in_value};
 ghost use Rattle.admin_text.specs.Ignored.{ignored_in_document};
 ghost use Rattle.admin_text.specs.IgnoredKeys.{seen};
+ghost use Rattle.admin_text.specs.Versions.{top_keys, keys_of};
 
 use crate::expected::Shown;
+use crate::key_names::{
+    ADDRESS, ADMIN, ASSET, BALANCE, BURST, CAP, CEILING, CREDIT, DEN, FEE, FROM, HOLD, JOURNAL,
+    MARGIN, NAME, NUM, OUT_TOKEN, PEER, PER_SECOND, PREFIX, RATE, ROLE, ROUTE, SCALE, START,
+    TENANT, TO, TOKEN, URL, VERSION,
+};
 use crate::keys::{items_under, version_of};
 use crate::places::{Place, Spot, TableKind, TablePlace};
 use crate::secrets::Found;
@@ -35,7 +41,7 @@ pub struct IgnoredKey {
 fn is_top_key(key: &str) -> bool
     ensures { result ≡ list_any (λ known. bytes_eq key.now known) top_keys }
 {
-    matches!(key, "version" | "start" | "tenant")
+    matches!(key, VERSION | START | TENANT)
 }
 
 fn is_key_of(version: Version, kind: TableKind, key: &str) -> bool
@@ -43,39 +49,15 @@ fn is_key_of(version: Version, kind: TableKind, key: &str) -> bool
 {
     match kind {
         TableKind::Tenant => {
-            matches!(
-                key,
-                "name"
-                    | "address"
-                    | "admin"
-                    | "journal"
-                    | "margin"
-                    | "hold"
-                    | "peer"
-                    | "route"
-                    | "rate"
-            )
+            let is_own = matches!(key, NAME | ADDRESS | ADMIN | JOURNAL | MARGIN | HOLD);
+            is_own || matches!(key, PEER | ROUTE | RATE)
         }
         TableKind::Peer => {
-            matches!(
-                key,
-                "name"
-                    | "role"
-                    | "token"
-                    | "url"
-                    | "out_token"
-                    | "asset"
-                    | "scale"
-                    | "cap"
-                    | "ceiling"
-                    | "credit"
-                    | "burst"
-                    | "per_second"
-                    | "balance"
-            )
+            let is_named = matches!(key, NAME | ROLE | TOKEN | URL | OUT_TOKEN | ASSET | SCALE);
+            is_named || matches!(key, CAP | CEILING | CREDIT | BURST | PER_SECOND | BALANCE)
         }
-        TableKind::Route => matches!(key, "prefix" | "peer") || (has_fees(version) && key == "fee"),
-        TableKind::Rate => matches!(key, "from" | "to" | "num" | "den"),
+        TableKind::Route => matches!(key, PREFIX | PEER) || (has_fees(version) && key == FEE),
+        TableKind::Rate => matches!(key, FROM | TO | NUM | DEN),
     }
 }
 
@@ -245,9 +227,9 @@ fn put_tenant(
     ensures { OnOk result (seen found.new.items ≡ seen found.old.items
         ++ ignored_in_tenant version tenant.entry.number (table_view table.now)) }
 {
-    let peers = items_of(table, "peer", TableKind::Peer);
-    let routes = items_of(table, "route", TableKind::Route);
-    let rates = items_of(table, "rate", TableKind::Rate);
+    let peers = items_of(table, PEER, TableKind::Peer);
+    let routes = items_of(table, ROUTE, TableKind::Route);
+    let rates = items_of(table, RATE, TableKind::Rate);
     put_table(alloc, version, Spot::Tenant(tenant), table, found)?;
     put_parts(alloc, version, tenant, TableKind::Peer, peers, found)?;
     put_parts(alloc, version, tenant, TableKind::Route, routes, found)?;
@@ -294,7 +276,7 @@ fn ignored_by(alloc: Global, version: Version, table: &Table) -> Result<Vec<Igno
 {
     let mut found = Vec::new(alloc);
     put_table(alloc, version, Spot::Top, table, &mut found)?;
-    let tenants = items_of(table, "tenant", TableKind::Tenant);
+    let tenants = items_of(table, TENANT, TableKind::Tenant);
     put_tenants(alloc, version, tenants, &mut found)?;
     Ok(found)
 }

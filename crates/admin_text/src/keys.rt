@@ -1,16 +1,22 @@
 //! What stands at the keys of a table.
 
-ghost use Rattle.std.specs.Prelude.{◌≡◌, codes, option_and_then, option_copied, option_map};
+ghost use Rattle.std.specs.Prelude.{◌≡◌, [], ◌∷◌, option_and_then, option_copied, option_map};
 ghost use Rattle.std.specs.Result.{result_ok};
 ghost use Rattle.toml.specs.Data.{as_table, get_member};
 ghost use Rattle.toml.specs.View.{view, items_view, table_view};
 ghost use Rattle.admin_text.specs.Keys.{string_under, integer_under, number_under, integer_or, number_or, between_under, within};
-ghost use Rattle.admin_text.specs.Keys.{name_under, token_under, address_under, asset_under, target_of, array_under};
+ghost use Rattle.admin_text.specs.Fields as field;
+ghost use Rattle.admin_text.specs.Keys.{under, name_under, token_under, address_under, array_under};
+ghost use Rattle.admin_text.specs.PeerFields.{target_keys, limit_keys, bucket_keys};
 ghost use Rattle.admin_text.specs.Setup.{start_of, version_of};
 ghost use Rattle.admin_text.specs.Versions.{version_numbered};
-ghost use Rattle.admin_text.specs.Keys.{items_under, role_under, peer_limits_of, bucket_terms_of, peer_terms_of, balance_of};
+ghost use Rattle.admin_text.specs.Keys.{items_under, peer_terms_of, balance_of};
 
 use crate::expected::Expected;
+use crate::key_names::{
+    ASSET, BALANCE, BURST, CAP, CEILING, CREDIT, NAME, OUT_TOKEN, PER_SECOND, ROLE, SCALE, START,
+    TOKEN, URL, VERSION,
+};
 use crate::places::TableKind;
 use crate::version::{Version, version_numbered};
 use crate::wrong::Wrong;
@@ -67,7 +73,7 @@ pub(crate) fn text_under<'a>(
 }
 
 /// The name at a key, which wants this.
-#[tactic(auto, unfolding(crate::specs::Keys::name_under))]
+#[tactic(auto, unfolding(crate::specs::Keys::under))]
 pub(crate) fn name_under<'a>(
     table: &'a Table,
     key: &'a str,
@@ -80,7 +86,7 @@ pub(crate) fn name_under<'a>(
 }
 
 /// The token at a key.
-#[tactic(auto, unfolding(crate::specs::Keys::token_under))]
+#[tactic(auto, unfolding(crate::specs::Keys::under))]
 pub(crate) fn token_under<'a>(table: &'a Table, key: &'a str) -> Result<Token, Wrong<'a>>
     ensures { result_ok result ≡ token_under key.now (table_view table.now) }
 {
@@ -102,35 +108,35 @@ pub(crate) fn address_under<'a>(table: &'a Table, key: &'a str) -> Result<OwnAdd
     )
 }
 
-#[tactic(auto, unfolding(crate::specs::Keys::asset_under))]
+#[tactic(auto, unfolding(crate::specs::Keys::under))]
 fn asset_under<'a>(table: &'a Table, key: &'a str) -> Result<AssetCode, Wrong<'a>>
-    ensures { result_ok result ≡ asset_under key.now (table_view table.now) }
+    ensures { result_ok result ≡ under field.ASSET (key.now ∷ []) (table_view table.now) }
 {
     let text = text_under(table, key, Expected::Asset)?;
     made(AssetCode::new(text.as_bytes()), table, key, Expected::Asset)
 }
 
-// Any token: what is no target with it has a bad URL.
-const TOKEN: &[u8] = b"t";
+// What is no target with it has a bad URL.
+const ANY_TOKEN: &[u8] = b"t";
 
-#[tactic(auto, unfolding(crate::specs::Keys::target_of))]
+#[tactic(auto, unfolding(crate::specs::Keys::under))]
 fn target_of(table: &Table) -> Result<Target, Wrong<'_>>
-    ensures { result_ok result ≡ target_of (table_view table.now) }
+    ensures { result_ok result ≡ under field.TARGET target_keys (table_view table.now) }
 {
-    let url = text_under(table, "url", Expected::Url)?;
-    let token = text_under(table, "out_token", Expected::Token)?;
+    let url = text_under(table, URL, Expected::Url)?;
+    let token = text_under(table, OUT_TOKEN, Expected::Token)?;
     match Target::new(url.as_bytes(), token.as_bytes()) {
         Some(target) => Ok(target),
-        None if Target::new(url.as_bytes(), TOKEN).is_none() => {
-            Err(Wrong::at(table, "url", Expected::Url))
+        None if Target::new(url.as_bytes(), ANY_TOKEN).is_none() => {
+            Err(Wrong::at(table, URL, Expected::Url))
         }
-        None => Err(Wrong::at(table, "out_token", Expected::Token)),
+        None => Err(Wrong::at(table, OUT_TOKEN, Expected::Token)),
     }
 }
 
-#[tactic(auto, unfolding(crate::specs::Keys::role_under))]
+#[tactic(auto, unfolding(crate::specs::Keys::under))]
 fn role_under<'a>(table: &'a Table, key: &'a str) -> Result<Role, Wrong<'a>>
-    ensures { result_ok result ≡ role_under key.now (table_view table.now) }
+    ensures { result_ok result ≡ under field.ROLE (key.now ∷ []) (table_view table.now) }
 {
     match string_under(table, key) {
         Some("child") => Ok(Role::Child),
@@ -150,15 +156,6 @@ fn integer_under<'a>(table: &'a Table, key: &'a str, expected: Expected) -> Resu
     made(integer, table, key, expected)
 }
 
-#[tactic(auto, unfolding(crate::specs::Keys::number_under))]
-fn u8_under<'a>(table: &'a Table, key: &'a str) -> Result<u8, Wrong<'a>>
-    ensures { result_ok result ≡ number_under 8 key.now (table_view table.now) }
-{
-    let expected = Expected::Whole(0, u8::MAX as u64);
-    let integer = integer_under(table, key, expected)?;
-    made(u8::try_from(integer).ok(), table, key, expected)
-}
-
 /// The number at a key, which wants this.
 #[tactic(auto, unfolding(crate::specs::Keys::number_under))]
 pub(crate) fn u64_under<'a>(
@@ -166,7 +163,7 @@ pub(crate) fn u64_under<'a>(
     key: &'a str,
     expected: Expected,
 ) -> Result<u64, Wrong<'a>>
-    ensures { result_ok result ≡ number_under 64 key.now (table_view table.now) }
+    ensures { result_ok result ≡ number_under key.now (table_view table.now) }
 {
     let integer = integer_under(table, key, expected)?;
     made(u64::try_from(integer).ok(), table, key, expected)
@@ -275,13 +272,8 @@ pub(crate) fn table_in(value: &Value, kind: TableKind) -> Result<&Table, Wrong<'
 pub(crate) fn version_of(table: &Table) -> Result<Version, Wrong<'_>>
     ensures { result_ok result ≡ version_of (table_view table.now) }
 {
-    let number = u64_under(table, "version", Expected::Version)?;
-    made(
-        version_numbered(number),
-        table,
-        "version",
-        Expected::Version,
-    )
+    let number = u64_under(table, VERSION, Expected::Version)?;
+    made(version_numbered(number), table, VERSION, Expected::Version)
 }
 
 /// When the setup starts.
@@ -289,27 +281,37 @@ pub(crate) fn start_of(table: &Table) -> Result<Moment, Wrong<'_>>
     ensures { result_ok result ≡ start_of (table_view table.now) }
 {
     let expected = Expected::Whole(0, Moment::MAX_MILLIS);
-    let millis = u64_under(table, "start", expected)?;
-    made(Moment::new(millis), table, "start", expected)
+    let millis = u64_under(table, START, expected)?;
+    made(Moment::new(millis), table, START, expected)
 }
 
-fn peer_limits_of(table: &Table) -> Result<PeerLimits, Wrong<'_>>
-    ensures { result_ok result ≡ peer_limits_of (table_view table.now) }
+#[tactic(auto, unfolding(crate::specs::Keys::under))]
+fn limits_of(table: &Table) -> Result<PeerLimits, Wrong<'_>>
+    ensures { result_ok result ≡ under field.LIMITS limit_keys (table_view table.now) }
 {
     Ok(PeerLimits {
-        cap: between_under(table, "cap")?,
-        ceiling: between_under(table, "ceiling")?,
-        credit: between_under(table, "credit")?,
+        cap: between_under(table, CAP)?,
+        ceiling: between_under(table, CEILING)?,
+        credit: between_under(table, CREDIT)?,
     })
 }
 
-fn bucket_terms_of(table: &Table) -> Result<BucketTerms, Wrong<'_>>
-    ensures { result_ok result ≡ bucket_terms_of (table_view table.now) }
+#[tactic(auto, unfolding(crate::specs::Keys::under))]
+fn bucket_of(table: &Table) -> Result<BucketTerms, Wrong<'_>>
+    ensures { result_ok result ≡ under field.BUCKET bucket_keys (table_view table.now) }
 {
     Ok(BucketTerms {
-        burst: between_under(table, "burst")?,
-        per_second: between_under(table, "per_second")?,
+        burst: between_under(table, BURST)?,
+        per_second: between_under(table, PER_SECOND)?,
     })
+}
+
+#[tactic(auto, unfolding(crate::specs::Keys::under))]
+fn scale_under<'a>(table: &'a Table, key: &'a str) -> Result<u8, Wrong<'a>>
+    ensures { result_ok result ≡ under field.SCALE (key.now ∷ []) (table_view table.now) }
+{
+    let scale = between_under::<0, 255>(table, key)?;
+    Ok(scale.get() as u8)
 }
 
 /// What is agreed with a peer.
@@ -318,14 +320,14 @@ pub(crate) fn peer_terms_of(table: &Table) -> Result<PeerTerms, Wrong<'_>>
     ensures { result_ok result ≡ peer_terms_of (table_view table.now) }
 {
     Ok(PeerTerms {
-        name: name_under(table, "name", Expected::Name)?,
-        role: role_under(table, "role")?,
-        token: token_under(table, "token")?,
+        name: name_under(table, NAME, Expected::Name)?,
+        role: role_under(table, ROLE)?,
+        token: token_under(table, TOKEN)?,
         target: target_of(table)?,
-        asset: asset_under(table, "asset")?,
-        scale: u8_under(table, "scale")?,
-        limits: peer_limits_of(table)?,
-        bucket: bucket_terms_of(table)?,
+        asset: asset_under(table, ASSET)?,
+        scale: scale_under(table, SCALE)?,
+        limits: limits_of(table)?,
+        bucket: bucket_of(table)?,
     })
 }
 
@@ -334,6 +336,6 @@ pub(crate) fn peer_terms_of(table: &Table) -> Result<PeerTerms, Wrong<'_>>
 pub(crate) fn balance_of(table: &Table) -> Result<Balance, Wrong<'_>>
     ensures { result_ok result ≡ balance_of (table_view table.now) }
 {
-    let owed = integer_or(0, table, "balance", Expected::Balance)?;
-    made(Balance::new(owed), table, "balance", Expected::Balance)
+    let owed = integer_or(0, table, BALANCE, Expected::Balance)?;
+    made(Balance::new(owed), table, BALANCE, Expected::Balance)
 }

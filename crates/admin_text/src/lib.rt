@@ -5,6 +5,7 @@ mod commands;
 mod expected;
 mod explained;
 mod ignored;
+mod key_names;
 mod keys;
 pub mod laws;
 mod networks;

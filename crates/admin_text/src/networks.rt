@@ -14,6 +14,7 @@ ghost use Rattle.admin_text.specs.Keys.{string_under};
 ghost use Rattle.admin_text.specs.Prefixes.{written_prefix};
 
 use crate::expected::Expected;
+use crate::key_names::{DEN, FEE, FROM, NAME, NUM, PEER, PREFIX, RATE, ROUTE, TO, TOKEN};
 use crate::keys::{
     balance_of, between_or, items_under, name_under, peer_terms_of, string_under, table_in,
     text_under, u64_under,
@@ -117,7 +118,7 @@ fn with_peer_in<'a>(
         Ok(()) => Ok(network),
         Err(CommandFault::Memory) => Err(ReadError::Memory),
         Err(fault) => {
-            let wrong = refused(fault, before, table, TableKind::Peer, &["name", "token"]);
+            let wrong = refused(fault, before, table, TableKind::Peer, &[NAME, TOKEN]);
             Err(ReadError::Fault(wrong))
         }
     }
@@ -151,10 +152,10 @@ fn prefix_of(alloc: Global, table: &Table) -> Result<Prefix, ReadError<Wrong<'_>
     ensures { IfSome (known result) (λ prefix. prefix ≡
         option_and_then written_prefix (string_under (codes "prefix") (table_view table.now))) }
 {
-    let text = text_under(table, "prefix", Expected::Prefix)?;
+    let text = text_under(table, PREFIX, Expected::Prefix)?;
     match written_prefix(alloc, text.as_bytes())? {
         Some(prefix) => Ok(prefix),
-        None => Err(ReadError::Fault(Wrong::at(table, "prefix", Expected::Prefix))),
+        None => Err(ReadError::Fault(Wrong::at(table, PREFIX, Expected::Prefix))),
     }
 }
 
@@ -164,7 +165,7 @@ fn fee_of(version: Version, table: &Table) -> Result<Fee, Wrong<'_>>
     ensures { result_ok result ≡ fee_of version (table_view table.now) }
 {
     if has_fees(version) {
-        between_or(0, table, "fee")
+        between_or(0, table, FEE)
     } else {
         Ok(Fee::new(0).unwrap())
     }
@@ -182,13 +183,13 @@ fn with_route_in<'a>(
 {
     let table = table_in(value, TableKind::Route)?;
     let prefix = prefix_of(alloc, table)?;
-    let peer = peer_under(&network, table, "peer")?;
+    let peer = peer_under(&network, table, PEER)?;
     let fee = fee_of(version, table)?;
     match network.add_route(prefix, Hop { peer, fee }) {
         Ok(()) => Ok(network),
         Err(CommandFault::Memory) => Err(ReadError::Memory),
         Err(fault) => {
-            let wrong = refused(fault, before, table, TableKind::Route, &["prefix"]);
+            let wrong = refused(fault, before, table, TableKind::Route, &[PREFIX]);
             Err(ReadError::Fault(wrong))
         }
     }
@@ -219,9 +220,9 @@ fn rate_between(table: &Table, num: u64, den: u64) -> Result<Rate, Wrong<'_>>
     ensures { result_ok result ≡ result_ok (rate_at num den) }
 {
     let first_wrong = if (1..=Rate::MAX_TERM).contains(&num) {
-        "den"
+        DEN
     } else {
-        "num"
+        NUM
     };
     match Rate::new(num, den) {
         Ok(rate) => Ok(rate),
@@ -236,13 +237,13 @@ fn rate_of<'a>(network: &Network, table: &'a Table) -> Result<RateTerms, Wrong<'
     ensures to { IfOk result (λ r. IsSome (peer_numbered r.to network.now.peers)) }
     ensures apart { IfOk result (λ r. (r.from == r.to) ≡ false) }
 {
-    let from = peer_under(network, table, "from")?;
-    let to = peer_under(network, table, "to")?;
-    let num = u64_under(table, "num", TERM)?;
-    let den = u64_under(table, "den", TERM)?;
+    let from = peer_under(network, table, FROM)?;
+    let to = peer_under(network, table, TO)?;
+    let num = u64_under(table, NUM, TERM)?;
+    let den = u64_under(table, DEN, TERM)?;
     let rate = rate_between(table, num, den)?;
     if from == to {
-        Err(Wrong::SamePeer(Key::of(table, "to")))
+        Err(Wrong::SamePeer(Key::of(table, TO)))
     } else {
         Ok(RateTerms { from, to, rate })
     }
@@ -282,9 +283,9 @@ pub(crate) fn network_of(
 ) -> Result<Network, ReadError<TenantWrong<'_>>>
     ensures { IfSome (known result) (λ network. network ≡ network_of version (table_view table.now)) }
 {
-    let peers = items_under(table, "peer", TableKind::Peer)?;
-    let routes = items_under(table, "route", TableKind::Route)?;
-    let rates = items_under(table, "rate", TableKind::Rate)?;
+    let peers = items_under(table, PEER, TableKind::Peer)?;
+    let routes = items_under(table, ROUTE, TableKind::Route)?;
+    let rates = items_under(table, RATE, TableKind::Rate)?;
     let network = with_peers_of(Network::new(alloc), peers)?;
     let network = with_routes_of(alloc, version, network, routes)?;
     with_rates_of(network, rates)

@@ -5,6 +5,7 @@ ghost use Rattle.std.specs.Prelude.{◌≡◌};
 ghost use Rattle.admin_text.specs.Ignored.{place_of};
 
 use crate::expected::Shown;
+use crate::key_names::{FROM, NAME, PREFIX, TO};
 use crate::keys::string_under;
 use std::fmt;
 use toml::{Table, Value};
@@ -42,12 +43,12 @@ impl TableKind {
     // Writes the names that one gives itself.
     fn write_names<W: fmt::Write>(self, f: &mut fmt::Formatter<W>, table: &Table) -> fmt::Result {
         match self {
-            TableKind::Tenant | TableKind::Peer => write_word(f, table, "name"),
-            TableKind::Route => write_word(f, table, "prefix"),
+            TableKind::Tenant | TableKind::Peer => write_word(f, table, NAME),
+            TableKind::Route => write_word(f, table, PREFIX),
             TableKind::Rate => {
-                write_word(f, table, "from")?;
+                write_word(f, table, FROM)?;
                 f.write_str(" to")?;
-                write_word(f, table, "to")
+                write_word(f, table, TO)
             }
         }
     }

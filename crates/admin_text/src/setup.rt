@@ -10,13 +10,13 @@ ghost use Rattle.common_types.specs.Outcomes.{GivesUnlessMemory};
 ghost use Rattle.admin_text.specs.Ignored.{document_in};
 ghost use Rattle.admin_text.specs.Keys.{array_under};
 ghost use Rattle.admin_text.specs.Outcomes.{known};
-ghost use Rattle.admin_text.specs.OwnTerms.{own_terms_of, terms_with};
-ghost use Rattle.admin_text.specs.TenantTable.{tenant_of_table};
+ghost use Rattle.admin_text.specs.TenantTable.{own_terms_of, terms_with, tenant_of_table};
 ghost use Rattle.admin_text.specs.Tenants.{is_there, unless_there, some_tenants, next_tenant, with_one_more, tenants_of_items, tenants_of_array};
 ghost use Rattle.admin_text.specs.Setup.{setup_of_table, setup_of};
 ghost use Rattle.admin_text.specs.Wrong.{fault_alone};
 
 use crate::expected::Expected;
+use crate::key_names::{ADDRESS, ADMIN, HOLD, JOURNAL, MARGIN, NAME, TENANT};
 use crate::keys::{
     address_under, array_under, between_or, name_under, start_of, table_in, token_under, version_of,
 };
@@ -87,12 +87,12 @@ fn own_terms_of(table: &Table) -> Result<OwnTerms, Wrong<'_>>
     ensures { result_ok result ≡ own_terms_of (table_view table.now) }
 {
     Ok(OwnTerms {
-        name: name_under(table, "name", Expected::Name)?,
-        address: address_under(table, "address")?,
-        admin: token_under(table, "admin")?,
-        journal: between_or(1024, table, "journal")?,
-        margin: between_or(1000, table, "margin")?,
-        hold: between_or(30_000, table, "hold")?,
+        name: name_under(table, NAME, Expected::Name)?,
+        address: address_under(table, ADDRESS)?,
+        admin: token_under(table, ADMIN)?,
+        journal: between_or(1024, table, JOURNAL)?,
+        margin: between_or(1000, table, MARGIN)?,
+        hold: between_or(30_000, table, HOLD)?,
     })
 }
 
@@ -150,11 +150,7 @@ fn new_tenant<'a>(
     let own = own_terms_of(table)?;
     if is_there(tenants, &own.name) {
         let number = number_of(tenants, &own.name);
-        return Err(ReadError::from(Wrong::Taken(
-            Key::of(table, "name"),
-            TableKind::Tenant,
-            number,
-        )));
+        return Err(ReadError::from(Wrong::Taken(Key::of(table, NAME), TableKind::Tenant, number)));
     }
     let network = network_of(alloc, version, table)?;
     Ok(own.with(network))
@@ -227,8 +223,8 @@ fn tenants_of_array(
     ensures { GivesUnlessMemory (λ tenants. tenants.items) (fault_alone result)
         (tenants_of_array version (array_under (codes "tenant") (table_view table.now))) }
 {
-    match array_under(table, "tenant", Expected::Tenants) {
-        Ok(values) => some_tenants(alloc, version, Key::of(table, "tenant"), values),
+    match array_under(table, TENANT, Expected::Tenants) {
+        Ok(values) => some_tenants(alloc, version, Key::of(table, TENANT), values),
         Err(wrong) => Err(ReadError::Fault(SetupWrong::NoTenants(wrong))),
     }
 }

@@ -1,22 +1,30 @@
 //! The texts of setups.
 
-ghost use Rattle.std.specs.Prelude.{◌≡◌, IfOk, Ok, map, option_copied, string_bytes};
+ghost use Rattle.std.specs.Prelude.{◌≡◌, IfOk, OnOk, Ok, map, option_copied, string_bytes};
 ghost use Rattle.toml.specs.View.{view, items_view, table_view};
 ghost use Rattle.tenant_core.specs.Network.{peer_numbered};
 ghost use Rattle.admin_text.specs.Anew.{anew, AreTenants};
-ghost use Rattle.admin_text.specs.Fields.{role_word};
-ghost use Rattle.admin_text.specs.Made.{peer_members, route_members, rate_members, tenant_members, setup_members};
+ghost use Rattle.admin_text.specs.Fields.{LIMITS, BUCKET, role_word};
+ghost use Rattle.admin_text.specs.Made.{IsSet, peer_members, route_members, rate_members, tenant_members, setup_members};
+ghost use Rattle.admin_text.specs.PeerFields.{limit_keys, bucket_keys};
 ghost use Rattle.admin_text.specs.Prefixes.{prefix_word};
 ghost use Rattle.admin_text.specs.Setup.{setup_of};
 ghost use Rattle.admin_text.specs.Told.{AllTold, IsKnown, TellsPeer, TellsRoute, TellsRate, TellsTenant};
 
+use crate::key_names::{
+    ADDRESS, ADMIN, ASSET, BALANCE, BURST, CAP, CEILING, CREDIT, DEN, FEE, FROM, HOLD, JOURNAL,
+    MARGIN, NAME, NUM, OUT_TOKEN, PEER, PER_SECOND, PREFIX, RATE, ROLE, ROUTE, SCALE, START,
+    TENANT, TO, TOKEN, URL, VERSION,
+};
 use crate::tables::{no_keys, put_integer, put_number, put_tables, put_text};
 use common_types::Name;
 use ilp_addr::{Moment, Prefix};
 use money_core::Rate;
 use route_table::Route;
 use std::alloc::{AllocError, Global};
-use tenant_core::{Fee, Network, Peer, PeerNo, RateTerms, Role, TenantSetup, TenantTerms};
+use tenant_core::{
+    BucketTerms, Fee, Network, Peer, PeerLimits, PeerNo, RateTerms, Role, TenantSetup, TenantTerms,
+};
 use toml::{Table, Value};
 
 fn prefix_text(prefix: &Prefix) -> &[u8]
@@ -37,30 +45,38 @@ fn role_text(role: Role) -> &'static [u8]
     }
 }
 
+fn put_limits(alloc: Global, table: &mut Table, limits: PeerLimits) -> Result<(), AllocError>
+    ensures { OnOk result (IsSet LIMITS limit_keys limits (table_view table.old) (table_view table.new)) }
+{
+    put_number(alloc, table, CAP, limits.cap.get())?;
+    put_number(alloc, table, CEILING, limits.ceiling.get())?;
+    put_number(alloc, table, CREDIT, limits.credit.get())
+}
+
+fn put_bucket(alloc: Global, table: &mut Table, bucket: BucketTerms) -> Result<(), AllocError>
+    ensures { OnOk result (IsSet BUCKET bucket_keys bucket (table_view table.old) (table_view table.new)) }
+{
+    put_number(alloc, table, BURST, bucket.burst.get())?;
+    put_number(alloc, table, PER_SECOND, bucket.per_second.get())
+}
+
 #[tactic(auto, unfolding(crate::specs::Made::peer_members))]
 fn peer_members(alloc: Global, peer: &Peer) -> Result<Table, AllocError>
-    ensures { IfOk result (λ table. table_view table ≡ peer_members peer.now) }
+    ensures made { IfOk result (λ table. table_view table ≡ peer_members peer.now) }
+    ensures known { IfOk result (λ table. IsKnown peer.now) }
 {
     let terms = &peer.terms;
     let mut table = no_keys(alloc);
-    put_text(alloc, &mut table, "name", terms.name.as_bytes())?;
-    put_text(alloc, &mut table, "role", role_text(terms.role))?;
-    put_text(alloc, &mut table, "token", terms.token.as_bytes())?;
-    put_text(alloc, &mut table, "url", terms.target.url())?;
-    put_text(alloc, &mut table, "out_token", terms.target.token())?;
-    put_text(alloc, &mut table, "asset", terms.asset.as_bytes())?;
-    put_number(alloc, &mut table, "scale", terms.scale as u64)?;
-    put_number(alloc, &mut table, "cap", terms.limits.cap.get())?;
-    put_number(alloc, &mut table, "ceiling", terms.limits.ceiling.get())?;
-    put_number(alloc, &mut table, "credit", terms.limits.credit.get())?;
-    put_number(alloc, &mut table, "burst", terms.bucket.burst.get())?;
-    put_number(
-        alloc,
-        &mut table,
-        "per_second",
-        terms.bucket.per_second.get(),
-    )?;
-    put_integer(alloc, &mut table, "balance", peer.balance.get())?;
+    put_text(alloc, &mut table, NAME, terms.name.as_bytes())?;
+    put_text(alloc, &mut table, ROLE, role_text(terms.role))?;
+    put_text(alloc, &mut table, TOKEN, terms.token.as_bytes())?;
+    put_text(alloc, &mut table, URL, terms.target.url())?;
+    put_text(alloc, &mut table, OUT_TOKEN, terms.target.token())?;
+    put_text(alloc, &mut table, ASSET, terms.asset.as_bytes())?;
+    put_number(alloc, &mut table, SCALE, terms.scale as u64)?;
+    put_limits(alloc, &mut table, terms.limits)?;
+    put_bucket(alloc, &mut table, terms.bucket)?;
+    put_integer(alloc, &mut table, BALANCE, peer.balance.get())?;
     Ok(table)
 }
 
@@ -69,9 +85,9 @@ fn route_members(alloc: Global, prefix: &Prefix, peer: &Name, fee: Fee) -> Resul
     ensures { IfOk result (λ table. table_view table ≡ route_members prefix.now peer.now fee) }
 {
     let mut table = no_keys(alloc);
-    put_text(alloc, &mut table, "prefix", prefix_text(prefix))?;
-    put_text(alloc, &mut table, "peer", peer.as_bytes())?;
-    put_number(alloc, &mut table, "fee", fee.get())?;
+    put_text(alloc, &mut table, PREFIX, prefix_text(prefix))?;
+    put_text(alloc, &mut table, PEER, peer.as_bytes())?;
+    put_number(alloc, &mut table, FEE, fee.get())?;
     Ok(table)
 }
 
@@ -80,10 +96,10 @@ fn rate_members(alloc: Global, from: &Name, to: &Name, rate: Rate) -> Result<Tab
     ensures { IfOk result (λ table. table_view table ≡ rate_members from.now to.now rate) }
 {
     let mut table = no_keys(alloc);
-    put_text(alloc, &mut table, "from", from.as_bytes())?;
-    put_text(alloc, &mut table, "to", to.as_bytes())?;
-    put_number(alloc, &mut table, "num", rate.numerator())?;
-    put_number(alloc, &mut table, "den", rate.denominator())?;
+    put_text(alloc, &mut table, FROM, from.as_bytes())?;
+    put_text(alloc, &mut table, TO, to.as_bytes())?;
+    put_number(alloc, &mut table, NUM, rate.numerator())?;
+    put_number(alloc, &mut table, DEN, rate.denominator())?;
     Ok(table)
 }
 
@@ -99,15 +115,15 @@ fn tenant_members(
         ≡ tenant_members terms.now (items_view peers.items) (items_view routes.items) (items_view rates.items)) }
 {
     let mut table = no_keys(alloc);
-    put_text(alloc, &mut table, "name", terms.name.as_bytes())?;
-    put_text(alloc, &mut table, "address", terms.address.as_bytes())?;
-    put_text(alloc, &mut table, "admin", terms.admin.as_bytes())?;
-    put_number(alloc, &mut table, "journal", terms.journal)?;
-    put_number(alloc, &mut table, "margin", terms.margin)?;
-    put_number(alloc, &mut table, "hold", terms.hold)?;
-    put_tables(alloc, &mut table, "peer", peers)?;
-    put_tables(alloc, &mut table, "route", routes)?;
-    put_tables(alloc, &mut table, "rate", rates)?;
+    put_text(alloc, &mut table, NAME, terms.name.as_bytes())?;
+    put_text(alloc, &mut table, ADDRESS, terms.address.as_bytes())?;
+    put_text(alloc, &mut table, ADMIN, terms.admin.as_bytes())?;
+    put_number(alloc, &mut table, JOURNAL, terms.journal)?;
+    put_number(alloc, &mut table, MARGIN, terms.margin)?;
+    put_number(alloc, &mut table, HOLD, terms.hold)?;
+    put_tables(alloc, &mut table, PEER, peers)?;
+    put_tables(alloc, &mut table, ROUTE, routes)?;
+    put_tables(alloc, &mut table, RATE, rates)?;
     Ok(table)
 }
 
@@ -116,34 +132,15 @@ fn setup_members(alloc: Global, start: Moment, tenants: Vec<Value>) -> Result<Ta
     ensures { IfOk result (λ table. table_view table ≡ setup_members start (items_view tenants.items)) }
 {
     let mut table = no_keys(alloc);
-    put_number(alloc, &mut table, "version", 2)?;
-    put_number(alloc, &mut table, "start", start.millis())?;
-    put_tables(alloc, &mut table, "tenant", tenants)?;
+    put_number(alloc, &mut table, VERSION, 2)?;
+    put_number(alloc, &mut table, START, start.millis())?;
+    put_tables(alloc, &mut table, TENANT, tenants)?;
     Ok(table)
-}
-
-// What the types of a peer's parts keep.
-fn is_known(peer: &Peer)
-    ensures { IsKnown peer.now }
-{
-    let terms = &peer.terms;
-    let _ = terms.name.as_bytes();
-    let _ = terms.token.as_bytes();
-    let _ = terms.target.url();
-    let _ = terms.asset.as_bytes();
-    let _scale = terms.scale;
-    let _ = terms.limits.cap.get();
-    let _ = terms.limits.ceiling.get();
-    let _ = terms.limits.credit.get();
-    let _ = terms.bucket.burst.get();
-    let _ = terms.bucket.per_second.get();
-    let _ = peer.balance.get();
 }
 
 fn peer_value(alloc: Global, peer: &Peer) -> Result<Value, AllocError>
     ensures { IfOk result (λ value. TellsPeer (view value) peer.now) }
 {
-    is_known(peer);
     Ok(Value::Table(peer_members(alloc, peer)?))
 }
 

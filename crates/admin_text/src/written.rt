@@ -4,8 +4,7 @@ ghost use Rattle.std.specs.Prelude.{◌≡◌, ◌++◌, ◌∷◌, [], IfOk, On
 ghost use Rattle.std.specs.Fmt.{decimal};
 ghost use Rattle.common_types.specs.Words.{words_of};
 ghost use Rattle.admin_text.specs.Spaces.{is_spaceless};
-ghost use Rattle.admin_text.specs.Fields.{NUMBER, ROLE, PREFIX, TARGET, PAIR, FEE, IsPut, ArePut};
-ghost use Rattle.admin_text.specs.Commands.{NAME, TOKEN, ASSET, MONEY, BURST, PERSECOND};
+ghost use Rattle.admin_text.specs.Fields.{NAME, TOKEN, ASSET, NUMBER, ROLE, PREFIX, TARGET, PAIR, FEE, LIMITS, BUCKET, IsPut};
 ghost use Rattle.admin_text.specs.Commands.{command_words, IsWritten, IsCommandText};
 ghost use Rattle.tenant_core.specs.declared.command.Command.TheVariants as spec;
 ghost use Rattle.tenant_core.specs.declared.command.Order.TheVariants as order;
@@ -112,8 +111,7 @@ fn put_fee(alloc: Global, out: &mut Vec<u8>, fee: Fee) -> Result<(), AllocError>
 }
 
 fn put_limits(alloc: Global, out: &mut Vec<u8>, limits: PeerLimits) -> Result<(), AllocError>
-    ensures { OnOk result (ArePut (MONEY ∷ MONEY ∷ MONEY ∷ []) (limits.cap, (limits.ceiling, (limits.credit, tt)))
-        out.old.items out.new.items) }
+    ensures { OnOk result (IsPut LIMITS limits out.old.items out.new.items) }
 {
     put_between(alloc, out, limits.cap)?;
     put_between(alloc, out, limits.ceiling)?;
@@ -121,8 +119,7 @@ fn put_limits(alloc: Global, out: &mut Vec<u8>, limits: PeerLimits) -> Result<()
 }
 
 fn put_bucket(alloc: Global, out: &mut Vec<u8>, bucket: BucketTerms) -> Result<(), AllocError>
-    ensures { OnOk result (ArePut (BURST ∷ PERSECOND ∷ []) (bucket.burst, (bucket.per_second, tt))
-        out.old.items out.new.items) }
+    ensures { OnOk result (IsPut BUCKET bucket out.old.items out.new.items) }
 {
     put_between(alloc, out, bucket.burst)?;
     put_between(alloc, out, bucket.per_second)

@@ -1,0 +1,52 @@
+-- What is agreed with a peer, field by field: in the words of a command, and at the keys of a setup's table.
+use Rattle.std.specs.Prelude.{ℕ, List, [], ◌∷◌, map, codes}
+use Rattle.tenant_core.specs.declared.terms.PeerTerms.{PeerTerms}
+use Rattle.admin_text.specs.Fields.{Field, NAME, ROLE, TOKEN, TARGET, ASSET, SCALE, LIMITS, BUCKET, AllSaid, ◌&◌}
+
+-- a field, and the keys at which it stands in a table
+abbrev pub Row : Type 0
+Row = List (List ℕ) × Field
+
+-- the fields alone
+abbrev pub fields_of : List Row → List Field
+fields_of rows = map (λ row. row.1) rows
+
+-- the keys of a target, of limits and of a bucket
+abbrev pub target_keys : List (List ℕ)
+target_keys = codes "url" ∷ codes "out_token" ∷ []
+
+abbrev pub limit_keys : List (List ℕ)
+limit_keys = codes "cap" ∷ codes "ceiling" ∷ codes "credit" ∷ []
+
+abbrev pub bucket_keys : List (List ℕ)
+bucket_keys = codes "burst" ∷ codes "per_second" ∷ []
+
+-- the fields of a peer
+abbrev pub peer_rows : List Row
+peer_rows =
+    (codes "name" ∷ [], NAME)
+    ∷ (codes "role" ∷ [], ROLE)
+    ∷ (codes "token" ∷ [], TOKEN)
+    ∷ (target_keys, TARGET)
+    ∷ (codes "asset" ∷ [], ASSET)
+    ∷ (codes "scale" ∷ [], SCALE)
+    ∷ (limit_keys, LIMITS)
+    ∷ (bucket_keys, BUCKET)
+    ∷ []
+
+-- what is agreed with a peer whose fields say that
+abbrev pub peer_with : AllSaid (fields_of peer_rows) → PeerTerms
+peer_with (name, (role, (token, (target, (asset, (scale, (limits, (bucket, _)))))))) = record {
+  name = name;
+  role = role;
+  token = token;
+  target = target;
+  asset = asset;
+  scale = scale;
+  limits = limits;
+  bucket = bucket;
+}
+
+-- what its fields say
+abbrev pub peer_values : PeerTerms → AllSaid (fields_of peer_rows)
+peer_values t = t.name & t.role & t.token & t.target & t.asset & t.scale & t.limits & t.bucket & tt
