@@ -11,7 +11,7 @@ pub enum Fault {
     #[error("out of memory")]
     Memory,
     /// The words ask for no trial.
-    #[error("words: steps SETUP SCRIPT, crowd ROUNDS STEPS, or audit ENTRIES (1 to 16385), one after another")]
+    #[error("words: steps SETUP SCRIPT, crowd ROUNDS STEPS, audit ENTRIES (1 to 16385), or examples, one after another")]
     Words,
     /// A file can't be read, or a line not be printed.
     #[error("device")]
@@ -28,6 +28,9 @@ pub enum Fault {
     /// Hostile tenants did not come to each kind of line.
     #[error("the crowd is not hostile enough")]
     Unseen,
+    /// An example does not print its lines.
+    #[error("an example prints other lines")]
+    Example,
     /// The audit said no.
     #[error("the audit says no")]
     Refused,

@@ -1,9 +1,10 @@
 //! Trials that go past what a contract can say: lists of steps in which memory may be refused, by tools/refusals, crowds
-//! of hostile tenants beside a calm one, and audits of many receipts: of 64 tenants, whose entries as many workers made
-//! by turns.
+//! of hostile tenants beside a calm one, audits of many receipts: of 64 tenants, whose entries as many workers made
+//! by turns, and the examples.
 #![tactic(auto)]
 
 mod crowd;
+mod examples;
 mod fault;
 mod hands;
 mod many;
@@ -83,6 +84,15 @@ fn run_audit(rt: &(impl Print + AllocGlobal), entries: &str) -> Result<(), Fault
     }
 }
 
+// The trials of the gate.
+fn run_all(rt: &(impl Files + Print + Eprint + AllocGlobal)) -> Result<(), Fault> {
+    run_steps(rt, "s2.toml", "two-tenants.script")?;
+    run_steps(rt, "s2.toml", "roll.script")?;
+    run_crowd(rt, "8", "600")?;
+    run_audit(rt, "20")?;
+    examples::run(rt)
+}
+
 fn run_trial(
     rt: &(impl Files + Print + Eprint + AllocGlobal),
     trial: &str,
@@ -96,10 +106,16 @@ fn run_trial(
     }
 }
 
-// The words are trials, one after another.
+// The words are trials, one after another; without words all are run, as the gate does.
 fn run(rt: &(impl Env + Files + Print + Eprint + AllocGlobal)) -> Result<(), Fault> {
     let mut words = env::args(rt)?.skip(1);
+    let mut has_words = false;
     while let Some(trial) = words.next() {
+        has_words = true;
+        if trial.as_str() == "examples" {
+            examples::run(rt)?;
+            continue;
+        }
         let Some(first) = words.next() else {
             return Err(Fault::Words);
         };
@@ -111,6 +127,9 @@ fn run(rt: &(impl Env + Files + Print + Eprint + AllocGlobal)) -> Result<(), Fau
             return Err(Fault::Words);
         };
         run_trial(rt, trial.as_str(), first.as_str(), second.as_str())?;
+    }
+    if !has_words {
+        run_all(rt)?;
     }
     Ok(())
 }

@@ -1,0 +1,62 @@
+//! The examples: each script prints the lines of its file.
+
+use crate::fault::Fault;
+use replay_text::replay;
+use std::alloc::Global;
+use std::fs;
+use std::rt::Files;
+
+// The name of each example, and that of its setup.
+static EXAMPLES: [(&str, &str); 9] = [
+    ("forward", "s1"),
+    ("long-form", "s1"),
+    ("bad-frames", "s1"),
+    ("workers", "s1"),
+    ("answers", "s1"),
+    ("refusals", "refusals"),
+    ("full-journal", "full-journal"),
+    ("serve", "serve"),
+    ("fees", "fees"),
+];
+
+// All that is in examples/NAME.ENDING.
+fn read(rt: &(impl Files + AllocGlobal), name: &str, ending: &str) -> Result<Vec<u8>, Fault> {
+    let file = ["examples/", name, ".", ending].concat(rt.alloc())?;
+    Ok(fs::read(rt, file.as_str())?)
+}
+
+// Whether the script prints these lines, for that setup.
+fn prints(alloc: Global, setup: &[u8], script: &[u8], lines: &[u8]) -> bool {
+    let mut reader = script;
+    let mut text = Vec::new(alloc);
+    let ended = replay(alloc, setup, 1, &mut reader, &mut text);
+    ended.is_ok() && text.as_slice() == lines
+}
+
+// Whether the example prints its lines, which it says.
+fn is_as_told(
+    rt: &(impl Files + Print + AllocGlobal),
+    name: &str,
+    setup: &str,
+) -> Result<bool, Fault> {
+    let setup = read(rt, setup, "toml")?;
+    let script = read(rt, name, "script")?;
+    let lines = read(rt, name, "lines")?;
+    let is_as_told = prints(rt.alloc(), &setup, &script, &lines);
+    let verb = if is_as_told {
+        "prints"
+    } else {
+        "does not print"
+    };
+    println!(rt; "{name}.script {verb} {name}.lines")?;
+    Ok(is_as_told)
+}
+
+/// Runs the examples, which lie in the folder examples/.
+pub fn run(rt: &(impl Files + Print + AllocGlobal)) -> Result<(), Fault> {
+    let mut all_are = true;
+    for (name, setup) in &EXAMPLES {
+        all_are = is_as_told(rt, name, setup)? && all_are;
+    }
+    if all_are { Ok(()) } else { Err(Fault::Example) }
+}
