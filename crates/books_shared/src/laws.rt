@@ -19,8 +19,9 @@ ghost use Rattle.tenant_core.specs.declared.period.PeriodParts.{PeriodParts};
 ghost use Rattle.floor_core.specs.Causes.{made_alone, world_opened};
 ghost use Rattle.floor_core.specs.World.{Event, Tenant, after_alone, world_at_start};
 ghost use Rattle.tenant_core.specs.declared.terms.TenantTerms.{TenantTerms};
-ghost use denote.Param.Send.{IsSync};
+ghost use denote.Param.Send.{IsSend, IsSync};
 ghost use Rattle.books_shared.specs.contracts.books.Books as Books;
+ghost use Rattle.tenant_core.specs.contracts.network.Network as Network;
 
 use crate::guard::Guard;
 use one_list::Run;
@@ -60,6 +61,12 @@ pub fn floors_begin_so()
 /// Threads may share books. Call it ahead of a call that hands them to threads: what that call requires is proved by it.
 pub fn books_are_shared<J: Run>()
     ensures { IsSync (Books.the_row J.row J.Run) }
+{}
+
+/// Whom a tenant deals with may go to another thread, and so may what a period has of it. It is called like
+/// `books_are_shared`.
+pub fn networks_cross()
+    ensures { IsSend Network.the_row }
 {}
 
 /// The receipts that are handed out in the end are complete, where all books were rolled last, the periods are all that rolls

@@ -134,15 +134,13 @@ pub record WasLost (Gives : ℕ → Type 0) (g : Growth) (before : Work) (came :
   pub left : after ≡ carrying Job.NoJob answered.room
 
 -- What became of the packet of a slot, by the reply: before is the slot as the packet was taken in, after is the slot in
--- the end, whose reply the sender is told. Each book that was asked was asked at a moment that the clock gave. `Stray` is
--- never answered.
+-- the end, whose reply the sender is told. Each book that was asked was asked at a moment that the clock gave.
 abbrev pub IsCarried : (Gives : ℕ → Type 0) → Reply → Growth → (before after : Work) → (So : Sending → Type 0) → Type 0
 IsCarried Gives reply.Malformed g before after So = (after ≡ before) × IsSame g
 IsCarried Gives reply.Nameless g before after So = (after ≡ before) × IsSame g
 IsCarried Gives reply.Stranger g before after So = WasCalled Gives g (decide_call before) turn.Stranger after
 IsCarried Gives reply.Spent g before after So = (after ≡ carrying Job.NoJob before.room) × IsSame g
 IsCarried Gives reply.Memory g before after So = (after ≡ carrying Job.NoJob before.room) × IsSame g
-IsCarried Gives reply.Stray g before after So = ⊥
 IsCarried Gives reply.Decided g before after So = WasCalled Gives g (decide_call before) turn.Reply after
 IsCarried Gives (reply.Settled got) g before after So = CameBack Gives g before got after So
 IsCarried Gives (reply.Lost got) g before after So = WasLost Gives g before got after So
@@ -164,7 +162,6 @@ IsAnswered Gives _ g came before after = WasMissed Gives g before came × (after
 abbrev pub closed : Reply → Work → Work
 closed reply.Spent left = carrying Job.NoJob left.room
 closed reply.Memory left = carrying Job.NoJob left.room
-closed reply.Stray left = carrying Job.NoJob left.room
 closed (reply.Lost got) left = carrying Job.NoJob left.room
 closed _ left = left
 

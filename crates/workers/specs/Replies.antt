@@ -6,7 +6,7 @@ use Rattle.meters.specs.declared.kind.Kind.TheVariants as kind
 use Rattle.floor_core.specs.Work.{Job}
 use Rattle.floor_core.specs.declared.parts.Got.{Got}
 use Rattle.workers.specs.declared.reply.Reply.{Reply}
-use Rattle.workers.specs.declared.reply.Reply.TheVariants.{Malformed, Nameless, Stranger, Spent, Memory, Stray, Decided, Settled, Lost}
+use Rattle.workers.specs.declared.reply.Reply.TheVariants.{Malformed, Nameless, Stranger, Spent, Memory, Decided, Settled, Lost}
 use Rattle.workers.specs.declared.reply.Status.{Status}
 use Rattle.workers.specs.declared.reply.Status.TheVariants as status
 
@@ -31,7 +31,6 @@ status_of Nameless = status.Unauthorized
 status_of Stranger = status.Unauthorized
 status_of Spent = status.Unavailable
 status_of Memory = status.Unavailable
-status_of Stray = status.Unavailable
 status_of Decided = status.Answered
 status_of (Settled got) = status.Answered
 status_of (Lost got) = status.Unavailable
@@ -74,7 +73,6 @@ IsSentSo _ tenant So Same = Same
 abbrev pub IsOver : Reply → Job → Type 0
 IsOver Spent job = Unit {0}
 IsOver Memory job = Unit {0}
-IsOver Stray job = Unit {0}
 IsOver (Lost got) job = Unit {0}
 IsOver _ job = job ≡ Job.NoJob
 

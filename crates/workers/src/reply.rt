@@ -57,8 +57,6 @@ pub enum Reply {
     Spent,
     /// Memory for receipts was refused (503). Nothing was decided. It is answered where they are kept alone.
     Memory,
-    /// The book under the lock is another tenant's (503). It is never answered: a lock is entered for its own tenant alone.
-    Stray,
     /// The tenant has decided, and its book has the answer (200).
     Decided,
     /// The packet was sent on, this came back, and the book has settled it (200).
@@ -78,7 +76,7 @@ impl Reply {
         match self {
             Reply::Malformed => Status::Malformed,
             Reply::Nameless | Reply::Stranger => Status::Unauthorized,
-            Reply::Spent | Reply::Memory | Reply::Stray | Reply::Lost(_) => Status::Unavailable,
+            Reply::Spent | Reply::Memory | Reply::Lost(_) => Status::Unavailable,
             Reply::Decided | Reply::Settled(_) => Status::Answered,
         }
     }

@@ -261,6 +261,8 @@ fn work_all<
     ensures seat { option_map (λ porter. porter.host.seat) porter.new ≡ option_map (λ porter. porter.host.seat) porter.old }
 {
     meters::laws::meters_are_shared();
+    books_shared::laws::books_are_shared::<J>();
+    books_shared::laws::networks_cross();
     match run_beside(handle, &office.door, lanes, porter) {
         Ok(()) => Ok(()),
         Err(_) => Err(ServeFault::Device),
