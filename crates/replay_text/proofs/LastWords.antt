@@ -125,44 +125,52 @@ four_of-more : (a b c d : List ℕ) (others : List (List ℕ)) → 0 < length ot
 four_of-more a b c d [] h = absurd (omega arith)
 four_of-more a b c d (e ∷ others) h = refl
 
+-- ---- the last word with all that stands behind it
+
 some_words : (text : List ℕ) → 0 < length (slice_split (λ b. eqb b 32) text)
 some_words text = omega (arith, length-slice_split (λ b. eqb b 32) text)
 
--- ---- the last word with all that stands behind it
-
-pub load_behind : (names : List (List ℕ)) (workers : ℕ) (a b c rest : List ℕ) → option_and_then (load_of names workers) (four_of (a ∷ b ∷ c ∷ words_of rest)) ≡ load_of names workers (a, b, c, rest)
-load_behind names workers a b c rest = by (position (λ b. eqb b 32) rest) refl
+-- what the last words say, where more than one say nothing, is what they say as one word, where a word with a space says nothing
+behind : (many : List (List ℕ) → Option Step) (one : List ℕ → Option Step) (rest : List ℕ) → many (rest ∷ []) ≡ one rest
+    → ((first : List ℕ) (others : List (List ℕ)) → 0 < length others → many (first ∷ others) ≡ None)
+    → ((i : ℕ) → position (λ b. eqb b 32) rest ≡ Some i → one rest ≡ None) → many (words_of rest) ≡ one rest
+behind many one rest alone more none = by (position (λ b. eqb b 32) rest) refl
   where
-    by : (o : Option ℕ) → position (λ b. eqb b 32) rest ≡ o → option_and_then (load_of names workers) (four_of (a ∷ b ∷ c ∷ words_of rest)) ≡ load_of names workers (a, b, c, rest)
-    by None e = ap (λ (ws : List (List ℕ)). option_and_then (load_of names workers) (four_of (a ∷ b ∷ c ∷ ws))) (split_none (λ b. eqb b 32) rest e)
+    by : (o : Option ℕ) → position (λ b. eqb b 32) rest ≡ o → many (words_of rest) ≡ one rest
+    by None e = ap many (split_none (λ b. eqb b 32) rest e) ∙ alone
     by (Some i) e =
-        ap (λ (ws : List (List ℕ)). option_and_then (load_of names workers) (four_of (a ∷ b ∷ c ∷ ws))) (split_found (λ b. eqb b 32) rest i e)
-        ∙ ap (option_and_then (load_of names workers)) (four_of-more a b c (take i rest) (words_of (drop (i + 1) rest)) (some_words (drop (i + 1) rest)))
-        ∙ sym (no_load names workers a b c rest (no_frame rest i e))
-
-pub answer_behind : (workers : ℕ) (a b rest : List ℕ) → option_and_then (answer_of workers) (three_of (a ∷ b ∷ words_of rest)) ≡ answer_of workers (a, b, rest)
-answer_behind workers a b rest = by (position (λ b. eqb b 32) rest) refl
-  where
-    by : (o : Option ℕ) → position (λ b. eqb b 32) rest ≡ o → option_and_then (answer_of workers) (three_of (a ∷ b ∷ words_of rest)) ≡ answer_of workers (a, b, rest)
-    by None e = ap (λ (ws : List (List ℕ)). option_and_then (answer_of workers) (three_of (a ∷ b ∷ ws))) (split_none (λ b. eqb b 32) rest e)
-    by (Some i) e =
-        ap (λ (ws : List (List ℕ)). option_and_then (answer_of workers) (three_of (a ∷ b ∷ ws))) (split_found (λ b. eqb b 32) rest i e)
-        ∙ ap (option_and_then (answer_of workers)) (three_of-more a b (take i rest) (words_of (drop (i + 1) rest)) (some_words (drop (i + 1) rest)))
-        ∙ sym (no_answer workers a b rest (no_given rest i e))
-
--- two words, of which the second makes no step where it has a space
-behind : (f : List ℕ × List ℕ → Option Step) (a rest : List ℕ) → ((i : ℕ) → position (λ b. eqb b 32) rest ≡ Some i → f (a, rest) ≡ None) → option_and_then f (two_of (a ∷ words_of rest)) ≡ f (a, rest)
-behind f a rest none = by (position (λ b. eqb b 32) rest) refl
-  where
-    by : (o : Option ℕ) → position (λ b. eqb b 32) rest ≡ o → option_and_then f (two_of (a ∷ words_of rest)) ≡ f (a, rest)
-    by None e = ap (λ (ws : List (List ℕ)). option_and_then f (two_of (a ∷ ws))) (split_none (λ b. eqb b 32) rest e)
-    by (Some i) e =
-        ap (λ (ws : List (List ℕ)). option_and_then f (two_of (a ∷ ws))) (split_found (λ b. eqb b 32) rest i e)
-        ∙ ap (option_and_then f) (two_of-more a (take i rest) (words_of (drop (i + 1) rest)) (some_words (drop (i + 1) rest)))
+        ap many (split_found (λ b. eqb b 32) rest i e)
+        ∙ more (take i rest) (words_of (drop (i + 1) rest)) (some_words (drop (i + 1) rest))
         ∙ sym (none i e)
 
-pub decide_behind : (workers : ℕ) (a rest : List ℕ) → option_and_then (decide_of workers) (two_of (a ∷ words_of rest)) ≡ decide_of workers (a, rest)
-decide_behind workers a rest = behind (decide_of workers) a rest (λ i e. no_decide workers a rest (no_number (last_moment + 1) rest i e))
+pub load_said : (names : List (List ℕ)) (workers : ℕ) (ws : List (List ℕ)) (a b c rest : List ℕ) → ws ≡ a ∷ b ∷ c ∷ words_of rest
+    → option_and_then (load_of names workers) (four_of ws) ≡ load_of names workers (a, b, c, rest)
+load_said names workers ws a b c rest e =
+    ap (λ (ws : List (List ℕ)). option_and_then (load_of names workers) (four_of ws)) e
+    ∙ behind (λ ws. option_and_then (load_of names workers) (four_of (a ∷ b ∷ c ∷ ws))) (λ word. load_of names workers (a, b, c, word)) rest refl
+    (λ d others some. ap (option_and_then (load_of names workers)) (four_of-more a b c d others some))
+    (λ i space. no_load names workers a b c rest (no_frame rest i space))
 
-pub tick_behind : (names : List (List ℕ)) (a rest : List ℕ) → option_and_then (tick_of names) (two_of (a ∷ words_of rest)) ≡ tick_of names (a, rest)
-tick_behind names a rest = behind (tick_of names) a rest (λ i e. no_tick names a rest (no_number (last_moment + 1) rest i e))
+pub answer_said : (workers : ℕ) (ws : List (List ℕ)) (a b rest : List ℕ) → ws ≡ a ∷ b ∷ words_of rest
+    → option_and_then (answer_of workers) (three_of ws) ≡ answer_of workers (a, b, rest)
+answer_said workers ws a b rest e =
+    ap (λ (ws : List (List ℕ)). option_and_then (answer_of workers) (three_of ws)) e
+    ∙ behind (λ ws. option_and_then (answer_of workers) (three_of (a ∷ b ∷ ws))) (λ word. answer_of workers (a, b, word)) rest refl
+    (λ c others some. ap (option_and_then (answer_of workers)) (three_of-more a b c others some))
+    (λ i space. no_answer workers a b rest (no_given rest i space))
+
+pub decide_said : (workers : ℕ) (ws : List (List ℕ)) (a rest : List ℕ) → ws ≡ a ∷ words_of rest
+    → option_and_then (decide_of workers) (two_of ws) ≡ decide_of workers (a, rest)
+decide_said workers ws a rest e =
+    ap (λ (ws : List (List ℕ)). option_and_then (decide_of workers) (two_of ws)) e
+    ∙ behind (λ ws. option_and_then (decide_of workers) (two_of (a ∷ ws))) (λ word. decide_of workers (a, word)) rest refl
+    (λ b others some. ap (option_and_then (decide_of workers)) (two_of-more a b others some))
+    (λ i space. no_decide workers a rest (no_number (last_moment + 1) rest i space))
+
+pub tick_said : (names : List (List ℕ)) (ws : List (List ℕ)) (a rest : List ℕ) → ws ≡ a ∷ words_of rest
+    → option_and_then (tick_of names) (two_of ws) ≡ tick_of names (a, rest)
+tick_said names ws a rest e =
+    ap (λ (ws : List (List ℕ)). option_and_then (tick_of names) (two_of ws)) e
+    ∙ behind (λ ws. option_and_then (tick_of names) (two_of (a ∷ ws))) (λ word. tick_of names (a, word)) rest refl
+    (λ b others some. ap (option_and_then (tick_of names)) (two_of-more a b others some))
+    (λ i space. no_tick names a rest (no_number (last_moment + 1) rest i space))

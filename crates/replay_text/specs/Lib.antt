@@ -1,5 +1,6 @@
 pub mod Words
 pub mod Script
+pub mod Spelled
 pub mod ScriptWrong
 pub mod Printed
 pub mod Streams

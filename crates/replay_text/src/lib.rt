@@ -3,18 +3,20 @@
 #![tactic(auto)]
 
 mod causes;
-mod checks;
 mod hexadecimal;
 pub mod laws;
+mod lines;
 mod numbers;
+mod operands;
 mod printed;
 mod replays;
 mod scans;
 mod script;
 mod streams;
+mod words;
 
 pub use causes::{LineFault, Operand, Verb};
-pub use checks::line_fault;
+pub use lines::line_fault;
 pub use printed::print_lines;
 pub use replays::{ReplayFault, replay};
 pub use script::{

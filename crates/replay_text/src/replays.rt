@@ -11,8 +11,9 @@ ghost use Rattle.replay_text.specs.Script.{lines_of, steps_in, steps_of_script, 
 ghost use Rattle.replay_text.specs.Streams.{AppendsFront, ConsumesAtMost, WritesUpTo};
 
 use crate::printed::put_told;
-use crate::script::{MAX_SCRIPT, Meaning, ScriptFault, check_script, first_line, meaning_of};
+use crate::script::{MAX_SCRIPT, Meaning, ScriptFault, check_script, meaning_of};
 use crate::streams::{StreamFault, read_script, write_text};
+use crate::words::first_line;
 use admin_text::{Setup, SetupFault, read_setup};
 use common_types::{Name, ReadError};
 use floor_core::{Floor, Step};

@@ -2,7 +2,7 @@ use Rattle.std.proofs.Common.{rules, tests}
 use Rattle.std.specs.Str.{bytes_eq}
 use Rattle.std.proofs.lemmas.Iterator.{YieldsList-from_slice}
 use Rattle.std.proofs.lemmas.Iterator.Search.{position_from_yields_List}
-use Rattle.replay_text.proofs.script.place_of_name.Goals as goal
+use Rattle.replay_text.proofs.operands.place_of_name.Goals as goal
 
 pub returns : goal.returns
 returns c =

@@ -1,7 +1,7 @@
 use Rattle.std.proofs.Common.{sym, ◌∙◌, ◌+◌}
 use Rattle.std.proofs.lemmas.List.{take_rest}
 use Rattle.replay_text.proofs.Splits.{split_found, split_none}
-use Rattle.replay_text.proofs.script.first_word.Goals as goal
+use Rattle.replay_text.proofs.words.first_word.Goals as goal
 
 pub returns-in-Some : goal.returns-in-Some
 returns-in-Some c = record {

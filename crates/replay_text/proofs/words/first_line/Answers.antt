@@ -1,7 +1,7 @@
 use Rattle.std.proofs.Common.{sym, ◌∙◌, ◌+◌}
 use Rattle.std.proofs.lemmas.List.{take_rest}
 use Rattle.replay_text.proofs.Splits.{lines_found, lines_none}
-use Rattle.replay_text.proofs.script.first_line.Goals as goal
+use Rattle.replay_text.proofs.words.first_line.Goals as goal
 
 pub returns-in-Some-clause-value : goal.returns-in-Some-clause-value
 returns-in-Some-clause-value c =

@@ -1,0 +1,40 @@
+-- What was read of a line, its last word still text where that takes room.
+use Rattle.std.specs.Prelude.{ℕ, List, Option, Some, None, option_copied, option_map, Result, Ok, Err}
+use Rattle.std.specs.Result.{result_ok}
+use Rattle.common_types.specs.OptionChain.{◌>>=◌}
+use Rattle.admin_text.specs.Commands.{command_in}
+use Rattle.floor_core.specs.declared.step.Given.{Given}
+use Rattle.floor_core.specs.declared.step.Given.TheVariants.{Bytes, Fault}
+use Rattle.floor_core.specs.declared.step.Step.{Step}
+use Rattle.floor_core.specs.declared.step.Step.TheVariants as step
+use Rattle.replay_text.specs.Script.{frame_of, step_or_bad}
+use Rattle.replay_text.specs.declared.causes.LineFault.{LineFault}
+use Rattle.replay_text.specs.declared.lines.Spelled.{Spelled}
+use Rattle.replay_text.specs.declared.lines.Spelled.TheVariants.{Load, Decide, Answer, Tick, Govern}
+use Rattle.replay_text.specs.declared.script.Meaning.{Meaning}
+use Rattle.replay_text.specs.declared.script.Meaning.TheVariants.{Skipped, Bad}
+
+-- what came back: the bytes that a word spells, or a fault where there is none
+abbrev pub given_spelled : Option (List ℕ) → Option Given
+given_spelled None = Some Fault
+given_spelled (Some word) = option_map (λ bytes. Bytes bytes) (frame_of word)
+
+-- the step that was spelled, if its last word is right
+abbrev pub step_of_spelled : Spelled → Option Step
+step_of_spelled (Load worker tenant token frame) = do
+  bytes ← frame_of frame.now
+  Some (step.Load worker tenant token.now bytes)
+step_of_spelled (Decide worker now) = Some (step.Decide worker now)
+step_of_spelled (Answer worker now frame) = do
+  given ← given_spelled (option_copied frame)
+  Some (step.Answer worker now given)
+step_of_spelled (Tick tenant now) = Some (step.Tick tenant now)
+step_of_spelled (Govern tenant now text) = do
+  command ← result_ok (command_in text.now)
+  Some (step.Govern tenant now command)
+
+-- what a line says that was read so
+abbrev pub meaning_read : Result (Option Spelled) LineFault → Meaning
+meaning_read (Ok None) = Skipped
+meaning_read (Ok (Some spelled)) = step_or_bad (step_of_spelled spelled)
+meaning_read (Err fault) = Bad
