@@ -57,6 +57,10 @@ command_text name (Ok (Rolled period)) =
     ++ codes " " ++ decimal (length period.records)
 command_text name (Err fault) = name ++ codes " refused " ++ refusal_word fault
 
+-- the lines of a command's answer
+abbrev pub answer_lines : List ℕ → Result Answered CommandFault → List ℕ
+answer_lines name answer = command_text name answer ++ 10 ∷ []
+
 -- the words of an output
 abbrev pub line_text : List (List ℕ) → Output → List ℕ
 line_text names Busy = codes "- busy"

@@ -17,7 +17,7 @@ mod words;
 
 pub use causes::{LineFault, Operand, Verb};
 pub use lines::line_fault;
-pub use printed::print_lines;
+pub use printed::{print_lines, put_answer};
 pub use replays::{ReplayFault, replay};
 pub use script::{
     MAX_LINE, MAX_SCRIPT, Meaning, ScriptFault, ScriptWrong, check_script, explain_script,

@@ -4,7 +4,7 @@ ghost use Rattle.std.specs.Prelude.{◌≡◌, ◌++◌, ◌∷◌, [], IfOk, On
 ghost use Rattle.std.specs.Fmt.{decimal, signed_decimal};
 ghost use Rattle.hex.specs.Hex.{encode_lower};
 ghost use Rattle.replay_text.specs.Printed.{name_of, word_of, tick_text, line_text, line_of, printed_lines};
-ghost use Rattle.replay_text.specs.Printed.{refusal_word, row_line, command_text};
+ghost use Rattle.replay_text.specs.Printed.{answer_lines, refusal_word, row_line, command_text};
 ghost use Rattle.std.specs.List.{flat_map};
 ghost use Rattle.floor_core.specs.Told.{shown};
 
@@ -149,6 +149,21 @@ fn put_governed(
             out.extend_from_slice(refusal_word(*fault))
         }
     }
+}
+
+/// Puts the lines of a command's answer behind a text, each ended by a line feed, for the tenant of that number among these
+/// names. It fails only where memory does.
+pub fn put_answer(
+    names: &[Name],
+    tenant: usize,
+    out: &mut Vec<u8>,
+    answer: &Result<Answered, CommandFault>,
+) -> Result<(), AllocError>
+    ensures { OnOk result (out.new.items ≡ out.old.items ++ answer_lines (name_of names.now tenant) answer.now) }
+{
+    put_governed(out, name_of(names, tenant), answer)?;
+    out.push(b'\n')?;
+    Ok(())
 }
 
 // The tenant's name, and words behind it.

@@ -20,7 +20,6 @@ use Rattle.one_list.specs.declared.run.Run.{Ghosts}
 use Rattle.books_shared.specs.Shares.{ShareView, fresh, is_spent}
 use Rattle.books_shared.specs.Traced.{HaveListOf, openings_of}
 use Rattle.floor_core.specs.Work.{loaded}
-use Rattle.floor_core.specs.declared.step.Output.TheVariants.{Governed}
 use Rattle.workers.specs.Carrying.{IsCarried, IsDone, growth}
 use Rattle.workers.specs.Counting.{IsSpent, command_kind, reply_tallied, tallied}
 use Rattle.workers.specs.Replies.{code_of, sends_of, status_of}
@@ -35,7 +34,7 @@ use Rattle.workers.specs.declared.reply.Status.TheVariants as status
 use Rattle.admin_text.specs.Commands.{command_in}
 use Rattle.admin_text.specs.declared.setup.Setup.{Setup}
 use Rattle.admin_text.specs.declared.commands.TextFault.{TextFault}
-use Rattle.replay_text.specs.Printed.{printed_lines}
+use Rattle.replay_text.specs.Printed.{answer_lines, name_of}
 use Rattle.http_link.specs.Connections.{AreAskedBy, IsOver}
 use Rattle.http_link.specs.Serving.{Asked}
 use Rattle.http_link.specs.declared.request.RequestKind.{RequestKind}
@@ -88,7 +87,7 @@ command_line body = if slice_index_or body (length body - 1) 0 == 10 then take (
 -- a command's answer is printed in its lines (200), unless there is no memory for them (503)
 abbrev pub IsPrinted : {J : Type 0} {r : Ghosts J} → Office J r → ℕ → Result Answered CommandFault → Status → List ℕ → Type 0
 IsPrinted office tenant answer told printed =
-    ((told ≡ status.Answered) × (printed ≡ printed_lines office.names.items (Governed tenant answer ∷ [])))
+    ((told ≡ status.Answered) × (printed ≡ answer_lines (name_of office.names.items tenant) answer))
     ⊎ (told ≡ status.Unavailable)
 
 -- what the tenant's book answers or refuses is printed; for want of anything else nothing is (503)

@@ -9,12 +9,10 @@ use crate::office::Office;
 use crate::worker::desk::Desk;
 use admin_text::parse_command;
 use common_types::ReadError;
-use floor_core::Output;
 use one_list::Run;
-use replay_text::print_lines;
+use replay_text::put_answer;
 use std::alloc::{AllocError, Global};
 use std::net::{Net, TcpStream};
-use std::slice;
 use std::sync::Wait;
 use tenant_core::{Answered, Command, CommandFault, Period};
 use workers::{Clock, Gate, GovernFault, Job, Link, Point, Status, carry, govern};
@@ -184,24 +182,21 @@ fn print<J: Run>(
 ) -> (Status, Option<Period>)
     ensures { IsPrinted office.now tenant answer result.0 printed.new.items }
 {
-    let output = Output::Governed { tenant, answer };
-    let status = match print_lines(alloc, office.names.as_slice(), slice::from_ref(&output)) {
-        Ok(text) => {
+    let mut text = Vec::new(alloc);
+    let status = match put_answer(office.names.as_slice(), tenant, &mut text, &answer) {
+        Ok(()) => {
             *printed = text;
             Status::Answered
         }
         Err(_) => Status::Unavailable,
     };
-    (status, closed_by(output))
+    (status, closed_by(answer))
 }
 
 // The period that a command closed, if it did.
-fn closed_by(output: Output) -> Option<Period> {
-    match output {
-        Output::Governed {
-            answer: Ok(Answered::Rolled(period)),
-            ..
-        } => Some(period),
+fn closed_by(answer: Result<Answered, CommandFault>) -> Option<Period> {
+    match answer {
+        Ok(Answered::Rolled(period)) => Some(period),
         _ => None,
     }
 }
