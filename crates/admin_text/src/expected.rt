@@ -34,26 +34,36 @@ pub(crate) struct Right<'a> {
     pub(crate) found: Found<'a>,
 }
 
+// What would be right where a whole number from the first to the second is wanted.
+fn put_whole<W: fmt::Write>(
+    f: &mut fmt::Formatter<W>,
+    least: u64,
+    most: u64,
+    found: Found<'_>,
+) -> fmt::Result {
+    match found {
+        Found::Plain(Value::Integer(number)) => match u64::try_from(*number) {
+            Ok(number) if number >= least => write!(f, "at most {most}"),
+            _ => write!(f, "at least {least}"),
+        },
+        _ => write!(f, "a whole number from {least} to {most}"),
+    }
+}
+
+// What would be right where a balance is wanted.
+fn put_balance<W: fmt::Write>(f: &mut fmt::Formatter<W>, found: Found<'_>) -> fmt::Result {
+    match found {
+        Found::Plain(Value::Integer(number)) if *number < 0 => write!(f, "at least -{MAX_MONEY}"),
+        Found::Plain(Value::Integer(_)) => write!(f, "at most {MAX_MONEY}"),
+        _ => write!(f, "a whole number from -{MAX_MONEY} to {MAX_MONEY}"),
+    }
+}
+
 impl fmt::Display for Right<'_> {
     fn fmt<W: fmt::Write>(&self, f: &mut fmt::Formatter<W>) -> fmt::Result {
         match (self.expected, self.found) {
-            (Expected::Whole(least, most), Found::Plain(Value::Integer(number))) => {
-                match u64::try_from(*number) {
-                    Ok(number) if number >= least => write!(f, "at most {most}"),
-                    _ => write!(f, "at least {least}"),
-                }
-            }
-            (Expected::Whole(least, most), _) => write!(f, "a whole number from {least} to {most}"),
-            (Expected::Balance, Found::Plain(Value::Integer(number))) if *number < 0 => {
-                write!(f, "at least -{MAX_MONEY}")
-            }
-            (Expected::Balance, Found::Plain(Value::Integer(_))) => write!(
-                f,
-                "at most {MAX_MONEY}"
-            ),
-            (Expected::Balance, _) => {
-                write!(f, "a whole number from -{MAX_MONEY} to {MAX_MONEY}")
-            }
+            (Expected::Whole(least, most), found) => put_whole(f, least, most, found),
+            (Expected::Balance, found) => put_balance(f, found),
             (Expected::Tenants, _) => {
                 write!(f, "1 to {MAX_TENANTS} tables, each begun by [[tenant]]")
             }
