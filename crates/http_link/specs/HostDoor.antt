@@ -1,4 +1,4 @@
--- The door of whoever runs the process, the host: what may be asked there, and what serving one request does.
+-- The door of the host, who runs the process: what may be asked there, and what serving one request does.
 use Rattle.std.specs.Prelude.{◌≡◌, ◌⊎◌, ℕ, List, [], ◌++◌, length, true, ◌==◌, if◌then◌else◌, codes}
 use Rattle.std.specs.Prelude.{Option, Some, None, Result, Ok, Err}
 use Rattle.std.specs.Str.{bytes_eq}

@@ -1,4 +1,4 @@
-//! What whoever runs the process asks for, by the head of a request.
+//! What the host asks for, by the head of a request.
 
 ghost use Rattle.std.specs.Prelude.{◌≡◌, length, option_map};
 ghost use Rattle.common_types.specs.Outcomes.{Gives};
@@ -9,7 +9,7 @@ ghost use Rattle.http_link.specs.Lines.{head_at, occurrence_at};
 use crate::fields::Found;
 use crate::request::{RequestHead, token_in};
 
-/// What whoever runs the process may ask for.
+/// What the host may ask for.
 #[derive(Clone, Copy, Debug, PartialEq, Eq)]
 pub enum HostRequest {
     /// Whether the process serves, `GET /health`.

@@ -1,4 +1,4 @@
-//! One request of whoever runs the process.
+//! One request of the host.
 
 ghost use Rattle.std.specs.Prelude.{◌≡◌, ◌≢◌, ◌↔◌, ◌<◌, ◌≤◌, ◌⊎◌, List, ℕ, length, Some, Err, IfOk};
 ghost use Rattle.std.specs.Io.KnownBytes.{Appends};
@@ -24,7 +24,7 @@ use crate::serve::{Before, Served, head_in, refuse};
 use crate::streams::LinkFault;
 use httparse::spans::{EMPTY_HEADER_SPAN, RequestSpans};
 
-/// Reads one request of whoever runs the process, asks the service where nothing refuses it, and writes the answer, behind
+/// Reads one request of the host, asks the service where nothing refuses it, and writes the answer, behind
 /// which the connection is closed. (RFC 9112, 2 and 9.6)
 ///
 /// A request has at most 8,192 bytes and 64 field lines in its head. Nothing behind its head is taken from the reader: a

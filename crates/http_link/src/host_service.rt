@@ -1,11 +1,11 @@
-//! What answers whoever runs the process.
+//! What answers the host.
 
 ghost use Rattle.std.specs.Prelude.{◌≡◌, List, ℕ};
 ghost use Rattle.http_link.specs.HostDoor.{HostAsked};
 
 use crate::host_request::HostRequest;
 
-/// What answers whoever runs the process, the host, at a door of their own.
+/// What answers the host, who runs the process, at a door of its own.
 pub trait HostService {
     /// What one question makes of a service: the service before, the question with the status that it was given, and
     /// the service after.

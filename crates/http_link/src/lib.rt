@@ -2,7 +2,7 @@
 //!
 //! - [`serve_one`] reads one request from a stream, asks a [`Service`] where nothing refuses it, and writes the answer;
 //!   [`serve_next`] does so for the requests of a connection, whose bytes an [`Inbox`] takes as they come.
-//! - [`serve_host`] does so for one request of whoever runs the process, which a [`HostService`] answers.
+//! - [`serve_host`] does so for one request of the host, which a [`HostService`] answers.
 //! - [`post`] sends a frame to a peer and reads its answer.
 //! - [`LinkFault`] and [`PostFault`] say why a connection ended.
 #![tactic(auto)]

@@ -73,6 +73,9 @@ struct Request<'b> {
 
 /// Reads one request, asks the service where nothing refuses it, and writes the answer. (RFC 9112, 2 and 9.3)
 ///
+/// It takes no byte more than that request has. Where a connection is served on, as the service does, call
+/// [`serve_next`](crate::serve_next): it reads as much at once as there is room for.
+///
 /// The room is for bodies, and has 34,000 bytes or more. A request has at most 8,192 bytes and 64 field lines in its
 /// head. Nothing behind its body is taken from the reader.
 ///
