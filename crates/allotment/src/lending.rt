@@ -51,6 +51,7 @@ impl Model for Lending {
 impl Lending {
     ghost use Rattle.std.specs.Prelude.{◌≡◌, ◌↔◌, ◌<◌, ◌≤◌, ℕ, length, true, false, nat_lt, replicate, IfNone, IfOk, IfSome, IsTrue, if◌then◌else◌};
     ghost use Rattle.allotment.specs.Loans.{max_places, max_tenants, given_back_by, is_granted, share_of, used_by};
+    ghost use Rattle.allotment.specs.WaitsKept.{IsQueue};
     ghost use Rattle.allotment.specs.Waits.{CameBack, IsNextInTurn, NobodyWaitsInVain, asked_for, given_up_by, kept_for, picked_up_by, waiting_of};
 
     /// Places that nobody uses, for which so many of each tenant may wait. Each tenant is sure of its share
@@ -92,6 +93,13 @@ impl Lending {
         ensures { result ≡ self.now.loans.share }
     {
         self.loans.share()
+    }
+
+    /// What holds of every lending, as the laws ask for it: no more wait than may, and nobody who could have a place.
+    pub fn is_queue(&self)
+        ensures { IsQueue self.now }
+    {
+        let _turn = self.turn;
     }
 
     /// How many places the tenant uses, those that are kept for one of it that waited included.
