@@ -6,9 +6,8 @@ ghost use Rattle.replay_text.specs.Printed.{line_of};
 ghost use Rattle.service.specs.Balances.{balance_lines, balances_told};
 
 use common_types::Name;
-use floor_core::Output;
 use ilp_addr::Moment;
-use replay_text::print_lines;
+use replay_text::put_answer;
 use std::alloc::{AllocError, Global};
 use tenant_core::{Book, Command};
 
@@ -43,6 +42,7 @@ fn put_all(
     Ok(())
 }
 
+#[tactic(auto, unfolding(replay_text::specs::Printed::line_of))]
 fn put_balances(
     alloc: Global,
     names: &[Name],
@@ -59,10 +59,5 @@ fn put_balances(
     let Ok(answer) = book.command(alloc, &Command::Balances, moment) else {
         return Err(AllocError);
     };
-    let outputs = [Output::Governed {
-        tenant,
-        answer: Ok(answer),
-    }];
-    let lines = print_lines(alloc, names, &outputs)?;
-    text.extend_from_slice(lines.as_slice())
+    put_answer(names, tenant, text, &Ok(answer))
 }
