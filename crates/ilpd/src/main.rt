@@ -24,7 +24,7 @@ use oer_core::Counted;
 use reasons::reason_of;
 pub use replay_text::{ReplayFault, replay};
 use service::{
-    Doors, Extent, HostDoor, Report, ServeFault, can_open, files_of, serve, without_line_feed,
+    Doors, Extent, HostDoor, Plan, ServeFault, can_open, files_of, serve, without_line_feed,
 };
 use std::alloc::AllocError;
 use std::io::ErrorKind;
@@ -184,13 +184,12 @@ fn serve_at<
 >(
     rt: &R,
     setup: &[u8],
-    extent: Extent,
-    report: Report,
+    plan: Plan,
     address: &str,
     host: Option<HostWords<'_>>,
 ) -> Result<(), Ending>
-    requires workers { (1 ≤ extent.workers) × (extent.workers ≤ max_places) }
-    requires connections { (1 ≤ extent.connections) × (extent.connections ≤ max_workers) }
+    requires workers { (1 ≤ plan.extent.workers) × (plan.extent.workers ≤ max_places) }
+    requires connections { (1 ≤ plan.extent.connections) × (plan.extent.connections ≤ max_workers) }
 {
     let alloc = rt.alloc();
     admin_text::laws::setups();
@@ -201,17 +200,17 @@ fn serve_at<
     };
     let Some(words) = host else {
         let packets = listener_on(rt, address)?;
-        expect_files(rt, &packets, files_of(extent, false))?;
+        expect_files(rt, &packets, files_of(plan.extent, false))?;
         println!(rt; "listening {address}").map_err(printing)?;
-        return serve_by(rt, &setup, extent, report, &packets, None);
+        return serve_by(rt, &setup, plan, &packets, None);
     };
     let token = token_in(rt, words.token_file)?;
     let packets = listener_on(rt, address)?;
     let listener = listener_on(rt, words.address)?;
     let door = HostDoor::new(&listener, &token, &packets).map_err(printing)?;
-    expect_files(rt, &packets, files_of(extent, true))?;
+    expect_files(rt, &packets, files_of(plan.extent, true))?;
     println!(rt; "listening {address}\nhost {}", words.address).map_err(printing)?;
-    serve_by(rt, &setup, extent, report, &packets, Some(door))
+    serve_by(rt, &setup, plan, &packets, Some(door))
 }
 
 // Serves the setup at these doors, by the system's clock.
@@ -227,30 +226,19 @@ fn serve_by<
 >(
     rt: &R,
     setup: &Setup,
-    extent: Extent,
-    report: Report,
+    plan: Plan,
     packets: &TcpListener,
     host: Option<HostDoor<'_>>,
 ) -> Result<(), Ending>
     requires tenants { (1 ≤ length setup.now.tenants) × (length setup.now.tenants ≤ max_tenants) }
-    requires workers { (1 ≤ extent.workers) × (extent.workers ≤ max_places) }
-    requires connections { (1 ≤ extent.connections) × (extent.connections ≤ max_workers) }
+    requires workers { (1 ≤ plan.extent.workers) × (plan.extent.workers ≤ max_places) }
+    requires connections { (1 ≤ plan.extent.connections) × (plan.extent.connections ≤ max_workers) }
 {
-    warn(rt, extent, setup.tenants.as_slice().len());
+    warn(rt, plan.extent, setup.tenants.as_slice().len());
     let clock = SystemClock::new(rt);
     let mut writer = io::writer(rt);
     let doors = Doors { packets, host };
-    serve(
-        rt,
-        rt.alloc(),
-        setup,
-        extent,
-        report,
-        doors,
-        &clock,
-        &mut writer,
-    )
-    .map_err(ended_by)
+    serve(rt, rt.alloc(), setup, plan, doors, &clock, &mut writer).map_err(ended_by)
 }
 
 // How a run ends whose service ended so.
@@ -299,8 +287,8 @@ fn run<
                 connections,
                 rounds,
             };
-            let setup = setup.as_slice();
-            serve_at(rt, setup, extent, report, line.address, line.host)
+            let plan = Plan { extent, report };
+            serve_at(rt, setup.as_slice(), plan, line.address, line.host)
         }
         Task::Replay => {
             let mut reader = Counted::new(rt.reader());

@@ -44,7 +44,7 @@ use Rattle.http_link.specs.declared.streams.LinkFault.{LinkFault}
 use Rattle.service.specs.declared.worker.desk.Desk.{Desk}
 use Rattle.service.specs.declared.office.Office.{Office}
 use Rattle.service.specs.Auditing.{HaveEnded, IsAudited}
-use Rattle.service.specs.declared.running.serving.Report.{Report}
+use Rattle.service.specs.declared.running.plan.Report.{Report}
 use Rattle.service.specs.declared.worker.Over.{Over}
 use Rattle.service.specs.declared.worker.Over.TheVariants.{Ended, Closed, Yielded}
 use Rattle.service.specs.Served.{lines_upto, tenant_named}

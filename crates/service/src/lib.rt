@@ -6,6 +6,7 @@
 //! - `host`: the host's door: who waits there, and what the host is told.
 //! - `running`: how a service begins, runs and ends.
 //! - `office`: what all of them share.
+//! - `system`: what all of them run on.
 #![tactic(auto)]
 
 mod connection;
@@ -13,10 +14,12 @@ mod host;
 mod link;
 mod office;
 mod running;
+mod system;
 mod worker;
 
 pub use host::hosting::HostDoor;
 pub use running::ending::ServeFault;
 pub use running::files::{can_open, files_of};
-pub use running::serving::{Doors, Extent, Report, serve};
+pub use running::plan::{Extent, Plan, Report};
+pub use running::serving::{Doors, serve};
 pub use worker::answering::without_line_feed;

@@ -6,4 +6,5 @@ pub mod ending;
 pub mod files;
 pub mod meeting;
 pub mod opening;
+pub mod plan;
 pub mod serving;

@@ -12,6 +12,7 @@ pub mod desk;
 use crate::connection::pace::{Activity, Rush, yields};
 use crate::connection::timed::{Paced, Timed};
 use crate::office::Office;
+use crate::system::System;
 use crate::worker::desk::Desk;
 use http_link::{Inbox, LinkFault, RequestKind, Served, Service, serve_next};
 use one_list::Run;
@@ -21,7 +22,7 @@ use std::sync::Wait;
 use std::thread;
 use std::thread::Threads;
 use std::time::{Duration, Instant};
-use workers::{Clock, Lane, Status};
+use workers::{Clock, Job, Lane, Status};
 
 /// How a connection ended whose devices did not fail.
 #[derive(Clone, Copy, Debug, PartialEq, Eq)]
@@ -52,27 +53,35 @@ pub struct Worker<'a, H, C, J: Run> {
 
 impl<'a, H, C, J: Run> Worker<'a, H, C, J> {
     pub fn new(
-        handle: &'a H,
-        alloc: Global,
+        system: &'a System<'_, H, C>,
         office: &'a Office<J>,
-        clock: &'a C,
         listener: &'a TcpListener,
         desk: Desk<J>,
     ) -> Worker<'a, H, C, J>
         requires { desk.seat.meters ≡ office.now.meters.id }
         ensures desk { result.desk ≡ desk }
         ensures office { result.office.now ≡ office.now }
-        ensures clock { result.clock.now ≡ clock.now }
+        ensures clock { result.clock.now ≡ system.now.clock.now }
     {
         Worker {
-            handle,
-            alloc,
+            handle: system.handle,
+            alloc: system.alloc,
             office,
-            clock,
+            clock: system.clock,
             listener,
             failed: false,
             status: 0,
             desk,
+        }
+    }
+
+    fn system(&self) -> System<'a, H, C>
+        ensures { result.clock.now ≡ self.now.clock.now }
+    {
+        System {
+            handle: self.handle,
+            alloc: self.alloc,
+            clock: self.clock,
         }
     }
 
@@ -105,11 +114,13 @@ impl<H: Wait + Net<Stream = TcpStream> + std::time::Clock, C: Clock, J: Run> Ser
             self.status = Status::Unavailable.code();
             return self.status;
         }
-        let (handle, alloc, clock) = (self.handle, self.alloc, self.clock);
-        let status = self
-            .desk
-            .carry(handle, alloc, office, clock, tenant, token, body);
-        self.status = status.code();
+        let job = Job {
+            tenant,
+            token,
+            frame: body,
+        };
+        let system = self.system();
+        self.status = self.desk.carry(&system, office, job).code();
         self.status
     }
 
@@ -147,8 +158,8 @@ impl<H: Wait + Net<Stream = TcpStream> + std::time::Clock, C: Clock, J: Run> Wor
             office.refuse_token(tenant);
             return Status::Unauthorized;
         }
-        self.desk
-            .obey(self.handle, self.alloc, office, self.clock, tenant, body)
+        let system = self.system();
+        self.desk.obey(&system, office, tenant, body)
     }
 
     // Accepts a connection, and says whether one came. A try that fails is made again after a pause, and is reported in the end,

@@ -12,7 +12,7 @@ mod patience;
 pub mod wire;
 
 use admin_text::read_setup;
-use service::{Doors, Extent, Report, ServeFault, serve};
+use service::{Doors, Extent, Plan, Report, ServeFault, serve};
 use std::alloc::Global;
 use std::io::{Read, Write};
 use std::net::{Net, OpenListener, Shutdown, SocketAddr, TcpListener, TcpStream};
@@ -125,8 +125,7 @@ fn serve_as<
         rt,
         rt.alloc(),
         &setup,
-        extent,
-        report,
+        Plan { extent, report },
         Doors {
             packets: listener,
             host: None,

@@ -6,6 +6,7 @@ ghost use Rattle.service.specs.Auditing.{HaveEnded, HaveRolled, IsAudited, IsCou
 
 use crate::office::Office;
 use crate::running::ending::AuditEnd;
+use crate::system::System;
 use books_shared::Share;
 use meters::{MeterSeat, Meters};
 use one_list::Run;
@@ -17,31 +18,29 @@ use workers::{Clock, GovernFault, govern};
 
 // Rolls a tenant, and keeps the period that it closes. A roll that is refused, but for want of memory, is left to the audit.
 fn roll<J: Run, H: Wait, C: Clock>(
-    handle: &H,
-    alloc: Global,
+    system: &System<'_, H, C>,
     office: &Office<J>,
     meters: &Meters,
     seat: &mut MeterSeat,
     share: &mut Share<J>,
-    clock: &C,
     tenant: usize,
     periods: &mut Vec<Period>,
 ) -> Result<(), AllocError>
     requires seat { seat.old.meters ≡ meters.now.id }
     requires books { tenant < office.now.books.tenants }
     requires meters { tenant < meters.now.tenants }
-    ensures rolled { OnOk result (WasRolled (C.gives clock.now) tenant share.old share.new) }
+    ensures rolled { OnOk result (WasRolled (C.gives system.now.clock.now) tenant share.old share.new) }
     ensures same_meters { seat.new.meters ≡ seat.old.meters }
 {
     periods.reserve(1)?;
     let answer = govern(
-        handle,
-        alloc,
+        system.handle,
+        system.alloc,
         &office.books,
         meters,
         seat,
         share,
-        clock,
+        system.clock,
         tenant,
         &Command::Roll,
     );
@@ -62,61 +61,51 @@ fn keep(
 
 // Rolls all tenants, one after another, with these meters.
 fn roll_below<J: Run, H: Wait, C: Clock>(
-    handle: &H,
-    alloc: Global,
+    system: &System<'_, H, C>,
     office: &Office<J>,
     meters: &Meters,
     seat: &mut MeterSeat,
     share: &mut Share<J>,
-    clock: &C,
     periods: &mut Vec<Period>,
 ) -> Result<(), AllocError>
     requires seat { seat.old.meters ≡ meters.now.id }
     requires meters { meters.now.tenants ≡ office.now.books.tenants }
-    ensures { OnOk result (HaveRolled (C.gives clock.now) office.now.books.tenants share.old share.new) }
+    ensures { OnOk result (HaveRolled (C.gives system.now.clock.now) office.now.books.tenants share.old share.new) }
 {
     for tenant in 0..office.books.tenants() {
-        roll(
-            handle, alloc, office, meters, seat, share, clock, tenant, periods,
-        )?;
+        roll(system, office, meters, seat, share, tenant, periods)?;
     }
     Ok(())
 }
 
 // The same, with meters that nobody reads.
 fn roll_each<J: Run, H: Wait, C: Clock>(
-    handle: &H,
-    alloc: Global,
+    system: &System<'_, H, C>,
     office: &Office<J>,
     share: &mut Share<J>,
-    clock: &C,
     periods: &mut Vec<Period>,
 ) -> Result<(), AllocError>
-    ensures { OnOk result (HaveRolled (C.gives clock.now) office.now.books.tenants share.old share.new) }
+    ensures { OnOk result (HaveRolled (C.gives system.now.clock.now) office.now.books.tenants share.old share.new) }
 {
     let tenants = office.books.tenants();
     if tenants == 0 {
         return Ok(());
     }
-    let (meters, mut seat) = Meters::new(alloc, tenants)?;
-    roll_below(
-        handle, alloc, office, &meters, &mut seat, share, clock, periods,
-    )
+    let (meters, mut seat) = Meters::new(system.alloc, tenants)?;
+    roll_below(system, office, &meters, &mut seat, share, periods)
 }
 
 // Closes the running period of each tenant by one of the shares, where the run is audited, and keeps what was closed. The one
 // error is that memory was refused.
 fn roll_all<J: Run, H: Wait, C: Clock>(
-    handle: &H,
-    alloc: Global,
+    system: &System<'_, H, C>,
     audited: bool,
     office: &Office<J>,
     shares: &mut Vec<Share<J>>,
-    clock: &C,
     periods: &mut Vec<Period>,
 ) -> Result<(), AllocError>
     requires { 0 < vec_len shares.old }
-    ensures { OnOk result (HaveEnded (C.gives clock.now) audited office.now.books.tenants shares.old.items shares.new.items) }
+    ensures { OnOk result (HaveEnded (C.gives system.now.clock.now) audited office.now.books.tenants shares.old.items shares.new.items) }
 {
     if !audited {
         return Ok(());
@@ -124,7 +113,7 @@ fn roll_all<J: Run, H: Wait, C: Clock>(
     let Some(mut share) = shares.pop() else {
         unreachable!();
     };
-    let rolled = roll_each(handle, alloc, office, &mut share, clock, periods);
+    let rolled = roll_each(system, office, &mut share, periods);
     shares.push_reserved(share);
     rolled
 }
@@ -186,22 +175,21 @@ fn lacked(alloc: Global) -> Found
 /// Closes the running periods, and audits what the workers did, where that is wanted: by the periods that were closed before,
 /// if there was memory to put them together. One of the workers closes the last ones.
 pub fn finish_audit<J: Run, H: Wait, C: Clock>(
-    handle: &H,
-    alloc: Global,
+    system: &System<'_, H, C>,
     wanted: bool,
     office: &Office<J>,
     shares: &mut Vec<Share<J>>,
-    clock: &C,
     periods: Option<Vec<Period>>,
 ) -> Found
     requires { 0 < vec_len shares.old }
-    ensures ended { result.end ≡ AuditEnd.Good → HaveEnded (C.gives clock.now) wanted office.now.books.tenants shares.old.items shares.new.items }
+    ensures ended { result.end ≡ AuditEnd.Good → HaveEnded (C.gives system.now.clock.now) wanted office.now.books.tenants shares.old.items shares.new.items }
     ensures audited { result.end ≡ AuditEnd.Good → IsAudited wanted shares.new.items result.line.items }
 {
+    let alloc = system.alloc;
     let Some(mut periods) = periods else {
         return lacked(alloc);
     };
-    match roll_all(handle, alloc, wanted, office, shares, clock, &mut periods) {
+    match roll_all(system, wanted, office, shares, &mut periods) {
         Ok(()) => match audited(alloc, wanted, periods.as_slice(), shares.as_slice()) {
             Ok(found) => found,
             Err(AllocError) => lacked(alloc),

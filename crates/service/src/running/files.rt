@@ -6,7 +6,7 @@ ghost use Rattle.books_shared.specs.Gathers.{max_workers};
 ghost use Rattle.service.specs.Files.{files_of};
 
 use crate::host::callers::MAX_CALLERS;
-use crate::running::serving::Extent;
+use crate::running::plan::Extent;
 use std::alloc::{AllocError, Global};
 use std::net::TcpListener;
 

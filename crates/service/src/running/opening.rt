@@ -1,6 +1,7 @@
 //! What a service begins with.
 
 ghost use Rattle.std.specs.Prelude.{ℕ, ◌≡◌, ◌≤◌, length, map, vec_len, true, All, IfOk};
+ghost use Rattle.allotment.specs.Loans.{max_places};
 ghost use Rattle.tenant_core.specs.Limits.{max_tenants};
 ghost use Rattle.meters.specs.Seats.{count_of, empty_seat};
 ghost use Rattle.meters.specs.declared.kind.Kind as meter;
@@ -10,6 +11,7 @@ ghost use Rattle.service.specs.Answering.{IsFresh, IsOfficeOf};
 
 use crate::connection::door::Door;
 use crate::office::{Office, Terms};
+use crate::running::plan::{Extent, Plan, most_waiting_of, total_of};
 use admin_text::Setup;
 use books_shared::{Books, Share};
 use meters::{MeterSeat, Meters};
@@ -29,39 +31,38 @@ pub struct Begun<J: Run> {
     pub shares: Vec<Share<J>>,
 }
 
-/// The office of the tenants of a setup, to whom nothing has happened, for so many workers, who keep receipts where the run is
-/// audited, with these ways in and out. The list of what is done to their books has just been opened, for so many tenants and
-/// workers.
+/// The office of the tenants of a setup, to whom nothing has happened, for what is planned: with a worker for each connection,
+/// who keeps receipts where the run is audited. The list of what is done to their books has just been opened, for so many
+/// tenants and workers.
 pub fn open_office<J: Run>(
     alloc: Global,
     opened: Opened,
     setup: &Setup,
-    workers: usize,
-    audited: bool,
-    places: Places,
-    door: Door,
+    plan: Plan,
 ) -> Result<Begun<J>, AllocError>
     requires list { (opened.table ≡ J.table) × (opened.size ≡ J.size) }
-    requires size { J.size ≡ record { tenants = length setup.now.tenants; workers = workers } }
+    requires size { J.size ≡ record { tenants = length setup.now.tenants; workers = plan.extent.connections } }
     requires openings { J.openings ≡ openings_of setup.now.tenants setup.now.start }
     requires tenants { (1 ≤ length setup.now.tenants) × (length setup.now.tenants ≤ max_tenants) }
-    requires workers { (1 ≤ workers) × (workers ≤ max_workers) }
+    requires workers { (1 ≤ plan.extent.workers) × (plan.extent.workers ≤ max_places) }
+    requires connections { (1 ≤ plan.extent.connections) × (plan.extent.connections ≤ max_workers) }
     ensures known { IfOk result (λ begun. IsOfficeOf setup.now begun.office) }
     ensures first { IfOk result (λ begun. begun.first ≡ empty_seat begun.office.meters.id true) }
     ensures zero { IfOk result (λ begun. (tenant : ℕ) (kind : meter.Kind) → count_of tenant kind begun.first ≡ 0) }
-    ensures each { IfOk result (λ begun. vec_len begun.shares ≡ workers) }
+    ensures each { IfOk result (λ begun. vec_len begun.shares ≡ plan.extent.connections) }
     ensures fresh { IfOk result (λ begun. All IsFresh begun.shares.items) }
 {
-    let tenants = setup.tenants.as_slice();
-    let (books, shares) = Books::new(alloc, opened, tenants, setup.start, workers, audited)?;
+    let Plan { extent, report } = plan;
+    let (tenants, workers) = (setup.tenants.as_slice(), extent.connections);
+    let (books, shares) = Books::new(alloc, opened, tenants, setup.start, workers, report.audit)?;
     let (meters, first) = Meters::new(alloc, tenants.len())?;
     let office = Office {
         names: setup.names(alloc)?,
         terms: terms_of(alloc, tenants)?,
         books,
         meters,
-        places,
-        door,
+        places: places_of(alloc, extent, tenants.len())?,
+        door: Door::new(total_of(extent)),
         refused_tokens: counters(alloc, tenants.len())?,
         start: setup.start,
     };
@@ -70,6 +71,15 @@ pub fn open_office<J: Run>(
         first,
         shares,
     })
+}
+
+// The places that so many tenants share.
+fn places_of(alloc: Global, extent: Extent, tenants: usize) -> Result<Places, AllocError>
+    requires workers { (1 ≤ extent.workers) × (extent.workers ≤ max_places) }
+    requires tenants { (1 ≤ tenants) × (tenants ≤ max_tenants) }
+{
+    let waiting = most_waiting_of(extent, tenants);
+    Places::new(alloc, extent.workers, tenants, waiting)
 }
 
 // So many counters, which stand at nothing.

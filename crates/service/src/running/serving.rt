@@ -1,6 +1,6 @@
 //! The service: all its workers, and what they counted.
 
-ghost use Rattle.std.specs.Prelude.{ℕ, ◌≡◌, ◌+◌, ◌≤◌, ◌<◌, ◌⊎◌, ◌++◌, [], length, map, vec_len, vec_capacity, true, option_map, slice_index_or, All, IfOk, OnErr, OnOk};
+ghost use Rattle.std.specs.Prelude.{ℕ, ◌≡◌, ◌+◌, ◌≤◌, ◌<◌, ◌⊎◌, ◌++◌, [], length, map, vec_len, vec_capacity, true, false, is_ok, option_map, slice_index_or, All, IfOk, OnErr, OnOk};
 ghost use Rattle.std.specs.Io.KnownBytes.{Appends};
 ghost use Rattle.std.specs.List.{sum_by};
 ghost use Rattle.allotment.specs.Loans.{max_places};
@@ -12,7 +12,6 @@ ghost use Rattle.meters.specs.Seats.{count_of, max_splits};
 ghost use Rattle.meters.specs.declared.kind.Kind as meter;
 ghost use Rattle.service.specs.Answering.{HasToldCounts, HasToldCountsIn, HasWorked, HaveCounted, IsFresh, IsNew};
 ghost use Rattle.service.specs.Hosting.{HasStayed, IsIdle, seats_in};
-ghost use Rattle.service.specs.Extents.{most_waiting_of, total_of};
 ghost use Rattle.service.specs.Served.{line_of, lines_upto};
 
 use crate::connection::door::Door;
@@ -24,6 +23,8 @@ use crate::running::balances::balance_lines;
 use crate::running::ending::{ServeFault, end_of};
 use crate::running::meeting::Meeting;
 use crate::running::opening::{Begun, open_office};
+use crate::running::plan::Plan;
+use crate::system::System;
 use crate::worker::Worker;
 use crate::worker::desk::Desk;
 use admin_text::Setup;
@@ -40,7 +41,7 @@ use std::sync::Wait;
 use std::thread;
 use std::thread::{Threads, join_mut};
 use tenant_core::Period;
-use workers::{Lane, Places, StartFault, run_workers};
+use workers::{Lane, StartFault, run_workers};
 
 /// What workers leave: what each has counted in books, the periods that they closed, where the run is audited and there was
 /// memory to put them together, and whether one of them could not accept a connection.
@@ -58,13 +59,11 @@ fn hired<
     C: workers::Clock,
     J: Run,
 >(
-    handle: &'a H,
-    alloc: Global,
+    system: &'a System<'_, H, C>,
     office: &'a Office<J>,
     first: &mut MeterSeat,
     mut shares: Vec<Share<J>>,
     listener: &'a TcpListener,
-    clock: &'a C,
 ) -> Result<Vec<Worker<'a, H, C, J>>, AllocError>
     requires here { first.old.meters ≡ office.now.meters.id }
     requires first { first.old.first ≡ true }
@@ -79,13 +78,14 @@ fn hired<
     ensures each { IfOk result (λ lanes. vec_len lanes ≡ vec_len shares) }
     ensures new { IfOk result (λ lanes. All (λ lane. IsNew lane.desk) lanes.items) }
     ensures office { IfOk result (λ lanes. All (λ lane. lane.office.now ≡ office.now) lanes.items) }
-    ensures clock { IfOk result (λ lanes. All (λ lane. lane.clock.now ≡ clock.now) lanes.items) }
+    ensures clock { IfOk result (λ lanes. All (λ lane. lane.clock.now ≡ system.now.clock.now) lanes.items) }
 {
+    let alloc = system.alloc;
     let mut lanes = Vec::with_capacity(alloc, shares.len())?;
     while let Some(share) = shares.pop() {
         let slot = Slot::new(alloc)?;
         let desk = Desk::new(alloc, share, office.meters.split(first), slot);
-        lanes.push_reserved(Worker::new(handle, alloc, office, clock, listener, desk));
+        lanes.push_reserved(Worker::new(system, office, listener, desk));
     }
     Ok(lanes)
 }
@@ -276,13 +276,11 @@ pub fn run_all<
     C: workers::Clock + Sync,
     J: Run + Send + Sync,
 >(
-    handle: &'a H,
-    alloc: Global,
+    system: &'a System<'_, H, C>,
     office: &'a Office<J>,
     first: &mut MeterSeat,
     shares: Vec<Share<J>>,
     doors: Doors<'a>,
-    clock: &'a C,
 ) -> Result<Done<J>, ServeFault>
     requires here { first.old.meters ≡ office.now.meters.id }
     requires first { first.old.first ≡ true }
@@ -295,11 +293,16 @@ pub fn run_all<
     ensures joined { OnOk result (first.new.joins ≡ first.new.splits) }
     ensures each { IfOk result (λ done. vec_len done.shares ≡ vec_len shares) }
     ensures first { first.new.first ≡ true }
-    ensures counted { IfOk result (λ done. HaveCounted (C.gives clock.now) office.now (vec_len shares) done.shares.items
+    ensures counted { IfOk result (λ done. HaveCounted (C.gives system.now.clock.now) office.now (vec_len shares) done.shares.items
         (λ tenant kind. count_of tenant kind first.new)) }
 {
+    let System {
+        handle,
+        alloc,
+        clock,
+    } = *system;
     let room = Vec::with_capacity(alloc, shares.len())?;
-    let mut lanes = hired(handle, alloc, office, first, shares, doors.packets, clock)?;
+    let mut lanes = hired(system, office, first, shares, doors.packets)?;
     let mut porter = host_at(handle, alloc, office, first, doors.host)?;
     work_all(handle, office, clock, lanes.as_mut_slice(), &mut porter)?;
     host_leaves(office, first, porter);
@@ -375,45 +378,6 @@ pub struct Doors<'a> {
     pub host: Option<HostDoor<'a>>,
 }
 
-/// How many threads serve, how many packets are exchanged with next peers at once, and how many connections are served.
-#[derive(Clone, Copy)]
-pub struct Extent {
-    /// 1 to 64: so many packets may be on their way to next peers at once.
-    pub workers: usize,
-    /// 1 to 4,096: so many connections may be open at once, each on a thread of its own.
-    pub connections: usize,
-    /// How many connections are served for each of `workers` before the service ends, if it does.
-    pub rounds: Option<u32>,
-}
-
-/// What a service tells in the end beside the lines of its tenants.
-#[derive(Clone, Copy, Debug, PartialEq, Eq)]
-pub struct Report {
-    /// What the command `balances` would tell of each tenant, before these lines.
-    pub balances: bool,
-    /// Whether receipts are kept of all that is done, and audited; and what the audit found, after these lines.
-    pub audit: bool,
-}
-
-// How many connections are served in all: so many rounds for each worker, or as many as can be counted.
-fn total_of(extent: Extent) -> u64
-    requires { extent.workers ≤ max_places }
-    ensures { result ≡ total_of extent.workers extent.rounds }
-{
-    match extent.rounds {
-        Some(rounds) => extent.workers as u64 * u64::from(rounds),
-        None => u64::MAX,
-    }
-}
-
-// How many packets of each tenant may wait for a place: what half of the connections beyond the places come to for each.
-fn most_waiting_of(extent: Extent, tenants: usize) -> usize
-    requires { 1 ≤ tenants }
-    ensures { result ≡ most_waiting_of extent.connections extent.workers tenants }
-{
-    extent.connections.saturating_sub(extent.workers) / 2 / tenants
-}
-
 /// Serves connections, each on a thread of its own, joins the threads once as many were served as are to be, and writes what
 /// the command `balances` would tell of each tenant, where that is wanted, a line for each tenant, and what an audit found, where
 /// one is wanted.
@@ -445,30 +409,24 @@ pub fn serve<
     handle: &H,
     alloc: Global,
     setup: &Setup,
-    extent: Extent,
-    report: Report,
+    plan: Plan,
     doors: Doors<'_>,
     clock: &C,
     writer: &mut W,
 ) -> Result<(), ServeFault>
     requires tenants { (1 ≤ length setup.now.tenants) × (length setup.now.tenants ≤ max_tenants) }
-    requires workers { (1 ≤ extent.workers) × (extent.workers ≤ max_places) }
-    requires connections { (1 ≤ extent.connections) × (extent.connections ≤ max_workers) }
-    ensures { OnOk result (HasToldCounts (C.gives clock.now) setup.now extent.connections report (W.contents writer.old) (W.contents writer.new)) }
+    requires workers { (1 ≤ plan.extent.workers) × (plan.extent.workers ≤ max_places) }
+    requires connections { (1 ≤ plan.extent.connections) × (plan.extent.connections ≤ max_workers) }
+    ensures { OnOk result (HasToldCounts (C.gives clock.now) setup.now plan.extent.connections plan.report (W.contents writer.old) (W.contents writer.new)) }
 {
-    let tenants = setup.tenants.as_slice().len();
-    let opened = Opened::new(alloc, tenants, extent.connections)?;
-    let places = Places::new(
+    let system = System {
+        handle,
         alloc,
-        extent.workers,
-        tenants,
-        most_waiting_of(extent, tenants),
-    )?;
-    let door = Door::new(total_of(extent));
-    let workers = extent.connections;
-    serve_run::<Brand, _, _, _>(
-        handle, alloc, opened, setup, workers, report, places, door, doors, clock, writer,
-    )
+        clock,
+    };
+    let tenants = setup.tenants.as_slice().len();
+    let opened = Opened::new(alloc, tenants, plan.extent.connections)?;
+    serve_run::<Brand, _, _, _>(system, opened, setup, plan, doors, writer)
 }
 
 // Serves, with one list of all that is done to the books, which has just been opened.
@@ -478,45 +436,35 @@ fn serve_run<
     C: workers::Clock + Sync,
     W: Write,
 >(
-    handle: &H,
-    alloc: Global,
+    system: System<'_, H, C>,
     opened: Opened,
     setup: &Setup,
-    workers: usize,
-    report: Report,
-    places: Places,
-    door: Door,
+    plan: Plan,
     doors: Doors<'_>,
-    clock: &C,
     writer: &mut W,
 ) -> Result<(), ServeFault>
     requires list { (opened.table ≡ J.table) × (opened.size ≡ J.size) }
-    requires size { J.size ≡ record { tenants = length setup.now.tenants; workers = workers } }
+    requires size { J.size ≡ record { tenants = length setup.now.tenants; workers = plan.extent.connections } }
     requires openings { J.openings ≡ openings_of setup.now.tenants setup.now.start }
     requires tenants { (1 ≤ length setup.now.tenants) × (length setup.now.tenants ≤ max_tenants) }
-    requires workers { (1 ≤ workers) × (workers ≤ max_workers) }
-    ensures { OnOk result (HasToldCountsIn J.Run (C.gives clock.now) setup.now workers report (W.contents writer.old) (W.contents writer.new)) }
+    requires workers { (1 ≤ plan.extent.workers) × (plan.extent.workers ≤ max_places) }
+    requires connections { (1 ≤ plan.extent.connections) × (plan.extent.connections ≤ max_workers) }
+    ensures { OnOk result (HasToldCountsIn J.Run (C.gives system.entry.clock.now) setup.now plan.extent.connections plan.report
+        (W.contents writer.old) (W.contents writer.new)) }
 {
+    let (alloc, report) = (system.alloc, plan.report);
     let Begun {
         office,
         mut first,
         shares,
-    } = open_office::<J>(alloc, opened, setup, workers, report.audit, places, door)?;
-    let done = run_all(handle, alloc, &office, &mut first, shares, doors, clock)?;
+    } = open_office::<J>(alloc, opened, setup, plan)?;
+    let done = run_all(&system, &office, &mut first, shares, doors)?;
     let Done {
         mut shares,
         periods,
         failed,
     } = done;
-    let Found { line, end } = finish_audit(
-        handle,
-        alloc,
-        report.audit,
-        &office,
-        &mut shares,
-        clock,
-        periods,
-    );
+    let Found { line, end } = finish_audit(&system, report.audit, &office, &mut shares, periods);
     let was_stopped = office.door.is_closed();
     let Office {
         books,
@@ -530,22 +478,34 @@ fn serve_run<
         Ok(gathered) => {
             let text = balance_lines(alloc, report.balances, names, gathered)?;
             tell(alloc, text, names, &totals, line.as_slice(), writer)?;
-            end_of(failed, was_stopped, end)?;
-            Ok(())
+            end_of(failed, was_stopped, end)
         }
-        Err(fault) => {
-            let (line, fault) = end_of_gathering(alloc, &fault, report.audit)?;
-            tell(
-                alloc,
-                Vec::new(alloc),
-                names,
-                &totals,
-                line.as_slice(),
-                writer,
-            )?;
-            Err(fault)
-        }
+        Err(fault) => tell_ungathered(alloc, &fault, report.audit, names, &totals, writer),
     }
+}
+
+// Writes the lines of the tenants where the books were not gathered, and gives how the service ends.
+fn tell_ungathered<J: Run, W: Write>(
+    alloc: Global,
+    fault: &GatherFault<J>,
+    audited: bool,
+    names: &[Name],
+    totals: &Totals,
+    writer: &mut W,
+) -> Result<(), ServeFault>
+    requires { length names.now ≤ totals.now.tenants }
+    ensures { is_ok result ≡ false }
+{
+    let (line, fault) = end_of_gathering(alloc, fault, audited)?;
+    tell(
+        alloc,
+        Vec::new(alloc),
+        names,
+        totals,
+        line.as_slice(),
+        writer,
+    )?;
+    Err(fault)
 }
 
 // What is told last where the books were not gathered, and how the service ends.

@@ -6,6 +6,7 @@ ghost use Rattle.service.specs.Answering.{IsPrinted, IsTold, IsUntouched, WasCar
 
 use crate::link::PeerLink;
 use crate::office::Office;
+use crate::system::System;
 use crate::worker::desk::Desk;
 use admin_text::parse_command;
 use common_types::ReadError;
@@ -28,30 +29,22 @@ impl<J: Run> Desk<J> {
     /// Carries a packet of a tenant of the office, through a link to its next peers, and gives the status of the answer.
     pub fn carry<H: Wait + Net<Stream = TcpStream> + std::time::Clock, C: Clock>(
         &mut self,
-        handle: &H,
-        alloc: Global,
+        system: &System<'_, H, C>,
         office: &Office<J>,
-        clock: &C,
-        tenant: usize,
-        token: &[u8],
-        frame: &[u8],
+        job: Job<'_>,
     ) -> Status
         requires seat { self.old.seat.meters ≡ office.now.meters.id }
-        requires tenant { tenant < office.now.books.tenants }
-        ensures carried { WasCarried (C.gives clock.now) self.old tenant token.now frame.now result self.new }
+        requires tenant { job.tenant < office.now.books.tenants }
+        ensures carried { WasCarried (C.gives system.now.clock.now) self.old
+            job.entry.tenant job.entry.token.now job.entry.frame.now result self.new }
         ensures same_meters { self.new.seat.meters ≡ self.old.seat.meters }
         ensures told { self.new.told ≡ self.old.told }
     {
         let (terms, places) = (office.terms.as_slice(), &office.places);
-        let mut link = PeerLink::new(handle, clock, terms, places, self.sent);
-        let job = Job {
-            tenant,
-            token,
-            frame,
-        };
+        let mut link = PeerLink::new(system.handle, system.clock, terms, places, self.sent);
         let reply = carry(
-            handle,
-            alloc,
+            system.handle,
+            system.alloc,
             &office.books,
             &office.meters,
             &mut self.seat,
@@ -59,7 +52,7 @@ impl<J: Run> Desk<J> {
             &mut self.share,
             &mut link,
             &NoGate,
-            clock,
+            system.clock,
             job,
         );
         self.sent = link.sends();
@@ -94,20 +87,18 @@ impl<J: Run> Desk<J> {
     /// Does what stands in a body, where it is a command, for a tenant of the office, and gives the status of the answer.
     pub fn obey<H: Wait, C: Clock>(
         &mut self,
-        handle: &H,
-        alloc: Global,
+        system: &System<'_, H, C>,
         office: &Office<J>,
-        clock: &C,
         tenant: usize,
         body: &[u8],
     ) -> Status
         requires seat { self.old.seat.meters ≡ office.now.meters.id }
         requires tenant { tenant < office.now.books.tenants }
-        ensures obeyed { WasObeyed (C.gives clock.now) (command_in (command_line body.now)) office.now self.old tenant result self.new }
+        ensures obeyed { WasObeyed (C.gives system.now.clock.now) (command_in (command_line body.now)) office.now self.old tenant result self.new }
         ensures same_meters { self.new.seat.meters ≡ self.old.seat.meters }
         ensures told { self.new.told ≡ self.old.told }
     {
-        let command = match parse_command(alloc, without_line_feed(body)) {
+        let command = match parse_command(system.alloc, without_line_feed(body)) {
             Ok(command) => command,
             Err(ReadError::Fault(_)) => return Status::Malformed,
             Err(ReadError::Memory) => return Status::Unavailable,
@@ -115,37 +106,35 @@ impl<J: Run> Desk<J> {
         if self.make_room().is_err() {
             return Status::Unavailable;
         }
-        self.govern(handle, alloc, office, clock, tenant, &command)
+        self.govern(system, office, tenant, &command)
     }
 
     // Governs a tenant of the office, and keeps what is printed of the answer.
     fn govern<H: Wait, C: Clock>(
         &mut self,
-        handle: &H,
-        alloc: Global,
+        system: &System<'_, H, C>,
         office: &Office<J>,
-        clock: &C,
         tenant: usize,
         command: &Command,
     ) -> Status
         requires seat { self.old.seat.meters ≡ office.now.meters.id }
         requires tenant { tenant < office.now.books.tenants }
-        ensures governed { WasGoverned (C.gives clock.now) office.now self.old tenant command.now result self.new }
+        ensures governed { WasGoverned (C.gives system.now.clock.now) office.now self.old tenant command.now result self.new }
         ensures same_meters { self.new.seat.meters ≡ self.old.seat.meters }
         ensures told { self.new.told ≡ self.old.told }
     {
         let answer = govern(
-            handle,
-            alloc,
+            system.handle,
+            system.alloc,
             &office.books,
             &office.meters,
             &mut self.seat,
             &mut self.share,
-            clock,
+            system.clock,
             tenant,
             command,
         );
-        let (status, closed) = tell(alloc, office, tenant, answer, &mut self.printed);
+        let (status, closed) = tell(system.alloc, office, tenant, answer, &mut self.printed);
         self.keep(closed);
         status
     }

@@ -7,7 +7,7 @@ use super::wire::{FixedClock, bytes, is_reply, posted, request};
 use super::{CHILD, CONFIG, NOTHING_MORE, asked};
 use admin_text::read_setup;
 use common_types::Token;
-use service::{Doors, Extent, HostDoor, ServeFault, serve};
+use service::{Doors, Extent, HostDoor, Plan, ServeFault, serve};
 use std::alloc::Global;
 use std::net::{Net, OpenListener, SocketAddr, TcpListener, TcpStream};
 use std::process::Abort;
@@ -64,20 +64,15 @@ pub fn serve_with_host<
         connections: 8,
         rounds: None,
     };
+    let plan = Plan {
+        extent,
+        report: NOTHING_MORE,
+    };
     let doors = Doors {
         packets,
         host: Some(host),
     };
-    serve(
-        rt,
-        rt.alloc(),
-        &setup,
-        extent,
-        NOTHING_MORE,
-        doors,
-        &FixedClock,
-        lines,
-    )
+    serve(rt, rt.alloc(), &setup, plan, doors, &FixedClock, lines)
 }
 
 /// What the setup of two tenants is, whose peers owe that.

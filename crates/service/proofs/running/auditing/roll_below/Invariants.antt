@@ -4,6 +4,6 @@ use Rattle.service.proofs.running.auditing.roll_below.Given as goal
 
 abbrev pub invariant-loop-tenant : goal.invariant-loop-tenant
 invariant-loop-tenant g l = record {
-  rolled : HaveRolled (g.C.Clock.gives l.fn.clock) l.tenant l.fn.share l.share;
+  rolled : HaveRolled (g.C.Clock.gives l.fn.system.clock.now) l.tenant l.fn.share l.share;
   seat : l.seat.meters ≡ l.fn.meters.id;
 }

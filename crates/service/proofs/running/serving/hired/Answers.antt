@@ -32,7 +32,7 @@ loop-share-preserved g c =
       office = subst (λ lanes. All (λ lane. lane.office.now ≡ c.args.office.now) lanes) (sym c.push_reserved.ensures.items)
           (All-push (λ lane. lane.office.now ≡ c.args.office.now) c.loop-share.lanes.items c.new-in-Some.result
           c.loop-share.invariant.office c.new-in-Some.ensures.office);
-      clock = subst (λ lanes. All (λ lane. lane.clock.now ≡ c.args.clock.now) lanes) (sym c.push_reserved.ensures.items)
-          (All-push (λ lane. lane.clock.now ≡ c.args.clock.now) c.loop-share.lanes.items c.new-in-Some.result
+      clock = subst (λ lanes. All (λ lane. lane.clock.now ≡ c.args.system.now.clock.now) lanes) (sym c.push_reserved.ensures.items)
+          (All-push (λ lane. lane.clock.now ≡ c.args.system.now.clock.now) c.loop-share.lanes.items c.new-in-Some.result
           c.loop-share.invariant.clock c.new-in-Some.ensures.clock);
     }

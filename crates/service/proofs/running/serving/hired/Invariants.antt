@@ -17,7 +17,7 @@ invariant-loop-share g l = record {
   fresh : All IsFresh l.shares.items;
   new : All (λ lane. IsNew lane.desk) l.lanes.items;
   office : All (λ lane. lane.office.now ≡ l.fn.office) l.lanes.items;
-  clock : All (λ lane. lane.clock.now ≡ l.fn.clock) l.lanes.items;
+  clock : All (λ lane. lane.clock.now ≡ l.fn.system.clock.now) l.lanes.items;
 }
 
 abbrev pub decreases-loop-share : goal.decreases-loop-share

@@ -29,7 +29,7 @@ returns-clause-counted g c =
       each = search (each, length_map);
       shares_are = map_map (λ desk. desk.share) (λ lane. lane.desk) c.work_all.new.lanes
           ∙ (ap (map (λ lane. lane.desk.share)) (sym whole) ∙ sym c.dismissed.ensures.shares);
-      worked = All-map (HasWorked (g.C.Clock.gives c.args.clock.now) c.args.office.now) (λ lane. lane.desk) c.work_all.new.lanes c.in_ok-work_all.ensures.worked;
+      worked = All-map (HasWorked (g.C.Clock.gives c.args.system.now.clock.now) c.args.office.now) (λ lane. lane.desk) c.work_all.new.lanes c.in_ok-work_all.ensures.worked;
       sums = λ tenant kind below.
           let before = c.requires.nothing tenant kind in
           let counted = c.dismissed.ensures.counts tenant kind in

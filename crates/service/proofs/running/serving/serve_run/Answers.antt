@@ -1,4 +1,5 @@
 use Rattle.std.proofs.Common.{ℕ, ◌≡◌, ◌++◌, [], List, length, true, rules, ap, subst, ◌∙◌, if◌then◌else◌}
+use Rattle.std.proofs.lemmas.Result.{on_ok_weaker}
 use Rattle.std.specs.Io.KnownBytes.{Appends}
 use Rattle.service.specs.Auditing.{HaveEnded}
 use Rattle.service.specs.declared.running.ending.AuditEnd.TheVariants.{Good}
@@ -15,15 +16,14 @@ returns-in-Ok g c =
     let exact = c.close-totals.ensures.exact (search rules) (search rules) in
     let names : length office.names.items ≡ length c.args.setup.now.tenants
     = ap length known.names ∙ length_map _ c.args.setup.now.tenants in
-    let front : List ℕ = if c.args.report.balances then balance_lines office.names.items c.in-Ok.gathered.items else [] in
+    let front : List ℕ = if c.args.plan.report.balances then balance_lines office.names.items c.in-Ok.gathered.items else [] in
     let audit = c.finish_audit-line in
     let last : List ℕ = audit.result.line.items in
     let text_is : c.in_ok-text-in-Ok.text.items ≡ front = search rules in
     let Told : List ℕ → ℕ → Type 0 = λ text n. Appends (g.W.Write.contents c.args.writer.now) (g.W.Write.contents c.tell.new.writer)
     (text ++ lines_upto n office.names.items c.close-totals.result ++ last) in
     let told : Told c.in_ok-text-in-Ok.text.items (length office.names.items) = search rules in
-    let good : audit.result.end ≡ Good = search (rules, c.end_of.ensures.good) in
-    record {
+    on_ok_weaker c.end_of.result (λ (good : audit.result.end ≡ Good). record {
       office = office;
       known = known;
       totals = c.close-totals.result;
@@ -36,11 +36,11 @@ returns-in-Ok g c =
         sums = λ tenant kind below. exact tenant kind (search rules) ∙ counted.sums tenant kind below;
       };
       shares = audit.new.shares.items;
-      ended = subst (λ (n : ℕ). HaveEnded (g.C.Clock.gives c.args.clock.now) c.args.report.audit n c.in_ok-done.done.shares.items audit.new.shares.items)
+      ended = subst (λ (n : ℕ). HaveEnded (g.C.Clock.gives c.args.system.clock.now) c.args.plan.report.audit n c.in_ok-done.done.shares.items audit.new.shares.items)
           known.books (audit.ensures.ended good);
       books = c.in-Ok.gathered.items;
       audit = last;
       audited = audit.ensures.audited good;
       told = subst (λ n. Told front n) names (subst (λ text. Told text (length office.names.items)) text_is told);
       one_list = c.in-Ok.ensures.one_list;
-    }
+    }) c.end_of.ensures.good

@@ -4,6 +4,6 @@ use Rattle.service.proofs.worker.desk.Desk.carry.Goals as goal
 
 pub invariant_of-self : goal.invariant_of-self
 invariant_of-self g c = record {
-  plain = ap (λ seat. seat.first) c.carry-reply.ensures.seat ∙ reply_first c.args.tenant c.carry-reply.result c.args.self.now.seat ∙ c.args.self.now.plain;
+  plain = ap (λ seat. seat.first) c.carry-reply.ensures.seat ∙ reply_first c.args.job.tenant c.carry-reply.result c.args.self.now.seat ∙ c.args.self.now.plain;
   idle = c.carry-reply.ensures.idle;
 }

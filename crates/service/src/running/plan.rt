@@ -1,0 +1,51 @@
+//! What a service is to do.
+
+ghost use Rattle.std.specs.Prelude.{◌≡◌, ◌≤◌};
+ghost use Rattle.allotment.specs.Loans.{max_places};
+ghost use Rattle.service.specs.Extents.{most_waiting_of, total_of};
+
+/// How many threads serve, how many packets are exchanged with next peers at once, and how many connections are served.
+#[derive(Clone, Copy)]
+pub struct Extent {
+    /// 1 to 64: so many packets may be on their way to next peers at once.
+    pub workers: usize,
+    /// 1 to 4,096: so many connections may be open at once, each on a thread of its own.
+    pub connections: usize,
+    /// How many connections are served for each of `workers` before the service ends, if it does.
+    pub rounds: Option<u32>,
+}
+
+/// What a service tells in the end beside the lines of its tenants.
+#[derive(Clone, Copy, Debug, PartialEq, Eq)]
+pub struct Report {
+    /// What the command `balances` would tell of each tenant, before these lines.
+    pub balances: bool,
+    /// Whether receipts are kept of all that is done, and audited; and what the audit found, after these lines.
+    pub audit: bool,
+}
+
+/// What a service is to do: how much it serves, and what it tells in the end.
+#[derive(Clone, Copy)]
+pub struct Plan {
+    pub extent: Extent,
+    pub report: Report,
+}
+
+/// How many connections are served in all: so many rounds for each worker, or as many as can be counted.
+pub fn total_of(extent: Extent) -> u64
+    requires { extent.workers ≤ max_places }
+    ensures { result ≡ total_of extent.workers extent.rounds }
+{
+    match extent.rounds {
+        Some(rounds) => extent.workers as u64 * u64::from(rounds),
+        None => u64::MAX,
+    }
+}
+
+/// How many packets of each tenant may wait for a place: what half of the connections beyond the places come to for each.
+pub fn most_waiting_of(extent: Extent, tenants: usize) -> usize
+    requires { 1 ≤ tenants }
+    ensures { result ≡ most_waiting_of extent.connections extent.workers tenants }
+{
+    extent.connections.saturating_sub(extent.workers) / 2 / tenants
+}
