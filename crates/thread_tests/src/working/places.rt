@@ -88,7 +88,11 @@ fn who_gets_what_came_back(rt: HostRuntime) -> Result<(), Fail> {
 }
 
 // With fewer places than tenants none is sure of one; where there is one for each, each has its own.
-static TWO_FOR_THREE: [(usize, Admission); 3] = [(2, Admission::Taken), (2, Admission::Taken), (1, Admission::Full)];
+static TWO_FOR_THREE: [(usize, Admission); 3] = [
+    (2, Admission::Taken),
+    (2, Admission::Taken),
+    (1, Admission::Full),
+];
 
 static THREE_FOR_THREE: [(usize, Admission); 4] = [
     (2, Admission::Taken),
