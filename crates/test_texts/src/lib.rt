@@ -9,5 +9,5 @@ mod texts;
 
 pub use draws::Draws;
 pub use frames::{filled, filled_in, frame};
-pub use setups::{ABSENT, Line, PEER, RATE, ROUTE, TENANT, setup_in, setup_with};
-pub use texts::put;
+pub use setups::{ABSENT, Line, PEER, RATE, ROUTE, TENANT, setup_by, setup_in, setup_with};
+pub use texts::{put, replaced};

@@ -108,6 +108,7 @@ beta|name|'beta'
 beta|address|'g.beta'
 beta|admin|'root-b'
 beta|journal|64
+beta|hold|-
 beta alice||-
 beta alice|name|'alice'
 beta alice|role|'peer'
@@ -228,4 +229,10 @@ pub fn setup_in(alloc: Global, row: &str, changes: &[Line]) -> Result<String, Fa
 /// The usual setup with the values of these lines in place of its own. Each names a line of `USUAL`.
 pub fn setup_with(alloc: Global, changes: &[Line]) -> Result<String, Fail> {
     setup_in(alloc, "a setup", changes)
+}
+
+/// The usual setup with the lines of this text in place of its own, each as `alice|cap|1000`. Each names a line of `USUAL`.
+pub fn setup_by(alloc: Global, changes: &'static str) -> Result<String, Fail> {
+    let changes = lines_of(alloc, changes)?;
+    setup_with(alloc, changes.as_slice())
 }

@@ -1,6 +1,6 @@
 //! Texts of parts.
 
-use std::alloc::AllocError;
+use std::alloc::{AllocError, Global};
 
 /// These texts, one behind the other, behind what is there.
 pub fn put(text: &mut String, parts: &[&str]) -> Result<(), AllocError> {
@@ -8,4 +8,13 @@ pub fn put(text: &mut String, parts: &[&str]) -> Result<(), AllocError> {
         text.push_str(part)?;
     }
     Ok(())
+}
+
+/// The text with these values in place of the names beside them, one name after the other.
+pub fn replaced(alloc: Global, text: &str, values: &[(&str, &str)]) -> Result<String, AllocError> {
+    let mut whole = String::from_str(alloc, text)?;
+    for (name, value) in values {
+        whole = whole.replace(alloc, *name, *value)?;
+    }
+    Ok(whole)
 }

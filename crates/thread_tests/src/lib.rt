@@ -6,3 +6,7 @@
 mod serving;
 #[cfg(test)]
 mod working;
+
+// 2030-01-01T00:00:00Z, when books begin.
+#[cfg(test)]
+const START: u64 = 1_893_456_000_000;

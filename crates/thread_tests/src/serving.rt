@@ -23,46 +23,13 @@ use std::thread::{Threads, join};
 use std::time::{Clock, Duration};
 use std::{io, thread};
 use wire::{
-    BEGINNING, FULFILL, FixedClock, Terms, bytes, good, is_reply, is_text, posted, request,
-    tenant_text,
+    FixedClock, good_reply, good_text, is_reply, is_text, one_tenant, packet_by, peer_answer,
+    posted, request,
 };
 
-const CONFIG: &str =
-    "0c460000000000000000323033303031303130303030313030303066687aadf862bd776c8fc18b8e9f8e20089714856ee233b3902a591d0d5f29250b706565722e636f6e66696700";
-
-const CHILD: &str =
-    "0d310000000000000000000000000000000000000000000000000000000000000000100a672e61636d652e626f620903585250";
-
-const BASE: &str =
-    "0c4700000000000003e8323033303031303130303030313030303066687aadf862bd776c8fc18b8e9f8e20089714856ee233b3902a591d0d5f29250c672e61636d652e626f622e7800";
-
-// BASE as it goes on: 1,500 units, and the expiry where the hold ends.
-const SENT: &str =
-    "0c4700000000000005dc323033303031303130303030303034303066687aadf862bd776c8fc18b8e9f8e20089714856ee233b3902a591d0d5f29250c672e61636d652e626f622e7800";
-
-const UNREACHABLE: &str = "0e1c54303106672e61636d65107065657220756e726561636861626c6500";
-
-// BASE where it expires 1,400 milliseconds after the start: SENT is what goes on, however long it may be held.
-const SHORT: &str =
-    "0c4700000000000003e8323033303031303130303030303134303066687aadf862bd776c8fc18b8e9f8e20089714856ee233b3902a591d0d5f29250c672e61636d652e626f622e7800";
-
-// A setup of one tenant whose second peer listens at that port, and which holds packets for so many milliseconds at most.
-fn setup_holding(alloc: Global, port: u16, hold: u32) -> Result<String, Fail> {
-    let tenant = tenant_text(
-        alloc,
-        Terms {
-            name: "acme",
-            port,
-            journal: 64,
-            hold,
-        },
-    )?;
-    Ok([BEGINNING, tenant.as_str()].concat(alloc)?)
-}
-
-// The same, for 400 milliseconds.
-fn setup_with(alloc: Global, port: u16) -> Result<String, Fail> {
-    setup_holding(alloc, port, 400)
+// A setup of one tenant, where nothing is sent on.
+fn usual(alloc: Global) -> Result<String, Fail> {
+    one_tenant(alloc, 7802, "400")
 }
 
 // A connection on which these bytes were sent, and no more will be.
@@ -99,14 +66,7 @@ fn asked(
 }
 
 // Serves the setup of that text.
-fn serve_as<
-    R: Threads
-        + Wait
-        + Net<Listener = TcpListener, Stream = TcpStream>
-        + Clock
-        + AllocGlobal
-        + Sync,
->(
+fn serve_as<R>(
     rt: &R,
     text: &str,
     extent: Extent,
@@ -114,6 +74,9 @@ fn serve_as<
     listener: &TcpListener,
     lines: &mut Vec<u8>,
 ) -> Result<(), ServeFault>
+where
+    R: Threads + Wait + Clock + AllocGlobal + Sync,
+    R: Net<Listener = TcpListener, Stream = TcpStream>,
     requires workers { (1 ≤ extent.workers) × (extent.workers ≤ max_places) }
     requires connections { (1 ≤ extent.connections) × (extent.connections ≤ max_workers) }
 {
@@ -135,29 +98,12 @@ fn serve_as<
     )
 }
 
-// Serves so many connections on one thread, for the setup of that text.
-fn serve_some<
-    R: Threads
-        + Wait
-        + Net<Listener = TcpListener, Stream = TcpStream>
-        + Clock
-        + AllocGlobal
-        + Sync,
->(
-    rt: &R,
-    text: &str,
-    rounds: u32,
-    report: Report,
-    listener: &TcpListener,
-    lines: &mut Vec<u8>,
-) -> Result<(), ServeFault> {
-    let extent = Extent {
-        workers: 1,
-        connections: 1,
-        rounds: Some(rounds),
-    };
-    serve_as(rt, text, extent, report, listener, lines)
-}
+// One thread, for one connection.
+const ALONE: Extent = Extent {
+    workers: 1,
+    connections: 1,
+    rounds: Some(1),
+};
 
 // Lines of the tenants alone.
 const NOTHING_MORE: Report = Report {
@@ -177,33 +123,53 @@ const ALL: Report = Report {
     audit: true,
 };
 
+// What comes of questions to a service that serves the setup of that text, and what it prints in the end.
+fn served_while<R, T, F>(
+    rt: &R,
+    text: &str,
+    extent: Extent,
+    report: Report,
+    ask: F,
+) -> Result<(T, Vec<u8>), Fail>
+where
+    R: Threads + Wait + Clock + AllocGlobal + Sync,
+    R: Net<Listener = TcpListener, Stream = TcpStream>,
+    T: Send + Drop,
+    F: FnOnce(&SocketAddr) -> Result<T, Fail> + Send + Drop,
+    requires workers { (1 ≤ extent.workers) × (extent.workers ≤ max_places) }
+    requires connections { (1 ≤ extent.connections) × (extent.connections ≤ max_workers) }
+    requires asks { (addr : _) → F.pre ask addr }
+{
+    let listener = TcpListener::bind(rt, "127.0.0.1:0")?;
+    let addr = listener.local_addr()?;
+    let mut lines = Vec::new(rt.alloc());
+    let (end, came) = join(
+        rt,
+        || serve_as(rt, text, extent, report, &listener, &mut lines),
+        || ask(&addr),
+    );
+    let came = came?;
+    end?;
+    Ok((came, lines))
+}
+
 // What one worker answers to some requests, each on a connection of its own, and what it prints in the end.
-fn served<
-    R: Threads
-        + Wait
-        + Net<Listener = TcpListener, Stream = TcpStream>
-        + Clock
-        + AllocGlobal
-        + Sync,
->(
+fn served<R>(
     rt: &R,
     setup: &str,
     report: Report,
     requests: &[Vec<u8>],
-) -> Result<(Vec<Vec<u8>>, Vec<u8>), Fail> {
-    let alloc = rt.alloc();
-    let listener = TcpListener::bind(rt, "127.0.0.1:0")?;
-    let addr = listener.local_addr()?;
-    let rounds = requests.len().min(1000) as u32;
-    let mut lines = Vec::new(alloc);
-    let (end, answers) = join(
-        rt,
-        || serve_some(rt, setup, rounds, report, &listener, &mut lines),
-        || ask_all(rt, alloc, &addr, requests),
-    );
-    let answers = answers?;
-    end?;
-    Ok((answers, lines))
+) -> Result<(Vec<Vec<u8>>, Vec<u8>), Fail>
+where
+    R: Threads + Wait + Clock + AllocGlobal + Sync,
+    R: Net<Listener = TcpListener, Stream = TcpStream>,
+{
+    let extent = Extent {
+        rounds: Some(requests.len().min(1000) as u32),
+        ..ALONE
+    };
+    let ask = |addr: &SocketAddr| Ok(ask_all(rt, rt.alloc(), addr, requests)?);
+    served_while(rt, setup, extent, report, ask)
 }
 
 fn ask_all(
@@ -219,9 +185,6 @@ fn ask_all(
     Ok(answers)
 }
 
-// What comes before a Fulfill of 35 bytes.
-const GOOD_HEAD: &[u8] = b"HTTP/1.1 200 OK\r\nContent-Length: 35\r\n\r\n";
-
 /// What the next peer does with a packet.
 #[derive(Clone, Copy, Debug, PartialEq, Eq)]
 enum Peer {
@@ -230,9 +193,9 @@ enum Peer {
     Drips,
 }
 
-// A byte each 20 milliseconds.
-fn drip(rt: &impl Clock, stream: &TcpStream, bytes: &[u8]) -> io::Result<()> {
-    for byte in bytes {
+// A byte each 20 milliseconds, so the whole answer within a second and a half.
+fn drip(rt: &impl Clock, stream: &TcpStream, answer: &[u8]) -> io::Result<()> {
+    for byte in answer {
         let mut out = stream;
         out.write_all(&[*byte])?;
         thread::sleep(rt, Duration::from_millis(20));
@@ -240,10 +203,18 @@ fn drip(rt: &impl Clock, stream: &TcpStream, bytes: &[u8]) -> io::Result<()> {
     Ok(())
 }
 
-// The whole answer, within a second and a half.
-fn drip_answer(rt: &impl Clock, stream: &TcpStream, fulfill: &[u8]) -> io::Result<()> {
-    drip(rt, stream, GOOD_HEAD)?;
-    drip(rt, stream, fulfill)
+// The next connection, and the bytes that come on it first, so many.
+fn next_request(
+    alloc: Global,
+    listener: &TcpListener,
+    size: usize,
+) -> io::Result<(TcpStream, Vec<u8>)> {
+    let (stream, _) = listener.accept()?;
+    stream.set_read_timeout(Some(Duration::from_secs(20)))?;
+    let mut came = vec![in alloc; 0u8; size]?;
+    let mut input = &stream;
+    input.read_exact(came.as_mut_slice())?;
+    Ok((stream, came))
 }
 
 // Takes one packet as such a peer, and says whether it was the one that is wanted.
@@ -252,23 +223,15 @@ fn taken(
     listener: &TcpListener,
     peer: Peer,
     wanted: &[u8],
-    fulfill: &[u8],
+    answer: &[u8],
 ) -> io::Result<bool> {
-    let alloc = rt.alloc();
-    let (stream, _) = listener.accept()?;
-    stream.set_read_timeout(Some(Duration::from_secs(20)))?;
-    let mut came = vec![in alloc; 0u8; wanted.len()]?;
-    let mut input = &stream;
-    input.read_exact(came.as_mut_slice())?;
+    let (stream, came) = next_request(rt.alloc(), listener, wanted.len())?;
     let mut out = &stream;
     match peer {
-        Peer::Fulfils => {
-            out.write_all(GOOD_HEAD)?;
-            out.write_all(fulfill)?;
-        }
+        Peer::Fulfils => out.write_all(answer)?,
         Peer::Babbles => out.write_all(b"HTTP/1.1 200 OK\r\nContent-Length: 5\r\n\r\nhello")?,
         Peer::Drips => {
-            let _ = drip_answer(rt, &stream, fulfill);
+            let _ = drip(rt, &stream, answer);
         }
     }
     Ok(came.as_slice() == wanted)
@@ -277,37 +240,34 @@ fn taken(
 // A packet of alice's, and what the balances are afterwards.
 fn packet_and_balances(alloc: Global, packet: &str) -> Result<Vec<Vec<u8>>, Fail> {
     let mut requests = Vec::new(alloc);
-    requests.push(request(
-        alloc,
-        "/ilp/acme",
-        "tok-alice",
-        bytes(alloc, packet)?.as_slice(),
-    )?)?;
+    requests.push(packet_by(alloc, "/ilp/acme", "tok-alice", packet)?)?;
     requests.push(request(alloc, "/admin/acme", "root", b"balances\n")?)?;
     Ok(requests)
 }
 
 // What comes back for a packet and for the balances, and what is printed in the end, where the peer behaves so, and packets
 // are held for so many milliseconds at most.
-fn with_peer<
-    R: Threads
-        + Wait
-        + Net<Listener = TcpListener, Stream = TcpStream>
-        + Clock
-        + AllocGlobal
-        + Sync,
->(rt: &R, peer: Peer, packet: &str, hold: u32) -> Result<(Vec<Vec<u8>>, Vec<u8>), Fail> {
+fn with_peer<R>(
+    rt: &R,
+    peer: Peer,
+    packet: &str,
+    hold: &str,
+) -> Result<(Vec<Vec<u8>>, Vec<u8>), Fail>
+where
+    R: Threads + Wait + Clock + AllocGlobal + Sync,
+    R: Net<Listener = TcpListener, Stream = TcpStream>,
+{
     let alloc = rt.alloc();
     let listener = TcpListener::bind(rt, "127.0.0.1:0")?;
     let port = listener.local_addr()?.port();
-    let setup = setup_holding(alloc, port, hold)?;
-    let wanted = posted(alloc, port, bytes(alloc, SENT)?.as_slice())?;
+    let setup = one_tenant(alloc, port, hold)?;
+    let wanted = posted(alloc, port, "{sent until 400 ms}")?;
     let requests = packet_and_balances(alloc, packet)?;
-    let fulfill = bytes(alloc, FULFILL)?;
+    let answer = peer_answer(alloc)?;
     let (answers, right) = join(
         rt,
         || served(rt, setup.as_str(), NOTHING_MORE, requests.as_slice()),
-        || taken(rt, &listener, peer, wanted.as_slice(), fulfill.as_slice()),
+        || taken(rt, &listener, peer, wanted.as_slice(), answer.as_slice()),
     );
     let answers = answers?;
     if right? {
@@ -317,53 +277,66 @@ fn with_peer<
     }
 }
 
+const NOTHING: &str = "acme balance alice 0 0 0\nacme balance bob 0 0 0\nacme ok\n";
+
+/// What comes of a packet of alice's: the reply to it, the balances afterwards, and what is printed in the end.
+#[derive(Clone, Copy)]
+struct Outcome {
+    reply: &'static str,
+    balances: &'static str,
+    printed: &'static str,
+}
+
+const FULFILLED: Outcome = Outcome {
+    reply: "{fulfill}",
+    balances: "acme balance alice 1000 0 0\nacme balance bob -1500 0 0\nacme ok\n",
+    printed: "acme 200 2 4xx 0 503 0 link 0\n",
+};
+
+// What the peer says is no answer.
+const REFUSED: Outcome = Outcome {
+    reply: "{T01}",
+    balances: NOTHING,
+    printed: "acme 200 2 4xx 0 503 0 link 0\n",
+};
+
+// The link to the peer fails.
+const CUT: Outcome = Outcome {
+    printed: "acme 200 2 4xx 0 503 0 link 1\n",
+    ..REFUSED
+};
+
 fn expect(
     rt: &(impl Abort + AllocGlobal),
     came: (Vec<Vec<u8>>, Vec<u8>),
-    reply: &str,
-    balances: &str,
-    lines: &str,
+    wanted: &Outcome,
 ) -> Result<(), Fail> {
     let (answers, printed) = came;
-    assert!(rt; printed.as_slice() == lines.as_bytes());
-    expect_answers(rt, answers.as_slice(), reply, balances)
+    assert!(rt; printed.as_slice() == wanted.printed.as_bytes());
+    expect_answers(rt, answers.as_slice(), wanted)
 }
 
 fn expect_answers(
     rt: &(impl Abort + AllocGlobal),
     answers: &[Vec<u8>],
-    reply: &str,
-    balances: &str,
+    wanted: &Outcome,
 ) -> Result<(), Fail> {
     let [first, second] = answers else {
         return Err("two answers".into());
     };
-    assert!(rt; is_reply(rt.alloc(), first.as_slice(), reply)?);
-    assert!(rt; is_text(rt.alloc(), second.as_slice(), balances)?);
+    assert!(rt; is_reply(rt.alloc(), first.as_slice(), wanted.reply)?);
+    assert!(rt; is_text(rt.alloc(), second.as_slice(), wanted.balances)?);
     Ok(())
 }
-
-const NOTHING: &str = "acme balance alice 0 0 0\nacme balance bob 0 0 0\nacme ok\n";
-
-const MOVED: &str = "acme balance alice 1000 0 0\nacme balance bob -1500 0 0\nacme ok\n";
 
 #[test]
 fn a_child_is_configured(rt: HostRuntime) -> Result<(), Fail> {
     let alloc = rt.alloc();
-    let setup = setup_with(alloc, 7802)?;
+    let setup = usual(alloc)?;
     let mut requests = Vec::new(alloc);
-    requests.push(request(
-        alloc,
-        "/ilp/acme",
-        "tok-bob",
-        bytes(alloc, CONFIG)?.as_slice(),
-    )?)?;
+    requests.push(packet_by(alloc, "/ilp/acme", "tok-bob", "{config}")?)?;
     let (answers, lines) = served(&rt, setup.as_str(), AUDITED, requests.as_slice())?;
-    let wanted = good(
-        alloc,
-        "application/octet-stream",
-        bytes(alloc, CHILD)?.as_slice(),
-    )?;
+    let wanted = good_reply(alloc, "{configuration of bob}")?;
     assert!(rt; answers.len() == 1);
     assert_eq!(rt; answers[0].as_slice(), wanted.as_slice());
     assert_eq!(rt;
@@ -375,44 +348,27 @@ fn a_child_is_configured(rt: HostRuntime) -> Result<(), Fail> {
 
 #[test]
 fn a_peer_fulfils(rt: HostRuntime) -> Result<(), Fail> {
-    let came = with_peer(&rt, Peer::Fulfils, BASE, 400)?;
-    expect(&rt, came, FULFILL, MOVED, "acme 200 2 4xx 0 503 0 link 0\n")
+    let came = with_peer(&rt, Peer::Fulfils, "{base}", "400")?;
+    expect(&rt, came, &FULFILLED)
 }
 
 #[test]
 fn a_peer_babbles(rt: HostRuntime) -> Result<(), Fail> {
-    let came = with_peer(&rt, Peer::Babbles, BASE, 400)?;
-    expect(
-        &rt,
-        came,
-        UNREACHABLE,
-        NOTHING,
-        "acme 200 2 4xx 0 503 0 link 0\n",
-    )
+    let came = with_peer(&rt, Peer::Babbles, "{base}", "400")?;
+    expect(&rt, came, &REFUSED)
 }
 
 #[test]
 fn a_peer_drips_a_fulfill_past_the_hold(rt: HostRuntime) -> Result<(), Fail> {
-    let came = with_peer(&rt, Peer::Drips, BASE, 400)?;
-    expect(
-        &rt,
-        came,
-        UNREACHABLE,
-        NOTHING,
-        "acme 200 2 4xx 0 503 0 link 1\n",
-    )
+    let came = with_peer(&rt, Peer::Drips, "{base}", "400")?;
+    expect(&rt, came, &CUT)
 }
 
+// What goes on is the same, however long it may be held.
 #[test]
 fn a_peer_drips_a_fulfill_past_the_expiry(rt: HostRuntime) -> Result<(), Fail> {
-    let came = with_peer(&rt, Peer::Drips, SHORT, 30_000)?;
-    expect(
-        &rt,
-        came,
-        UNREACHABLE,
-        NOTHING,
-        "acme 200 2 4xx 0 503 0 link 1\n",
-    )
+    let came = with_peer(&rt, Peer::Drips, "{base until 1400 ms}", "30000")?;
+    expect(&rt, came, &CUT)
 }
 
 // A port where nobody listens.
@@ -424,16 +380,10 @@ fn lonely_port(rt: &impl Net<Listener = TcpListener, Stream = TcpStream>) -> Res
 #[test]
 fn nobody_listens(rt: HostRuntime) -> Result<(), Fail> {
     let alloc = rt.alloc();
-    let setup = setup_with(alloc, lonely_port(&rt)?)?;
-    let requests = packet_and_balances(alloc, BASE)?;
+    let setup = one_tenant(alloc, lonely_port(&rt)?, "400")?;
+    let requests = packet_and_balances(alloc, "{base}")?;
     let came = served(&rt, setup.as_str(), NOTHING_MORE, requests.as_slice())?;
-    expect(
-        &rt,
-        came,
-        UNREACHABLE,
-        NOTHING,
-        "acme 200 2 4xx 0 503 0 link 1\n",
-    )
+    expect(&rt, came, &CUT)
 }
 
 // A request of acme's operator, and how its answer begins.
@@ -456,7 +406,7 @@ static COMMANDS: [(&str, &str, &str); 5] = [
 #[test]
 fn operators_are_answered(rt: HostRuntime) -> Result<(), Fail> {
     let alloc = rt.alloc();
-    let setup = setup_with(alloc, 7802)?;
+    let setup = usual(alloc)?;
     let mut requests = Vec::new(alloc);
     for (token, command, _) in COMMANDS {
         requests.push(request(alloc, "/admin/acme", token, command.as_bytes())?)?;
@@ -499,7 +449,7 @@ fn refused_request(alloc: Global, stated: &str) -> Result<Vec<u8>, Fail> {
 #[test]
 fn the_body_of_a_refused_request_is_none(rt: HostRuntime) -> Result<(), Fail> {
     let alloc = rt.alloc();
-    let setup = setup_with(alloc, 7802)?;
+    let setup = usual(alloc)?;
     let mut requests = Vec::new(alloc);
     for (stated, _) in REFUSALS {
         requests.push(refused_request(alloc, stated)?)?;
@@ -511,7 +461,7 @@ fn the_body_of_a_refused_request_is_none(rt: HostRuntime) -> Result<(), Fail> {
         let (_, begin) = REFUSALS[i];
         assert!(rt; answers[i].as_slice().starts_with(begin.as_bytes()), "{i}");
     }
-    let balances = good(alloc, "text/plain", NOTHING.as_bytes())?;
+    let balances = good_text(alloc, NOTHING)?;
     assert_eq!(rt; answers[REFUSALS.len()].as_slice(), balances.as_slice());
     assert_eq!(rt;
         lines.as_slice(),
@@ -534,7 +484,7 @@ fn asked_late(
 #[test]
 fn an_accept_that_fails_is_tried_again(rt: HostRuntime) -> Result<(), Fail> {
     let alloc = rt.alloc();
-    let setup = setup_with(alloc, 7802)?;
+    let setup = usual(alloc)?;
     let request = request(alloc, "/admin/acme", "root", b"balances\n")?;
     let listener = TcpListener::bind(&rt, "127.0.0.1:0")?;
     let addr = listener.local_addr()?;
@@ -542,10 +492,17 @@ fn an_accept_that_fails_is_tried_again(rt: HostRuntime) -> Result<(), Fail> {
     let mut lines = Vec::new(alloc);
     let (end, answer) = join(
         &rt,
-        || serve_some(&rt, setup.as_str(), 1, NOTHING_MORE, &listener, &mut lines),
+        || serve_as(
+            &rt,
+            setup.as_str(),
+            ALONE,
+            NOTHING_MORE,
+            &listener,
+            &mut lines,
+        ),
         || asked_late(&rt, alloc, &addr, request.as_slice()),
     );
-    let balances = good(alloc, "text/plain", NOTHING.as_bytes())?;
+    let balances = good_text(alloc, NOTHING)?;
     assert_eq!(rt; answer?.as_slice(), balances.as_slice());
     assert!(rt; end == Err(ServeFault::Device));
     assert_eq!(rt;

@@ -11,134 +11,66 @@ mod places;
 mod seats;
 mod together;
 
+use crate::START;
+use admin_text::read_setup;
 use books_shared::{Books, Share};
-use common_types::{AssetCode, Between, Name, Token};
-use ilp_addr::{Moment, OwnAddress, Prefix, Target};
+use floor_core::Got;
+use ilp_addr::Moment;
 use meters::{Kind, Totals};
-use money_core::Rate;
 use one_list::{Opened, Run};
 use std::alloc::Global;
 use std::marker::Brand;
 use std::sync::Wait;
 use std::test::Fail;
-use tenant_core::{
-    Balance, Book, BucketTerms, Fee, Hop, Level, Network, PeerLimits, PeerTerms, RateTerms, Role,
-    TenantSetup, TenantTerms,
-};
+use tenant_core::{Book, TenantSetup};
+use test_texts::{PEER, RATE, ROUTE, TENANT, setup_with};
 use workers::Clock;
 
-// 2030-01-01T00:00:00Z.
-const START: u64 = 1_893_456_000_000;
-
-// A Prepare of 1,000 units for g.acme.bob.x, which ends ten seconds after the start.
-const BASE: &[u8; 73] = b"\x0cG\0\0\0\0\0\0\x03\xe820300101000010000\
-    \x66\x68\x7a\xad\xf8\x62\xbd\x77\x6c\x8f\xc1\x8b\x8e\x9f\x8e\x20\
-    \x08\x97\x14\x85\x6e\xe2\x33\xb3\x90\x2a\x59\x1d\x0d\x5f\x29\x25\
-    \x0cg.acme.bob.x\0";
-
-// A Fulfill of 32 zero bytes, which fits.
-const FULFILL: &[u8; 35] =
-    b"\x0d\x21\0\0\0\0\0\0\0\0\0\0\0\0\0\0\0\0\0\0\0\0\0\0\0\0\0\0\0\0\0\0\0\0\0";
-
 // ---- what there is
-
-fn name(bytes: &[u8]) -> Result<Name, Fail> {
-    Ok(Name::new(bytes).ok_or("a name")?)
-}
-
-fn token(bytes: &[u8]) -> Result<Token, Fail> {
-    Ok(Token::new(bytes).ok_or("a token")?)
-}
-
-fn number<const LOW: u64, const HIGH: u64>(n: u64) -> Result<Between<LOW, HIGH>, Fail> {
-    Ok(Between::new(n).ok_or("a number within limits")?)
-}
-
-fn terms(called: &[u8], role: Role, shown: &[u8], url: &[u8]) -> Result<PeerTerms, Fail> {
-    Ok(PeerTerms {
-        name: name(called)?,
-        role,
-        token: token(shown)?,
-        target: Target::new(url, b"out").ok_or("a target")?,
-        asset: AssetCode::new(b"USD").ok_or("an asset")?,
-        scale: 2,
-        limits: PeerLimits {
-            cap: number(1_000_000)?,
-            ceiling: number(1_000_000)?,
-            credit: number(1_000_000)?,
-        },
-        bucket: BucketTerms {
-            burst: number(100)?,
-            per_second: number(100)?,
-        },
-    })
-}
-
-// The level that a book gives a new bucket itself.
-const FULL: Level = Level {
-    credit: 0,
-    clock: 0,
-    entries: 0,
-};
-
-const ALICE_URL: &[u8] = b"http://127.0.0.1:7801/ilp";
-
-const BOB_URL: &[u8] = b"http://127.0.0.1:7802/ilp";
-
-// Alice and bob, to whom packets for the prefix go, at three units for two.
-fn network(alloc: Global, prefix: &[u8]) -> Result<Network, Fail> {
-    let mut network = Network::new(alloc);
-    let alice = terms(b"alice", Role::Peer, b"tok-alice", ALICE_URL)?;
-    network.add_peer(alice, Balance::zero(), FULL)?;
-    let bob = terms(b"bob", Role::Child, b"tok-bob", BOB_URL)?;
-    network.add_peer(bob, Balance::zero(), FULL)?;
-    let fee = Fee::new(0).ok_or("a fee")?;
-    network.add_route(Prefix::parse(alloc, prefix)?, Hop { peer: 1, fee })?;
-    network.set_rate(&RateTerms {
-        from: 0,
-        to: 1,
-        rate: Rate::new(3, 2)?,
-    })?;
-    Ok(network)
-}
-
-fn tenant(
-    called: &[u8],
-    address: &[u8],
-    journal: u64,
-    network: Network,
-) -> Result<TenantSetup, Fail> {
-    let setup = TenantSetup::new(TenantTerms {
-        name: name(called)?,
-        address: OwnAddress::new(address).ok_or("an address")?,
-        admin: token(called)?,
-        journal,
-        margin: 1_000,
-        hold: 30_000,
-        network,
-    });
-    Ok(setup.ok_or("a setup")?)
-}
 
 fn start() -> Result<Moment, Fail> {
     Ok(Moment::new(START).ok_or("a moment")?)
 }
 
 // The setups of acme and beta, with so many places in each journal.
-fn two_setups(alloc: Global, journal: u64) -> Result<[TenantSetup; 2], Fail> {
-    Ok([
-        tenant(b"acme", b"g.acme", journal, network(alloc, b"g.acme.bob")?)?,
-        tenant(b"beta", b"g.beta", journal, network(alloc, b"g.beta.bob")?)?,
-    ])
+fn two_setups(alloc: Global, journal: &'static str) -> Result<[TenantSetup; 2], Fail> {
+    let text = setup_with(
+        alloc,
+        &[
+            ("acme", "journal", journal),
+            ("beta", "", TENANT),
+            ("beta", "journal", journal),
+            ("beta alice", "", PEER),
+            ("beta bob", "", PEER),
+            ("beta route", "", ROUTE),
+            ("beta rate", "", RATE),
+        ],
+    )?;
+    let setup = read_setup(alloc, text.as_bytes())?;
+    Ok(both_of(setup.tenants.into_vec()).ok_or("two tenants")?)
 }
 
-// The books of these two tenants, of which `J` is the list, and the shares of two workers, who keep receipts.
+fn both_of(mut tenants: Vec<TenantSetup>) -> Option<[TenantSetup; 2]> {
+    let beta = tenants.pop()?;
+    let acme = tenants.pop()?;
+    Some([acme, beta])
+}
+
+/// The books of acme and beta, and the shares of two workers, who keep receipts.
+#[derive(Drop)]
+struct Office<J: Run> {
+    books: Books<J>,
+    first: Share<J>,
+    second: Share<J>,
+}
+
+// The office of these two tenants, of which `J` is the list.
 fn two_books<J: Run>(
     alloc: Global,
     opened: Opened,
     setups: &[TenantSetup; 2],
     start: Moment,
-) -> Result<(Books<J>, Share<J>, Share<J>), Fail>
+) -> Result<Office<J>, Fail>
     requires list { (opened.table ≡ J.table) × (opened.size ≡ J.size) }
     requires size { J.size ≡ record { tenants = 2; workers = 2 } }
     requires openings { J.openings ≡ openings_of setups.now start }
@@ -146,37 +78,32 @@ fn two_books<J: Run>(
     let (books, mut shares) = Books::<J>::new(alloc, opened, setups, start, 2, true)?;
     let second = shares.pop().ok_or("the second share")?;
     let first = shares.pop().ok_or("the first share")?;
-    Ok((books, first, second))
+    Ok(Office {
+        books,
+        first,
+        second,
+    })
 }
 
-/// What a test does with the books of acme and beta, and with the shares of two workers.
+/// What a test does in an office.
 trait Trial {
     /// Does it, and tells whether all came of it that should.
-    fn act<J: Run, R: Wait>(
-        &self,
-        rt: &R,
-        alloc: Global,
-        books: Books<J>,
-        first: Share<J>,
-        second: Share<J>,
-    ) -> Result<bool, Fail>;
+    fn act<J: Run, R: Wait + AllocGlobal>(&self, rt: &R, office: Office<J>) -> Result<bool, Fail>;
 }
 
 // Does it, with so many places in each journal.
-fn on_two_books<R: Wait, T: Trial>(
+fn on_two_books<R: Wait + AllocGlobal, T: Trial>(
     rt: &R,
-    alloc: Global,
-    journal: u64,
+    journal: &'static str,
     trial: &T,
 ) -> Result<bool, Fail> {
-    let setups = two_setups(alloc, journal)?;
-    let opened = Opened::new(alloc, 2, 2)?;
-    on_books::<Brand, R, T>(rt, alloc, opened, &setups, start()?, trial)
+    let setups = two_setups(rt.alloc(), journal)?;
+    let opened = Opened::new(rt.alloc(), 2, 2)?;
+    on_books::<Brand, R, T>(rt, opened, &setups, start()?, trial)
 }
 
-fn on_books<J: Run, R: Wait, T: Trial>(
+fn on_books<J: Run, R: Wait + AllocGlobal, T: Trial>(
     rt: &R,
-    alloc: Global,
     opened: Opened,
     setups: &[TenantSetup; 2],
     start: Moment,
@@ -186,8 +113,8 @@ fn on_books<J: Run, R: Wait, T: Trial>(
     requires size { J.size ≡ record { tenants = 2; workers = 2 } }
     requires openings { J.openings ≡ openings_of setups.now start }
 {
-    let (books, first, second) = two_books::<J>(alloc, opened, setups, start)?;
-    trial.act(rt, alloc, books, first, second)
+    let office = two_books::<J>(rt.alloc(), opened, setups, start)?;
+    trial.act(rt, office)
 }
 
 // ---- what is found out
@@ -204,12 +131,15 @@ impl Clock for FixedClock {
     }
 }
 
-// Writes these bytes to the front of a room.
-fn put(room: &mut [u8], bytes: &[u8])
-    requires { length bytes.now ≤ length room.old }
+// What comes back to a link: these bytes, at the front of the room.
+fn filled(room: &mut [u8], bytes: &[u8]) -> Got
     ensures { length room.new ≡ length room.old }
 {
+    if bytes.len() > room.len() {
+        return Got::Fault;
+    }
     room[..bytes.len()].copy_from_slice(bytes);
+    Got::Filled(bytes.len())
 }
 
 /// What the meters of one tenant have counted.
@@ -278,12 +208,10 @@ fn outcome(books: &[(Book, u64)]) -> Option<(i64, i64, u64, u64, u64)> {
 // Whether acme's balances and its book's number are these, once the books are gathered with their shares.
 fn come_to<J: Run>(
     alloc: Global,
-    books: Books<J>,
-    first: Share<J>,
-    second: Share<J>,
+    office: Office<J>,
     wanted: (i64, i64, u64, u64, u64),
 ) -> Result<bool, Fail> {
-    let shares = vec![in alloc; first, second]?;
-    let books = gathered(alloc, books, shares)?;
+    let shares = vec![in alloc; office.first, office.second]?;
+    let books = gathered(alloc, office.books, shares)?;
     Ok(outcome(books.as_slice()) == Some(wanted))
 }

@@ -1,6 +1,6 @@
 //! Eight clients at once, in ten waves, each followed by a roll of both tenants.
 
-use super::wire::{BEGINNING, FULFILL, Terms, bytes, good, posted, request, tenant_text};
+use super::wire::{good_reply, good_text, packet_by, peer_answer, posted, request, two_tenants};
 use super::{ALL, serve_as};
 use service::{Extent, ServeFault};
 use std::alloc::Global;
@@ -28,15 +28,6 @@ const EXTENT: Extent = Extent {
     rounds: Some(50),
 };
 
-// The hexadecimal text of a packet of 1,000 units before and behind the tenant's name in its destination.
-const FRONT: &str =
-    "0c4700000000000003e8323033303031303130303030313030303066687aadf862bd776c8fc18b8e9f8e20089714856ee233b3902a591d0d5f29250c672e";
-
-const BACK: &str = "2e626f622e7800";
-
-/// How many bytes the packet has, and what goes on for it.
-pub const FRAME: usize = 73;
-
 /// What the clients of a tenant ask, and what they are to be told.
 #[derive(Drop)]
 pub struct Exchange {
@@ -49,23 +40,16 @@ pub struct Exchange {
     rolled: Vec<Vec<u8>>,
 }
 
-pub fn exchange_of(alloc: Global, name: &str) -> Result<Exchange, Fail> {
-    let middle = hex::encode(alloc, name.as_bytes())?;
-    let frame = [FRONT, middle.as_str(), BACK].concat(alloc)?;
-    let frame = bytes(alloc, frame.as_str())?;
+fn exchange_of(alloc: Global, name: &str, packet: &str) -> Result<Exchange, Fail> {
     let ilp = ["/ilp/", name].concat(alloc)?;
     let admin = ["/admin/", name].concat(alloc)?;
     let command = b"peer limits bob 1000000 1000000000 1000000000";
     let done = [name, " ok\n"].concat(alloc)?;
     Ok(Exchange {
-        packet: request(alloc, ilp.as_str(), "tok-alice", frame.as_slice())?,
-        fulfilled: good(
-            alloc,
-            "application/octet-stream",
-            bytes(alloc, FULFILL)?.as_slice(),
-        )?,
+        packet: packet_by(alloc, ilp.as_str(), "tok-alice", packet)?,
+        fulfilled: good_reply(alloc, "{fulfill}")?,
         command: request(alloc, admin.as_str(), "root", command.as_slice())?,
-        done: good(alloc, "text/plain", done.as_bytes())?,
+        done: good_text(alloc, done.as_str())?,
         roll: request(alloc, admin.as_str(), "root", b"roll")?,
         rolled: rolled_in_all(alloc, name)?,
     })
@@ -92,7 +76,7 @@ fn rolled(alloc: Global, name: &str, wave: u32) -> Result<Vec<u8>, Fail> {
         " 1021\n",
     ]
     .concat(alloc)?;
-    good(alloc, "text/plain", text.as_bytes())
+    good_text(alloc, text.as_str())
 }
 
 fn rolled_in_all(alloc: Global, name: &str) -> Result<Vec<Vec<u8>>, Fail> {
@@ -252,27 +236,17 @@ fn clients() -> [Told; 8] {
     [acme, beta, acme, beta, acme, beta, acme, beta]
 }
 
-fn tenant_at(alloc: Global, name: &str, port: u16) -> Result<String, Fail> {
-    let terms = Terms {
-        name,
-        port,
-        journal: 2048,
-        hold: 30_000,
-    };
-    tenant_text(alloc, terms)
-}
-
+/// A setup of two tenants whose second peers listen at that port.
 pub fn setup_text(alloc: Global, port: u16) -> Result<String, Fail> {
-    let acme = tenant_at(alloc, "acme", port)?;
-    let beta = tenant_at(alloc, "beta", port)?;
-    Ok([BEGINNING, acme.as_str(), beta.as_str()].concat(alloc)?)
+    two_tenants(alloc, [port, port], "30000")
 }
 
-pub fn peer_answer(alloc: Global) -> Result<Vec<u8>, Fail> {
-    let mut answer = Vec::new(alloc);
-    answer.extend_from_slice(b"HTTP/1.1 200 OK\r\nContent-Length: 35\r\n\r\n")?;
-    answer.extend_from_slice(bytes(alloc, FULFILL)?.as_slice())?;
-    Ok(answer)
+/// What the clients of both tenants ask.
+pub fn both_exchanges(alloc: Global) -> Result<(Exchange, Exchange), Fail> {
+    Ok((
+        exchange_of(alloc, "acme", "{base}")?,
+        exchange_of(alloc, "beta", "{for beta}")?,
+    ))
 }
 
 /// What came of a crowd: how many packets the next peer fulfilled, what the service printed in the end, how often both rolls
@@ -286,23 +260,20 @@ struct Crowd {
     told: [Told; 8],
 }
 
-fn crowd_of<
-    R: Threads
-        + Wait
-        + Net<Listener = TcpListener, Stream = TcpStream>
-        + Clock
-        + AllocGlobal
-        + Sync,
->(rt: &R) -> Result<Crowd, Fail> {
+fn crowd_of<R>(rt: &R) -> Result<Crowd, Fail>
+where
+    R: Threads + Wait + Clock + AllocGlobal + Sync,
+    R: Net<Listener = TcpListener, Stream = TcpStream>,
+{
     let alloc = rt.alloc();
     let peer = TcpListener::bind(rt, "127.0.0.1:0")?;
     let peer_addr = peer.local_addr()?;
     let listener = TcpListener::bind(rt, "127.0.0.1:0")?;
     let addr = listener.local_addr()?;
     let text = setup_text(alloc, peer_addr.port())?;
-    let size = posted(alloc, peer_addr.port(), &[0; FRAME])?.len();
+    let size = posted(alloc, peer_addr.port(), "{sent}")?.len();
     let answer = peer_answer(alloc)?;
-    let (acme, beta) = (exchange_of(alloc, "acme")?, exchange_of(alloc, "beta")?);
+    let (acme, beta) = both_exchanges(alloc)?;
     let mut told = clients();
     let mut lines = Vec::new(alloc);
     let (fulfilled, (end, rolls)) = join(

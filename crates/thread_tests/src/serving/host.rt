@@ -1,10 +1,8 @@
 //! The door of whoever runs the process: what is told there, and a stop while clients send.
 
-use super::crowd::{
-    Exchange, FRAME, connected, exchange_of, fulfils_all, is_told, peer_answer, setup_text,
-};
-use super::wire::{FixedClock, bytes, is_reply, posted, request};
-use super::{CHILD, CONFIG, NOTHING_MORE, asked};
+use super::crowd::{Exchange, both_exchanges, connected, fulfils_all, is_told, setup_text};
+use super::wire::{FixedClock, is_reply, packet_by, peer_answer, posted};
+use super::{NOTHING_MORE, asked};
 use admin_text::read_setup;
 use common_types::Token;
 use service::{Doors, Extent, HostDoor, Plan, ServeFault, serve};
@@ -17,6 +15,7 @@ use std::test::Fail;
 use std::thread::{Threads, join};
 use std::time::{Clock, Duration};
 use std::{io, thread};
+use test_texts::replaced;
 
 pub const HEALTH: &[u8] = b"GET /health HTTP/1.1\r\n\r\n";
 
@@ -36,21 +35,17 @@ pub const HEALTHY: &[u8] =
     b"HTTP/1.1 200 OK\r\nContent-Type: text/plain\r\nContent-Length: 3\r\nConnection: close\r\n\r\nok\n";
 
 // Serves the setup of that text, with a host's door.
-pub fn serve_with_host<
-    'a,
-    R: Threads
-        + Wait
-        + Net<Listener = TcpListener, Stream = TcpStream>
-        + Clock
-        + AllocGlobal
-        + Sync,
->(
+pub fn serve_with_host<'a, R>(
     rt: &R,
     text: &str,
     packets: &'a TcpListener,
     door: &'a TcpListener,
     lines: &mut Vec<u8>,
-) -> Result<(), ServeFault> {
+) -> Result<(), ServeFault>
+where
+    R: Threads + Wait + Clock + AllocGlobal + Sync,
+    R: Net<Listener = TcpListener, Stream = TcpStream>,
+{
     admin_text::laws::setups();
     let (Ok(setup), Some(token)) = (read_setup(rt.alloc(), text.as_bytes()), Token::new(b"host"))
     else {
@@ -87,86 +82,35 @@ fn standing_text(alloc: Global, port: u16, acme: u64, beta: u64) -> Result<Strin
     .concat(alloc)?)
 }
 
+// A tenant as it is written, with a bar at the end of each line.
+const WRITTEN: &str = "\
+|[[tenant]]|address = 'g.{name}'|admin = 'root'|hold = 30000|journal = 2048|margin = 1000|name = '{name}'|\
+|[[tenant.peer]]|asset = 'USD'|balance = {alice}|burst = 1000000|cap = 1000000|ceiling = 1000000000|\
+credit = 1000000000|name = 'alice'|out_token = 'out-alice'|per_second = 1000000|role = 'peer'|scale = 2|\
+token = 'tok-alice'|url = 'http://127.0.0.1:7801/ilp'|\
+|[[tenant.peer]]|asset = 'XRP'|balance = {sign}{bob}|burst = 1000000|cap = 1000000|ceiling = 1000000000|\
+credit = 1000000000|name = 'bob'|out_token = 'out-bob'|per_second = 1000000|role = 'child'|scale = 9|\
+token = 'tok-bob'|url = 'http://127.0.0.1:{port}/ilp'|\
+|[[tenant.rate]]|den = 2|from = 'alice'|num = 3|to = 'bob'|\
+|[[tenant.route]]|fee = 0|peer = 'bob'|prefix = 'g.{name}.bob'|";
+
 // A tenant of which so many packets of 1,000 units were fulfilled, for 1,500 each.
 fn tenant_standing(alloc: Global, name: &str, port: u16, packets: u64) -> Result<String, Fail> {
     let alice = number(alloc, packets.saturating_mul(1_000))?;
     let bob = number(alloc, packets.saturating_mul(1_500))?;
     let sign = if packets == 0 { "" } else { "-" };
     let port = number(alloc, u64::from(port))?;
-    Ok([
-        "\n[[tenant]]\naddress = \"g.",
-        name,
-        TERMS,
-        name,
-        ALICE,
-        alice.as_str(),
-        ALICES,
-        sign,
-        bob.as_str(),
-        BOBS,
-        port.as_str(),
-        RATE,
-        name,
-        ".bob\"\n",
-    ]
-    .concat(alloc)?)
+    let values = [
+        ("|", "\n"),
+        ("'", "\""),
+        ("{name}", name),
+        ("{alice}", alice.as_str()),
+        ("{sign}", sign),
+        ("{bob}", bob.as_str()),
+        ("{port}", port.as_str()),
+    ];
+    Ok(replaced(alloc, WRITTEN, &values)?)
 }
-
-const TERMS: &str = "\"
-admin = \"root\"
-hold = 30000
-journal = 2048
-margin = 1000
-name = \"";
-
-const ALICE: &str = "\"
-
-[[tenant.peer]]
-asset = \"USD\"
-balance = ";
-
-const ALICES: &str = "
-burst = 1000000
-cap = 1000000
-ceiling = 1000000000
-credit = 1000000000
-name = \"alice\"
-out_token = \"out-alice\"
-per_second = 1000000
-role = \"peer\"
-scale = 2
-token = \"tok-alice\"
-url = \"http://127.0.0.1:7801/ilp\"
-
-[[tenant.peer]]
-asset = \"XRP\"
-balance = ";
-
-const BOBS: &str = "
-burst = 1000000
-cap = 1000000
-ceiling = 1000000000
-credit = 1000000000
-name = \"bob\"
-out_token = \"out-bob\"
-per_second = 1000000
-role = \"child\"
-scale = 9
-token = \"tok-bob\"
-url = \"http://127.0.0.1:";
-
-const RATE: &str = "/ilp\"
-
-[[tenant.rate]]
-den = 2
-from = \"alice\"
-num = 3
-to = \"bob\"
-
-[[tenant.route]]
-fee = 0
-peer = \"bob\"
-prefix = \"g.";
 
 // A number in decimal digits.
 fn number(alloc: Global, number: u64) -> Result<String, Fail> {
@@ -211,14 +155,11 @@ fn told_in_turn(
 }
 
 // The same, and what the service prints in the end.
-fn served_in_turn<
-    R: Threads
-        + Wait
-        + Net<Listener = TcpListener, Stream = TcpStream>
-        + Clock
-        + AllocGlobal
-        + Sync,
->(rt: &R) -> Result<(Vec<Vec<u8>>, Vec<u8>), Fail> {
+fn served_in_turn<R>(rt: &R) -> Result<(Vec<Vec<u8>>, Vec<u8>), Fail>
+where
+    R: Threads + Wait + Clock + AllocGlobal + Sync,
+    R: Net<Listener = TcpListener, Stream = TcpStream>,
+{
     let alloc = rt.alloc();
     let text = setup_text(alloc, 7802)?;
     let packets = TcpListener::bind(rt, "127.0.0.1:0")?;
@@ -227,12 +168,7 @@ fn served_in_turn<
         packets: packets.local_addr()?,
         host: door.local_addr()?,
     };
-    let packet = request(
-        alloc,
-        "/ilp/acme",
-        "tok-bob",
-        bytes(alloc, CONFIG)?.as_slice(),
-    )?;
+    let packet = packet_by(alloc, "/ilp/acme", "tok-bob", "{config}")?;
     let mut lines = Vec::new(alloc);
     let (end, answers) = join(
         rt,
@@ -299,7 +235,7 @@ fn expect_told(rt: &impl Abort, alloc: Global, answers: &[Vec<u8>]) -> Result<()
     assert!(rt; stranger.as_slice() == UNAUTHORIZED);
     assert!(rt; is_setup(alloc, before.as_slice())?);
     assert!(rt; is_setup(alloc, after.as_slice())?);
-    assert!(rt; is_reply(alloc, packet.as_slice(), CHILD)?);
+    assert!(rt; is_reply(alloc, packet.as_slice(), "{configuration of bob}")?);
     expect_metrics(rt, metrics.as_slice(), METRICS_WANTED)
 }
 
@@ -397,14 +333,11 @@ struct Stop {
     port: u16,
 }
 
-fn stop_under_load<
-    R: Threads
-        + Wait
-        + Net<Listener = TcpListener, Stream = TcpStream>
-        + Clock
-        + AllocGlobal
-        + Sync,
->(rt: &R) -> Result<Stop, Fail> {
+fn stop_under_load<R>(rt: &R) -> Result<Stop, Fail>
+where
+    R: Threads + Wait + Clock + AllocGlobal + Sync,
+    R: Net<Listener = TcpListener, Stream = TcpStream>,
+{
     let alloc = rt.alloc();
     let peer = TcpListener::bind(rt, "127.0.0.1:0")?;
     let packets = TcpListener::bind(rt, "127.0.0.1:0")?;
@@ -415,9 +348,9 @@ fn stop_under_load<
         door.local_addr()?,
     );
     let text = setup_text(alloc, peer_addr.port())?;
-    let size = posted(alloc, peer_addr.port(), &[0; FRAME])?.len();
+    let size = posted(alloc, peer_addr.port(), "{sent}")?.len();
     let answer = peer_answer(alloc)?;
-    let (acme, beta) = (exchange_of(alloc, "acme")?, exchange_of(alloc, "beta")?);
+    let (acme, beta) = both_exchanges(alloc)?;
     let mut clients = [false, true, false, true].map(|beta| Client {
         beta,
         fulfilled: 0,
@@ -469,14 +402,9 @@ fn fulfilled_of(clients: &[Client], beta: bool) -> u64 {
 fn lines_after(alloc: Global, acme: u64, beta: u64) -> Result<String, Fail> {
     let acme = number(alloc, acme)?;
     let beta = number(alloc, beta)?;
-    Ok([
-        "acme 200 ",
-        acme.as_str(),
-        " 4xx 0 503 0 link 0\nbeta 200 ",
-        beta.as_str(),
-        " 4xx 0 503 0 link 0\n",
-    ]
-    .concat(alloc)?)
+    let lines = "acme 200 {acme} 4xx 0 503 0 link 0\nbeta 200 {beta} 4xx 0 503 0 link 0\n";
+    let values = [("{acme}", acme.as_str()), ("{beta}", beta.as_str())];
+    Ok(replaced(alloc, lines, &values)?)
 }
 
 // What a stop leaves is what clients and peers were told: each packet that the peer fulfilled was told so, and stands in the

@@ -2,12 +2,9 @@
 
 use super::crowd::{connected, setup_text};
 use super::host::{HEALTH, HEALTHY, METRICS, STOP, serve_with_host};
-use super::wire::{FULFILL, bytes, good, posted, request};
-use super::{
-    BASE, CHILD, CONFIG, GOOD_HEAD, NOTHING, NOTHING_MORE, answer_of, asked, serve_some,
-    setup_holding, setup_with,
-};
-use service::ServeFault;
+use super::wire::{good_reply, good_text, one_tenant, packet_by, peer_answer, posted, request};
+use super::{ALONE, NOTHING, NOTHING_MORE, answer_of, asked, next_request, served_while, usual};
+use service::{Extent, ServeFault};
 use std::alloc::Global;
 use std::io::{Read, Write};
 use std::net::{Net, OpenListener, SocketAddr, TcpListener, TcpStream};
@@ -57,7 +54,7 @@ fn asked_without_end(
 ) -> Result<(u64, u64), Fail> {
     let stranger = request(alloc, "/admin/acme", "toor", b"balances")?;
     let operator = request(alloc, "/admin/acme", "root", b"balances")?;
-    let balances = good(alloc, "text/plain", NOTHING.as_bytes())?;
+    let balances = good_text(alloc, NOTHING)?;
     let strangers = answers_until_closed(rt, alloc, addr, stranger.as_slice(), UNAUTHORIZED)?;
     let operators = answers_until_closed(
         rt,
@@ -73,17 +70,14 @@ fn asked_without_end(
 #[test]
 fn who_asks_without_end_gives_way(rt: HostRuntime) -> Result<(), Fail> {
     let alloc = rt.alloc();
-    let setup = setup_with(alloc, 7802)?;
-    let listener = TcpListener::bind(&rt, "127.0.0.1:0")?;
-    let addr = listener.local_addr()?;
-    let mut lines = Vec::new(alloc);
-    let (end, counts) = join(
-        &rt,
-        || serve_some(&rt, setup.as_str(), 2, NOTHING_MORE, &listener, &mut lines),
-        || asked_without_end(&rt, alloc, &addr),
-    );
-    let (strangers, operators) = counts?;
-    end?;
+    let setup = usual(alloc)?;
+    let extent = Extent {
+        rounds: Some(2),
+        ..ALONE
+    };
+    let ask = |addr: &SocketAddr| asked_without_end(&rt, alloc, addr);
+    let (counts, lines) = served_while(&rt, setup.as_str(), extent, NOTHING_MORE, ask)?;
+    let (strangers, operators) = counts;
     let count = operators.to_string(alloc)?;
     let wanted = ["acme 200 ", count.as_str(), " 4xx 0 503 0 link 0\n"].concat(alloc)?;
     assert!(rt; strangers == 1);
@@ -186,26 +180,17 @@ fn callers_who_bring_nothing_delay_no_host(rt: HostRuntime) -> Result<(), Fail> 
     Ok(())
 }
 
-// BASE as it goes on where it is held for eight seconds at most.
-const SENT: &str =
-    "0c4700000000000005dc323033303031303130303030303830303066687aadf862bd776c8fc18b8e9f8e20089714856ee233b3902a591d0d5f29250c672e61636d652e626f622e7800";
-
 // Takes one packet, and fulfils it after almost a second.
 fn fulfils_late(
     rt: &(impl Clock + AllocGlobal),
     listener: &TcpListener,
     wanted: &[u8],
-    fulfill: &[u8],
+    answer: &[u8],
 ) -> io::Result<bool> {
-    let alloc = rt.alloc();
-    let (stream, _) = listener.accept()?;
-    stream.set_read_timeout(Some(Duration::from_secs(20)))?;
-    let mut came = vec![in alloc; 0u8; wanted.len()]?;
-    let (mut input, mut out) = (&stream, &stream);
-    input.read_exact(came.as_mut_slice())?;
+    let (stream, came) = next_request(rt.alloc(), listener, wanted.len())?;
     thread::sleep(rt, Duration::from_millis(900));
-    out.write_all(GOOD_HEAD)?;
-    out.write_all(fulfill)?;
+    let mut out = &stream;
+    out.write_all(answer)?;
     Ok(came.as_slice() == wanted)
 }
 
@@ -237,16 +222,14 @@ struct Pipelined {
 }
 
 fn two_requests(alloc: Global, port: u16) -> Result<Pipelined, Fail> {
-    let (base, config) = (bytes(alloc, BASE)?, bytes(alloc, CONFIG)?);
-    let (fulfill, child) = (bytes(alloc, FULFILL)?, bytes(alloc, CHILD)?);
-    let mut answers = good(alloc, "application/octet-stream", fulfill.as_slice())?;
-    let second = good(alloc, "application/octet-stream", child.as_slice())?;
+    let mut answers = good_reply(alloc, "{fulfill}")?;
+    let second = good_reply(alloc, "{configuration of bob}")?;
     answers.extend_from_slice(second.as_slice())?;
     Ok(Pipelined {
-        packet: request(alloc, "/ilp/acme", "tok-alice", base.as_slice())?,
-        config: request(alloc, "/ilp/acme", "tok-bob", config.as_slice())?,
+        packet: packet_by(alloc, "/ilp/acme", "tok-alice", "{base}")?,
+        config: packet_by(alloc, "/ilp/acme", "tok-bob", "{config}")?,
         answers,
-        posted: posted(alloc, port, bytes(alloc, SENT)?.as_slice())?,
+        posted: posted(alloc, port, "{sent until 8 s}")?,
     })
 }
 
@@ -258,19 +241,21 @@ struct Between {
     answers: io::Result<Vec<u8>>,
 }
 
-fn served_between<
-    R: Threads
-        + Wait
-        + Net<Listener = TcpListener, Stream = TcpStream>
-        + Clock
-        + AllocGlobal
-        + Sync,
->(rt: &R, peer: &TcpListener, setup: &str, both: &Pipelined) -> Result<Between, Fail> {
+fn served_between<R>(
+    rt: &R,
+    peer: &TcpListener,
+    setup: &str,
+    both: &Pipelined,
+) -> Result<Between, Fail>
+where
+    R: Threads + Wait + Clock + AllocGlobal + Sync,
+    R: Net<Listener = TcpListener, Stream = TcpStream>,
+{
     let alloc = rt.alloc();
     let packets = TcpListener::bind(rt, "127.0.0.1:0")?;
     let door = TcpListener::bind(rt, "127.0.0.1:0")?;
     let (addr, host) = (packets.local_addr()?, door.local_addr()?);
-    let fulfill = bytes(alloc, FULFILL)?;
+    let answer = peer_answer(alloc)?;
     let requests = [both.packet.as_slice(), both.config.as_slice()];
     let mut lines = Vec::new(alloc);
     let (end, (peer, answers)) = join(
@@ -279,7 +264,7 @@ fn served_between<
         || {
             join(
                 rt,
-                || fulfils_late(rt, peer, both.posted.as_slice(), fulfill.as_slice()),
+                || fulfils_late(rt, peer, both.posted.as_slice(), answer.as_slice()),
                 || stopped_between(rt, alloc, &addr, &host, requests),
             )
         },
@@ -292,7 +277,7 @@ fn a_second_request_is_answered_at_a_stop(rt: HostRuntime) -> Result<(), Fail> {
     let alloc = rt.alloc();
     let peer = TcpListener::bind(&rt, "127.0.0.1:0")?;
     let port = peer.local_addr()?.port();
-    let setup = setup_holding(alloc, port, 8_000)?;
+    let setup = one_tenant(alloc, port, "8000")?;
     let both = two_requests(alloc, port)?;
     let between = served_between(&rt, &peer, setup.as_str(), &both)?;
     between.end?;

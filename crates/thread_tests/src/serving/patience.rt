@@ -1,15 +1,14 @@
 //! A client that waits until it is told to go on.
 
-use super::wire::{bytes, good};
-use super::{CHILD, CONFIG, NOTHING_MORE, answer_of, serve_some, setup_with};
+use super::wire::good_reply;
+use super::{ALONE, NOTHING_MORE, answer_of, served_while, usual};
 use std::alloc::Global;
 use std::io;
 use std::io::{Read, Write};
-use std::net::{Net, OpenListener, Shutdown, SocketAddr, TcpListener, TcpStream};
-use std::sync::Wait;
+use std::net::{Net, Shutdown, SocketAddr, TcpStream};
 use std::test::Fail;
-use std::thread::{Threads, join};
-use std::time::{Clock, Duration};
+use std::time::Duration;
+use test_texts::frame;
 
 const HEAD: &[u8] =
     b"POST /ilp/acme HTTP/1.1\r\nAuthorization: Bearer tok-bob\r\nContent-Length: 72\r\nExpect: 100-continue\r\n\r\n";
@@ -36,37 +35,14 @@ fn asked_patiently(
     Ok((first, rest))
 }
 
-// The same of a service that ends after one connection.
-fn served_patiently<
-    R: Threads
-        + Wait
-        + Net<Listener = TcpListener, Stream = TcpStream>
-        + Clock
-        + AllocGlobal
-        + Sync,
->(rt: &R) -> Result<([u8; 25], Vec<u8>), Fail> {
-    let alloc = rt.alloc();
-    let setup = setup_with(alloc, 7802)?;
-    let body = bytes(alloc, CONFIG)?;
-    let listener = TcpListener::bind(rt, "127.0.0.1:0")?;
-    let addr = listener.local_addr()?;
-    let mut lines = Vec::new(alloc);
-    let (end, came) = join(
-        rt,
-        || serve_some(rt, setup.as_str(), 1, NOTHING_MORE, &listener, &mut lines),
-        || asked_patiently(rt, alloc, &addr, body.as_slice()),
-    );
-    let came = came?;
-    end?;
-    Ok(came)
-}
-
 #[test]
 fn a_client_that_waits_is_told_to_go_on(rt: HostRuntime) -> Result<(), Fail> {
     let alloc = rt.alloc();
-    let (first, rest) = served_patiently(&rt)?;
-    let child = bytes(alloc, CHILD)?;
-    let wanted = good(alloc, "application/octet-stream", child.as_slice())?;
+    let setup = usual(alloc)?;
+    let body = frame(alloc, "{config}")?;
+    let ask = |addr: &SocketAddr| Ok(asked_patiently(&rt, alloc, addr, body.as_slice())?);
+    let ((first, rest), _) = served_while(&rt, setup.as_str(), ALONE, NOTHING_MORE, ask)?;
+    let wanted = good_reply(alloc, "{configuration of bob}")?;
     assert!(rt; first.as_slice() == GO_ON.as_slice());
     assert_eq!(rt; rest.as_slice(), wanted.as_slice());
     Ok(())

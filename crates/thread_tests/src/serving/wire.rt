@@ -1,15 +1,12 @@
-//! What goes over the wire, and the setup of a tenant.
+//! What goes over the wire, and the setups of tenants whose second peer listens on loopback. Frames are named in braces.
 
 ghost use Rattle.std.specs.Prelude.{◌≡◌};
 
+use crate::START;
 use ilp_addr::Moment;
 use std::alloc::Global;
 use std::test::Fail;
-
-// 2030-01-01T00:00:00Z.
-const START: u64 = 1_893_456_000_000;
-
-pub const FULFILL: &str = "0d21000000000000000000000000000000000000000000000000000000000000000000";
+use test_texts::{frame, replaced, setup_by};
 
 /// A clock that stands at the start.
 pub struct FixedClock;
@@ -22,84 +19,66 @@ impl workers::Clock for FixedClock {
     }
 }
 
-/// What differs between the tenants of these tests.
-#[derive(Clone, Copy)]
-pub struct Terms<'a> {
-    pub name: &'a str,
-    /// Where its second peer listens.
-    pub port: u16,
-    pub journal: u32,
-    /// For how many milliseconds it holds a packet at most.
-    pub hold: u32,
-}
-
-/// How a setup begins.
-pub const BEGINNING: &str = "version = 1\nstart = 1893456000000\n";
-
-/// A tenant with two peers, and a rate from the first to the second one.
-pub fn tenant_text(alloc: Global, terms: Terms<'_>) -> Result<String, Fail> {
-    let name = terms.name;
-    let port = terms.port.to_string(alloc)?;
-    let journal = terms.journal.to_string(alloc)?;
-    let hold = terms.hold.to_string(alloc)?;
-    Ok([
-        "[[tenant]]\nname = \"",
-        name,
-        "\"\naddress = \"g.",
-        name,
-        "\"\nadmin = \"root\"\njournal = ",
-        journal.as_str(),
-        "\nhold = ",
-        hold.as_str(),
-        ALICE,
-        "http://127.0.0.1:",
-        port.as_str(),
-        BOB,
-        "[[tenant.route]]\nprefix = \"g.",
-        name,
-        ".bob\"\npeer = \"bob\"\n",
-        RATE,
-    ]
-    .concat(alloc)?)
-}
-
-const ALICE: &str = "
-[[tenant.peer]]
-name = \"alice\"
-role = \"peer\"
-token = \"tok-alice\"
-url = \"http://127.0.0.1:7801/ilp\"
-out_token = \"out-alice\"
-asset = \"USD\"
-scale = 2
-cap = 1000000
-ceiling = 1000000000
-credit = 1000000000
-burst = 1000000
-per_second = 1000000
-[[tenant.peer]]
-name = \"bob\"
-role = \"child\"
-token = \"tok-bob\"
-url = \"";
-
-const BOB: &str = "/ilp\"
-out_token = \"out-bob\"
-asset = \"XRP\"
-scale = 9
-cap = 1000000
-ceiling = 1000000000
-credit = 1000000000
-burst = 1000000
-per_second = 1000000
+// What is not usual of one tenant.
+const ONE: &str = "\
+acme|admin|'root'
+acme|hold|{hold}
+bob|url|'http://127.0.0.1:{port}/ilp'
 ";
 
-const RATE: &str = "[[tenant.rate]]
-from = \"alice\"
-to = \"bob\"
-num = 3
-den = 2
+/// A setup of one tenant whose second peer listens at that port, and which holds packets for so many milliseconds at most.
+pub fn one_tenant(alloc: Global, port: u16, hold: &str) -> Result<String, Fail> {
+    let port = port.to_string(alloc)?;
+    let text = setup_by(alloc, ONE)?;
+    let values = [("{hold}", hold), ("{port}", port.as_str())];
+    Ok(replaced(alloc, text.as_str(), &values)?)
+}
+
+// What is not usual of two tenants.
+const TWO: &str = "\
+acme|admin|'root'
+acme|journal|2048
+acme|hold|{hold}
+alice|ceiling|1000000000
+alice|credit|1000000000
+alice|burst|1000000
+alice|per_second|1000000
+bob|url|'http://127.0.0.1:{acme}/ilp'
+bob|ceiling|1000000000
+bob|credit|1000000000
+bob|burst|1000000
+bob|per_second|1000000
+beta||[[tenant]]
+beta|admin|'root'
+beta|journal|2048
+beta|hold|{hold}
+beta alice||[[tenant.peer]]
+beta alice|ceiling|1000000000
+beta alice|credit|1000000000
+beta alice|burst|1000000
+beta alice|per_second|1000000
+beta bob||[[tenant.peer]]
+beta bob|url|'http://127.0.0.1:{beta}/ilp'
+beta bob|ceiling|1000000000
+beta bob|credit|1000000000
+beta bob|burst|1000000
+beta bob|per_second|1000000
+beta route||[[tenant.route]]
+beta rate||[[tenant.rate]]
 ";
+
+/// A setup of two tenants whose second peers listen at these ports, and which hold packets for so many milliseconds at most.
+pub fn two_tenants(alloc: Global, [acme, beta]: [u16; 2], hold: &str) -> Result<String, Fail> {
+    let acme = acme.to_string(alloc)?;
+    let beta = beta.to_string(alloc)?;
+    let text = setup_by(alloc, TWO)?;
+    let values = [
+        ("{hold}", hold),
+        ("{acme}", acme.as_str()),
+        ("{beta}", beta.as_str()),
+    ];
+    Ok(replaced(alloc, text.as_str(), &values)?)
+}
 
 /// A request with that token and that body.
 pub fn request(alloc: Global, path: &str, token: &str, body: &[u8]) -> Result<Vec<u8>, Fail> {
@@ -117,8 +96,14 @@ pub fn request(alloc: Global, path: &str, token: &str, body: &[u8]) -> Result<Ve
     with_body(alloc, head.as_str(), body)
 }
 
-/// An answer of status 200 with that body.
-pub fn good(alloc: Global, kind: &str, body: &[u8]) -> Result<Vec<u8>, Fail> {
+/// A request with that token and that packet.
+pub fn packet_by(alloc: Global, path: &str, token: &str, packet: &str) -> Result<Vec<u8>, Fail> {
+    let packet = frame(alloc, packet)?;
+    request(alloc, path, token, packet.as_slice())
+}
+
+// An answer of status 200 with that body.
+fn good(alloc: Global, kind: &str, body: &[u8]) -> Result<Vec<u8>, Fail> {
     let size = body.len().to_string(alloc)?;
     let head = [
         "HTTP/1.1 200 OK\r\nContent-Type: ",
@@ -131,23 +116,34 @@ pub fn good(alloc: Global, kind: &str, body: &[u8]) -> Result<Vec<u8>, Fail> {
     with_body(alloc, head.as_str(), body)
 }
 
-/// Whether an answer is of status 200, with the reply of these hexadecimal digits.
+/// An answer of status 200 with that reply.
+pub fn good_reply(alloc: Global, reply: &str) -> Result<Vec<u8>, Fail> {
+    let reply = frame(alloc, reply)?;
+    good(alloc, "application/octet-stream", reply.as_slice())
+}
+
+/// An answer of status 200 with that text.
+pub fn good_text(alloc: Global, text: &str) -> Result<Vec<u8>, Fail> {
+    good(alloc, "text/plain", text.as_bytes())
+}
+
+/// Whether an answer is of status 200, with that reply.
 pub fn is_reply(alloc: Global, answer: &[u8], reply: &str) -> Result<bool, Fail> {
-    let reply = bytes(alloc, reply)?;
-    let wanted = good(alloc, "application/octet-stream", reply.as_slice())?;
+    let wanted = good_reply(alloc, reply)?;
     Ok(answer == wanted.as_slice())
 }
 
 /// Whether an answer is of status 200, with that text.
 pub fn is_text(alloc: Global, answer: &[u8], text: &str) -> Result<bool, Fail> {
-    let wanted = good(alloc, "text/plain", text.as_bytes())?;
+    let wanted = good_text(alloc, text)?;
     Ok(answer == wanted.as_slice())
 }
 
 /// What the peer that listens at the port is sent for that packet.
-pub fn posted(alloc: Global, port: u16, frame: &[u8]) -> Result<Vec<u8>, Fail> {
+pub fn posted(alloc: Global, port: u16, packet: &str) -> Result<Vec<u8>, Fail> {
+    let packet = frame(alloc, packet)?;
     let port = port.to_string(alloc)?;
-    let size = frame.len().to_string(alloc)?;
+    let size = packet.len().to_string(alloc)?;
     let head = [
         "POST /ilp HTTP/1.1\r\nHost: 127.0.0.1:",
         port.as_str(),
@@ -156,7 +152,17 @@ pub fn posted(alloc: Global, port: u16, frame: &[u8]) -> Result<Vec<u8>, Fail> {
         "\r\nConnection: close\r\n\r\n",
     ]
     .concat(alloc)?;
-    with_body(alloc, head.as_str(), frame)
+    with_body(alloc, head.as_str(), packet.as_slice())
+}
+
+/// The answer of a peer that fulfils a packet.
+pub fn peer_answer(alloc: Global) -> Result<Vec<u8>, Fail> {
+    let fulfill = frame(alloc, "{fulfill}")?;
+    with_body(
+        alloc,
+        "HTTP/1.1 200 OK\r\nContent-Length: 35\r\n\r\n",
+        fulfill.as_slice(),
+    )
 }
 
 fn with_body(alloc: Global, head: &str, body: &[u8]) -> Result<Vec<u8>, Fail> {
@@ -164,8 +170,4 @@ fn with_body(alloc: Global, head: &str, body: &[u8]) -> Result<Vec<u8>, Fail> {
     whole.extend_from_slice(head.as_bytes())?;
     whole.extend_from_slice(body)?;
     Ok(whole)
-}
-
-pub fn bytes(alloc: Global, text: &str) -> Result<Vec<u8>, Fail> {
-    Ok(hex::decode(alloc, text)?)
 }

@@ -2,8 +2,8 @@
 
 use super::commands::closed;
 use super::packets::{FULFILLED, is_carried};
-use super::{Trial, on_two_books};
-use books_shared::{Books, Share};
+use super::{Office, Trial, on_two_books};
+use books_shared::Share;
 use one_list::Run;
 use receipts::{Audited, Receipt, audit};
 use std::alloc::Global;
@@ -25,15 +25,13 @@ fn is_complete<J: Run>(alloc: Global, period: &Period, share: &Share<J>) -> Resu
 }
 
 // The same, once a packet is fulfilled and the period closed.
-fn is_complete_in_the_end<J: Run, R: Wait>(
+fn is_complete_in_the_end<J: Run, R: Wait + AllocGlobal>(
     rt: &R,
-    alloc: Global,
-    books: &Books<J>,
-    share: &mut Share<J>,
+    office: &mut Office<J>,
 ) -> Result<bool, Fail> {
-    let is_carried = is_carried(rt, alloc, books, share, &FULFILLED)?;
-    let period = closed(rt, alloc, books, share)?;
-    Ok(is_carried && is_complete(alloc, &period, share)?)
+    let is_carried = is_carried(rt, office, &FULFILLED)?;
+    let period = closed(rt, office)?;
+    Ok(is_carried && is_complete(rt.alloc(), &period, &office.first)?)
 }
 
 // How many receipts the share keeps.
@@ -46,21 +44,18 @@ fn receipts_of<J: Run>(share: &Share<J>) -> Option<usize> {
 struct Receipts;
 
 impl Trial for Receipts {
-    fn act<J: Run, R: Wait>(
+    fn act<J: Run, R: Wait + AllocGlobal>(
         &self,
         rt: &R,
-        alloc: Global,
-        books: Books<J>,
-        mut first: Share<J>,
-        second: Share<J>,
+        mut office: Office<J>,
     ) -> Result<bool, Fail> {
-        let is_complete = is_complete_in_the_end(rt, alloc, &books, &mut first)?;
-        Ok(is_complete && receipts_of(&second) == Some(0))
+        let is_complete = is_complete_in_the_end(rt, &mut office)?;
+        Ok(is_complete && receipts_of(&office.second) == Some(0))
     }
 }
 
 #[test]
 fn receipts_are_complete(rt: HostRuntime) -> Result<(), Fail> {
-    assert!(rt; on_two_books(&rt, rt.alloc(), 64, &Receipts)?);
+    assert!(rt; on_two_books(&rt, "64", &Receipts)?);
     Ok(())
 }

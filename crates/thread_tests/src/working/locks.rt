@@ -1,25 +1,20 @@
 //! The locks of two tenants.
 
-use super::{Trial, on_two_books, start};
-use books_shared::{Books, Share};
+use super::{Office, Trial, on_two_books, start};
+use books_shared::Books;
 use one_list::Run;
-use std::alloc::Global;
 use std::sync::Wait;
 use std::test::Fail;
 
 // Ticks acme's book. Whether its lock was held over that, and beta's was free.
-fn ticked<J: Run, R: Wait>(
-    rt: &R,
-    alloc: Global,
-    books: &Books<J>,
-    share: &mut Share<J>,
-) -> Result<bool, Fail> {
+fn ticked<J: Run, R: Wait + AllocGlobal>(rt: &R, office: &mut Office<J>) -> Result<bool, Fail> {
+    let books = &office.books;
     if books.tenants() < 2 {
         return Err("two tenants".into());
     }
-    share.make_room(alloc, None)?;
+    office.first.make_room(rt.alloc(), None)?;
     let mut guard = books.enter(rt, 0);
-    guard.tick(share, start()?)?;
+    guard.tick(&mut office.first, start()?)?;
     Ok(books.try_enter(0).is_none() && books.try_enter(1).is_some())
 }
 
@@ -44,22 +39,19 @@ fn entries_at_once<J: Run>(books: &Books<J>) -> Option<usize> {
 struct OwnLock;
 
 impl Trial for OwnLock {
-    fn act<J: Run, R: Wait>(
+    fn act<J: Run, R: Wait + AllocGlobal>(
         &self,
         rt: &R,
-        alloc: Global,
-        books: Books<J>,
-        mut first: Share<J>,
-        _second: Share<J>,
+        mut office: Office<J>,
     ) -> Result<bool, Fail> {
-        let is_locked = ticked(rt, alloc, &books, &mut first)?;
-        let has_one = entries(rt, &books) == Some(1) && entries_at_once(&books) == Some(1);
-        Ok(is_locked && has_one)
+        let is_locked = ticked(rt, &mut office)?;
+        let books = &office.books;
+        Ok(is_locked && entries(rt, books) == Some(1) && entries_at_once(books) == Some(1))
     }
 }
 
 #[test]
 fn a_lock_is_a_tenants_own(rt: HostRuntime) -> Result<(), Fail> {
-    assert!(rt; on_two_books(&rt, rt.alloc(), 64, &OwnLock)?);
+    assert!(rt; on_two_books(&rt, "64", &OwnLock)?);
     Ok(())
 }

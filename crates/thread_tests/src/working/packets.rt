@@ -1,9 +1,10 @@
 //! Packets that one worker carries.
 
 use super::{
-    BASE, BOB_URL, FULFILL, ONE_ANSWERED, START, Tally, Trial, come_to, counts_of, entries_of,
-    gathered, on_two_books, put,
+    ONE_ANSWERED, Office, Tally, Trial, come_to, counts_of, entries_of, filled, gathered,
+    on_two_books,
 };
+use crate::START;
 use books_shared::{Books, GatherFault, Share};
 use floor_core::{Got, Slot};
 use ilp_addr::Moment;
@@ -14,30 +15,28 @@ use std::sync::Wait;
 use std::sync::atomic::{AtomicU64, Ordering};
 use std::test::Fail;
 use tenant_core::Book;
+use test_texts::frame;
 use workers::{Clock, Gate, Job, Link, Outgoing, Point, Reply, carry};
 
-// BASE as it goes on.
-const SENT: &[u8; 73] = b"\x0cG\0\0\0\0\0\0\x05\xdc20300101000009000\
-    \x66\x68\x7a\xad\xf8\x62\xbd\x77\x6c\x8f\xc1\x8b\x8e\x9f\x8e\x20\
-    \x08\x97\x14\x85\x6e\xe2\x33\xb3\x90\x2a\x59\x1d\x0d\x5f\x29\x25\
-    \x0cg.acme.bob.x\0";
+// Where bob's packets go.
+const BOB_URL: &[u8] = b"http://127.0.0.1:7802/ilp";
 
-// When it expires: nine seconds after the start.
+// When what goes on expires: nine seconds after the start.
 const SENT_EXPIRY: u64 = START + 9_000;
 
-/// A packet for acme, what becomes of it, and what the share has counted then.
+/// A packet for acme, what becomes of it, and what the share has counted then. Frames are named in braces.
 #[derive(Clone, Copy)]
 pub(super) struct Packet {
     title: &'static str,
     token: &'static [u8],
-    frame: &'static [u8],
+    frame: &'static str,
     // Whether bob fulfills it.
     is_fulfilled: bool,
     // By how many milliseconds the clock goes on each time it is read.
     step: u64,
     reply: Reply,
     code: u16,
-    told: &'static [u8],
+    told: &'static str,
     tally: Tally,
     sends: u64,
     entries: u64,
@@ -50,12 +49,12 @@ pub(super) struct Packet {
 pub(super) const FULFILLED: Packet = Packet {
     title: "fulfilled",
     token: b"tok-alice",
-    frame: BASE,
+    frame: "{base}",
     is_fulfilled: true,
     step: 0,
     reply: Reply::Settled(Got::Filled(35)),
     code: 200,
-    told: FULFILL,
+    told: "{fulfill}",
     tally: ONE_ANSWERED,
     sends: 1,
     entries: 2,
@@ -67,7 +66,7 @@ pub(super) const FULFILLED: Packet = Packet {
 const LATE: Packet = Packet {
     title: "fulfilled when its time is over",
     step: 10_000,
-    told: b"\x0e\x1eR00\x06g.acme\x12transfer timed out\0",
+    told: "{R00}",
     gathered: (0, 0, 0, 0, 2),
     ..FULFILLED
 };
@@ -76,7 +75,7 @@ const UNANSWERED: Packet = Packet {
     title: "nothing comes back",
     is_fulfilled: false,
     reply: Reply::Settled(Got::Fault),
-    told: b"\x0e\x1cT01\x06g.acme\x10peer unreachable\0",
+    told: "{T01}",
     tally: Tally {
         faults: 1,
         ..ONE_ANSWERED
@@ -89,7 +88,7 @@ const UNANSWERED: Packet = Packet {
 const BUSY: Packet = Packet {
     title: "the journal is full",
     reply: Reply::Decided,
-    told: b"\x0e\x1aT03\x06g.acme\x0econnector busy\0",
+    told: "{T03}",
     sends: 0,
     full_journals: 1,
     ..FULFILLED
@@ -97,10 +96,10 @@ const BUSY: Packet = Packet {
 
 const NO_PREPARE: Packet = Packet {
     title: "no Prepare",
-    frame: FULFILL,
+    frame: "{fulfill}",
     reply: Reply::Malformed,
     code: 400,
-    told: b"",
+    told: "",
     tally: Tally {
         answered: 0,
         refused: 1,
@@ -117,7 +116,7 @@ static REFUSED: [Packet; 3] = [
     Packet {
         title: "a token of 65 bytes",
         token: b"aaaaaaaaaaaaaaaaaaaaaaaaaaaaaaaaaaaaaaaaaaaaaaaaaaaaaaaaaaaaaaaaa",
-        frame: BASE,
+        frame: "{base}",
         reply: Reply::Nameless,
         code: 401,
         ..NO_PREPARE
@@ -125,7 +124,7 @@ static REFUSED: [Packet; 3] = [
     Packet {
         title: "a token of nobody",
         token: b"tok-carol",
-        frame: BASE,
+        frame: "{base}",
         reply: Reply::Stranger,
         code: 401,
         strangers: 1,
@@ -157,15 +156,16 @@ impl Gate for Open {
     fn pass(&self, _worker: usize, _point: Point) {}
 }
 
-/// A link that looks at what it is given, and has a Fulfill for it or nothing.
+/// A link that looks at what it is given, and has an answer for it or nothing.
 #[derive(Drop)]
-struct Looking {
-    answers: bool,
+struct Looking<'a> {
+    wanted: &'a [u8],
+    answer: Option<&'a [u8]>,
     sends: u64,
     is_right: bool,
 }
 
-impl Link for Looking {
+impl Link for Looking<'_> {
     ghost sent = { λ link. link.sends };
 
     ghost sends_so = { λ before sending after. Unit {0} };
@@ -178,33 +178,51 @@ impl Link for Looking {
         self.sends += 1;
         self.is_right = packet.tenant == 0
             && packet.target.url() == BOB_URL
-            && packet.frame == SENT.as_slice()
+            && packet.frame == self.wanted
             && packet.expiry == SENT_EXPIRY;
-        if !self.answers {
-            return Got::Fault;
+        match self.answer {
+            Some(answer) => filled(out, answer),
+            None => Got::Fault,
         }
-        put(out, FULFILL);
-        Got::Filled(35)
     }
 }
 
-// Carries the packet from the start on, with meters and in a slot of its own, and looks at what becomes of it.
-pub(super) fn is_carried<J: Run, R: Wait>(
+// Carries the packet from the start on, and looks at what becomes of it.
+pub(super) fn is_carried<J: Run, R: Wait + AllocGlobal>(
     rt: &R,
-    alloc: Global,
-    books: &Books<J>,
-    share: &mut Share<J>,
+    office: &mut Office<J>,
     packet: &Packet,
 ) -> Result<bool, Fail> {
+    let alloc = rt.alloc();
+    let (wanted, fulfill) = (frame(alloc, "{sent}")?, frame(alloc, "{fulfill}")?);
     let mut link = Looking {
-        answers: packet.is_fulfilled,
+        wanted: wanted.as_slice(),
+        answer: packet.is_fulfilled.then_some(fulfill.as_slice()),
         sends: 0,
         is_right: false,
     };
-    let (reply, is_told, tally) = carried(rt, alloc, books, share, &mut link, packet)?;
-    let is_replied = reply == packet.reply && reply.status().code() == packet.code;
+    let is_settled = is_settled(rt, office, &mut link, packet)?;
     let is_sent = link.sends == packet.sends && link.is_right == (packet.sends == 1);
-    Ok(is_replied && is_told && tally == packet.tally && is_sent && is_counted(share, packet))
+    Ok(is_settled && is_sent && is_counted(&office.first, packet))
+}
+
+// The same, with its bytes and those of what the sender is told.
+fn is_settled<J: Run, R: Wait + AllocGlobal>(
+    rt: &R,
+    office: &mut Office<J>,
+    link: &mut Looking<'_>,
+    packet: &Packet,
+) -> Result<bool, Fail> {
+    let bytes = frame(rt.alloc(), packet.frame)?;
+    let told = frame(rt.alloc(), packet.told)?;
+    let job = Job {
+        tenant: 0,
+        token: packet.token,
+        frame: bytes.as_slice(),
+    };
+    let (reply, is_told, tally) = carried(rt, office, link, packet.step, job, told.as_slice())?;
+    let is_replied = reply == packet.reply && reply.status().code() == packet.code;
+    Ok(is_replied && is_told && tally == packet.tally)
 }
 
 // Whether the share has counted what it should.
@@ -214,66 +232,60 @@ fn is_counted<J: Run>(share: &Share<J>, packet: &Packet) -> bool {
         && share.full_journals(0) == packet.full_journals
 }
 
-// The reply to the packet, whether the sender is told what it should be, and what the meters have counted.
-fn carried<J: Run, R: Wait>(
+// The reply to a job, whether the sender is told what it should be, and what the meters have counted, by a clock that goes
+// on by that step.
+fn carried<J: Run, R: Wait + AllocGlobal>(
     rt: &R,
-    alloc: Global,
-    books: &Books<J>,
-    share: &mut Share<J>,
-    link: &mut Looking,
-    packet: &Packet,
+    office: &mut Office<J>,
+    link: &mut Looking<'_>,
+    step: u64,
+    job: Job<'_>,
+    told: &[u8],
 ) -> Result<(Reply, bool, Tally), Fail> {
-    if books.tenants() == 0 {
+    let alloc = rt.alloc();
+    let (books, share) = (&office.books, &mut office.first);
+    if books.tenants() == 0 || job.tenant != 0 {
         return Err("a tenant".into());
     }
     let mut slot = Slot::new(alloc)?;
     let (meters, mut seat) = Meters::new(alloc, 1)?;
     let clock = Going {
         next: AtomicU64::new(START),
-        step: packet.step,
-    };
-    let job = Job {
-        tenant: 0,
-        token: packet.token,
-        frame: packet.frame,
+        step,
     };
     let reply = carry(
         rt, alloc, books, &meters, &mut seat, &mut slot, share, link, &Open, &clock, job,
     );
-    let is_told = slot.reply() == packet.told;
+    let is_told = slot.reply() == told;
     Ok((reply, is_told, counts_of(&meters.close(seat))))
 }
 
 impl Trial for Packet {
-    fn act<J: Run, R: Wait>(
+    fn act<J: Run, R: Wait + AllocGlobal>(
         &self,
         rt: &R,
-        alloc: Global,
-        books: Books<J>,
-        mut first: Share<J>,
-        second: Share<J>,
+        mut office: Office<J>,
     ) -> Result<bool, Fail> {
-        let is_carried = is_carried(rt, alloc, &books, &mut first, self)?;
-        let is_gathered = come_to(alloc, books, first, second, self.gathered)?;
-        Ok(is_carried && is_gathered)
+        let is_carried = is_carried(rt, &mut office, self)?;
+        Ok(is_carried && come_to(rt.alloc(), office, self.gathered)?)
     }
 }
 
 #[test]
 fn a_packet_is_settled(rt: HostRuntime) -> Result<(), Fail> {
-    assert!(rt; on_two_books(&rt, rt.alloc(), 64, &FULFILLED)?);
+    assert!(rt; on_two_books(&rt, "64", &FULFILLED)?);
     Ok(())
 }
 
 #[test]
 fn a_fulfillment_that_comes_late_is_none(rt: HostRuntime) -> Result<(), Fail> {
-    assert!(rt; on_two_books(&rt, rt.alloc(), 64, &LATE)?);
+    assert!(rt; on_two_books(&rt, "64", &LATE)?);
     Ok(())
 }
 
 #[test]
 fn a_packet_that_nobody_answers_is_refused(rt: HostRuntime) -> Result<(), Fail> {
-    assert!(rt; on_two_books(&rt, rt.alloc(), 64, &UNANSWERED)?);
+    assert!(rt; on_two_books(&rt, "64", &UNANSWERED)?);
     Ok(())
 }
 
@@ -281,7 +293,7 @@ fn a_packet_that_nobody_answers_is_refused(rt: HostRuntime) -> Result<(), Fail> 
 fn packets_are_refused(rt: HostRuntime) -> Result<(), Fail> {
     for packet in &REFUSED {
         let title = packet.title;
-        assert!(rt; on_two_books(&rt, rt.alloc(), 64, packet)?, "{title}");
+        assert!(rt; on_two_books(&rt, "64", packet)?, "{title}");
     }
     Ok(())
 }
@@ -290,23 +302,19 @@ fn packets_are_refused(rt: HostRuntime) -> Result<(), Fail> {
 struct FullJournal;
 
 impl Trial for FullJournal {
-    fn act<J: Run, R: Wait>(
+    fn act<J: Run, R: Wait + AllocGlobal>(
         &self,
         rt: &R,
-        alloc: Global,
-        books: Books<J>,
-        mut first: Share<J>,
-        second: Share<J>,
+        mut office: Office<J>,
     ) -> Result<bool, Fail> {
-        let is_filled = is_carried(rt, alloc, &books, &mut first, &FULFILLED)?;
-        let is_full = BUSY.act(rt, alloc, books, first, second)?;
-        Ok(is_filled && is_full)
+        let is_filled = is_carried(rt, &mut office, &FULFILLED)?;
+        Ok(is_filled && BUSY.act(rt, office)?)
     }
 }
 
 #[test]
 fn a_journal_of_two_places_is_full(rt: HostRuntime) -> Result<(), Fail> {
-    assert!(rt; on_two_books(&rt, rt.alloc(), 2, &FullJournal)?);
+    assert!(rt; on_two_books(&rt, "2", &FullJournal)?);
     Ok(())
 }
 
@@ -314,17 +322,13 @@ fn a_journal_of_two_places_is_full(rt: HostRuntime) -> Result<(), Fail> {
 struct MissingShare;
 
 impl Trial for MissingShare {
-    fn act<J: Run, R: Wait>(
+    fn act<J: Run, R: Wait + AllocGlobal>(
         &self,
         rt: &R,
-        alloc: Global,
-        books: Books<J>,
-        mut first: Share<J>,
-        second: Share<J>,
+        mut office: Office<J>,
     ) -> Result<bool, Fail> {
-        let is_carried = is_carried(rt, alloc, &books, &mut first, &FULFILLED)?;
-        let are_numbered = are_numbered_in_the_end(alloc, books, first, second)?;
-        Ok(is_carried && are_numbered)
+        let is_carried = is_carried(rt, &mut office, &FULFILLED)?;
+        Ok(is_carried && are_numbered_in_the_end(rt.alloc(), office)?)
     }
 }
 
@@ -342,15 +346,10 @@ fn refused<J: Run>(
 }
 
 // Whether the first share is handed back, and the books have these numbers once both are there.
-fn are_numbered_in_the_end<J: Run>(
-    alloc: Global,
-    books: Books<J>,
-    first: Share<J>,
-    second: Share<J>,
-) -> Result<bool, Fail> {
-    let (books, mut shares) = refused(alloc, books, first)?;
+fn are_numbered_in_the_end<J: Run>(alloc: Global, office: Office<J>) -> Result<bool, Fail> {
+    let (books, mut shares) = refused(alloc, office.books, office.first)?;
     let is_alone = shares.len() == 1;
-    shares.push(second)?;
+    shares.push(office.second)?;
     let books = gathered(alloc, books, shares)?;
     Ok(is_alone && have_numbers(books.as_slice(), 2, 0))
 }
@@ -364,6 +363,6 @@ fn have_numbers(books: &[(Book, u64)], acme: u64, beta: u64) -> bool {
 
 #[test]
 fn books_are_gathered_with_their_shares(rt: HostRuntime) -> Result<(), Fail> {
-    assert!(rt; on_two_books(&rt, rt.alloc(), 64, &MissingShare)?);
+    assert!(rt; on_two_books(&rt, "64", &MissingShare)?);
     Ok(())
 }

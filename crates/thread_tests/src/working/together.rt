@@ -3,9 +3,8 @@
 ghost use Rattle.std.specs.Prelude.{◌≡◌};
 ghost use Rattle.books_shared.specs.Traced.{openings_of};
 
-use super::{
-    BASE, FULFILL, FixedClock, START, gathered, outcome, put, start, two_books, two_setups,
-};
+use super::{FixedClock, Office, filled, gathered, outcome, start, two_books, two_setups};
+use crate::START;
 use books_shared::{Books, Share};
 use floor_core::{Got, Slot};
 use ilp_addr::Moment;
@@ -19,13 +18,8 @@ use std::test::Fail;
 use std::thread;
 use std::thread::Threads;
 use tenant_core::TenantSetup;
+use test_texts::frame;
 use workers::{Gate, Job, Lane, Link, Outgoing, Point, Reply, StartFault, carry, run_workers};
-
-// BASE for g.beta.bob.x.
-const BETA: &[u8; 73] = b"\x0cG\0\0\0\0\0\0\x03\xe820300101000010000\
-    \x66\x68\x7a\xad\xf8\x62\xbd\x77\x6c\x8f\xc1\x8b\x8e\x9f\x8e\x20\
-    \x08\x97\x14\x85\x6e\xe2\x33\xb3\x90\x2a\x59\x1d\x0d\x5f\x29\x25\
-    \x0cg.beta.bob.x\0";
 
 /// Where worker 0 is kept until worker 1 has its answer settled.
 #[derive(Clone, Copy, Debug, PartialEq, Eq)]
@@ -36,9 +30,12 @@ enum Place {
     Link,
 }
 
-/// Where two workers meet.
+/// Where two workers meet, the packets that they carry, and the answer to each.
 #[derive(Drop)]
 struct Meeting {
+    acme: Vec<u8>,
+    beta: Vec<u8>,
+    answer: Vec<u8>,
     place: Place,
     // 1 once worker 1 has its answer settled.
     settled: AtomicU64,
@@ -69,7 +66,7 @@ impl Gate for Meeting {
     }
 }
 
-/// A link of a worker, which has a Fulfill for each packet.
+/// A link of a worker, which has the answer for each packet.
 #[derive(Drop)]
 struct Fulfilling<'a> {
     meeting: &'a Meeting,
@@ -91,12 +88,11 @@ impl Link for Fulfilling<'_> {
         if self.worker == 0 && self.meeting.place == Place::Link {
             self.meeting.wait();
         }
-        put(out, FULFILL);
-        Got::Filled(35)
+        filled(out, self.meeting.answer.as_slice())
     }
 }
 
-/// A worker that carries one packet of alice's: BASE, or the same for beta.
+/// A worker that carries one packet of alice's for that tenant's bob.
 #[derive(Drop)]
 struct Carrier<'a, J: Run> {
     alloc: Global,
@@ -108,30 +104,31 @@ struct Carrier<'a, J: Run> {
     code: u16,
 }
 
-// Carries the packet, with meters and in a slot of the worker's own.
-fn carried_by<J: Run, R: Wait>(
-    rt: &R,
-    alloc: Global,
-    books: &Books<J>,
-    meeting: &Meeting,
-    share: &mut Share<J>,
-    tenant: usize,
-) -> Option<Reply> {
+// Carries the worker's packet, with meters and in a slot of its own.
+fn carried<J: Run, R: Wait>(rt: &R, carrier: &mut Carrier<'_, J>) -> Option<Reply> {
+    let (alloc, books, meeting) = (carrier.alloc, carrier.books, carrier.meeting);
+    let tenant = carrier.tenant;
     if tenant >= books.tenants() || tenant >= 2 {
         return None;
     }
     let mut slot = Slot::new(alloc).ok()?;
     let (meters, mut seat) = Meters::new(alloc, 2).ok()?;
     let clock = FixedClock(Moment::new(START)?);
+    let share = &mut carrier.share;
     let mut link = Fulfilling {
         meeting,
         worker: share.worker(),
         sends: 0,
     };
+    let packet = if tenant == 0 {
+        &meeting.acme
+    } else {
+        &meeting.beta
+    };
     let job = Job {
         tenant,
         token: b"tok-alice",
-        frame: if tenant == 0 { BASE } else { BETA },
+        frame: packet.as_slice(),
     };
     Some(carry(
         rt, alloc, books, &meters, &mut seat, &mut slot, share, &mut link, meeting, &clock, job,
@@ -142,15 +139,7 @@ impl<J: Run + Send + Sync> Lane for Carrier<'_, J> {
     ghost works = { λ before after. Unit {0} };
 
     fn work<R: Threads + Wait + Sync>(&mut self, rt: &R) {
-        let reply = carried_by(
-            rt,
-            self.alloc,
-            self.books,
-            self.meeting,
-            &mut self.share,
-            self.tenant,
-        );
-        self.code = match reply {
+        self.code = match carried(rt, self) {
             Some(reply) => reply.status().code(),
             None => 0,
         };
@@ -219,12 +208,15 @@ fn both_carried<'a, J: Run + Send + Sync, R: Threads + Wait + Sync>(
     Ok((are_good, shares_of(alloc, lanes)?))
 }
 
-fn new_meeting(place: Place) -> Meeting {
-    Meeting {
+fn new_meeting(alloc: Global, place: Place) -> Result<Meeting, Fail> {
+    Ok(Meeting {
+        acme: frame(alloc, "{base}")?,
+        beta: frame(alloc, "{for beta}")?,
+        answer: frame(alloc, "{fulfill}")?,
         place,
         settled: AtomicU64::new(0),
         given_up: AtomicU64::new(0),
-    }
+    })
 }
 
 /// Worker 1 carries its packet for that tenant while worker 0 is kept there, and then acme's balances and its book's number
@@ -243,7 +235,7 @@ fn carry_together<R: Threads + Wait + Sync>(
     alloc: Global,
     together: &Together,
 ) -> Result<bool, Fail> {
-    let setups = two_setups(alloc, 64)?;
+    let setups = two_setups(alloc, "64")?;
     let opened = Opened::new(alloc, 2, 2)?;
     carry_on_books::<Brand, R>(rt, alloc, opened, &setups, start()?, together)
 }
@@ -260,8 +252,12 @@ fn carry_on_books<J: Run + Send + Sync, R: Threads + Wait + Sync>(
     requires size { J.size ≡ record { tenants = 2; workers = 2 } }
     requires openings { J.openings ≡ openings_of setups.now start }
 {
-    let (books, first, second) = two_books::<J>(alloc, opened, setups, start)?;
-    let meeting = new_meeting(together.place);
+    let Office {
+        books,
+        first,
+        second,
+    } = two_books::<J>(alloc, opened, setups, start)?;
+    let meeting = new_meeting(alloc, together.place)?;
     let (are_good, shares) = both_carried(
         rt,
         alloc,
