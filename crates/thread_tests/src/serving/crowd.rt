@@ -1,8 +1,8 @@
 //! Eight clients at once, in ten waves, each followed by a roll of both tenants.
 
 use super::wire::{good_reply, good_text, packet_by, peer_answer, posted, request, two_tenants};
-use super::{ALL, serve_as};
-use service::{Extent, ServeFault};
+use super::{ALL, served_while};
+use service::Extent;
 use std::alloc::Global;
 use std::io::{Read, Write};
 use std::net::{Net, OpenListener, SocketAddr, TcpListener, TcpStream};
@@ -150,8 +150,8 @@ fn sends_all(
     Ok(())
 }
 
-/// Fulfils what comes, a packet a connection, until one comes without a packet.
-pub fn fulfils_all(listener: &TcpListener, answer: &[u8], size: usize) -> io::Result<u32> {
+// Fulfils what comes, a packet a connection, until one comes without a packet.
+fn fulfils_all(listener: &TcpListener, answer: &[u8], size: usize) -> io::Result<u32> {
     let mut count = 0u32;
     let mut room = [0u8; 512];
     for _ in 0..20_000u32 {
@@ -249,14 +249,38 @@ pub fn both_exchanges(alloc: Global) -> Result<(Exchange, Exchange), Fail> {
     ))
 }
 
+/// What comes of that beside a peer that fulfils all packets, and how many it fulfilled.
+pub fn beside_peer<R, T, F>(rt: &R, peer: &TcpListener, run: F) -> Result<(T, u32), Fail>
+where
+    R: Threads + Wait + Clock + AllocGlobal + Sync,
+    R: Net<Listener = TcpListener, Stream = TcpStream>,
+    T: Send + Drop,
+    F: FnOnce() -> Result<T, Fail> + Send + Drop,
+    requires runs { F.pre run }
+{
+    let addr = peer.local_addr()?;
+    let size = posted(rt.alloc(), addr.port(), "{sent}")?.len();
+    let answer = peer_answer(rt.alloc())?;
+    let (fulfilled, came) = join(
+        rt,
+        || fulfils_all(peer, answer.as_slice(), size),
+        || {
+            let came = run();
+            let _ = TcpStream::connect_timeout(rt, &addr, Duration::from_secs(5));
+            came
+        },
+    );
+    let came = came?;
+    Ok((came, fulfilled?))
+}
+
 /// What came of a crowd: how many packets the next peer fulfilled, what the service printed in the end, how often both rolls
 /// were right, and what the clients were told.
 #[derive(Drop)]
 struct Crowd {
-    fulfilled: io::Result<u32>,
-    end: Result<(), ServeFault>,
+    fulfilled: u32,
     lines: Vec<u8>,
-    rolls: io::Result<u32>,
+    rolls: u32,
     told: [Told; 8],
 }
 
@@ -265,33 +289,15 @@ where
     R: Threads + Wait + Clock + AllocGlobal + Sync,
     R: Net<Listener = TcpListener, Stream = TcpStream>,
 {
-    let alloc = rt.alloc();
     let peer = TcpListener::bind(rt, "127.0.0.1:0")?;
-    let peer_addr = peer.local_addr()?;
-    let listener = TcpListener::bind(rt, "127.0.0.1:0")?;
-    let addr = listener.local_addr()?;
-    let text = setup_text(alloc, peer_addr.port())?;
-    let size = posted(alloc, peer_addr.port(), "{sent}")?.len();
-    let answer = peer_answer(alloc)?;
-    let (acme, beta) = both_exchanges(alloc)?;
+    let text = setup_text(rt.alloc(), peer.local_addr()?.port())?;
+    let (acme, beta) = both_exchanges(rt.alloc())?;
     let mut told = clients();
-    let mut lines = Vec::new(alloc);
-    let (fulfilled, (end, rolls)) = join(
-        rt,
-        || fulfils_all(&peer, answer.as_slice(), size),
-        || {
-            let both = join(
-                rt,
-                || serve_as(rt, text.as_str(), EXTENT, ALL, &listener, &mut lines),
-                || all_waves(rt, &addr, &acme, &beta, &mut told),
-            );
-            let _ = TcpStream::connect_timeout(rt, &peer_addr, Duration::from_secs(5));
-            both
-        },
-    );
+    let ask = |addr: &SocketAddr| Ok(all_waves(rt, addr, &acme, &beta, &mut told)?);
+    let run = || served_while(rt, text.as_str(), EXTENT, ALL, ask);
+    let ((rolls, lines), fulfilled) = beside_peer(rt, &peer, run)?;
     Ok(Crowd {
         fulfilled,
-        end,
         lines,
         rolls,
         told,
@@ -327,11 +333,10 @@ audit ok 20422
 #[test]
 fn books_say_what_clients_were_told(rt: HostRuntime) -> Result<(), Fail> {
     let crowd = crowd_of(&rt)?;
-    assert!(rt; crowd.fulfilled? == 10_000);
+    assert!(rt; crowd.fulfilled == 10_000);
     assert!(rt; in_all(&crowd.told, false) == (5_000, 200, 0));
     assert!(rt; in_all(&crowd.told, true) == (5_000, 200, 0));
-    assert!(rt; crowd.rolls? == WAVES);
-    crowd.end?;
+    assert!(rt; crowd.rolls == WAVES);
     assert_eq!(rt; crowd.lines.as_slice(), PRINTED.as_bytes());
     Ok(())
 }

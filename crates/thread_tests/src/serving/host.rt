@@ -1,7 +1,7 @@
 //! The door of whoever runs the process: what is told there, and a stop while clients send.
 
-use super::crowd::{Exchange, both_exchanges, connected, fulfils_all, is_told, setup_text};
-use super::wire::{FixedClock, is_reply, packet_by, peer_answer, posted};
+use super::crowd::{Exchange, beside_peer, both_exchanges, connected, is_told, setup_text};
+use super::wire::{FixedClock, is_reply, packet_by};
 use super::{NOTHING_MORE, asked};
 use admin_text::read_setup;
 use common_types::Token;
@@ -13,7 +13,7 @@ use std::sync::Wait;
 use std::sync::atomic::{AtomicU64, Ordering};
 use std::test::Fail;
 use std::thread::{Threads, join};
-use std::time::{Clock, Duration};
+use std::time::Clock;
 use std::{io, thread};
 use test_texts::replaced;
 
@@ -132,9 +132,35 @@ fn told_setup(alloc: Global, text: &str) -> Result<Vec<u8>, Fail> {
 
 /// Where packets come, and where the host asks.
 #[derive(Clone, Copy)]
-struct Addresses {
-    packets: SocketAddr,
-    host: SocketAddr,
+pub struct Addresses {
+    pub packets: SocketAddr,
+    pub host: SocketAddr,
+}
+
+/// What comes of questions to a service with a host's door, for the setup of that text, and what it prints in the end.
+pub fn served_with_host<R, T, F>(rt: &R, text: &str, ask: F) -> Result<(T, Vec<u8>), Fail>
+where
+    R: Threads + Wait + Clock + AllocGlobal + Sync,
+    R: Net<Listener = TcpListener, Stream = TcpStream>,
+    T: Send + Drop,
+    F: FnOnce(Addresses) -> Result<T, Fail> + Send + Drop,
+    requires asks { (to : _) → F.pre ask to }
+{
+    let packets = TcpListener::bind(rt, "127.0.0.1:0")?;
+    let door = TcpListener::bind(rt, "127.0.0.1:0")?;
+    let to = Addresses {
+        packets: packets.local_addr()?,
+        host: door.local_addr()?,
+    };
+    let mut lines = Vec::new(rt.alloc());
+    let (end, came) = join(
+        rt,
+        || serve_with_host(rt, text, &packets, &door, &mut lines),
+        || ask(to),
+    );
+    let came = came?;
+    end?;
+    Ok((came, lines))
 }
 
 // The answers that a service without load gives at the host's door, and to one packet.
@@ -162,22 +188,9 @@ where
 {
     let alloc = rt.alloc();
     let text = setup_text(alloc, 7802)?;
-    let packets = TcpListener::bind(rt, "127.0.0.1:0")?;
-    let door = TcpListener::bind(rt, "127.0.0.1:0")?;
-    let to = Addresses {
-        packets: packets.local_addr()?,
-        host: door.local_addr()?,
-    };
     let packet = packet_by(alloc, "/ilp/acme", "tok-bob", "{config}")?;
-    let mut lines = Vec::new(alloc);
-    let (end, answers) = join(
-        rt,
-        || serve_with_host(rt, text.as_str(), &packets, &door, &mut lines),
-        || told_in_turn(rt, alloc, to, packet.as_slice()),
-    );
-    let answers = answers?;
-    end?;
-    Ok((answers, lines))
+    let ask = |to: Addresses| Ok(told_in_turn(rt, alloc, to, packet.as_slice())?);
+    served_with_host(rt, text.as_str(), ask)
 }
 
 // Lines of the metrics after one packet of acme's was answered.
@@ -322,12 +335,29 @@ fn stopped<R: Wait + Net<Stream = TcpStream>>(
     asked(rt, alloc, host, STOP)
 }
 
+// What a host is told that stops a service once its clients had enough packets fulfilled.
+fn stopped_under_load<R: Threads + Wait + Net<Listener = TcpListener, Stream = TcpStream> + Sync>(
+    rt: &R,
+    alloc: Global,
+    to: Addresses,
+    clients: &mut [Client],
+) -> Result<Vec<u8>, Fail> {
+    let (acme, beta) = both_exchanges(alloc)?;
+    let all = AtomicU64::new(0);
+    let (_, told) = join(
+        rt,
+        || all_clients(rt, &to.packets, &acme, &beta, clients, &all),
+        || stopped(rt, alloc, &to.host, &all),
+    );
+    Ok(told?)
+}
+
 /// What came of a stop under load: how many packets the peer fulfilled, what the host was told, what the clients were told,
 /// and what the service printed.
 #[derive(Drop)]
 struct Stop {
-    fulfilled: io::Result<u32>,
-    answer: io::Result<Vec<u8>>,
+    fulfilled: u32,
+    answer: Vec<u8>,
     clients: [Client; 4],
     lines: Vec<u8>,
     port: u16,
@@ -338,52 +368,23 @@ where
     R: Threads + Wait + Clock + AllocGlobal + Sync,
     R: Net<Listener = TcpListener, Stream = TcpStream>,
 {
-    let alloc = rt.alloc();
     let peer = TcpListener::bind(rt, "127.0.0.1:0")?;
-    let packets = TcpListener::bind(rt, "127.0.0.1:0")?;
-    let door = TcpListener::bind(rt, "127.0.0.1:0")?;
-    let (peer_addr, addr, host) = (
-        peer.local_addr()?,
-        packets.local_addr()?,
-        door.local_addr()?,
-    );
-    let text = setup_text(alloc, peer_addr.port())?;
-    let size = posted(alloc, peer_addr.port(), "{sent}")?.len();
-    let answer = peer_answer(alloc)?;
-    let (acme, beta) = both_exchanges(alloc)?;
+    let port = peer.local_addr()?.port();
+    let text = setup_text(rt.alloc(), port)?;
     let mut clients = [false, true, false, true].map(|beta| Client {
         beta,
         fulfilled: 0,
         other: 0,
     });
-    let all = AtomicU64::new(0);
-    let mut lines = Vec::new(alloc);
-    let (fulfilled, (end, (_, told))) = join(
-        rt,
-        || fulfils_all(&peer, answer.as_slice(), size),
-        || {
-            let both = join(
-                rt,
-                || serve_with_host(rt, text.as_str(), &packets, &door, &mut lines),
-                || {
-                    join(
-                        rt,
-                        || all_clients(rt, &addr, &acme, &beta, &mut clients, &all),
-                        || stopped(rt, alloc, &host, &all),
-                    )
-                },
-            );
-            let _ = TcpStream::connect_timeout(rt, &peer_addr, Duration::from_secs(5));
-            both
-        },
-    );
-    end?;
+    let ask = |to: Addresses| stopped_under_load(rt, rt.alloc(), to, &mut clients);
+    let run = || served_with_host(rt, text.as_str(), ask);
+    let ((answer, lines), fulfilled) = beside_peer(rt, &peer, run)?;
     Ok(Stop {
         fulfilled,
-        answer: told,
+        answer,
         clients,
         lines,
-        port: peer_addr.port(),
+        port,
     })
 }
 
@@ -418,8 +419,8 @@ fn a_stop_loses_nothing(rt: HostRuntime) -> Result<(), Fail> {
     let setup = told_setup(alloc, standing_text(alloc, stop.port, acme, beta)?.as_str())?;
     assert!(rt; clients.iter().all(|client| client.other == 0));
     assert!(rt; acme.saturating_add(beta) >= ENOUGH);
-    assert!(rt; u64::from(stop.fulfilled?) == acme.saturating_add(beta));
-    assert!(rt; stop.answer?.as_slice() == setup.as_slice());
+    assert!(rt; u64::from(stop.fulfilled) == acme.saturating_add(beta));
+    assert!(rt; stop.answer.as_slice() == setup.as_slice());
     let lines = lines_after(alloc, acme, beta)?;
     assert_eq!(rt; stop.lines.as_slice(), lines.as_bytes());
     Ok(())

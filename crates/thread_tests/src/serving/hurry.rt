@@ -1,10 +1,10 @@
 //! What a connection is given where others wait, and where the service stops; and callers at the host's door who bring nothing.
 
 use super::crowd::{connected, setup_text};
-use super::host::{HEALTH, HEALTHY, METRICS, STOP, serve_with_host};
+use super::host::{Addresses, HEALTH, HEALTHY, METRICS, STOP, serve_with_host, served_with_host};
 use super::wire::{good_reply, good_text, one_tenant, packet_by, peer_answer, posted, request};
 use super::{ALONE, NOTHING, NOTHING_MORE, answer_of, asked, next_request, served_while, usual};
-use service::{Extent, ServeFault};
+use service::Extent;
 use std::alloc::Global;
 use std::io::{Read, Write};
 use std::net::{Net, OpenListener, SocketAddr, TcpListener, TcpStream};
@@ -164,17 +164,8 @@ fn asked_beside_callers(
 fn callers_who_bring_nothing_delay_no_host(rt: HostRuntime) -> Result<(), Fail> {
     let alloc = rt.alloc();
     let text = setup_text(alloc, 7802)?;
-    let packets = TcpListener::bind(&rt, "127.0.0.1:0")?;
-    let door = TcpListener::bind(&rt, "127.0.0.1:0")?;
-    let host = door.local_addr()?;
-    let mut lines = Vec::new(alloc);
-    let (end, came) = join(
-        &rt,
-        || serve_with_host(&rt, text.as_str(), &packets, &door, &mut lines),
-        || asked_beside_callers(&rt, alloc, &host),
-    );
-    end?;
-    let (took, are_good) = came?;
+    let ask = |to: Addresses| Ok(asked_beside_callers(&rt, alloc, &to.host)?);
+    let ((took, are_good), _) = served_with_host(&rt, text.as_str(), ask)?;
     assert!(rt; are_good);
     assert!(rt; took < Duration::from_secs(10));
     Ok(())
@@ -199,16 +190,15 @@ fn fulfils_late(
 fn stopped_between(
     rt: &(impl Net<Stream = TcpStream> + Clock),
     alloc: Global,
-    addr: &SocketAddr,
-    host: &SocketAddr,
+    to: Addresses,
     [first, second]: [&[u8]; 2],
 ) -> io::Result<Vec<u8>> {
-    let stream = connected(rt, addr)?;
+    let stream = connected(rt, &to.packets)?;
     let mut out = &stream;
     out.write_all(first)?;
     thread::sleep(rt, Duration::from_millis(300));
     out.write_all(second)?;
-    asked(rt, alloc, host, STOP)?;
+    asked(rt, alloc, &to.host, STOP)?;
     answer_of(alloc, &stream)
 }
 
@@ -233,43 +223,27 @@ fn two_requests(alloc: Global, port: u16) -> Result<Pipelined, Fail> {
     })
 }
 
-// What became of both requests.
-#[derive(Drop)]
-struct Between {
-    end: Result<(), ServeFault>,
-    peer: io::Result<bool>,
-    answers: io::Result<Vec<u8>>,
-}
-
+// Whether the peer was sent what it should, and what came back for both requests.
 fn served_between<R>(
     rt: &R,
     peer: &TcpListener,
     setup: &str,
     both: &Pipelined,
-) -> Result<Between, Fail>
+) -> Result<(bool, Vec<u8>), Fail>
 where
     R: Threads + Wait + Clock + AllocGlobal + Sync,
     R: Net<Listener = TcpListener, Stream = TcpStream>,
 {
-    let alloc = rt.alloc();
-    let packets = TcpListener::bind(rt, "127.0.0.1:0")?;
-    let door = TcpListener::bind(rt, "127.0.0.1:0")?;
-    let (addr, host) = (packets.local_addr()?, door.local_addr()?);
-    let answer = peer_answer(alloc)?;
+    let answer = peer_answer(rt.alloc())?;
     let requests = [both.packet.as_slice(), both.config.as_slice()];
-    let mut lines = Vec::new(alloc);
-    let (end, (peer, answers)) = join(
+    let ask = |to: Addresses| Ok(stopped_between(rt, rt.alloc(), to, requests)?);
+    let (is_right, came) = join(
         rt,
-        || serve_with_host(rt, setup, &packets, &door, &mut lines),
-        || {
-            join(
-                rt,
-                || fulfils_late(rt, peer, both.posted.as_slice(), answer.as_slice()),
-                || stopped_between(rt, alloc, &addr, &host, requests),
-            )
-        },
+        || fulfils_late(rt, peer, both.posted.as_slice(), answer.as_slice()),
+        || served_with_host(rt, setup, ask),
     );
-    Ok(Between { end, peer, answers })
+    let (answers, _) = came?;
+    Ok((is_right?, answers))
 }
 
 #[test]
@@ -279,9 +253,8 @@ fn a_second_request_is_answered_at_a_stop(rt: HostRuntime) -> Result<(), Fail> {
     let port = peer.local_addr()?.port();
     let setup = one_tenant(alloc, port, "8000")?;
     let both = two_requests(alloc, port)?;
-    let between = served_between(&rt, &peer, setup.as_str(), &both)?;
-    between.end?;
-    assert!(rt; between.peer?);
-    assert_eq!(rt; between.answers?.as_slice(), both.answers.as_slice());
+    let (is_right, answers) = served_between(&rt, &peer, setup.as_str(), &both)?;
+    assert!(rt; is_right);
+    assert_eq!(rt; answers.as_slice(), both.answers.as_slice());
     Ok(())
 }
