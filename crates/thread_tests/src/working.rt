@@ -58,19 +58,19 @@ fn both_of(mut tenants: Vec<TenantSetup>) -> Option<[TenantSetup; 2]> {
 
 /// The books of acme and beta, and the shares of two workers, who keep receipts.
 #[derive(Drop)]
-struct Office<J: Run> {
+struct Team<J: Run> {
     books: Books<J>,
     first: Share<J>,
     second: Share<J>,
 }
 
-// The office of these two tenants, of which `J` is the list.
-fn two_books<J: Run>(
+// The team of these two tenants, of which `J` is the list.
+fn team_of<J: Run>(
     alloc: Global,
     opened: Opened,
     setups: &[TenantSetup; 2],
     start: Moment,
-) -> Result<Office<J>, Fail>
+) -> Result<Team<J>, Fail>
     requires list { (opened.table ≡ J.table) × (opened.size ≡ J.size) }
     requires size { J.size ≡ record { tenants = 2; workers = 2 } }
     requires openings { J.openings ≡ openings_of setups.now start }
@@ -78,17 +78,17 @@ fn two_books<J: Run>(
     let (books, mut shares) = Books::<J>::new(alloc, opened, setups, start, 2, true)?;
     let second = shares.pop().ok_or("the second share")?;
     let first = shares.pop().ok_or("the first share")?;
-    Ok(Office {
+    Ok(Team {
         books,
         first,
         second,
     })
 }
 
-/// What a test does in an office.
+/// What a test does with a team.
 trait Trial {
     /// Does it, and tells whether all came of it that should.
-    fn act<J: Run, R: Wait + AllocGlobal>(&self, rt: &R, office: Office<J>) -> Result<bool, Fail>;
+    fn act<J: Run, R: Wait + AllocGlobal>(&self, rt: &R, team: Team<J>) -> Result<bool, Fail>;
 }
 
 // Does it, with so many places in each journal.
@@ -113,8 +113,8 @@ fn on_books<J: Run, R: Wait + AllocGlobal, T: Trial>(
     requires size { J.size ≡ record { tenants = 2; workers = 2 } }
     requires openings { J.openings ≡ openings_of setups.now start }
 {
-    let office = two_books::<J>(rt.alloc(), opened, setups, start)?;
-    trial.act(rt, office)
+    let team = team_of::<J>(rt.alloc(), opened, setups, start)?;
+    trial.act(rt, team)
 }
 
 // ---- what is found out
@@ -208,10 +208,10 @@ fn outcome(books: &[(Book, u64)]) -> Option<(i64, i64, u64, u64, u64)> {
 // Whether acme's balances and its book's number are these, once the books are gathered with their shares.
 fn come_to<J: Run>(
     alloc: Global,
-    office: Office<J>,
+    team: Team<J>,
     wanted: (i64, i64, u64, u64, u64),
 ) -> Result<bool, Fail> {
-    let shares = vec![in alloc; office.first, office.second]?;
-    let books = gathered(alloc, office.books, shares)?;
+    let shares = vec![in alloc; team.first, team.second]?;
+    let books = gathered(alloc, team.books, shares)?;
     Ok(outcome(books.as_slice()) == Some(wanted))
 }

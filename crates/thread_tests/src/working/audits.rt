@@ -2,7 +2,7 @@
 
 use super::commands::closed;
 use super::packets::{FULFILLED, is_carried};
-use super::{Office, Trial, on_two_books};
+use super::{Team, Trial, on_two_books};
 use books_shared::Share;
 use one_list::Run;
 use receipts::{Audited, Receipt, audit};
@@ -27,11 +27,11 @@ fn is_complete<J: Run>(alloc: Global, period: &Period, share: &Share<J>) -> Resu
 // The same, once a packet is fulfilled and the period closed.
 fn is_complete_in_the_end<J: Run, R: Wait + AllocGlobal>(
     rt: &R,
-    office: &mut Office<J>,
+    team: &mut Team<J>,
 ) -> Result<bool, Fail> {
-    let is_carried = is_carried(rt, office, &FULFILLED)?;
-    let period = closed(rt, office)?;
-    Ok(is_carried && is_complete(rt.alloc(), &period, &office.first)?)
+    let is_carried = is_carried(rt, team, &FULFILLED)?;
+    let period = closed(rt, team)?;
+    Ok(is_carried && is_complete(rt.alloc(), &period, &team.first)?)
 }
 
 // How many receipts the share keeps.
@@ -44,13 +44,9 @@ fn receipts_of<J: Run>(share: &Share<J>) -> Option<usize> {
 struct Receipts;
 
 impl Trial for Receipts {
-    fn act<J: Run, R: Wait + AllocGlobal>(
-        &self,
-        rt: &R,
-        mut office: Office<J>,
-    ) -> Result<bool, Fail> {
-        let is_complete = is_complete_in_the_end(rt, &mut office)?;
-        Ok(is_complete && receipts_of(&office.second) == Some(0))
+    fn act<J: Run, R: Wait + AllocGlobal>(&self, rt: &R, mut team: Team<J>) -> Result<bool, Fail> {
+        let is_complete = is_complete_in_the_end(rt, &mut team)?;
+        Ok(is_complete && receipts_of(&team.second) == Some(0))
     }
 }
 

@@ -1,6 +1,6 @@
 //! Commands done and refused.
 
-use super::{FixedClock, ONE_ANSWERED, Office, Trial, counts_of, entries_of, on_two_books, start};
+use super::{FixedClock, ONE_ANSWERED, Team, Trial, counts_of, entries_of, on_two_books, start};
 use ilp_addr::Prefix;
 use meters::Meters;
 use one_list::Run;
@@ -12,11 +12,11 @@ use workers::{GovernFault, govern};
 // What comes of a command of acme's operator, which the meters have counted as answered.
 fn governed<J: Run, R: Wait + AllocGlobal>(
     rt: &R,
-    office: &mut Office<J>,
+    team: &mut Team<J>,
     command: &Command,
 ) -> Result<Result<Answered, GovernFault>, Fail> {
     let alloc = rt.alloc();
-    let (books, share) = (&office.books, &mut office.first);
+    let (books, share) = (&team.books, &mut team.first);
     if books.tenants() == 0 {
         return Err("a tenant".into());
     }
@@ -43,9 +43,9 @@ fn is_absent(answer: &Result<Answered, GovernFault>) -> bool {
 // How many rows the balances have.
 fn balances<J: Run, R: Wait + AllocGlobal>(
     rt: &R,
-    office: &mut Office<J>,
+    team: &mut Team<J>,
 ) -> Result<Option<usize>, Fail> {
-    match governed(rt, office, &Command::Balances)? {
+    match governed(rt, team, &Command::Balances)? {
         Ok(Answered::Balances(rows)) => Ok(Some(rows.as_slice().len())),
         _ => Ok(None),
     }
@@ -54,9 +54,9 @@ fn balances<J: Run, R: Wait + AllocGlobal>(
 /// The period that a roll closes.
 pub(super) fn closed<J: Run, R: Wait + AllocGlobal>(
     rt: &R,
-    office: &mut Office<J>,
+    team: &mut Team<J>,
 ) -> Result<Period, Fail> {
-    match governed(rt, office, &Command::Roll)? {
+    match governed(rt, team, &Command::Roll)? {
         Ok(Answered::Rolled(period)) => Ok(period),
         _ => Err("a period".into()),
     }
@@ -66,42 +66,35 @@ pub(super) fn closed<J: Run, R: Wait + AllocGlobal>(
 struct Commands;
 
 impl Trial for Commands {
-    fn act<J: Run, R: Wait + AllocGlobal>(
-        &self,
-        rt: &R,
-        mut office: Office<J>,
-    ) -> Result<bool, Fail> {
-        are_governed(rt, &mut office)
+    fn act<J: Run, R: Wait + AllocGlobal>(&self, rt: &R, mut team: Team<J>) -> Result<bool, Fail> {
+        are_governed(rt, &mut team)
     }
 }
 
-fn are_governed<J: Run, R: Wait + AllocGlobal>(
-    rt: &R,
-    office: &mut Office<J>,
-) -> Result<bool, Fail> {
-    let is_removed = is_removed_once(rt, office)?;
-    let balances = balances(rt, office)?;
-    let is_one = balances == Some(2) && entries_of(&office.first) == Some(1);
-    Ok(is_removed && is_one && closes_all(rt, office)?)
+fn are_governed<J: Run, R: Wait + AllocGlobal>(rt: &R, team: &mut Team<J>) -> Result<bool, Fail> {
+    let is_removed = is_removed_once(rt, team)?;
+    let balances = balances(rt, team)?;
+    let is_one = balances == Some(2) && entries_of(&team.first) == Some(1);
+    Ok(is_removed && is_one && closes_all(rt, team)?)
 }
 
 // Whether bob's route is removed, and is absent then.
 fn is_removed_once<J: Run, R: Wait + AllocGlobal>(
     rt: &R,
-    office: &mut Office<J>,
+    team: &mut Team<J>,
 ) -> Result<bool, Fail> {
     let prefix = Prefix::parse(rt.alloc(), b"g.acme.bob")?;
     let command = Command::Order(Order::RemoveRoute(prefix));
-    let removed = governed(rt, office, &command)?;
-    let is_one = entries_of(&office.first) == Some(1);
-    let again = governed(rt, office, &command)?;
+    let removed = governed(rt, team, &command)?;
+    let is_one = entries_of(&team.first) == Some(1);
+    let again = governed(rt, team, &command)?;
     Ok(is_done(&removed) && is_one && is_absent(&again))
 }
 
 // Whether the period that is closed has two balances, and that is the second entry.
-fn closes_all<J: Run, R: Wait + AllocGlobal>(rt: &R, office: &mut Office<J>) -> Result<bool, Fail> {
-    let period = closed(rt, office)?;
-    Ok(period.len() == 2 && entries_of(&office.first) == Some(2))
+fn closes_all<J: Run, R: Wait + AllocGlobal>(rt: &R, team: &mut Team<J>) -> Result<bool, Fail> {
+    let period = closed(rt, team)?;
+    Ok(period.len() == 2 && entries_of(&team.first) == Some(2))
 }
 
 #[test]

@@ -1,20 +1,20 @@
 //! The locks of two tenants.
 
-use super::{Office, Trial, on_two_books, start};
+use super::{Team, Trial, on_two_books, start};
 use books_shared::Books;
 use one_list::Run;
 use std::sync::Wait;
 use std::test::Fail;
 
 // Ticks acme's book. Whether its lock was held over that, and beta's was free.
-fn ticked<J: Run, R: Wait + AllocGlobal>(rt: &R, office: &mut Office<J>) -> Result<bool, Fail> {
-    let books = &office.books;
+fn ticked<J: Run, R: Wait + AllocGlobal>(rt: &R, team: &mut Team<J>) -> Result<bool, Fail> {
+    let books = &team.books;
     if books.tenants() < 2 {
         return Err("two tenants".into());
     }
-    office.first.make_room(rt.alloc(), None)?;
+    team.first.make_room(rt.alloc(), None)?;
     let mut guard = books.enter(rt, 0);
-    guard.tick(&mut office.first, start()?)?;
+    guard.tick(&mut team.first, start()?)?;
     Ok(books.try_enter(0).is_none() && books.try_enter(1).is_some())
 }
 
@@ -39,13 +39,9 @@ fn entries_at_once<J: Run>(books: &Books<J>) -> Option<usize> {
 struct OwnLock;
 
 impl Trial for OwnLock {
-    fn act<J: Run, R: Wait + AllocGlobal>(
-        &self,
-        rt: &R,
-        mut office: Office<J>,
-    ) -> Result<bool, Fail> {
-        let is_locked = ticked(rt, &mut office)?;
-        let books = &office.books;
+    fn act<J: Run, R: Wait + AllocGlobal>(&self, rt: &R, mut team: Team<J>) -> Result<bool, Fail> {
+        let is_locked = ticked(rt, &mut team)?;
+        let books = &team.books;
         Ok(is_locked && entries(rt, books) == Some(1) && entries_at_once(books) == Some(1))
     }
 }

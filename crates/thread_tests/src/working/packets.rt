@@ -1,7 +1,7 @@
 //! Packets that one worker carries.
 
 use super::{
-    ONE_ANSWERED, Office, Tally, Trial, come_to, counts_of, entries_of, filled, gathered,
+    ONE_ANSWERED, Tally, Team, Trial, come_to, counts_of, entries_of, filled, gathered,
     on_two_books,
 };
 use crate::START;
@@ -190,7 +190,7 @@ impl Link for Looking<'_> {
 // Carries the packet from the start on, and looks at what becomes of it.
 pub(super) fn is_carried<J: Run, R: Wait + AllocGlobal>(
     rt: &R,
-    office: &mut Office<J>,
+    team: &mut Team<J>,
     packet: &Packet,
 ) -> Result<bool, Fail> {
     let alloc = rt.alloc();
@@ -201,15 +201,15 @@ pub(super) fn is_carried<J: Run, R: Wait + AllocGlobal>(
         sends: 0,
         is_right: false,
     };
-    let is_settled = is_settled(rt, office, &mut link, packet)?;
+    let is_settled = is_settled(rt, team, &mut link, packet)?;
     let is_sent = link.sends == packet.sends && link.is_right == (packet.sends == 1);
-    Ok(is_settled && is_sent && is_counted(&office.first, packet))
+    Ok(is_settled && is_sent && is_counted(&team.first, packet))
 }
 
 // The same, with its bytes and those of what the sender is told.
 fn is_settled<J: Run, R: Wait + AllocGlobal>(
     rt: &R,
-    office: &mut Office<J>,
+    team: &mut Team<J>,
     link: &mut Looking<'_>,
     packet: &Packet,
 ) -> Result<bool, Fail> {
@@ -220,7 +220,7 @@ fn is_settled<J: Run, R: Wait + AllocGlobal>(
         token: packet.token,
         frame: bytes.as_slice(),
     };
-    let (reply, is_told, tally) = carried(rt, office, link, packet.step, job, told.as_slice())?;
+    let (reply, is_told, tally) = carried(rt, team, link, packet.step, job, told.as_slice())?;
     let is_replied = reply == packet.reply && reply.status().code() == packet.code;
     Ok(is_replied && is_told && tally == packet.tally)
 }
@@ -236,14 +236,14 @@ fn is_counted<J: Run>(share: &Share<J>, packet: &Packet) -> bool {
 // on by that step.
 fn carried<J: Run, R: Wait + AllocGlobal>(
     rt: &R,
-    office: &mut Office<J>,
+    team: &mut Team<J>,
     link: &mut Looking<'_>,
     step: u64,
     job: Job<'_>,
     told: &[u8],
 ) -> Result<(Reply, bool, Tally), Fail> {
     let alloc = rt.alloc();
-    let (books, share) = (&office.books, &mut office.first);
+    let (books, share) = (&team.books, &mut team.first);
     if books.tenants() == 0 || job.tenant != 0 {
         return Err("a tenant".into());
     }
@@ -261,13 +261,9 @@ fn carried<J: Run, R: Wait + AllocGlobal>(
 }
 
 impl Trial for Packet {
-    fn act<J: Run, R: Wait + AllocGlobal>(
-        &self,
-        rt: &R,
-        mut office: Office<J>,
-    ) -> Result<bool, Fail> {
-        let is_carried = is_carried(rt, &mut office, self)?;
-        Ok(is_carried && come_to(rt.alloc(), office, self.gathered)?)
+    fn act<J: Run, R: Wait + AllocGlobal>(&self, rt: &R, mut team: Team<J>) -> Result<bool, Fail> {
+        let is_carried = is_carried(rt, &mut team, self)?;
+        Ok(is_carried && come_to(rt.alloc(), team, self.gathered)?)
     }
 }
 
@@ -302,13 +298,9 @@ fn packets_are_refused(rt: HostRuntime) -> Result<(), Fail> {
 struct FullJournal;
 
 impl Trial for FullJournal {
-    fn act<J: Run, R: Wait + AllocGlobal>(
-        &self,
-        rt: &R,
-        mut office: Office<J>,
-    ) -> Result<bool, Fail> {
-        let is_filled = is_carried(rt, &mut office, &FULFILLED)?;
-        Ok(is_filled && BUSY.act(rt, office)?)
+    fn act<J: Run, R: Wait + AllocGlobal>(&self, rt: &R, mut team: Team<J>) -> Result<bool, Fail> {
+        let is_filled = is_carried(rt, &mut team, &FULFILLED)?;
+        Ok(is_filled && BUSY.act(rt, team)?)
     }
 }
 
@@ -322,13 +314,9 @@ fn a_journal_of_two_places_is_full(rt: HostRuntime) -> Result<(), Fail> {
 struct MissingShare;
 
 impl Trial for MissingShare {
-    fn act<J: Run, R: Wait + AllocGlobal>(
-        &self,
-        rt: &R,
-        mut office: Office<J>,
-    ) -> Result<bool, Fail> {
-        let is_carried = is_carried(rt, &mut office, &FULFILLED)?;
-        Ok(is_carried && are_numbered_in_the_end(rt.alloc(), office)?)
+    fn act<J: Run, R: Wait + AllocGlobal>(&self, rt: &R, mut team: Team<J>) -> Result<bool, Fail> {
+        let is_carried = is_carried(rt, &mut team, &FULFILLED)?;
+        Ok(is_carried && are_numbered_in_the_end(rt.alloc(), team)?)
     }
 }
 
@@ -346,10 +334,10 @@ fn refused<J: Run>(
 }
 
 // Whether the first share is handed back, and the books have these numbers once both are there.
-fn are_numbered_in_the_end<J: Run>(alloc: Global, office: Office<J>) -> Result<bool, Fail> {
-    let (books, mut shares) = refused(alloc, office.books, office.first)?;
+fn are_numbered_in_the_end<J: Run>(alloc: Global, team: Team<J>) -> Result<bool, Fail> {
+    let (books, mut shares) = refused(alloc, team.books, team.first)?;
     let is_alone = shares.len() == 1;
-    shares.push(office.second)?;
+    shares.push(team.second)?;
     let books = gathered(alloc, books, shares)?;
     Ok(is_alone && have_numbers(books.as_slice(), 2, 0))
 }

@@ -3,7 +3,7 @@
 ghost use Rattle.std.specs.Prelude.{◌≡◌};
 ghost use Rattle.books_shared.specs.Traced.{openings_of};
 
-use super::{FixedClock, Office, filled, gathered, outcome, start, two_books, two_setups};
+use super::{FixedClock, Team, filled, gathered, outcome, start, team_of, two_setups};
 use crate::START;
 use books_shared::{Books, Share};
 use floor_core::{Got, Slot};
@@ -252,11 +252,11 @@ fn carry_on_books<J: Run + Send + Sync, R: Threads + Wait + Sync>(
     requires size { J.size ≡ record { tenants = 2; workers = 2 } }
     requires openings { J.openings ≡ openings_of setups.now start }
 {
-    let Office {
+    let Team {
         books,
         first,
         second,
-    } = two_books::<J>(alloc, opened, setups, start)?;
+    } = team_of::<J>(alloc, opened, setups, start)?;
     let meeting = new_meeting(alloc, together.place)?;
     let (are_good, shares) = both_carried(
         rt,
