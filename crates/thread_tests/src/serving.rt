@@ -29,7 +29,7 @@ use wire::{
 
 // A setup of one tenant, where nothing is sent on.
 fn usual(alloc: Global) -> Result<String, Fail> {
-    one_tenant(alloc, 7802, "400")
+    one_tenant(alloc, 7802, 400)
 }
 
 // A connection on which these bytes were sent, and no more will be.
@@ -251,7 +251,7 @@ fn with_peer<R>(
     rt: &R,
     peer: Peer,
     packet: &str,
-    hold: &str,
+    hold: u32,
 ) -> Result<(Vec<Vec<u8>>, Vec<u8>), Fail>
 where
     R: Threads + Wait + Clock + AllocGlobal + Sync,
@@ -348,26 +348,26 @@ fn a_child_is_configured(rt: HostRuntime) -> Result<(), Fail> {
 
 #[test]
 fn a_peer_fulfils(rt: HostRuntime) -> Result<(), Fail> {
-    let came = with_peer(&rt, Peer::Fulfils, "{base}", "400")?;
+    let came = with_peer(&rt, Peer::Fulfils, "{base}", 400)?;
     expect(&rt, came, &FULFILLED)
 }
 
 #[test]
 fn a_peer_babbles(rt: HostRuntime) -> Result<(), Fail> {
-    let came = with_peer(&rt, Peer::Babbles, "{base}", "400")?;
+    let came = with_peer(&rt, Peer::Babbles, "{base}", 400)?;
     expect(&rt, came, &REFUSED)
 }
 
 #[test]
 fn a_peer_drips_a_fulfill_past_the_hold(rt: HostRuntime) -> Result<(), Fail> {
-    let came = with_peer(&rt, Peer::Drips, "{base}", "400")?;
+    let came = with_peer(&rt, Peer::Drips, "{base}", 400)?;
     expect(&rt, came, &CUT)
 }
 
 // What goes on is the same, however long it may be held.
 #[test]
 fn a_peer_drips_a_fulfill_past_the_expiry(rt: HostRuntime) -> Result<(), Fail> {
-    let came = with_peer(&rt, Peer::Drips, "{base until 1400 ms}", "30000")?;
+    let came = with_peer(&rt, Peer::Drips, "{base until 1400 ms}", 30_000)?;
     expect(&rt, came, &CUT)
 }
 
@@ -380,7 +380,7 @@ fn lonely_port(rt: &impl Net<Listener = TcpListener, Stream = TcpStream>) -> Res
 #[test]
 fn nobody_listens(rt: HostRuntime) -> Result<(), Fail> {
     let alloc = rt.alloc();
-    let setup = one_tenant(alloc, lonely_port(&rt)?, "400")?;
+    let setup = one_tenant(alloc, lonely_port(&rt)?, 400)?;
     let requests = packet_and_balances(alloc, "{base}")?;
     let came = served(&rt, setup.as_str(), NOTHING_MORE, requests.as_slice())?;
     expect(&rt, came, &CUT)

@@ -238,7 +238,7 @@ fn clients() -> [Told; 8] {
 
 /// A setup of two tenants whose second peers listen at that port.
 pub fn setup_text(alloc: Global, port: u16) -> Result<String, Fail> {
-    two_tenants(alloc, [port, port], "30000")
+    two_tenants(alloc, [port, port], 30_000)
 }
 
 /// What the clients of both tenants ask.

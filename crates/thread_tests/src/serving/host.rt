@@ -100,16 +100,16 @@ fn tenant_standing(alloc: Global, name: &str, port: u16, packets: u64) -> Result
     let bob = number(alloc, packets.saturating_mul(1_500))?;
     let sign = if packets == 0 { "" } else { "-" };
     let port = number(alloc, u64::from(port))?;
+    let text = WRITTEN.replace(alloc, "{name}", name)?;
     let values = [
         ("|", "\n"),
         ("'", "\""),
-        ("{name}", name),
         ("{alice}", alice.as_str()),
         ("{sign}", sign),
         ("{bob}", bob.as_str()),
         ("{port}", port.as_str()),
     ];
-    Ok(replaced(alloc, WRITTEN, &values)?)
+    Ok(replaced(alloc, text.as_str(), &values)?)
 }
 
 // A number in decimal digits.

@@ -251,7 +251,7 @@ fn a_second_request_is_answered_at_a_stop(rt: HostRuntime) -> Result<(), Fail> {
     let alloc = rt.alloc();
     let peer = TcpListener::bind(&rt, "127.0.0.1:0")?;
     let port = peer.local_addr()?.port();
-    let setup = one_tenant(alloc, port, "8000")?;
+    let setup = one_tenant(alloc, port, 8_000)?;
     let both = two_requests(alloc, port)?;
     let (is_right, answers) = served_between(&rt, &peer, setup.as_str(), &both)?;
     assert!(rt; is_right);

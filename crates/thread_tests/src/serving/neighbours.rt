@@ -128,7 +128,7 @@ fn a_silent_peer_keeps_no_other_tenant(rt: HostRuntime) -> Result<(), Fail> {
     let alloc = rt.alloc();
     let silent = TcpListener::bind(&rt, "127.0.0.1:0")?;
     let ports = [silent.local_addr()?.port(), lonely_port(&rt)?];
-    let setup = two_tenants(alloc, ports, "3000")?;
+    let setup = two_tenants(alloc, ports, 3_000)?;
     let acme = packet_by(alloc, "/ilp/acme", "tok-alice", "{base}")?;
     let beta = packet_by(alloc, "/ilp/beta", "tok-alice", "{for beta}")?;
     let operator = request(alloc, "/admin/beta", "root", b"balances\n")?;

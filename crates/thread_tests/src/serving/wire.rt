@@ -27,10 +27,11 @@ bob|url|'http://127.0.0.1:{port}/ilp'
 ";
 
 /// A setup of one tenant whose second peer listens at that port, and which holds packets for so many milliseconds at most.
-pub fn one_tenant(alloc: Global, port: u16, hold: &str) -> Result<String, Fail> {
+pub fn one_tenant(alloc: Global, port: u16, hold: u32) -> Result<String, Fail> {
     let port = port.to_string(alloc)?;
+    let hold = hold.to_string(alloc)?;
     let text = setup_by(alloc, ONE)?;
-    let values = [("{hold}", hold), ("{port}", port.as_str())];
+    let values = [("{hold}", hold.as_str()), ("{port}", port.as_str())];
     Ok(replaced(alloc, text.as_str(), &values)?)
 }
 
@@ -68,12 +69,13 @@ beta rate||[[tenant.rate]]
 ";
 
 /// A setup of two tenants whose second peers listen at these ports, and which hold packets for so many milliseconds at most.
-pub fn two_tenants(alloc: Global, [acme, beta]: [u16; 2], hold: &str) -> Result<String, Fail> {
+pub fn two_tenants(alloc: Global, [acme, beta]: [u16; 2], hold: u32) -> Result<String, Fail> {
     let acme = acme.to_string(alloc)?;
     let beta = beta.to_string(alloc)?;
+    let hold = hold.to_string(alloc)?;
     let text = setup_by(alloc, TWO)?;
     let values = [
-        ("{hold}", hold),
+        ("{hold}", hold.as_str()),
         ("{acme}", acme.as_str()),
         ("{beta}", beta.as_str()),
     ];
