@@ -145,7 +145,10 @@ where
     let mut lines = Vec::new(rt.alloc());
     let (end, came) = join(
         rt,
-        || serve_as(rt, text, extent, report, &listener, &mut lines),
+        ||
+            requires workers { (1 ≤ extent.workers) × (extent.workers ≤ max_places) }
+            requires connections { (1 ≤ extent.connections) × (extent.connections ≤ max_workers) }
+        { serve_as(rt, text, extent, report, &listener, &mut lines) },
         || ask(&addr),
     );
     let came = came?;
