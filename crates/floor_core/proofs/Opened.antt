@@ -111,13 +111,14 @@ begun setups start f a o z t =
           rw p.1 (λ k. record { book = book k; next_call = next k; calls = λ c. no_calls f.seats a t c k })
     ]
 
-pub new : (setups : List TenantTerms) (start workers : ℕ) (f : FloorState) → length f.seats ≡ workers → AreFree f.seats → AreOpened setups start (length setups) f.books
-    → f.next_calls ≡ replicate (length f.books) 0 → New setups start workers f
-new setups start workers f n a o z = record {
+pub new : (setups : List TenantTerms) (start workers : ℕ) (f : FloorState) → length f.seats ≡ workers → AreFree f.seats → ((w : ℕ) → (get_or f.seats w no_seat).slot.reply ≡ [])
+    → AreOpened setups start (length setups) f.books → f.next_calls ≡ replicate (length f.books) 0 → New setups start workers f
+new setups start workers f n a silent o z = record {
   is_new = record {
     workers_are = n;
     tenants_are = o.count;
     world = λ i. record { tenants = λ t. begun setups start f a o z t i; hands = λ w. hand_by (a.free w i) (get_or f.seats w no_seat).call };
+    silent = silent;
   };
   is_whole = whole f (ap length z ∙ length-replicate (length f.books) 0) a (placed_by setups start f.books o);
 }

@@ -13,6 +13,7 @@ use Rattle.floor_core.specs.World.{Stage, Tenant, Hand, World, FitsIn, no_book, 
 use Rattle.floor_core.specs.declared.floor.Seat.{Seat}
 use Rattle.floor_core.specs.declared.floor.TheConstants.{MAX_SEATS}
 use Rattle.floor_core.specs.declared.step.Step.{Step}
+use Rattle.floor_core.specs.declared.step.Step.TheVariants.{Govern}
 
 -- what a floor is made of: every worker's slot with the number of its call, every tenant's book, and the number of its
 -- next call
@@ -104,15 +105,21 @@ world_of f = record { tenants = tenant_of f; hands = hands_of f.seats }
 abbrev pub Fits : FloorState → Step → Type 0
 Fits f step = FitsIn (length f.seats) (length f.books) step
 
+-- the step is a command
+abbrev pub IsCommand : Step → Type 0
+IsCommand (Govern tenant now command) = Unit {0}
+IsCommand step = ⊥
+
 -- each tenant has numbers left for the calls of so many steps
 abbrev pub HasRoom : FloorState → ℕ → Type 0
 HasRoom f steps = (t : ℕ) → t < length f.books → slice_index f.next_calls t + steps ≤ 2 ^ 63
 
--- a floor of these tenants and so many workers on which nothing has happened
+-- a floor of these tenants and so many workers on which nothing has happened: nobody has a reply yet
 pub record IsNew (setups : List TenantTerms) (start workers : ℕ) (f : FloorState) : Type 0 where
   pub workers_are : length f.seats ≡ workers
   pub tenants_are : length f.books ≡ length setups
   pub world : world_of f ≡ world_at_start setups start
+  pub silent : (w : ℕ) → (seat_at f w).slot.reply ≡ []
 
 -- ---- what holds of every floor
 

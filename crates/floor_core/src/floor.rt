@@ -282,7 +282,7 @@ fn govern_on(
 
 impl Parts {
     ghost use Rattle.std.specs.Prelude.{◌≡◌, ℕ, length, IfOk, OnOk, OnErr};
-    ghost use Rattle.floor_core.specs.FloorView.{Fits, HasRoom, IsMet, seat_at};
+    ghost use Rattle.floor_core.specs.FloorView.{Fits, HasRoom, IsCommand, IsMet, seat_at};
     ghost use Rattle.floor_core.specs.Forwards.{HasBytes};
     ghost use Rattle.floor_core.specs.Moves.{output_of, moved, AsksSound};
     ghost use Rattle.floor_core.specs.Told.{shown};
@@ -298,6 +298,7 @@ impl Parts {
         ensures asked { OnOk result (AsksSound self.old step.now) }
         ensures bytes { HasBytes step.now }
         ensures same { OnErr result (self.new ≡ self.old) }
+        ensures command { OnErr result (IsCommand step.now) }
     {
         match step {
             Step::Load {
@@ -340,7 +341,7 @@ impl Floor {
     ghost use Rattle.std.specs.Prelude.{◌≡◌, ◌≤◌, ◌+◌, ℕ, [], length, slice_index, take, All, IfOk, OnOk, IfErr, OnErr};
     ghost use Rattle.std.specs.Prelude.{vec_capacity, MatchResult};
     ghost use Rattle.ilp_view.specs.Packet.{max_frame};
-    ghost use Rattle.floor_core.specs.FloorView.{world_of, seat_in, Fits, HasRoom};
+    ghost use Rattle.floor_core.specs.FloorView.{world_of, seat_in, Fits, HasRoom, IsCommand};
     ghost use Rattle.floor_core.specs.Forwards.{AreForwards, AreTaken, HasBytes, SendsForward, frames_on};
     ghost use Rattle.floor_core.specs.Told.{shown};
     ghost use Rattle.floor_core.specs.World.{AreOutputs, IsLeft};
@@ -359,6 +360,7 @@ impl Floor {
         ensures forwards { IfOk result (λ told. SendsForward (frames_on self.old) step.now (shown self.new.seats told)) }
         ensures bytes { HasBytes step.now }
         ensures same { OnErr result (self.new ≡ self.old) }
+        ensures command { OnErr result (IsCommand step.now) }
         ensures workers { length self.new.seats ≡ length self.old.seats }
         ensures tenants { length self.new.books ≡ length self.old.books }
         ensures counted { (t : ℕ) → slice_index self.new.next_calls t ≤ slice_index self.old.next_calls t + 1 }
@@ -505,6 +507,7 @@ impl Floor {
 fn free_seats(alloc: Global, workers: usize) -> Result<Vec<Seat>, AllocError>
     ensures count { IfOk result (λ seats. length seats.items ≡ workers) }
     ensures free { IfOk result (λ seats. (w : ℕ) → (seat_in seats.items w).slot.job ≡ NoJob) }
+    ensures silent { IfOk result (λ seats. (w : ℕ) → (seat_in seats.items w).slot.reply ≡ []) }
 {
     let mut seats: Vec<Seat> = Vec::with_capacity(alloc, workers)?;
     for _ in 0..workers {

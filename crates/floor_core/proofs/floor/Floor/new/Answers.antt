@@ -17,7 +17,7 @@ made c =
     subst (λ (n : ℕ). AreOpened c.args.setups.now c.args.start n c.loop-tenant.books.items) (grind (arith, common_steps)) c.loop-tenant.invariant.opened in
     let zeros : c.in_ok-next_calls.next_calls.items ≡ replicate (length c.loop-tenant.books.items) 0 = grind (arith, common_steps) in
     new c.args.setups.now c.args.start c.args.workers (parts c.in_ok-seats.seats.items c.loop-tenant.books.items c.in_ok-next_calls.next_calls.items)
-    c.in_ok-seats.ensures.count (record { free = c.in_ok-seats.ensures.free }) all zeros
+    c.in_ok-seats.ensures.count (record { free = c.in_ok-seats.ensures.free }) c.in_ok-seats.ensures.silent all zeros
 
 pub invariant_of-result : goal.invariant_of-result
 invariant_of-result c = (made c).is_whole
