@@ -186,8 +186,9 @@ all_caused (e ∷ es) books left leads =
     let own : of_tenant t (e ∷ es) ≡ e ∷ of_tenant t es = ap (λ b. cond b (e ∷ of_tenant t es) (of_tenant t es)) (eq-eqb t t refl) in
     let here : Leads (books t) (e ∷ of_tenant t es) (left t) = subst (λ ds. Leads (books t) ds (left t)) own (leads t) in
     let cause = here.1.0.0 in
-    let made = here.1.0.1 in (
+    let made = here.1.0.2 in (
       cause,
+      here.1.0.1,
       made,
       all_caused es (put books t (left_from (books t) cause)) left (λ u. elim (eqb_tells u t) [
         | inl a ↦ rw a.0 (subst (λ s. Leads s (of_tenant u es) (left u)) (sym (record_leaves (books t) cause e.made made))
@@ -275,10 +276,10 @@ opens_all openings log books e order led below t =
     by true is = opens_there openings log books t (stands openings log books 0 t order led (ltb-true t (length books) is))
     by false is = let past = ltb-false t (length books) is in opens_nowhere openings log books t (omega arith) past below
 
-placed : (openings : List Opening) (log : List Done) (books : List (State × ℕ)) → AreInOrder 0 books
-    → All (λ b. IsLedTo openings b.0 (of_tenant b.0.opening.tenant log)) books → ArePlaced openings (length books)
-placed openings log books order led t lt =
-    let here = stands openings log books 0 t order led lt in
+placed : (openings : List Opening) (log : List Done) (books : List (State × ℕ)) → length openings ≡ length books → AreInOrder 0 books
+    → All (λ b. IsLedTo openings b.0 (of_tenant b.0.opening.tenant log)) books → ArePlaced openings
+placed openings log books many order led t lt =
+    let here = stands openings log books 0 t order led (omega arith) in
     let same : 0 + t ≡ t = omega arith in
     let tenant : (book_among books t).opening.tenant ≡ t = here.tenant ∙ same in
     let opens : slice_get openings t ≡ Some here.led.first = ap (slice_get openings) (sym tenant) ∙ here.led.opens in
@@ -298,8 +299,8 @@ entries_below bound size (x ∷ xs) e others =
 
 -- what floors promise of records that have causes
 abbrev pub Runs : Type 0
-Runs = (openings : List Opening) (tenants : ℕ) (entries : List Entered) (left : ℕ → State) → ArePlaced openings tenants
-    → All (λ e. e.tenant < tenants) entries → AreCaused (λ t. book_opened (slice_get openings t)) entries left → AreRun openings entries left
+Runs = (openings : List Opening) (entries : List Entered) (left : ℕ → State) → ArePlaced openings
+    → All (λ e. e.tenant < length openings) entries → AreCaused (λ t. book_opened (slice_get openings t)) entries left → AreRun openings entries left
 
 pub list_of : Runs → (size : Size) (openings : List Opening) (found books : List (State × ℕ)) (shares : List ShareView) (parts : List PartView)
     → size.tenants ≡ length found → length openings ≡ length found → AreTraced openings found parts → IsPermutation found books
@@ -320,7 +321,8 @@ list_of runs size openings found books shares parts many each traced moved sorte
         workers = of_shares log shares one.workers;
         others = one.others;
         in_order = order;
-        run = runs openings (length books) (map entry_of log) (book_among books) (placed openings log books order led) below.0
+        run = runs openings (map entry_of log) (book_among books) (placed openings log books (each ∙ sym as_many) order led)
+            (subst (λ n. All (λ (e : Entered). e.tenant < n) (map entry_of log)) (sym (each ∙ sym as_many)) below.0)
             (all_caused log (λ t. book_opened (slice_get openings t)) (book_among books) (λ t. (opens t).leads));
       },
     )

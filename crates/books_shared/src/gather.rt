@@ -14,7 +14,7 @@ use std::alloc::Global;
 use std::sync::Mutex;
 use tenant_core::Book;
 
-/// Why books were not gathered, in the order in which it is looked for. All is handed back.
+/// Why books were not gathered, in the order in which it is looked for. Books and shares are handed back.
 #[derive(Drop)]
 pub enum GatherFault<J: Run> {
     /// The shares are not those of all workers, each once.
@@ -36,11 +36,12 @@ impl<J: Run> Books<J> {
     ///
     /// There is one list of all that was done, whatever the threads did: of each tenant it has what led to its book from the
     /// opening of the tenant's setup, over all its periods, in the order of its journals and with the outcomes of the replay; of
-    /// each worker what it did, in its order; and nothing else. And the list is a run of a `Floor`: there are steps that, from
-    /// those openings on, make just its records, in its order, and leave these books. So what the threads did to the books is
-    /// what some list of steps does, of which `Floor::run` says that each tenant's part of it is the tenant's own.
+    /// each worker what it did, in its order; and nothing else. And the list is a run (`AreRun`): there are steps of some workers
+    /// that, from those openings on, make just its records, in its order, and leave these books. Of this run holds what holds of
+    /// `Floor::run`: each tenant sees and keeps what the one-tenant connector makes of its own steps alone, and each frame that
+    /// goes on is the one that came, with 8 other bytes for its amount and 17 others for its expiry.
     ///
-    /// The errors are, in the order in which they are looked for, with all handed back: `Missing` exactly where the
+    /// The errors are, in the order in which they are looked for, with as many books as there were and the shares handed back: `Missing` exactly where the
     /// shares' numbers are not those below the number of workers, each once, in any order; `Memory`; and `Differs`
     /// exactly where some book's number is not that sum.
     pub fn gather(

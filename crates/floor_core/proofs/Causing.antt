@@ -1,10 +1,13 @@
 -- Records that something made in the books of many tenants are those of a list of steps.
-use Rattle.std.proofs.Common.{◌≡◌, ◌≢◌, ◌<◌, ◌≤◌, ◌+◌, ℕ, List, [], ◌∷◌, ◌++◌, Bool, true, false, Option, Some, None, refl, inl, inr, ◌⊎◌, sym, ap, subst, ◌∙◌, arith}
+use Rattle.std.proofs.Common.{◌≡◌, ◌≢◌, ◌<◌, ◌≤◌, ◌+◌, ℕ, List, [], ◌∷◌, ◌++◌, length, Bool, true, false, Option, Some, None, refl, inl, inr, ◌⊎◌, sym, ap, subst, ◌∙◌, arith}
+use mathlib.Core.Logic.{dite}
+use native.Mathlib.Decide.{dec_lt}
 use Rattle.std.specs.Prelude.{◌&&◌, ◌||◌, ◌==◌, not, Result, Ok, Err, is_ok, All, slice_get}
 use Rattle.std.proofs.lemmas.Bool.{eq-eqb, eqb-true}
 use Rattle.std.proofs.lemmas.Bool.Decides.{eqb_tells}
 use Rattle.std.proofs.lemmas.List.{append_assoc}
-use Rattle.std.proofs.lemmas.List.Elements.{All-head, All-tail}
+use Rattle.std.proofs.lemmas.List.Elements.{All-append, All-cons, All-head, All-nil, All-tail, All-weaker}
+use Rattle.oer_core.specs.Length.{AreBytes}
 use Rattle.ilp_view.specs.Packet.{Prepare}
 use Rattle.tenant_core.specs.Answer.{answer_to, answer_made, answered}
 use Rattle.tenant_core.specs.Calls.{CallLaws}
@@ -21,16 +24,18 @@ use Rattle.tenant_core.specs.declared.journal.Record.{Record}
 use Rattle.tenant_core.specs.declared.opening.Opening.{Opening}
 use Rattle.tenant_core.specs.declared.verdict.Verdict.{Verdict}
 use Rattle.tenant_core.specs.declared.verdict.Verdict.TheVariants.{Unknown, NoRoom, Refuse, Fulfil, Forward, Relay}
-use Rattle.floor_core.specs.Causes.{Cause, Entered, AreCaused, AreRun, ArePlaced, all_made, book_opened, entered, left_from, made_from, made_in, packet_made, world_opened}
-use Rattle.floor_core.specs.World.{Effect, Stage, Tenant, Hand, World, put, arrival, arrived, key_in, answer_key, heard, told, owner}
-use Rattle.floor_core.specs.Worlds.{after, after_all}
+use Rattle.floor_core.specs.Causes.{Cause, Entered, AreCaused, AreRun, ArePlaced, BringsBytes, all_made, book_opened, entered, left_from, made_from, made_in, packet_made, world_opened}
+use Rattle.floor_core.specs.Forwards.{AreForwards, AreTaken, HasBytes, no_frames}
+use Rattle.floor_core.specs.World.{AreOutputs, Effect, FitsIn, Stage, Tenant, Hand, World, put, arrival, arrived, key_in, answer_key, heard, told, owner}
+use Rattle.floor_core.specs.Worlds.{after, after_all, replies}
 use Rattle.floor_core.specs.declared.step.Given.{Given}
 use Rattle.floor_core.specs.declared.step.Malformed.{Malformed}
+use Rattle.floor_core.specs.declared.step.Output.{Output}
 use Rattle.floor_core.specs.declared.step.Step.{Step}
 use Rattle.floor_core.specs.declared.step.Step.TheVariants.{Load, Decide, Answer, Tick, Govern}
 use Rattle.floor_core.proofs.Calls.{put-same, put-other}
 use Rattle.floor_core.proofs.Effects.{answer_effect, arrival_effect, came, decide_effect, said, stage_after}
-use Rattle.floor_core.proofs.Views.{after_all-append}
+use Rattle.floor_core.proofs.Views.{after_all-append, are_replies, is_after}
 
 -- ---- hands
 
@@ -122,13 +127,20 @@ goes_on bound next later w m t v x z g moves number apart free own =
       ];
     }
 
--- steps make that record in a tenant's book, and leave it so
-record Goes (bound : ℕ) (w : World) (t : ℕ) (r : Record) (s : State) : Type 0 where
+-- steps make that record in a tenant's book, and leave it so: of tenants below the bound, and of workers before the later one
+record Goes (bound next : ℕ) (w : World) (t : ℕ) (r : Record) (s : State) : Type 0 where
   steps : List Step
   made : all_made w steps ≡ record { tenant = t; made = r } ∷ []
   later : ℕ
+  grows : next ≤ later
+  fit : All (FitsIn later bound) steps
+  bytes : All HasBytes steps
   going : IsGoing bound later (after_all w steps)
   books : (u : ℕ) → ((after_all w steps).tenants u).book ≡ put (λ k. (w.tenants k).book) t s u
+
+-- one step
+one : (P : Step → Type 0) (s : Step) → P s → All P (s ∷ [])
+one P s h = All-cons P s [] h (All-nil P)
 
 entered_of : (t : ℕ) (made : Option Record) (r : Record) → made ≡ Some r → entered t made ++ [] ≡ record { tenant = t; made = r } ∷ []
 entered_of t made r e = rw e refl
@@ -178,25 +190,31 @@ books_still w t next s free =
     (record (w.tenants t) { book = s }) Hand.Free s (stays w t next (record (w.tenants t) { book = s }) free) refl
 
 moment_goes : OpenHoldLaws → CallLaws → (bound next : ℕ) (w : World) (t now : ℕ) (r : Record) → t < bound → IsGoing bound next w
-    → made_from (w.tenants t).book (Cause.Moment now) ≡ Some r → Goes bound w t r (left_from (w.tenants t).book (Cause.Moment now))
+    → made_from (w.tenants t).book (Cause.Moment now) ≡ Some r → Goes bound next w t r (left_from (w.tenants t).book (Cause.Moment now))
 moment_goes holds calls bound next w t now r lt g e =
     let s = left_from (w.tenants t).book (Cause.Moment now) in
     record {
       steps = Tick t now ∷ [];
       made = entered_of t _ r e;
       later = next;
+      grows = omega arith;
+      fit = one (FitsIn next bound) (Tick t now) lt;
+      bytes = one HasBytes (Tick t now) tt;
       going = going_still bound next w t s g ((calls.same_ticked (w.tenants t).book now).number ∙ g.numbered t lt) (λ hold. holds.ticked (w.tenants t).book now hold);
       books = books_still w t next s (g.free next (omega arith));
     }
 
 order_goes : OpenHoldLaws → CallLaws → (bound next : ℕ) (w : World) (t now : ℕ) (command : Command) (r : Record) → t < bound → IsGoing bound next w
-    → made_from (w.tenants t).book (Cause.Order now command) ≡ Some r → Goes bound w t r (left_from (w.tenants t).book (Cause.Order now command))
+    → made_from (w.tenants t).book (Cause.Order now command) ≡ Some r → Goes bound next w t r (left_from (w.tenants t).book (Cause.Order now command))
 order_goes holds calls bound next w t now command r lt g e =
     let s = left_from (w.tenants t).book (Cause.Order now command) in
     record {
       steps = Govern t now command ∷ [];
       made = entered_of t _ r e;
       later = next;
+      grows = omega arith;
+      fit = one (FitsIn next bound) (Govern t now command) lt;
+      bytes = one HasBytes (Govern t now command) tt;
       going = going_still bound next w t s g ((calls.same_commanded (w.tenants t).book command now).number ∙ g.numbered t lt) (λ hold. holds.commanded (w.tenants t).book command now hold);
       books = books_still w t next s (g.free next (omega arith));
     }
@@ -279,9 +297,14 @@ return_moves w t hold call worker now given =
       hands = λ k ne. put-other w.hands worker Hand.Free k ne;
     }
 
+-- a worker with a call in hand is before the next one
+at_work : (bound next : ℕ) (w : World) (t call worker : ℕ) → IsGoing bound next w → w.hands worker ≡ Hand.Awaits t call → worker < next
+at_work bound next w t call worker g hand = dite (dec_lt worker next) (λ lt. lt)
+    (λ not_below. absurd (not_awaits (w.hands worker) t call (g.free worker (omega arith)) hand))
+
 return_goes : OpenHoldLaws → CallLaws → (bound next : ℕ) (w : World) (t hold now : ℕ) (given : Given) (r : Record) → t < bound → IsGoing bound next w
     → made_from (w.tenants t).book (Cause.Return hold now given) ≡ Some r
-    → Goes bound w t r (left_from (w.tenants t).book (Cause.Return hold now given))
+    → Goes bound next w t r (left_from (w.tenants t).book (Cause.Return hold now given))
 return_goes holds calls bound next w t hold now given r lt g e =
     let book = (w.tenants t).book in
     let key = answer_key (heard given) in
@@ -301,6 +324,9 @@ return_goes holds calls bound next w t hold now given r lt g e =
       steps = Answer here.worker now given ∷ [];
       made = ap (λ (es : List Entered). es ++ []) (answer_made_step w t hold here.call here.worker now given ok.0 here.hand here.stage ok.1) ∙ entered_of t _ r e;
       later = next;
+      grows = omega arith;
+      fit = one (FitsIn next bound) (Answer here.worker now given) (at_work bound next w t here.call here.worker g here.hand);
+      bytes = one HasBytes (Answer here.worker now given) tt;
       going = subst (λ (y : World). IsGoing bound next y) (sym is) going;
       books = λ u. ap (λ (y : World). (y.tenants u).book) is
           ∙ books_moved w m t here.worker (answered_tenant w t hold here.call now given) Hand.Free (answered book hold now key) moves refl u;
@@ -498,10 +524,10 @@ packet_left : (s : State) (token frame : List ℕ) (p : Prepare) (now : ℕ) →
     → decided s token (key_in p) now ≡ left_from s (Cause.Packet token frame now)
 packet_left s token frame p now arrives = rw arrives refl
 
-packet_goes : OpenHoldLaws → CallLaws → (bound next : ℕ) (w : World) (t now : ℕ) (token frame : List ℕ) (r : Record) → t < bound → IsGoing bound next w
+packet_goes : OpenHoldLaws → CallLaws → (bound next : ℕ) (w : World) (t now : ℕ) (token frame : List ℕ) (r : Record) → t < bound → AreBytes frame → IsGoing bound next w
     → made_from (w.tenants t).book (Cause.Packet token frame now) ≡ Some r
-    → Goes bound w t r (left_from (w.tenants t).book (Cause.Packet token frame now))
-packet_goes holds calls bound next w t now token frame r lt g e =
+    → Goes bound next w t r (left_from (w.tenants t).book (Cause.Packet token frame now))
+packet_goes holds calls bound next w t now token frame r lt are g e =
     let book = (w.tenants t).book in
     let read = read_packet book token (arrival token frame) now r e in
     let p = read.0 in
@@ -514,6 +540,9 @@ packet_goes holds calls bound next w t now token frame r lt g e =
       steps = Load next t token frame ∷ Decide next now ∷ [];
       made = packet_made_steps w t next now token frame p free number read.1 ∙ entered_of t _ r read.2;
       later = next + 1;
+      grows = omega arith;
+      fit = All-cons (FitsIn (next + 1) bound) (Load next t token frame) (Decide next now ∷ []) (omega arith, lt) (one (FitsIn (next + 1) bound) (Decide next now) (omega arith));
+      bytes = All-cons HasBytes (Load next t token frame) (Decide next now ∷ []) are (one HasBytes (Decide next now) tt);
       going = goes_on bound next (next + 1) w m t next (decided_tenant w t token p now) _ g moves
           ((calls.same_decided book token (key_in p) now).number ∙ number)
           (λ u call ne. not_awaits (w.hands next) u call free)
@@ -525,12 +554,20 @@ packet_goes holds calls bound next w t now token frame r lt g e =
 
 -- ---- each record, and all of them
 
-one_goes : OpenHoldLaws → CallLaws → (bound next : ℕ) (w : World) (t : ℕ) (cause : Cause) (r : Record) → t < bound → IsGoing bound next w
-    → made_from (w.tenants t).book cause ≡ Some r → Goes bound w t r (left_from (w.tenants t).book cause)
-one_goes holds calls bound next w t (Cause.Packet token frame now) r lt g e = packet_goes holds calls bound next w t now token frame r lt g e
-one_goes holds calls bound next w t (Cause.Return hold now given) r lt g e = return_goes holds calls bound next w t hold now given r lt g e
-one_goes holds calls bound next w t (Cause.Moment now) r lt g e = moment_goes holds calls bound next w t now r lt g e
-one_goes holds calls bound next w t (Cause.Order now command) r lt g e = order_goes holds calls bound next w t now command r lt g e
+one_goes : OpenHoldLaws → CallLaws → (bound next : ℕ) (w : World) (t : ℕ) (cause : Cause) (r : Record) → t < bound → BringsBytes cause → IsGoing bound next w
+    → made_from (w.tenants t).book cause ≡ Some r → Goes bound next w t r (left_from (w.tenants t).book cause)
+one_goes holds calls bound next w t (Cause.Packet token frame now) r lt are g e = packet_goes holds calls bound next w t now token frame r lt are g e
+one_goes holds calls bound next w t (Cause.Return hold now given) r lt are g e = return_goes holds calls bound next w t hold now given r lt g e
+one_goes holds calls bound next w t (Cause.Moment now) r lt are g e = moment_goes holds calls bound next w t now r lt g e
+one_goes holds calls bound next w t (Cause.Order now command) r lt are g e = order_goes holds calls bound next w t now command r lt g e
+
+-- what fits fewer workers fits more
+fits_more : (few many tenants : ℕ) → few ≤ many → (s : Step) → FitsIn few tenants s → FitsIn many tenants s
+fits_more few many tenants le (Load worker tenant token bytes) h = (let a = h.0 in omega arith, h.1)
+fits_more few many tenants le (Decide worker now) h = omega arith
+fits_more few many tenants le (Answer worker now given) h = omega arith
+fits_more few many tenants le (Tick tenant now) h = h
+fits_more few many tenants le (Govern tenant now command) h = h
 
 all_made-append : (w : World) (ss more : List Step) → all_made w (ss ++ more) ≡ all_made w ss ++ all_made (after_all w ss) more
 all_made-append w [] more = refl
@@ -538,27 +575,48 @@ all_made-append w (s ∷ ss) more =
     ap (λ (es : List Entered). made_in w (owner w.hands s) ++ es) (all_made-append (after w s) ss more)
     ∙ sym (append_assoc (made_in w (owner w.hands s)) (all_made (after w s) ss) (all_made (after_all (after w s) ss) more))
 
--- steps from that world on make these records, and leave those books
-record GoOn (w : World) (entries : List Entered) (left : ℕ → State) : Type 0 where
+-- steps from that world on make these records, and leave those books: of tenants below the bound, and workers of whom the next
+-- ones are free
+record GoOn (bound next : ℕ) (w : World) (entries : List Entered) (left : ℕ → State) : Type 0 where
+  workers : ℕ
+  enough : next ≤ workers
   steps : List Step
+  fit : All (FitsIn workers bound) steps
+  bytes : All HasBytes steps
   made : all_made w steps ≡ entries
   books : (t : ℕ) → ((after_all w steps).tenants t).book ≡ left t
 
 all_go : OpenHoldLaws → CallLaws → (bound next : ℕ) (w : World) (entries : List Entered) (books left : ℕ → State) → IsGoing bound next w
-    → ((t : ℕ) → (w.tenants t).book ≡ books t) → All (λ e. e.tenant < bound) entries → AreCaused books entries left → GoOn w entries left
-all_go holds calls bound next w [] books left g are below caused = record { steps = []; made = refl; books = λ t. are t ∙ caused t }
-all_go holds calls bound next w (e ∷ es) books left g are below (cause, made, rest) =
+    → ((t : ℕ) → (w.tenants t).book ≡ books t) → All (λ e. e.tenant < bound) entries → AreCaused books entries left → GoOn bound next w entries left
+all_go holds calls bound next w [] books left g are below caused =
+    record {
+      workers = next;
+      enough = omega arith;
+      steps = [];
+      fit = All-nil (FitsIn next bound);
+      bytes = All-nil HasBytes;
+      made = refl;
+      books = λ t. are t ∙ caused t;
+    }
+all_go holds calls bound next w (e ∷ es) books left g are below (cause, brings, made, rest) =
     let t = e.tenant in
     let here : made_from (w.tenants t).book cause ≡ Some e.made = ap (λ (s : State). made_from s cause) (are t) ∙ made in
-    let one = one_goes holds calls bound next w t cause e.made (All-head (λ x. x.tenant < bound) e es below) g here in
-    let m = after_all w one.steps in
+    let first = one_goes holds calls bound next w t cause e.made (All-head (λ x. x.tenant < bound) e es below) brings g here in
+    let m = after_all w first.steps in
     let next_books : (u : ℕ) → (m.tenants u).book ≡ put books t (left_from (books t) cause) u =
-    λ u. one.books u ∙ same_put u (are t) in
-    let more = all_go holds calls bound one.later m es (put books t (left_from (books t) cause)) left one.going next_books (All-tail (λ x. x.tenant < bound) e es below) rest in
+    λ u. first.books u ∙ same_put u (are t) in
+    let more = all_go holds calls bound first.later m es (put books t (left_from (books t) cause)) left first.going next_books (All-tail (λ x. x.tenant < bound) e es below) rest in
+    let grows = first.grows in
+    let enough = more.enough in
     record {
-      steps = one.steps ++ more.steps;
-      made = all_made-append w one.steps more.steps ∙ (ap (λ (xs : List Entered). xs ++ all_made m more.steps) one.made ∙ ap (λ (xs : List Entered). e ∷ xs) more.made);
-      books = λ u. ap (λ (y : World). (y.tenants u).book) (after_all-append w one.steps more.steps) ∙ more.books u;
+      workers = more.workers;
+      enough = omega arith;
+      steps = first.steps ++ more.steps;
+      fit = All-append (FitsIn more.workers bound) first.steps more.steps
+          (All-weaker (FitsIn first.later bound) (FitsIn more.workers bound) (fits_more first.later more.workers bound enough) first.steps first.fit) more.fit;
+      bytes = All-append HasBytes first.steps more.steps first.bytes more.bytes;
+      made = all_made-append w first.steps more.steps ∙ (ap (λ (xs : List Entered). xs ++ all_made m more.steps) first.made ∙ ap (λ (xs : List Entered). e ∷ xs) more.made);
+      books = λ u. ap (λ (y : World). (y.tenants u).book) (after_all-append w first.steps more.steps) ∙ more.books u;
     }
   where
     same_put : (u : ℕ) → (w.tenants e.tenant).book ≡ books e.tenant
@@ -579,17 +637,40 @@ unfolding of_holds.holds_of
 none_at None hold = refl
 none_at (Some o) hold = none_awaited o hold
 
-begins_going : (openings : List Opening) (tenants : ℕ) → ArePlaced openings tenants → IsGoing tenants 0 (world_opened openings)
-begins_going openings tenants placed =
+begins_going : (openings : List Opening) → ArePlaced openings → IsGoing (length openings) 0 (world_opened openings)
+begins_going openings placed =
     record {
       numbered = placed;
       free = λ v le. refl;
       awaited = λ t hold is. absurd (not_true (sym (none_at (slice_get openings t) hold) ∙ is));
     }
 
-pub caused_are_run : OpenHoldLaws → CallLaws → (openings : List Opening) (tenants : ℕ) (entries : List Entered) (left : ℕ → State) → ArePlaced openings tenants
-    → All (λ e. e.tenant < tenants) entries → AreCaused (λ t. book_opened (slice_get openings t)) entries left → AreRun openings entries left
-caused_are_run holds calls openings tenants entries left placed below caused =
-    let go = all_go holds calls tenants 0 (world_opened openings) entries (λ t. book_opened (slice_get openings t)) left
-    (begins_going openings tenants placed) (λ t. refl) below caused in
-    record { steps = go.steps; made = go.made; books = go.books }
+-- no worker has a frame, and the tenants stand at their numbers
+begins_taken : (openings : List Opening) → ArePlaced openings → AreTaken (length openings) (world_opened openings) no_frames
+begins_taken openings placed = record { numbered = placed; each = λ worker t call e. absurd cc }
+
+-- each frame that goes on is a forward of the one that came
+abbrev pub ForwardLaw : Type 0
+ForwardLaw = (world : World) (frames : ℕ → List ℕ) (workers tenants : ℕ) (steps : List Step) (outputs : List Output)
+    → AreTaken tenants world frames → All (FitsIn workers tenants) steps → All HasBytes steps → AreOutputs world steps outputs
+    → AreForwards frames steps outputs
+
+pub caused_are_run : OpenHoldLaws → CallLaws → ForwardLaw → (openings : List Opening) (entries : List Entered) (left : ℕ → State) → ArePlaced openings
+    → All (λ e. e.tenant < length openings) entries → AreCaused (λ t. book_opened (slice_get openings t)) entries left → AreRun openings entries left
+caused_are_run holds calls forwards openings entries left placed below caused =
+    let w = world_opened openings in
+    let go = all_go holds calls (length openings) 0 w entries (λ t. book_opened (slice_get openings t)) left
+    (begins_going openings placed) (λ t. refl) below caused in
+    record {
+      workers = go.workers;
+      steps = go.steps;
+      fit = go.fit;
+      bytes = go.bytes;
+      made = go.made;
+      outputs = replies w go.steps;
+      last = after_all w go.steps;
+      alone = are_replies w go.steps;
+      ends = is_after w go.steps;
+      books = go.books;
+      forwards = forwards w no_frames go.workers (length openings) go.steps (replies w go.steps) (begins_taken openings placed) go.fit go.bytes (are_replies w go.steps);
+    }

@@ -1,5 +1,6 @@
 -- What records of tenants' books came from, and which records the steps of a list make.
-use Rattle.std.specs.Prelude.{ℕ, ◌≡◌, ◌<◌, List, [], ◌∷◌, ◌++◌, Option, Some, None, Result, Ok, Err, slice_get}
+use Rattle.std.specs.Prelude.{ℕ, ◌≡◌, ◌<◌, List, [], ◌∷◌, ◌++◌, length, All, Option, Some, None, Result, Ok, Err, slice_get}
+use Rattle.oer_core.specs.Length.{AreBytes}
 use Rattle.ilp_view.specs.Packet.{Prepare}
 use Rattle.tenant_core.specs.Answer.{answer_made, tick_made}
 use Rattle.tenant_core.specs.Governed.{command_made, commanded}
@@ -8,11 +9,13 @@ use Rattle.tenant_core.specs.State.{State, opened, recorded}
 use Rattle.tenant_core.specs.declared.command.Command.{Command}
 use Rattle.tenant_core.specs.declared.journal.Record.{Record}
 use Rattle.tenant_core.specs.declared.opening.Opening.{Opening}
+use Rattle.floor_core.specs.Forwards.{AreForwards, HasBytes, no_frames}
 use Rattle.floor_core.specs.World.{Tenant, Event, Owner, World, put, new_tenant, no_book, arrival, key_in, answer_key, heard}
-use Rattle.floor_core.specs.World.{effect_of, all_free, owner}
-use Rattle.floor_core.specs.Worlds.{after, after_all}
+use Rattle.floor_core.specs.World.{effect_of, all_free, owner, FitsIn, AreOutputs, IsLeft}
+use Rattle.floor_core.specs.Worlds.{after}
 use Rattle.floor_core.specs.declared.step.Given.{Given}
 use Rattle.floor_core.specs.declared.step.Malformed.{Malformed}
+use Rattle.floor_core.specs.declared.step.Output.{Output}
 use Rattle.floor_core.specs.declared.step.Step.{Step}
 
 -- ---- what a record came from
@@ -41,9 +44,14 @@ abbrev pub left_from : State → Cause → State
 left_from s (Cause.Order now command) = commanded s command now
 left_from s cause = recorded s (made_from s cause)
 
+-- a frame that came is made of bytes
+abbrev pub BringsBytes : Cause → Type 0
+BringsBytes (Cause.Packet token frame now) = AreBytes frame
+BringsBytes cause = Unit {0}
+
 -- something makes that record in a book of that state
 abbrev pub HasCause : State → Record → Type 0
-HasCause s r = (cause : Cause) × (made_from s cause ≡ Some r)
+HasCause s r = (cause : Cause) × BringsBytes cause × (made_from s cause ≡ Some r)
 
 -- ---- records of many tenants
 
@@ -61,7 +69,7 @@ entered tenant (Some r) = record { tenant = tenant; made = r } ∷ []
 abbrev pub AreCaused : (books : ℕ → State) → List Entered → (left : ℕ → State) → Type 0
 AreCaused books [] left = (t : ℕ) → books t ≡ left t
 AreCaused books (e ∷ es) left =
-    (cause : Cause) × (made_from (books e.tenant) cause ≡ Some e.made)
+    (cause : Cause) × BringsBytes cause × (made_from (books e.tenant) cause ≡ Some e.made)
     × AreCaused (put books e.tenant (left_from (books e.tenant) cause)) es left
 
 -- ---- records of steps
@@ -91,12 +99,24 @@ book_opened (Some o) = opened o
 abbrev pub world_opened : List Opening → World
 world_opened openings = record { tenants = λ t. new_tenant (book_opened (slice_get openings t)); hands = all_free }
 
--- the openings of so many tenants stand at their tenants' numbers
-abbrev pub ArePlaced : List Opening → (tenants : ℕ) → Type 0
-ArePlaced openings tenants = (t : ℕ) → t < tenants → (book_opened (slice_get openings t)).opening.tenant ≡ t
+-- each opening stands at its tenant's number
+abbrev pub ArePlaced : List Opening → Type 0
+ArePlaced openings =
+    (t : ℕ) → t < length openings → (book_opened (slice_get openings t)).opening.tenant ≡ t
 
--- there are steps that, run from the openings on, make just these records, in this order, and leave those books
+-- There are workers and steps, each of a worker and a tenant that are there and each frame made of bytes, that, run from the
+-- openings on, make just these records, in this order, and leave those books. Of this run holds what holds of each: every tenant
+-- sees and keeps what the one-tenant connector makes of the tenant's own steps alone, and each frame that goes on is the one that
+-- its worker took in last, with another amount and another expiry.
 pub record AreRun (openings : List Opening) (entries : List Entered) (left : ℕ → State) : Type 0 where
+  pub workers : ℕ
   pub steps : List Step
+  pub fit : All (FitsIn workers (length openings)) steps
+  pub bytes : All HasBytes steps
   pub made : all_made (world_opened openings) steps ≡ entries
-  pub books : (t : ℕ) → ((after_all (world_opened openings) steps).tenants t).book ≡ left t
+  pub outputs : List Output
+  pub last : World
+  pub alone : AreOutputs (world_opened openings) steps outputs
+  pub ends : IsLeft (world_opened openings) steps outputs last
+  pub books : (t : ℕ) → (last.tenants t).book ≡ left t
+  pub forwards : AreForwards no_frames steps outputs

@@ -220,6 +220,7 @@ IsNamed _ = Unit {0}
 -- what holds of a slot, whatever it was told
 pub record IsWork (w : Work) : Type 0 where
   pub readable : IsReadable w.job
+  pub octets : IsOfBytes w.job
   pub named : IsNamed w.job
   pub somewhere : WaitsWith w.job w.target
   pub until : WaitsWith w.job w.expiry

@@ -1,6 +1,6 @@
 //! Laws of the definitions, each the contract of a function that does nothing.
 
-ghost use Rattle.std.specs.Prelude.{◌≡◌, ◌<◌, ◌++◌, ℕ, List, All, slice_get};
+ghost use Rattle.std.specs.Prelude.{◌≡◌, ◌<◌, ◌++◌, ℕ, List, All, length, slice_get};
 ghost use Rattle.tenant_core.specs.State.{State};
 ghost use Rattle.tenant_core.specs.declared.opening.Opening.{Opening};
 ghost use Rattle.floor_core.specs.Causes.{AreCaused, ArePlaced, AreRun, Entered, book_opened};
@@ -60,13 +60,16 @@ pub fn two_worlds()
 {}
 
 /// Records of many tenants in one order, each of which something made in its tenant's book as the records before it left
-/// the book, are those of a list of steps: run from the tenants' openings on, by as many workers as there are packets, the
-/// steps make just these records, in this order, and leave the books that the records leave.
+/// the book, are those of a run: from the tenants' openings on, by at most as many workers as there are packets, its steps
+/// make just these records, in this order, and leave the books that the records leave. Each tenant sees of it what the
+/// one-tenant connector says to the tenant's own steps alone, and each frame that goes on is the one that came, with 8 other
+/// bytes for its amount and 17 others for its expiry, as of `Floor::run`.
 pub fn records_are_a_run()
-    ensures { (openings : List Opening) (tenants : ℕ) (entries : List Entered) (left : ℕ → State)
-        → ArePlaced openings tenants → All (λ e. e.tenant < tenants) entries
+    ensures { (openings : List Opening) (entries : List Entered) (left : ℕ → State)
+        → ArePlaced openings → All (λ e. e.tenant < length openings) entries
         → AreCaused (λ t. book_opened (slice_get openings t)) entries left → AreRun openings entries left }
 {
     tenant_core::laws::open_holds();
     tenant_core::laws::calls();
+    frames_that_go_on();
 }

@@ -1,6 +1,7 @@
 //! Slots: what a worker carries, in room that is used again and again.
 
 ghost use Rattle.std.specs.Prelude.{◌≡◌, ◌≤◌, IfOk, IsOk, IsSome, Some, take, List, ℕ, length};
+ghost use Rattle.oer_core.specs.Length.{AreBytes};
 ghost use Rattle.ilp_addr.specs.Timestamp.{latest_expiry};
 ghost use Rattle.ilp_view.specs.Packet.{max_frame};
 ghost use Rattle.ilp_view.specs.Reading.{prepare_at, fulfill_at, reject_at};
@@ -137,6 +138,7 @@ impl Slot {
         let _reply = self.reply.as_slice();
         if let Stage::Loaded { token, .. } = &self.stage {
             let _token = token.as_bytes();
+            are_bytes(self.frame());
         }
     }
 
@@ -298,6 +300,13 @@ impl Slot {
         self.stage = Stage::Idle;
         Turn::Reply
     }
+}
+
+// Each number of the list is a byte.
+fn are_bytes(bytes: &[u8])
+    ensures { AreBytes bytes.now }
+{
+    let _first = bytes.first();
 }
 
 // Whom the frame was sent on to.

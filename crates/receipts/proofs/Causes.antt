@@ -1,10 +1,11 @@
 -- What a call made has a cause: a frame that reads as the call's key, the frame of an answer, a moment, an order.
 use Rattle.std.proofs.Common.{◌≡◌, ◌<◌, ◌≤◌, ◌^◌, ℕ, true, List, [], ◌∷◌, ◌++◌, length, Some, refl, ap, ◌∙◌, arith}
 use Rattle.std.specs.Prelude.{Result, Ok, Err, is_ok}
+use Rattle.std.specs.Int.{w64, to_be_bytes}
 use Rattle.std.proofs.lemmas.Bool.{and_parts, ltb-true, leb-true, eqb-true, le-ltb}
 use Rattle.std.proofs.lemmas.List.{length-append}
 use Rattle.oer_core.specs.Laws.{LengthLaws}
-use Rattle.oer_core.specs.Length.{octet_string, shortest_length}
+use Rattle.oer_core.specs.Length.{AreBytes, octet_string, shortest_length}
 use Rattle.ilp_addr.specs.Address.{IsAddress, address_at}
 use Rattle.ilp_addr.specs.Laws.{AddressLaws, TimestampLaws}
 use Rattle.ilp_addr.specs.Timestamp.{latest_expiry, timestamp_of}
@@ -12,7 +13,7 @@ use Rattle.ilp_view.specs.Packet.{IsFrame, IsPrepare, Prepare, Reject, fulfill_f
 use Rattle.ilp_view.specs.Reading.{behind_type, envelope_at, fulfill_at, prepare_at, reject_at}
 use Rattle.ilp_view.specs.declared.fault.ViewFault.TheVariants as fault
 use Rattle.common_types.specs.Token.{is_token}
-use Rattle.tenant_core.specs.Called.{Call, IsCalled, IsGiven, called, is_answer}
+use Rattle.tenant_core.specs.Called.{Call, IsCalled, IsGiven, IsOfBytes, called, is_answer}
 use Rattle.tenant_core.specs.Governed.{order_left, order_made}
 use Rattle.tenant_core.specs.Judge.{decide_made}
 use Rattle.tenant_core.specs.Key.{Key}
@@ -25,10 +26,11 @@ use Rattle.tenant_core.specs.declared.journal.AnswerKey.{AnswerKey}
 use Rattle.tenant_core.specs.declared.journal.AnswerKey.TheVariants.{Fulfilled, Rejected, Fault}
 use Rattle.tenant_core.specs.declared.journal.Change.{Change as Changed}
 use Rattle.tenant_core.specs.declared.journal.Record.{Record}
-use Rattle.floor_core.specs.Causes.{Cause, left_from, made_from}
+use Rattle.floor_core.specs.Causes.{BringsBytes, Cause, left_from, made_from}
 use Rattle.floor_core.specs.World.{answer_key, arrival, heard, key_in}
 use Rattle.floor_core.specs.declared.step.Given.{Given}
 use Rattle.floor_core.specs.declared.step.Given.TheVariants as given
+use Rattle.receipts.proofs.Octets.{amount, both, none, one_more, spelling, timestamp}
 
 -- a Reject of code F00, and nothing else
 abbrev pub plain_reject : List ℕ
@@ -73,6 +75,7 @@ record IsSaid (key : Key) : Type 0 where
   expiry : key.expiry ≤ latest_expiry
   condition : length key.condition ≡ 32
   destination : IsAddress key.destination
+  octets : IsOfBytes key
 
 -- what was read, where something was
 value_of : {A E : Type 0} (r : Result A E) → is_ok r ≡ true → (x : A) × (r ≡ Ok x)
@@ -80,8 +83,8 @@ value_of (Ok x) e = (x, refl)
 value_of (Err f) e = absurd cc
 
 -- what a key that is sayable keeps
-is_said : AddressLaws → (key : Key) → is_sayable key ≡ true → IsSaid key
-is_said laws key e =
+is_said : AddressLaws → (key : Key) → is_sayable key ≡ true → IsOfBytes key → IsSaid key
+is_said laws key e octets =
     let last = and_parts _ _ e in
     let third = and_parts _ _ last.0 in
     let second = and_parts _ _ third.0 in
@@ -91,6 +94,7 @@ is_said laws key e =
       expiry = leb-true _ _ second.1;
       condition = eqb-true _ _ third.1;
       destination = (laws.read_is_address key.destination address.0 address.1).0;
+      octets = octets;
     }
 
 -- contents behind their length in the fewest bytes
@@ -125,6 +129,24 @@ is_prepare laws key said =
       data_length = laws.lengths.shortest_spells 0 (omega arith);
       payload = omega arith;
     }
+
+-- and made of bytes
+frame_octets : FrameLaws → (key : Key) → IsSaid key → AreBytes (prepare_frame (prepare_of key))
+frame_octets laws key said =
+    let d : List ℕ = key.destination in
+    let rest : List ℕ = prepare_contents (bare key) in
+    let short = said.destination.short in
+    let framed = (is_prepare laws key said).framed in
+    let size = framed.size in
+    let few : length rest < 65_536 = omega (arith, length-append (shortest_length (length rest)) rest) in
+    one_more 12 (shortest_length (length rest) ++ rest) (omega arith)
+    (both (shortest_length (length rest)) rest (spelling laws.lengths (length rest) few)
+    (both (to_be_bytes w64 key.amount) _ (amount key.amount)
+    (both (timestamp_of key.expiry) _ (timestamp (timestamp_of key.expiry) (laws.timestamps.timestamp_of_is_one key.expiry said.expiry))
+    (both key.condition _ said.octets.0
+    (both (shortest_length (length d)) _ (spelling laws.lengths (length d) (omega arith))
+    (both d _ said.octets.1
+    (both (shortest_length 0) [] (spelling laws.lengths 0 (omega arith)) none)))))))
 
 -- which arrives with any token
 arrives : FrameLaws → (token : List ℕ) (key : Key) → is_token token ≡ true → IsSaid key
@@ -171,6 +193,7 @@ key_heard laws Fault e = refl
 -- the cause makes the record, and leaves the state with it
 pub record Explains (s : State) (r : Record) : Type 0 where
   pub cause : Cause
+  pub brings : BringsBytes cause
   pub made : made_from s cause ≡ Some r
   pub left : left_from s cause ≡ recorded s (Some r)
 
@@ -181,19 +204,19 @@ order_leaves s (Err fault) now r e = absurd cc
 
 explained : FrameLaws → (s : State) (r : Record) (call : Call) → IsGiven call → called s call ≡ Some r → Explains s r
 explained laws s r (Call.Decides token key now) bounds made =
-    let said = is_said laws.addresses key bounds.1 in
+    let said = is_said laws.addresses key bounds.1 bounds.2 in
     let frame : List ℕ = prepare_frame (prepare_of key) in
     let comes = arrives laws token key bounds.0 said in
     let made_here : made_from s (Cause.Packet token frame now) ≡ Some r =
     rw comes (ap (λ (k : Key). decide_made s token k now) (key_back laws.timestamps key said) ∙ made) in
-    record { cause = Cause.Packet token frame now; made = made_here; left = ap (recorded s) made_here }
+    record { cause = Cause.Packet token frame now; brings = frame_octets laws key said; made = made_here; left = ap (recorded s) made_here }
 explained laws s r (Call.Answers hold now key) bounds made =
     let cause : Cause = Cause.Return hold now (given_of key) in
     let made_here : made_from s cause ≡ Some r = rw (key_heard laws key bounds) made in
-    record { cause = cause; made = made_here; left = ap (recorded s) made_here }
-explained laws s r (Call.Ticks now) bounds made = record { cause = Cause.Moment now; made = made; left = ap (recorded s) made }
+    record { cause = cause; brings = tt; made = made_here; left = ap (recorded s) made_here }
+explained laws s r (Call.Ticks now) bounds made = record { cause = Cause.Moment now; brings = tt; made = made; left = ap (recorded s) made }
 explained laws s r (Call.Orders order now) bounds made =
-    record { cause = Cause.Order now (command.Order order); made = made; left = order_leaves s (ordered s order) now r made }
+    record { cause = Cause.Order now (command.Order order); brings = tt; made = made; left = order_leaves s (ordered s order) now r made }
 
 pub explained_call : FrameLaws → (s : State) (r : Record) → IsCalled s r → Explains s r
 explained_call laws s r call = explained laws s r call.call call.given call.made

@@ -19,7 +19,7 @@ use Rattle.tenant_core.specs.declared.faults.CommandFault.{CommandFault}
 use Rattle.tenant_core.specs.declared.journal.Record.{Record}
 use Rattle.tenant_core.specs.declared.opening.Opening.{Opening}
 use Rattle.tenant_core.specs.declared.period.PeriodParts.{PeriodParts}
-use Rattle.floor_core.specs.Causes.{AreCaused, ArePlaced, AreRun, Cause, Entered, book_opened, left_from, made_from}
+use Rattle.floor_core.specs.Causes.{BringsBytes, AreCaused, ArePlaced, AreRun, Cause, Entered, book_opened, left_from, made_from}
 use Rattle.floor_core.specs.World.{no_book, put}
 use Rattle.joint_order.specs.Orders.{TakesOn, list_at, none, one_more, point}
 use Rattle.joint_order.specs.declared.point.ListPoint.{ListPoint}
@@ -61,6 +61,7 @@ Follows p n s =
 -- a cause makes the record in the state of those before it, and leaves what follows
 record IsExplained (p : PeriodParts) (n : ℕ) (x : Record) : Type 0 where
   cause : Cause
+  brings : BringsBytes cause
   made : made_from (first_of n (state_at_end p)) cause ≡ Some x
   left : Follows p n (left_from (first_of n (state_at_end p)) cause)
 
@@ -82,6 +83,7 @@ inside_explained laws p n x kept below at =
     explains.left ∙ ap (λ (rs : List Record). record { opening = p.opening; records = rs }) (sym (next ∙ more)) in
     record {
       cause = explains.cause;
+      brings = explains.brings;
       made = ap (λ (z : State). made_from z explains.cause) here ∙ explains.made;
       left = inl (omega arith, ap (λ (z : State). left_from z explains.cause) here ∙ left);
     }
@@ -103,6 +105,7 @@ roll_explained p n x kept last is =
     ap (λ (o : Option CommandFault). roll_left s o now) kept.free ∙ ap opened (sym ending) in
     record {
       cause = cause;
+      brings = tt;
       made = ap (λ (z : State). made_from z cause) here ∙ (made ∙ ap Some is);
       left = inr (omega arith, ap (λ (z : State). left_from z cause) here ∙ left);
     }
@@ -313,6 +316,12 @@ unfoldable openings_from : List PeriodParts → (tenant count : ℕ) → List Op
 openings_from periods t zero = []
 openings_from periods t (suc count) = begins_with periods t ∷ openings_from periods (t + 1) count
 
+-- so many
+openings_many : (periods : List PeriodParts) (t count : ℕ) → length (openings_from periods t count) ≡ count
+unfolding openings_from
+openings_many periods t zero = refl
+openings_many periods t (suc count) = ap suc (openings_many periods (t + 1) count)
+
 -- which stand at their numbers
 opening_there : (periods : List PeriodParts) (t count k : ℕ) → k < count → slice_get (openings_from periods t count) k ≡ Some (begins_with periods (t + k))
 unfolding openings_from
@@ -379,8 +388,9 @@ first_opening periods p kept joined has first =
     ∙ (ap (λ (u : ℕ). Some (begins_with periods u)) same ∙ ap Some (first_begins periods p joined has first))
 
 -- so does each tenant's
-are_placed : (periods : List PeriodParts) → ArePlaced (openings_from periods 0 max_tenants) max_tenants
-are_placed periods t below =
+are_placed : (periods : List PeriodParts) → ArePlaced (openings_from periods 0 max_tenants)
+are_placed periods t inside =
+    let below : t < max_tenants = subst (λ n. t < n) (openings_many periods 0 max_tenants) inside in
     let same : 0 + t ≡ t = omega arith in
     let there : slice_get (openings_from periods 0 max_tenants) t ≡ Some (begins_with periods t) =
     opening_there periods 0 max_tenants t below ∙ ap (λ (u : ℕ). Some (begins_with periods u)) same in
@@ -452,6 +462,7 @@ record Takes (periods : List PeriodParts) (lists : List (List Receipt)) (taken d
   place : place_of periods r ≡ done r.tenant
   few : r.tenant < max_tenants
   cause : Cause
+  brings : BringsBytes cause
   made : made_from (books r.tenant) cause ≡ Some (record_of r)
   stand : Stand periods (put books r.tenant (left_from (books r.tenant) cause)) (one_more done r.tenant)
 
@@ -486,6 +497,7 @@ takes_one laws periods lists taken done books i group kept matched stand at =
       place = place;
       few = subst (λ u. u < max_tenants) own (tenant_few periods p kept has);
       cause = explained.cause;
+      brings = explained.brings;
       made = ap (λ (b : State). made_from b explained.cause) book ∙ explained.made;
       stand = stand_on periods books done r.tenant p r.number s kept matched.joined stand has own below at_r follows;
     }
@@ -526,7 +538,7 @@ goes_on laws periods lists (i ∷ order) taken done books kept matched stand mad
     let entries : List Entered = entry_of r ∷ map entry_of (taken_in lists (one_more taken i) order) in
     let whole : Went periods books entries = record {
       left = more.left;
-      caused = (one.cause, one.made, more.caused);
+      caused = (one.cause, one.brings, one.made, more.caused);
       few = All-cons (λ (e : Entered). e.tenant < max_tenants) (entry_of r) (map entry_of (taken_in lists (one_more taken i) order)) one.few more.few;
       last = more.last;
     } in
@@ -536,8 +548,8 @@ goes_on laws periods lists (i ∷ order) taken done books kept matched stand mad
 
 -- what is caused is a run
 abbrev pub RunLaw : Type 0
-RunLaw = (openings : List Opening) (tenants : ℕ) (entries : List Entered) (left : ℕ → State)
-    → ArePlaced openings tenants → All (λ e. e.tenant < tenants) entries
+RunLaw = (openings : List Opening) (entries : List Entered) (left : ℕ → State)
+    → ArePlaced openings → All (λ e. e.tenant < length openings) entries
     → AreCaused (λ t. book_opened (slice_get openings t)) entries left → AreRun openings entries left
 
 pub complete_are_run : FrameLaws → RunLaw → (periods : List PeriodParts) (lists : List (List Receipt)) (order : List ℕ) → AreKept periods
@@ -552,5 +564,6 @@ complete_are_run laws runs periods lists order kept complete =
       left = went.left;
       first = λ p has first. first_opening periods p kept joined has first;
       last = went.last;
-      run = runs openings max_tenants (map entry_of (in_order lists order)) went.left (are_placed periods) went.few went.caused;
+      run = runs openings (map entry_of (in_order lists order)) went.left (are_placed periods)
+          (subst (λ n. All (λ (e : Entered). e.tenant < n) (map entry_of (in_order lists order))) (sym (openings_many periods 0 max_tenants)) went.few) went.caused;
     }

@@ -17,6 +17,7 @@ use Rattle.tenant_core.specs.Network.{IsNetwork, peer_with_token}
 use Rattle.tenant_core.specs.Orders.{change_of, change_record, change_refusal}
 use Rattle.tenant_core.specs.Present.{network_of}
 use Rattle.tenant_core.specs.Replay.{is_sayable}
+use Rattle.tenant_core.specs.Called.{IsOfBytes}
 use Rattle.tenant_core.specs.State.{State, clock_of, recorded}
 use Rattle.tenant_core.specs.declared.command.Order.{Order}
 use Rattle.tenant_core.specs.declared.hold.Hold.{Hold}
@@ -59,13 +60,13 @@ token_found s token from network is =
     subst (λ k. is_token k ≡ true) same (and_parts _ _ within).1
 
 pub decided_called : (s : State) (token : List ℕ) (key : Key) (now : ℕ) (from : Peer) → IsNetwork (network_of s)
-    → peer_with_token token (network_of s).peers ≡ Some from → is_full s ≡ false → is_sayable key ≡ true
+    → peer_with_token token (network_of s).peers ≡ Some from → is_full s ≡ false → is_sayable key ≡ true → IsOfBytes key
     → is_recorded (verdict_for_sender s from key (max (clock_of s) now)) ≡ true
     → IsCalled s (decide_record from.number key now (verdict_for_sender s from key (max (clock_of s) now)))
-decided_called s token key now from network is room sayable recorded =
+decided_called s token key now from network is room sayable octets recorded =
     record {
       call = Call.Decides token key now;
-      given = (token_found s token from network is, sayable);
+      given = (token_found s token from network is, sayable, octets);
       made = rw (is, room, recorded) refl;
     }
 

@@ -25,6 +25,7 @@ use Rattle.tenant_core.specs.Sound.{IsSound}
 use Rattle.tenant_core.specs.Network.{Net, IsNetwork, peer_with_token, peer_numbered}
 use Rattle.tenant_core.specs.Present.{network_of, net_after}
 use Rattle.tenant_core.specs.Replay.{is_sayable}
+use Rattle.tenant_core.specs.Called.{IsOfBytes}
 use Rattle.tenant_core.specs.State.{State, clock_of, later, extended, recorded}
 use Rattle.std.specs.Prelude.{pos, ◌+ℤ◌, ◌-ℤ◌, ◌<◌, All, sum_by, not}
 use Rattle.std.specs.List.{slice_get}
@@ -232,19 +233,19 @@ begun_named s from key now (Forward hold peer price expiry) net known can all =
 pub decided_kept : (laws : RunningLaws) (b c : Inside) (token : List ℕ) (key : Key) (now clock place : ℕ) (from : Peer) (v : Verdict) → BookInvariant b → now ≤ last_moment → clock ≡ max b.clock now
     → IsNetwork (network_of (state_of b))
     → peer_with_token token (network_of (state_of b)).peers ≡ Some from → slice_get (network_of (state_of b)).peers place ≡ Some from → is_full (state_of b) ≡ false
-    → is_sayable key ≡ true → v ≡ verdict_for_sender (state_of b) from key clock → is_recorded v ≡ true
+    → is_sayable key ≡ true → IsOfBytes key → v ≡ verdict_for_sender (state_of b) from key clock → is_recorded v ≡ true
     → is_limited v ≡ not (is_admitted (stretch_of (state_of b) from) clock) → CanGoOn (state_of b) from key.amount v
     → Follows b c (decide_record from.number key now v)
     → c.holds.holds ≡ extended b.holds.holds (begun_by (decide_entry from.number key now) v)
     → c.purses.items ≡ map (purse_by (state_of b) c.holds.holds) b.network.peers
     → c.buckets.items ≡ changed_at (charged clock) b.buckets.items place → BookInvariant c
-decided_kept laws b c token key now clock place from v k early at network is stands room sayable verdict told limited can f begun moved charges =
+decided_kept laws b c token key now clock place from v k early at network is stands room sayable octets verdict told limited can f begun moved charges =
     let s : State = state_of b in
     let r : Record = decide_record from.number key now v in
     let clock_is : clock ≡ max (clock_of s) now = at ∙ ap (λ x. max x now) k.clock in
     let sure : v ≡ verdict_for_sender s from key (max (clock_of s) now) = verdict ∙ ap (verdict_for_sender s from key) clock_is in
     let sound : IsSound (recorded s (Some r)) =
-    subst (λ (w : Verdict). IsSound (recorded s (Some (decide_record from.number key now w)))) (sym sure) (decided_sound s token key now from k.sound is room sayable early (ap is_recorded (sym sure) ∙ told)) in
+    subst (λ (w : Verdict). IsSound (recorded s (Some (decide_record from.number key now w)))) (sym sure) (decided_sound s token key now from k.sound is room sayable octets early (ap is_recorded (sym sure) ∙ told)) in
     let after : holds_of (recorded s (Some r)) ≡ extended (holds_of s) (begun_by (decide_entry from.number key now) v) = holds_of-decide s from.number key now v in
     let holds : c.holds.holds ≡ holds_of (recorded s (Some r)) =
     begun ∙ (ap (λ hs. extended hs (begun_by (decide_entry from.number key now) v)) k.holds ∙ sym after) in

@@ -27,6 +27,7 @@ use Rattle.tenant_core.specs.Key.{Key}
 use Rattle.tenant_core.specs.Network.{Net, IsNetwork, peer_with_token}
 use Rattle.tenant_core.specs.Present.{network_of}
 use Rattle.tenant_core.specs.Replay.{is_sayable}
+use Rattle.tenant_core.specs.Called.{IsOfBytes}
 use Rattle.tenant_core.specs.State.{State, clock_of, recorded, extended, later}
 use Rattle.tenant_core.specs.declared.journal.Change.{Change as Changed}
 use Rattle.tenant_core.specs.Orders.{change_of, change_record, change_refusal, names_present}
@@ -68,10 +69,10 @@ decided_numbers s peer key now (Forward hold to price expiry) paid e =
     numbered-push s.opening.next_hold (holds_of s) h e paid.2
 
 pub decided_sound : (s : State) (token : List ℕ) (key : Key) (now : ℕ) (from : Peer) → IsSound s
-    → peer_with_token token (network_of s).peers ≡ Some from → is_full s ≡ false → is_sayable key ≡ true → now ≤ last_moment
+    → peer_with_token token (network_of s).peers ≡ Some from → is_full s ≡ false → is_sayable key ≡ true → IsOfBytes key → now ≤ last_moment
     → is_recorded (verdict_for_sender s from key (max (clock_of s) now)) ≡ true
     → IsSound (recorded s (Some (decide_record from.number key now (verdict_for_sender s from key (max (clock_of s) now)))))
-decided_sound s token key now from sound is room sayable early told =
+decided_sound s token key now from sound is room sayable octets early told =
     let v : Verdict = verdict_for_sender s from key (max (clock_of s) now) in
     let r : Record = decide_record from.number key now v in
     let fits : length s.records + open_holds s + 2 ≤ s.opening.journal = ltb-false _ _ room in
@@ -84,7 +85,7 @@ decided_sound s token key now from sound is room sayable early told =
     let last = sound.clock in
     record {
       replay = decided_replay s token key now from sound.replay sound.network.numbers is room sayable early;
-      calls = calls_on s r sound.calls (decided_called s token key now from sound.network is room sayable told);
+      calls = calls_on s r sound.calls (decided_called s token key now from sound.network is room sayable octets told);
       tenant = sound.tenant;
       network = subst (λ (x : Net). IsNetwork x) (sym (network_of-decide s from.number key now v)) sound.network;
       room = omega arith;

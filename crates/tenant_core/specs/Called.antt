@@ -1,6 +1,7 @@
 -- What each record came from: a call of the book, whose arguments keep the rules of their types.
 use Rattle.std.specs.Prelude.{ℕ, ◌≡◌, ◌==◌, Bool, true, List, length, take, Option, Some, slice_get}
 use Rattle.common_types.specs.Token.{is_token}
+use Rattle.oer_core.specs.Length.{AreBytes}
 use Rattle.tenant_core.specs.Answer.{answer_made, tick_made}
 use Rattle.tenant_core.specs.Governed.{order_made}
 use Rattle.tenant_core.specs.Judge.{decide_made}
@@ -27,9 +28,13 @@ is_answer (Fulfilled fulfillment) = length fulfillment == 32
 is_answer Rejected = true
 is_answer Fault = true
 
+-- the condition and the destination of a packet are bytes
+abbrev pub IsOfBytes : Key → Type 0
+IsOfBytes key = AreBytes key.condition × AreBytes key.destination
+
 -- what a call brings is a token, and what a packet can say
 abbrev pub IsGiven : Call → Type 0
-IsGiven (Call.Decides token key now) = (is_token token ≡ true) × (is_sayable key ≡ true)
+IsGiven (Call.Decides token key now) = (is_token token ≡ true) × (is_sayable key ≡ true) × IsOfBytes key
 IsGiven (Call.Answers hold now key) = is_answer key ≡ true
 IsGiven (Call.Ticks now) = Unit {0}
 IsGiven (Call.Orders order now) = Unit {0}

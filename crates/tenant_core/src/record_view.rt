@@ -2,6 +2,8 @@
 
 ghost use Rattle.std.specs.Prelude.{◌≡◌, ◌≤◌, length, true};
 ghost use Rattle.ilp_addr.specs.Address.{max_address};
+ghost use Rattle.oer_core.specs.Length.{AreBytes};
+ghost use Rattle.tenant_core.specs.Called.{IsOfBytes};
 ghost use Rattle.tenant_core.specs.Judge.{decide_entry};
 ghost use Rattle.tenant_core.specs.Key.{key_of};
 ghost use Rattle.tenant_core.specs.Replay.{is_sayable};
@@ -88,18 +90,33 @@ impl EntryView<'_> {
     }
 }
 
+// Each number of the list is a byte.
+fn are_bytes(bytes: &[u8])
+    ensures { AreBytes bytes.now }
+{
+    let _first = bytes.first();
+}
+
 // What the types of a Prepare's parts keep.
-fn is_sayable(amount: u64, expiry: Expiry, condition: &[u8; 32], destination: &Address<'_>)
-    ensures { is_sayable (record {
+pub(crate) fn is_sayable(
+    amount: u64,
+    expiry: Expiry,
+    condition: &[u8; 32],
+    destination: &Address<'_>,
+)
+    ensures sayable { is_sayable (record {
       amount = amount;
       expiry = expiry;
       condition = condition.now;
       destination = destination.now;
     }) ≡ true }
+    ensures condition { AreBytes condition.now }
+    ensures destination { AreBytes destination.now }
 {
+    let _condition = *condition;
     ilp_addr::laws::addresses();
     expiry.get();
-    destination.bytes();
+    are_bytes(destination.bytes());
 }
 
 /// The entry of a Prepare of that peer.
@@ -107,6 +124,7 @@ pub fn decide_view<'a>(peer: PeerNo, key: &PrepareKey<'a>, now: Moment) -> Decid
     ensures value { decide_of result ≡ decide_entry peer (key_of key.now) now }
     ensures short { length result.destination.now ≤ max_address }
     ensures sayable { is_sayable (key_of key.now) ≡ true }
+    ensures octets { IsOfBytes (key_of key.now) }
 {
     is_sayable(key.amount, key.expiry, key.condition, key.destination);
     DecideView {

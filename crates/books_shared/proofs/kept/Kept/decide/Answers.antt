@@ -43,7 +43,7 @@ invariant_of-self g c = (
   subst (λ (o : Opening). c.self.inside.closed ≤ most_entries o.period) (sym c.decide_in-turn.ensures.opening) c.self.invariant.0,
   traced_call c.records_are_made.ensures c.histories.ensures g.J.Run.openings c.self.inside.book c.decide_in-turn.new.book c.self.inside.part c.trace.new.part c.args.share.now.worker (call g c).made
       c.decide_in-turn.result.1.entries c.self.invariant.1 (decide_stays c.args.slot.now c.self.inside.book c.args.now)
-      (decide_cause c.args.slot.now c.self.inside.book c.args.now c.is_work.ensures.named) c.decide_in-turn.ensures.book
+      (decide_cause c.args.slot.now c.self.inside.book c.args.now c.is_work.ensures) c.decide_in-turn.ensures.book
       c.book_is_sound.ensures.replay (many g c) c.trace.ensures.part,
 )
 

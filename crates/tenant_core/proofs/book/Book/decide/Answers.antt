@@ -86,7 +86,7 @@ invariant_of-self c =
     let verdict : v ≡ verdict_for_sender s from key clock = c.verdict_for_sender-verdict.ensures.verdict ∙ ap (λ (t : State). verdict_for_sender t from key clock) shown in
     let limited : is_limited v ≡ not (is_admitted (stretch_of s from) clock) = c.verdict_for_sender-verdict.ensures.limited ∙ ap (λ (t : State). not (is_admitted (stretch_of t from) clock)) shown in
     let can : CanGoOn s from key.amount v = subst (λ (t : State). CanGoOn t from key.amount v) shown c.verdict_for_sender-verdict.ensures.goes in
-    decided_kept c.running.ensures b after c.args.token.now key c.args.now clock place from v c.self.invariant early at c.self.invariant.sound.network found stands room c.decide_view-entry.ensures.sayable verdict c.verdict_for_sender-verdict.ensures.recorded limited can
+    decided_kept c.running.ensures b after c.args.token.now key c.args.now clock place from v c.self.invariant early at c.self.invariant.sound.network found stands room c.decide_view-entry.ensures.sayable c.decide_view-entry.ensures.octets verdict c.verdict_for_sender-verdict.ensures.recorded limited can
     (record {
       opening = refl;
       journal = c.push_decide.ensures ∙ ap (λ (d : DecideEntry). with_record (record { entry = Decide d; outcome = Packet v }) b.journal) c.decide_view-entry.ensures.value;
