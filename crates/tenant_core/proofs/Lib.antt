@@ -34,3 +34,5 @@ pub mod Marking
 pub mod Ending
 pub mod Follow
 pub mod Openings
+pub mod Followings
+pub mod Reopenings

@@ -44,3 +44,4 @@ pub mod Calls
 pub mod Standing
 pub mod Kept
 pub mod PresentSetup
+pub mod Reopening

@@ -1,6 +1,8 @@
 //! Books: an opening and the records since.
 
+mod follow;
 mod present;
+mod reopen;
 
 use crate::arena::Journal;
 use crate::command::{Answered, Command, Order};

@@ -71,3 +71,32 @@ impl<T: Drop> From<AllocFailed<T>> for CommandFault {
         CommandFault::Memory
     }
 }
+
+/// What a period cannot begin with, in the order in which it is looked for.
+#[derive(Clone, Copy, Debug, PartialEq, Eq, Error)]
+pub enum OpeningFault {
+    /// The tenant's place is below 64.
+    #[error("the tenant's place")]
+    Tenant,
+    /// A journal has 2 to 16,384 places.
+    #[error("the journal's places")]
+    Journal,
+    /// A margin is 60,000 milliseconds at most.
+    #[error("the margin")]
+    Margin,
+    /// A packet is held for 1 to 600,000 milliseconds at most.
+    #[error("the hold")]
+    Hold,
+    /// The number of the period is below 2^32.
+    #[error("the period")]
+    Period,
+    /// The clock is a moment.
+    #[error("the clock")]
+    Clock,
+    /// No period before had more packets that were held than a journal has places.
+    #[error("the number of the next hold")]
+    Number,
+    /// What a bucket holds was taken as the period began, and it has room for that.
+    #[error("a bucket")]
+    Bucket,
+}

@@ -36,7 +36,7 @@ mod verdict;
 pub use arena::Journal;
 pub use book::Book;
 pub use command::{Amount, Answered, Command, Order, Pair, Side};
-pub use faults::{BookFault, CommandFault, HoldFault};
+pub use faults::{BookFault, CommandFault, HoldFault, OpeningFault};
 pub use ildcp_core::Role;
 pub use journal::{
     AnswerEntry, AnswerKey, Change, ChangeEntry, DecideEntry, Entry, Expiry, Outcome, PrepareKey,

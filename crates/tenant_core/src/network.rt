@@ -114,7 +114,8 @@ fn drop_rates(rates: &mut Vec<RateTerms>, number: PeerNo)
 }
 
 impl Network {
-    ghost use Rattle.std.specs.Prelude.{◌≡◌, ◌≤◌, ◌<◌, length, map, IfOk, IfSome, IsSome};
+    ghost use Rattle.std.specs.Prelude.{◌≡◌, ◌≤◌, ◌<◌, ◌↔◌, length, map, IfOk, IfSome, IsSome, IsTrue};
+    ghost use Rattle.std.specs.Bool.{OnTrue, OnFalse};
     ghost use Rattle.std.specs.List.{slice_get};
     ghost use Rattle.std.specs.Option.{option_and_then};
     ghost use Rattle.route_table.specs.Routes.{NamesPeer};
@@ -243,6 +244,19 @@ impl Network {
         ensures { result ≡ self.now.next_peer }
     {
         self.next_peer
+    }
+
+    /// The next peer has that number, if none has had it or one above it.
+    pub fn skip_to(&mut self, number: PeerNo) -> bool
+        ensures skipped { OnTrue result (self.new ≡ record self.old { next_peer = number }) }
+        ensures not { OnFalse result (self.new ≡ self.old) }
+        ensures only { IsTrue result ↔ (self.old.next_peer ≤ number) }
+    {
+        if number < self.next_peer {
+            return false;
+        }
+        self.next_peer = number;
+        true
     }
 
     /// What adding such a peer is refused for.

@@ -1,18 +1,21 @@
 //! What orders change, and what they are refused for.
 
-ghost use Rattle.std.specs.Prelude.{length, option_and_then, slice_get, ◌<◌, ◌≡◌, ◌==◌, not, IfOk, IfSome, is_some, true};
+ghost use Rattle.std.specs.Prelude.{length, option_and_then, slice_get, ◌<◌, ◌≡◌, ◌==◌, not, IfOk, IfSome, IfNone, Some, is_some, true, false};
 ghost use Rattle.std.specs.List.{list_any};
 ghost use Rattle.std.specs.Option.{option_copied};
 ghost use Rattle.std.specs.Str.{bytes_eq};
 ghost use Rattle.tenant_core.specs.Network.{peer_named, peer_numbered};
 ghost use Rattle.tenant_core.specs.Orders.{number_named, rate_named, change_of, awaits_for, names_present};
 ghost use Rattle.tenant_core.specs.Following.{peer_changed};
+ghost use Rattle.tenant_core.specs.Reopening.{IsOrderFor};
+ghost use Rattle.tenant_core.specs.declared.journal.Change.TheVariants.{RateSet};
 
 use crate::command::{Order, Pair};
 use crate::hold::{Hold, is_open};
 use crate::journal::Change;
 use crate::network::Network;
 use crate::peer::Peer;
+use crate::routing::peer_numbered;
 use crate::terms::RateTerms;
 use common_types::Name;
 use money_core::Rate;
@@ -133,4 +136,75 @@ pub fn is_awaited_for(holds: &[Hold], peer: PeerNo) -> bool
     ensures { result ≡ list_any (awaits_for peer) holds.now }
 {
     holds.iter().any(|hold| awaits_for(hold, peer))
+}
+
+// The name of the peer of that number, by which the number is found.
+fn name_of(network: &Network, number: PeerNo) -> Option<Name>
+    ensures found { IfSome result (λ name. number_named network.now name ≡ Some number) }
+    ensures there { IfSome result (λ name. is_some (peer_numbered number network.now.peers) ≡ true) }
+    ensures none { IfNone result (is_some (peer_numbered number network.now.peers) ≡ false) }
+{
+    network.is_network();
+    let peer = peer_numbered(network, number)?;
+    Some(peer.terms.name.copy())
+}
+
+// The names of the two peers of a rate, by which it is found.
+fn pair_of(network: &Network, rate: &RateTerms) -> Option<Pair>
+    ensures found { IfSome result (λ pair. rate_named network.now pair rate.now.rate ≡ Some rate.now) }
+    ensures there { IfSome result (λ pair. names_present network.now (RateSet rate.now) ≡ true) }
+    ensures none { IfNone result (names_present network.now (RateSet rate.now) ≡ false) }
+{
+    let from = name_of(network, rate.from)?;
+    let to = name_of(network, rate.to)?;
+    if rate.from == rate.to {
+        return None;
+    }
+    Pair::new(from, to)
+}
+
+/// An order that makes a change, if the peers are there that it names. The one error is want of memory.
+pub fn order_for(
+    alloc: Global,
+    network: &Network,
+    change: &Change,
+) -> Result<Option<Order>, AllocError>
+    ensures { IfOk result (IsOrderFor network.now change.now) }
+{
+    Ok(match change {
+        Change::PeerAdded(terms) => Some(Order::AddPeer(terms.copy())),
+        Change::PeerRemoved(peer) => name_of(network, *peer).map(Order::RemovePeer),
+        Change::LimitsSet { peer, limits } => name_of(network, *peer).map(
+            |peer| Order::SetLimits {
+                peer,
+                limits: *limits,
+            },
+        ),
+        Change::BucketSet { peer, bucket } => name_of(network, *peer).map(
+            |peer| Order::SetBucket {
+                peer,
+                bucket: *bucket,
+            },
+        ),
+        Change::RouteAdded { prefix, hop } => match name_of(network, hop.peer) {
+            Some(peer) => Some(Order::AddRoute {
+                prefix: prefix.copy(alloc)?,
+                peer,
+                fee: hop.fee,
+            }),
+            None => None,
+        },
+        Change::RouteRemoved(prefix) => Some(Order::RemoveRoute(prefix.copy(alloc)?)),
+        Change::RateSet(rate) => pair_of(network, rate).map(|pair| Order::SetRate {
+            pair,
+            rate: rate.rate,
+        }),
+        Change::Settled { peer, side, amount } => name_of(network, *peer).map(
+            |peer| Order::Settle {
+                peer,
+                side: *side,
+                amount: *amount,
+            },
+        ),
+    })
 }

@@ -3,6 +3,7 @@
 
 mod draws;
 mod entered;
+mod followed;
 mod told;
 mod wanted;
 
@@ -11,6 +12,7 @@ use super::setups::{
     tenant_of, terms, tick,
 };
 use draws::Draws;
+use followed::expect_followed;
 use ilp_addr::{Address, Moment, Prefix};
 use money_core::Rate;
 use std::alloc::Global;
@@ -317,7 +319,7 @@ fn rolled(alloc: Global, book: &mut Book, now: u64) -> Result<Result<Period, Com
     }
 }
 
-// A period closes with the sums as its rows, unless a packet awaits its answer.
+// A period closes with the sums as its rows, and is the same when it is done again, unless a packet awaits its answer.
 fn expect_rolled(
     rt: &impl Abort,
     alloc: Global,
@@ -330,6 +332,7 @@ fn expect_rolled(
         Ok(period) => {
             assert!(rt; !is_awaited);
             expect_rows(rt, alloc, period.rows(), &course.told)?;
+            expect_followed(rt, alloc, &period)?;
             course.told.rolled(now);
             expect_sums(rt, alloc, book, &course.told)
         }
