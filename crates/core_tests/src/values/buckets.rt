@@ -12,20 +12,15 @@ fn passes(bucket: &mut Bucket, now: u64) -> bool
     bucket.admit(now)
 }
 
+// Packets at one moment after another, and then with another burst and another rate.
 #[test]
-fn a_bucket_admits_what_it_holds_and_what_flows_in(rt: HostRuntime) -> Result<(), Fail> {
+fn a_bucket_admits_what_it_holds_and_keeps_what_fits_a_change(rt: HostRuntime) -> Result<(), Fail> {
     let mut bucket = Bucket::new(2, 1, 0);
     assert!(rt; passes(&mut bucket, 0));
     assert!(rt; passes(&mut bucket, 0));
     assert!(rt; !passes(&mut bucket, 0));
     assert!(rt; !passes(&mut bucket, 999));
     assert!(rt; passes(&mut bucket, 1_000));
-    Ok(())
-}
-
-#[test]
-fn a_changed_bucket_keeps_its_credit_as_far_as_it_fits(rt: HostRuntime) -> Result<(), Fail> {
-    let mut bucket = Bucket::with_credit(2, 1, 0, 1_000);
     bucket.change(1, 5, 2_000);
     assert!(rt; passes(&mut bucket, 2_000));
     assert!(rt; !passes(&mut bucket, 2_199));
