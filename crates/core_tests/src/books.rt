@@ -1,5 +1,6 @@
 //! Books of tenants: the limits of their setups and networks, verdicts at the bounds of what was agreed, what comes back,
-//! closed periods, what an audit says of them, copies, entries of one's own, and random lists of all of these.
+//! closed periods, what an audit says of them and what their statements do, copies, entries of one's own, and random lists of
+//! all of these.
 
 mod audits;
 mod limits;
@@ -9,4 +10,5 @@ mod random_lists;
 mod returns;
 mod rooms;
 mod setups;
+mod statements;
 mod verdicts;

@@ -25,7 +25,7 @@ fn enter_each(alloc: Global, book: &mut Book) -> Result<Period, Fail> {
 }
 
 // A period in which each kind of entry came once.
-fn period_of_each(alloc: Global) -> Result<Period, Fail> {
+pub fn period_of_each(alloc: Global) -> Result<Period, Fail> {
     let mut book = book(alloc, 8, USUAL, START)?;
     enter_each(alloc, &mut book)
 }

@@ -1,0 +1,83 @@
+//! Statements of closed periods: what is written is good, and what was changed is not, but where it states another truth.
+
+use super::owned::period_of_each;
+use statements::{check_statement, write_statement};
+use std::alloc::Global;
+use std::process::Abort;
+use std::test::Fail;
+use tenant_core::Period;
+
+// The period of `period_of_each`: a packet of 1,000 that goes on for 1,500 and is rejected a millisecond later, a moment, a route
+// that is taken away, and the roll. One packet is gone from the first peer's bucket, into which a tenth of one came since.
+const STATEMENT: &str = "statement 1
+tenant 0 acme g.acme 8 1000 30000
+period 0 1893456000000 0 2
+peer 0 p0 peer USD 2 1500 1000000 1000000 100 100 0 100000
+peer 1 p1 peer USD 2 1500 1000000 1000000 100 100 0 100000
+route g.acme.bob 1 0
+rate 0 1 3 2
+1893456000000 prepare 0 1000 1893456030000 66687aadf862bd776c8fc18b8e9f8e20089714856ee233b3902a591d0d5f2925 g.acme.bob.x = forward 0 1 1500 1893456029000
+1893456000001 reject 0 = relay
+1893456000001 tick = 0
+1893456000001 route remove g.acme.bob
+1893456000001 roll
+ending
+tenant 0 acme g.acme 8 1000 30000
+period 1 1893456000001 1 2
+peer 0 p0 peer USD 2 1500 1000000 1000000 100 100 0 99100
+peer 1 p1 peer USD 2 1500 1000000 1000000 100 100 0 100000
+rate 0 1 3 2
+";
+
+/// What is written of the period is good, and states as many records.
+pub fn expect_good(rt: &impl Abort, alloc: Global, period: &Period) -> Result<(), Fail> {
+    let text = write_statement(alloc, period)?;
+    match check_statement(alloc, text.as_slice()) {
+        Ok(stated) => assert!(rt; stated.len() == period.len()),
+        Err(_) => assert!(rt; false),
+    }
+    Ok(())
+}
+
+#[test]
+fn a_statement_says_what_began_what_happened_and_what_follows(rt: HostRuntime) -> Result<(), Fail> {
+    let period = period_of_each(rt.alloc())?;
+    let text = write_statement(rt.alloc(), &period)?;
+    assert!(rt; text.as_slice() == STATEMENT.as_bytes());
+    expect_good(&rt, rt.alloc(), &period)
+}
+
+// Whether the text is good with another byte at that place.
+fn is_good_changed(alloc: Global, text: &mut [u8], place: usize) -> bool {
+    let Some(byte) = text.get(place) else {
+        return false;
+    };
+    let byte = *byte;
+    text[place] = if byte == b'1' { b'2' } else { b'1' };
+    let is_good = check_statement(alloc, text).is_ok();
+    text[place] = byte;
+    is_good
+}
+
+// How many bytes of the line can be changed, each alone.
+fn changeable(alloc: Global, text: &mut [u8], start: usize, end: usize) -> usize {
+    let mut count: usize = 0;
+    for place in start..end {
+        if is_good_changed(alloc, text, place) {
+            count = count.saturating_add(1);
+        }
+    }
+    count
+}
+
+// Each byte becomes a `1`, or a `2` where it is one. What states another truth: a packet that is rejected may have had any
+// condition, 64 digits, and any destination behind the route, the letter after `g.acme.bob.`. And a moment may have gone back,
+// since the clock stays then: in each of 5 lines the digits 8, 9, 3, 4, 5 and 6 of 1893456000000 become less.
+#[test]
+fn a_changed_byte_is_refused_unless_it_states_another_truth(rt: HostRuntime) -> Result<(), Fail> {
+    let mut text = Vec::from_slice(rt.alloc(), STATEMENT.as_bytes())?;
+    let end = text.len();
+    let count = changeable(rt.alloc(), text.as_mut_slice(), 0, end);
+    assert_eq!(rt; count, 64 + 1 + 5 * 6);
+    Ok(())
+}

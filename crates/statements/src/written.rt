@@ -1,0 +1,232 @@
+//! Statements, as they are written.
+
+ghost use Rattle.std.specs.Prelude.{◌≡◌, ◌++◌, IfOk, OnOk, Some};
+ghost use Rattle.std.specs.List.{flat_map, slice_get};
+ghost use Rattle.statements.specs.Statement.{decide_words, entry_words, record_line, tenant_line, period_line, peer_line, route_line, rate_line};
+ghost use Rattle.statements.specs.Statement.{opening_text, version_line, head_text, ending_text, statement_text, IsStatement};
+ghost use Rattle.std.specs.Fmt.{decimal};
+ghost use Rattle.tenant_core.specs.State.{entered_at};
+ghost use Rattle.tenant_core.specs.declared.journal.Record.{Record};
+ghost use Rattle.tenant_core.specs.Views.{decide_of, entry_of, record_of};
+
+use crate::put::{
+    put_answer, put_change, put_hash, put_hop, put_number, put_outcome, put_rate, put_signed,
+    put_terms, put_word,
+};
+use itoa::Buffer;
+use route_table::Route;
+use std::alloc::{AllocError, Global};
+use tenant_core::{DecideView, EntryView, Opening, Peer, Period, RateTerms, RecordView, Records};
+
+#[tactic(auto, unfolding(crate::specs::Statement::decide_words))]
+fn put_decide(out: &mut Vec<u8>, decide: &DecideView<'_>) -> Result<(), AllocError>
+    ensures { OnOk result (out.new.items ≡ out.old.items ++ decide_words (decide_of decide.entry.now)) }
+{
+    out.extend_from_slice(b" prepare")?;
+    put_number(out, decide.peer as u64)?;
+    put_number(out, decide.amount)?;
+    put_number(out, decide.expiry)?;
+    put_hash(out, decide.condition)?;
+    put_word(out, decide.destination)
+}
+
+fn put_entry(out: &mut Vec<u8>, entry: &EntryView<'_>) -> Result<(), AllocError>
+    ensures { OnOk result (out.new.items ≡ out.old.items ++ entry_words (entry_of entry.now)) }
+{
+    match entry {
+        EntryView::Decide(decide) => put_decide(out, decide),
+        EntryView::Answer(answer) => put_answer(out, answer.hold, &answer.key),
+        EntryView::Tick(_) => out.extend_from_slice(b" tick"),
+        EntryView::Change(entry) => put_change(out, &entry.change),
+        EntryView::Roll(_) => out.extend_from_slice(b" roll"),
+    }
+}
+
+fn moment_of(entry: &EntryView<'_>) -> u64
+    ensures { result ≡ entered_at (entry_of entry.now) }
+{
+    match entry {
+        EntryView::Decide(decide) => decide.now,
+        EntryView::Answer(answer) => answer.now,
+        EntryView::Tick(tick) => tick.now,
+        EntryView::Change(entry) => entry.now,
+        EntryView::Roll(roll) => roll.now,
+    }
+}
+
+fn put_moment(out: &mut Vec<u8>, moment: u64) -> Result<(), AllocError>
+    ensures { OnOk result (out.new.items ≡ out.old.items ++ decimal moment) }
+{
+    let mut digits = Buffer::new();
+    out.extend_from_slice(digits.format(moment).as_bytes())
+}
+
+#[tactic(auto, unfolding(crate::specs::Statement::record_line))]
+fn put_record(out: &mut Vec<u8>, view: &RecordView<'_>) -> Result<(), AllocError>
+    ensures { OnOk result (out.new.items ≡ out.old.items ++ record_line (record_of view.now)) }
+{
+    put_moment(out, moment_of(&view.entry))?;
+    put_entry(out, &view.entry)?;
+    put_outcome(out, view.outcome)?;
+    Ok(out.push(b'\n')?)
+}
+
+fn put_record_at(out: &mut Vec<u8>, records: &Records, place: usize) -> Result<(), AllocError>
+    ensures { OnOk result ((r : Record) → slice_get records.now place ≡ Some r → out.new.items ≡ out.old.items ++ record_line r) }
+{
+    match records.get(place) {
+        Some(record) => put_record(out, &record),
+        None => Ok(()),
+    }
+}
+
+fn put_records(out: &mut Vec<u8>, records: &Records) -> Result<(), AllocError>
+    ensures { OnOk result (out.new.items ≡ out.old.items ++ flat_map record_line records.now) }
+{
+    for place in 0..records.len() {
+        put_record_at(out, records, place)?;
+    }
+    Ok(())
+}
+
+#[tactic(auto, unfolding(crate::specs::Statement::tenant_line))]
+fn put_tenant(out: &mut Vec<u8>, opening: &Opening) -> Result<(), AllocError>
+    ensures { OnOk result (out.new.items ≡ out.old.items ++ tenant_line opening.now) }
+{
+    out.extend_from_slice(b"tenant")?;
+    put_number(out, opening.tenant as u64)?;
+    put_word(out, opening.name.as_bytes())?;
+    put_word(out, opening.address.as_bytes())?;
+    put_number(out, opening.journal)?;
+    put_number(out, opening.margin)?;
+    put_number(out, opening.hold)?;
+    Ok(out.push(b'\n')?)
+}
+
+#[tactic(auto, unfolding(crate::specs::Statement::period_line))]
+fn put_period(out: &mut Vec<u8>, opening: &Opening) -> Result<(), AllocError>
+    ensures { OnOk result (out.new.items ≡ out.old.items ++ period_line opening.now) }
+{
+    out.extend_from_slice(b"period")?;
+    put_number(out, opening.period)?;
+    put_number(out, opening.clock)?;
+    put_number(out, opening.next_hold)?;
+    put_number(out, opening.network.next_peer() as u64)?;
+    Ok(out.push(b'\n')?)
+}
+
+#[tactic(auto, unfolding(crate::specs::Statement::peer_line))]
+fn put_peer(out: &mut Vec<u8>, peer: &Peer) -> Result<(), AllocError>
+    ensures { OnOk result (out.new.items ≡ out.old.items ++ peer_line peer.now) }
+{
+    out.extend_from_slice(b"peer")?;
+    put_number(out, peer.number as u64)?;
+    put_terms(out, &peer.terms)?;
+    put_signed(out, peer.balance.get())?;
+    put_number(out, peer.bucket.credit)?;
+    Ok(out.push(b'\n')?)
+}
+
+fn put_peers(out: &mut Vec<u8>, peers: &[Peer]) -> Result<(), AllocError>
+    ensures { OnOk result (out.new.items ≡ out.old.items ++ flat_map peer_line peers.now) }
+{
+    for peer in peers {
+        put_peer(out, peer)?;
+    }
+    Ok(())
+}
+
+#[tactic(auto, unfolding(crate::specs::Statement::route_line))]
+fn put_route(out: &mut Vec<u8>, route: &Route) -> Result<(), AllocError>
+    ensures { OnOk result (out.new.items ≡ out.old.items ++ route_line route.now) }
+{
+    out.extend_from_slice(b"route")?;
+    put_hop(out, &route.prefix, &route.hop)?;
+    Ok(out.push(b'\n')?)
+}
+
+fn put_routes(out: &mut Vec<u8>, routes: &[Route]) -> Result<(), AllocError>
+    ensures { OnOk result (out.new.items ≡ out.old.items ++ flat_map route_line routes.now) }
+{
+    for route in routes {
+        put_route(out, route)?;
+    }
+    Ok(())
+}
+
+#[tactic(auto, unfolding(crate::specs::Statement::rate_line))]
+fn put_rate_line(out: &mut Vec<u8>, rate: &RateTerms) -> Result<(), AllocError>
+    ensures { OnOk result (out.new.items ≡ out.old.items ++ rate_line rate.now) }
+{
+    out.extend_from_slice(b"rate")?;
+    put_rate(out, rate)?;
+    Ok(out.push(b'\n')?)
+}
+
+fn put_rates(out: &mut Vec<u8>, rates: &[RateTerms]) -> Result<(), AllocError>
+    ensures { OnOk result (out.new.items ≡ out.old.items ++ flat_map rate_line rates.now) }
+{
+    for rate in rates {
+        put_rate_line(out, rate)?;
+    }
+    Ok(())
+}
+
+#[tactic(auto, unfolding(crate::specs::Statement::opening_text))]
+fn put_opening(out: &mut Vec<u8>, routes: &[Route], opening: &Opening) -> Result<(), AllocError>
+    ensures { OnOk result (out.new.items ≡ out.old.items ++ opening_text routes.now opening.now) }
+{
+    put_tenant(out, opening)?;
+    put_period(out, opening)?;
+    put_peers(out, opening.network.peers())?;
+    put_routes(out, routes)?;
+    put_rates(out, opening.network.rates())
+}
+
+#[tactic(auto, unfolding(crate::specs::Statement::version_line))]
+fn put_version(out: &mut Vec<u8>) -> Result<(), AllocError>
+    ensures { OnOk result (out.new.items ≡ out.old.items ++ version_line) }
+{
+    out.extend_from_slice(b"statement 1\n")
+}
+
+#[tactic(auto, unfolding(crate::specs::Statement::head_text))]
+fn put_head(out: &mut Vec<u8>, routes: &[Route], opening: &Opening) -> Result<(), AllocError>
+    ensures { OnOk result (out.new.items ≡ out.old.items ++ head_text routes.now opening.now) }
+{
+    put_version(out)?;
+    put_opening(out, routes, opening)
+}
+
+#[tactic(auto, unfolding(crate::specs::Statement::ending_text))]
+fn put_ending(out: &mut Vec<u8>, routes: &[Route], opening: &Opening) -> Result<(), AllocError>
+    ensures { OnOk result (out.new.items ≡ out.old.items ++ ending_text routes.now opening.now) }
+{
+    out.extend_from_slice(b"ending\n")?;
+    put_opening(out, routes, opening)
+}
+
+#[tactic(auto, unfolding(crate::specs::Statement::statement_text))]
+fn put_statement(
+    out: &mut Vec<u8>,
+    routes: &[Route],
+    next: &[Route],
+    period: &Period,
+) -> Result<(), AllocError>
+    ensures { OnOk result (out.new.items ≡ out.old.items ++ statement_text routes.now next.now period.now) }
+{
+    put_head(out, routes, period.opening())?;
+    put_records(out, period.records())?;
+    put_ending(out, next, period.ending())
+}
+
+/// The text of a closed period. The one error is want of memory.
+pub fn write_statement(alloc: Global, period: &Period) -> Result<Vec<u8>, AllocError>
+    ensures { IfOk result (λ text. IsStatement text.items period.now) }
+{
+    let routes = period.opening().network.routes().list(alloc)?;
+    let next = period.ending().network.routes().list(alloc)?;
+    let mut out = Vec::new(alloc);
+    put_statement(&mut out, routes.as_slice(), next.as_slice(), period)?;
+    Ok(out)
+}
