@@ -28,6 +28,9 @@ use wanted::{Ask, HOLD, MARGIN, Packet, decided, has_place, refusal, settled};
 // How many are handed in of each list.
 const EVENTS: u32 = 5_000;
 
+// Periods of so many records are done again.
+const FOLLOWED: usize = 256;
+
 // After how many of them all sums are compared.
 const BETWEEN: u32 = 200;
 
@@ -319,7 +322,8 @@ fn rolled(alloc: Global, book: &mut Book, now: u64) -> Result<Result<Period, Com
     }
 }
 
-// A period closes with the sums as its rows, and is the same when it is done again, unless a packet awaits its answer.
+// A period closes with the sums as its rows, and a short one is the same when it is done again, unless a packet awaits its
+// answer.
 fn expect_rolled(
     rt: &impl Abort,
     alloc: Global,
@@ -332,7 +336,9 @@ fn expect_rolled(
         Ok(period) => {
             assert!(rt; !is_awaited);
             expect_rows(rt, alloc, period.rows(), &course.told)?;
-            expect_followed(rt, alloc, &period)?;
+            if period.len() <= FOLLOWED {
+                expect_followed(rt, alloc, &period)?;
+            }
             course.told.rolled(now);
             expect_sums(rt, alloc, book, &course.told)
         }

@@ -59,10 +59,10 @@ fn is_good_changed(alloc: Global, text: &mut [u8], place: usize) -> bool {
     is_good
 }
 
-// How many bytes of the line can be changed, each alone.
-fn changeable(alloc: Global, text: &mut [u8], start: usize, end: usize) -> usize {
+// How many bytes of the text can be changed, each alone.
+fn changeable(alloc: Global, text: &mut [u8]) -> usize {
     let mut count: usize = 0;
-    for place in start..end {
+    for place in 0..text.len() {
         if is_good_changed(alloc, text, place) {
             count = count.saturating_add(1);
         }
@@ -72,12 +72,12 @@ fn changeable(alloc: Global, text: &mut [u8], start: usize, end: usize) -> usize
 
 // Each byte becomes a `1`, or a `2` where it is one. What states another truth: a packet that is rejected may have had any
 // condition, 64 digits, and any destination behind the route, the letter after `g.acme.bob.`. And a moment may have gone back,
-// since the clock stays then: in each of 5 lines the digits 8, 9, 3, 4, 5 and 6 of 1893456000000 become less.
+// since the clock stays then: in each of 5 records, and where the period began, with full buckets, the digits 8, 9, 3, 4, 5 and
+// 6 of 1893456000000 become less.
 #[test]
 fn a_changed_byte_is_refused_unless_it_states_another_truth(rt: HostRuntime) -> Result<(), Fail> {
     let mut text = Vec::from_slice(rt.alloc(), STATEMENT.as_bytes())?;
-    let end = text.len();
-    let count = changeable(rt.alloc(), text.as_mut_slice(), 0, end);
-    assert_eq!(rt; count, 64 + 1 + 5 * 6);
+    let count = changeable(rt.alloc(), text.as_mut_slice());
+    assert_eq!(rt; count, 64 + 1 + 6 * 6);
     Ok(())
 }
