@@ -1,5 +1,5 @@
 -- From a head that was found in what has come to what serving the next request of a connection does.
-use Rattle.std.proofs.Common.{◌≡◌, inl, inr, ℕ, List, [], ◌++◌, length, take, drop, refl, sym, ap, subst, ◌∙◌, append_assoc, append-nil, Option, Result, Ok, Err, IfOk, Bool, false, ◌∷◌}
+use Rattle.std.proofs.Common.{◌≡◌, ◌⊎◌, inl, inr, ℕ, List, [], ◌++◌, length, take, drop, refl, sym, ap, subst, ◌∙◌, append_assoc, append-nil, Option, Result, Ok, Err, IfOk, Bool, false, ◌∷◌}
 use Rattle.std.proofs.KnownBytes.{Consumes-trans}
 use Rattle.httparse.specs.declared.spans.HeaderSpan.{HeaderSpan}
 use Rattle.httparse.specs.declared.spans.RequestSpans.{RequestSpans}
@@ -7,11 +7,11 @@ use Rattle.httparse.specs.Grammar.{RequestHead, print_request}
 use Rattle.httparse.proofs.GrammarLemmas.{ReadsRequest-append}
 use Rattle.http_link.specs.Limits.{max_lines}
 use Rattle.http_link.specs.Answers.{refusal_text}
-use Rattle.http_link.specs.Connections.{AreAskedBy, AsksIt, AsksNext, IsAskedBy, ServesNext}
+use Rattle.http_link.specs.Connections.{AreAskedBy, AreTooFew, AsksIt, AsksNext, IsAskedBy, IsCutBehind, ServesNext}
 use Rattle.http_link.specs.Heads.{BeginsWith, Head, head_of}
 use Rattle.http_link.specs.Lines.{head_in}
 use Rattle.http_link.specs.Grammars.{requests}
-use Rattle.http_link.specs.Reading.{HeadIsFound}
+use Rattle.http_link.specs.Reading.{BeginsNot, HeadIsFound}
 use Rattle.http_link.specs.Requests.{Wanted, closes, wanted_of}
 use Rattle.http_link.specs.Running.{AsksWanted, Runs}
 use Rattle.http_link.specs.Serving.{Asked, IsAskedOnly, IsServed, Traces, asking}
@@ -147,3 +147,35 @@ pub all_asked_more : (tenant_of : List ℕ → Option ℕ) (bytes more : List �
 all_asked_more tenant_of bytes more [] left last h = (ap (λ (w : List ℕ). w ++ more) h.0, h.1)
 all_asked_more tenant_of bytes more (asked ∷ earlier) left last h =
     (h.0 ++ more, all_asked_more tenant_of bytes more earlier h.0 false h.1, asked_more tenant_of h.0 more asked left last h.2)
+
+-- ---- what is read only where what there was is too little
+
+-- no head begins what there was
+none_begins : (tenant_of : List ℕ → Option ℕ) (had : List ℕ) (lines : ℕ) → lines ≡ max_lines → BeginsNot requests had lines → AreTooFew tenant_of had
+none_begins tenant_of had lines room none =
+    inl (λ head rest begins. none (print_request head) rest (begun_is had head rest lines room begins) begins.reads.1 begins.short)
+
+pub none_there : {D : Type 0} (old new : D) (tenant_of : List ℕ → Option ℕ) (had has : List ℕ) (lines : ℕ) → lines ≡ max_lines
+    → ((new ≡ old) × (has ≡ had)) ⊎ BeginsNot requests had lines → (new ≡ old) ⊎ AreTooFew tenant_of had
+none_there old new tenant_of had has lines room (inl same) = inl same.0
+none_there old new tenant_of had has lines room (inr none) = inr (none_begins tenant_of had lines room none)
+
+-- or one does, and the body behind it is cut
+pub cut_there : {D : Type 0} (old mid new : D) (tenant_of : List ℕ → Option ℕ) (had : List ℕ) (before after : Option (List ℕ)) (has text : List ℕ) (lines : List HeaderSpan)
+    (spans : RequestSpans) → length lines ≡ max_lines → text ≡ take spans.len has → HeadIsFound requests had before after has lines (Whole spans)
+    → ((mid ≡ old) × (has ≡ had)) ⊎ BeginsNot requests had (length lines)
+    → (new ≡ mid) ⊎ IsCutBehind (wanted_of tenant_of (head_in text lines spans)) (drop spans.len has) → (new ≡ old) ⊎ AreTooFew tenant_of had
+cut_there old mid new tenant_of had before after has text lines spans room same found (inr none) read = inr (none_begins tenant_of had (length lines) room none)
+cut_there old mid new tenant_of had before after has text lines spans room same found (inl is) (inl unread) = inl (unread ∙ is.0)
+cut_there old mid new tenant_of had before after has text lines spans room same found (inl is) (inr cut) =
+    let head = found.stands.2.head in
+    let rest : List ℕ = drop spans.len has in
+    let here : BeginsWith (has ++ []) head (rest ++ []) = begins_here has [] lines spans found.stands.0 found.stands.1 room found.stands.2 in
+    let there : BeginsWith has head rest =
+    subst (λ (w : List ℕ). BeginsWith has head w) (append-nil rest) (subst (λ (w : List ℕ). BeginsWith w head (rest ++ [])) (append-nil has) here) in
+    inr (inr (
+      head,
+      rest,
+      subst (λ (w : List ℕ). BeginsWith w head rest) is.1 there,
+      subst (λ (h : Head). IsCutBehind (wanted_of tenant_of h) rest) (found_says had before after has text lines spans same found) cut,
+    ))

@@ -1,6 +1,6 @@
 -- Heads of which a front is known, by whichever grammar.
 use Rattle.std.proofs.Common.{◌≡◌, ◌⊎◌, inl, inr, Bool, true, false, ◌||◌, eqb, ltb, ltb-true, ltb-false, ℕ, ◌<◌, ◌≤◌, List, [], ◌∷◌, ◌++◌, length, take, drop, ◌+◌, ◌-◌}
-use Rattle.std.proofs.Common.{refl, sym, ap, subst, ◌∙◌, arith, append_assoc, append-nil, length-append, length-take, take-append-drop, take-take, Option, Some, None}
+use Rattle.std.proofs.Common.{refl, sym, ap, subst, ◌∙◌, arith, append_assoc, append-nil, length-append, length-take, take-append-drop, take-take, take_all, Option, Some, None}
 use Rattle.std.proofs.lemmas.Bool.Decides.{Decides-eqb}
 use Rattle.std.proofs.lemmas.Grind.{common_steps}
 use Rattle.std.proofs.lemmas.Slice.Eq.{ends_is}
@@ -162,3 +162,16 @@ module _ {S : Type 0} (grammar : Grammar S) where
       let lt = on head back rest (subst (λ n. grammar.IsHead head n) (sym same) is) (sym parts ∙ reads) in
       let long = ap length reads in
       absurd (omega (arith, length-append head rest))
+
+  -- where all that there is was looked at and goes on, no head begins what there was, unless more had come
+  pub none_yet : {D : Type 0} (old now : D) (room had : List ℕ) (there end seen lines other : ℕ) → lines ≡ other → end ≡ there
+      → GoesOn grammar (take seen (take end room)) lines → seen ≡ length (take end room)
+      → ((now ≡ old) × (take there room ≡ had)) ⊎ BeginsNot grammar had other → BeginsNot grammar had other
+  none_yet old now room had there end seen lines other same whole on all (inr none) = none
+  none_yet old now room had there end seen lines other same whole on all (inl is) =
+      let front : take seen (take end room) ≡ take end room = take_all seen (take end room) (omega (arith, all)) in
+      let parts : take there room ≡ take seen (take end room) ++ [] =
+      ap (λ n. take n room) (sym whole) ∙ sym front ∙ sym (append-nil (take seen (take end room))) in
+      let long = ap length parts in
+      subst (λ (w : List ℕ). BeginsNot grammar w other) is.1
+      (all_goes_on (take there room) (take seen (take end room)) [] lines other same parts on (omega (arith, length-append (take seen (take end room)) [])))

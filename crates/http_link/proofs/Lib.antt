@@ -8,5 +8,6 @@ pub mod HostServing
 pub mod Client
 pub mod Takes
 pub mod ChunkedBodies
+pub mod Sparing
 pub mod Rooms
 pub mod Connections

@@ -1,5 +1,5 @@
 -- From what is taken and written to what serving a known stream does.
-use Rattle.std.proofs.Common.{◌≡◌, inl, inr, ℕ, List, [], ◌++◌, length, length-drop, take, drop, take-append-drop, refl, sym, ap, subst, ◌∙◌, ◌≤◌, arith, append_assoc, append-nil, take-take, Bool, true, false, Option, Some, None, Result, Ok, Err, IfOk}
+use Rattle.std.proofs.Common.{◌≡◌, ◌⊎◌, inl, inr, ℕ, List, [], ◌++◌, length, length-drop, take, drop, take-append-drop, refl, sym, ap, subst, ◌∙◌, ◌≤◌, arith, append_assoc, append-nil, take-take, Bool, true, false, Option, Some, None, Result, Ok, Err, IfOk}
 use Rattle.std.proofs.KnownBytes.{Appends-trans, Consumes-nil}
 use Rattle.std.specs.Io.KnownBytes.{Appends, Consumes, IsAtEnd}
 use Rattle.httparse.specs.declared.spans.HeaderSpan.{HeaderSpan}
@@ -15,6 +15,7 @@ use Rattle.http_link.specs.declared.grammar.Offered.TheVariants as offered
 use Rattle.http_link.specs.Lines.{head_in}
 use Rattle.http_link.specs.Bodies.{Body, IsBody, bad, cut, refusal_of, whole}
 use Rattle.http_link.specs.BodyReading.{ReadsAs}
+use Rattle.http_link.specs.Connections.{IsCutBehind}
 use Rattle.http_link.specs.Requests.{Wanted, closes, waits, wanted_of}
 use Rattle.http_link.specs.Answers.{answer_text, continue_text, refusal_text}
 use Rattle.http_link.specs.declared.bodies.BodyFault.{BodyFault}
@@ -214,6 +215,10 @@ pub wanted_asks : (want other : Result Wanted ℕ) (had : List ℕ) (old new : O
     → want ≡ other → AsksWanted other had old new Unasked Asks → AsksWanted want had old new Unasked Asks
 wanted_asks want other had old new Unasked Asks is asks = subst (λ (w : Result Wanted ℕ). AsksWanted w had old new Unasked Asks) (sym is) asks
 
+pub wanted_cut : {D : Type 0} (old new : D) (want other : Result Wanted ℕ) (had : List ℕ)
+    → want ≡ other → (new ≡ old) ⊎ IsCutBehind other had → (new ≡ old) ⊎ IsCutBehind want had
+wanted_cut old new want other had is few = subst (λ (w : Result Wanted ℕ). (new ≡ old) ⊎ IsCutBehind w had) (sym is) few
+
 -- what serving is, part by part
 abbrev pub traced : (Unasked : Type 0) → (Asked → Type 0) → (answer : List ℕ) → (Writes : List ℕ → Type 0) → (left : List ℕ) → Traces
 traced Unasked Asks answer Writes left = record { Unasked = Unasked; Asks = Asks; answer = answer; left = Some left; Writes = Writes }
@@ -297,3 +302,9 @@ pub told_asks : (tenant_of : List ℕ → Option ℕ) (said other : Head) (had t
 told_asks tenant_of said other had there old new Unasked Asks same_head same_bytes asks =
     subst (λ (w : List ℕ). AsksWanted (wanted_of tenant_of said) w old new Unasked Asks) same_bytes
     (subst (λ (h : Head). AsksWanted (wanted_of tenant_of h) there old new Unasked Asks) same_head asks)
+
+pub told_cut : {D : Type 0} (old new : D) (tenant_of : List ℕ → Option ℕ) (said other : Head) (had there : List ℕ)
+    → other ≡ said → there ≡ had → (new ≡ old) ⊎ IsCutBehind (wanted_of tenant_of other) there → (new ≡ old) ⊎ IsCutBehind (wanted_of tenant_of said) had
+told_cut old new tenant_of said other had there same_head same_bytes few =
+    subst (λ (w : List ℕ). (new ≡ old) ⊎ IsCutBehind (wanted_of tenant_of said) w) same_bytes
+    (subst (λ (h : Head). (new ≡ old) ⊎ IsCutBehind (wanted_of tenant_of h) there) same_head few)

@@ -1,5 +1,5 @@
 -- Bodies as they are read: bytes that had come first, and then those of a reader.
-use Rattle.std.specs.Prelude.{◌≡◌, ◌≢◌, ◌+◌, ◌-◌, ◌<◌, ◌≤◌, ℕ, List, [], ◌∷◌, ◌++◌, length, take, drop, Bool, true, false, Option, Some, None}
+use Rattle.std.specs.Prelude.{◌≡◌, ◌≢◌, ◌+◌, ◌-◌, ◌<◌, ◌≤◌, ◌⊎◌, ℕ, List, [], ◌∷◌, ◌++◌, length, take, drop, Bool, true, false, Option, Some, None, Result, IfOk}
 use Rattle.std.specs.Io.KnownBytes.{Consumes, IsAtEnd}
 use Rattle.httparse.specs.Ascii.{crlf_bytes}
 use Rattle.httparse.specs.Grammar.{ChunkLine, ReadsChunkLine, chunk_size}
@@ -41,6 +41,14 @@ pub record TakesAll (had : List ℕ) (old new : Option (List ℕ)) (taken has : 
   pub takes : Takes had old new taken has
   pub none : has ≡ []
   pub ended : IsAtEnd new
+
+-- what is known of a stream on which no more comes
+abbrev pub no_more : Option (List ℕ)
+no_more = Some []
+
+-- the reader is as it was, and what came of the call is so; or what there was before it is too little
+abbrev pub ReadsOnlyFor : {D A E : Type 0} → (old new : D) → Result A E → (So : A → Type 0) → (Few : Type 0) → Type 0
+ReadsOnlyFor old new result So Few = ((new ≡ old) × IfOk result So) ⊎ Few
 
 -- the next byte was taken, or there is none
 abbrev pub TakesNext : List ℕ → Option (List ℕ) → Option (List ℕ) → List ℕ → Option ℕ → Type 0

@@ -5,7 +5,7 @@ use Rattle.httparse.specs.Grammar.{RequestHead}
 use Rattle.http_link.specs.declared.bodies.BodyFault.{BodyFault}
 use Rattle.http_link.specs.declared.serve.Served.{Served}
 use Rattle.http_link.specs.declared.serve.Served.TheVariants.{Closed, Ended, Kept}
-use Rattle.http_link.specs.Bodies.{IsBody, bad, whole}
+use Rattle.http_link.specs.Bodies.{IsBody, bad, cut, whole}
 use Rattle.http_link.specs.Heads.{BeginsWith, head_of}
 use Rattle.http_link.specs.Requests.{Wanted, closes, wanted_of}
 use Rattle.http_link.specs.Serving.{Asked, Traces, IsServed, WritesNothingOr400, asking}
@@ -32,6 +32,20 @@ pub record ServesNext (tenant_of : List ℕ → Option ℕ) (had : List ℕ) (ol
   pub taken : Consumes old new came
   pub so : HeadServed tenant_of (had ++ came) traces served ⊎ TurnedAway (had ++ came) traces served
   pub ended : served ≡ Ended → IsAtEnd new
+
+-- ---- what there is before anything is read
+
+-- nothing refuses a head, and the body behind it is cut
+abbrev pub IsCutBehind : Result Wanted ℕ → List ℕ → Type 0
+IsCutBehind (Err status) rest = ⊥
+IsCutBehind (Ok wanted) rest = IsBody wanted.framing rest cut
+
+-- bytes are too few for a request: no head within the limits begins them, or one whose body they cut
+abbrev pub AreTooFew : (List ℕ → Option ℕ) → List ℕ → Type 0
+AreTooFew tenant_of bytes =
+    ((head : RequestHead) (rest : List ℕ) → BeginsWith bytes head rest → ⊥)
+    ⊎ ((head : RequestHead) × (rest : List ℕ) × BeginsWith bytes head rest
+    × IsCutBehind (wanted_of tenant_of (head_of head)) rest)
 
 -- ---- questions
 

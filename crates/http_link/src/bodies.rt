@@ -1,8 +1,8 @@
 //! Bodies that are read: of a stated length, or in chunks.
 
-ghost use Rattle.std.specs.Prelude.{◌≡◌, ◌≢◌, ◌↔◌, ◌<◌, ◌≤◌, length, min, Err, IfOk};
+ghost use Rattle.std.specs.Prelude.{◌≡◌, ◌≢◌, ◌↔◌, ◌⊎◌, ◌<◌, ◌≤◌, length, min, Err, IfOk};
 ghost use Rattle.http_link.specs.Counts.{Spends};
-ghost use Rattle.http_link.specs.Bodies.{IsBody, IsSized, most_of};
+ghost use Rattle.http_link.specs.Bodies.{IsBody, IsSized, cut, most_of};
 ghost use Rattle.http_link.specs.BodyReading.{LiesBehind, ReadsAs, ReadsAtMost, ReadsNoFurther};
 ghost use Rattle.http_link.specs.Running.{held_in};
 
@@ -58,6 +58,7 @@ pub(crate) fn read_body<R: Source>(
     ensures reads { IfOk result (ReadsAs (held_in room.old intake.old.held) (R.remaining r.old) (R.remaining r.new)
         (held_in room.new intake.new.held) room.new (IsBody framing)) }
     ensures fits { IfOk result (ReadsAtMost (most_of framing)) }
+    ensures at_once { (r.new ≡ r.old) ⊎ IsBody framing (held_in room.old intake.old.held) cut }
     ensures exact { ReadsNoFurther manner.reach intake.old.held intake.new.held }
     ensures read { (result ≡ Err LinkFault.Read) ↔ (manner.before < R.failure_count r.new) }
     ensures write { result ≢ Err LinkFault.Write }
@@ -86,6 +87,7 @@ fn read_sized<R: Source>(
     ensures reads { IfOk result (ReadsAs (held_in room.old intake.old.held) (R.remaining r.old) (R.remaining r.new)
         (held_in room.new intake.new.held) room.new (IsSized size)) }
     ensures fits { IfOk result (ReadsAtMost size) }
+    ensures at_once { size ≤ length (held_in room.old intake.old.held) → r.new ≡ r.old }
     ensures exact { ReadsNoFurther Reach.Needed intake.old.held intake.new.held }
     ensures read { (result ≡ Err LinkFault.Read) ↔ (manner.before < R.failure_count r.new) }
     ensures write { result ≢ Err LinkFault.Write }

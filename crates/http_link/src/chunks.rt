@@ -1,11 +1,12 @@
 //! Bodies in chunks, decoded in place as they come. (RFC 9112, 7.1)
 
-ghost use Rattle.std.specs.Prelude.{◌≡◌, ◌≢◌, ◌↔◌, ◌+◌, ◌-◌, ◌<◌, ◌≤◌, ◌++◌, length, take, drop, min, Err, IfOk, IsTrue};
+ghost use Rattle.std.specs.Prelude.{◌≡◌, ◌≢◌, ◌↔◌, ◌⊎◌, ◌+◌, ◌-◌, ◌<◌, ◌≤◌, ◌++◌, length, take, drop, min, Err, IfOk, IsTrue};
 ghost use Rattle.http_link.specs.Counts.{Spends};
-ghost use Rattle.http_link.specs.Bodies.{IsChunked};
+ghost use Rattle.http_link.specs.Limits.{max_chunk_line, max_head};
+ghost use Rattle.http_link.specs.Bodies.{BeginsNothing, IsChunked, IsCutShort, cut, ends_line, ends_section};
 ghost use Rattle.http_link.specs.BodyReading.{AreTrailersIn, IsStatedIn, LiesBehind, ReadsAs, ReadsAtMost, ReadsNoFurther};
 ghost use Rattle.http_link.specs.BodyReading.{TakesBytes, TakesChunk, TakesEnd, TakesLast, TakesSize, TakesStep, TakesTrailers};
-ghost use Rattle.http_link.specs.BodyReading.{StepsTo, done_after};
+ghost use Rattle.http_link.specs.BodyReading.{ReadsOnlyFor, StepsTo, done_after, no_more};
 ghost use Rattle.http_link.specs.Running.{held_in};
 
 use crate::bodies::{BodyFault, BodyRead};
@@ -68,6 +69,7 @@ pub(crate) fn read_chunks<R: Source>(
     ensures reads { IfOk result (ReadsAs (held_in room.old intake.old.held) (R.remaining r.old) (R.remaining r.new)
         (held_in room.new intake.new.held) room.new (IsChunked most)) }
     ensures fits { IfOk result (ReadsAtMost most) }
+    ensures at_once { (r.new ≡ r.old) ⊎ IsChunked most (held_in room.old intake.old.held) cut }
     ensures exact { ReadsNoFurther manner.reach intake.old.held intake.new.held }
     ensures read { (result ≡ Err LinkFault.Read) ↔ (manner.before < R.failure_count r.new) }
     ensures write { result ≢ Err LinkFault.Write }
@@ -102,6 +104,8 @@ fn read_step<R: Source>(
     ensures fits { IfOk result (StepsTo done) }
     ensures taken { IfOk result (TakesStep (held_in room.old intake.old.held) (R.remaining r.old) (R.remaining r.new)
         (held_in room.new intake.new.held) most done room.old room.new) }
+    ensures at_once { ReadsOnlyFor r.old r.new result (TakesStep (held_in room.old intake.old.held) no_more no_more
+        (held_in room.new intake.new.held) most done room.old room.new) (IsCutShort (most - done) (held_in room.old intake.old.held)) }
     ensures exact { ReadsNoFurther manner.reach intake.old.held intake.new.held }
     ensures read { (result ≡ Err LinkFault.Read) ↔ (manner.before < R.failure_count r.new) }
     ensures write { result ≢ Err LinkFault.Write }
@@ -136,6 +140,8 @@ fn read_size<R: Source>(
     ensures lies { LiesBehind done room.new intake.new.held }
     ensures taken { IfOk result (TakesSize (held_in room.old intake.old.held) (R.remaining r.old) (R.remaining r.new)
         (held_in room.new intake.new.held)) }
+    ensures at_once { ReadsOnlyFor r.old r.new result (TakesSize (held_in room.old intake.old.held) no_more no_more
+        (held_in room.new intake.new.held)) (BeginsNothing ends_line max_chunk_line (held_in room.old intake.old.held)) }
     ensures exact { ReadsNoFurther manner.reach intake.old.held intake.new.held }
     ensures read { (result ≡ Err LinkFault.Read) ↔ (manner.before < R.failure_count r.new) }
     ensures write { result ≢ Err LinkFault.Write }
@@ -187,6 +193,8 @@ fn read_chunk<R: Source>(
     ensures fits { IfOk result (StepsTo done) }
     ensures taken { IfOk result (TakesChunk (held_in room.old intake.old.held) (R.remaining r.old) (R.remaining r.new)
         (held_in room.new intake.new.held) size done room.old room.new) }
+    ensures at_once { ReadsOnlyFor r.old r.new result (TakesChunk (held_in room.old intake.old.held) no_more no_more
+        (held_in room.new intake.new.held) size done room.old room.new) (length (held_in room.old intake.old.held) < size + 2) }
     ensures exact { ReadsNoFurther manner.reach intake.old.held intake.new.held }
     ensures read { (result ≡ Err LinkFault.Read) ↔ (manner.before < R.failure_count r.new) }
     ensures write { result ≢ Err LinkFault.Write }
@@ -221,6 +229,8 @@ fn read_bytes<R: Source>(
     ensures lies { IfOk result (λ all. IsTrue all → LiesBehind (done + size) room.new intake.new.held) }
     ensures taken { IfOk result (TakesBytes (held_in room.old intake.old.held) (R.remaining r.old) (R.remaining r.new)
         (held_in room.new intake.new.held) size done room.old room.new) }
+    ensures at_once { ReadsOnlyFor r.old r.new result (TakesBytes (held_in room.old intake.old.held) no_more no_more
+        (held_in room.new intake.new.held) size done room.old room.new) (length (held_in room.old intake.old.held) < size) }
     ensures exact { ReadsNoFurther Reach.Needed intake.old.held intake.new.held }
     ensures read { (result ≡ Err LinkFault.Read) ↔ (manner.before < R.failure_count r.new) }
     ensures write { result ≢ Err LinkFault.Write }
@@ -274,6 +284,8 @@ fn read_line_end<R: Source>(
     ensures lies { LiesBehind done room.new intake.new.held }
     ensures taken { IfOk result (TakesEnd (held_in room.old intake.old.held) (R.remaining r.old) (R.remaining r.new)
         (held_in room.new intake.new.held)) }
+    ensures at_once { ReadsOnlyFor r.old r.new result (TakesEnd (held_in room.old intake.old.held) no_more no_more
+        (held_in room.new intake.new.held)) (length (held_in room.old intake.old.held) < 2) }
     ensures exact { ReadsNoFurther manner.reach intake.old.held intake.new.held }
     ensures read { (result ≡ Err LinkFault.Read) ↔ (manner.before < R.failure_count r.new) }
     ensures write { result ≢ Err LinkFault.Write }
@@ -311,6 +323,9 @@ fn read_end<R: Source>(
     ensures fits { IfOk result (StepsTo done) }
     ensures taken { IfOk result (TakesLast (held_in room.old intake.old.held) (R.remaining r.old) (R.remaining r.new)
         (held_in room.new intake.new.held) done room.old room.new) }
+    ensures at_once { ReadsOnlyFor r.old r.new result (TakesLast (held_in room.old intake.old.held) no_more no_more
+        (held_in room.new intake.new.held) done room.old room.new)
+        (BeginsNothing ends_section max_head (held_in room.old intake.old.held)) }
     ensures exact { ReadsNoFurther manner.reach intake.old.held intake.new.held }
     ensures read { (result ≡ Err LinkFault.Read) ↔ (manner.before < R.failure_count r.new) }
     ensures write { result ≢ Err LinkFault.Write }
@@ -339,6 +354,8 @@ fn read_trailers<R: Source>(
     ensures lies { LiesBehind done room.new intake.new.held }
     ensures taken { IfOk result (TakesTrailers (held_in room.old intake.old.held) (R.remaining r.old) (R.remaining r.new)
         (held_in room.new intake.new.held)) }
+    ensures at_once { ReadsOnlyFor r.old r.new result (TakesTrailers (held_in room.old intake.old.held) no_more no_more
+        (held_in room.new intake.new.held)) (BeginsNothing ends_section max_head (held_in room.old intake.old.held)) }
     ensures exact { ReadsNoFurther manner.reach intake.old.held intake.new.held }
     ensures read { (result ≡ Err LinkFault.Read) ↔ (manner.before < R.failure_count r.new) }
     ensures write { result ≢ Err LinkFault.Write }

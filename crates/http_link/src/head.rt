@@ -1,9 +1,9 @@
 //! The reader of heads.
 
-ghost use Rattle.std.specs.Prelude.{◌≡◌, ◌≢◌, ◌↔◌, ◌-◌, ◌<◌, ◌≤◌, length, take, false, Err, IfOk};
+ghost use Rattle.std.specs.Prelude.{◌≡◌, ◌≢◌, ◌↔◌, ◌⊎◌, ◌-◌, ◌<◌, ◌≤◌, length, take, false, Err, IfOk};
 ghost use Rattle.http_link.specs.Counts.{Spends};
 ghost use Rattle.http_link.specs.Grammars.{ends_empty_line};
-ghost use Rattle.http_link.specs.Reading.{Decides, EndsAt, GoesOn, HeadIsFound, Sees, SeesFurther};
+ghost use Rattle.http_link.specs.Reading.{BeginsNot, Decides, EndsAt, GoesOn, HeadIsFound, Sees, SeesFurther};
 ghost use Rattle.http_link.specs.Limits.{max_head};
 
 use crate::devices::Source;
@@ -91,6 +91,8 @@ pub(crate) fn find_head<H: HeadSpans, R: Source>(
     ensures there { intake.new.held.to ≤ length room.new }
     ensures found { IfOk result (HeadIsFound H.grammar (take intake.old.held.to room.old) (R.remaining r.old) (R.remaining r.new)
         (take intake.new.held.to room.new) lines.new) }
+    ensures at_once { ((r.new ≡ r.old) × (take intake.new.held.to room.new ≡ take intake.old.held.to room.old))
+        ⊎ BeginsNot H.grammar (take intake.old.held.to room.old) (length lines.new) }
     ensures exact { manner.reach ≡ Reach.Needed → intake.old.held.to ≡ 0
         → IfOk result (EndsAt H.grammar intake.new.held.to) }
     ensures read { (result ≡ Err LinkFault.Read) ↔ (manner.before < R.failure_count r.new) }

@@ -1,10 +1,10 @@
 //! The requests of a connection, one after another.
 
-ghost use Rattle.std.specs.Prelude.{◌≡◌, ◌≢◌, ◌↔◌, ◌+◌, ◌<◌, ◌≤◌, ◌⊎◌, List, ℕ, length, take, drop, Some, Ok, Err, IfOk};
+ghost use Rattle.std.specs.Prelude.{◌≡◌, ◌≢◌, ◌↔◌, ◌+◌, ◌<◌, ◌≤◌, ◌⊎◌, List, [], ℕ, length, take, drop, Some, Ok, Err, IfOk};
 ghost use Rattle.std.specs.Io.KnownBytes.{Appends};
 ghost use Rattle.http_link.specs.BodyReading.{LiesBehind};
 ghost use Rattle.http_link.specs.Counts.{MadeAll, Spends};
-ghost use Rattle.http_link.specs.Connections.{AsksNext, Awaits, ServesNext};
+ghost use Rattle.http_link.specs.Connections.{AreTooFew, AsksNext, Awaits, IsCutBehind, ServesNext};
 ghost use Rattle.http_link.specs.Lines.{head_in};
 ghost use Rattle.http_link.specs.Grammars.{IsRequest};
 ghost use Rattle.http_link.specs.Requests.{wanted_of};
@@ -46,7 +46,7 @@ impl Model for Inbox {
 }
 
 impl Inbox {
-    ghost use Rattle.std.specs.Prelude.{◌≡◌, ◌≢◌, ◌↔◌, ◌<◌, [], Ok, Err, IfOk, IsTrue};
+    ghost use Rattle.std.specs.Prelude.{◌≡◌, ◌≢◌, ◌↔◌, ◌⊎◌, ◌<◌, [], Ok, Err, IfOk, IsTrue};
     ghost use Rattle.http_link.specs.Connections.{Awaits};
     ghost use Rattle.http_link.specs.Counts.{MadeAll};
 
@@ -79,6 +79,8 @@ impl Inbox {
     /// Errors: `Read` where the device failed in this call, and `Turns` where 50,000 reads did not suffice.
     pub fn await_more<R: Source>(&mut self, r: &mut R) -> Result<bool, LinkFault>
         ensures awaited { IfOk result (Awaits self.old (R.remaining r.old) (R.remaining r.new) self.new) }
+        // Where something is there already, nothing is read.
+        ensures at_once { (r.new ≡ r.old) ⊎ (self.old ≡ []) }
         ensures read { (result ≡ Err LinkFault.Read) ↔ (R.failure_count r.old < R.failure_count r.new) }
         ensures only { result ≢ Err LinkFault.Write }
         ensures turns { result ≡ Err LinkFault.Turns → MadeAll R.was_read r.old r.new }
@@ -112,6 +114,9 @@ pub fn serve_next<R: Source, W: Sink, S: Service>(
         (service.new ≡ service.old) (λ question. S.asks service.old question service.new) }
     ensures unread { result ≡ Err LinkFault.Read → service.new ≡ service.old }
 
+    // Where the inbox holds a whole request already, nothing is read.
+    ensures at_once { (r.new ≡ r.old) ⊎ AreTooFew (S.tenant_of service.old) inbox.old }
+
     // A device's fault is told exactly where the device failed.
     ensures read { (result ≡ Err LinkFault.Read) ↔ (R.failure_count r.old < R.failure_count r.new) }
     ensures write { (result ≡ Err LinkFault.Write) ↔ (W.failure_count w.old < W.failure_count w.new) }
@@ -132,6 +137,7 @@ fn await_any<R: Source>(r: &mut R, room: &mut [u8], held: &mut Held) -> Result<b
     ensures len { length room.new ≡ length room.old }
     ensures within { (held.new.from ≤ held.new.to) × (held.new.to ≤ length room.new) }
     ensures awaited { IfOk result (Awaits (held_in room.old held.old) (R.remaining r.old) (R.remaining r.new) (held_in room.new held.new)) }
+    ensures at_once { (r.new ≡ r.old) ⊎ (held_in room.old held.old ≡ []) }
     ensures read { (result ≡ Err LinkFault.Read) ↔ (R.failure_count r.old < R.failure_count r.new) }
     ensures only { result ≢ Err LinkFault.Write }
     ensures turns { result ≡ Err LinkFault.Turns → MadeAll R.was_read r.old r.new }
@@ -167,6 +173,7 @@ fn serve_held<R: Source, W: Sink, S: Service>(
     })) }
     ensures asks { AsksNext (S.tenant_of service.old) (held_in room.old held.old) (R.remaining r.old) (R.remaining r.new)
         (service.new ≡ service.old) (λ question. S.asks service.old question service.new) }
+    ensures at_once { (r.new ≡ r.old) ⊎ AreTooFew (S.tenant_of service.old) (held_in room.old held.old) }
     ensures unread { result ≡ Err LinkFault.Read → service.new ≡ service.old }
     ensures read { (result ≡ Err LinkFault.Read) ↔ (R.failure_count r.old < R.failure_count r.new) }
     ensures write { (result ≡ Err LinkFault.Write) ↔ (W.failure_count w.old < W.failure_count w.new) }
@@ -215,6 +222,7 @@ fn serve_from_front<R: Source, W: Sink, S: Service>(
     })) }
     ensures asks { AsksNext (S.tenant_of service.old) (take intake.old.held.to room.old) (R.remaining r.old) (R.remaining r.new)
         (service.new ≡ service.old) (λ question. S.asks service.old question service.new) }
+    ensures at_once { (r.new ≡ r.old) ⊎ AreTooFew (S.tenant_of service.old) (take intake.old.held.to room.old) }
     ensures unread { result ≡ Err LinkFault.Read → service.new ≡ service.old }
     ensures read { (result ≡ Err LinkFault.Read) ↔ (before.manner.before < R.failure_count r.new) }
     ensures write { (result ≡ Err LinkFault.Write) ↔ (before.writes < W.failure_count w.new) }
@@ -271,6 +279,9 @@ fn serve_found<R: Source, W: Sink, S: Service>(
     ensures asks { AsksWanted (wanted_of (S.tenant_of service.old) (head_in (take parsed.entry.spans.len room.old) parsed.entry.lines.now parsed.entry.spans))
         (drop parsed.entry.spans.len (take intake.old.held.to room.old)) (R.remaining r.old) (R.remaining r.new)
         (service.new ≡ service.old) (λ question. S.asks service.old question service.new) }
+    ensures at_once { (r.new ≡ r.old)
+        ⊎ IsCutBehind (wanted_of (S.tenant_of service.old) (head_in (take parsed.entry.spans.len room.old) parsed.entry.lines.now parsed.entry.spans))
+        (drop parsed.entry.spans.len (take intake.old.held.to room.old)) }
     ensures unread { result ≡ Err LinkFault.Read → service.new ≡ service.old }
     ensures read { (result ≡ Err LinkFault.Read) ↔ (before.manner.before < R.failure_count r.new) }
     ensures write { (result ≡ Err LinkFault.Write) ↔ (before.writes < W.failure_count w.new) }

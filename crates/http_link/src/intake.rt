@@ -1,9 +1,10 @@
 //! What follows a head, byte by byte: bytes that have come, and then those of the reader.
 
-ghost use Rattle.std.specs.Prelude.{◌≡◌, ◌≢◌, ◌↔◌, ◌+◌, ◌<◌, ◌≤◌, length, take, Err, IfOk};
+ghost use Rattle.std.specs.Prelude.{◌≡◌, ◌≢◌, ◌↔◌, ◌+◌, ◌<◌, ◌≤◌, [], length, take, Err, IfOk};
 ghost use Rattle.http_link.specs.Counts.{Spends};
 ghost use Rattle.http_link.specs.Grammars.{ends_empty_line};
-ghost use Rattle.http_link.specs.BodyReading.{LiesBehind, ReadsNoFurther, TakesNext, TakesText, ends_sought};
+ghost use Rattle.http_link.specs.Bodies.{BeginsNothing};
+ghost use Rattle.http_link.specs.BodyReading.{LiesBehind, ReadsNoFurther, ReadsOnlyFor, TakesNext, TakesText, ends_sought, no_more};
 ghost use Rattle.http_link.specs.Running.{held_in};
 
 use crate::devices::Source;
@@ -91,6 +92,8 @@ pub(crate) fn next_byte<R: Source>(
     ensures lies { LiesBehind done room.new intake.new.held }
     ensures taken { IfOk result (TakesNext (held_in room.old intake.old.held) (R.remaining r.old) (R.remaining r.new)
         (held_in room.new intake.new.held)) }
+    ensures at_once { ReadsOnlyFor r.old r.new result (TakesNext (held_in room.old intake.old.held) no_more no_more
+        (held_in room.new intake.new.held)) (held_in room.old intake.old.held ≡ []) }
     ensures exact { ReadsNoFurther manner.reach intake.old.held intake.new.held }
     ensures read { (result ≡ Err LinkFault.Read) ↔ (manner.before < R.failure_count r.new) }
     ensures write { result ≢ Err LinkFault.Write }
@@ -146,6 +149,9 @@ pub(crate) fn read_text<R: Source>(
     ensures room { length text.new ≡ length text.old }
     ensures taken { IfOk result (TakesText sought (held_in room.old intake.old.held) (R.remaining r.old) (R.remaining r.new)
         (held_in room.new intake.new.held) text.new) }
+    ensures at_once { ReadsOnlyFor r.old r.new result (TakesText sought (held_in room.old intake.old.held) no_more no_more
+        (held_in room.new intake.new.held) text.new)
+        (BeginsNothing (ends_sought sought) (length text.old) (held_in room.old intake.old.held)) }
     ensures exact { ReadsNoFurther manner.reach intake.old.held intake.new.held }
     ensures read { (result ≡ Err LinkFault.Read) ↔ (manner.before < R.failure_count r.new) }
     ensures write { result ≢ Err LinkFault.Write }

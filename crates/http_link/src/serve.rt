@@ -4,8 +4,9 @@ ghost use Rattle.std.specs.Prelude.{◌≡◌, ◌≢◌, ◌↔◌, ◌<◌, �
 ghost use Rattle.std.specs.Io.KnownBytes.{Appends};
 ghost use Rattle.httparse.specs.Grammar as grammar;
 ghost use Rattle.httparse.specs.Spans.{IsRequestWithin};
+ghost use Rattle.http_link.specs.Connections.{IsCutBehind};
 ghost use Rattle.http_link.specs.Counts.{MadeAll, Spends};
-ghost use Rattle.http_link.specs.Bodies.{most_of, refusal_of};
+ghost use Rattle.http_link.specs.Bodies.{IsBody, cut, most_of, refusal_of};
 ghost use Rattle.http_link.specs.BodyReading.{LiesBehind, ReadsNoFurther};
 ghost use Rattle.http_link.specs.Heads.{BeginsWith, head_of};
 ghost use Rattle.http_link.specs.Lines.{head_at, head_in, wanted_at};
@@ -199,6 +200,8 @@ pub(crate) fn serve_head<R: Source, W: Sink, S: Service>(
     ensures asks { AsksWanted (wanted_of (S.tenant_of service.old) (head_at head.now)) (held_in room.old intake.old.held)
         (R.remaining r.old) (R.remaining r.new) (service.new ≡ service.old) (λ question. S.asks service.old question service.new) }
     ensures unread { result ≡ Err LinkFault.Read → service.new ≡ service.old }
+    ensures at_once { (r.new ≡ r.old)
+        ⊎ IsCutBehind (wanted_of (S.tenant_of service.old) (head_at head.now)) (held_in room.old intake.old.held) }
     ensures no_further { ReadsNoFurther before.manner.reach intake.old.held intake.new.held }
     ensures read { (result ≡ Err LinkFault.Read) ↔ (before.manner.before < R.failure_count r.new) }
     ensures write { (result ≡ Err LinkFault.Write) ↔ (before.writes < W.failure_count w.new) }
@@ -244,6 +247,7 @@ fn serve_wanted<R: Source, W: Sink, S: Service>(
     ensures asks { AsksWanted (Ok (wanted_at request.entry.wanted)) (held_in room.old intake.old.held) (R.remaining r.old)
         (R.remaining r.new) (service.new ≡ service.old) (λ question. S.asks service.old question service.new) }
     ensures unread { result ≡ Err LinkFault.Read → service.new ≡ service.old }
+    ensures at_once { (r.new ≡ r.old) ⊎ IsBody request.entry.wanted.framing (held_in room.old intake.old.held) cut }
     ensures no_further { ReadsNoFurther before.manner.reach intake.old.held intake.new.held }
     ensures read { (result ≡ Err LinkFault.Read) ↔ (before.manner.before < R.failure_count r.new) }
     ensures write { (result ≡ Err LinkFault.Write) ↔ (before.writes < W.failure_count w.new) }

@@ -116,6 +116,7 @@ pub(crate) fn read_on<R: Source>(
     requires within { wanted ≤ length out.old }
     requires unfailed { R.failure_count r.old ≤ before }
     ensures filled { IfOk result (FillsOn (R.remaining r.old) (R.remaining r.new) (take had out.old) wanted out.new) }
+    ensures at_once { wanted ≤ had → r.new ≡ r.old }
     ensures len { length out.new ≡ length out.old }
     ensures read { (result ≡ Err LinkFault.Read) ↔ (before < R.failure_count r.new) }
     ensures write { result ≢ Err LinkFault.Write }

@@ -1,11 +1,12 @@
-use Rattle.std.proofs.Common.{arith, take}
+use Rattle.std.proofs.Common.{◌≡◌, ◌⊎◌, List, ℕ, arith, take}
 use Rattle.http_link.specs.Limits.{max_chunk_line}
-use Rattle.http_link.specs.Bodies.{IsSizeLine, ends_line}
-use Rattle.http_link.specs.BodyReading.{TakesText}
+use Rattle.http_link.specs.Bodies.{BeginsNothing, IsSizeLine, ends_line}
+use Rattle.http_link.specs.BodyReading.{TakesText, no_more}
 use Rattle.http_link.specs.Running.{held_in}
 use Rattle.http_link.specs.declared.intake.Sought.TheVariants.{Line}
 use Rattle.http_link.specs.declared.intake.Text.TheVariants.{Found, TooLong}
 use Rattle.http_link.proofs.ChunkedBodies.{makes_long, makes_wrong}
+use Rattle.http_link.proofs.Sparing.{spares_as}
 use Rattle.http_link.proofs.chunks.read_size.Goals as goal
 
 pub returns-in-None-clause-taken : goal.returns-in-None-clause-taken
@@ -19,3 +20,12 @@ returns-in-TooLong-clause-taken g c =
     let taken : TakesText Line (held_in c.args.room.now c.args.intake.now.held) (g.R.Read.remaining c.args.r.now) (g.R.Read.remaining c.read_text.new.r) (held_in c.read_text.new.room c.read_text.new.intake.held) c.read_text.new.text TooLong =
     rw c.in-TooLong.is at c.in_ok-n.ensures.taken in
     makes_long ends_line max_chunk_line IsSizeLine _ _ _ c.read_text.new.text _ (omega arith) taken.0 taken.1
+
+pub returns-in-TooLong-clause-at_once : goal.returns-in-TooLong-clause-at_once
+returns-in-TooLong-clause-at_once g c =
+    let had : List ℕ = (held_in c.args.room.now c.args.intake.now.held) in
+    let has : List ℕ = held_in c.read_text.new.room c.read_text.new.intake.held in
+    let taken : ((c.read_text.new.r ≡ c.args.r.now) × TakesText Line had no_more no_more has c.read_text.new.text TooLong) ⊎ BeginsNothing ends_line max_chunk_line had =
+    rw c.in-TooLong.is at c.in_ok-n.ensures.at_once in
+    spares_as c.args.r.now c.read_text.new.r taken
+    (λ long. makes_long ends_line max_chunk_line IsSizeLine had no_more no_more c.read_text.new.text has (omega arith) long.0 long.1) (λ few. few)

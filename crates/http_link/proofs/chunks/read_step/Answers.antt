@@ -1,8 +1,11 @@
-use Rattle.std.proofs.Common.{◌-◌, arith, take}
-use Rattle.http_link.specs.BodyReading.{TakesSize}
+use Rattle.std.proofs.Common.{◌≡◌, ◌⊎◌, inl, List, ℕ, ◌-◌, arith, take}
+use Rattle.http_link.specs.Limits.{max_chunk_line}
+use Rattle.http_link.specs.Bodies.{BeginsNothing, ends_line}
+use Rattle.http_link.specs.BodyReading.{TakesSize, no_more}
 use Rattle.http_link.specs.Running.{held_in}
 use Rattle.http_link.specs.declared.chunks.Stated.TheVariants.{Malformed, Short, Size}
 use Rattle.http_link.proofs.ChunkedBodies.{fitting_read, last_read, line_cut, no_line, too_large}
+use Rattle.http_link.proofs.Sparing.{chunk_cut, spares_as, spares_then, trailers_cut}
 use Rattle.http_link.proofs.chunks.read_step.Goals as goal
 
 pub returns-in-Size-eq0-clause-taken : goal.returns-in-Size-eq0-clause-taken
@@ -35,3 +38,35 @@ returns-in-Short-clause-taken g c =
     let one : TakesSize (held_in c.args.room.now c.args.intake.now.held) (g.R.Read.remaining c.args.r.now) (g.R.Read.remaining c.read_size.new.r) (held_in c.read_size.new.room c.read_size.new.intake.held) Short =
     rw c.in-Short.is at c.in_ok-read_size.ensures.taken in
     line_cut _ _ _ _ c.read_size.new.room (c.args.most - c.args.done) (take c.args.done c.args.room.now) one
+
+pub returns-in-Size-eq0-clause-at_once : goal.returns-in-Size-eq0-clause-at_once
+returns-in-Size-eq0-clause-at_once g c =
+    let had : List ℕ = (held_in c.args.room.now c.args.intake.now.held) in
+    let between : List ℕ = held_in c.read_size.new.room c.read_size.new.intake.held in
+    let space = c.args.most - c.args.done in
+    let one : ((c.read_size.new.r ≡ c.args.r.now) × TakesSize had no_more no_more between (Size 0)) ⊎ BeginsNothing ends_line max_chunk_line had =
+    rw (c.in-Size-eq0.is, c.in-Size-eq0.field-0-test) at c.in_ok-read_size.ensures.at_once in
+    spares_then c.args.r.now c.read_size.new.r c.read_end.new.r one c.read_end.ensures.at_once
+    (λ a b. last_read c.read_end.result had no_more no_more no_more a.0 between _ c.args.most c.args.done c.args.room.now c.read_size.new.room c.read_end.new.room a.1 a.2 a.3 c.in_ok-read_size.ensures.kept b)
+    (λ few. inl few) (λ a few. trailers_cut had a.0 between space a.1 a.2 a.3 few)
+
+pub returns-else-size-most-clause-at_once : goal.returns-else-size-most-clause-at_once
+returns-else-size-most-clause-at_once g c =
+    let had : List ℕ = (held_in c.args.room.now c.args.intake.now.held) in
+    let between : List ℕ = held_in c.read_size.new.room c.read_size.new.intake.held in
+    let space = c.args.most - c.args.done in
+    let one : ((c.read_size.new.r ≡ c.args.r.now) × TakesSize had no_more no_more between (Size c.in-Size.size)) ⊎ BeginsNothing ends_line max_chunk_line had =
+    rw c.in-Size.is at c.in_ok-read_size.ensures.at_once in
+    spares_then c.args.r.now c.read_size.new.r c.read_chunk.new.r one c.read_chunk.ensures.at_once
+    (λ a b. fitting_read c.read_chunk.result had no_more no_more no_more a.0 between _ c.in-Size.size c.args.most c.args.done c.args.room.now c.read_size.new.room c.read_chunk.new.room a.1 a.2 a.3 (omega arith) (omega arith)
+    c.in_ok-read_size.ensures.kept b)
+    (λ few. inl few) (λ a few. chunk_cut had a.0 between c.in-Size.size space a.1 a.2 a.3 (omega arith) (omega arith) few)
+
+pub returns-in-Malformed-clause-at_once : goal.returns-in-Malformed-clause-at_once
+returns-in-Malformed-clause-at_once g c =
+    let had : List ℕ = (held_in c.args.room.now c.args.intake.now.held) in
+    let between : List ℕ = held_in c.read_size.new.room c.read_size.new.intake.held in
+    let space = c.args.most - c.args.done in
+    let one : ((c.read_size.new.r ≡ c.args.r.now) × TakesSize had no_more no_more between Malformed) ⊎ BeginsNothing ends_line max_chunk_line had =
+    rw c.in-Malformed.is at c.in_ok-read_size.ensures.at_once in
+    spares_as c.args.r.now c.read_size.new.r one (λ wrong. no_line had no_more no_more between c.read_size.new.room space (take c.args.done c.args.room.now) wrong) (λ few. inl few)

@@ -2,7 +2,7 @@ use Rattle.std.proofs.Common.{List, ℕ, length-take, take, take-take, sym, arit
 use Rattle.http_link.specs.Grammars.{requests}
 use Rattle.http_link.specs.Reading.{HeadIsFound}
 use Rattle.http_link.specs.declared.grammar.Offered.TheVariants.{Malformed, Partial, Whole}
-use Rattle.http_link.proofs.Connections.{found_asks, found_next, none_found, partial_found}
+use Rattle.http_link.proofs.Connections.{cut_there, found_asks, found_next, none_found, none_there, partial_found}
 use Rattle.http_link.proofs.Counting.{spends_then}
 use Rattle.std.proofs.KnownBytes.{Appends-nil}
 use Rattle.http_link.proofs.inbox.serve_from_front.Goals as goal
@@ -54,3 +54,24 @@ pub returns-in-Whole-clause-turns : goal.returns-in-Whole-clause-turns
 returns-in-Whole-clause-turns g c told =
     spends_then g.R.Source.was_read c.args.r.now c.find_head.new.r c.serve_found.new.r c.args.intake.now.turns c.find_head.new.intake.turns
     c.find_head.ensures.made (c.serve_found.ensures.turns told)
+
+pub returns-in_err-find_head-clause-at_once : goal.returns-in_err-find_head-clause-at_once
+returns-in_err-find_head-clause-at_once g c = none_there _ _ (g.S.Service.tenant_of c.args.service.now) _ _ _ (omega arith) c.find_head.ensures.at_once
+
+pub returns-in-Partial-clause-at_once : goal.returns-in-Partial-clause-at_once
+returns-in-Partial-clause-at_once g c = none_there _ _ (g.S.Service.tenant_of c.args.service.now) _ _ _ (omega arith) c.find_head.ensures.at_once
+
+pub returns-in-Malformed-clause-at_once : goal.returns-in-Malformed-clause-at_once
+returns-in-Malformed-clause-at_once g c = none_there _ _ (g.S.Service.tenant_of c.args.service.now) _ _ _ (omega arith) c.find_head.ensures.at_once
+
+pub returns-in-Whole-clause-at_once : goal.returns-in-Whole-clause-at_once
+returns-in-Whole-clause-at_once g c =
+    let room : List ℕ = c.find_head.new.room in
+    let there = c.find_head.new.intake.held.to in
+    let lines = c.find_head.new.lines in
+    let spans = c.in-Whole.spans in
+    let found : HeadIsFound requests (take c.args.intake.now.held.to c.args.room.now) (g.R.Read.remaining c.args.r.now) (g.R.Read.remaining c.find_head.new.r) (take there room) lines (Whole spans) =
+    rw c.in-Whole.is at c.in_ok-find_head.ensures.found in
+    let bound = found.stands.0 in
+    cut_there c.args.r.now c.find_head.new.r c.serve_found.new.r (g.S.Service.tenant_of c.args.service.now) _ _ _ (take there room) (take spans.len room) lines spans (omega arith)
+    (sym (take-take spans.len there room (omega (arith, length-take there room)))) found c.find_head.ensures.at_once c.serve_found.ensures.at_once

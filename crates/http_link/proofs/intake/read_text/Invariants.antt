@@ -1,6 +1,7 @@
-use Rattle.std.proofs.Common.{◌≡◌, ◌≤◌, ◌-◌, ℕ, false, take, length}
+use Rattle.std.proofs.Common.{◌≡◌, ◌≤◌, ◌-◌, ◌⊎◌, ℕ, false, take, length}
 use Rattle.http_link.specs.Counts.{Spends}
-use Rattle.http_link.specs.BodyReading.{LiesBehind, ReadsNoFurther, Takes, ends_sought}
+use Rattle.http_link.specs.Bodies.{BeginsNothing}
+use Rattle.http_link.specs.BodyReading.{LiesBehind, ReadsNoFurther, Takes, ends_sought, no_more}
 use Rattle.http_link.specs.Running.{held_in}
 use Rattle.http_link.proofs.intake.read_text.Given as goal
 
@@ -14,6 +15,7 @@ invariant-loop-n g l = record {
   kept : take l.done l.room ≡ take l.done l.fn.room;
   lies : LiesBehind l.done l.room l.intake.held;
   exact : ReadsNoFurther l.manner.reach l.fn.intake.held l.intake.held;
+  at_once : ((l.r ≡ l.fn.r) × Takes (held_in l.fn.room l.fn.intake.held) no_more no_more (take l.n l.text) (held_in l.room l.intake.held)) ⊎ BeginsNothing (ends_sought l.sought) (length l.fn.text) (held_in l.fn.room l.fn.intake.held);
   unfailed : g.R.Device.failure_count l.r ≤ l.manner.before;
   made : Spends g.R.Source.was_read l.fn.r l.r l.fn.intake.turns l.intake.turns;
 }

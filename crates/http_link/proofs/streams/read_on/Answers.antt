@@ -23,6 +23,8 @@ loop-done-preserved g c =
     let fits = c.loop-done.invariant.bound in
     record {
       came = more_came _ _ _ _ _ _ read.2.0 c.args.wanted c.loop-done.done c.in_ok-n.n c.loop-done.invariant.came read.2.1 read.2.2 read.0 (omega arith);
+      from = omega arith;
+      at_once = λ enough. absurd (omega arith);
       bound = omega arith;
       len = search rules;
       unfailed = search rules;
