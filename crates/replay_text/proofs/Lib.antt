@@ -12,3 +12,4 @@ pub mod Places
 pub mod Decoding
 pub mod Values
 pub mod LastWords
+pub mod Putting

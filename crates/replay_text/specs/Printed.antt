@@ -1,5 +1,7 @@
 -- The lines that a replay prints: one or more for each output, each ended by a line feed.
-use Rattle.std.specs.Prelude.{ℕ, List, [], ◌∷◌, ◌++◌, slice_index_or, length, codes, Result, Ok, Err}
+use Rattle.std.specs.Prelude.{ℕ, ◌≡◌, ◌+◌, ◌<◌, ◌≤◌, List, [], ◌∷◌, ◌++◌, slice_index_or, length, codes, Result, Ok, Err}
+use Rattle.std.specs.Global.{Vec}
+use Rattle.std.specs.Vec.{vec_capacity, vec_items}
 use Rattle.std.specs.List.{flat_map}
 use Rattle.std.specs.Fmt.{decimal, signed_decimal}
 use Rattle.hex.specs.Hex.{encode_lower}
@@ -81,3 +83,8 @@ line_of names output = line_text names output ++ 10 ∷ []
 -- the lines of some outputs, for tenants of these names
 abbrev pub printed_lines : List (List ℕ) → List Output → List ℕ
 printed_lines names outputs = flat_map (line_of names) outputs
+
+-- a text was put behind another, which has no less room then; or there was too little room for both
+abbrev pub Puts : {A E : Type 0} → Result A E → (old new : Vec ℕ) → (text : List ℕ) → Type 0
+Puts (Ok done) old new text = (vec_items new ≡ vec_items old ++ text) × (vec_capacity old ≤ vec_capacity new)
+Puts (Err fault) old new text = vec_capacity old < length (vec_items old) + length text

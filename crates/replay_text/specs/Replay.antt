@@ -1,5 +1,5 @@
 -- What a replay of a script for a setup writes, and what refuses it.
-use Rattle.std.specs.Prelude.{ℕ, ◌≡◌, List, [], map, ◌++◌, ◌⊎◌, Option, Some, option_map, Result, Ok, Err, IfSome, IsOk}
+use Rattle.std.specs.Prelude.{ℕ, ◌≡◌, ◌<◌, List, [], length, map, ◌++◌, ◌⊎◌, Option, Some, option_map, Result, Ok, Err, IfSome, IsOk}
 use Rattle.std.specs.Result.{result_err}
 use Rattle.std.specs.Io.KnownBytes.{Keeps, Appends}
 use Rattle.floor_core.specs.Forwards.{AreForwards, no_frames}
@@ -89,6 +89,10 @@ abbrev pub Prints : List (List ℕ) → List Step → World → World → List �
 Prints names steps before after old new =
     (outputs : List Output) × AreOutputs before steps outputs × IsLeft before steps outputs after
     × (new ≡ old ++ printed_lines names outputs)
+
+-- the steps lead from one world to another, and the lines of their outputs have more bytes than that
+abbrev pub HasLong : ℕ → List (List ℕ) → List Step → World → World → Type 0
+HasLong most names steps before after = (text : List ℕ) × Prints names steps before after [] text × (most < length text)
 
 -- those lines were written
 abbrev pub WritesLines : List (List ℕ) → World → List Step → Option (List ℕ) → Option (List ℕ) → Type 0

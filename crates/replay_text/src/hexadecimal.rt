@@ -3,6 +3,7 @@
 ghost use Rattle.std.specs.Prelude.{◌≡◌, ◌*◌, ◌<◌, ◌++◌, ◌==◌, length, Ok, Some, OnOk, IfOk, if◌then◌else◌, option_map, slice_index, codes, IsTrue, ℕ, is_some};
 ghost use Rattle.std.specs.List.{list_all};
 ghost use Rattle.std.specs.Result.{result_ok};
+ghost use Rattle.replay_text.specs.Printed.{Puts};
 ghost use Rattle.hex.specs.Hex.{decode_pairs, decode_of, encode_lower, hex_digit_value, is_hex_digit, pair_value};
 
 use std::alloc::AllocError;
@@ -109,7 +110,7 @@ fn encode_into(bytes: &[u8], out: &mut [u8])
 
 /// Puts the digits of some bytes, in lower case, behind a text.
 pub(crate) fn put_hex(out: &mut Vec<u8>, bytes: &[u8]) -> Result<(), AllocError>
-    ensures { OnOk result (out.new.items ≡ out.old.items ++ encode_lower bytes.now) }
+    ensures { Puts result out.old out.new (encode_lower bytes.now) }
 {
     let begin = out.len();
     let Some(size) = bytes.len().checked_mul(2) else {

@@ -4,7 +4,7 @@ ghost use Rattle.std.specs.Prelude.{◌≡◌, ◌++◌, ◌∷◌, [], IfOk, On
 ghost use Rattle.std.specs.Fmt.{decimal, signed_decimal};
 ghost use Rattle.hex.specs.Hex.{encode_lower};
 ghost use Rattle.replay_text.specs.Printed.{name_of, word_of, tick_text, line_text, line_of, printed_lines};
-ghost use Rattle.replay_text.specs.Printed.{answer_lines, refusal_word, row_line, command_text};
+ghost use Rattle.replay_text.specs.Printed.{Puts, answer_lines, refusal_word, row_line, command_text};
 ghost use Rattle.std.specs.List.{flat_map};
 ghost use Rattle.floor_core.specs.Told.{shown};
 
@@ -38,7 +38,7 @@ fn word_of(kind: Malformed) -> &'static [u8]
 }
 
 fn put_decimal(out: &mut Vec<u8>, number: u64) -> Result<(), AllocError>
-    ensures { OnOk result (out.new.items ≡ out.old.items ++ decimal number) }
+    ensures { Puts result out.old out.new (decimal number) }
 {
     let mut digits = Buffer::new();
     out.extend_from_slice(digits.format(number).as_bytes())
@@ -46,8 +46,7 @@ fn put_decimal(out: &mut Vec<u8>, number: u64) -> Result<(), AllocError>
 
 // What is said of a packet that goes on, behind the tenant's name.
 fn put_send(out: &mut Vec<u8>, peer: &[u8], hold: u64, frame: &[u8]) -> Result<(), AllocError>
-    ensures { OnOk result (out.new.items ≡ out.old.items
-        ++ codes " send " ++ peer.now ++ codes " " ++ decimal hold ++ codes " " ++ encode_lower frame.now) }
+    ensures { Puts result out.old out.new (codes " send " ++ peer.now ++ codes " " ++ decimal hold ++ codes " " ++ encode_lower frame.now) }
 {
     out.extend_from_slice(b" send ")?;
     out.extend_from_slice(peer)?;
@@ -59,7 +58,7 @@ fn put_send(out: &mut Vec<u8>, peer: &[u8], hold: u64, frame: &[u8]) -> Result<(
 
 // What is said of a tick, behind the tenant's name.
 fn put_ticked(out: &mut Vec<u8>, answer: Result<u32, BookFault>) -> Result<(), AllocError>
-    ensures { OnOk result (out.new.items ≡ out.old.items ++ tick_text answer) }
+    ensures { Puts result out.old out.new (tick_text answer) }
 {
     match answer {
         Ok(count) => {
@@ -84,7 +83,7 @@ fn refusal_word(fault: CommandFault) -> &'static [u8]
 }
 
 fn put_signed(out: &mut Vec<u8>, number: i64) -> Result<(), AllocError>
-    ensures { OnOk result (out.new.items ≡ out.old.items ++ signed_decimal number) }
+    ensures { Puts result out.old out.new (signed_decimal number) }
 {
     let mut digits = Buffer::new();
     out.extend_from_slice(digits.format(number).as_bytes())
@@ -93,7 +92,7 @@ fn put_signed(out: &mut Vec<u8>, number: i64) -> Result<(), AllocError>
 // What a peer owes, and what is held from it and for it.
 #[tactic(auto, unfolding(crate::specs::Printed::row_line))]
 fn put_row(out: &mut Vec<u8>, name: &[u8], row: &Row) -> Result<(), AllocError>
-    ensures { OnOk result (out.new.items ≡ out.old.items ++ row_line name.now row.now) }
+    ensures { Puts result out.old out.new (row_line name.now row.now) }
 {
     out.extend_from_slice(name)?;
     out.extend_from_slice(b" balance ")?;
@@ -109,7 +108,7 @@ fn put_row(out: &mut Vec<u8>, name: &[u8], row: &Row) -> Result<(), AllocError>
 }
 
 fn put_rows(out: &mut Vec<u8>, name: &[u8], rows: &[Row]) -> Result<(), AllocError>
-    ensures { OnOk result (out.new.items ≡ out.old.items ++ flat_map (row_line name.now) rows.now) }
+    ensures { Puts result out.old out.new (flat_map (row_line name.now) rows.now) }
 {
     for row in rows {
         put_row(out, name, row)?;
@@ -123,7 +122,7 @@ fn put_governed(
     name: &[u8],
     answer: &Result<Answered, CommandFault>,
 ) -> Result<(), AllocError>
-    ensures { OnOk result (out.new.items ≡ out.old.items ++ command_text name.now answer.now) }
+    ensures { Puts result out.old out.new (command_text name.now answer.now) }
 {
     match answer {
         Ok(Answered::Done) => {
@@ -173,7 +172,7 @@ fn put_named(
     out: &mut Vec<u8>,
     words: &[u8],
 ) -> Result<(), AllocError>
-    ensures { OnOk result (out.new.items ≡ out.old.items ++ name_of names.now tenant ++ words.now) }
+    ensures { Puts result out.old out.new (name_of names.now tenant ++ words.now) }
 {
     out.extend_from_slice(name_of(names, tenant))?;
     out.extend_from_slice(words)
@@ -186,15 +185,14 @@ fn put_reply(
     out: &mut Vec<u8>,
     reply: &[u8],
 ) -> Result<(), AllocError>
-    ensures { OnOk result (out.new.items ≡ out.old.items
-        ++ name_of names.now tenant ++ codes " reply " ++ encode_lower reply.now) }
+    ensures { Puts result out.old out.new (name_of names.now tenant ++ codes " reply " ++ encode_lower reply.now) }
 {
     put_named(names, tenant, out, b" reply ")?;
     put_hex(out, reply)
 }
 
 fn put_text(names: &[Name], out: &mut Vec<u8>, output: &Output) -> Result<(), AllocError>
-    ensures { OnOk result (out.new.items ≡ out.old.items ++ line_text names.now output.now) }
+    ensures { Puts result out.old out.new (line_text names.now output.now) }
 {
     match output {
         Output::Busy => out.extend_from_slice(b"- busy"),
@@ -244,7 +242,7 @@ fn put_told_text(
     floor: &Floor,
     told: &Told,
 ) -> Result<(), AllocError>
-    ensures { OnOk result (out.new.items ≡ out.old.items ++ line_text names.now (shown floor.now.seats told.now)) }
+    ensures { Puts result out.old out.new (line_text names.now (shown floor.now.seats told.now)) }
 {
     match told {
         Told::Whole(output) => put_text(names, out, output),
@@ -270,7 +268,7 @@ pub(crate) fn put_told(
     floor: &Floor,
     told: &Told,
 ) -> Result<(), AllocError>
-    ensures { OnOk result (out.new.items ≡ out.old.items ++ line_of names.now (shown floor.now.seats told.now)) }
+    ensures { Puts result out.old out.new (line_of names.now (shown floor.now.seats told.now)) }
 {
     put_told_text(names, out, floor, told)?;
     out.push(b'\n')?;

@@ -2,7 +2,7 @@
 
 ghost use Rattle.std.specs.Prelude.{◌≡◌, ◌≢◌, ◌≤◌, ◌<◌, ◌⊎◌, ◌↔◌, ◌+◌, ◌∷◌, [], ℕ, List, OnOk, OnErr, IfOk, IfErr, IfSome, IsOk, None, Ok, Err, length};
 ghost use Rattle.std.specs.Io.KnownBytes.{Keeps, Appends};
-ghost use Rattle.replay_text.specs.Replay.{names_in, refusal_of, IsRefusedBy, Prints, WritesAll, LeavesWritten};
+ghost use Rattle.replay_text.specs.Replay.{HasLong, names_in, refusal_of, IsRefusedBy, Prints, WritesAll, LeavesWritten};
 ghost use Rattle.replay_text.specs.Replay.{IsReplayedFor, LeavesWrittenFor, WritesDone, WritesLines, WritesSome, world_of_setup};
 ghost use Rattle.admin_text.specs.Setup.{setup_of};
 ghost use Rattle.floor_core.specs.FloorView.{Fits, HasRoom, max_seats, world_of};
@@ -92,14 +92,15 @@ fn run_step(
         text.old.items text.new.items) }
     ensures undone { result ≡ Err Refusal.Before → floor.new ≡ floor.old }
     ensures unprinted { result ≡ Err Refusal.Before → text.new.items ≡ text.old.items }
+    ensures lost { result ≡ Err Refusal.Behind → HasLong STEP_ROOM names.now (step.now ∷ []) (world_of floor.old) (world_of floor.new) }
     ensures workers { length floor.new.seats ≡ length floor.old.seats }
     ensures tenants { length floor.new.books ≡ length floor.old.books }
     ensures room { (n : ℕ) → HasRoom floor.old (1 + n) → HasRoom floor.new n }
 {
     floor_core::laws::outputs_are_there();
-    if text.reserve(STEP_ROOM).is_err() {
+    let Ok(()) = text.reserve(STEP_ROOM) else {
         return Err(Refusal::Before);
-    }
+    };
     let Ok(told) = floor.step(alloc, step) else {
         return Err(Refusal::Before);
     };
@@ -127,6 +128,8 @@ fn run_line(
         (world_of floor.old) (world_of floor.new) text.old.items text.new.items) }
     ensures undone { result ≡ Err Refusal.Before → floor.new ≡ floor.old }
     ensures unprinted { result ≡ Err Refusal.Before → text.new.items ≡ text.old.items }
+    ensures lost { result ≡ Err Refusal.Behind → HasLong STEP_ROOM names.now (steps_in names.now workers (line.now ∷ []))
+        (world_of floor.old) (world_of floor.new) }
     ensures workers { length floor.new.seats ≡ length floor.old.seats }
     ensures tenants { length floor.new.books ≡ length floor.old.books }
     ensures room { (n : ℕ) → HasRoom floor.old (1 + n) → HasRoom floor.new n }
@@ -152,6 +155,7 @@ fn write_if_long<W: Write + Device>(
     ensures written { OnOk result (WritesUpTo text.old.items text.new.items
         (W.contents writer.old) (W.contents writer.new)) }
     ensures front { AppendsFront text.old.items (W.contents writer.old) (W.contents writer.new) }
+    ensures short { OnOk result (length text.new.items < LONG) }
     ensures size { result ≢ Err StreamFault.Size }
     ensures device { (result ≡ Err StreamFault.Device) ↔ (before < W.failure_count writer.new) }
 {
