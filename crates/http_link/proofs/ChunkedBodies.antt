@@ -353,14 +353,6 @@ gathers_all had old mid new between has before after most done read sofar fits w
       ended = over.ended;
     }
 
--- ---- line ends
-
-pub other_first : (a b : ℕ) → a ≢ 13 → a ∷ b ∷ [] ≡ crlf_bytes → ⊥
-other_first a b other is = let same : a ≡ 13 = cc in other same
-
-pub other_second : (a b : ℕ) → b ≢ 10 → a ∷ b ∷ [] ≡ crlf_bytes → ⊥
-other_second a b other is = let same : b ≡ 10 = cc in other same
-
 -- as many bytes stand in a room as stood in it, at least, once it was filled on
 pub reached : (old new : Option (List ℕ)) (room out : List ℕ) (had wanted there : ℕ) → had ≤ length room → FillsOn old new (take had room) wanted out there → had ≤ there
 reached old new room out had wanted there within fills =

@@ -1,5 +1,5 @@
 -- From a head that was found in what has come to what serving the next request of a connection does.
-use Rattle.std.proofs.Common.{◌≡◌, ◌⊎◌, inl, inr, ℕ, List, [], ◌++◌, length, take, drop, refl, sym, ap, subst, ◌∙◌, append_assoc, append-nil, Option, Result, Ok, Err, IfOk, Bool, false, ◌∷◌}
+use Rattle.std.proofs.Common.{◌≡◌, ◌≤◌, ◌⊎◌, inl, inr, ℕ, List, [], ◌++◌, length, take, drop, length-take, take-take, arith, refl, sym, ap, subst, ◌∙◌, append_assoc, append-nil, Option, Result, Ok, Err, IfOk, Bool, false, ◌∷◌}
 use Rattle.std.proofs.KnownBytes.{Consumes-trans}
 use Rattle.httparse.specs.declared.spans.HeaderSpan.{HeaderSpan}
 use Rattle.httparse.specs.declared.spans.RequestSpans.{RequestSpans}
@@ -33,26 +33,32 @@ found_begins had old mid has other lines spans room found =
     subst (λ (w : List ℕ). BeginsWith w found.stands.2.head (drop spans.len has ++ other)) (in_all had has found.came other found.grew)
     (begins_here has other lines spans found.stands.0 found.stands.1 room found.stands.2)
 
--- what it says
-found_says : (had : List ℕ) (old mid : Option (List ℕ)) (has text : List ℕ) (lines : List HeaderSpan) (spans : RequestSpans) → text ≡ take spans.len has
-    → (found : HeadIsFound requests had old mid has lines (Whole spans)) → head_in text lines spans ≡ head_of found.stands.2.head
-found_says had old mid has text lines spans same found =
-    head_said (head_in text lines spans) (take spans.len has) lines spans found.stands.2.head (ap (λ (t : List ℕ). head_in t lines spans) same) found.stands.2.at
+-- a front of a front of a room
+front_of_front : (room : List ℕ) (there n : ℕ) → n ≤ length (take there room) → take n room ≡ take n (take there room)
+front_of_front room there n le = sym (take-take n there room (omega (arith, length-take there room)))
+
+-- what it says, where it stands in a room
+found_says : (had : List ℕ) (old mid : Option (List ℕ)) (room : List ℕ) (there : ℕ) (lines : List HeaderSpan) (spans : RequestSpans)
+    → (found : HeadIsFound requests had old mid (take there room) lines (Whole spans)) → head_in (take spans.len room) lines spans ≡ head_of found.stands.2.head
+found_says had old mid room there lines spans found =
+    let front = front_of_front room there spans.len found.stands.0 in
+    head_said (head_in (take spans.len room) lines spans) (take spans.len (take there room)) lines spans found.stands.2.head
+    (ap (λ (t : List ℕ). head_in t lines spans) front) found.stands.2.at
 
 -- what is done with the head that was found is what serving the next request does
-pub found_next : (r : Result Served LinkFault) (tenant_of : List ℕ → Option ℕ) (had : List ℕ) (old mid new : Option (List ℕ)) (has text : List ℕ) (lines : List HeaderSpan)
-    (spans : RequestSpans) (traces : Traces) → length lines ≡ max_lines → text ≡ take spans.len has → HeadIsFound requests had old mid has lines (Whole spans)
-    → IfOk r (Runs (wanted_of tenant_of (head_in text lines spans)) (head_in text lines spans) (drop spans.len has) mid new traces) → IfOk r (ServesNext tenant_of had old new traces)
-found_next (Err fault) tenant_of had old mid new has text lines spans traces room same found runs = tt
-found_next (Ok served) tenant_of had old mid new has text lines spans traces room same found runs =
+pub found_next : (r : Result Served LinkFault) (tenant_of : List ℕ → Option ℕ) (had : List ℕ) (old mid new : Option (List ℕ)) (room : List ℕ) (there : ℕ) (lines : List HeaderSpan)
+    (spans : RequestSpans) (traces : Traces) → length lines ≡ max_lines → HeadIsFound requests had old mid (take there room) lines (Whole spans)
+    → IfOk r (Runs (wanted_of tenant_of (head_in (take spans.len room) lines spans)) (head_in (take spans.len room) lines spans) (drop spans.len (take there room)) mid new traces) → IfOk r (ServesNext tenant_of had old new traces)
+found_next (Err fault) tenant_of had old mid new room there lines spans traces lined found runs = tt
+found_next (Ok served) tenant_of had old mid new room there lines spans traces lined found runs =
     record {
       came = found.came ++ runs.came;
       taken = Consumes-trans old mid new found.came runs.came found.taken runs.taken;
       so = inl (record {
         head = found.stands.2.head;
-        rest = drop spans.len has ++ runs.came;
-        begins = found_begins had old mid has runs.came lines spans room found;
-        is_served = subst (λ (h : Head). IsServed (wanted_of tenant_of h) h (drop spans.len has ++ runs.came) traces served) (found_says had old mid has text lines spans same found) runs.so;
+        rest = drop spans.len (take there room) ++ runs.came;
+        begins = found_begins had old mid (take there room) runs.came lines spans lined found;
+        is_served = subst (λ (h : Head). IsServed (wanted_of tenant_of h) h (drop spans.len (take there room) ++ runs.came) traces served) (found_says had old mid room there lines spans found) runs.so;
       });
       ended = runs.ended;
     }
@@ -93,15 +99,15 @@ partial_found tenant_of had old mid has lines traces room found unasked written 
 }
 
 -- and what is asked for it is what the next request asks
-pub found_asks : (tenant_of : List ℕ → Option ℕ) (had : List ℕ) (old mid new : Option (List ℕ)) (has text : List ℕ) (lines : List HeaderSpan) (spans : RequestSpans)
-    (Unasked : Type 0) (Asks : Asked → Type 0) → length lines ≡ max_lines → text ≡ take spans.len has → HeadIsFound requests had old mid has lines (Whole spans)
-    → AsksWanted (wanted_of tenant_of (head_in text lines spans)) (drop spans.len has) mid new Unasked Asks → AsksNext tenant_of had old new Unasked Asks
-found_asks tenant_of had old mid new has text lines spans Unasked Asks room same found (inl none) = inl none
-found_asks tenant_of had old mid new has text lines spans Unasked Asks room same found (inr once) =
+pub found_asks : (tenant_of : List ℕ → Option ℕ) (had : List ℕ) (old mid new : Option (List ℕ)) (room : List ℕ) (there : ℕ) (lines : List HeaderSpan) (spans : RequestSpans)
+    (Unasked : Type 0) (Asks : Asked → Type 0) → length lines ≡ max_lines → HeadIsFound requests had old mid (take there room) lines (Whole spans)
+    → AsksWanted (wanted_of tenant_of (head_in (take spans.len room) lines spans)) (drop spans.len (take there room)) mid new Unasked Asks → AsksNext tenant_of had old new Unasked Asks
+found_asks tenant_of had old mid new room there lines spans Unasked Asks lined found (inl none) = inl none
+found_asks tenant_of had old mid new room there lines spans Unasked Asks lined found (inr once) =
     inr (by_wanted (wanted_of tenant_of (head_of found.stands.2.head)) refl
-    (subst (λ (h : Head). IsAskedOnly (wanted_of tenant_of h) (drop spans.len has ++ once.0) ⊥ Asks) (found_says had old mid has text lines spans same found) once.2))
+    (subst (λ (h : Head). IsAskedOnly (wanted_of tenant_of h) (drop spans.len (take there room) ++ once.0) ⊥ Asks) (found_says had old mid room there lines spans found) once.2))
   where
-    by_wanted : (want : Result Wanted ℕ) → wanted_of tenant_of (head_of found.stands.2.head) ≡ want → IsAskedOnly want (drop spans.len has ++ once.0) ⊥ Asks
+    by_wanted : (want : Result Wanted ℕ) → wanted_of tenant_of (head_of found.stands.2.head) ≡ want → IsAskedOnly want (drop spans.len (take there room) ++ once.0) ⊥ Asks
         → AsksIt tenant_of had old new Asks
     by_wanted (Err status) is asks = absurd asks
     by_wanted (Ok wanted) is (inl none) = absurd none
@@ -113,8 +119,8 @@ found_asks tenant_of had old mid new has text lines spans Unasked Asks room same
       last = closes (head_of found.stands.2.head);
       by = record {
         head = found.stands.2.head;
-        rest = drop spans.len has ++ once.0;
-        begins = found_begins had old mid has once.0 lines spans room found;
+        rest = drop spans.len (take there room) ++ once.0;
+        begins = found_begins had old mid (take there room) once.0 lines spans lined found;
         wanted = wanted;
         wants = is;
         body = body;
@@ -161,21 +167,22 @@ none_there old new tenant_of had has lines room (inl same) = inl same.0
 none_there old new tenant_of had has lines room (inr none) = inr (none_begins tenant_of had lines room none)
 
 -- or one does, and the body behind it is cut
-pub cut_there : {D : Type 0} (old mid new : D) (tenant_of : List ℕ → Option ℕ) (had : List ℕ) (before after : Option (List ℕ)) (has text : List ℕ) (lines : List HeaderSpan)
-    (spans : RequestSpans) → length lines ≡ max_lines → text ≡ take spans.len has → HeadIsFound requests had before after has lines (Whole spans)
-    → ((mid ≡ old) × (has ≡ had)) ⊎ BeginsNot requests had (length lines)
-    → (new ≡ mid) ⊎ IsCutBehind (wanted_of tenant_of (head_in text lines spans)) (drop spans.len has) → (new ≡ old) ⊎ AreTooFew tenant_of had
-cut_there old mid new tenant_of had before after has text lines spans room same found (inr none) read = inr (none_begins tenant_of had (length lines) room none)
-cut_there old mid new tenant_of had before after has text lines spans room same found (inl is) (inl unread) = inl (unread ∙ is.0)
-cut_there old mid new tenant_of had before after has text lines spans room same found (inl is) (inr cut) =
+pub cut_there : {D : Type 0} (old mid new : D) (tenant_of : List ℕ → Option ℕ) (had : List ℕ) (before after : Option (List ℕ)) (room : List ℕ) (there : ℕ) (lines : List HeaderSpan)
+    (spans : RequestSpans) → length lines ≡ max_lines → HeadIsFound requests had before after (take there room) lines (Whole spans)
+    → ((mid ≡ old) × (take there room ≡ had)) ⊎ BeginsNot requests had (length lines)
+    → (new ≡ mid) ⊎ IsCutBehind (wanted_of tenant_of (head_in (take spans.len room) lines spans)) (drop spans.len (take there room)) → (new ≡ old) ⊎ AreTooFew tenant_of had
+cut_there old mid new tenant_of had before after room there lines spans lined found (inr none) read = inr (none_begins tenant_of had (length lines) lined none)
+cut_there old mid new tenant_of had before after room there lines spans lined found (inl is) (inl unread) = inl (unread ∙ is.0)
+cut_there old mid new tenant_of had before after room there lines spans lined found (inl is) (inr cut) =
     let head = found.stands.2.head in
+    let has : List ℕ = take there room in
     let rest : List ℕ = drop spans.len has in
-    let here : BeginsWith (has ++ []) head (rest ++ []) = begins_here has [] lines spans found.stands.0 found.stands.1 room found.stands.2 in
-    let there : BeginsWith has head rest =
+    let here : BeginsWith (has ++ []) head (rest ++ []) = begins_here has [] lines spans found.stands.0 found.stands.1 lined found.stands.2 in
+    let begins : BeginsWith has head rest =
     subst (λ (w : List ℕ). BeginsWith has head w) (append-nil rest) (subst (λ (w : List ℕ). BeginsWith w head (rest ++ [])) (append-nil has) here) in
     inr (inr (
       head,
       rest,
-      subst (λ (w : List ℕ). BeginsWith w head rest) is.1 there,
-      subst (λ (h : Head). IsCutBehind (wanted_of tenant_of h) rest) (found_says had before after has text lines spans same found) cut,
+      subst (λ (w : List ℕ). BeginsWith w head rest) is.1 begins,
+      subst (λ (h : Head). IsCutBehind (wanted_of tenant_of h) rest) (found_says had before after room there lines spans found) cut,
     ))

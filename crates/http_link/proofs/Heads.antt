@@ -10,8 +10,9 @@ use Rattle.std.specs.Io.KnownBytes.{Consumes}
 use Rattle.httparse.specs.declared.spans.HeaderSpan.{HeaderSpan}
 use Rattle.http_link.specs.Limits.{max_head}
 use Rattle.http_link.specs.Grammars.{Grammar, IsGrammar, ends_empty_line}
-use Rattle.http_link.specs.Reading.{BeginsNever, BeginsNone, BeginsNot, GoesOn, StandsIn}
-use Rattle.http_link.specs.declared.grammar.Offered.TheVariants.{Whole}
+use Rattle.http_link.specs.Reading.{BeginsNever, BeginsNone, BeginsNot, GoesOn, Sees, StandsIn}
+use Rattle.http_link.specs.declared.grammar.Offered.{Offered}
+use Rattle.http_link.specs.declared.grammar.Offered.TheVariants.{Partial, Whole}
 
 -- of two fronts of one list the longer one goes on
 goes_on : (a m p r : List ℕ) → a ++ m ≡ p ++ r → length a ≤ length p → (q : List ℕ) × (p ≡ a ++ q) × (m ≡ q ++ r)
@@ -163,15 +164,18 @@ module _ {S : Type 0} (grammar : Grammar S) where
       let long = ap length reads in
       absurd (omega (arith, length-append head rest))
 
-  -- where all that there is was looked at and goes on, no head begins what there was, unless more had come
-  pub none_yet : {D : Type 0} (old now : D) (room had : List ℕ) (there end seen lines other : ℕ) → lines ≡ other → end ≡ there
-      → GoesOn grammar (take seen (take end room)) lines → seen ≡ length (take end room)
-      → ((now ≡ old) × (take there room ≡ had)) ⊎ BeginsNot grammar had other → BeginsNot grammar had other
-  none_yet old now room had there end seen lines other same whole on all (inr none) = none
-  none_yet old now room had there end seen lines other same whole on all (inl is) =
-      let front : take seen (take end room) ≡ take end room = take_all seen (take end room) (omega (arith, all)) in
+  -- where all that there is was seen to go on, no head begins what there was, unless more had come
+  pub none_yet : {D : Type 0} (old now : D) (room had : List ℕ) (there end seen lines before after : ℕ) (spans : List HeaderSpan) (offered : Offered S)
+      → lines ≡ before → before ≡ after → end ≡ there → offered ≡ Partial → Sees grammar (take end room) seen lines spans offered
+      → ((now ≡ old) × (take there room ≡ had)) ⊎ BeginsNot grammar had before → BeginsNot grammar had after
+  none_yet old now room had there end seen lines before after spans offered same other whole partial sees (inr none) =
+      subst (λ n. BeginsNot grammar had n) other none
+  none_yet old now room had there end seen lines before after spans offered same other whole partial sees (inl is) =
+      let on : GoesOn grammar (take seen (take end room)) lines × (seen ≡ length (take end room)) =
+      subst (λ (o : Offered S). Sees grammar (take end room) seen lines spans o) partial sees in
+      let front : take seen (take end room) ≡ take end room = take_all seen (take end room) (omega (arith, on.1)) in
       let parts : take there room ≡ take seen (take end room) ++ [] =
       ap (λ n. take n room) (sym whole) ∙ sym front ∙ sym (append-nil (take seen (take end room))) in
       let long = ap length parts in
-      subst (λ (w : List ℕ). BeginsNot grammar w other) is.1
-      (all_goes_on (take there room) (take seen (take end room)) [] lines other same parts on (omega (arith, length-append (take seen (take end room)) [])))
+      subst (λ (w : List ℕ). BeginsNot grammar w after) is.1
+      (all_goes_on (take there room) (take seen (take end room)) [] lines after (same ∙ other) parts on.0 (omega (arith, length-append (take seen (take end room)) [])))

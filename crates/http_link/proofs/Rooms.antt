@@ -26,6 +26,10 @@ all_used room n le = nothing_left (drop n (take n room)) (omega (arith, length-d
 pub behind_front : (room : List ℕ) (n to : ℕ) → n ≤ to → take (to - n) (drop n room) ≡ drop n (take to room)
 behind_front room n to le = sym (drop-take n (to - n) room) ∙ ap (λ k. drop n (take k room)) (omega arith)
 
+-- and of the back that was split off
+pub left_in_back : (room back : List ℕ) (n to : ℕ) → n ≤ to → back ≡ drop n room → take (to - n) back ≡ drop n (take to room)
+left_in_back room back n to le is = ap (take (to - n)) is ∙ behind_front room n to le
+
 -- what is held, moved to the front
 pub moved_front : (room after : List ℕ) (h : Held) → h.from ≤ h.to → h.to ≤ length room → after ≡ paste room 0 (drop h.from room) (h.to - h.from)
     → take (h.to - h.from) after ≡ held_in room h

@@ -1,5 +1,5 @@
 -- From what is taken and written to what serving a known stream does.
-use Rattle.std.proofs.Common.{◌≡◌, ◌⊎◌, inl, inr, ℕ, List, [], ◌++◌, length, length-drop, take, drop, take-append-drop, refl, sym, ap, subst, ◌∙◌, ◌≤◌, arith, append_assoc, append-nil, take-take, Bool, true, false, Option, Some, None, Result, Ok, Err, IfOk}
+use Rattle.std.proofs.Common.{◌≡◌, ◌⊎◌, inl, inr, ℕ, List, [], ◌++◌, length, length-drop, length-take, take, drop, take-append-drop, refl, sym, ap, subst, ◌∙◌, ◌≤◌, arith, append_assoc, append-nil, take-take, Bool, true, false, Option, Some, None, Result, Ok, Err, IfOk}
 use Rattle.std.proofs.KnownBytes.{Appends-trans, Consumes-nil}
 use Rattle.std.specs.Io.KnownBytes.{Appends, Consumes, IsAtEnd}
 use Rattle.httparse.specs.declared.spans.HeaderSpan.{HeaderSpan}
@@ -172,6 +172,22 @@ found_is said old new has text stream lines spans head rest room all same found 
       front.1 ∙ ap Some one.1,
     )
 
+-- the same of a head at the front of a room, which ends where what is held ends
+pub found_here : (said : Head) (old new : Option (List ℕ)) (room stream : List ℕ) (there : ℕ) (lines : List HeaderSpan) (spans : RequestSpans) (head : RequestHead) (rest : List ℕ)
+    → length lines ≡ max_lines → there ≤ length room → spans.len ≡ there → HeadIsFound requests [] old new (take there room) lines (offered.Whole spans)
+    → said ≡ head_in (take spans.len room) lines spans → old ≡ Some stream → BeginsWith stream head rest → (said ≡ head_of head) × (new ≡ Some rest)
+found_here said old new room stream there lines spans head rest lined within ends found says e begins =
+    found_is said old new (take there room) (take spans.len room) stream lines spans head rest lined (omega (arith, length-take there room))
+    (sym (take-take spans.len there room (omega arith))) found says e begins
+
+-- and where no head begins the stream, none was found
+pub none_here : (old new : Option (List ℕ)) (room stream : List ℕ) (there : ℕ) (lines : List HeaderSpan) (spans : RequestSpans) → length lines ≡ max_lines
+    → there ≤ length room → spans.len ≡ there → HeadIsFound requests [] old new (take there room) lines (offered.Whole spans) → old ≡ Some stream
+    → ((head : RequestHead) (rest : List ℕ) → BeginsWith stream head rest → ⊥) → ⊥
+none_here old new room stream there lines spans lined within ends found e none =
+    let front = found_first old new (take there room) stream lines spans lined (omega (arith, length-take there room)) found e in
+    none found.stands.2.head front.0 front.2
+
 -- what is done with the head that was found is what serving the stream does
 pub head_served : (result : Result Served LinkFault) (tenant_of : List ℕ → Option ℕ) (said : Head) (new left : Option (List ℕ)) (traces : Traces) (head : RequestHead) (rest : List ℕ)
     → traces.left ≡ Some [] → (said ≡ head_of head) × (new ≡ Some rest) → IfOk result (Runs (wanted_of tenant_of said) said [] new left traces)
@@ -308,3 +324,8 @@ pub told_cut : {D : Type 0} (old new : D) (tenant_of : List ℕ → Option ℕ) 
 told_cut old new tenant_of said other had there same_head same_bytes few =
     subst (λ (w : List ℕ). (new ≡ old) ⊎ IsCutBehind (wanted_of tenant_of said) w) same_bytes
     (subst (λ (h : Head). (new ≡ old) ⊎ IsCutBehind (wanted_of tenant_of h) there) same_head few)
+
+-- a head that was read off the front of a room, by its spans
+pub said_front : (said : Head) (text room : List ℕ) (n : ℕ) (lines : List HeaderSpan) (spans : RequestSpans) → said ≡ head_in text lines spans → text ≡ take n room
+    → said ≡ head_in (take n room) lines spans
+said_front said text room n lines spans says front = says ∙ ap (λ (t : List ℕ). head_in t lines spans) front

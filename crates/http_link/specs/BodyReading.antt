@@ -118,13 +118,6 @@ TakesEnd had old new has Right = Takes had old new crlf_bytes has
 TakesEnd had old new has Wrong = (two : List ℕ) × (length two ≡ 2) × (two ≢ crlf_bytes) × Takes had old new two has
 TakesEnd had old new has Short = (taken : List ℕ) × (length taken < 2) × TakesAll had old new taken has
 
--- trailers were taken, no trailers stand there, or the bytes end inside them
-abbrev pub TakesTrailers : List ℕ → Option (List ℕ) → Option (List ℕ) → List ℕ → Checked → Type 0
-TakesTrailers had old new has Right =
-    (text : List ℕ) × IsTrailerText text × (length text ≤ max_head) × Takes had old new text has
-TakesTrailers had old new has Wrong = Makes had old new (BeginsWrong ends_section max_head IsTrailerText)
-TakesTrailers had old new has Short = MakesAll had old new has (BeginsNothing ends_section max_head)
-
 -- what was read, as a body: it stands at the front of the room, and those bytes are left
 abbrev pub body_read : (room has : List ℕ) → BodyRead → Body
 body_read room has (Whole n) = whole (take n room) has

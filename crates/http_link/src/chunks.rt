@@ -1,11 +1,12 @@
 //! Bodies in chunks, decoded in place as they come. (RFC 9112, 7.1)
 
-ghost use Rattle.std.specs.Prelude.{◌≡◌, ◌≢◌, ◌↔◌, ◌⊎◌, ◌+◌, ◌-◌, ◌<◌, ◌≤◌, ◌++◌, length, take, drop, min, Err, IfOk, IsTrue};
+ghost use Rattle.std.specs.Prelude.{◌≡◌, ◌≢◌, ◌↔◌, ◌⊎◌, ◌+◌, ◌-◌, ◌<◌, ◌≤◌, ◌∷◌, ◌++◌, [], length, take, drop, min, Err, IfOk, IsTrue};
+ghost use Rattle.httparse.specs.Ascii.{crlf_bytes};
 ghost use Rattle.http_link.specs.Counts.{Spends};
 ghost use Rattle.http_link.specs.Limits.{max_chunk_line, max_head};
 ghost use Rattle.http_link.specs.Bodies.{BeginsNothing, IsChunked, IsCutShort, cut, ends_line, ends_section};
 ghost use Rattle.http_link.specs.BodyReading.{AreTrailersIn, IsStatedIn, LiesBehind, ReadsAs, ReadsAtMost, ReadsNoFurther};
-ghost use Rattle.http_link.specs.BodyReading.{TakesBytes, TakesChunk, TakesEnd, TakesLast, TakesSize, TakesStep, TakesTrailers};
+ghost use Rattle.http_link.specs.BodyReading.{TakesBytes, TakesChunk, TakesEnd, TakesLast, TakesSize, TakesStep};
 ghost use Rattle.http_link.specs.BodyReading.{ReadsOnlyFor, StepsTo, done_after, no_more};
 ghost use Rattle.http_link.specs.Running.{held_in};
 
@@ -298,13 +299,16 @@ fn read_line_end<R: Source>(
     let Some(second) = next_byte(r, room, intake, done, manner)? else {
         return Ok(Checked::Short);
     };
-    if first != b'\r' {
-        return Ok(Checked::Wrong);
+    if is_line_end(first, second) {
+        return Ok(Checked::Right);
     }
-    if second != b'\n' {
-        return Ok(Checked::Wrong);
-    }
-    Ok(Checked::Right)
+    Ok(Checked::Wrong)
+}
+
+fn is_line_end(first: u8, second: u8) -> bool
+    ensures { IsTrue result ↔ (first ∷ second ∷ [] ≡ crlf_bytes) }
+{
+    first == b'\r' && second == b'\n'
 }
 
 // Reads what stands behind the last chunk: the trailers, which are dropped.
@@ -332,46 +336,16 @@ fn read_end<R: Source>(
     ensures spent { result ≡ Err LinkFault.Turns → intake.new.turns ≡ 0 }
     ensures made { Spends R.was_read r.old r.new intake.old.turns intake.new.turns }
 {
-    match read_trailers(r, room, intake, done, manner)? {
-        Checked::Right => Ok(Step::Over(BodyRead::Whole(done))),
-        Checked::Wrong => Ok(Step::Over(BodyRead::Bad(BodyFault::Malformed))),
-        Checked::Short => Ok(Step::Over(BodyRead::Cut)),
-    }
-}
-
-// Reads trailers and the empty line behind them.
-fn read_trailers<R: Source>(
-    r: &mut R,
-    room: &mut [u8],
-    intake: &mut Intake,
-    done: usize,
-    manner: Manner,
-) -> Result<Checked, LinkFault>
-    requires lies { LiesBehind done room.old intake.old.held }
-    requires unfailed { R.failure_count r.old ≤ manner.before }
-    ensures len { length room.new ≡ length room.old }
-    ensures kept { IfOk result (λ given. take done room.new ≡ take done room.old) }
-    ensures lies { LiesBehind done room.new intake.new.held }
-    ensures taken { IfOk result (TakesTrailers (held_in room.old intake.old.held) (R.remaining r.old) (R.remaining r.new)
-        (held_in room.new intake.new.held)) }
-    ensures at_once { ReadsOnlyFor r.old r.new result (TakesTrailers (held_in room.old intake.old.held) no_more no_more
-        (held_in room.new intake.new.held)) (BeginsNothing ends_section max_head (held_in room.old intake.old.held)) }
-    ensures exact { ReadsNoFurther manner.reach intake.old.held intake.new.held }
-    ensures read { (result ≡ Err LinkFault.Read) ↔ (manner.before < R.failure_count r.new) }
-    ensures write { result ≢ Err LinkFault.Write }
-    ensures spent { result ≡ Err LinkFault.Turns → intake.new.turns ≡ 0 }
-    ensures made { Spends R.was_read r.old r.new intake.old.turns intake.new.turns }
-{
     let mut text = [0u8; MAX_HEAD];
     match read_text(r, room, intake, done, Sought::Section, &mut text, manner)? {
         Text::Found(n) => {
             if are_trailers(&text[..n]) {
-                return Ok(Checked::Right);
+                return Ok(Step::Over(BodyRead::Whole(done)));
             }
-            Ok(Checked::Wrong)
+            Ok(Step::Over(BodyRead::Bad(BodyFault::Malformed)))
         }
-        Text::TooLong => Ok(Checked::Wrong),
-        Text::Ended => Ok(Checked::Short),
+        Text::TooLong => Ok(Step::Over(BodyRead::Bad(BodyFault::Malformed))),
+        Text::Ended => Ok(Step::Over(BodyRead::Cut)),
     }
 }
 

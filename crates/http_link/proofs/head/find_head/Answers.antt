@@ -1,7 +1,7 @@
 use Rattle.std.proofs.Common.{rules, inl, inr, ◌≡◌, ◌+◌, ◌≤◌, ◌++◌, [], List, ℕ, length, take, drop, refl, sym, ap, subst, ◌∙◌, arith, append-nil, length-take, take-take, take_all}
 use Rattle.std.proofs.KnownBytes.{Consumes-nil}
 use Rattle.http_link.specs.Limits.{max_head}
-use Rattle.http_link.specs.Reading.{BeginsNot, GoesOn, Sees, SeesFurther}
+use Rattle.http_link.specs.Reading.{GoesOn, Sees, SeesFurther}
 use Rattle.http_link.specs.declared.grammar.Offered.TheVariants.{Malformed, Partial, Whole}
 use Rattle.std.proofs.lemmas.List.{take-append-le}
 use Rattle.http_link.proofs.Heads.{all_goes_on, looked_at, none_begins_all, none_yet, nothing_goes_on, stands_whole, too_long}
@@ -122,7 +122,8 @@ loop-spans-preserved g c =
           let limit = c.limit-limit.ensures.exact needed in
           let all = sees.1 in
           omega (arith, length-take end room);
-      at_once = inr (none_yet g.H.HeadSpans.grammar c.args.r.now c.loop-spans.r room (take c.args.intake.now.held.to c.args.room.now) had end seen (length c.loop-spans.lines) (length c.args.lines.now) (omega arith) whole sees.0 sees.1 c.loop-spans.invariant.at_once);
+      at_once = inr (none_yet g.H.HeadSpans.grammar c.args.r.now c.loop-spans.r c.loop-spans.room (take c.args.intake.now.held.to c.args.room.now) c.loop-spans.intake.held.to c.min-end.result c.scan.new.seen (length c.loop-spans.lines) (length c.args.lines.now) (length c.args.lines.now) c.scan.new.lines c.scan.result
+          (omega arith) refl (omega arith) c.in-Partial.is c.scan.ensures.sees c.loop-spans.invariant.at_once);
       goes_on = subst (λ (t : List ℕ). GoesOn g.H.HeadSpans.grammar t (length c.scan.new.lines)) (sym same) (subst (λ (room : ℕ). GoesOn g.H.HeadSpans.grammar (take seen (take end c.loop-spans.room)) room) lines sees.0);
       unfailed = search rules;
       made = search rules;
@@ -140,20 +141,10 @@ returns-in-Whole-clause-exact g c needed none =
 
 pub returns-in_err-n-clause-at_once : goal.returns-in_err-n-clause-at_once
 returns-in_err-n-clause-at_once g c =
-    let room : List ℕ = c.loop-spans.room in
-    let lines = c.scan.new.lines in
-    let sees : Sees g.H.HeadSpans.grammar (take c.min-end.result room) c.scan.new.seen (length c.loop-spans.lines) lines Partial = rw c.in-Partial.is at c.scan.ensures.sees in
-    let had : List ℕ = take c.args.intake.now.held.to c.args.room.now in
-    let same : length c.args.lines.now ≡ length lines = omega arith in
-    let none = none_yet g.H.HeadSpans.grammar c.args.r.now c.loop-spans.r room had c.loop-spans.intake.held.to c.min-end.result c.scan.new.seen (length c.loop-spans.lines) (length c.args.lines.now) (omega arith) (omega arith) sees.0 sees.1 c.loop-spans.invariant.at_once in
-    inr (subst (λ n. BeginsNot g.H.HeadSpans.grammar had n) same none)
+    inr (none_yet g.H.HeadSpans.grammar c.args.r.now c.loop-spans.r c.loop-spans.room (take c.args.intake.now.held.to c.args.room.now) c.loop-spans.intake.held.to c.min-end.result c.scan.new.seen (length c.loop-spans.lines) (length c.args.lines.now) (length c.scan.new.lines) c.scan.new.lines c.scan.result
+    (omega arith) (omega arith) (omega arith) c.in-Partial.is c.scan.ensures.sees c.loop-spans.invariant.at_once)
 
 pub returns-then-n-eq0-clause-at_once : goal.returns-then-n-eq0-clause-at_once
 returns-then-n-eq0-clause-at_once g c =
-    let room : List ℕ = c.loop-spans.room in
-    let lines = c.scan.new.lines in
-    let sees : Sees g.H.HeadSpans.grammar (take c.min-end.result room) c.scan.new.seen (length c.loop-spans.lines) lines Partial = rw c.in-Partial.is at c.scan.ensures.sees in
-    let had : List ℕ = take c.args.intake.now.held.to c.args.room.now in
-    let same : length c.args.lines.now ≡ length lines = omega arith in
-    let none = none_yet g.H.HeadSpans.grammar c.args.r.now c.loop-spans.r room had c.loop-spans.intake.held.to c.min-end.result c.scan.new.seen (length c.loop-spans.lines) (length c.args.lines.now) (omega arith) (omega arith) sees.0 sees.1 c.loop-spans.invariant.at_once in
-    inr (subst (λ n. BeginsNot g.H.HeadSpans.grammar had n) same none)
+    inr (none_yet g.H.HeadSpans.grammar c.args.r.now c.loop-spans.r c.loop-spans.room (take c.args.intake.now.held.to c.args.room.now) c.loop-spans.intake.held.to c.min-end.result c.scan.new.seen (length c.loop-spans.lines) (length c.args.lines.now) (length c.scan.new.lines) c.scan.new.lines c.scan.result
+    (omega arith) (omega arith) (omega arith) c.in-Partial.is c.scan.ensures.sees c.loop-spans.invariant.at_once)

@@ -1,7 +1,4 @@
-use Rattle.std.proofs.Common.{List, ℕ, length-take, take, take-take, sym, arith, refl, inr}
-use Rattle.http_link.specs.Grammars.{requests}
-use Rattle.http_link.specs.Reading.{HeadIsFound}
-use Rattle.http_link.specs.declared.grammar.Offered.TheVariants.{Malformed, Partial, Whole}
+use Rattle.std.proofs.Common.{arith, refl, inr}
 use Rattle.http_link.proofs.Connections.{cut_there, found_asks, found_next, none_found, none_there, partial_found}
 use Rattle.http_link.proofs.Counting.{spends_then}
 use Rattle.std.proofs.KnownBytes.{Appends-nil}
@@ -9,43 +6,19 @@ use Rattle.http_link.proofs.inbox.serve_from_front.Goals as goal
 
 pub returns-in-Whole-clause-serves : goal.returns-in-Whole-clause-serves
 returns-in-Whole-clause-serves g c =
-    let room : List ℕ = c.find_head.new.room in
-    let there = c.find_head.new.intake.held.to in
-    let lines = c.find_head.new.lines in
-    let spans = c.in-Whole.spans in
-    let found : HeadIsFound requests (take c.args.intake.now.held.to c.args.room.now) (g.R.Read.remaining c.args.r.now) (g.R.Read.remaining c.find_head.new.r) (take there room) lines (Whole spans) =
-    rw c.in-Whole.is at c.in_ok-find_head.ensures.found in
-    let bound = found.stands.0 in
-    found_next c.serve_found.result (g.S.Service.tenant_of c.args.service.now) _ _ _ _ (take there room) (take spans.len room) lines spans _ (omega arith)
-    (sym (take-take spans.len there room (omega (arith, length-take there room)))) found c.serve_found.ensures.runs
+    found_next c.serve_found.result (g.S.Service.tenant_of c.args.service.now) _ _ _ _ c.find_head.new.room c.find_head.new.intake.held.to c.find_head.new.lines c.in-Whole.spans _ (omega arith) (rw c.in-Whole.is at c.in_ok-find_head.ensures.found) c.serve_found.ensures.runs
 
 pub returns-in-Malformed-clause-serves : goal.returns-in-Malformed-clause-serves
 returns-in-Malformed-clause-serves g c =
-    let has : List ℕ = take c.find_head.new.intake.held.to c.find_head.new.room in
-    let lines = c.find_head.new.lines in
-    let found : HeadIsFound requests (take c.args.intake.now.held.to c.args.room.now) (g.R.Read.remaining c.args.r.now) (g.R.Read.remaining c.find_head.new.r) has lines Malformed =
-    rw c.in-Malformed.is at c.in_ok-find_head.ensures.found in
-    none_found c.refuse.result (g.S.Service.tenant_of c.args.service.now) _ _ _ has lines _ (omega arith) found refl c.refuse.ensures.refused
+    none_found c.refuse.result (g.S.Service.tenant_of c.args.service.now) _ _ _ _ c.find_head.new.lines _ (omega arith) (rw c.in-Malformed.is at c.in_ok-find_head.ensures.found) refl c.refuse.ensures.refused
 
 pub returns-in-Whole-clause-asks : goal.returns-in-Whole-clause-asks
 returns-in-Whole-clause-asks g c =
-    let room : List ℕ = c.find_head.new.room in
-    let there = c.find_head.new.intake.held.to in
-    let lines = c.find_head.new.lines in
-    let spans = c.in-Whole.spans in
-    let found : HeadIsFound requests (take c.args.intake.now.held.to c.args.room.now) (g.R.Read.remaining c.args.r.now) (g.R.Read.remaining c.find_head.new.r) (take there room) lines (Whole spans) =
-    rw c.in-Whole.is at c.in_ok-find_head.ensures.found in
-    let bound = found.stands.0 in
-    found_asks (g.S.Service.tenant_of c.args.service.now) _ _ _ _ (take there room) (take spans.len room) lines spans _ _ (omega arith)
-    (sym (take-take spans.len there room (omega (arith, length-take there room)))) found c.serve_found.ensures.asks
+    found_asks (g.S.Service.tenant_of c.args.service.now) _ _ _ _ c.find_head.new.room c.find_head.new.intake.held.to c.find_head.new.lines c.in-Whole.spans _ _ (omega arith) (rw c.in-Whole.is at c.in_ok-find_head.ensures.found) c.serve_found.ensures.asks
 
 pub returns-in-Partial-clause-serves : goal.returns-in-Partial-clause-serves
 returns-in-Partial-clause-serves g c =
-    let has : List ℕ = take c.find_head.new.intake.held.to c.find_head.new.room in
-    let lines = c.find_head.new.lines in
-    let found : HeadIsFound requests (take c.args.intake.now.held.to c.args.room.now) (g.R.Read.remaining c.args.r.now) (g.R.Read.remaining c.find_head.new.r) has lines Partial =
-    rw c.in-Partial.is at c.in_ok-find_head.ensures.found in
-    partial_found (g.S.Service.tenant_of c.args.service.now) _ _ _ has lines _ (omega arith) found refl (Appends-nil (g.W.Write.contents c.args.w.now))
+    partial_found (g.S.Service.tenant_of c.args.service.now) _ _ _ _ c.find_head.new.lines _ (omega arith) (rw c.in-Partial.is at c.in_ok-find_head.ensures.found) refl (Appends-nil (g.W.Write.contents c.args.w.now))
 
 pub returns-in-Malformed-clause-turns : goal.returns-in-Malformed-clause-turns
 returns-in-Malformed-clause-turns g c told = inr (c.refuse.ensures.turns told)
@@ -66,12 +39,5 @@ returns-in-Malformed-clause-at_once g c = none_there _ _ (g.S.Service.tenant_of 
 
 pub returns-in-Whole-clause-at_once : goal.returns-in-Whole-clause-at_once
 returns-in-Whole-clause-at_once g c =
-    let room : List ℕ = c.find_head.new.room in
-    let there = c.find_head.new.intake.held.to in
-    let lines = c.find_head.new.lines in
-    let spans = c.in-Whole.spans in
-    let found : HeadIsFound requests (take c.args.intake.now.held.to c.args.room.now) (g.R.Read.remaining c.args.r.now) (g.R.Read.remaining c.find_head.new.r) (take there room) lines (Whole spans) =
-    rw c.in-Whole.is at c.in_ok-find_head.ensures.found in
-    let bound = found.stands.0 in
-    cut_there c.args.r.now c.find_head.new.r c.serve_found.new.r (g.S.Service.tenant_of c.args.service.now) _ _ _ (take there room) (take spans.len room) lines spans (omega arith)
-    (sym (take-take spans.len there room (omega (arith, length-take there room)))) found c.find_head.ensures.at_once c.serve_found.ensures.at_once
+    cut_there c.args.r.now c.find_head.new.r c.serve_found.new.r (g.S.Service.tenant_of c.args.service.now) _ _ _ c.find_head.new.room c.find_head.new.intake.held.to c.find_head.new.lines c.in-Whole.spans (omega arith) (rw c.in-Whole.is at c.in_ok-find_head.ensures.found) c.find_head.ensures.at_once
+    c.serve_found.ensures.at_once

@@ -1,64 +1,39 @@
-use Rattle.std.proofs.Common.{◌≡◌, [], List, ℕ, Some, ap, sym, refl, length-take, take, take-take, arith, rules, inl, inr}
+use Rattle.std.proofs.Common.{◌≡◌, [], Some, ap, refl, arith, rules, inl, inr}
 use Rattle.http_link.specs.Limits.{max_turns}
 use Rattle.http_link.proofs.Takes.{none_held}
 use Rattle.http_link.specs.Lines.{head_at}
 use Rattle.http_link.specs.Requests.{wanted_of}
-use Rattle.http_link.specs.Grammars.{requests}
-use Rattle.http_link.specs.Reading.{EndsAt, HeadIsFound}
-use Rattle.http_link.specs.declared.grammar.Offered.TheVariants.{Malformed, Partial, Whole}
-use Rattle.http_link.proofs.Serving.{asks_once, found_first, found_is, head_asked, head_served, malformed_first, partial_first}
+use Rattle.http_link.proofs.Serving.{asks_once, found_here, head_asked, head_served, malformed_first, none_here, partial_first}
 use Rattle.http_link.proofs.Counting.{spent_all, spent_in_two}
 use Rattle.http_link.proofs.serve.serve_one.Goals as goal
 
 pub returns-in-Partial-clause-exact : goal.returns-in-Partial-clause-exact
 returns-in-Partial-clause-exact g c stream head rest e begins =
-    let has : List ℕ = take c.find_head.new.intake.held.to c.find_head.new.room in
-    let lines = c.find_head.new.lines in
-    let found : HeadIsFound requests [] (g.R.Read.remaining c.args.r.now) (g.R.Read.remaining c.find_head.new.r) has lines Partial = rw c.in-Partial.is at c.in_ok-find_head.ensures.found in
-    absurd (partial_first _ _ has stream lines head rest (omega arith) found e begins)
+    absurd (partial_first _ _ _ stream c.find_head.new.lines head rest (omega arith) (rw c.in-Partial.is at c.in_ok-find_head.ensures.found) e begins)
 
 pub returns-in-Malformed-clause-exact : goal.returns-in-Malformed-clause-exact
 returns-in-Malformed-clause-exact g c stream head rest e begins =
-    let has : List ℕ = take c.find_head.new.intake.held.to c.find_head.new.room in
-    let lines = c.find_head.new.lines in
-    let found : HeadIsFound requests [] (g.R.Read.remaining c.args.r.now) (g.R.Read.remaining c.find_head.new.r) has lines Malformed = rw c.in-Malformed.is at c.in_ok-find_head.ensures.found in
-    absurd (malformed_first _ _ has stream lines head rest (omega arith) found e begins)
+    absurd (malformed_first _ _ _ stream c.find_head.new.lines head rest (omega arith) (rw c.in-Malformed.is at c.in_ok-find_head.ensures.found) e begins)
 
 pub returns-in-Whole-clause-exact : goal.returns-in-Whole-clause-exact
 returns-in-Whole-clause-exact g c stream head rest e begins =
-    let room : List ℕ = c.find_head.new.room in
-    let there = c.find_head.new.intake.held.to in
-    let lines = c.find_head.new.lines in
-    let spans = c.in-Whole.spans in
-    let found : HeadIsFound requests [] (g.R.Read.remaining c.args.r.now) (g.R.Read.remaining c.find_head.new.r) (take there room) lines (Whole spans) = rw c.in-Whole.is at c.in_ok-find_head.ensures.found in
-    let ends : EndsAt requests there (Whole spans) = rw c.in-Whole.is at c.in_ok-find_head.ensures.exact c.one-before.ensures.reach refl in
     head_served c.serve_head.result (g.S.Service.tenant_of c.args.service.now) (head_at c.head_in-head.result) (g.R.Read.remaining c.find_head.new.r) (g.R.Read.remaining c.serve_head.new.r) _ head rest
     (ap Some (none_held c.serve_head.new.room c.serve_head.new.intake.held (c.serve_head.ensures.no_further c.one-before.ensures.reach (omega arith))))
-    (found_is (head_at c.head_in-head.result) _ _ (take there room) (take spans.len room) stream lines spans head rest
-    (omega arith) (omega (arith, length-take there room)) (sym (take-take spans.len there room (omega arith))) found c.head_in-head.ensures e begins) c.serve_head.ensures.runs
+    (found_here (head_at c.head_in-head.result) _ _ c.find_head.new.room stream c.find_head.new.intake.held.to c.find_head.new.lines c.in-Whole.spans head rest (omega arith) c.find_head.ensures.there
+    (rw c.in-Whole.is at c.in_ok-find_head.ensures.exact c.one-before.ensures.reach refl) (rw c.in-Whole.is at c.in_ok-find_head.ensures.found)
+    c.head_in-head.ensures e begins) c.serve_head.ensures.runs
 
 pub returns-in-Whole-clause-asked_only : goal.returns-in-Whole-clause-asked_only
 returns-in-Whole-clause-asked_only g c stream head rest e begins =
-    let room : List ℕ = c.find_head.new.room in
-    let there = c.find_head.new.intake.held.to in
-    let lines = c.find_head.new.lines in
-    let spans = c.in-Whole.spans in
-    let found : HeadIsFound requests [] (g.R.Read.remaining c.args.r.now) (g.R.Read.remaining c.find_head.new.r) (take there room) lines (Whole spans) = rw c.in-Whole.is at c.in_ok-find_head.ensures.found in
-    let ends : EndsAt requests there (Whole spans) = rw c.in-Whole.is at c.in_ok-find_head.ensures.exact c.one-before.ensures.reach refl in
     head_asked (g.S.Service.tenant_of c.args.service.now) (head_at c.head_in-head.result) (g.R.Read.remaining c.find_head.new.r) (g.R.Read.remaining c.serve_head.new.r) _ _ head rest
-    (found_is (head_at c.head_in-head.result) _ _ (take there room) (take spans.len room) stream lines spans head rest
-    (omega arith) (omega (arith, length-take there room)) (sym (take-take spans.len there room (omega arith))) found c.head_in-head.ensures e begins) c.serve_head.ensures.asks
+    (found_here (head_at c.head_in-head.result) _ _ c.find_head.new.room stream c.find_head.new.intake.held.to c.find_head.new.lines c.in-Whole.spans head rest (omega arith) c.find_head.ensures.there
+    (rw c.in-Whole.is at c.in_ok-find_head.ensures.exact c.one-before.ensures.reach refl) (rw c.in-Whole.is at c.in_ok-find_head.ensures.found)
+    c.head_in-head.ensures e begins) c.serve_head.ensures.asks
 
 pub returns-in-Whole-clause-turned_away : goal.returns-in-Whole-clause-turned_away
 returns-in-Whole-clause-turned_away g c stream e none =
-    let room : List ℕ = c.find_head.new.room in
-    let there = c.find_head.new.intake.held.to in
-    let lines = c.find_head.new.lines in
-    let spans = c.in-Whole.spans in
-    let found : HeadIsFound requests [] (g.R.Read.remaining c.args.r.now) (g.R.Read.remaining c.find_head.new.r) (take there room) lines (Whole spans) = rw c.in-Whole.is at c.in_ok-find_head.ensures.found in
-    let ends : EndsAt requests there (Whole spans) = rw c.in-Whole.is at c.in_ok-find_head.ensures.exact c.one-before.ensures.reach refl in
-    let front = found_first _ _ (take there room) stream lines spans (omega arith) (omega (arith, length-take there room)) found e in
-    absurd (none found.stands.2.head front.0 front.2)
+    absurd (none_here _ _ c.find_head.new.room stream c.find_head.new.intake.held.to c.find_head.new.lines c.in-Whole.spans (omega arith) c.find_head.ensures.there
+    (rw c.in-Whole.is at c.in_ok-find_head.ensures.exact c.one-before.ensures.reach refl) (rw c.in-Whole.is at c.in_ok-find_head.ensures.found) e none)
 
 pub returns-in-Whole-clause-asked_once : goal.returns-in-Whole-clause-asked_once
 returns-in-Whole-clause-asked_once g c =
