@@ -1,4 +1,4 @@
-use Rattle.std.proofs.Common.{[], refl, arith, ap, length}
+use Rattle.std.proofs.Common.{[], refl, arith}
 use Rattle.floor_core.specs.FloorView.{world_of}
 use Rattle.replay_text.proofs.Pieces.{prints_one}
 use Rattle.replay_text.proofs.replays.run_step.Goals as goal
