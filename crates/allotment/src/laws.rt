@@ -24,7 +24,8 @@ pub fn told_as_alone()
 {}
 
 /// What a tenant gives back that used no more than its share is for itself: nobody else gets a place that got none
-/// before. So who wakes the tenant's own threads alone forgets no other.
+/// before. So who wakes the tenant's own threads alone forgets no other. Each lending's loans are covered
+/// (`Lending::is_queue`).
 pub fn given_to_itself()
     ensures { (tenant other : ℕ) (loans : Loans) → tenant < length loans.used → 0 < used_by tenant loans
         → used_by tenant loans ≤ loans.share → IsCovered loans → other ≢ tenant
@@ -32,14 +33,14 @@ pub fn given_to_itself()
 {}
 
 /// A tenant that waits comes nearer to its turn each time that a place which anyone may have is kept for another. So it is
-/// passed over fewer times than there are tenants.
+/// passed over fewer times than there are tenants. Each lending is such a queue (`Lending::is_queue`).
 pub fn nearer_each_time()
     ensures { (tenant next other : ℕ) (before after : Queued) → IsQueue before → before.loans.share < used_by tenant before.loans
         → CameBack tenant before (Some next) after → IsNextInTurn next before → 0 < waiting_of other before → other ≢ next
         → steps_to other after < steps_to other before }
 {}
 
-/// The tenant for which such a place is kept comes last from then on.
+/// The tenant for which such a place is kept comes last from then on. Each lending is such a queue (`Lending::is_queue`).
 pub fn last_from_then_on()
     ensures { (tenant next other : ℕ) (before after : Queued) → IsQueue before → before.loans.share < used_by tenant before.loans
         → CameBack tenant before (Some next) after → other < length before.loans.used → other ≢ next

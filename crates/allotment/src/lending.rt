@@ -50,7 +50,7 @@ impl Model for Lending {
 
 impl Lending {
     ghost use Rattle.std.specs.Prelude.{◌≡◌, ◌↔◌, ◌<◌, ◌≤◌, ℕ, length, true, false, nat_lt, replicate, IfNone, IfOk, IfSome, IsTrue, if◌then◌else◌};
-    ghost use Rattle.allotment.specs.Loans.{max_places, max_tenants, given_back_by, is_granted, share_of, used_by};
+    ghost use Rattle.allotment.specs.Loans.{IsCovered, max_places, max_tenants, given_back_by, is_granted, share_of, used_by};
     ghost use Rattle.allotment.specs.WaitsKept.{IsQueue};
     ghost use Rattle.allotment.specs.Waits.{CameBack, IsNextInTurn, NobodyWaitsInVain, asked_for, given_up_by, kept_for, picked_up_by, waiting_of};
 
@@ -95,11 +95,14 @@ impl Lending {
         self.loans.share()
     }
 
-    /// What holds of every lending, as the laws ask for it: no more wait than may, and nobody who could have a place.
+    /// What holds of every lending, as the laws ask for it: no more wait than may, and nobody who could have a place; and what
+    /// is free covers what is owed.
     pub fn is_queue(&self)
-        ensures { IsQueue self.now }
+        ensures queue { IsQueue self.now }
+        ensures covered { IsCovered self.now.loans }
     {
         let _turn = self.turn;
+        self.loans.share();
     }
 
     /// How many places the tenant uses, those that are kept for one of it that waited included.
