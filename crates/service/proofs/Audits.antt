@@ -3,11 +3,12 @@ use Rattle.std.proofs.Common.{◌≡◌, ℕ, zero, suc, ◌+◌, List, [], ◌�
 use Rattle.std.proofs.lemmas.List.{map-append}
 use Rattle.std.proofs.lemmas.List.Elements.{All-push}
 use Rattle.books_shared.specs.Shares.{ShareView, receipts_told}
+use Rattle.workers.specs.Carrying.{Circumstances}
 use Rattle.service.specs.Auditing.{HaveRolled, WasRolled, lists_of}
 
-pub rolled_next : (Gives : ℕ → Type 0) (n : ℕ) (before between after : ShareView) → HaveRolled Gives n before between
-    → WasRolled Gives n between after → HaveRolled Gives (n + 1) before after
-rolled_next Gives n before between after rolled was = rw add-one (between, rolled, was)
+pub rolled_next : (under : Circumstances) (n : ℕ) (before between after : ShareView) → HaveRolled under n before between
+    → WasRolled under n between after → HaveRolled under (n + 1) before after
+rolled_next under n before between after rolled was = rw add-one (between, rolled, was)
 
 -- the first so many, and one more
 taken_next : {X : Type 0} (xs : List X) (i : ℕ) (x : X) → slice_get xs i ≡ Some x → take (suc i) xs ≡ take i xs ++ x ∷ []

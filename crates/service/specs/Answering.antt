@@ -20,7 +20,7 @@ use Rattle.one_list.specs.declared.run.Run.{Ghosts}
 use Rattle.books_shared.specs.Shares.{ShareView, fresh, is_spent}
 use Rattle.books_shared.specs.Traced.{HaveListOf, openings_of}
 use Rattle.floor_core.specs.Work.{loaded}
-use Rattle.workers.specs.Carrying.{IsCarried, IsDone, growth}
+use Rattle.workers.specs.Carrying.{IsCarried, IsDone, circumstances, growth}
 use Rattle.workers.specs.Counting.{IsSpent, command_kind, reply_tallied, tallied}
 use Rattle.workers.specs.Replies.{code_of, sends_of, status_of}
 use Rattle.workers.specs.declared.governing.GovernFault.{GovernFault}
@@ -63,7 +63,7 @@ pub record IsUntouched {J : Type 0} {r : Ghosts J} (before after : Desk J r) : T
 -- books' share has grown by each call of the book: it counts what the book did, and each record that the book made is the next
 -- step of the worker's part of the one list; no other step came to that part. A token that is none and a frame that is no Prepare get no further, and nothing does where
 -- no more may be counted or sent, nor, in an audited run, where memory for receipts was refused. Books were asked at moments
--- that the clock gave.
+-- that the clock gave, and steps led to them from the run's openings.
 pub record WasCarried {J : Type 0} {r : Ghosts J} (Gives : ℕ → Type 0) (before : Desk J r) (tenant : ℕ) (token frame : List ℕ) (told : Status)
     (after : Desk J r) : Type 0 where
   pub reply : Reply
@@ -74,8 +74,8 @@ pub record WasCarried {J : Type 0} {r : Ghosts J} (Gives : ℕ → Type 0) (befo
       × IsSpent before.share before.sent
   pub memory : reply ≡ replies.Memory → before.share.audited ≡ true
   pub sent : after.sent ≡ before.sent + sends_of reply
-  pub carried : IsCarried Gives reply (growth tenant before.share after.share) (loaded before.slot tenant token frame) after.slot
-      (λ sending. Unit {0})
+  pub carried : IsCarried (circumstances r.openings Gives) reply (growth tenant before.share after.share)
+      (loaded before.slot tenant token frame) after.slot (λ sending. Unit {0})
   pub metered : after.seat ≡ reply_tallied tenant reply before.seat
 
 -- ---- a command
@@ -102,13 +102,13 @@ IsTold office tenant (Err (Refused fault)) told printed = IsPrinted office tenan
 -- A command was done, or refused, by the book of the tenant, counted at the meters, and told. The books' share has grown by
 -- it: the record that the book made is the next step of the worker's part of the one list, and no other step came to it. No
 -- book was asked where no more may be counted, nor, in an audited run, where memory for the receipt was refused; and else one
--- was, at a moment that the clock gave.
+-- was, at a moment that the clock gave, to which steps led from the run's openings.
 pub record WasGoverned {J : Type 0} {r : Ghosts J} (Gives : ℕ → Type 0) (office : Office J r) (before : Desk J r) (tenant : ℕ) (given : Command) (told : Status)
     (after : Desk J r) : Type 0 where
   pub answer : Result Answered GovernFault
   pub spent : answer ≡ Err Spent ↔ is_spent before.share ≡ true
   pub memory : answer ≡ Err govern.Memory → before.share.audited ≡ true
-  pub done : IsDone Gives answer (growth tenant before.share after.share) given
+  pub done : IsDone (circumstances r.openings Gives) answer (growth tenant before.share after.share) given
   pub metered : after.seat ≡ tallied tenant (command_kind answer) before.seat
   pub slot : after.slot ≡ before.slot
   pub sent : after.sent ≡ before.sent
@@ -254,7 +254,7 @@ pub record HasToldCountsIn {J : Type 0} (run : Ghosts J) (Gives : ℕ → Type 0
   pub worked : List ShareView
   pub counted : HaveCounted Gives office workers worked (λ tenant kind. total_of tenant kind totals)
   pub shares : List ShareView
-  pub ended : HaveEnded Gives report.audit (length setup.tenants) worked shares
+  pub ended : HaveEnded (circumstances run.openings Gives) report.audit (length setup.tenants) worked shares
   pub books : List (State × ℕ)
   pub audit : List ℕ
   pub audited : IsAudited report.audit shares audit

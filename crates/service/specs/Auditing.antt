@@ -8,27 +8,27 @@ use Rattle.receipts.specs.Audits.{IsComplete, receipts_of}
 use Rattle.receipts.specs.Runs.{AreOfRun}
 use Rattle.receipts.specs.declared.receipt.Receipt.{Receipt}
 use Rattle.books_shared.specs.Shares.{ShareView, receipts_told}
-use Rattle.workers.specs.Carrying.{IsDone, growth}
+use Rattle.workers.specs.Carrying.{Circumstances, IsDone, growth}
 use Rattle.workers.specs.declared.governing.GovernFault.{GovernFault}
 
 -- ---- the last periods
 
 -- a worker's share after a roll of that tenant, whatever it was answered
-abbrev pub WasRolled : (Gives : ℕ → Type 0) → (tenant : ℕ) → (before after : ShareView) → Type 0
-WasRolled Gives tenant before after =
-    (answer : Result Answered GovernFault) × IsDone Gives answer (growth tenant before after) Roll
+abbrev pub WasRolled : (under : Circumstances) → (tenant : ℕ) → (before after : ShareView) → Type 0
+WasRolled under tenant before after =
+    (answer : Result Answered GovernFault) × IsDone under answer (growth tenant before after) Roll
 
 -- a worker's share after a roll of each tenant below a number, one after another
-abbrev pub HaveRolled : (Gives : ℕ → Type 0) → (tenants : ℕ) → (before after : ShareView) → Type 0
-HaveRolled Gives zero before after = after ≡ before
-HaveRolled Gives (suc n) before after = (between : ShareView) × HaveRolled Gives n before between × WasRolled Gives n between after
+abbrev pub HaveRolled : (under : Circumstances) → (tenants : ℕ) → (before after : ShareView) → Type 0
+HaveRolled under zero before after = after ≡ before
+HaveRolled under (suc n) before after = (between : ShareView) × HaveRolled under n before between × WasRolled under n between after
 
 -- the shares in the end: where the run is audited, one worker has rolled all tenants, and else nothing more was done
-abbrev pub HaveEnded : (Gives : ℕ → Type 0) → (audited : Bool) → (tenants : ℕ) → (before after : List ShareView) → Type 0
-HaveEnded Gives false tenants before after = after ≡ before
-HaveEnded Gives true tenants before after =
+abbrev pub HaveEnded : (under : Circumstances) → (audited : Bool) → (tenants : ℕ) → (before after : List ShareView) → Type 0
+HaveEnded under false tenants before after = after ≡ before
+HaveEnded under true tenants before after =
     (rest : List ShareView) × (first : ShareView) × (last : ShareView) × (before ≡ rest ++ first ∷ []) × (after ≡ rest ++ last ∷ [])
-    × HaveRolled Gives tenants first last
+    × HaveRolled under tenants first last
 
 -- ---- the audit
 

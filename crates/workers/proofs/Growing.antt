@@ -7,11 +7,12 @@ use Rattle.tenant_core.specs.declared.journal.Record.{Record}
 use Rattle.floor_core.specs.Work.{Called, Work}
 use Rattle.floor_core.specs.declared.parts.Turn.{Turn}
 use Rattle.one_list.specs.Steps.{Place, next_place}
+use Rattle.one_list.specs.declared.step.Done.{Done}
 use Rattle.books_shared.specs.Rises.{nothing, rise_of}
 use Rattle.books_shared.specs.Shares.{ShareView, added}
-use Rattle.books_shared.specs.Traced.{counted}
+use Rattle.books_shared.specs.Traced.{IsLedTo, counted}
 use Rattle.books_shared.specs.declared.rise.Rise.{Rise}
-use Rattle.workers.specs.Carrying.{AreAlike, Growth, HasGrown, IsSame, WasCalled, growth}
+use Rattle.workers.specs.Carrying.{AreAlike, Circumstances, Growth, HasGrown, IsSame, WasCalled, growth}
 
 -- ---- a call
 
@@ -21,11 +22,11 @@ pub counted_grows : (rise : Rise) (at : Place) (made : Option Record) (t : ℕ) 
 counted_grows rise at made t before after e = rw e refl
 
 -- a call under a lock
-pub was_called : {Gives : ℕ → Type 0} (call : State → ℕ → Called) (t : ℕ) (s : State) (now : ℕ) (told : Turn) (left : Work) (before after : ShareView)
-    → IsSound s → Gives now → s.opening.tenant ≡ t → told ≡ (call s now).turn → left ≡ (call s now).work
-    → after ≡ counted (rise_of (call s now)) (next_place s) (call s now).made before → WasCalled Gives (growth t before after) call told left
-was_called call t s now told left before after sound gave own turned worked counted = record {
-  found = record { book = s; now = now; sound = sound; gave = gave };
+pub was_called : {under : Circumstances} (call : State → ℕ → Called) (t : ℕ) (s : State) (steps : List Done) (now : ℕ) (told : Turn) (left : Work) (before after : ShareView)
+    → IsSound s → IsLedTo under.openings s steps → under.Gives now → s.opening.tenant ≡ t → told ≡ (call s now).turn → left ≡ (call s now).work
+    → after ≡ counted (rise_of (call s now)) (next_place s) (call s now).made before → WasCalled under (growth t before after) call told left
+was_called call t s steps now told left before after sound led gave own turned worked counted = record {
+  found = record { book = s; steps = steps; now = now; sound = sound; led = led; gave = gave };
   own = own;
   told = sym turned;
   left = worked;
@@ -59,8 +60,8 @@ pub grew_roomy : (rise : Rise) (at : Place) (made : Option Record) (t : ℕ) (s 
     → HasGrown rise at made (growth t roomy after) → HasGrown rise at made (growth t s after)
 grew_roomy rise at made t s roomy after is grew = subst (λ (r : ShareView). HasGrown rise at made (growth t r after)) is grew
 
-pub called_roomy : {Gives : ℕ → Type 0} (call : State → ℕ → Called) (t : ℕ) (told : Turn) (left : Work) (s roomy after : ShareView) → roomy ≡ record s { room = 2 }
-    → WasCalled Gives (growth t roomy after) call told left → WasCalled Gives (growth t s after) call told left
+pub called_roomy : {under : Circumstances} (call : State → ℕ → Called) (t : ℕ) (told : Turn) (left : Work) (s roomy after : ShareView) → roomy ≡ record s { room = 2 }
+    → WasCalled under (growth t roomy after) call told left → WasCalled under (growth t s after) call told left
 called_roomy call t told left s roomy after is h = record {
   found = h.found;
   own = h.own;

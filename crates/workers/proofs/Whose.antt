@@ -26,62 +26,62 @@ use Rattle.books_shared.specs.Rises.{rise_of}
 use Rattle.books_shared.specs.Turns.{IsLoaded}
 use Rattle.workers.specs.declared.governing.GovernFault.{GovernFault}
 use Rattle.workers.specs.declared.governing.GovernFault.TheVariants.{Refused}
-use Rattle.workers.specs.Carrying.{Growth, HasGrown, IsAnswered, IsDecided, IsDone, WasCalled, WasCommanded, WasMissed, answer_with}
+use Rattle.workers.specs.Carrying.{Circumstances, Growth, HasGrown, IsAnswered, IsDecided, IsDone, WasCalled, WasCommanded, WasMissed, answer_with}
 use Rattle.workers.proofs.Growing.{grew_nothing}
 
 -- ---- a decide
 
 -- a decide that was answered with that turn has decided
-abbrev Decides : (Gives : ℕ → Type 0) → Growth → (w left : Work) → Turn → Type 0
-Decides Gives g w left told = WasCalled Gives g (decide_call w) told left → IsDecided Gives told g w left
+abbrev Decides : (under : Circumstances) → Growth → (w left : Work) → Turn → Type 0
+Decides under g w left told = WasCalled under g (decide_call w) told left → IsDecided under told g w left
 
-by_verdict : {Gives : ℕ → Type 0} (v : Verdict) (s : State) (t : ℕ) (token : List ℕ) (p : Prepare) (room : List ℕ) (made : Option Record) (g : Growth) (w left : Work)
-    → Decides Gives g w left (verdict_call s t token p room made v).turn
-by_verdict {Gives} Unknown s t token p room made g w left = λ h. h
-by_verdict {Gives} NoRoom s t token p room made g w left = λ h. h
-by_verdict {Gives} (Refuse code amounts) s t token p room made g w left = λ h. h
-by_verdict {Gives} Fulfil s t token p room made g w left = λ h. h
-by_verdict {Gives} (Forward hold peer amount expiry) s t token p room made g w left = λ h. h
-by_verdict {Gives} Relay s t token p room made g w left = λ h. h
+by_verdict : {under : Circumstances} (v : Verdict) (s : State) (t : ℕ) (token : List ℕ) (p : Prepare) (room : List ℕ) (made : Option Record) (g : Growth) (w left : Work)
+    → Decides under g w left (verdict_call s t token p room made v).turn
+by_verdict {under} Unknown s t token p room made g w left = λ h. h
+by_verdict {under} NoRoom s t token p room made g w left = λ h. h
+by_verdict {under} (Refuse code amounts) s t token p room made g w left = λ h. h
+by_verdict {under} Fulfil s t token p room made g w left = λ h. h
+by_verdict {under} (Forward hold peer amount expiry) s t token p room made g w left = λ h. h
+by_verdict {under} Relay s t token p room made g w left = λ h. h
 
-by_frame : {Gives : ℕ → Type 0} (r : Result Prepare ViewFault) (s : State) (t : ℕ) (token : List ℕ) (now : ℕ) (g : Growth) (w left : Work) → is_ok r ≡ true
-    → Decides Gives g w left (frame_call w s t token r now).turn
-by_frame {Gives} (Ok p) s t token now g w left good =
+by_frame : {under : Circumstances} (r : Result Prepare ViewFault) (s : State) (t : ℕ) (token : List ℕ) (now : ℕ) (g : Growth) (w left : Work) → is_ok r ≡ true
+    → Decides under g w left (frame_call w s t token r now).turn
+by_frame {under} (Ok p) s t token now g w left good =
     by_verdict (judge s token (key_in p) now) s t token p w.room (decide_made s token (key_in p) now) g w left
-by_frame {Gives} (Err fault) s t token now g w left good = absurd cc
+by_frame {under} (Err fault) s t token now g w left good = absurd cc
 
-by_job : {Gives : ℕ → Type 0} (job : Job) (s : State) (now : ℕ) (g : Growth) (w left : Work) → s.opening.tenant ≡ g.owner → IsLoaded job → IsReadable job
-    → tenant_in job ≡ Some g.owner → Decides Gives g w left (job_decided job w s now).turn
-by_job {Gives} Job.NoJob s now g w left own loaded readable of = absurd loaded
-by_job {Gives} (Job.Waits tenant hold frame) s now g w left own loaded readable of = absurd loaded
-by_job {Gives} (Job.Carries tenant token frame) s now g w left own loaded readable of = by (eqb s.opening.tenant tenant) refl
+by_job : {under : Circumstances} (job : Job) (s : State) (now : ℕ) (g : Growth) (w left : Work) → s.opening.tenant ≡ g.owner → IsLoaded job → IsReadable job
+    → tenant_in job ≡ Some g.owner → Decides under g w left (job_decided job w s now).turn
+by_job {under} Job.NoJob s now g w left own loaded readable of = absurd loaded
+by_job {under} (Job.Waits tenant hold frame) s now g w left own loaded readable of = absurd loaded
+by_job {under} (Job.Carries tenant token frame) s now g w left own loaded readable of = by (eqb s.opening.tenant tenant) refl
   where
     same : s.opening.tenant ≡ tenant
     same = cc
 
     by : (e : Bool) → eqb s.opening.tenant tenant ≡ e
-        → Decides Gives g w left (cond e (frame_call w s tenant token (prepare_at frame) now) (only turns.Stray w)).turn
+        → Decides under g w left (cond e (frame_call w s tenant token (prepare_at frame) now) (only turns.Stray w)).turn
     by true is = by_frame (prepare_at frame) s tenant token now g w left readable
     by false is = absurd (eqb-false s.opening.tenant tenant is same)
 
 -- what a decide came to
-pub is_decided : {Gives : ℕ → Type 0} (told : Turn) (g : Growth) (w left : Work) → IsLoaded w.job → IsReadable w.job → tenant_in w.job ≡ Some g.owner
-    → WasCalled Gives g (decide_call w) told left → IsDecided Gives told g w left
-is_decided {Gives} told g w left loaded readable of h =
-    subst (λ (u : Turn). Decides Gives g w left u) h.told (by_job w.job h.found.book h.found.now g w left h.own loaded readable of) h
+pub is_decided : {under : Circumstances} (told : Turn) (g : Growth) (w left : Work) → IsLoaded w.job → IsReadable w.job → tenant_in w.job ≡ Some g.owner
+    → WasCalled under g (decide_call w) told left → IsDecided under told g w left
+is_decided {under} told g w left loaded readable of h =
+    subst (λ (u : Turn). Decides under g w left u) h.told (by_job w.job h.found.book h.found.now g w left h.own loaded readable of) h
 
 -- ---- an answer
 
 -- an answer to a hold of the tenant's book: where there is no such hold, nothing is counted
-by_result : {Gives : ℕ → Type 0} (r : Result Verdict HoldFault) (made : Option Record) (told : Turn) (g : Growth) (w left : Work) (came : Got)
-    (h : WasCalled Gives g (answer_with w came) told left)
-    → answer_with w came h.found.book h.found.now ≡ settled_call w h.found.book (given_by w.room came) made r → IsAnswered Gives told g came w left
-by_result {Gives} (Ok v) made told g w left came h call =
+by_result : {under : Circumstances} (r : Result Verdict HoldFault) (made : Option Record) (told : Turn) (g : Growth) (w left : Work) (came : Got)
+    (h : WasCalled under g (answer_with w came) told left)
+    → answer_with w came h.found.book h.found.now ≡ settled_call w h.found.book (given_by w.room came) made r → IsAnswered under told g came w left
+by_result {under} (Ok v) made told g w left came h call =
     let turned : told ≡ turns.Reply = sym h.told ∙ ap (λ (c : Called). c.turn) call in
-    subst (λ (u : Turn). WasCalled Gives g (answer_with w came) u left → IsAnswered Gives u g came w left) (sym turned) (λ k. k) h
-by_result {Gives} (Err fault) made told g w left came h call =
+    subst (λ (u : Turn). WasCalled under g (answer_with w came) u left → IsAnswered under u g came w left) (sym turned) (λ k. k) h
+by_result {under} (Err fault) made told g w left came h call =
     let turned : told ≡ turns.Stray = sym h.told ∙ ap (λ (c : Called). c.turn) call in
-    subst (λ (u : Turn). IsAnswered Gives u g came w left) (sym turned) (
+    subst (λ (u : Turn). IsAnswered under u g came w left) (sym turned) (
       record {
         found = h.found;
         own = h.own;
@@ -91,11 +91,11 @@ by_result {Gives} (Err fault) made told g w left came h call =
       h.left ∙ ap (λ (c : Called). c.work) call,
     )
 
-by_waiting : {Gives : ℕ → Type 0} (job : Job) (told : Turn) (g : Growth) (w left : Work) (came : Got) → w.job ≡ job → IsWaiting job → tenant_in job ≡ Some g.owner
-    → WasCalled Gives g (answer_with w came) told left → IsAnswered Gives told g came w left
-by_waiting {Gives} Job.NoJob told g w left came is waits of h = absurd waits
-by_waiting {Gives} (Job.Carries tenant token frame) told g w left came is waits of h = absurd waits
-by_waiting {Gives} (Job.Waits tenant hold frame) told g w left came is waits of h =
+by_waiting : {under : Circumstances} (job : Job) (told : Turn) (g : Growth) (w left : Work) (came : Got) → w.job ≡ job → IsWaiting job → tenant_in job ≡ Some g.owner
+    → WasCalled under g (answer_with w came) told left → IsAnswered under told g came w left
+by_waiting {under} Job.NoJob told g w left came is waits of h = absurd waits
+by_waiting {under} (Job.Carries tenant token frame) told g w left came is waits of h = absurd waits
+by_waiting {under} (Job.Waits tenant hold frame) told g w left came is waits of h =
     by (eqb s.opening.tenant tenant) refl (ap (λ (j : Job). job_answered j w s now (given_by w.room came)) is)
   where
     s : State
@@ -113,29 +113,29 @@ by_waiting {Gives} (Job.Waits tenant hold frame) told g w left came is waits of 
     settled : Called
     settled = settled_call w s (given_by w.room came) (answer_made s hold now key) (answer_to s hold now key)
 
-    by : (e : Bool) → eqb s.opening.tenant tenant ≡ e → answer_with w came s now ≡ cond e settled (only turns.Stray w) → IsAnswered Gives told g came w left
+    by : (e : Bool) → eqb s.opening.tenant tenant ≡ e → answer_with w came s now ≡ cond e settled (only turns.Stray w) → IsAnswered under told g came w left
     by true at call = by_result (answer_to s hold now key) (answer_made s hold now key) told g w left came h call
     by false at call = absurd (eqb-false s.opening.tenant tenant at same)
 
 -- what an answer came to
-pub is_answered : {Gives : ℕ → Type 0} (told : Turn) (g : Growth) (w left : Work) (came : Got) → IsWaiting w.job → tenant_in w.job ≡ Some g.owner
-    → WasCalled Gives g (answer_with w came) told left → IsAnswered Gives told g came w left
+pub is_answered : {under : Circumstances} (told : Turn) (g : Growth) (w left : Work) (came : Got) → IsWaiting w.job → tenant_in w.job ≡ Some g.owner
+    → WasCalled under g (answer_with w came) told left → IsAnswered under told g came w left
 is_answered told g w left came waits of h = by_waiting w.job told g w left came refl waits of h
 
 -- what was awaited no longer
-pub unanswered : {Gives : ℕ → Type 0} (told : Turn) (g : Growth) (came : Got) (before after : Work) → (told ≡ turns.Reply → ⊥) → IsAnswered Gives told g came before after
-    → WasMissed Gives g before came × (after ≡ before)
-unanswered {Gives} turns.Idle g came before after other h = h
-unanswered {Gives} turns.Stray g came before after other h = h
-unanswered {Gives} turns.Stranger g came before after other h = h
-unanswered {Gives} turns.Reply g came before after other h = absurd (other refl)
-unanswered {Gives} (turns.Send peer hold) g came before after other h = h
+pub unanswered : {under : Circumstances} (told : Turn) (g : Growth) (came : Got) (before after : Work) → (told ≡ turns.Reply → ⊥) → IsAnswered under told g came before after
+    → WasMissed under g before came × (after ≡ before)
+unanswered {under} turns.Idle g came before after other h = h
+unanswered {under} turns.Stray g came before after other h = h
+unanswered {under} turns.Stranger g came before after other h = h
+unanswered {under} turns.Reply g came before after other h = absurd (other refl)
+unanswered {under} (turns.Send peer hold) g came before after other h = h
 
 -- ---- a command
 
 -- what a command came to, where a fault of the book's is named as such
-pub is_done : {Gives : ℕ → Type 0} (r : Result Answered CommandFault) (m : Result Answered GovernFault) (g : Growth) (command : Command)
-    → MatchResult r (λ a. m ≡ Ok a) (λ f. IsErrAnd m (λ x. x ≡ Refused f)) → WasCommanded Gives g command r → IsDone Gives m g command
-is_done {Gives} (Ok a) m g command is h = subst (λ (x : Result Answered GovernFault). IsDone Gives x g command) (sym is) h
-is_done {Gives} (Err f) (Ok a) g command is h = absurd is
-is_done {Gives} (Err f) (Err x) g command is h = subst (λ (y : GovernFault). IsDone Gives (Err y) g command) (sym is) h
+pub is_done : {under : Circumstances} (r : Result Answered CommandFault) (m : Result Answered GovernFault) (g : Growth) (command : Command)
+    → MatchResult r (λ a. m ≡ Ok a) (λ f. IsErrAnd m (λ x. x ≡ Refused f)) → WasCommanded under g command r → IsDone under m g command
+is_done {under} (Ok a) m g command is h = subst (λ (x : Result Answered GovernFault). IsDone under x g command) (sym is) h
+is_done {under} (Err f) (Ok a) g command is h = absurd is
+is_done {under} (Err f) (Err x) g command is h = subst (λ (y : GovernFault). IsDone under (Err y) g command) (sym is) h

@@ -1,5 +1,5 @@
 -- What a packet went through that a worker carried, and what a command did: which books decided, and when.
-use Rattle.std.specs.Prelude.{ℕ, ◌≡◌, Option, Some, Result, Ok, Err}
+use Rattle.std.specs.Prelude.{ℕ, ◌≡◌, List, Option, Some, Result, Ok, Err}
 use Rattle.tenant_core.specs.Governed.{IsGoverned, made_by}
 use Rattle.tenant_core.specs.Sound.{IsSound}
 use Rattle.tenant_core.specs.State.{State}
@@ -7,14 +7,16 @@ use Rattle.tenant_core.specs.declared.command.Answered.{Answered}
 use Rattle.tenant_core.specs.declared.command.Command.{Command}
 use Rattle.tenant_core.specs.declared.faults.CommandFault.{CommandFault}
 use Rattle.tenant_core.specs.declared.journal.Record.{Record}
+use Rattle.tenant_core.specs.declared.opening.Opening.{Opening}
 use Rattle.floor_core.specs.Work.{Job, Work, Called, answer_call, carrying, decide_call, frame_of}
 use Rattle.floor_core.specs.declared.parts.Got.{Got}
 use Rattle.floor_core.specs.declared.parts.Turn.{Turn}
 use Rattle.floor_core.specs.declared.parts.Turn.TheVariants as turn
 use Rattle.one_list.specs.Steps.{Place, next_place}
+use Rattle.one_list.specs.declared.step.Done.{Done}
 use Rattle.books_shared.specs.Rises.{command_rise, rise_of}
 use Rattle.books_shared.specs.Shares.{ShareView}
-use Rattle.books_shared.specs.Traced.{counted}
+use Rattle.books_shared.specs.Traced.{IsLedTo, counted}
 use Rattle.books_shared.specs.declared.rise.Rise.{Rise}
 use Rattle.workers.specs.Replies.{Sending}
 use Rattle.workers.specs.declared.governing.GovernFault.{GovernFault}
@@ -24,16 +26,26 @@ use Rattle.workers.specs.declared.reply.Reply.TheVariants as reply
 
 -- ---- books under their locks
 
--- a book as it was found under a lock: the replay of its journal, and within its limits; and the moment that the clock gave
--- then
-pub record Found (Gives : ℕ → Type 0) : Type 0 where
+-- under what books are found: with these openings the tenants' first periods began, and such moments the clock may give
+pub record Circumstances : Type 1 where
+  pub openings : List Opening
+  pub Gives : ℕ → Type 0
+
+abbrev pub circumstances : List Opening → (ℕ → Type 0) → Circumstances
+circumstances openings Gives = record { openings = openings; Gives = Gives }
+
+-- A book as it was found under a lock: the replay of its journal, and within its limits. The tenant's steps until then, over
+-- all its periods, led to it from the tenant's first opening. And the moment that the clock gave then.
+pub record Found (under : Circumstances) : Type 0 where
   pub book : State
+  pub steps : List Done
   pub now : ℕ
   pub sound : IsSound book
-  pub gave : Gives now
+  pub led : IsLedTo under.openings book steps
+  pub gave : under.Gives now
 
 -- the book that was found is the tenant's
-abbrev pub IsOf : {Gives : ℕ → Type 0} → ℕ → Found Gives → Type 0
+abbrev pub IsOf : {under : Circumstances} → ℕ → Found under → Type 0
 IsOf tenant found = found.book.opening.tenant ≡ tenant
 
 -- ---- calls
@@ -70,18 +82,18 @@ from between g = record g { before = between }
 
 -- a call of the slot with the tenant's book, as it was found: it was answered so, it left the slot so, and the share has grown
 -- by it
-pub record WasCalled (Gives : ℕ → Type 0) (g : Growth) (call : State → ℕ → Called) (turn : Turn) (after : Work) : Type 0 where
-  pub found : Found Gives
+pub record WasCalled (under : Circumstances) (g : Growth) (call : State → ℕ → Called) (turn : Turn) (after : Work) : Type 0 where
+  pub found : Found under
   pub own : IsOf g.owner found
   pub told : (call found.book found.now).turn ≡ turn
   pub left : after ≡ (call found.book found.now).work
   pub grew : HasGrown (rise_of (call found.book found.now)) (next_place found.book) (call found.book found.now).made g
 
 -- the tenant's book held the packet of the slot, to send it on to a peer
-pub record WasForwarded (Gives : ℕ → Type 0) (g : Growth) (before after : Work) : Type 0 where
+pub record WasForwarded (under : Circumstances) (g : Growth) (before after : Work) : Type 0 where
   pub peer : ℕ
   pub hold : ℕ
-  pub decided : WasCalled Gives g (decide_call before) (turn.Send peer hold) after
+  pub decided : WasCalled under g (decide_call before) (turn.Send peer hold) after
 
 -- ---- a send
 
@@ -98,9 +110,9 @@ pub record WasExchanged (owner : ℕ) (before : Work) (came : Got) (after : Work
   pub left : after ≡ record before { room = sending.room }
 
 -- the packet of the slot went on: the tenant's book forwarded it, and what that left in the slot was sent, to the slot's target
-pub record WentOn (Gives : ℕ → Type 0) (g : Growth) (before : Work) (came : Got) (after : Work) (So : Sending → Type 0) : Type 0 where
+pub record WentOn (under : Circumstances) (g : Growth) (before : Work) (came : Got) (after : Work) (So : Sending → Type 0) : Type 0 where
   pub waiting : Work
-  pub forwarded : WasForwarded Gives g before waiting
+  pub forwarded : WasForwarded under g before waiting
   pub sent : WasExchanged g.owner waiting came after So
 
 -- ---- an answer
@@ -110,8 +122,8 @@ abbrev pub answer_with : Work → Got → State → ℕ → Called
 answer_with before came book now = answer_call before book now came
 
 -- the tenant's book has no such hold, and the share has not grown
-pub record WasMissed (Gives : ℕ → Type 0) (g : Growth) (before : Work) (came : Got) : Type 0 where
-  pub found : Found Gives
+pub record WasMissed (under : Circumstances) (g : Growth) (before : Work) (came : Got) : Type 0 where
+  pub found : Found under
   pub own : IsOf g.owner found
   pub turn : (answer_with before came found.book found.now).turn ≡ turn.Stray
   pub none : IsSame g
@@ -119,44 +131,44 @@ pub record WasMissed (Gives : ℕ → Type 0) (g : Growth) (before : Work) (came
 -- ---- a packet
 
 -- the packet went on, and what came back was settled
-pub record CameBack (Gives : ℕ → Type 0) (g : Growth) (before : Work) (came : Got) (after : Work) (So : Sending → Type 0) : Type 0 where
+pub record CameBack (under : Circumstances) (g : Growth) (before : Work) (came : Got) (after : Work) (So : Sending → Type 0) : Type 0 where
   pub between : ShareView
   pub answered : Work
-  pub went : WentOn Gives (upto between g) before came answered So
-  pub settled : WasCalled Gives (from between g) (answer_with answered came) turn.Reply after
+  pub went : WentOn under (upto between g) before came answered So
+  pub settled : WasCalled under (from between g) (answer_with answered came) turn.Reply after
 
 -- the packet went on, and what came back was awaited no longer
-pub record WasLost (Gives : ℕ → Type 0) (g : Growth) (before : Work) (came : Got) (after : Work) (So : Sending → Type 0) : Type 0 where
+pub record WasLost (under : Circumstances) (g : Growth) (before : Work) (came : Got) (after : Work) (So : Sending → Type 0) : Type 0 where
   pub between : ShareView
   pub answered : Work
-  pub went : WentOn Gives (upto between g) before came answered So
-  pub missed : WasMissed Gives (from between g) answered came
+  pub went : WentOn under (upto between g) before came answered So
+  pub missed : WasMissed under (from between g) answered came
   pub left : after ≡ carrying Job.NoJob answered.room
 
 -- What became of the packet of a slot, by the reply: before is the slot as the packet was taken in, after is the slot in
--- the end, whose reply the sender is told. Each book that was asked was asked at a moment that the clock gave.
-abbrev pub IsCarried : (Gives : ℕ → Type 0) → Reply → Growth → (before after : Work) → (So : Sending → Type 0) → Type 0
-IsCarried Gives reply.Malformed g before after So = (after ≡ before) × IsSame g
-IsCarried Gives reply.Nameless g before after So = (after ≡ before) × IsSame g
-IsCarried Gives reply.Stranger g before after So = WasCalled Gives g (decide_call before) turn.Stranger after
-IsCarried Gives reply.Spent g before after So = (after ≡ carrying Job.NoJob before.room) × IsSame g
-IsCarried Gives reply.Memory g before after So = (after ≡ carrying Job.NoJob before.room) × IsSame g
-IsCarried Gives reply.Decided g before after So = WasCalled Gives g (decide_call before) turn.Reply after
-IsCarried Gives (reply.Settled got) g before after So = CameBack Gives g before got after So
-IsCarried Gives (reply.Lost got) g before after So = WasLost Gives g before got after So
+-- the end, whose reply the sender is told. Each book that was asked was found under these circumstances.
+abbrev pub IsCarried : (under : Circumstances) → Reply → Growth → (before after : Work) → (So : Sending → Type 0) → Type 0
+IsCarried under reply.Malformed g before after So = (after ≡ before) × IsSame g
+IsCarried under reply.Nameless g before after So = (after ≡ before) × IsSame g
+IsCarried under reply.Stranger g before after So = WasCalled under g (decide_call before) turn.Stranger after
+IsCarried under reply.Spent g before after So = (after ≡ carrying Job.NoJob before.room) × IsSame g
+IsCarried under reply.Memory g before after So = (after ≡ carrying Job.NoJob before.room) × IsSame g
+IsCarried under reply.Decided g before after So = WasCalled under g (decide_call before) turn.Reply after
+IsCarried under (reply.Settled got) g before after So = CameBack under g before got after So
+IsCarried under (reply.Lost got) g before after So = WasLost under g before got after So
 
 -- ---- steps of a packet, by their turns
 
 -- what became of a packet at a decide, by its turn: the book is the tenant's, so there is an answer
-abbrev pub IsDecided : (Gives : ℕ → Type 0) → Turn → Growth → (before after : Work) → Type 0
-IsDecided Gives turn.Idle g before after = ⊥
-IsDecided Gives turn.Stray g before after = ⊥
-IsDecided Gives told g before after = WasCalled Gives g (decide_call before) told after
+abbrev pub IsDecided : (under : Circumstances) → Turn → Growth → (before after : Work) → Type 0
+IsDecided under turn.Idle g before after = ⊥
+IsDecided under turn.Stray g before after = ⊥
+IsDecided under told g before after = WasCalled under g (decide_call before) told after
 
 -- what became of a packet at an answer, by its turn
-abbrev pub IsAnswered : (Gives : ℕ → Type 0) → Turn → Growth → Got → (before after : Work) → Type 0
-IsAnswered Gives turn.Reply g came before after = WasCalled Gives g (answer_with before came) turn.Reply after
-IsAnswered Gives _ g came before after = WasMissed Gives g before came × (after ≡ before)
+abbrev pub IsAnswered : (under : Circumstances) → Turn → Growth → Got → (before after : Work) → Type 0
+IsAnswered under turn.Reply g came before after = WasCalled under g (answer_with before came) turn.Reply after
+IsAnswered under _ g came before after = WasMissed under g before came × (after ≡ before)
 
 -- the slot in the end: where the answer is that nothing was to be had, the call is dropped
 abbrev pub closed : Reply → Work → Work
@@ -168,17 +180,17 @@ closed _ left = left
 -- ---- a command
 
 -- the tenant's book was commanded so at its moment, answered this, and the share has grown by that
-pub record WasCommanded (Gives : ℕ → Type 0) (g : Growth) (given : Command) (answer : Result Answered CommandFault) : Type 0 where
-  pub found : Found Gives
+pub record WasCommanded (under : Circumstances) (g : Growth) (given : Command) (answer : Result Answered CommandFault) : Type 0 where
+  pub found : Found under
   pub own : IsOf g.owner found
   pub after : State
   pub governed : IsGoverned answer given found.book after found.now
   pub grew : HasGrown (command_rise answer) (next_place found.book) (made_by answer found.book given found.now) g
 
 -- what became of a command, by its answer: `Stray` is never answered
-abbrev pub IsDone : (Gives : ℕ → Type 0) → Result Answered GovernFault → Growth → Command → Type 0
-IsDone Gives (Ok answered) g given = WasCommanded Gives g given (Ok answered)
-IsDone Gives (Err Spent) g given = IsSame g
-IsDone Gives (Err Memory) g given = IsSame g
-IsDone Gives (Err Stray) g given = ⊥
-IsDone Gives (Err (Refused fault)) g given = WasCommanded Gives g given (Err fault)
+abbrev pub IsDone : (under : Circumstances) → Result Answered GovernFault → Growth → Command → Type 0
+IsDone under (Ok answered) g given = WasCommanded under g given (Ok answered)
+IsDone under (Err Spent) g given = IsSame g
+IsDone under (Err Memory) g given = IsSame g
+IsDone under (Err Stray) g given = ⊥
+IsDone under (Err (Refused fault)) g given = WasCommanded under g given (Err fault)

@@ -6,7 +6,7 @@ ghost use Rattle.ilp_view.specs.Reading.{prepare_at};
 ghost use Rattle.floor_core.specs.Work.{IsWaiting, loaded, tenant_in};
 ghost use Rattle.floor_core.specs.Work.Job.{NoJob};
 ghost use Rattle.books_shared.specs.Turns.{IsEnded, IsLeft, IsLoaded};
-ghost use Rattle.workers.specs.Carrying.{IsAnswered, IsCarried, IsDecided, WasExchanged, closed, growth};
+ghost use Rattle.workers.specs.Carrying.{IsAnswered, IsCarried, IsDecided, WasExchanged, circumstances, closed, growth};
 ghost use Rattle.workers.specs.Counting.{IsSpent, reply_tallied, tallied};
 ghost use Rattle.workers.specs.Replies.{IsOfPrepare, IsOver, IsSentSo, WasSent, sends_of};
 ghost use Rattle.workers.specs.declared.reply.Reply.TheVariants as reply;
@@ -42,7 +42,8 @@ pub struct Job<'a> {
 /// 2^62 packets. `Memory` is answered where memory for the packet's receipts was refused: nothing was decided then, and a share
 /// that keeps no receipts never comes to it.
 ///
-/// By the reply (`IsCarried`), the packet was judged by the tenant's book, sound at that moment, which the clock gave; where
+/// By the reply (`IsCarried`), the packet was judged by the tenant's book, sound at that moment, which the clock gave. Steps of
+/// the tenant led to each book that was asked, from the opening of its first period in this run. Where
 /// the verdict was to send it on, what was sent is the packet with the verdict's amount and expiry, to the target of the
 /// verdict's peer; and the sender is told what the book made of it, or of what came back. The share has grown by just these
 /// calls with the book: by what each of them counts for the tenant, and by the record that it made, if it made one, as the
@@ -76,7 +77,7 @@ pub fn carry<J: Run, R: Wait, L: Link, G: Gate, C: Clock>(
     ensures sends { L.sent link.new ≡ L.sent link.old + sends_of result }
     ensures sent { IsSentSo result job.entry.tenant
         (λ sending. L.sends_so link.old sending link.new) (link.new ≡ link.old) }
-    ensures carried { IsCarried (C.gives clock.now) result (growth job.entry.tenant share.old share.new)
+    ensures carried { IsCarried (circumstances J.openings (C.gives clock.now)) result (growth job.entry.tenant share.old share.new)
         (loaded slot.old job.entry.tenant job.entry.token.now job.entry.frame.now) slot.new
         (λ sending. L.sends_so link.old sending link.new) }
     ensures seat { seat.new ≡ reply_tallied job.entry.tenant result seat.old }
@@ -137,7 +138,7 @@ fn carried<J: Run, R: Wait, L: Link, G: Gate, C: Clock>(
     ensures sends { L.sent link.new ≡ L.sent link.old + sends_of result }
     ensures sent { IsSentSo result job.entry.tenant
         (λ sending. L.sends_so link.old sending link.new) (link.new ≡ link.old) }
-    ensures carried { IsCarried (C.gives tools.now.clock.now) result (growth job.entry.tenant share.old share.new)
+    ensures carried { IsCarried (circumstances J.openings (C.gives tools.now.clock.now)) result (growth job.entry.tenant share.old share.new)
         (loaded slot.old job.entry.tenant job.entry.token.now job.entry.frame.now) (closed result slot.new)
         (λ sending. L.sends_so link.old sending link.new) }
     ensures over { IsOver result slot.new.job }
@@ -170,7 +171,7 @@ fn exchanged<J: Run, R: Wait, L: Link, G: Gate, C: Clock>(
     ensures sends { L.sent link.new ≡ L.sent link.old + sends_of result }
     ensures sent { IsSentSo result tenant
         (λ sending. L.sends_so link.old sending link.new) (link.new ≡ link.old) }
-    ensures carried { IsCarried (C.gives tools.now.clock.now) result (growth tenant share.old share.new) slot.old (closed result slot.new)
+    ensures carried { IsCarried (circumstances J.openings (C.gives tools.now.clock.now)) result (growth tenant share.old share.new) slot.old (closed result slot.new)
         (λ sending. L.sends_so link.old sending link.new) }
     ensures over { IsOver result slot.new.job }
 {
@@ -212,7 +213,7 @@ fn decide<J: Run, R: Wait, C: Clock>(
     requires loaded { IsLoaded slot.old.job }
     requires tenant { tenant_in slot.old.job ≡ Some tenant }
     requires room { 1 < share.old.room }
-    ensures decided { IsDecided (C.gives tools.now.clock.now) result (growth tenant share.old share.new) slot.old slot.new }
+    ensures decided { IsDecided (circumstances J.openings (C.gives tools.now.clock.now)) result (growth tenant share.old share.new) slot.old slot.new }
     ensures left { IsLeft result slot.old slot.new }
     ensures room { 0 < share.new.room }
 {
@@ -254,7 +255,7 @@ fn answer<J: Run, R: Wait, C: Clock>(
     requires waits { IsWaiting slot.old.job }
     requires tenant { tenant_in slot.old.job ≡ Some tenant }
     requires room { 0 < share.old.room }
-    ensures answered { IsAnswered (C.gives tools.now.clock.now) result (growth tenant share.old share.new) got slot.old slot.new }
+    ensures answered { IsAnswered (circumstances J.openings (C.gives tools.now.clock.now)) result (growth tenant share.old share.new) got slot.old slot.new }
     ensures ended { IsEnded result slot.old slot.new }
 {
     let mut guard = tools.books.enter(tools.rt, tenant);

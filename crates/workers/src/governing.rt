@@ -2,7 +2,7 @@
 
 ghost use Rattle.std.specs.Prelude.{◌≡◌, ◌<◌, ◌↔◌, true, Err};
 ghost use Rattle.books_shared.specs.Shares.{is_spent};
-ghost use Rattle.workers.specs.Carrying.{IsDone, growth};
+ghost use Rattle.workers.specs.Carrying.{IsDone, circumstances, growth};
 ghost use Rattle.workers.specs.Counting.{command_kind, tallied};
 ghost use Rattle.workers.specs.declared.governing.GovernFault.TheVariants as governing;
 
@@ -39,7 +39,8 @@ pub enum GovernFault {
 /// or as unavailable where the fault is `Spent` or want of memory, for the command or for its receipt.
 ///
 /// What is answered, or refused, is what the tenant's book, sound at that moment, which the clock gave, answers to this
-/// command (`IsDone`). The share has grown by just that: by the entry for the tenant, if there is one, and by its record, as
+/// command (`IsDone`). Steps of the tenant led to that book, from the opening of its first period in this run. The share has
+/// grown by just that: by the entry for the tenant, if there is one, and by its record, as
 /// the next step of the worker's part of the one list.
 ///
 /// The errors are, in the order in which they are looked for: `Spent`, exactly where one of the share's counts is full;
@@ -59,7 +60,7 @@ pub fn govern<J: Run, R: Wait, C: Clock>(
     requires seat { seat.old.meters ≡ meters.now.id }
     requires books { tenant < books.now.tenants }
     requires meters { tenant < meters.now.tenants }
-    ensures done { IsDone (C.gives clock.now) result (growth tenant share.old share.new) command.now }
+    ensures done { IsDone (circumstances J.openings (C.gives clock.now)) result (growth tenant share.old share.new) command.now }
     ensures spent { result ≡ Err governing.Spent ↔ is_spent share.old ≡ true }
     ensures memory { result ≡ Err governing.Memory → share.old.audited ≡ true }
     ensures seat { seat.new ≡ tallied tenant (command_kind result) seat.old }
@@ -94,7 +95,7 @@ fn commanded<J: Run, R: Wait, C: Clock>(
     command: &Command,
 ) -> Result<Answered, GovernFault>
     requires { tenant < tools.now.books.now.tenants }
-    ensures done { IsDone (C.gives tools.now.clock.now) result (growth tenant share.old share.new) command.now }
+    ensures done { IsDone (circumstances J.openings (C.gives tools.now.clock.now)) result (growth tenant share.old share.new) command.now }
     ensures spent { result ≡ Err governing.Spent ↔ is_spent share.old ≡ true }
     ensures memory { result ≡ Err governing.Memory → share.old.audited ≡ true }
 {

@@ -3,6 +3,7 @@
 ghost use Rattle.std.specs.Prelude.{◌≡◌, ◌<◌, map, vec_len, true, All, IfOk, OnOk};
 ghost use Rattle.books_shared.specs.Shares.{receipts_told};
 ghost use Rattle.service.specs.Auditing.{HaveEnded, HaveRolled, IsAudited, IsCount, WasRolled, audit_line, lists_of};
+ghost use Rattle.workers.specs.Carrying.{circumstances};
 
 use crate::office::Office;
 use crate::running::ending::AuditEnd;
@@ -29,7 +30,7 @@ fn roll<J: Run, H: Wait, C: Clock>(
     requires seat { seat.old.meters ≡ meters.now.id }
     requires books { tenant < office.now.books.tenants }
     requires meters { tenant < meters.now.tenants }
-    ensures rolled { OnOk result (WasRolled (C.gives system.now.clock.now) tenant share.old share.new) }
+    ensures rolled { OnOk result (WasRolled (circumstances J.openings (C.gives system.now.clock.now)) tenant share.old share.new) }
     ensures same_meters { seat.new.meters ≡ seat.old.meters }
 {
     periods.reserve(1)?;
@@ -70,7 +71,7 @@ fn roll_below<J: Run, H: Wait, C: Clock>(
 ) -> Result<(), AllocError>
     requires seat { seat.old.meters ≡ meters.now.id }
     requires meters { meters.now.tenants ≡ office.now.books.tenants }
-    ensures { OnOk result (HaveRolled (C.gives system.now.clock.now) office.now.books.tenants share.old share.new) }
+    ensures { OnOk result (HaveRolled (circumstances J.openings (C.gives system.now.clock.now)) office.now.books.tenants share.old share.new) }
 {
     for tenant in 0..office.books.tenants() {
         roll(system, office, meters, seat, share, tenant, periods)?;
@@ -85,7 +86,7 @@ fn roll_each<J: Run, H: Wait, C: Clock>(
     share: &mut Share<J>,
     periods: &mut Vec<Period>,
 ) -> Result<(), AllocError>
-    ensures { OnOk result (HaveRolled (C.gives system.now.clock.now) office.now.books.tenants share.old share.new) }
+    ensures { OnOk result (HaveRolled (circumstances J.openings (C.gives system.now.clock.now)) office.now.books.tenants share.old share.new) }
 {
     let tenants = office.books.tenants();
     if tenants == 0 {
@@ -105,7 +106,7 @@ fn roll_all<J: Run, H: Wait, C: Clock>(
     periods: &mut Vec<Period>,
 ) -> Result<(), AllocError>
     requires { 0 < vec_len shares.old }
-    ensures { OnOk result (HaveEnded (C.gives system.now.clock.now) audited office.now.books.tenants shares.old.items shares.new.items) }
+    ensures { OnOk result (HaveEnded (circumstances J.openings (C.gives system.now.clock.now)) audited office.now.books.tenants shares.old.items shares.new.items) }
 {
     if !audited {
         return Ok(());
@@ -182,7 +183,7 @@ pub fn finish_audit<J: Run, H: Wait, C: Clock>(
     periods: Option<Vec<Period>>,
 ) -> Found
     requires { 0 < vec_len shares.old }
-    ensures ended { result.end ≡ AuditEnd.Good → HaveEnded (C.gives system.now.clock.now) wanted office.now.books.tenants shares.old.items shares.new.items }
+    ensures ended { result.end ≡ AuditEnd.Good → HaveEnded (circumstances J.openings (C.gives system.now.clock.now)) wanted office.now.books.tenants shares.old.items shares.new.items }
     ensures audited { result.end ≡ AuditEnd.Good → IsAudited wanted shares.new.items result.line.items }
 {
     let alloc = system.alloc;

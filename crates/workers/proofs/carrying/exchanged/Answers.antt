@@ -3,16 +3,16 @@ use Rattle.floor_core.specs.Work.{Job, Work, carrying, decide_call}
 use Rattle.floor_core.specs.declared.parts.Got.{Got}
 use Rattle.floor_core.specs.declared.parts.Turn.TheVariants as turn
 use Rattle.books_shared.specs.Shares.{ShareView}
-use Rattle.workers.specs.Carrying.{WasCalled, WasExchanged, WentOn, growth}
+use Rattle.workers.specs.Carrying.{Circumstances, WasCalled, WasExchanged, WentOn, growth}
 use Rattle.workers.specs.Replies.{Sending}
 use Rattle.workers.proofs.Growing.{called_roomy}
 use Rattle.workers.proofs.Whose.{unanswered}
 use Rattle.workers.proofs.carrying.exchanged.Goals as goal
 
 -- a packet went on once room was made
-went_on : {Gives : ℕ → Type 0} (t peer hold : ℕ) (before waiting left : Work) (came : Got) (So : Sending → Type 0) (s roomy after : ShareView) → roomy ≡ record s { room = 2 }
-    → WasCalled Gives (growth t roomy after) (decide_call before) (turn.Send peer hold) waiting → WasExchanged t waiting came left So
-    → WentOn Gives (growth t s after) before came left So
+went_on : {under : Circumstances} (t peer hold : ℕ) (before waiting left : Work) (came : Got) (So : Sending → Type 0) (s roomy after : ShareView) → roomy ≡ record s { room = 2 }
+    → WasCalled under (growth t roomy after) (decide_call before) (turn.Send peer hold) waiting → WasExchanged t waiting came left So
+    → WentOn under (growth t s after) before came left So
 went_on t peer hold before waiting left came So s roomy after is decided sent = record {
   waiting = waiting;
   forwarded = record {

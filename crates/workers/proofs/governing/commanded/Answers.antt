@@ -13,7 +13,14 @@ returns-clause-done g c =
     let made = made_by c.command-answer.result c.enter-guard.result.state c.args.command.now c.now.result in
     is_done c.command-answer.result c.map_err.result (growth c.args.tenant c.args.share.now c.command-answer.new.share) c.args.command.now c.map_err.ensures.cases
     (record {
-      found = record { book = c.enter-guard.result.state; now = c.now.result; sound = c.enter-guard.ensures.kept.sound; gave = c.now.ensures };
+      found = record {
+        book = c.enter-guard.result.state;
+        steps = c.enter-guard.result.steps;
+        now = c.now.result;
+        sound = c.enter-guard.ensures.kept.sound;
+        led = c.enter-guard.ensures.led;
+        gave = c.now.ensures;
+      };
       own = c.enter-guard.ensures.own;
       after = c.command-answer.new.self.state;
       governed = c.command-answer.ensures.answer;

@@ -1,9 +1,10 @@
 use Rattle.std.proofs.Common.{◌≡◌}
+use Rattle.workers.specs.Carrying.{circumstances}
 use Rattle.service.specs.Auditing.{HaveRolled}
 use Rattle.service.proofs.running.auditing.roll_below.Given as goal
 
 abbrev pub invariant-loop-tenant : goal.invariant-loop-tenant
 invariant-loop-tenant g l = record {
-  rolled : HaveRolled (g.C.Clock.gives l.fn.system.clock.now) l.tenant l.fn.share l.share;
+  rolled : HaveRolled (circumstances g.J.Run.openings (g.C.Clock.gives l.fn.system.clock.now)) l.tenant l.fn.share l.share;
   seat : l.seat.meters ≡ l.fn.meters.id;
 }

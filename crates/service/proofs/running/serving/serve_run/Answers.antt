@@ -1,6 +1,7 @@
 use Rattle.std.proofs.Common.{ℕ, ◌≡◌, ◌++◌, [], List, length, rules, ap, subst, ◌∙◌, if◌then◌else◌}
 use Rattle.std.proofs.lemmas.Result.{on_ok_weaker}
 use Rattle.std.specs.Io.KnownBytes.{Appends}
+use Rattle.workers.specs.Carrying.{circumstances}
 use Rattle.service.specs.Auditing.{HaveEnded}
 use Rattle.service.specs.declared.running.ending.AuditEnd.TheVariants.{Good}
 use Rattle.service.specs.Served.{lines_upto}
@@ -36,7 +37,7 @@ returns-in-Ok g c =
         sums = λ tenant kind below. exact tenant kind (search rules) ∙ counted.sums tenant kind below;
       };
       shares = audit.new.shares.items;
-      ended = subst (λ (n : ℕ). HaveEnded (g.C.Clock.gives c.args.system.clock.now) c.args.plan.report.audit n c.in_ok-done.done.shares.items audit.new.shares.items)
+      ended = subst (λ (n : ℕ). HaveEnded (circumstances g.J.Run.openings (g.C.Clock.gives c.args.system.clock.now)) c.args.plan.report.audit n c.in_ok-done.done.shares.items audit.new.shares.items)
           known.books (audit.ensures.ended good);
       books = c.in-Ok.gathered.items;
       audit = last;
