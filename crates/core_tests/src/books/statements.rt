@@ -1,7 +1,8 @@
 //! Statements of closed periods: what is written is good, and what was changed is not, but where it states another truth.
 
 use super::owned::period_of_each;
-use statements::{check_statement, write_statement};
+use common_types::ReadError;
+use statements::{StatementFault, check_statement, write_statement};
 use std::alloc::Global;
 use std::process::Abort;
 use std::test::Fail;
@@ -45,6 +46,57 @@ fn a_statement_says_what_began_what_happened_and_what_follows(rt: HostRuntime) -
     let text = write_statement(rt.alloc(), &period)?;
     assert!(rt; text.as_slice() == STATEMENT.as_bytes());
     expect_good(&rt, rt.alloc(), &period)
+}
+
+// What stands in the statement, what is put in its place, and what is wrong then.
+const FAULTS: &str = "tenant 0 acme | tenant 64 acme | no period begins so: the tenant's place
+acme 8 1000 | acme 1 1000 | no period begins so: the journal's places
+8 1000 30000 | 8 60001 30000 | no period begins so: the margin
+1000 30000 | 1000 0 | no period begins so: the hold
+period 0 | period 4294967296 | no period begins so: the period
+0 1893456000000 | 0 253400000000001 | no period begins so: the clock
+1893456000000 0 2 | 1893456000000 1 2 | no period begins so: the number of the next hold
+100 100 0 100000 | 100 100 0 100001 | no period begins so: a bucket
+peer 1 p1 | peer 0 p1 | no opening
+rate 0 1 3 2 | rate 0 2 3 2 | no opening
+statement 1 | statement 2 | line 1 is not what the rules lead to
+forward 0 1 1500 | forward 0 1 1501 | line 8 is not what the rules lead to
+ending | Ending | line 13 is not what the rules lead to
+0 99100 | 0 99101 | line 16 is not what the rules lead to
+reject 0 | reject 1 | record 1 would not have been made
+tick = 0 | tock = 0 | record 2 tells no entry
+1893456000001 roll | 1893456000001 tick = 0 | record 5 tells no entry
+";
+
+// The statement with that in place of this.
+fn statement_with(alloc: Global, this: &str, that: &str) -> Result<Vec<u8>, Fail> {
+    let (front, rest) = STATEMENT.split_once(this).ok_or("what stands there")?;
+    Ok([front.as_bytes(), that.as_bytes(), rest.as_bytes()].concat(alloc)?)
+}
+
+// What is wrong with a text.
+fn fault_of(alloc: Global, text: &[u8]) -> Result<StatementFault, Fail> {
+    match check_statement(alloc, text) {
+        Err(ReadError::Fault(fault)) => Ok(fault),
+        _ => Err("a fault".into()),
+    }
+}
+
+fn expect_fault(rt: &impl Abort, alloc: Global, row: &str) -> Result<(), Fail> {
+    let (this, rest) = row.split_once(" | ").ok_or("a row")?;
+    let (that, wanted) = rest.split_once(" | ").ok_or("a row")?;
+    let text = statement_with(alloc, this, that)?;
+    let found = fault_of(alloc, text.as_slice())?.to_string(alloc)?;
+    assert_eq!(rt; found.as_str(), wanted);
+    Ok(())
+}
+
+#[test]
+fn what_is_wrong_with_a_statement_is_its_first_fault(rt: HostRuntime) -> Result<(), Fail> {
+    for row in FAULTS.lines() {
+        expect_fault(&rt, rt.alloc(), row)?;
+    }
+    Ok(())
 }
 
 // Whether the text is good with another byte at that place.
