@@ -7,7 +7,7 @@ use std::test::Fail;
 use std::thread;
 use std::thread::Threads;
 use std::time::{Clock, Duration, Instant};
-use workers::{Place, Places};
+use workers::{Place, PlaceUse, Places};
 
 // As many threads hold places for tenant 0.
 const HOLDERS: u64 = 8;
@@ -207,4 +207,73 @@ fn beside_holders<R: Threads + Wait + Clock + Sync>(
         gate.store(1, Ordering::SeqCst);
         pairs
     })
+}
+
+// The one place for two tenants, of which nobody is sure: as it is taken, and as it is awaited.
+const TAKEN: PlaceUse = PlaceUse {
+    share: 0,
+    used: 1,
+    waiting: 0,
+};
+
+const AWAITED: PlaceUse = PlaceUse {
+    share: 0,
+    used: 0,
+    waiting: 1,
+};
+
+fn is_before(clock: &impl Clock, until: Instant) -> bool {
+    match Instant::now(clock) {
+        Ok(now) => now < until,
+        Err(_) => false,
+    }
+}
+
+// Whether the tenant comes to stand so with the places before that moment.
+fn comes_to<R: Wait + Clock>(
+    rt: &R,
+    places: &Places,
+    tenant: usize,
+    wanted: PlaceUse,
+    until: Instant,
+) -> bool {
+    for _ in rt.forever() {
+        if places.use_by(rt, tenant) == Some(wanted) {
+            return true;
+        }
+        if !is_before(rt, until) {
+            break;
+        }
+        thread::yield_now();
+    }
+    false
+}
+
+// Takes the place for tenant 0, and gives it back once one of tenant 1 waits for it.
+fn pass_on<R: Wait + Clock>(rt: &R, places: &Places, until: Instant) -> bool {
+    let place = places.take(rt, 0, until);
+    let awaited = comes_to(rt, places, 1, AWAITED, until);
+    is_taken(rt, places, place) && awaited
+}
+
+// Waits for the place that tenant 0 has. Whether tenant 1 has it before that moment, when it would look for it by itself.
+fn is_passed<R: Wait + Clock>(rt: &R, places: &Places, until: Instant) -> bool {
+    let taken = comes_to(rt, places, 0, TAKEN, until);
+    let place = places.take(rt, 1, until);
+    let in_time = is_before(rt, until);
+    is_taken(rt, places, place) && taken && in_time
+}
+
+// Nobody of tenant 0 waits, so it is tenant 1 that has to be woken.
+#[test]
+fn a_place_that_comes_back_wakes_another_tenant(rt: HostRuntime) -> Result<(), Fail> {
+    let places = Places::new(rt.alloc(), 1, 2, 1)?;
+    let until = soon(&rt, 4_000)?;
+    let (given, got) = thread::join(
+        &rt,
+        || pass_on(&rt, &places, until),
+        || is_passed(&rt, &places, until),
+    );
+    assert!(rt; given && got);
+    Ok(())
 }

@@ -3,7 +3,7 @@
 ghost use Rattle.std.specs.Prelude.{◌≡◌};
 ghost use Rattle.books_shared.specs.Traced.{openings_of};
 
-use super::{FixedClock, Team, filled, gathered, outcome, start, team_of, two_setups};
+use super::{Team, filled, gathered, outcome, start, team_of, two_setups};
 use crate::START;
 use books_shared::{Books, Share};
 use floor_core::{Got, Slot};
@@ -19,7 +19,9 @@ use std::thread;
 use std::thread::Threads;
 use tenant_core::TenantSetup;
 use test_texts::frame;
-use workers::{Gate, Job, Lane, Link, Outgoing, Point, Reply, StartFault, carry, run_workers};
+use workers::{
+    Clock, Gate, Job, Lane, Link, Outgoing, Point, Reply, StartFault, carry, run_workers,
+};
 
 /// Where worker 0 is kept until worker 1 has its answer settled.
 #[derive(Clone, Copy, Debug, PartialEq, Eq)]
@@ -28,41 +30,70 @@ enum Place {
     Gate,
     /// While its link sends.
     Link,
+    /// While its clock is read, under its tenant's lock.
+    Lock,
 }
 
-/// Where two workers meet, the packets that they carry, and the answer to each.
+/// Where two workers meet, the packets that they carry, and the answer to each. Worker 1 begins once worker 0 is there.
 #[derive(Drop)]
 struct Meeting {
     acme: Vec<u8>,
     beta: Vec<u8>,
     answer: Vec<u8>,
     place: Place,
+    // 1 once worker 0 is there.
+    kept: AtomicU64,
     // 1 once worker 1 has its answer settled.
     settled: AtomicU64,
-    // 1 once worker 0 has waited for it in vain.
+    // 1 once a worker has waited for the other in vain.
     given_up: AtomicU64,
 }
 
 impl Meeting {
-    fn wait(&self) {
+    fn wait(&self, event: &AtomicU64) {
         for _ in 0..1_000_000u32 {
-            if self.settled.load(Ordering::SeqCst) == 1 {
+            if event.load(Ordering::SeqCst) == 1 {
                 return;
             }
             thread::yield_now();
         }
         self.given_up.store(1, Ordering::SeqCst);
     }
+
+    // Keeps worker 0 where it is to be kept.
+    fn come(&self, worker: usize, place: Place) {
+        if worker == 0 && place == self.place {
+            self.kept.store(1, Ordering::SeqCst);
+            self.wait(&self.settled);
+        }
+    }
 }
 
 impl Gate for Meeting {
     fn pass(&self, worker: usize, point: Point) {
-        if worker == 1 && point == Point::Answered {
-            self.settled.store(1, Ordering::SeqCst);
+        match point {
+            Point::Loaded if worker == 1 => self.wait(&self.kept),
+            Point::Sent => self.come(worker, Place::Gate),
+            Point::Answered if worker == 1 => self.settled.store(1, Ordering::SeqCst),
+            _ => {}
         }
-        if worker == 0 && point == Point::Sent && self.place == Place::Gate {
-            self.wait();
-        }
+    }
+}
+
+/// A clock of a worker, which stands.
+#[derive(Clone, Copy)]
+struct MetClock<'a> {
+    meeting: &'a Meeting,
+    worker: usize,
+    moment: Moment,
+}
+
+impl Clock for MetClock<'_> {
+    ghost gives = { λ clock moment. moment ≡ clock.moment };
+
+    fn now(&self) -> Moment {
+        self.meeting.come(self.worker, Place::Lock);
+        self.moment
     }
 }
 
@@ -85,9 +116,7 @@ impl Link for Fulfilling<'_> {
 
     fn send(&mut self, _packet: Outgoing<'_>, out: &mut [u8]) -> Got {
         self.sends += 1;
-        if self.worker == 0 && self.meeting.place == Place::Link {
-            self.meeting.wait();
-        }
+        self.meeting.come(self.worker, Place::Link);
         filled(out, self.meeting.answer.as_slice())
     }
 }
@@ -113,11 +142,16 @@ fn carried<J: Run, R: Wait>(rt: &R, carrier: &mut Carrier<'_, J>) -> Option<Repl
     }
     let mut slot = Slot::new(alloc).ok()?;
     let (meters, mut seat) = Meters::new(alloc, 2).ok()?;
-    let clock = FixedClock(Moment::new(START)?);
     let share = &mut carrier.share;
+    let worker = share.worker();
+    let clock = MetClock {
+        meeting,
+        worker,
+        moment: Moment::new(START)?,
+    };
     let mut link = Fulfilling {
         meeting,
-        worker: share.worker(),
+        worker,
         sends: 0,
     };
     let packet = if tenant == 0 {
@@ -214,6 +248,7 @@ fn new_meeting(alloc: Global, place: Place) -> Result<Meeting, Fail> {
         beta: frame(alloc, "{for beta}")?,
         answer: frame(alloc, "{fulfill}")?,
         place,
+        kept: AtomicU64::new(0),
         settled: AtomicU64::new(0),
         given_up: AtomicU64::new(0),
     })
@@ -276,6 +311,17 @@ fn carry_on_books<J: Run + Send + Sync, R: Threads + Wait + Sync>(
 fn a_tenant_does_not_wait_for_another(rt: HostRuntime) -> Result<(), Fail> {
     let together = Together {
         place: Place::Gate,
+        tenant: 1,
+        gathered: (1_000, -1_500, 0, 0, 2),
+    };
+    assert!(rt; carry_together(&rt, rt.alloc(), &together)?);
+    Ok(())
+}
+
+#[test]
+fn a_lock_keeps_no_other_tenant_waiting(rt: HostRuntime) -> Result<(), Fail> {
+    let together = Together {
+        place: Place::Lock,
         tenant: 1,
         gathered: (1_000, -1_500, 0, 0, 2),
     };
