@@ -12,7 +12,7 @@ use Rattle.tenant_core.specs.contracts.period.Records as Records
 use Rattle.tenant_core.proofs.period.Records.TheSendSync as of_records
 use Rattle.tenant_core.proofs.row.Row.TheSendSync as of_row
 use Rattle.receipts.proofs.ledger.Ledger.TheSendSync as of_ledger
-use Rattle.books_shared.proofs.Crossing.{network_send}
+use Rattle.tenant_core.specs.contracts.network.Network as Network
 use Rattle.books_shared.specs.contracts.books.Books as Books
 use Rattle.books_shared.specs.contracts.share.Share as Share
 use Rattle.meters.specs.contracts.meters.Meters as Meters
@@ -27,18 +27,39 @@ use Rattle.service.specs.contracts.office.Terms as Terms
 use Rattle.service.specs.contracts.connection.door.Door as Door
 use Rattle.workers.specs.contracts.places.Places as Places
 
-opening_send : IsSend Opening.the_field.row
-opening_send = search (sendable, std.crosses, network_send) depth 40
+opening_send : IsSend Network.the_row → IsSend Opening.the_field.row
+opening_send network = struct_send (shape Opening.the_type) (
+  search (sendable, std.crosses) depth 40,
+  (
+    search (sendable, std.crosses) depth 40,
+    (
+      search (sendable, std.crosses) depth 40,
+      (
+        search (sendable, std.crosses) depth 40,
+        (
+          search (sendable, std.crosses) depth 40,
+          (
+            search (sendable, std.crosses) depth 40,
+            (
+              search (sendable, std.crosses) depth 40,
+              (search (sendable, std.crosses) depth 40, (search (sendable, std.crosses) depth 40, (network, tt))),
+            ),
+          ),
+        ),
+      ),
+    ),
+  ),
+)
 
 records_send : IsSend Records.the_row
 records_send = of_records.the_send
 
-parts_send : IsSend PeriodParts.the_row
-parts_send = recorded_send _ _ _ PeriodParts.the_type.to_one (struct_send (shape PeriodParts.the_type)
-    (opening_send, (records_send, (search (sendable, std.crosses, of_row.the_send) depth 40, (opening_send, tt)))))
+parts_send : IsSend Network.the_row → IsSend PeriodParts.the_row
+parts_send network = recorded_send _ _ _ PeriodParts.the_type.to_one (struct_send (shape PeriodParts.the_type)
+    (opening_send network, (records_send, (search (sendable, std.crosses, of_row.the_send) depth 40, (opening_send network, tt)))))
 
-pub period_send : IsSend Period.the_row
-period_send = search (sendable, std.crosses, parts_send) depth 40
+pub period_send : IsSend Network.the_row → IsSend Period.the_row
+period_send network = search (sendable, std.crosses, parts_send) depth 40
 
 pub share_send : (J : RattleType) (r : Run.Ghosts J.Denot) → IsSend (Share.the_row J r)
 share_send J r = search (sendable, std.crosses, of_part.the_send, of_ledger.the_send) depth 40
@@ -67,12 +88,12 @@ office_sync J r books meters =
     ) in
     search (recorded_sync, fields) depth 10
 
-pub desk_send : (J : RattleType) (r : Run.Ghosts J.Denot) → IsSend MeterSeat.the_row → IsSend (Desk.the_field J r).row
-desk_send J r seat = struct_send (shape (Desk.the_type J r))
-    (share_send J r, (seat, (slot_send, (search (sendable, std.crosses) depth 40, (search (sendable, std.crosses) depth 40, (search (sendable, std.crosses) depth 40, (search (sendable, std.crosses, period_send) depth 40, tt)))))))
+pub desk_send : (J : RattleType) (r : Run.Ghosts J.Denot) → IsSend Network.the_row → IsSend MeterSeat.the_row → IsSend (Desk.the_field J r).row
+desk_send J r network seat = let period = period_send network in struct_send (shape (Desk.the_type J r))
+    (share_send J r, (seat, (slot_send, (search (sendable, std.crosses) depth 40, (search (sendable, std.crosses) depth 40, (search (sendable, std.crosses) depth 40, (search (sendable, std.crosses, period) depth 40, tt)))))))
 
 pub worker_send : (κ : NamedLft) (H C J : RattleType) (r : Run.Ghosts J.Denot) → IsSync H → IsSync C
-    → IsSync (Office.the_row J r) → IsSend MeterSeat.the_row → IsSend (Worker.the_row κ H C J r)
-worker_send κ H C J r h c office seat =
+    → IsSync (Office.the_row J r) → IsSend Network.the_row → IsSend MeterSeat.the_row → IsSend (Worker.the_row κ H C J r)
+worker_send κ H C J r h c office network seat =
     recorded_send _ _ _ (Worker.the_type κ H C J r).to_one (struct_send (shape (Worker.the_type κ H C J r))
-    (search (sendable, std.crosses, h) depth 40, (search (sendable, std.crosses) depth 40, (search (sendable, std.crosses, office) depth 40, (search (sendable, std.crosses, c) depth 40, (search (sendable, std.crosses) depth 40, (search (sendable, std.crosses) depth 40, (search (sendable, std.crosses) depth 40, (desk_send J r seat, tt)))))))))
+    (search (sendable, std.crosses, h) depth 40, (search (sendable, std.crosses) depth 40, (search (sendable, std.crosses, office) depth 40, (search (sendable, std.crosses, c) depth 40, (search (sendable, std.crosses) depth 40, (search (sendable, std.crosses) depth 40, (search (sendable, std.crosses) depth 40, (desk_send J r network seat, tt)))))))))

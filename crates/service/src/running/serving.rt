@@ -243,9 +243,9 @@ fn run_beside<H: Threads + Wait + std::time::Clock + Sync, W: Lane, B: Beside>(
 
 // Lets all workers serve, on threads, and the host, where there is one, answer until they have ended.
 fn work_all<
+    J: Run + Send + Sync,
     H: Threads + Wait + Net<Listener = TcpListener, Stream = TcpStream> + std::time::Clock + Sync,
     C: workers::Clock + Sync,
-    J: Run + Send + Sync,
 >(
     handle: &H,
     office: &Office<J>,

@@ -4,16 +4,16 @@ use denote.Param.{param}
 use denote.Param.Send.{IsSend, sendable}
 use denote.Ref.{NamedLft}
 use Rattle.service.specs.contracts.worker.Worker as Worker
-use Rattle.books_shared.proofs.Crossing.{books_sync}
 use Rattle.service.proofs.Sending.{office_sync, worker_send}
 use Rattle.service.proofs.running.serving.work_all.Goals as goal
 
 pub run_beside-requires-send-W : goal.run_beside-requires-send-W
 run_beside-requires-send-W g c κs within =
-    let office = office_sync (param 2 g.row.J) g.J.Run (books_sync (param 2 g.row.J) g.J.Run) c.meters_are_shared.ensures.shared in
+    let office = office_sync (param 0 g.row.J) g.J.Run c.books_are_shared.ensures c.meters_are_shared.ensures.shared in
     let seat = c.meters_are_shared.ensures.sent in
-    let lane : (κ : NamedLft) → IsSend (Worker.the_row κ (param 0 g.row.H) (param 1 g.row.C) (param 2 g.row.J) g.J.Run)
-    = λ κ. worker_send κ (param 0 g.row.H) (param 1 g.row.C) (param 2 g.row.J) g.J.Run c.type_bounds.sync-H c.type_bounds.sync-C office seat in
+    let lane : (κ : NamedLft) → IsSend (Worker.the_row κ (param 1 g.row.H) (param 2 g.row.C) (param 0 g.row.J) g.J.Run)
+    = λ κ. worker_send κ (param 1 g.row.H) (param 2 g.row.C) (param 0 g.row.J) g.J.Run c.type_bounds.sync-H c.type_bounds.sync-C office
+    c.networks_cross.ensures seat in
     search (sendable, lane) depth 60
 
 pub returns-in-Ok-clause-worked : goal.returns-in-Ok-clause-worked
