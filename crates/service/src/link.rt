@@ -1,11 +1,12 @@
 //! The way to the next peers.
 
-ghost use Rattle.std.specs.Prelude.{◌≡◌, ◌≢◌, ◌↔◌, ◌+◌, ◌≤◌, ◌<◌, ◌^◌, ◌⊎◌, List, ℕ, length, Some, Err, IfOk};
+ghost use Rattle.std.specs.Prelude.{◌≡◌, ◌≢◌, ◌↔◌, ◌+◌, ◌*◌, ◌≤◌, ◌<◌, ◌^◌, ◌⊎◌, List, ℕ, length, Some, Err, IfOk, IfSome, IsSome};
 ghost use Rattle.std.specs.Io.KnownBytes.{Appends};
 ghost use Rattle.http_link.specs.Client.{Means, given, post_text};
 ghost use Rattle.http_link.specs.Counts.{MadeAll};
 ghost use Rattle.http_link.specs.Limits.{max_peer_answer, max_heads};
-ghost use Rattle.service.specs.Exchanges.{exchange_time};
+ghost use Rattle.workers.specs.Replies.{Sending};
+ghost use Rattle.service.specs.Exchanges.{IsEndFor, IsOneExchange, IsTimeFor, exchange_time};
 
 use crate::connection::timed::Timed;
 use crate::office::Terms;
@@ -13,33 +14,81 @@ use floor_core::Got;
 use http_link::{PostFault, Sink, Source, post};
 use ilp_addr::{Host, Target};
 use std::io;
-use std::io::ErrorKind;
 use std::net::{IpAddr, Ipv4Addr, Ipv6Addr, Net, SocketAddr, TcpStream};
 use std::sync::Wait;
 use std::time::{Clock, Duration, Instant};
-use workers::{Link, Outgoing, Places};
+use workers::{Link, Outgoing, Place, Places};
 
-/// A link that opens a connection for each packet, in one of the places that the tenants share. The waiting for a place, the
+/// What reaches the next peers. Each exchange has a connection of its own, and a place of its tenant for as long as it lasts.
+pub trait Peers {
+    /// A connection to a peer, for one frame.
+    type Connection;
+
+    /// What one exchange makes of it: before, what was sent and what came back, and after.
+    ghost exchanges: { Self → Sending → Self → Type 0 };
+
+    /// Opens a connection to the peer of that target, until that moment.
+    fn connect(
+        &self,
+        place: &Place,
+        target: &Target,
+        until: Instant,
+    ) -> io::Result<Self::Connection>;
+
+    /// Sends a packet over a connection, in a place of its tenant, and writes what comes back until that moment to the front of
+    /// the room.
+    fn exchange(
+        &mut self,
+        place: &Place,
+        connection: Self::Connection,
+        packet: Outgoing<'_>,
+        until: Instant,
+        out: &mut [u8],
+    ) -> Got
+        requires own { place.now.tenant ≡ packet.tenant }
+        requires room { max_peer_answer ≤ length out.old }
+        ensures so { exchanges self.old
+            (record {
+              tenant = packet.entry.tenant;
+              target = packet.entry.target.now;
+              frame = packet.entry.frame.now;
+              expiry = packet.entry.expiry;
+              got = result;
+              room = out.new;
+            })
+            self.new }
+        ensures len { length out.new ≡ length out.old };
+}
+
+/// Sockets, by which peers are reached.
+#[derive(Drop)]
+pub struct Sockets<'a, H> {
+    pub handle: &'a H,
+}
+
+/// A link that makes one exchange for each packet, in one of the places that the tenants share. The waiting for a place, the
 /// connecting, and all reads and writes have in all the tenant's longest hold, or the time until the packet expires where
 /// that is less. None is begun after it, and the exchange ends a little later.
 #[derive(Drop)]
-pub struct PeerLink<'a, H, C> {
+pub struct PeerLink<'a, H, C, P> {
     handle: &'a H,
     clock: &'a C,
     terms: &'a [Terms],
     places: &'a Places,
+    peers: P,
     sent: u64,
 }
 
-impl<'a, H, C> PeerLink<'a, H, C> {
+impl<'a, H, C, P> PeerLink<'a, H, C, P> {
     /// A link for tenants of these terms, by that clock, which has sent so many packets.
     pub fn new(
         handle: &'a H,
         clock: &'a C,
         terms: &'a [Terms],
         places: &'a Places,
+        peers: P,
         sent: u64,
-    ) -> PeerLink<'a, H, C>
+    ) -> PeerLink<'a, H, C, P>
         ensures { result.sent ≡ sent }
     {
         PeerLink {
@@ -47,6 +96,7 @@ impl<'a, H, C> PeerLink<'a, H, C> {
             clock,
             terms,
             places,
+            peers,
             sent,
         }
     }
@@ -83,20 +133,21 @@ fn exchange<R: Source, W: Sink>(
     post(r, w, target, frame, out)
 }
 
-impl<H: Wait + Net<Stream = TcpStream> + Clock, C: workers::Clock> PeerLink<'_, H, C> {
-    // Until when an exchange of that packet may last that begins now.
-    fn end_of_exchange(&self, packet: Outgoing<'_>) -> io::Result<Instant> {
-        let Some(terms) = self.terms.get(packet.tenant) else {
-            return Err(io::Error::from(ErrorKind::NotFound));
-        };
-        let left = exchange_time(terms.hold, packet.expiry, self.clock.now().millis());
-        match Instant::now(self.handle)?.checked_add(Duration::from_millis(left)) {
-            Some(end) => Ok(end),
-            None => Err(io::Error::from(ErrorKind::InvalidInput)),
-        }
+impl<H: Net<Stream = TcpStream> + Clock> Sockets<'_, H> {
+    fn connect_to(&self, ip: IpAddr, port: u16, until: Instant) -> io::Result<TcpStream> {
+        let left = until.saturating_duration_since(Instant::now(self.handle)?);
+        let stream = TcpStream::connect_timeout(self.handle, &SocketAddr::new(ip, port), left)?;
+        stream.set_nodelay(true)?;
+        Ok(stream)
     }
+}
 
-    fn connect(&self, target: &Target, until: Instant) -> io::Result<TcpStream> {
+impl<H: Wait + Net<Stream = TcpStream> + Clock> Peers for Sockets<'_, H> {
+    type Connection = TcpStream;
+
+    ghost exchanges = { λ _ _ _. Unit {0} };
+
+    fn connect(&self, _place: &Place, target: &Target, until: Instant) -> io::Result<TcpStream> {
         let port = target.port();
         match target.address() {
             Host::V4(ip) => self.connect_to(IpAddr::V4(ip), port, until),
@@ -108,52 +159,108 @@ impl<H: Wait + Net<Stream = TcpStream> + Clock, C: workers::Clock> PeerLink<'_, 
         }
     }
 
-    fn connect_to(&self, ip: IpAddr, port: u16, until: Instant) -> io::Result<TcpStream> {
-        let left = until.saturating_duration_since(Instant::now(self.handle)?);
-        let stream = TcpStream::connect_timeout(self.handle, &SocketAddr::new(ip, port), left)?;
-        stream.set_nodelay(true)?;
-        Ok(stream)
-    }
-
-    // Sends a packet in one of the places, once the tenant has one, and gives how many bytes came back.
-    fn exchanged(&self, packet: Outgoing<'_>, out: &mut [u8]) -> io::Result<usize>
-        requires { max_peer_answer ≤ length out.old }
-        ensures { length out.new ≡ length out.old }
-    {
-        let until = self.end_of_exchange(packet)?;
-        let Some(place) = self.places.take(self.handle, packet.tenant, until) else {
-            return Err(io::Error::from(ErrorKind::TimedOut));
-        };
-        let result = self.exchanged_until(until, packet.target, packet.frame, out);
-        self.places.give_back(self.handle, place);
-        result
-    }
-
-    // Sends a frame on a connection of its own, and gives how many bytes came back.
-    fn exchanged_until(
-        &self,
+    fn exchange(
+        &mut self,
+        _place: &Place,
+        connection: TcpStream,
+        packet: Outgoing<'_>,
         until: Instant,
-        target: &Target,
-        frame: &[u8],
         out: &mut [u8],
-    ) -> io::Result<usize>
-        requires { max_peer_answer ≤ length out.old }
-        ensures { length out.new ≡ length out.old }
-    {
-        let stream = self.connect(target, until)?;
-        let mut reader = Timed::until(&stream, self.handle, until);
-        let mut writer = Timed::until(&stream, self.handle, until);
-        match exchange(&mut reader, &mut writer, target, frame, out) {
-            Ok(n) => Ok(n),
-            Err(_) => Err(io::Error::from(ErrorKind::InvalidData)),
+    ) -> Got {
+        let mut reader = Timed::until(&connection, self.handle, until);
+        let mut writer = Timed::until(&connection, self.handle, until);
+        match exchange(&mut reader, &mut writer, packet.target, packet.frame, out) {
+            Ok(n) => Got::Filled(n),
+            Err(_) => Got::Fault,
         }
     }
 }
 
-impl<H: Wait + Net<Stream = TcpStream> + Clock, C: workers::Clock> Link for PeerLink<'_, H, C> {
+impl<H: Wait + Clock, C: workers::Clock, P: Peers> PeerLink<'_, H, C, P> {
+    // For how many milliseconds an exchange of that packet may last that begins now; `None` where there is no such tenant.
+    fn time_for(&self, packet: Outgoing<'_>) -> Option<u64>
+        ensures known { IsSome result ↔ (packet.entry.tenant < length self.now.terms.now) }
+        ensures time { IfSome result (λ time. IsTimeFor (C.gives self.now.clock.now) self.now.terms.now
+            packet.entry.tenant packet.entry.expiry time) }
+    {
+        let terms = self.terms.get(packet.tenant)?;
+        let now = self.clock.now().millis();
+        Some(exchange_time(terms.hold, packet.expiry, now))
+    }
+
+    // Until when an exchange of that packet may last that begins now.
+    fn end_of_exchange(&self, packet: Outgoing<'_>) -> Option<Instant>
+        ensures { IfSome result (λ until. IsEndFor (C.gives self.now.clock.now) self.now.terms.now
+            packet.entry.tenant packet.entry.expiry until) }
+    {
+        let time = self.time_for(packet)?;
+        let begun = Instant::now(self.handle).ok()?;
+        begun.checked_add(Duration::from_millis(time))
+    }
+
+    // Sends a packet in one of the places, once its tenant has one: once at most.
+    fn exchanged(&mut self, packet: Outgoing<'_>, out: &mut [u8]) -> Got
+        requires { max_peer_answer ≤ length out.old }
+        ensures len { length out.new ≡ length out.old }
+        ensures once { IsOneExchange result (self.new.peers ≡ self.old.peers) (P.exchanges self.old.peers
+            (record {
+              tenant = packet.entry.tenant;
+              target = packet.entry.target.now;
+              frame = packet.entry.frame.now;
+              expiry = packet.entry.expiry;
+              got = result;
+              room = out.new;
+            })
+            self.new.peers) }
+        ensures sent { self.new.sent ≡ self.old.sent }
+    {
+        let Some(until) = self.end_of_exchange(packet) else {
+            return Got::Fault;
+        };
+        let (handle, places) = (self.handle, self.places);
+        let Some(place) = places.take(handle, packet.tenant, until) else {
+            return Got::Fault;
+        };
+        let got = self.exchanged_at(&place, packet, until, out);
+        places.give_back(handle, place);
+        got
+    }
+
+    // Sends a packet on a connection of its own, in a place of its tenant.
+    fn exchanged_at(
+        &mut self,
+        place: &Place,
+        packet: Outgoing<'_>,
+        until: Instant,
+        out: &mut [u8],
+    ) -> Got
+        requires own { place.now.tenant ≡ packet.tenant }
+        requires room { max_peer_answer ≤ length out.old }
+        ensures len { length out.new ≡ length out.old }
+        ensures once { IsOneExchange result (self.new.peers ≡ self.old.peers) (P.exchanges self.old.peers
+            (record {
+              tenant = packet.entry.tenant;
+              target = packet.entry.target.now;
+              frame = packet.entry.frame.now;
+              expiry = packet.entry.expiry;
+              got = result;
+              room = out.new;
+            })
+            self.new.peers) }
+        ensures sent { self.new.sent ≡ self.old.sent }
+    {
+        match self.peers.connect(place, packet.target, until) {
+            Ok(connection) => self.peers.exchange(place, connection, packet, until, out),
+            Err(_) => Got::Fault,
+        }
+    }
+}
+
+impl<H: Wait + Clock, C: workers::Clock, P: Peers> Link for PeerLink<'_, H, C, P> {
     ghost sent = { λ l. l.sent };
 
-    ghost sends_so = { λ _ _ _. Unit {0} };
+    ghost sends_so = { λ before sending after. IsOneExchange sending.got (after.peers ≡ before.peers)
+        (P.exchanges before.peers sending after.peers) };
 
     fn sends(&self) -> u64 {
         self.sent
@@ -161,9 +268,6 @@ impl<H: Wait + Net<Stream = TcpStream> + Clock, C: workers::Clock> Link for Peer
 
     fn send(&mut self, packet: Outgoing<'_>, out: &mut [u8]) -> Got {
         self.sent += 1;
-        match self.exchanged(packet, out) {
-            Ok(n) => Got::Filled(n),
-            Err(_) => Got::Fault,
-        }
+        self.exchanged(packet, out)
     }
 }

@@ -4,7 +4,7 @@ ghost use Rattle.std.specs.Prelude.{◌≡◌, ◌<◌};
 ghost use Rattle.admin_text.specs.Commands.{command_in};
 ghost use Rattle.service.specs.Answering.{IsPrinted, IsTold, IsUntouched, WasCarried, WasGoverned, WasObeyed, command_line};
 
-use crate::link::PeerLink;
+use crate::link::{PeerLink, Sockets};
 use crate::office::Office;
 use crate::system::System;
 use crate::worker::desk::Desk;
@@ -40,8 +40,9 @@ impl<J: Run> Desk<J> {
         ensures same_meters { self.new.seat.meters ≡ self.old.seat.meters }
         ensures told { self.new.told ≡ self.old.told }
     {
+        let (handle, clock) = (system.handle, system.clock);
         let (terms, places) = (office.terms.as_slice(), &office.places);
-        let mut link = PeerLink::new(system.handle, system.clock, terms, places, self.sent);
+        let mut link = PeerLink::new(handle, clock, terms, places, Sockets { handle }, self.sent);
         let reply = carry(
             system.handle,
             system.alloc,
