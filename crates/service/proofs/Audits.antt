@@ -4,9 +4,9 @@ use Rattle.std.proofs.lemmas.List.{map-append}
 use Rattle.std.proofs.lemmas.List.Elements.{All-push}
 use Rattle.books_shared.specs.Shares.{ShareView, receipts_told}
 use Rattle.workers.specs.Carrying.{Circumstances}
-use Rattle.service.specs.Auditing.{HaveRolled, WasRolled, lists_of}
+use Rattle.service.specs.Auditing.{HaveRolled, Rolling, WasRolled, lists_of}
 
-pub rolled_next : (under : Circumstances) (n : ℕ) (before between after : ShareView) → HaveRolled under n before between
+pub rolled_next : (under : Circumstances) (n : ℕ) (before between after : Rolling) → HaveRolled under n before between
     → WasRolled under n between after → HaveRolled under (n + 1) before after
 rolled_next under n before between after rolled was = rw add-one (between, rolled, was)
 

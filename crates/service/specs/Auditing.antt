@@ -1,34 +1,72 @@
 -- What a service audits in the end.
-use Rattle.std.specs.Prelude.{ℕ, zero, suc, ◌≡◌, Bool, true, false, List, [], ◌∷◌, ◌++◌, All, map, codes, Result}
+use Rattle.std.specs.Prelude.{ℕ, zero, suc, ◌≡◌, ◌⊎◌, ◌↔◌, Bool, true, false, List, [], ◌∷◌, ◌++◌, All, Contains, map, codes, Result, Ok, Err}
 use Rattle.std.specs.Fmt.{decimal}
 use Rattle.tenant_core.specs.declared.command.Answered.{Answered}
+use Rattle.tenant_core.specs.declared.command.Answered.TheVariants.{Rolled}
 use Rattle.tenant_core.specs.declared.command.Command.TheVariants.{Roll}
+use Rattle.tenant_core.specs.declared.faults.CommandFault.TheVariants.{Memory}
 use Rattle.tenant_core.specs.declared.period.PeriodParts.{PeriodParts}
 use Rattle.receipts.specs.Audits.{IsComplete, receipts_of}
+use Rattle.receipts.specs.Layout.{IsFault}
 use Rattle.receipts.specs.Runs.{AreOfRun}
+use Rattle.receipts.specs.declared.fault.AuditFault.{AuditFault}
+use Rattle.receipts.specs.declared.fault.AuditFault.TheVariants.{NoPeriod, Gap, Twice, Missing, Differs, Order}
+use Rattle.receipts.specs.declared.fault.AuditFault.TheVariants as audit
 use Rattle.receipts.specs.declared.receipt.Receipt.{Receipt}
-use Rattle.books_shared.specs.Shares.{ShareView, receipts_told}
+use Rattle.books_shared.specs.Shares.{ShareView, is_spent, receipts_told}
 use Rattle.workers.specs.Carrying.{Circumstances, IsDone, growth}
 use Rattle.workers.specs.declared.governing.GovernFault.{GovernFault}
+use Rattle.workers.specs.declared.governing.GovernFault.TheVariants.{Spent, Refused}
+use Rattle.workers.specs.declared.governing.GovernFault.TheVariants as govern
+use Rattle.service.specs.Lines.{audit_told}
+use Rattle.service.specs.declared.running.ending.AuditEnd.{AuditEnd}
+use Rattle.service.specs.declared.running.ending.AuditEnd.TheVariants.{Good, Bad, Lacked}
 
 -- ---- the last periods
 
--- a worker's share after a roll of that tenant, whatever it was answered
-abbrev pub WasRolled : (under : Circumstances) → (tenant : ℕ) → (before after : ShareView) → Type 0
-WasRolled under tenant before after =
-    (answer : Result Answered GovernFault) × IsDone under answer (growth tenant before after) Roll
+-- what a roll left: a worker's share, and the periods that were closed
+pub record Rolling : Type 0 where
+  pub share : ShareView
+  pub closed : List PeriodParts
 
--- a worker's share after a roll of each tenant below a number, one after another
-abbrev pub HaveRolled : (under : Circumstances) → (tenants : ℕ) → (before after : ShareView) → Type 0
+-- the answer is no want of memory
+abbrev pub HadMemory : Result Answered GovernFault → Type 0
+HadMemory (Err govern.Memory) = ⊥
+HadMemory (Err (Refused Memory)) = ⊥
+HadMemory _ = Unit {0}
+
+-- with the period that was closed, if one was
+abbrev pub closed_also : Result Answered GovernFault → List PeriodParts → List PeriodParts
+closed_also (Ok (Rolled period)) closed = closed ++ period ∷ []
+closed_also _ closed = closed
+
+-- that tenant's book was told to roll, and what it closed was kept; none was told where the share counts no more
+pub record WasRolled (under : Circumstances) (tenant : ℕ) (before after : Rolling) : Type 0 where
+  pub answer : Result Answered GovernFault
+  pub done : IsDone under answer (growth tenant before.share after.share) Roll
+  pub spent : answer ≡ Err Spent ↔ is_spent before.share ≡ true
+  pub memory : HadMemory answer
+  pub kept : after.closed ≡ closed_also answer before.closed
+
+-- the books of the tenants below a number were told to roll, one after another
+abbrev pub HaveRolled : (under : Circumstances) → (tenants : ℕ) → (before after : Rolling) → Type 0
 HaveRolled under zero before after = after ≡ before
-HaveRolled under (suc n) before after = (between : ShareView) × HaveRolled under n before between × WasRolled under n between after
+HaveRolled under (suc n) before after = (between : Rolling) × HaveRolled under n before between × WasRolled under n between after
 
--- the shares in the end: where the run is audited, one worker has rolled all tenants, and else nothing more was done
-abbrev pub HaveEnded : (under : Circumstances) → (audited : Bool) → (tenants : ℕ) → (before after : List ShareView) → Type 0
-HaveEnded under false tenants before after = after ≡ before
-HaveEnded under true tenants before after =
+-- the shares in the end, and the closed periods: where the run is audited, one worker has rolled all tenants, and else nothing
+-- more was done
+abbrev pub HaveClosed : (under : Circumstances) → (audited : Bool) → (tenants : ℕ) → (before after : List ShareView)
+    → (closed closed_after : List PeriodParts) → Type 0
+HaveClosed under false tenants before after closed closed_after = (after ≡ before) × (closed_after ≡ closed)
+HaveClosed under true tenants before after closed closed_after =
     (rest : List ShareView) × (first : ShareView) × (last : ShareView) × (before ≡ rest ++ first ∷ []) × (after ≡ rest ++ last ∷ [])
-    × HaveRolled under tenants first last
+    × HaveRolled under tenants (record { share = first; closed = closed }) (record { share = last; closed = closed_after })
+
+-- the shares in the end, whatever periods were closed
+abbrev pub HaveEnded : (under : Circumstances) → (audited : Bool) → (tenants : ℕ) → (before after : List ShareView) → Type 0
+HaveEnded under audited tenants before after =
+    (closed : List PeriodParts) × (closed_after : List PeriodParts)
+    × HaveClosed under audited tenants before after closed closed_after
 
 -- ---- the audit
 
@@ -39,6 +77,16 @@ lists_of shares = map (λ s. receipts_told s.steps) shares
 -- what an audit that says yes tells of that many receipts
 abbrev pub audit_line : ℕ → List ℕ
 audit_line receipts = codes "audit ok " ++ decimal receipts ++ 10 ∷ []
+
+-- the word for a fault; want of memory has none
+abbrev pub fault_word : AuditFault → List ℕ
+fault_word NoPeriod = codes "no-period"
+fault_word Gap = codes "gap"
+fault_word Twice = codes "twice"
+fault_word Missing = codes "missing"
+fault_word Differs = codes "differs"
+fault_word (Order front) = codes "order"
+fault_word audit.Memory = []
 
 -- each worker has kept its receipts; they are so many, and complete: those of all entries of these periods, which join, each of which
 -- shows its entry and verdict; some order keeps each journal and each worker's list; and in that order they are the records of a run
@@ -53,3 +101,22 @@ abbrev pub IsAudited : (audited : Bool) → List ShareView → List ℕ → Type
 IsAudited false shares text = text ≡ []
 IsAudited true shares text =
     (periods : List PeriodParts) × (receipts : ℕ) × IsCount periods shares receipts × (text ≡ audit_line receipts)
+
+-- receipts can't be looked at: a worker has kept none, which are missing, or memory was refused
+abbrev pub AreLacking : List ShareView → AuditFault → Type 0
+AreLacking shares fault =
+    ((fault ≡ Missing) × ((s : ShareView) × Contains shares s × (s.audited ≡ false))) ⊎ (fault ≡ audit.Memory)
+
+-- what an audit of these periods found wrong: all workers have kept receipts, in which the fault is there; or they can't be looked at
+abbrev pub IsWrong : List PeriodParts → List ShareView → AuditFault → Type 0
+IsWrong periods shares fault =
+    (All (λ s. s.audited ≡ true) shares × IsFault periods (lists_of shares) fault) ⊎ AreLacking shares fault
+
+-- what is told of an audit, by what it came to: nothing where none is wanted or memory was refused; else what it found
+abbrev pub IsFound : (wanted : Bool) → List PeriodParts → List ShareView → AuditEnd → List ℕ → Type 0
+IsFound wanted periods shares Lacked text = text ≡ []
+IsFound false periods shares Good text = text ≡ []
+IsFound false periods shares Bad text = ⊥
+IsFound true periods shares Good text = (receipts : ℕ) × IsCount periods shares receipts × (text ≡ audit_line receipts)
+IsFound true periods shares Bad text =
+    (fault : AuditFault) × IsWrong periods shares fault × (text ≡ audit_told (fault_word fault))

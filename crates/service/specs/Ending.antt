@@ -1,9 +1,12 @@
 -- How a service ends.
-use Rattle.std.specs.Prelude.{Bool, true, false, Result, Ok, Err}
+use Rattle.std.specs.Prelude.{ℕ, ◌≡◌, ◌⊎◌, [], Bool, true, false, List, Result, Ok, Err, codes}
+use Rattle.books_shared.specs.declared.gather.GatherFault.{GatherFault}
+use Rattle.books_shared.specs.declared.gather.GatherFault.TheVariants as gather
+use Rattle.service.specs.Lines.{audit_told}
 use Rattle.service.specs.declared.running.ending.AuditEnd.{AuditEnd}
 use Rattle.service.specs.declared.running.ending.AuditEnd.TheVariants.{Good, Bad, Lacked}
 use Rattle.service.specs.declared.running.ending.ServeFault.{ServeFault}
-use Rattle.service.specs.declared.running.ending.ServeFault.TheVariants.{Memory, Device, Audit}
+use Rattle.service.specs.declared.running.ending.ServeFault.TheVariants.{Memory, Device, Differs, Audit}
 
 -- Memory that was refused for the audit comes first; then an accept that failed, unless the host stopped the service; then what
 -- the audit found.
@@ -15,3 +18,22 @@ end_of true true Good = Ok tt
 end_of true true Bad = Err Audit
 end_of false was_stopped Good = Ok tt
 end_of false was_stopped Bad = Err Audit
+
+-- Where the books were not gathered: for want of memory, or since they differ, which is what an audit finds where there is one.
+abbrev pub ungathered_end : {J : Type 0} → GatherFault J → (audited : Bool) → ServeFault
+ungathered_end (gather.Memory books shares) audited = Memory
+ungathered_end (gather.Missing books shares) true = Audit
+ungathered_end (gather.Missing books shares) false = Differs
+ungathered_end (gather.Differs gathered shares) true = Audit
+ungathered_end (gather.Differs gathered shares) false = Differs
+
+-- what is told last then: the line of the audit, if there is one
+abbrev pub ungathered_line : ServeFault → List ℕ
+ungathered_line Audit = audit_told (codes "differs")
+ungathered_line Memory = []
+ungathered_line Device = []
+ungathered_line Differs = []
+
+-- the service ends with that fault, of which that was told; or memory was refused, or the writer failed, before
+abbrev pub EndsTold : Result (Unit {0}) ServeFault → ServeFault → (Told : Type 0) → Type 0
+EndsTold result fault Told = ((result ≡ Err fault) × Told) ⊎ ((result ≡ Err Memory) ⊎ (result ≡ Err Device))

@@ -2,6 +2,7 @@ pub mod Served
 pub mod Balances
 pub mod Answering
 pub mod Exchanges
+pub mod Lines
 pub mod Hosting
 pub mod Presence
 pub mod Auditing

@@ -1,8 +1,12 @@
 //! What a service audits in the end.
 
-ghost use Rattle.std.specs.Prelude.{◌≡◌, ◌<◌, map, vec_len, true, All, IfOk, OnOk};
+ghost use Rattle.std.specs.Prelude.{◌≡◌, ◌<◌, [], List, map, vec_len, true, false, All, IfErr, IfOk, OnOk};
 ghost use Rattle.books_shared.specs.Shares.{receipts_told};
-ghost use Rattle.service.specs.Auditing.{HaveEnded, HaveRolled, IsAudited, IsCount, WasRolled, audit_line, lists_of};
+ghost use Rattle.receipts.specs.declared.fault.AuditFault.TheVariants as faults;
+ghost use Rattle.tenant_core.specs.declared.period.PeriodParts.{PeriodParts};
+ghost use Rattle.service.specs.Auditing.{AreLacking, HadMemory, HaveClosed, HaveEnded, HaveRolled, IsAudited, IsCount, IsFound, IsWrong, WasRolled};
+ghost use Rattle.service.specs.Auditing.{audit_line, closed_also, fault_word, lists_of};
+ghost use Rattle.service.specs.Lines.{audit_told};
 ghost use Rattle.workers.specs.Carrying.{circumstances};
 
 use crate::office::Office;
@@ -30,7 +34,8 @@ fn roll<J: Run, H: Wait, C: Clock>(
     requires seat { seat.old.meters ≡ meters.now.id }
     requires books { tenant < office.now.books.tenants }
     requires meters { tenant < meters.now.tenants }
-    ensures rolled { OnOk result (WasRolled (circumstances J.openings (C.gives system.now.clock.now)) tenant share.old share.new) }
+    ensures rolled { OnOk result (WasRolled (circumstances J.openings (C.gives system.now.clock.now)) tenant
+        (record { share = share.old; closed = periods.old.items }) (record { share = share.new; closed = periods.new.items })) }
     ensures same_meters { seat.new.meters ≡ seat.old.meters }
 {
     periods.reserve(1)?;
@@ -49,10 +54,10 @@ fn roll<J: Run, H: Wait, C: Clock>(
 }
 
 // Keeps the period that a roll closed, in room that was made for it.
-fn keep(
-    answer: Result<Answered, GovernFault>,
-    periods: &mut Vec<Period>,
-) -> Result<(), AllocError> {
+fn keep(answer: Result<Answered, GovernFault>, periods: &mut Vec<Period>) -> Result<(), AllocError>
+    ensures kept { OnOk result (periods.new.items ≡ closed_also answer periods.old.items) }
+    ensures memory { OnOk result (HadMemory answer) }
+{
     match answer {
         Ok(Answered::Rolled(period)) => Ok(periods.push(period)?),
         Err(GovernFault::Memory | GovernFault::Refused(CommandFault::Memory)) => Err(AllocError),
@@ -71,7 +76,8 @@ fn roll_below<J: Run, H: Wait, C: Clock>(
 ) -> Result<(), AllocError>
     requires seat { seat.old.meters ≡ meters.now.id }
     requires meters { meters.now.tenants ≡ office.now.books.tenants }
-    ensures { OnOk result (HaveRolled (circumstances J.openings (C.gives system.now.clock.now)) office.now.books.tenants share.old share.new) }
+    ensures { OnOk result (HaveRolled (circumstances J.openings (C.gives system.now.clock.now)) office.now.books.tenants
+        (record { share = share.old; closed = periods.old.items }) (record { share = share.new; closed = periods.new.items })) }
 {
     for tenant in 0..office.books.tenants() {
         roll(system, office, meters, seat, share, tenant, periods)?;
@@ -86,7 +92,8 @@ fn roll_each<J: Run, H: Wait, C: Clock>(
     share: &mut Share<J>,
     periods: &mut Vec<Period>,
 ) -> Result<(), AllocError>
-    ensures { OnOk result (HaveRolled (circumstances J.openings (C.gives system.now.clock.now)) office.now.books.tenants share.old share.new) }
+    ensures { OnOk result (HaveRolled (circumstances J.openings (C.gives system.now.clock.now)) office.now.books.tenants
+        (record { share = share.old; closed = periods.old.items }) (record { share = share.new; closed = periods.new.items })) }
 {
     let tenants = office.books.tenants();
     if tenants == 0 {
@@ -106,7 +113,8 @@ fn roll_all<J: Run, H: Wait, C: Clock>(
     periods: &mut Vec<Period>,
 ) -> Result<(), AllocError>
     requires { 0 < vec_len shares.old }
-    ensures { OnOk result (HaveEnded (circumstances J.openings (C.gives system.now.clock.now)) audited office.now.books.tenants shares.old.items shares.new.items) }
+    ensures { OnOk result (HaveClosed (circumstances J.openings (C.gives system.now.clock.now)) audited office.now.books.tenants
+        shares.old.items shares.new.items periods.old.items periods.new.items) }
 {
     if !audited {
         return Ok(());
@@ -123,6 +131,7 @@ fn roll_all<J: Run, H: Wait, C: Clock>(
 fn lists_of<J: Run>(alloc: Global, shares: &[Share<J>]) -> Result<Vec<&[Receipt]>, AuditFault>
     ensures lists { IfOk result (λ lists. map (λ list. list.now) lists.items ≡ lists_of shares.now) }
     ensures kept { IfOk result (λ lists. All (λ s. s.audited ≡ true) shares.now) }
+    ensures lacking { IfErr result (AreLacking shares.now) }
 {
     let mut lists = Vec::with_capacity(alloc, shares.len())?;
     for share in shares {
@@ -135,6 +144,7 @@ fn lists_of<J: Run>(alloc: Global, shares: &[Share<J>]) -> Result<Vec<&[Receipt]
 fn list_of<J: Run>(share: &Share<J>) -> Result<&[Receipt], AuditFault>
     ensures list { IfOk result (λ list. list.now ≡ receipts_told share.now.steps) }
     ensures kept { IfOk result (λ list. share.now.audited ≡ true) }
+    ensures lacking { IfErr result (λ fault. (fault ≡ faults.Missing) × (share.now.audited ≡ false)) }
 {
     match share.receipts() {
         Some(list) => Ok(list),
@@ -148,7 +158,8 @@ fn count_audited<J: Run>(
     periods: &[Period],
     shares: &[Share<J>],
 ) -> Result<usize, AuditFault>
-    ensures { IfOk result (IsCount periods.now shares.now) }
+    ensures count { IfOk result (IsCount periods.now shares.now) }
+    ensures fault { IfErr result (IsWrong periods.now shares.now) }
 {
     let lists = lists_of(alloc, shares)?;
     let audited = audit(alloc, periods, lists.as_slice())?;
@@ -165,7 +176,8 @@ pub struct Found {
 
 // Nothing, since memory was refused.
 fn lacked(alloc: Global) -> Found
-    ensures { result.end ≡ AuditEnd.Lacked }
+    ensures end { result.end ≡ AuditEnd.Lacked }
+    ensures line { result.line.items ≡ [] }
 {
     Found {
         line: Vec::new(alloc),
@@ -185,6 +197,7 @@ pub fn finish_audit<J: Run, H: Wait, C: Clock>(
     requires { 0 < vec_len shares.old }
     ensures ended { result.end ≡ AuditEnd.Good → HaveEnded (circumstances J.openings (C.gives system.now.clock.now)) wanted office.now.books.tenants shares.old.items shares.new.items }
     ensures audited { result.end ≡ AuditEnd.Good → IsAudited wanted shares.new.items result.line.items }
+    ensures found { (closed : List PeriodParts) × IsFound wanted closed shares.new.items result.end result.line.items }
 {
     let alloc = system.alloc;
     let Some(mut periods) = periods else {
@@ -206,7 +219,8 @@ fn audited<J: Run>(
     periods: &[Period],
     shares: &[Share<J>],
 ) -> Result<Found, AllocError>
-    ensures { IfOk result (λ found. found.end ≡ AuditEnd.Good → IsAudited wanted shares.now found.line.items) }
+    ensures good { IfOk result (λ found. found.end ≡ AuditEnd.Good → IsAudited wanted shares.now found.line.items) }
+    ensures found { IfOk result (λ found. IsFound wanted periods.now shares.now found.end found.line.items) }
 {
     if !wanted {
         return Ok(Found {
@@ -220,7 +234,7 @@ fn audited<J: Run>(
             end: AuditEnd::Good,
         }),
         Err(fault) => Ok(Found {
-            line: bad_line(alloc, word_of(&fault)?)?,
+            line: audit_told(alloc, word_of(&fault)?)?,
             end: AuditEnd::Bad,
         }),
     }
@@ -238,24 +252,28 @@ fn good_line(alloc: Global, receipts: usize) -> Result<Vec<u8>, AllocError>
     Ok(line)
 }
 
-/// The line of an audit that found a fault.
-pub fn bad_line(alloc: Global, word: &str) -> Result<Vec<u8>, AllocError> {
+/// The line of an audit that came to that.
+pub fn audit_told(alloc: Global, words: &[u8]) -> Result<Vec<u8>, AllocError>
+    ensures { IfOk result (λ line. line.items ≡ audit_told words.now) }
+{
     let mut line = Vec::new(alloc);
     line.extend_from_slice(b"audit ")?;
-    line.extend_from_slice(word.as_bytes())?;
+    line.extend_from_slice(words)?;
     line.push(b'\n')?;
     Ok(line)
 }
 
 // The word for a fault, but for want of memory.
-fn word_of(fault: &AuditFault) -> Result<&'static str, AllocError> {
+fn word_of(fault: &AuditFault) -> Result<&'static [u8], AllocError>
+    ensures { IfOk result (λ word. word.now ≡ fault_word fault.now) }
+{
     match fault {
-        AuditFault::NoPeriod => Ok("no-period"),
-        AuditFault::Gap => Ok("gap"),
-        AuditFault::Twice => Ok("twice"),
-        AuditFault::Missing => Ok("missing"),
-        AuditFault::Differs => Ok("differs"),
-        AuditFault::Order(_) => Ok("order"),
+        AuditFault::NoPeriod => Ok(b"no-period"),
+        AuditFault::Gap => Ok(b"gap"),
+        AuditFault::Twice => Ok(b"twice"),
+        AuditFault::Missing => Ok(b"missing"),
+        AuditFault::Differs => Ok(b"differs"),
+        AuditFault::Order(_) => Ok(b"order"),
         AuditFault::Memory => Err(AllocError),
     }
 }

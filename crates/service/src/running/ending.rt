@@ -1,8 +1,10 @@
 //! How a service ends.
 
 ghost use Rattle.std.specs.Prelude.{◌≡◌, OnOk};
-ghost use Rattle.service.specs.Ending.{end_of};
+ghost use Rattle.service.specs.Ending.{end_of, ungathered_end};
 
+use books_shared::GatherFault;
+use one_list::Run;
 use std::alloc::AllocError;
 use std::io;
 use std::io::ErrorKind;
@@ -27,12 +29,22 @@ pub enum ServeFault {
 }
 
 impl From<AllocError> for ServeFault {
+    ghost use Rattle.std.specs.Prelude.{◌≡◌};
+    ghost use Rattle.service.specs.declared.running.ending.ServeFault.TheVariants.{Memory};
+
+    ghost from_gives = { λ error told. told ≡ Memory };
+
     fn from(_: AllocError) -> ServeFault {
         ServeFault::Memory
     }
 }
 
 impl From<io::Error> for ServeFault {
+    ghost use Rattle.std.specs.Prelude.{◌≡◌, ◌⊎◌};
+    ghost use Rattle.service.specs.declared.running.ending.ServeFault.TheVariants.{Memory, Device};
+
+    ghost from_gives = { λ error told. (told ≡ Memory) ⊎ (told ≡ Device) };
+
     fn from(error: io::Error) -> ServeFault {
         if error.kind() == ErrorKind::OutOfMemory {
             ServeFault::Memory
@@ -64,5 +76,16 @@ pub fn end_of(has_failed: bool, was_stopped: bool, audit: AuditEnd) -> Result<()
         AuditEnd::Good | AuditEnd::Bad if has_failed && !was_stopped => Err(ServeFault::Device),
         AuditEnd::Good => Ok(()),
         AuditEnd::Bad => Err(ServeFault::Audit),
+    }
+}
+
+/// How a service ends whose books were not gathered: where it is audited, that they differ is what the audit found.
+pub fn ungathered_end<J: Run>(fault: &GatherFault<J>, audited: bool) -> ServeFault
+    ensures { result ≡ ungathered_end fault.now audited }
+{
+    match fault {
+        GatherFault::Memory(..) => ServeFault::Memory,
+        GatherFault::Missing(..) | GatherFault::Differs(..) if audited => ServeFault::Audit,
+        GatherFault::Missing(..) | GatherFault::Differs(..) => ServeFault::Differs,
     }
 }

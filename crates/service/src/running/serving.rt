@@ -1,6 +1,6 @@
 //! The service: all its workers, and what they counted.
 
-ghost use Rattle.std.specs.Prelude.{ℕ, ◌≡◌, ◌+◌, ◌≤◌, ◌<◌, ◌⊎◌, ◌++◌, [], length, map, vec_len, vec_capacity, true, false, is_ok, option_map, slice_index_or, All, IfOk, OnErr, OnOk};
+ghost use Rattle.std.specs.Prelude.{ℕ, ◌≡◌, ◌+◌, ◌≤◌, ◌<◌, ◌⊎◌, ◌++◌, [], length, map, vec_len, vec_capacity, true, false, is_ok, option_map, slice_index_or, All, IfErr, IfOk, OnErr, OnOk};
 ghost use Rattle.std.specs.Io.KnownBytes.{Appends};
 ghost use Rattle.std.specs.List.{sum_by};
 ghost use Rattle.allotment.specs.Loans.{max_places};
@@ -11,6 +11,7 @@ ghost use Rattle.std.specs.Fmt.{decimal};
 ghost use Rattle.meters.specs.Seats.{count_of, max_splits};
 ghost use Rattle.meters.specs.declared.kind.Kind as meter;
 ghost use Rattle.service.specs.Answering.{HasToldCounts, HasToldCountsIn, HasWorked, HaveCounted, IsFresh, IsNew};
+ghost use Rattle.service.specs.Ending.{EndsTold, ungathered_end, ungathered_line};
 ghost use Rattle.service.specs.Hosting.{HasStayed, IsIdle, seats_in};
 ghost use Rattle.service.specs.Served.{line_of, lines_upto};
 
@@ -18,9 +19,9 @@ use crate::connection::door::Door;
 use crate::host::callers::{Beside, Callers, Porter};
 use crate::host::hosting::{Host, HostDoor};
 use crate::office::Office;
-use crate::running::auditing::{Found, bad_line, finish_audit};
+use crate::running::auditing::{Found, audit_told, finish_audit};
 use crate::running::balances::balance_lines;
-use crate::running::ending::{ServeFault, end_of};
+use crate::running::ending::{ServeFault, end_of, ungathered_end};
 use crate::running::meeting::Meeting;
 use crate::running::opening::{Begun, open_office};
 use crate::running::plan::Plan;
@@ -360,8 +361,9 @@ fn tell<W: Write>(
     writer: &mut W,
 ) -> Result<(), ServeFault>
     requires { length names.now ≤ totals.now.tenants }
-    ensures { OnOk result (Appends (W.contents writer.old) (W.contents writer.new)
+    ensures told { OnOk result (Appends (W.contents writer.old) (W.contents writer.new)
         (text.items ++ lines_upto (length names.now) names.now totals.now ++ last.now)) }
+    ensures err { IfErr result (λ fault. (fault ≡ ServeFault.Memory) ⊎ (fault ≡ ServeFault.Device)) }
 {
     let lines = lines_of(alloc, names, totals)?;
     text.extend_from_slice(lines.as_slice())?;
@@ -494,33 +496,23 @@ fn tell_ungathered<J: Run, W: Write>(
     writer: &mut W,
 ) -> Result<(), ServeFault>
     requires { length names.now ≤ totals.now.tenants }
-    ensures { is_ok result ≡ false }
+    ensures err { is_ok result ≡ false }
+    ensures told { EndsTold result (ungathered_end fault.now audited) (Appends (W.contents writer.old) (W.contents writer.new)
+        (lines_upto (length names.now) names.now totals.now ++ ungathered_line (ungathered_end fault.now audited))) }
 {
-    let (line, fault) = end_of_gathering(alloc, fault, audited)?;
-    tell(
-        alloc,
-        Vec::new(alloc),
-        names,
-        totals,
-        line.as_slice(),
-        writer,
-    )?;
-    Err(fault)
+    let end = ungathered_end(fault, audited);
+    let line = ungathered_line(alloc, end)?;
+    let text = Vec::new(alloc);
+    tell(alloc, text, names, totals, line.as_slice(), writer)?;
+    Err(end)
 }
 
-// What is told last where the books were not gathered, and how the service ends.
-fn end_of_gathering<J: Run>(
-    alloc: Global,
-    fault: &GatherFault<J>,
-    audited: bool,
-) -> Result<(Vec<u8>, ServeFault), AllocError> {
-    match fault {
-        GatherFault::Memory(..) => Ok((Vec::new(alloc), ServeFault::Memory)),
-        GatherFault::Missing(..) | GatherFault::Differs(..) if audited => {
-            Ok((bad_line(alloc, "differs")?, ServeFault::Audit))
-        }
-        GatherFault::Missing(..) | GatherFault::Differs(..) => {
-            Ok((Vec::new(alloc), ServeFault::Differs))
-        }
+// What is told last of such an end.
+fn ungathered_line(alloc: Global, end: ServeFault) -> Result<Vec<u8>, AllocError>
+    ensures { IfOk result (λ line. line.items ≡ ungathered_line end) }
+{
+    match end {
+        ServeFault::Audit => audit_told(alloc, b"differs"),
+        ServeFault::Memory | ServeFault::Device | ServeFault::Differs => Ok(Vec::new(alloc)),
     }
 }

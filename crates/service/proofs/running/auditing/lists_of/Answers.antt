@@ -1,7 +1,8 @@
-use Rattle.std.proofs.Common.{◌≡◌, ◌∙◌, ◌++◌, ◌∷◌, [], Some, slice_get, take, map, rules, ap, sym}
+use Rattle.std.proofs.Common.{◌≡◌, ◌<◌, ◌∙◌, ◌++◌, ◌∷◌, [], Some, Contains, inl, length, slice_get, take, map, rules, ap, subst, sym}
 use Rattle.std.proofs.lemmas.List.{map-append}
+use Rattle.std.proofs.lemmas.List.Elements.{Contains-get_or}
 use Rattle.std.proofs.lemmas.Option.{slice_get_read}
-use Rattle.service.specs.Auditing.{lists_of}
+use Rattle.service.specs.Auditing.{AreLacking, lists_of}
 use Rattle.service.proofs.Audits.{lists_next, kept_next}
 use Rattle.service.proofs.running.auditing.lists_of.Goals as goal
 
@@ -18,3 +19,13 @@ loop-share-preserved g c =
       few = search rules;
       room = search rules;
     }
+
+pub returns-in_err-list_of-clause-lacking : goal.returns-in_err-list_of-clause-lacking
+returns-in_err-list_of-clause-lacking g c =
+    let share = c.share-item.result in
+    let lacking = c.in_err-list_of.ensures.lacking in
+    let within : c.loop-share.share-index < length c.args.shares.now = search rules in
+    let there : Contains c.args.shares.now share
+    = subst (Contains c.args.shares.now) (sym c.share-item.is) (Contains-get_or c.args.shares.now c.loop-share.share-index share within) in
+    let found : AreLacking c.args.shares.now c.in_err-list_of.field-0.0 = inl (lacking.0, (share, there, lacking.1)) in
+    search (rules, found)

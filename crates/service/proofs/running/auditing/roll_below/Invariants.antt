@@ -5,6 +5,7 @@ use Rattle.service.proofs.running.auditing.roll_below.Given as goal
 
 abbrev pub invariant-loop-tenant : goal.invariant-loop-tenant
 invariant-loop-tenant g l = record {
-  rolled : HaveRolled (circumstances g.J.Run.openings (g.C.Clock.gives l.fn.system.clock.now)) l.tenant l.fn.share l.share;
+  rolled : HaveRolled (circumstances g.J.Run.openings (g.C.Clock.gives l.fn.system.clock.now)) l.tenant
+      (record { share = l.fn.share; closed = l.fn.periods.items }) (record { share = l.share; closed = l.periods.items });
   seat : l.seat.meters ≡ l.fn.meters.id;
 }
