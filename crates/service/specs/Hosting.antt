@@ -9,6 +9,7 @@ use Rattle.meters.specs.Seats.{SeatState, count_of, empty_seat}
 use Rattle.meters.specs.declared.kind.Kind.{Kind}
 use Rattle.one_list.specs.declared.run.Run.{Ghosts}
 use Rattle.tenant_core.specs.declared.opening.Opening.{Opening}
+use Rattle.service.specs.Metrics.{IsMetricsOf}
 use Rattle.service.specs.Presence.{IsPresentText}
 use Rattle.service.specs.declared.office.Office.{Office}
 
@@ -19,10 +20,10 @@ wants_token Metrics = true
 wants_token Setup = true
 wants_token Stop = true
 
--- what is told: a word; whatever the metrics are; the tenants as their books stood
+-- what is told: a word; the metrics; the tenants as their books stood
 abbrev pub IsToldOf : {J : Type 0} {r : Ghosts J} → List Opening → Office J r → HostRequest → List ℕ → Type 0
 IsToldOf openings office Health text = text ≡ codes "ok\n"
-IsToldOf openings office Metrics text = Unit {0}
+IsToldOf openings office Metrics text = IsMetricsOf office.names.items text
 IsToldOf openings office Setup text = IsPresentText openings office text
 IsToldOf openings office Stop text = IsPresentText openings office text
 

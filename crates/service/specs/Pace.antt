@@ -1,5 +1,5 @@
 -- How long a connection may do what, and when it gives up its thread.
-use Rattle.std.specs.Prelude.{ℕ, ◌-◌, ◌==◌, ◌||◌, Bool, true, false, nat_le, if◌then◌else◌}
+use Rattle.std.specs.Prelude.{ℕ, ◌-◌, ◌==◌, ◌||◌, Bool, true, false, nat_le, if◌then◌else◌, Option, Some, None}
 use Rattle.service.specs.declared.connection.pace.Rush.{Rush}
 use Rattle.service.specs.declared.connection.pace.Rush.TheVariants.{Calm, Crowded, Stopping}
 use Rattle.service.specs.declared.connection.pace.Activity.{Activity}
@@ -31,3 +31,9 @@ abbrev pub yields : Rush → (status served : ℕ) → Bool
 yields Calm status served = false
 yields Crowded status served = status == 400 || status == 401 || nat_le 1000 served
 yields Stopping status served = false
+
+-- for how many milliseconds a request at the host's door may be read now: 500 once it has come whole, and 20 where it has not
+-- come after 500
+abbrev pub reading_time : (has_come : Bool) → (waited : ℕ) → Option ℕ
+reading_time true waited = Some 500
+reading_time false waited = if nat_le 500 waited then Some 20 else None

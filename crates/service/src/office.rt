@@ -38,6 +38,7 @@ pub struct Office<J: Run> {
     /// Where the tenants' clocks began.
     pub start: Moment,
     ghost known: { vec_len terms ≡ books.tenants },
+    ghost named: { vec_len names ≡ books.tenants },
     ghost metered: { meters.tenants ≡ books.tenants },
 }
 

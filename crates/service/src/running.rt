@@ -2,6 +2,7 @@
 
 pub mod auditing;
 pub mod balances;
+pub mod ended;
 pub mod ending;
 pub mod files;
 pub mod meeting;

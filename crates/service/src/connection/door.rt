@@ -1,6 +1,7 @@
 //! Which connections may still come, how many are there, and whether others wait for the thread of one.
 
 use crate::connection::pace::{Rush, rush_of};
+use crate::running::ended::Ended;
 use std::sync::Wait;
 use std::sync::atomic::{AtomicBool, AtomicU64, Ordering};
 
@@ -15,6 +16,10 @@ pub struct Door {
     closed: AtomicBool,
     deserted: AtomicBool,
 }
+
+/// That no thread serves connections any more. A door alone gives it, once it was told so.
+#[derive(Drop)]
+pub struct Deserted(());
 
 impl Door {
     /// A door for so many connections.
@@ -80,13 +85,22 @@ impl Door {
         self.closed.load(Ordering::SeqCst)
     }
 
-    /// Says that no thread serves connections any more.
-    pub fn desert(&self) {
+    /// Says that no thread serves connections any more, since the workers have ended.
+    pub fn desert(&self, _ended: Ended) {
         self.deserted.store(true, Ordering::SeqCst);
     }
 
     pub fn is_deserted(&self) -> bool {
         self.deserted.load(Ordering::SeqCst)
+    }
+
+    /// That no thread serves connections any more, where that was said.
+    pub fn deserted(&self) -> Option<Deserted> {
+        if self.is_deserted() {
+            Some(Deserted(()))
+        } else {
+            None
+        }
     }
 
     /// Whether the system has just refused to accept a connection.

@@ -150,7 +150,8 @@ fn spent_also(spent: Spent, gone: Duration, rush: Rush) -> Spent {
     }
 }
 
-fn millis_of(time: Duration) -> u64 {
+/// A time in milliseconds, as far as they can be counted.
+pub fn millis_of(time: Duration) -> u64 {
     time.as_millis().min(u128::from(u64::MAX)) as u64
 }
 

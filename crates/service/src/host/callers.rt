@@ -1,8 +1,9 @@
 //! The connections at the host's door whose requests have not come whole.
 
 ghost use Rattle.std.specs.Prelude.{◌≡◌};
+ghost use Rattle.service.specs.Pace.{reading_time};
 
-use crate::connection::timed::is_pause;
+use crate::connection::timed::{is_pause, millis_of};
 use crate::host::hosting::Host;
 use one_list::Run;
 use std::alloc::{AllocError, Global};
@@ -93,20 +94,25 @@ impl Callers {
     }
 }
 
-// How long the request of a caller may be read where it is to be read now: where it has come whole, or its time is over.
+// How long the request of a caller may be read where it is to be read now.
 fn time_to_read(caller: &Caller, now: Instant, room: &mut [u8]) -> Option<Duration> {
-    if has_come(&caller.stream, room) {
-        Some(Duration::from_millis(PATIENCE))
-    } else if is_over(caller.came, now) {
-        Some(Duration::from_millis(PAUSE))
+    let waited = millis_of(now.saturating_duration_since(caller.came));
+    let time = reading_time(has_come(&caller.stream, room), waited)?;
+    Some(Duration::from_millis(time))
+}
+
+// For how many milliseconds a request may be read now whose connection has waited for so many: where it has come whole, or its
+// time is over.
+fn reading_time(has_come: bool, waited: u64) -> Option<u64>
+    ensures { result ≡ reading_time has_come waited }
+{
+    if has_come {
+        Some(PATIENCE)
+    } else if waited >= PATIENCE {
+        Some(PAUSE)
     } else {
         None
     }
-}
-
-// Whether one who came then has waited long enough.
-fn is_over(came: Instant, now: Instant) -> bool {
-    now.saturating_duration_since(came) >= Duration::from_millis(PATIENCE)
 }
 
 // Whether a request has come whole, or nothing more comes, as far as a look at the bytes tells, which stay where they are.

@@ -1,11 +1,16 @@
 //! The host's door.
 
-ghost use Rattle.std.specs.Prelude.{◌≡◌, ◌<◌, ◌⊎◌, MatchResult, codes};
-ghost use Rattle.service.specs.Hosting.{HasTold};
+ghost use Rattle.std.specs.Prelude.{◌≡◌, ◌<◌, ◌⊎◌, IfOk, MatchResult};
+ghost use Rattle.service.specs.Hosting.{HasTold, IsToldOf};
+ghost use Rattle.service.specs.Metrics.{IsBookOf, IsMetricsOf};
 ghost use Rattle.service.specs.Presence.{IsPresentText};
 
+use crate::connection::door::Deserted;
 use crate::connection::timed::Timed;
-use crate::host::metrics::{ServiceCounts, TenantCounts, metrics_text};
+use crate::host::asking::{Hosted, Untold, told_to_host};
+use crate::host::metrics::{
+    BookFigures, Gauges, ServiceCounts, all_counts, figures_of, metrics_text,
+};
 use crate::host::presence::present_text;
 use crate::office::Office;
 use common_types::Token;
@@ -18,7 +23,7 @@ use std::os::fd::OwnedFd;
 use std::sync::Wait;
 use std::time::{Clock, Duration};
 use std::{io, thread};
-use workers::Status;
+use workers::{PlaceUse, Status};
 
 /// Where the host asks, and the token to be shown there.
 #[derive(Drop)]
@@ -58,6 +63,12 @@ const PATIENCE: u64 = 5_000;
 
 /// How many milliseconds lie between two looks whether all threads have ended.
 const PAUSE: u64 = 20;
+
+const NO_PLACES: PlaceUse = PlaceUse {
+    share: 0,
+    used: 0,
+    waiting: 0,
+};
 
 /// Who answers at the host's door: one request of each connection.
 #[derive(Drop)]
@@ -118,136 +129,125 @@ impl<'a, H, J: Run> Host<'a, H, J> {
     }
 }
 
-impl<H: Wait + Net<Stream = TcpStream> + Clock, J: Run> Host<'_, H, J> {
-    // What is counted of a tenant now.
-    fn counts_of(&mut self, tenant: usize) -> Option<TenantCounts>
-        requires { tenant < self.old.office.now.books.tenants }
-        ensures seat { self.new.seat ≡ self.old.seat }
-        ensures office { self.new.office ≡ self.old.office }
-        ensures door { self.new.door ≡ self.old.door }
-        ensures told { self.new.told ≡ self.old.told }
-    {
-        let office = self.office;
-        let places = office.places.use_by(self.handle, tenant)?;
-        let seat = &mut self.seat;
-        let answered = office.meters.read(seat, tenant, Kind::Answered);
-        let refused = office.meters.read(seat, tenant, Kind::ClientError);
-        let unavailable = office.meters.read(seat, tenant, Kind::Unavailable);
-        let link_faults = office.meters.read(seat, tenant, Kind::LinkFault);
-        let guard = office.books.enter(self.handle, tenant);
-        let book = guard.book();
-        Some(TenantCounts {
-            answered,
-            refused,
-            unavailable,
-            link_faults,
-            refused_tokens: office.refused_tokens(tenant),
-            places,
-            period: book.period(),
-            entries: book.entries() as u64,
-            journal_places: book.journal_places(),
-            open_holds: book.open_holds() as u64,
-        })
+/// A service, as its host asks it.
+#[derive(Drop)]
+struct Inspected<'a, H, J: Run> {
+    handle: &'a H,
+    alloc: Global,
+    office: &'a Office<J>,
+    door: &'a HostDoor<'a>,
+}
+
+impl<H: Wait, J: Run> Gauges for Inspected<'_, H, J> {
+    ghost tenants = { λ s. s.office.now.books.tenants };
+
+    ghost meters = { λ s. s.office.now.meters.id };
+
+    // Of what the meters, the counters of tokens and the places tell nothing more is known.
+    ghost tells = { λ _ _ _ _. Unit {0} };
+
+    ghost tells_tokens = { λ _ _ _. Unit {0} };
+
+    ghost tells_places = { λ _ _ _. Unit {0} };
+
+    ghost tells_book = { λ _ tenant figures. IsBookOf tenant figures };
+
+    fn counted(&self, seat: &mut MeterSeat, tenant: usize, kind: Kind) -> u64 {
+        self.office.meters.read(seat, tenant, kind)
     }
 
-    fn all_counts(&mut self) -> Result<Vec<TenantCounts>, AllocError>
-        ensures seat { self.new.seat ≡ self.old.seat }
-        ensures office { self.new.office ≡ self.old.office }
-        ensures door { self.new.door ≡ self.old.door }
-        ensures told { self.new.told ≡ self.old.told }
-    {
-        let tenants = self.office.books.tenants();
-        let mut all = Vec::with_capacity(self.alloc, tenants)?;
-        for tenant in 0..tenants {
-            if let Some(counts) = self.counts_of(tenant) {
-                all.push(counts)?;
-            }
+    fn refused_tokens(&self, tenant: usize) -> u64 {
+        self.office.refused_tokens(tenant)
+    }
+
+    fn places(&self, tenant: usize) -> PlaceUse {
+        match self.office.places.use_by(self.handle, tenant) {
+            Some(places) => places,
+            // Each tenant has its places, which the lock's type can't say.
+            None => NO_PLACES,
         }
-        Ok(all)
     }
 
-    fn metrics(&mut self) -> Result<Vec<u8>, AllocError>
-        ensures seat { self.new.seat ≡ self.old.seat }
-        ensures office { self.new.office ≡ self.old.office }
-        ensures door { self.new.door ≡ self.old.door }
-    {
-        let counts = self.all_counts()?;
-        let door = &self.office.door;
+    fn book(&self, tenant: usize) -> BookFigures {
+        let guard = self.office.books.enter(self.handle, tenant);
+        figures_of(guard.book())
+    }
+}
+
+impl<H: Wait + Clock, J: Run> Hosted for Inspected<'_, H, J> {
+    // What the door tells may be otherwise the next moment.
+    ghost admits = { λ _ _. Unit {0} };
+
+    ghost measures = { λ s text. IsMetricsOf s.office.now.names.items text };
+
+    ghost presents = { λ s text. IsPresentText J.openings s.office.now text };
+
+    ghost presents_last = { λ s text. IsPresentText J.openings s.office.now text };
+
+    ghost read = { λ s. s.office.now.meters.id };
+
+    fn alloc(&self) -> Global {
+        self.alloc
+    }
+
+    fn lets_in(&self) -> bool {
+        self.office.door.lets_in()
+    }
+
+    fn metrics(&self, seat: &mut MeterSeat) -> Result<Vec<u8>, AllocError> {
+        let office = self.office;
+        let all = all_counts(self.alloc, self, seat, office.names.as_slice())?;
         let service = ServiceCounts {
-            accepts: door.lets_in(),
-            open: door.open(),
-            waiting: door.waiting(),
+            accepts: office.door.lets_in(),
+            open: office.door.open(),
+            waiting: office.door.waiting(),
         };
-        metrics_text(
-            self.alloc,
-            service,
-            self.office.names.as_slice(),
-            counts.as_slice(),
-        )
+        metrics_text(self.alloc, service, all.as_slice())
     }
 
-    // Tells the metrics.
-    fn measured(&mut self) -> u16
-        ensures told { (result ≡ 200) ⊎ (result ≡ 503) }
-        ensures seat { self.new.seat ≡ self.old.seat }
-        ensures office { self.new.office ≡ self.old.office }
-        ensures door { self.new.door ≡ self.old.door }
-    {
-        let text = self.metrics();
-        self.tell(text)
+    fn present(&self) -> Result<Vec<u8>, AllocError> {
+        present_text(self.handle, self.alloc, self.office)
     }
 
-    // Lets nobody in any more, and waits until all that is in hand is answered.
-    fn stop(&self) {
+    fn stop(&self) -> Deserted {
         let door = &self.office.door;
         door.close();
         self.door.shut();
         for _ in self.handle.forever() {
-            if door.is_deserted() {
-                return;
+            if let Some(deserted) = door.deserted() {
+                return deserted;
             }
             thread::sleep(self.handle, Duration::from_millis(PAUSE));
         }
+        unreachable!()
     }
 
-    // Keeps what is to be told, if there is memory for it, and gives the status.
-    fn tell(&mut self, text: Result<Vec<u8>, AllocError>) -> u16
-        ensures told { MatchResult text (λ text. (result ≡ 200) × (self.new.told ≡ text)) (λ fault. result ≡ 503) }
+    fn present_last(&self, _deserted: Deserted) -> Result<Vec<u8>, AllocError> {
+        present_text(self.handle, self.alloc, self.office)
+    }
+}
+
+impl<H: Wait + Net<Stream = TcpStream> + Clock, J: Run> Host<'_, H, J> {
+    // Keeps what is told of a request whose token is right, and gives the status.
+    fn answer(&mut self, request: HostRequest) -> u16
+        ensures told { ((result ≡ 200) × IsToldOf J.openings self.old.office.now request self.new.told.items) ⊎ (result ≡ 503) }
         ensures seat { self.new.seat ≡ self.old.seat }
         ensures office { self.new.office ≡ self.old.office }
         ensures door { self.new.door ≡ self.old.door }
     {
-        match text {
+        let service = Inspected {
+            handle: self.handle,
+            alloc: self.alloc,
+            office: self.office,
+            door: &self.door,
+        };
+        match told_to_host(&service, &mut self.seat, request) {
             Ok(text) => {
                 self.told = text;
                 Status::Answered.code()
             }
-            Err(AllocError) => Status::Unavailable.code(),
+            Err(Untold::Closed | Untold::Memory) => Status::Unavailable.code(),
         }
-    }
-
-    fn healthy(&mut self) -> u16
-        ensures told { ((result ≡ 200) × (self.new.told.items ≡ codes "ok\n")) ⊎ (result ≡ 503) }
-        ensures seat { self.new.seat ≡ self.old.seat }
-        ensures office { self.new.office ≡ self.old.office }
-        ensures door { self.new.door ≡ self.old.door }
-    {
-        if !self.office.door.lets_in() {
-            return Status::Unavailable.code();
-        }
-        let words = Vec::from_slice(self.alloc, b"ok\n");
-        self.tell(words)
-    }
-
-    // Tells the setup of all tenants as they stand.
-    fn present(&mut self) -> u16
-        ensures told { ((result ≡ 200) × IsPresentText J.openings self.old.office.now self.new.told.items) ⊎ (result ≡ 503) }
-        ensures seat { self.new.seat ≡ self.old.seat }
-        ensures office { self.new.office ≡ self.old.office }
-        ensures door { self.new.door ≡ self.old.door }
-    {
-        let text = present_text(self.handle, self.alloc, self.office);
-        self.tell(text)
     }
 
     /// Answers the one request of a connection, which may take so long to come.
@@ -271,15 +271,7 @@ impl<H: Wait + Net<Stream = TcpStream> + Clock, J: Run> HostService for Host<'_,
         if request != HostRequest::Health && token != self.door.token.as_bytes() {
             return Status::Unauthorized.code();
         }
-        match request {
-            HostRequest::Health => self.healthy(),
-            HostRequest::Metrics => self.measured(),
-            HostRequest::Setup => self.present(),
-            HostRequest::Stop => {
-                self.stop();
-                self.present()
-            }
-        }
+        self.answer(request)
     }
 
     fn body(&self) -> &[u8] {

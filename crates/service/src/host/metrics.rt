@@ -1,12 +1,35 @@
 //! The counts of a service that runs, in the text format of Prometheus (version 0.0.4).
 
+ghost use Rattle.std.specs.Prelude.{◌≡◌, ◌++◌, ◌<◌, ◌≤◌, ℕ, length, vec_len, Some, IfOk, OnOk};
+ghost use Rattle.std.specs.List.{slice_get};
+ghost use Rattle.atomic_table.specs.Seated.{TableId};
+ghost use Rattle.meters.specs.declared.kind.Kind as meter;
+ghost use Rattle.service.specs.declared.host.metrics.TenantCounts as told;
+ghost use Rattle.service.specs.Metrics.{AreRead, all_answers, answer_line, answers_of, bit, each_text, figure_of, figures_of, head_of};
+ghost use Rattle.service.specs.Metrics.{help_of, label_of, line_of, metrics_text, name_of, number_text, service_text, single_text};
+ghost use Rattle.service.specs.Metrics.{tenants_text, type_of};
+
 use common_types::Name;
+use meters::{Kind, MeterSeat};
 use std::alloc::{AllocError, Global};
+use tenant_core::Book;
 use workers::PlaceUse;
+
+/// What is told of a tenant's book.
+#[derive(Clone, Copy)]
+pub struct BookFigures {
+    /// The running period, its entries, and how many it has room for.
+    pub period: u64,
+    pub entries: u64,
+    pub journal_places: u64,
+    /// How many packets await their answers.
+    pub open_holds: u64,
+}
 
 /// What is counted of a tenant, at one moment.
 #[derive(Clone, Copy)]
-pub struct TenantCounts {
+pub struct TenantCounts<'a> {
+    pub name: &'a Name,
     /// How many packets and commands were answered with status 200, with a 4xx, and with 503.
     pub answered: u64,
     pub refused: u64,
@@ -16,12 +39,7 @@ pub struct TenantCounts {
     /// How many commands came under a token that is not the operator's.
     pub refused_tokens: u64,
     pub places: PlaceUse,
-    /// The running period, its entries, and how many it has room for.
-    pub period: u64,
-    pub entries: u64,
-    pub journal_places: u64,
-    /// How many packets await their answers.
-    pub open_holds: u64,
+    pub book: BookFigures,
 }
 
 /// What is counted of the whole service, at one moment.
@@ -34,48 +52,117 @@ pub struct ServiceCounts {
     pub waiting: u64,
 }
 
-/// Whether a number only grows.
-#[derive(Clone, Copy)]
-enum Growth {
-    Counter,
-    Gauge,
+/// What tells the numbers of tenants, as they stand.
+pub trait Gauges {
+    ghost use Rattle.workers.specs.declared.places.PlaceUse.{PlaceUse};
+    ghost use Rattle.service.specs.declared.host.metrics.BookFigures.{BookFigures};
+
+    /// How many tenants there are, and which meters are read.
+    ghost tenants: { Self → ℕ };
+
+    ghost meters: { Self → TableId };
+
+    /// That it told that number: of a tenant and a kind, of its refused tokens, of its places, and of its book.
+    ghost tells: { Self → ℕ → meter.Kind → ℕ → Type 0 };
+
+    ghost tells_tokens: { Self → ℕ → ℕ → Type 0 };
+
+    ghost tells_places: { Self → ℕ → PlaceUse → Type 0 };
+
+    ghost tells_book: { Self → ℕ → BookFigures → Type 0 };
+
+    /// How many of a kind were counted for a tenant, read through a seat of the meters.
+    fn counted(&self, seat: &mut MeterSeat, tenant: usize, kind: Kind) -> u64
+        requires seat { seat.old.meters ≡ meters self.now }
+        requires tenant { tenant < tenants self.now }
+        ensures told { tells self.now tenant kind result }
+        ensures same { seat.new ≡ seat.old };
+
+    /// How many commands came for a tenant under a token that is not its operator's.
+    fn refused_tokens(&self, tenant: usize) -> u64
+        ensures { tells_tokens self.now tenant result };
+
+    /// How a tenant stands with the places.
+    fn places(&self, tenant: usize) -> PlaceUse
+        ensures { tells_places self.now tenant result };
+
+    /// How the book of a tenant stands.
+    fn book(&self, tenant: usize) -> BookFigures
+        requires { tenant < tenants self.now }
+        ensures { tells_book self.now tenant result };
+}
+
+/// What is told of a book.
+pub fn figures_of(book: &Book) -> BookFigures
+    ensures { result ≡ figures_of book.now }
+{
+    BookFigures {
+        period: book.period(),
+        entries: book.entries() as u64,
+        journal_places: book.journal_places(),
+        open_holds: book.open_holds() as u64,
+    }
+}
+
+// What is told of a tenant of that name.
+fn counts_of<'a, G: Gauges>(
+    gauges: &G,
+    seat: &mut MeterSeat,
+    tenant: usize,
+    name: &'a Name,
+) -> TenantCounts<'a>
+    requires seat { seat.old.meters ≡ G.meters gauges.now }
+    requires tenant { tenant < G.tenants gauges.now }
+    ensures same { seat.new ≡ seat.old }
+    ensures name { result.name.now ≡ name.now }
+    ensures read { AreRead (G.tells gauges.now tenant) (G.tells_tokens gauges.now tenant) (G.tells_places gauges.now tenant)
+        (G.tells_book gauges.now tenant) result }
+{
+    TenantCounts {
+        name,
+        answered: gauges.counted(seat, tenant, Kind::Answered),
+        refused: gauges.counted(seat, tenant, Kind::ClientError),
+        unavailable: gauges.counted(seat, tenant, Kind::Unavailable),
+        link_faults: gauges.counted(seat, tenant, Kind::LinkFault),
+        refused_tokens: gauges.refused_tokens(tenant),
+        places: gauges.places(tenant),
+        book: gauges.book(tenant),
+    }
+}
+
+/// What is told of the tenants of these names, in their order. The one error is want of memory.
+pub fn all_counts<'a, G: Gauges>(
+    alloc: Global,
+    gauges: &G,
+    seat: &mut MeterSeat,
+    names: &'a [Name],
+) -> Result<Vec<TenantCounts<'a>>, AllocError>
+    requires seat { seat.old.meters ≡ G.meters gauges.now }
+    requires tenants { length names.now ≤ G.tenants gauges.now }
+    ensures same { seat.new ≡ seat.old }
+    ensures each { IfOk result (λ all. vec_len all ≡ length names.now) }
+    ensures read { IfOk result (λ all. (tenant : ℕ) (counts : told.TenantCounts) → slice_get all.items tenant ≡ Some counts
+        → (slice_get names.now tenant ≡ Some counts.name.now)
+        × AreRead (G.tells gauges.now tenant) (G.tells_tokens gauges.now tenant) (G.tells_places gauges.now tenant)
+        (G.tells_book gauges.now tenant) counts) }
+{
+    let mut all = Vec::with_capacity(alloc, names.len())?;
+    for tenant in 0..names.len() {
+        all.push_reserved(counts_of(gauges, seat, tenant, &names[tenant]));
+    }
+    Ok(all)
 }
 
 /// Numbers of one name.
-#[derive(Clone, Copy)]
-struct Family {
-    name: &'static str,
-    growth: Growth,
-    help: &'static str,
-}
-
-const ACCEPTS: Family = Family {
-    name: "ilpd_accepts_connections",
-    growth: Growth::Gauge,
-    help: "Whether connections are accepted: 1 or 0.",
-};
-
-const OPEN: Family = Family {
-    name: "ilpd_connections_open",
-    growth: Growth::Gauge,
-    help: "Connections that are open.",
-};
-
-const WAITING: Family = Family {
-    name: "ilpd_threads_waiting",
-    growth: Growth::Gauge,
-    help: "Threads that wait for a connection.",
-};
-
-const ANSWERS: Family = Family {
-    name: "ilpd_answers_total",
-    growth: Growth::Counter,
-    help: "Packets and commands that were answered, by the status of the answer.",
-};
-
-/// A number of a tenant.
-#[derive(Clone, Copy)]
-enum Figure {
+#[derive(Clone, Copy, Debug, PartialEq, Eq)]
+enum Family {
+    /// Of the whole service.
+    Accepts,
+    Open,
+    Waiting,
+    /// Of each tenant, three by the status of the answer.
+    Answers,
+    /// Of each tenant, one.
     LinkFaults,
     RefusedTokens,
     PlacesShare,
@@ -87,207 +174,261 @@ enum Figure {
     OpenHolds,
 }
 
-impl TenantCounts {
-    fn get(&self, figure: Figure) -> u64 {
-        match figure {
-            Figure::LinkFaults => self.link_faults,
-            Figure::RefusedTokens => self.refused_tokens,
-            Figure::PlacesShare => self.places.share as u64,
-            Figure::PlacesUsed => self.places.used as u64,
-            Figure::PlacesAwaited => self.places.waiting as u64,
-            Figure::Period => self.period,
-            Figure::Entries => self.entries,
-            Figure::JournalPlaces => self.journal_places,
-            Figure::OpenHolds => self.open_holds,
+impl Family {
+    fn name(self) -> &'static [u8]
+        ensures { result.now ≡ name_of self }
+    {
+        match self {
+            Family::Accepts => b"ilpd_accepts_connections",
+            Family::Open => b"ilpd_connections_open",
+            Family::Waiting => b"ilpd_threads_waiting",
+            Family::Answers => b"ilpd_answers_total",
+            Family::LinkFaults => b"ilpd_link_faults_total",
+            Family::RefusedTokens => b"ilpd_operator_tokens_refused_total",
+            Family::PlacesShare => b"ilpd_places_share",
+            Family::PlacesUsed => b"ilpd_places_used",
+            Family::PlacesAwaited => b"ilpd_places_awaited",
+            Family::Period => b"ilpd_period",
+            Family::Entries => b"ilpd_journal_entries",
+            Family::JournalPlaces => b"ilpd_journal_places",
+            Family::OpenHolds => b"ilpd_holds_open",
+        }
+    }
+
+    fn help(self) -> &'static [u8]
+        ensures { result.now ≡ help_of self }
+    {
+        match self {
+            Family::Accepts => b"Whether connections are accepted: 1 or 0.",
+            Family::Open => b"Connections that are open.",
+            Family::Waiting => b"Threads that wait for a connection.",
+            Family::Answers =>
+                b"Packets and commands that were answered, by the status of the answer.",
+            Family::LinkFaults =>
+                b"Packets for which a peer gave no usable answer, or for which no place was free in time.",
+            Family::RefusedTokens => b"Commands under a token that is not the operator's.",
+            Family::PlacesShare => b"Places of which the tenant is sure.",
+            Family::PlacesUsed =>
+                b"Places that the tenant uses: its packets that are with a next peer.",
+            Family::PlacesAwaited => b"Packets of the tenant that wait for a place.",
+            Family::Period => b"The number of the running period.",
+            Family::Entries => b"Entries of the running period.",
+            Family::JournalPlaces => b"Entries that a period has room for, beside its roll.",
+            Family::OpenHolds => b"Packets that went on and await their answers.",
+        }
+    }
+
+    // Whether its numbers only grow.
+    fn kind(self) -> &'static [u8]
+        ensures { result.now ≡ type_of self }
+    {
+        match self {
+            Family::Answers | Family::LinkFaults | Family::RefusedTokens => b"counter",
+            _ => b"gauge",
         }
     }
 }
 
-static FIGURES: [(Figure, Family); 9] = [
-    (
-        Figure::LinkFaults,
-        Family {
-            name: "ilpd_link_faults_total",
-            growth: Growth::Counter,
-            help: "Packets for which a peer gave no usable answer, or for which no place was free in time.",
-        },
-    ),
-    (
-        Figure::RefusedTokens,
-        Family {
-            name: "ilpd_operator_tokens_refused_total",
-            growth: Growth::Counter,
-            help: "Commands under a token that is not the operator's.",
-        },
-    ),
-    (
-        Figure::PlacesShare,
-        Family {
-            name: "ilpd_places_share",
-            growth: Growth::Gauge,
-            help: "Places of which the tenant is sure.",
-        },
-    ),
-    (
-        Figure::PlacesUsed,
-        Family {
-            name: "ilpd_places_used",
-            growth: Growth::Gauge,
-            help: "Places that the tenant uses: its packets that are with a next peer.",
-        },
-    ),
-    (
-        Figure::PlacesAwaited,
-        Family {
-            name: "ilpd_places_awaited",
-            growth: Growth::Gauge,
-            help: "Packets of the tenant that wait for a place.",
-        },
-    ),
-    (
-        Figure::Period,
-        Family {
-            name: "ilpd_period",
-            growth: Growth::Gauge,
-            help: "The number of the running period.",
-        },
-    ),
-    (
-        Figure::Entries,
-        Family {
-            name: "ilpd_journal_entries",
-            growth: Growth::Gauge,
-            help: "Entries of the running period.",
-        },
-    ),
-    (
-        Figure::JournalPlaces,
-        Family {
-            name: "ilpd_journal_places",
-            growth: Growth::Gauge,
-            help: "Entries that a period has room for, beside its roll.",
-        },
-    ),
-    (
-        Figure::OpenHolds,
-        Family {
-            name: "ilpd_holds_open",
-            growth: Growth::Gauge,
-            help: "Packets that went on and await their answers.",
-        },
-    ),
-];
+impl TenantCounts<'_> {
+    // The number that a family has of a tenant.
+    fn get(&self, family: Family) -> u64
+        ensures { result ≡ figure_of family self.now }
+    {
+        match family {
+            Family::LinkFaults => self.link_faults,
+            Family::RefusedTokens => self.refused_tokens,
+            Family::PlacesShare => self.places.share as u64,
+            Family::PlacesUsed => self.places.used as u64,
+            Family::PlacesAwaited => self.places.waiting as u64,
+            Family::Period => self.book.period,
+            Family::Entries => self.book.entries,
+            Family::JournalPlaces => self.book.journal_places,
+            Family::OpenHolds => self.book.open_holds,
+            Family::Accepts | Family::Open | Family::Waiting | Family::Answers => 0,
+        }
+    }
+}
 
-/// A text of metrics that is being written.
-#[derive(Drop)]
-struct Page {
+// The lines before the numbers of a family.
+#[tactic(auto, unfolding(crate::specs::Metrics::head_of))]
+fn put_head(text: &mut Vec<u8>, family: Family) -> Result<(), AllocError>
+    ensures { OnOk result (text.new.items ≡ text.old.items ++ head_of family) }
+{
+    text.extend_from_slice(b"# HELP ")?;
+    text.extend_from_slice(family.name())?;
+    text.extend_from_slice(b" ")?;
+    text.extend_from_slice(family.help())?;
+    text.extend_from_slice(b"\n# TYPE ")?;
+    text.extend_from_slice(family.name())?;
+    text.extend_from_slice(b" ")?;
+    text.extend_from_slice(family.kind())?;
+    text.extend_from_slice(b"\n")
+}
+
+// The number that ends a line.
+fn put_number(alloc: Global, text: &mut Vec<u8>, number: u64) -> Result<(), AllocError>
+    ensures { OnOk result (text.new.items ≡ text.old.items ++ number_text number) }
+{
+    text.extend_from_slice(b" ")?;
+    let digits = number.to_string(alloc)?;
+    text.extend_from_slice(digits.as_bytes())?;
+    text.extend_from_slice(b"\n")
+}
+
+// A family of one number.
+#[tactic(auto, unfolding(crate::specs::Metrics::single_text))]
+fn put_single(
     alloc: Global,
-    text: Vec<u8>,
+    text: &mut Vec<u8>,
+    family: Family,
+    number: u64,
+) -> Result<(), AllocError>
+    ensures { OnOk result (text.new.items ≡ text.old.items ++ single_text family number) }
+{
+    put_head(text, family)?;
+    text.extend_from_slice(family.name())?;
+    put_number(alloc, text, number)
 }
 
-impl Page {
-    fn put(&mut self, text: &[u8]) -> Result<(), AllocError> {
-        self.text.extend_from_slice(text)
-    }
-
-    // The lines before the numbers of a family.
-    fn begin(&mut self, family: Family) -> Result<(), AllocError> {
-        self.put(b"# HELP ")?;
-        self.put(family.name.as_bytes())?;
-        self.put(b" ")?;
-        self.put(family.help.as_bytes())?;
-        self.put(b"\n# TYPE ")?;
-        self.put(family.name.as_bytes())?;
-        self.put(match family.growth {
-            Growth::Counter => b" counter\n".as_slice(),
-            Growth::Gauge => b" gauge\n",
-        })
-    }
-
-    fn put_number(&mut self, number: u64) -> Result<(), AllocError> {
-        let digits = number.to_string(self.alloc)?;
-        self.put(b" ")?;
-        self.put(digits.as_bytes())?;
-        self.put(b"\n")
-    }
-
-    // The one number of a family.
-    fn put_single(&mut self, family: Family, number: u64) -> Result<(), AllocError> {
-        self.begin(family)?;
-        self.put(family.name.as_bytes())?;
-        self.put_number(number)
-    }
-
-    // The name of a number of a tenant, up to the end of the tenant's name.
-    fn put_name(&mut self, family: Family, tenant: &Name) -> Result<(), AllocError> {
-        self.put(family.name.as_bytes())?;
-        self.put(b"{tenant=\"")?;
-        self.put(tenant.as_bytes())?;
-        self.put(b"\"")
-    }
-
-    fn put_of(&mut self, family: Family, tenant: &Name, number: u64) -> Result<(), AllocError> {
-        self.put_name(family, tenant)?;
-        self.put(b"}")?;
-        self.put_number(number)
-    }
-
-    // How many answers of a tenant had a status.
-    fn put_answers(&mut self, tenant: &Name, status: &[u8], number: u64) -> Result<(), AllocError> {
-        self.put_name(ANSWERS, tenant)?;
-        self.put(b",status=\"")?;
-        self.put(status)?;
-        self.put(b"\"}")?;
-        self.put_number(number)
-    }
-
-    fn put_all_answers(
-        &mut self,
-        tenants: &[Name],
-        counts: &[TenantCounts],
-    ) -> Result<(), AllocError> {
-        self.begin(ANSWERS)?;
-        for (tenant, counts) in tenants.iter().zip(counts) {
-            self.put_answers(tenant, b"200", counts.answered)?;
-            self.put_answers(tenant, b"4xx", counts.refused)?;
-            self.put_answers(tenant, b"503", counts.unavailable)?;
-        }
-        Ok(())
-    }
-
-    // A number of each tenant.
-    fn put_each(
-        &mut self,
-        figure: Figure,
-        family: Family,
-        tenants: &[Name],
-        counts: &[TenantCounts],
-    ) -> Result<(), AllocError> {
-        self.begin(family)?;
-        for (tenant, counts) in tenants.iter().zip(counts) {
-            self.put_of(family, tenant, counts.get(figure))?;
-        }
-        Ok(())
-    }
+// Whose number it is.
+#[tactic(auto, unfolding(crate::specs::Metrics::label_of))]
+fn put_label(text: &mut Vec<u8>, family: Family, tenant: &Name) -> Result<(), AllocError>
+    ensures { OnOk result (text.new.items ≡ text.old.items ++ label_of family tenant.now) }
+{
+    text.extend_from_slice(family.name())?;
+    text.extend_from_slice(b"{tenant=\"")?;
+    text.extend_from_slice(tenant.as_bytes())?;
+    text.extend_from_slice(b"\"")
 }
 
-/// The metrics of a service and of its tenants, which have these names. The one error is want of memory.
+// The line of a tenant's number.
+#[tactic(auto, unfolding(crate::specs::Metrics::line_of))]
+fn put_line(
+    alloc: Global,
+    text: &mut Vec<u8>,
+    family: Family,
+    tenant: &Name,
+    number: u64,
+) -> Result<(), AllocError>
+    ensures { OnOk result (text.new.items ≡ text.old.items ++ line_of family tenant.now number) }
+{
+    put_label(text, family, tenant)?;
+    text.extend_from_slice(b"}")?;
+    put_number(alloc, text, number)
+}
+
+// How many answers of a tenant had a status.
+#[tactic(auto, unfolding(crate::specs::Metrics::answer_line))]
+fn put_answer(
+    alloc: Global,
+    text: &mut Vec<u8>,
+    tenant: &Name,
+    status: &[u8],
+    number: u64,
+) -> Result<(), AllocError>
+    ensures { OnOk result (text.new.items ≡ text.old.items ++ answer_line tenant.now status.now number) }
+{
+    put_label(text, Family::Answers, tenant)?;
+    text.extend_from_slice(b",status=\"")?;
+    text.extend_from_slice(status)?;
+    text.extend_from_slice(b"\"}")?;
+    put_number(alloc, text, number)
+}
+
+// How many answers of a tenant had each status.
+#[tactic(auto, unfolding(crate::specs::Metrics::answers_of))]
+fn put_answers(
+    alloc: Global,
+    text: &mut Vec<u8>,
+    counts: &TenantCounts<'_>,
+) -> Result<(), AllocError>
+    ensures { OnOk result (text.new.items ≡ text.old.items ++ answers_of counts.now) }
+{
+    put_answer(alloc, text, counts.name, b"200", counts.answered)?;
+    put_answer(alloc, text, counts.name, b"4xx", counts.refused)?;
+    put_answer(alloc, text, counts.name, b"503", counts.unavailable)
+}
+
+// The answers of all tenants.
+#[tactic(auto, unfolding(crate::specs::Metrics::all_answers))]
+fn put_all_answers(
+    alloc: Global,
+    text: &mut Vec<u8>,
+    all: &[TenantCounts<'_>],
+) -> Result<(), AllocError>
+    ensures { OnOk result (text.new.items ≡ text.old.items ++ all_answers all.now) }
+{
+    put_head(text, Family::Answers)?;
+    for counts in all {
+        put_answers(alloc, text, counts)?;
+    }
+    Ok(())
+}
+
+// A number of each tenant.
+#[tactic(auto, unfolding(crate::specs::Metrics::each_text))]
+fn put_each(
+    alloc: Global,
+    text: &mut Vec<u8>,
+    family: Family,
+    all: &[TenantCounts<'_>],
+) -> Result<(), AllocError>
+    ensures { OnOk result (text.new.items ≡ text.old.items ++ each_text family all.now) }
+{
+    put_head(text, family)?;
+    for counts in all {
+        put_line(alloc, text, family, counts.name, counts.get(family))?;
+    }
+    Ok(())
+}
+
+// What is told of the whole service.
+#[tactic(auto, unfolding(crate::specs::Metrics::service_text))]
+fn put_service(alloc: Global, text: &mut Vec<u8>, service: ServiceCounts) -> Result<(), AllocError>
+    ensures { OnOk result (text.new.items ≡ text.old.items ++ service_text service) }
+{
+    put_single(alloc, text, Family::Accepts, bit(service.accepts))?;
+    put_single(alloc, text, Family::Open, service.open)?;
+    put_single(alloc, text, Family::Waiting, service.waiting)
+}
+
+fn bit(holds: bool) -> u64
+    ensures { result ≡ bit holds }
+{
+    u64::from(holds)
+}
+
+// What is told of the tenants.
+#[tactic(auto, unfolding(crate::specs::Metrics::tenants_text))]
+fn put_tenants(
+    alloc: Global,
+    text: &mut Vec<u8>,
+    all: &[TenantCounts<'_>],
+) -> Result<(), AllocError>
+    ensures { OnOk result (text.new.items ≡ text.old.items ++ tenants_text all.now) }
+{
+    put_all_answers(alloc, text, all)?;
+    put_each(alloc, text, Family::LinkFaults, all)?;
+    put_each(alloc, text, Family::RefusedTokens, all)?;
+    put_each(alloc, text, Family::PlacesShare, all)?;
+    put_each(alloc, text, Family::PlacesUsed, all)?;
+    put_each(alloc, text, Family::PlacesAwaited, all)?;
+    put_each(alloc, text, Family::Period, all)?;
+    put_each(alloc, text, Family::Entries, all)?;
+    put_each(alloc, text, Family::JournalPlaces, all)?;
+    put_each(alloc, text, Family::OpenHolds, all)
+}
+
+/// The metrics of a service and of its tenants. The one error is want of memory.
 pub fn metrics_text(
     alloc: Global,
     service: ServiceCounts,
-    tenants: &[Name],
-    counts: &[TenantCounts],
-) -> Result<Vec<u8>, AllocError> {
-    let mut page = Page {
-        alloc,
-        text: Vec::new(alloc),
-    };
-    page.put_single(ACCEPTS, u64::from(service.accepts))?;
-    page.put_single(OPEN, service.open)?;
-    page.put_single(WAITING, service.waiting)?;
-    page.put_all_answers(tenants, counts)?;
-    for (figure, family) in FIGURES {
-        page.put_each(figure, family, tenants, counts)?;
-    }
-    Ok(page.text)
+    all: &[TenantCounts<'_>],
+) -> Result<Vec<u8>, AllocError>
+    ensures { IfOk result (λ text. text.items ≡ metrics_text service all.now) }
+{
+    let mut text = Vec::new(alloc);
+    put_service(alloc, &mut text, service)?;
+    put_tenants(alloc, &mut text, all)?;
+    Ok(text)
 }

@@ -19,6 +19,10 @@ const MISSED: u8 = 3;
 /// For how many milliseconds one waits for the other.
 const PATIENCE: u64 = 3_000;
 
+/// That one did not come to a meeting. Neither begins then.
+#[derive(Drop)]
+pub struct Missed(());
+
 /// Where two threads meet before they begin, since one may never have been started.
 #[derive(Drop)]
 pub struct Meeting {
@@ -39,9 +43,17 @@ impl Meeting {
             .is_ok()
     }
 
-    /// Comes to the meeting, waits for the other one, and says whether it came. It is called once by each: both are told the
-    /// same.
-    pub fn attend(&self, clock: &impl Clock) -> bool {
+    /// Comes to the meeting, and waits for the other one. It is called once by each: both are told the same.
+    pub fn attend(&self, clock: &impl Clock) -> Result<(), Missed> {
+        if self.have_met(clock) {
+            Ok(())
+        } else {
+            Err(Missed(()))
+        }
+    }
+
+    // Whether the other one came.
+    fn have_met(&self, clock: &impl Clock) -> bool {
         if !self.moves(NOBODY, ONE) {
             return self.moves(ONE, BOTH);
         }

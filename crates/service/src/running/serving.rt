@@ -21,6 +21,7 @@ use crate::host::hosting::{Host, HostDoor};
 use crate::office::Office;
 use crate::running::auditing::{Found, audit_told, finish_audit};
 use crate::running::balances::balance_lines;
+use crate::running::ended::{Ended, work_to_the_end};
 use crate::running::ending::{ServeFault, end_of, ungathered_end};
 use crate::running::meeting::Meeting;
 use crate::running::opening::{Begun, open_office};
@@ -224,17 +225,13 @@ fn run_beside<H: Threads + Wait + std::time::Clock + Sync, W: Lane, B: Beside>(
     let (started, ()) = join_mut(
         handle,
         &mut || {
-            let started = if meeting.attend(handle) {
-                run_workers(handle, lanes)
-            } else {
-                Err(StartFault)
-            };
-            door.desert();
+            let (started, ended) = work_to_the_end(handle, lanes, meeting.attend(handle));
+            door.desert(ended);
             started
         },
         &mut || {
-            if !meeting.attend(handle) {
-                door.desert();
+            if let Err(missed) = meeting.attend(handle) {
+                door.desert(Ended::before_it_began(missed));
             }
             other.stay();
         },

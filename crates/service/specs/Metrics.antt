@@ -1,0 +1,167 @@
+-- What the metrics of a service say, in the text format of Prometheus (version 0.0.4).
+use Rattle.std.specs.Prelude.{ℕ, ◌≡◌, Bool, true, false, List, ◌++◌, codes, length, Some}
+use Rattle.std.specs.Fmt.{decimal}
+use Rattle.std.specs.List.{flat_map, slice_get}
+use Rattle.tenant_core.specs.Holds.{open_holds}
+use Rattle.tenant_core.specs.State.{State}
+use Rattle.meters.specs.declared.kind.Kind.{Kind}
+use Rattle.meters.specs.declared.kind.Kind.TheVariants as kind
+use Rattle.workers.specs.declared.places.PlaceUse.{PlaceUse}
+use Rattle.service.specs.declared.host.metrics.BookFigures.{BookFigures}
+use Rattle.service.specs.declared.host.metrics.Family.{Family}
+use Rattle.service.specs.declared.host.metrics.Family.TheVariants.{Accepts, Open, Waiting, Answers, LinkFaults, RefusedTokens, PlacesShare, PlacesUsed, PlacesAwaited, Period, Entries, JournalPlaces, OpenHolds}
+use Rattle.service.specs.declared.host.metrics.ServiceCounts.{ServiceCounts}
+use Rattle.service.specs.declared.host.metrics.TenantCounts.{TenantCounts}
+
+-- ---- families
+
+-- the name of a family of numbers
+abbrev pub name_of : Family → List ℕ
+name_of Accepts = codes "ilpd_accepts_connections"
+name_of Open = codes "ilpd_connections_open"
+name_of Waiting = codes "ilpd_threads_waiting"
+name_of Answers = codes "ilpd_answers_total"
+name_of LinkFaults = codes "ilpd_link_faults_total"
+name_of RefusedTokens = codes "ilpd_operator_tokens_refused_total"
+name_of PlacesShare = codes "ilpd_places_share"
+name_of PlacesUsed = codes "ilpd_places_used"
+name_of PlacesAwaited = codes "ilpd_places_awaited"
+name_of Period = codes "ilpd_period"
+name_of Entries = codes "ilpd_journal_entries"
+name_of JournalPlaces = codes "ilpd_journal_places"
+name_of OpenHolds = codes "ilpd_holds_open"
+
+-- what it is, in words
+abbrev pub help_of : Family → List ℕ
+help_of Accepts = codes "Whether connections are accepted: 1 or 0."
+help_of Open = codes "Connections that are open."
+help_of Waiting = codes "Threads that wait for a connection."
+help_of Answers = codes "Packets and commands that were answered, by the status of the answer."
+help_of LinkFaults = codes "Packets for which a peer gave no usable answer, or for which no place was free in time."
+help_of RefusedTokens = codes "Commands under a token that is not the operator's."
+help_of PlacesShare = codes "Places of which the tenant is sure."
+help_of PlacesUsed = codes "Places that the tenant uses: its packets that are with a next peer."
+help_of PlacesAwaited = codes "Packets of the tenant that wait for a place."
+help_of Period = codes "The number of the running period."
+help_of Entries = codes "Entries of the running period."
+help_of JournalPlaces = codes "Entries that a period has room for, beside its roll."
+help_of OpenHolds = codes "Packets that went on and await their answers."
+
+-- whether its numbers only grow
+abbrev pub type_of : Family → List ℕ
+type_of Answers = codes "counter"
+type_of LinkFaults = codes "counter"
+type_of RefusedTokens = codes "counter"
+type_of _ = codes "gauge"
+
+-- the lines before the numbers of a family
+unfoldable pub head_of : Family → List ℕ
+head_of family =
+    codes "# HELP " ++ name_of family ++ codes " " ++ help_of family
+    ++ codes "\n# TYPE " ++ name_of family ++ codes " " ++ type_of family ++ codes "\n"
+
+-- ---- lines
+
+-- what ends a line: its number
+abbrev pub number_text : ℕ → List ℕ
+number_text number = codes " " ++ decimal number ++ codes "\n"
+
+-- a family of one number
+unfoldable pub single_text : Family → ℕ → List ℕ
+single_text family number = head_of family ++ name_of family ++ number_text number
+
+-- whose number it is
+unfoldable pub label_of : Family → List ℕ → List ℕ
+label_of family tenant = name_of family ++ codes "{tenant=\"" ++ tenant ++ codes "\""
+
+-- the line of a tenant's number
+unfoldable pub line_of : Family → List ℕ → ℕ → List ℕ
+line_of family tenant number = label_of family tenant ++ codes "}" ++ number_text number
+
+-- the line that says how many answers to a tenant's packets and commands had a status
+unfoldable pub answer_line : List ℕ → List ℕ → ℕ → List ℕ
+answer_line tenant status number =
+    label_of Answers tenant ++ codes ",status=\"" ++ status ++ codes "\"}" ++ number_text number
+
+-- ---- numbers
+
+-- the number of a tenant that a family has
+abbrev pub figure_of : Family → TenantCounts → ℕ
+figure_of LinkFaults counts = counts.link_faults
+figure_of RefusedTokens counts = counts.refused_tokens
+figure_of PlacesShare counts = counts.places.share
+figure_of PlacesUsed counts = counts.places.used
+figure_of PlacesAwaited counts = counts.places.waiting
+figure_of Period counts = counts.book.period
+figure_of Entries counts = counts.book.entries
+figure_of JournalPlaces counts = counts.book.journal_places
+figure_of OpenHolds counts = counts.book.open_holds
+figure_of _ counts = 0
+
+-- the lines of a tenant's answers: 200, 4xx and 503
+unfoldable pub answers_of : TenantCounts → List ℕ
+answers_of counts =
+    answer_line counts.name.now (codes "200") counts.answered ++ answer_line counts.name.now (codes "4xx") counts.refused
+    ++ answer_line counts.name.now (codes "503") counts.unavailable
+
+-- the answers of all tenants
+unfoldable pub all_answers : List TenantCounts → List ℕ
+all_answers all = head_of Answers ++ flat_map answers_of all
+
+-- a family of numbers of the tenants
+unfoldable pub each_text : Family → List TenantCounts → List ℕ
+each_text family all = head_of family ++ flat_map (λ counts. line_of family counts.name.now (figure_of family counts)) all
+
+-- 1 or 0
+abbrev pub bit : Bool → ℕ
+bit true = 1
+bit false = 0
+
+-- what is told of the whole service
+unfoldable pub service_text : ServiceCounts → List ℕ
+service_text service =
+    single_text Accepts (bit service.accepts) ++ single_text Open service.open ++ single_text Waiting service.waiting
+
+-- what is told of the tenants, by family
+unfoldable pub tenants_text : List TenantCounts → List ℕ
+tenants_text all =
+    all_answers all ++ each_text LinkFaults all ++ each_text RefusedTokens all ++ each_text PlacesShare all ++ each_text PlacesUsed all
+    ++ each_text PlacesAwaited all ++ each_text Period all ++ each_text Entries all ++ each_text JournalPlaces all ++ each_text OpenHolds all
+
+-- the metrics
+abbrev pub metrics_text : ServiceCounts → List TenantCounts → List ℕ
+metrics_text service all = service_text service ++ tenants_text all
+
+-- ---- what was read
+
+-- what is told of a book
+abbrev pub figures_of : State → BookFigures
+figures_of book = record {
+  period = book.opening.period;
+  entries = length book.records;
+  journal_places = book.opening.journal;
+  open_holds = open_holds book;
+}
+
+-- that is told of a book of the tenant
+abbrev pub IsBookOf : ℕ → BookFigures → Type 0
+IsBookOf tenant figures = (book : State) × (book.opening.tenant ≡ tenant) × (figures ≡ figures_of book)
+
+-- these counts of a tenant are what was told of it: so often each kind, so many refused tokens, these places, and this book
+pub record AreRead (Answered : Kind → ℕ → Type 0) (Tokens : ℕ → Type 0) (Places : PlaceUse → Type 0) (Book : BookFigures → Type 0)
+    (counts : TenantCounts) : Type 0 where
+  pub answered : Answered kind.Answered counts.answered
+  pub refused : Answered kind.ClientError counts.refused
+  pub unavailable : Answered kind.Unavailable counts.unavailable
+  pub link_faults : Answered kind.LinkFault counts.link_faults
+  pub refused_tokens : Tokens counts.refused_tokens
+  pub places : Places counts.places
+  pub book : Book counts.book
+
+-- the text tells the metrics of the tenants of these names, each of its own book
+abbrev pub IsMetricsOf : List (List ℕ) → List ℕ → Type 0
+IsMetricsOf names text =
+    (service : ServiceCounts) × (all : List TenantCounts) × (length all ≡ length names)
+    × ((tenant : ℕ) (counts : TenantCounts) → slice_get all tenant ≡ Some counts
+    → (slice_get names tenant ≡ Some counts.name.now) × IsBookOf tenant counts.book)
+    × (text ≡ metrics_text service all)
