@@ -1,6 +1,8 @@
 -- What the command line asks for.
-use Rattle.std.specs.Prelude.{◌≤◌, IfSome}
+use Rattle.std.specs.Prelude.{ℕ, ◌≤◌, List, Option, Some, None, if◌then◌else◌, IfSome}
+use Rattle.common_types.specs.Token.{is_token}
 use Rattle.books_shared.specs.Gathers.{max_workers}
+use Rattle.service.specs.Answering.{command_line}
 use Rattle.ilpd.specs.declared.command_line.Task.{Task}
 use Rattle.ilpd.specs.declared.command_line.TheConstants.{MAX_ROUNDS}
 use Rattle.ilpd.specs.declared.command_line.Task.TheVariants.{Replay, Check, Serve}
@@ -11,3 +13,7 @@ IsBounded Replay = Unit {0}
 IsBounded Check = Unit {0}
 IsBounded (Serve connections rounds report) =
     (1 ≤ connections) × (connections ≤ max_workers) × IfSome rounds (λ n. (1 ≤ n) × (n ≤ MAX_ROUNDS))
+
+-- the token of a text, which a line feed may end
+abbrev pub token_of : List ℕ → Option (List ℕ)
+token_of text = if is_token (command_line text) then Some (command_line text) else None

@@ -7,6 +7,7 @@ ghost use Rattle.ilpd.specs.Endings.{exit_status};
 
 use clap::error::ErrorKind;
 use replay_text::ReplayFault;
+use service::ServeFault;
 
 /// Why the program ended early.
 #[derive(Drop)]
@@ -14,10 +15,8 @@ pub enum Ending {
     /// The command line asks for nothing that is there, or for help.
     Usage(clap::Error),
     Fault(ReplayFault),
-    /// The books that a service ended with are not what its workers counted.
-    Differs,
-    /// An audit found a fault, which a service has told.
-    Audit,
+    /// A service ended so.
+    Served(ServeFault),
     /// The file of the host's token holds none, as a line has said.
     NoToken,
 }
@@ -49,6 +48,8 @@ pub fn exit_status(ended: &Result<(), Ending>) -> u8
         Ok(()) => 0,
         Err(Ending::Usage(_) | Ending::NoToken) => 2,
         Err(Ending::Fault(fault)) => fault.status(),
-        Err(Ending::Differs | Ending::Audit) => 6,
+        Err(Ending::Served(ServeFault::Memory)) => 1,
+        Err(Ending::Served(ServeFault::Device)) => 5,
+        Err(Ending::Served(ServeFault::Differs | ServeFault::Audit)) => 6,
     }
 }

@@ -1,9 +1,10 @@
 //! The connector's program.
 #![tactic(auto)]
 
-ghost use Rattle.std.specs.Prelude.{◌≤◌, length};
+ghost use Rattle.std.specs.Prelude.{◌≡◌, ◌≤◌, length};
 ghost use Rattle.allotment.specs.Loans.{max_places};
 ghost use Rattle.books_shared.specs.Gathers.{max_workers};
+ghost use Rattle.ilpd.specs.CommandLine.{token_of};
 ghost use Rattle.tenant_core.specs.Limits.{max_tenants};
 
 mod checking;
@@ -142,14 +143,21 @@ fn listener_on<R: Net<Listener = TcpListener, Stream = TcpStream> + Print + Allo
     TcpListener::bind(rt, parsed).map_err(|error| cannot(rt, "listen on", address, &error))
 }
 
-// The token that a file holds, which a line feed may end.
+// The token that a file holds.
 fn token_in(rt: &(impl Files + Print + AllocGlobal), file: &str) -> Result<Token, Ending> {
     let text = read_file(rt, file)?;
-    let Some(token) = Token::new(without_line_feed(text.as_slice())) else {
+    let Some(token) = token_of(text.as_slice()) else {
         let _ = println!(rt; "ilpd: {file} holds no token: 1 to 64 of A-Z a-z 0-9 - . _ ~ + / =");
         return Err(Ending::NoToken);
     };
     Ok(token)
+}
+
+// The token of a text, which a line feed may end.
+fn token_of(text: &[u8]) -> Option<Token>
+    ensures { result ≡ token_of text.now }
+{
+    Token::new(without_line_feed(text))
 }
 
 // Says in a line on standard output what to do where so many files can't be open at once.
@@ -238,17 +246,7 @@ fn serve_by<
     let clock = SystemClock::new(rt);
     let mut writer = io::writer(rt);
     let doors = Doors { packets, host };
-    serve(rt, rt.alloc(), setup, plan, doors, &clock, &mut writer).map_err(ended_by)
-}
-
-// How a run ends whose service ended so.
-fn ended_by(fault: ServeFault) -> Ending {
-    match fault {
-        ServeFault::Memory => Ending::Fault(ReplayFault::Memory),
-        ServeFault::Device => Ending::Fault(ReplayFault::Device),
-        ServeFault::Differs => Ending::Differs,
-        ServeFault::Audit => Ending::Audit,
-    }
+    serve(rt, rt.alloc(), setup, plan, doors, &clock, &mut writer).map_err(Ending::Served)
 }
 
 fn run<
@@ -302,15 +300,15 @@ fn run<
 fn main(rt: HostRuntime) -> ExitCode {
     let ended = run(&rt);
     match &ended {
-        Ok(()) | Err(Ending::Audit | Ending::NoToken) => {}
+        Ok(()) | Err(Ending::Served(ServeFault::Audit) | Ending::NoToken) => {}
         Err(Ending::Usage(error)) => {
             let _ = rt.eprint(error);
         }
         Err(Ending::Fault(fault)) => {
             let _ = rt.eprintln(*fault);
         }
-        Err(Ending::Differs) => {
-            let _ = rt.eprintln(ServeFault::Differs);
+        Err(Ending::Served(fault)) => {
+            let _ = rt.eprintln(*fault);
         }
     }
     ExitCode::from(exit_status(&ended))

@@ -2,9 +2,9 @@
 
 use crate::checking::{Script, check};
 use crate::clock::SystemClock;
-use crate::command_line::{CommandLine, Task, arguments};
+use crate::command_line::{CommandLine, HostWords, Task, arguments};
 use crate::ending::exit_status;
-use crate::replay;
+use crate::{replay, token_of};
 use std::alloc::{AllocError, Global};
 use std::process::Abort;
 use std::test::Fail;
@@ -19,8 +19,8 @@ admin = \"root-a\"
 ";
 
 // The words after the program's name, and what they ask for: the file of the setup, the number of workers, and the task, of
-// a service with its connections, its rounds and what it reports. Or the words, and what the text begins with that they are
-// refused with.
+// a service with its connections, its rounds, what it reports, and the host's address and token file. Or the words, and what
+// the text begins with that they are refused with.
 static LINES: &str = "\
 replay s1.toml -> s1.toml 1 replay
 replay s1.toml --workers 2 -> s1.toml 2 replay
@@ -46,7 +46,9 @@ serve --rounds=1000000 --workers=64 s1.toml --listen=[::1]:80 -> s1.toml 64 serv
 serve s1.toml -> error:
 serve s1.toml --rounds 1 -> error:
 serve s1.toml --workers 1 --connections 4096 --balances --audit -> s1.toml 1 serve 4096 - balances audit
-serve s1.toml --workers 1 --host 127.0.0.1:7769 --host-token host.token -> s1.toml 1 serve 256 -
+serve s1.toml --workers 1 --balances -> s1.toml 1 serve 256 - balances
+serve s1.toml --workers 1 --audit -> s1.toml 1 serve 256 - audit
+serve s1.toml --workers 1 --host 127.0.0.1:7769 --host-token host.token -> s1.toml 1 serve 256 - at 127.0.0.1:7769 by host.token
 serve s1.toml --workers 1 --host 127.0.0.1:7769 -> error:
 serve s1.toml --workers 1 --host-token host.token -> error:
 serve s1.toml --workers 65 -> error: invalid value '65' for '--workers <W>': 1 to 64
@@ -109,10 +111,26 @@ fn task_told(alloc: Global, task: Task) -> Result<String, Fail> {
     }
 }
 
+fn host_told(alloc: Global, host: Option<HostWords<'_>>) -> Result<String, Fail> {
+    match host {
+        Some(host) => Ok([" at ", host.address, " by ", host.token_file].concat(alloc)?),
+        None => Ok(String::new(alloc)),
+    }
+}
+
 fn told(alloc: Global, line: &CommandLine<'_>) -> Result<String, Fail> {
     let workers = line.workers.to_string(alloc)?;
     let task = task_told(alloc, line.task)?;
-    Ok([line.setup, " ", workers.as_str(), " ", task.as_str()].concat(alloc)?)
+    let host = host_told(alloc, line.host)?;
+    Ok([
+        line.setup,
+        " ",
+        workers.as_str(),
+        " ",
+        task.as_str(),
+        host.as_str(),
+    ]
+    .concat(alloc)?)
 }
 
 fn is_read_as(alloc: Global, words: &[String], wanted: &str) -> Result<bool, Fail> {
@@ -273,6 +291,30 @@ fn expect_said(rt: &impl Abort, alloc: Global, row: &Checked) -> Result<(), Fail
 fn what_check_says(rt: HostRuntime) -> Result<(), Fail> {
     for row in &CHECKS {
         expect_said(&rt, rt.alloc(), row)?;
+    }
+    Ok(())
+}
+
+// The text of a token's file, and the token that it has, if it has one.
+static TOKEN_FILES: [(&str, Option<&str>); 7] = [
+    ("host-token", Some("host-token")),
+    ("host-token\n", Some("host-token")),
+    ("host-token\n\n", None),
+    ("host\ntoken", None),
+    ("\nhost-token", None),
+    ("\n", None),
+    ("", None),
+];
+
+#[test]
+fn a_line_feed_may_end_a_tokens_file(rt: HostRuntime) -> Result<(), Fail> {
+    for (text, wanted) in &TOKEN_FILES {
+        let is_right = match (token_of(text.as_bytes()), wanted) {
+            (Some(token), Some(wanted)) => token.as_bytes() == wanted.as_bytes(),
+            (None, None) => true,
+            _ => false,
+        };
+        assert!(rt; is_right, "{text:?}");
     }
     Ok(())
 }
