@@ -1,7 +1,7 @@
 //! The door of whoever runs the process: what is told there, and a stop while clients send.
 
 use super::crowd::{Exchange, beside_peer, both_exchanges, connected, is_told, setup_text};
-use super::wire::{FixedClock, is_reply, packet_by};
+use super::wire::{FixedClock, is_reply, packet_by, request};
 use super::{NOTHING_MORE, asked};
 use admin_text::read_setup;
 use common_types::Token;
@@ -30,6 +30,8 @@ const STRANGER: &[u8] = b"POST /stop HTTP/1.1\r\nAuthorization: Bearer root\r\n\
 
 const UNAUTHORIZED: &[u8] =
     b"HTTP/1.1 401 Unauthorized\r\nWWW-Authenticate: Bearer\r\nContent-Length: 0\r\nConnection: close\r\n\r\n";
+
+const UNAUTHORIZED_HEAD: &[u8] = b"HTTP/1.1 401 Unauthorized\r\n";
 
 pub const HEALTHY: &[u8] =
     b"HTTP/1.1 200 OK\r\nContent-Type: text/plain\r\nContent-Length: 3\r\nConnection: close\r\n\r\nok\n";
@@ -163,18 +165,20 @@ where
     Ok((came, lines))
 }
 
-// The answers that a service without load gives at the host's door, and to one packet.
+// The answers that a service without load gives at the host's door, to one packet, and to a command under a bad token.
 fn told_in_turn(
     net: &impl Net<Stream = TcpStream>,
     alloc: Global,
     to: Addresses,
     packet: &[u8],
+    command: &[u8],
 ) -> io::Result<Vec<Vec<u8>>> {
     let mut answers = Vec::new(alloc);
     answers.push(asked(net, alloc, &to.host, HEALTH)?)?;
     answers.push(asked(net, alloc, &to.host, STRANGER)?)?;
     answers.push(asked(net, alloc, &to.host, SETUP)?)?;
     answers.push(asked(net, alloc, &to.packets, packet)?)?;
+    answers.push(asked(net, alloc, &to.packets, command)?)?;
     answers.push(asked(net, alloc, &to.host, METRICS)?)?;
     answers.push(asked(net, alloc, &to.host, STOP)?)?;
     Ok(answers)
@@ -189,11 +193,14 @@ where
     let alloc = rt.alloc();
     let text = setup_text(alloc, 7802)?;
     let packet = packet_by(alloc, "/ilp/acme", "tok-bob", "{config}")?;
-    let ask = |to: Addresses| Ok(told_in_turn(rt, alloc, to, packet.as_slice())?);
+    let command = request(alloc, "/admin/beta", "toor", b"balances")?;
+    let ask = |to: Addresses| {
+        Ok(told_in_turn(rt, alloc, to, packet.as_slice(), command.as_slice())?)
+    };
     served_with_host(rt, text.as_str(), ask)
 }
 
-// Lines of the metrics after one packet of acme's was answered.
+// Lines of the metrics after one packet of acme's was answered, and a command for beta refused.
 const METRICS_WANTED: &str = "\
 ilpd_accepts_connections 1
 ilpd_answers_total{tenant=\"acme\",status=\"200\"} 1
@@ -202,6 +209,7 @@ ilpd_answers_total{tenant=\"acme\",status=\"503\"} 0
 ilpd_answers_total{tenant=\"beta\",status=\"200\"} 0
 ilpd_link_faults_total{tenant=\"acme\"} 0
 ilpd_operator_tokens_refused_total{tenant=\"acme\"} 0
+ilpd_operator_tokens_refused_total{tenant=\"beta\"} 1
 ilpd_places_share{tenant=\"acme\"} 1
 ilpd_places_used{tenant=\"acme\"} 0
 ilpd_places_awaited{tenant=\"acme\"} 0
@@ -241,14 +249,15 @@ fn is_setup(alloc: Global, answer: &[u8]) -> Result<bool, Fail> {
 }
 
 fn expect_told(rt: &impl Abort, alloc: Global, answers: &[Vec<u8>]) -> Result<(), Fail> {
-    let [health, stranger, before, packet, metrics, after] = answers else {
-        return Err("six answers".into());
+    let [health, stranger, before, packet, command, metrics, after] = answers else {
+        return Err("seven answers".into());
     };
     assert!(rt; health.as_slice() == HEALTHY);
     assert!(rt; stranger.as_slice() == UNAUTHORIZED);
     assert!(rt; is_setup(alloc, before.as_slice())?);
     assert!(rt; is_setup(alloc, after.as_slice())?);
     assert!(rt; is_reply(alloc, packet.as_slice(), "{configuration of bob}")?);
+    assert!(rt; command.as_slice().starts_with(UNAUTHORIZED_HEAD));
     expect_metrics(rt, metrics.as_slice(), METRICS_WANTED)
 }
 
