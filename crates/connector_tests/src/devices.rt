@@ -1,4 +1,5 @@
-//! Replays over devices that give and take one byte at a time, and of which each read and each write fails in turn.
+//! Replays over devices that give and take one byte at a time, and of which each read and each write fails in turn; and
+//! over one that keeps the longest write.
 
 use oer_core::Device;
 use replay_text::{ReplayFault, replay};
@@ -195,5 +196,49 @@ fn each_read_and_each_write_fails_in_turn(rt: HostRuntime) -> Result<(), Fail> {
     assert!(rt; script.as_bytes().failures() == 0);
     let memory: Vec<u8> = Vec::new(alloc);
     assert!(rt; memory.failures() == 0);
+    Ok(())
+}
+
+/// Takes all that it is given, and keeps how many bytes came at once at most, and in all.
+#[derive(Drop)]
+struct Wide {
+    most: usize,
+    all: usize,
+}
+
+impl Device for Wide {
+    ghost failure_count = { λ _. 0 };
+
+    fn failures(&self) -> u64 {
+        0
+    }
+}
+
+impl Write for Wide {
+    fn write(&mut self, buf: &[u8]) -> io::Result<usize> {
+        self.most = self.most.max(buf.len());
+        self.all = self.all.saturating_add(buf.len());
+        Ok(buf.len())
+    }
+
+    fn flush(&mut self) -> io::Result<()> {
+        Ok(())
+    }
+}
+
+// As soon as 65,536 bytes of lines are there they are written, so that no more of them pile up than of one step behind that.
+#[test]
+fn lines_are_written_before_the_end(rt: HostRuntime) -> Result<(), Fail> {
+    let alloc = rt.alloc();
+    let setup = setup_with(alloc, &[])?;
+    let script = filled(alloc, "decide 0 {T}\n")?
+        .as_str()
+        .repeat(alloc, 20_000)?;
+    let mut reader = script.as_bytes();
+    let mut writer = Wide { most: 0, all: 0 };
+    let answer = replay(alloc, setup.as_bytes(), 1, &mut reader, &mut writer);
+    // Each step prints `- idle`, seven bytes with the line feed.
+    assert!(rt; answer.is_ok() && writer.all == 140_000, "{}", writer.all);
+    assert!(rt; writer.most < 65_536 + 7, "{}", writer.most);
     Ok(())
 }

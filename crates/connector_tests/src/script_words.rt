@@ -175,6 +175,18 @@ fn long_words_are_counted(rt: HostRuntime) -> Result<(), Fail> {
     let script = ["load 0 acme tok ", digits.as_str()].concat(alloc)?;
     let wanted = "script: line 1: HEX has 101 bytes: an even count of digits";
     expect(&rt, alloc, script.as_str(), wanted)?;
+    // A word of 100 bytes is shown.
+    let word = "a".repeat(alloc, 100)?;
+    let wanted = [
+        "script: line 1: the first word = \"",
+        word.as_str(),
+        "\": load, decide, answer, tick or do",
+    ]
+    .concat(alloc)?;
+    expect(&rt, alloc, word.as_str(), wanted.as_str())?;
+    let word = "a".repeat(alloc, 101)?;
+    let wanted = "script: line 1: the first word has 101 bytes: load, decide, answer, tick or do";
+    expect(&rt, alloc, word.as_str(), wanted)?;
     let line = "#".repeat(alloc, 70_001)?;
     let wanted = "script: line 1: a line has at most 70000 bytes";
     expect(&rt, alloc, line.as_str(), wanted)
