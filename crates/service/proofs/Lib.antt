@@ -4,5 +4,6 @@ pub mod Leading
 pub mod Sums
 pub mod Conversing
 pub mod Tallies
+pub mod Exchanged
 pub mod Audits
 pub mod Presents

@@ -1,4 +1,5 @@
-use Rattle.std.proofs.Common.{ap, ◌∙◌}
+use Rattle.std.proofs.Common.{rules, ap, ◌∙◌}
+use Rattle.service.proofs.Exchanged.{carried_so}
 use Rattle.service.proofs.Tallies.{reply_first}
 use Rattle.service.proofs.worker.desk.Desk.carry.Goals as goal
 
@@ -6,4 +7,17 @@ pub invariant_of-self : goal.invariant_of-self
 invariant_of-self g c = record {
   plain = ap (λ seat. seat.first) c.carry-reply.ensures.seat ∙ reply_first c.args.job.tenant c.carry-reply.result c.args.self.now.seat ∙ c.args.self.now.plain;
   idle = c.carry-reply.ensures.idle;
+}
+
+pub returns-clause-carried : goal.returns-clause-carried
+returns-clause-carried g c = record {
+  reply = c.carry-reply.result;
+  status = search rules;
+  nameless = c.carry-reply.ensures.nameless;
+  malformed = c.carry-reply.ensures.malformed;
+  spent = search rules;
+  memory = c.carry-reply.ensures.memory;
+  sent = search rules;
+  carried = carried_so _ _ (λ sending so. tt) _ c.carry-reply.result _ _ _ c.carry-reply.ensures.carried;
+  metered = c.carry-reply.ensures.seat;
 }
