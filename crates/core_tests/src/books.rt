@@ -10,5 +10,5 @@ mod random_lists;
 mod returns;
 mod rooms;
 mod setups;
-mod statements;
+mod stated;
 mod verdicts;

@@ -2,7 +2,7 @@
 //! the same ending.
 
 use super::rolled;
-use crate::books::statements::expect_good;
+use crate::books::stated::expect_good;
 use common_types::Spare;
 use ilp_addr::MAX_ADDRESS;
 use std::alloc::Global;
