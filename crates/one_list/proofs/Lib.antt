@@ -2,3 +2,4 @@ pub mod Moves
 pub mod Gathered
 pub mod History
 pub mod Crossing
+pub mod Meeting

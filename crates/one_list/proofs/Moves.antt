@@ -168,7 +168,7 @@ after_add w t period j ls js theirs mine both after a b joined told =
 pub looks_as : (size : Size) (slots id word : ℕ) (me : Me Recorded (List Claim)) (known : Size) → size ≡ known
     → Allows (λ (s : State Recorded (List Claim)). ChronicleInvariant size s.views) slots id me word (λ n. n) (Looks known (step slots word 0 0 none) me)
 looks_as size slots id word me known is s k homes at small =
-    (me.0, keeps, tt, subst (λ l. ChronicleInvariant size l) (sym (set_again s.views id me.0 at)) k, (k.log, k.fits id me.0 at, subst (λ (z : Size). AreBelow z k.log) is k.below, λ b n. omega (arith, k.once b n, at_most_sum (count_of b n) s.views id me.0 at)))
+    (me.0, keeps, tt, subst (λ l. ChronicleInvariant size l) (sym (set_again s.views id me.0 at)) k, ((k.log, k.fits id me.0 at, subst (λ (z : Size). AreBelow z k.log) is k.below, λ b n. omega (arith, k.once b n, at_most_sum (count_of b n) s.views id me.0 at)), refl))
 
 -- ---- cut in two, and put together
 

@@ -106,9 +106,9 @@ AreOnce v = (of_worker : Bool) (number : ℕ) → count_of of_worker number v �
 abbrev pub IsTold : Size → List Claim → Type 0
 IsTold size v = (log : List Done) × AllFit log v × AreBelow size log × AreOnce v
 
--- what a look tells
+-- what a look tells: the claims are right, and it leaves them
 abbrev pub Looks : Size → Step Recorded → Me Recorded (List Claim) → ℕ → Me Recorded (List Claim) → Type 0
-Looks size st me n me' = IsTold size me.0
+Looks size st me n me' = IsTold size me.0 × (me' ≡ me)
 
 -- ---- cut in two
 

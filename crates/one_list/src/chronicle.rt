@@ -1,9 +1,9 @@
 //! The list of a run, and the parts of it that are still to be handed out.
 
-ghost use Rattle.std.specs.Prelude.{◌≡◌, ◌+◌, ◌^◌, ◌<◌, ◌≤◌, true, false, List, [], ◌∷◌, ◌++◌};
+ghost use Rattle.std.specs.Prelude.{◌≡◌, ◌+◌, ◌^◌, ◌<◌, ◌≤◌, ℕ, true, false, List, [], ◌∷◌, ◌++◌};
 ghost use Rattle.one_list.specs.declared.step.Done.{Done};
 ghost use Rattle.one_list.specs.Rules.{IsTold, claim, claims_of, first_claim, first_view, new_claims, other_claims, table_words};
-ghost use Rattle.one_list.specs.Steps.{done_last, grown};
+ghost use Rattle.one_list.specs.Steps.{done_last, grown, of_tenant, of_worker};
 ghost use Rattle.tenant_core.specs.Limits.{max_tenants};
 
 use crate::opened::LINE_WORDS;
@@ -130,6 +130,38 @@ impl<J: Run> Chronicle<J> {
         worker.pass = theirs.into_badge();
     }
 
+    /// A tenant's part and a worker's part agree: the tenant's steps by the worker are the worker's steps of the tenant, in one
+    /// order. Nothing changes, and it takes no memory.
+    pub fn meet(&self, tenant: &mut TenantPart<J>, worker: &mut WorkerPart<J>)
+        ensures tenant { tenant.new ≡ tenant.old }
+        ensures worker { worker.new ≡ worker.old }
+        ensures shared { of_worker worker.old.number tenant.old.steps ≡ of_tenant tenant.old.number worker.old.steps }
+    {
+        let mine = mem::replace(&mut tenant.pass, Badge::blank()).into_seat();
+        let theirs = mem::replace(&mut worker.pass, Badge::blank()).into_seat();
+        let (mine, theirs) = self.compare(tenant.number, mine, theirs);
+        tenant.pass = mine.into_badge();
+        worker.pass = theirs.into_badge();
+    }
+
+    // Looks at the passes of that tenant and of a worker together.
+    fn compare(&self, tenant: u64, mine: Pass, theirs: Pass) -> (Pass, Pass)
+        requires tables { (mine.table_id ≡ J.table) × (theirs.table_id ≡ J.table) }
+        requires below { tenant < J.size.tenants }
+        requires mine { (steps : List Done) × (mine.me ≡ (claim false tenant steps ∷ [], [])) }
+        requires theirs { (worker : ℕ) × (steps : List Done) × (theirs.me ≡ (claim true worker steps ∷ [], [])) }
+        ensures tables { (result.0.table_id ≡ J.table) × (result.1.table_id ≡ J.table) }
+        ensures same { (result.0.me ≡ mine.me) × (result.1.me ≡ theirs.me) }
+        ensures shared { (worker : ℕ) (steps others : List Done) → mine.me ≡ (claim false tenant steps ∷ [], [])
+            → theirs.me ≡ (claim true worker others ∷ [], []) → of_worker worker steps ≡ of_tenant tenant others }
+    {
+        let mut both = theirs;
+        self.words.shared.join_seat::<Both>(&mut both, mine);
+        self.look(&mut both, word_of(tenant));
+        let theirs = self.first(&mut both);
+        (both, theirs)
+    }
+
     // Adds the last record of the journal of that period to the list, for the tenant and the worker whose passes these are.
     fn add(
         &self,
@@ -154,7 +186,7 @@ impl<J: Run> Chronicle<J> {
         let words = &self.words.shared;
         let mut both = theirs;
         words.join_seat::<Both>(&mut both, mine);
-        let word = (tenant as usize + 1) * LINE_WORDS;
+        let word = word_of(tenant);
         words.compare_exchange_with::<Add>(&mut both, word, 0, period, journal);
         let theirs = words.split_seat::<First>(&mut both);
         (both, theirs)
@@ -197,11 +229,22 @@ impl<J: Run> Chronicle<J> {
         self.words.shared.split_seat::<Workers>(pass)
     }
 
-    // There is one list by which the claims of the pass are right.
-    pub(crate) fn look(&self, pass: &mut Pass)
-        requires { pass.old.table_id ≡ J.table }
-        ensures { IsTold J.size pass.old.me.0 }
+    // There is one list by which the claims of the pass are right. They stay the same. That word is looked at.
+    pub(crate) fn look(&self, pass: &mut Pass, word: usize)
+        requires table { pass.old.table_id ≡ J.table }
+        requires word { word < table_words }
+        ensures told { IsTold J.size pass.old.me.0 }
+        ensures table { pass.new.table_id ≡ J.table }
+        ensures same { pass.new.me ≡ pass.old.me }
     {
-        self.words.shared.load::<Look<J>>(pass, 0);
+        self.words.shared.load::<Look<J>>(pass, word);
     }
+}
+
+// The word of a tenant, on a line of its own.
+fn word_of(tenant: u64) -> usize
+    requires { tenant < max_tenants }
+    ensures { result < table_words }
+{
+    (tenant as usize + 1) * LINE_WORDS
 }

@@ -58,6 +58,6 @@ impl<J: Run> Gathering<J> {
         ensures { HaveOneList J.size self.tenants self.workers }
     {
         let Gathering { mut pass, run: _ } = self;
-        chronicle.look(&mut pass);
+        chronicle.look(&mut pass, 0);
     }
 }

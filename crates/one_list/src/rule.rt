@@ -46,7 +46,7 @@ impl Play<Journal, View> for Add {
     ghost then = { Adds };
 }
 
-/// The claims are right.
+/// The claims are right, and stay the same.
 pub struct Look<J: Run> {
     run: PhantomData<J>,
 }

@@ -1,4 +1,4 @@
-use Rattle.std.proofs.Common.{◌<◌, ◌+◌, ◌*◌, sym, ap, ◌∙◌, subst, arith, List, [], ◌++◌}
+use Rattle.std.proofs.Common.{◌<◌, sym, ap, ◌∙◌, subst, arith, List, [], ◌++◌}
 use Rattle.atomic_table.specs.Seated.{TableId}
 use Rattle.atomic_table.specs.Table.{Me}
 use Rattle.tenant_core.specs.Journals.{Recorded}
@@ -13,11 +13,8 @@ join_seat-requires g c =
     let i = c.self.invariant in
     (c.requires.tables.1 ∙ sym i.same_table, c.requires.tables.0 ∙ sym i.same_table, ap (λ m. m.1) c.requires.mine.1, subst (λ (z : TableId). 0 < z.words) (sym i.same_table) (omega (arith, i.roomy.words)), joins _ _ _ _ _)
 
-pub overflow_add-word : goal.overflow_add-word
-overflow_add-word g c = omega (arith, c.self.invariant.roomy.few, c.requires.below.0)
-
-pub overflow_mul-word : goal.overflow_mul-word
-overflow_mul-word g c = omega (arith, c.self.invariant.roomy.few, c.requires.below.0)
+pub word_of-word-requires : goal.word_of-word-requires
+word_of-word-requires g c = omega (arith, c.self.invariant.roomy.few, c.requires.below.0)
 
 pub compare_exchange_with-requires : goal.compare_exchange_with-requires
 compare_exchange_with-requires g c =
@@ -27,7 +24,7 @@ compare_exchange_with-requires g c =
     let mine = c.requires.mine.1 in
     let is = j.2 ∙ (λ k. ((theirs k).0 ++ (mine k).0, (theirs k).1)) in (
       j.0 ∙ (c.requires.tables.1 ∙ sym i.same_table),
-      subst (λ (z : TableId). (c.args.tenant + 1) * 8 < z.words) (sym i.same_table) (omega (arith, i.roomy.words, i.roomy.few, c.requires.below.0)),
+      subst (λ (z : TableId). c.word_of-word.result < z.words) (sym i.same_table) (omega (arith, i.roomy.words, c.word_of-word.ensures)),
       adds_as _ _ _ _ _ c.args.worker c.args.tenant c.args.period c.args.journal.now (λ n. n) c.requires.theirs.0 c.requires.mine.0 is
           (subst (λ (z : Size). c.args.tenant < z.tenants) (sym i.same_size) c.requires.below.0) (subst (λ (z : Size). c.args.worker < z.workers) (sym i.same_size) c.requires.below.1),
     )

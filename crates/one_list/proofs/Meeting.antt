@@ -1,0 +1,26 @@
+-- A tenant's part and a worker's part agree.
+use Rattle.std.proofs.Common.{◌≡◌, ◌==◌, ℕ, Bool, true, false, cond, List, [], ◌∷◌, refl, sym, ap, ◌∙◌, subst}
+use Rattle.std.specs.Prelude.{filter}
+use Rattle.one_list.specs.declared.step.Done.{Done}
+use Rattle.one_list.specs.declared.step.Size.{Size}
+use Rattle.one_list.specs.declared.rule.Claim.{Claim}
+use Rattle.one_list.specs.Rules.{IsTold, claim}
+use Rattle.one_list.specs.Steps.{of_tenant, of_worker}
+
+-- of two tests, either may come first
+pub filter_both : {X : Type 0} (p q : X → Bool) (xs : List X) → filter p (filter q xs) ≡ filter q (filter p xs)
+filter_both p q [] = refl
+filter_both p q (x ∷ xs) = by (p x) (q x) refl refl (filter_both p q xs)
+  where
+    by : (a b : Bool) → p x ≡ a → q x ≡ b → filter p (filter q xs) ≡ filter q (filter p xs) → filter p (cond b (x ∷ filter q xs) (filter q xs)) ≡ filter q (cond a (x ∷ filter p xs) (filter p xs))
+    by true true e f rest = rw (e, f) (ap (λ l. x ∷ l) rest)
+    by true false e f rest = rw f rest
+    by false true e f rest = rw e rest
+    by false false e f rest = rest
+
+-- of right claims, of a worker and of a tenant: what the worker did for the tenant is what the worker did of the tenant's steps
+pub told_alike : (size : Size) (worker tenant : ℕ) (ls js : List Done) (claims : List Claim) → claims ≡ claim true worker ls ∷ claim false tenant js ∷ [] → IsTold size claims
+    → of_worker worker js ≡ of_tenant tenant ls
+told_alike size worker tenant ls js claims is told =
+    let t = subst (IsTold size) is told in
+    ap (of_worker worker) (sym t.1.1.0) ∙ (filter_both (λ (e : Done). e.worker == worker) (λ (e : Done). e.tenant == tenant) t.0 ∙ ap (of_tenant tenant) t.1.0)
