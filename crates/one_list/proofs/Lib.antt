@@ -3,3 +3,4 @@ pub mod Gathered
 pub mod History
 pub mod Crossing
 pub mod Meeting
+pub mod Awaiting

@@ -2,6 +2,7 @@
 
 ghost use denote.Param.Send.{IsSend, IsSync};
 ghost use Rattle.one_list.specs.History.{HistoryLaws};
+ghost use Rattle.one_list.specs.Holds.{HoldLaws};
 ghost use Rattle.one_list.specs.contracts.chronicle.Chronicle as Chronicle;
 ghost use Rattle.one_list.specs.contracts.parts.TenantPart as TenantPart;
 ghost use Rattle.one_list.specs.contracts.parts.WorkerPart as WorkerPart;
@@ -11,6 +12,12 @@ use crate::run::Run;
 /// A tenant's history begins with its opening, and goes on with each step that made its record.
 pub fn histories()
     ensures { HistoryLaws }
+{}
+
+/// A packet that went on by a step of a history, and is awaited no longer where the history led to, was answered by a later
+/// step: by another worker's, where its own worker has done nothing since for the tenant.
+pub fn answered_holds()
+    ensures { HoldLaws }
 {}
 
 /// Threads may share a run's list, and a part of it may go from one thread to another. Call it ahead of a call that hands
