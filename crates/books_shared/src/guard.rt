@@ -54,7 +54,7 @@ impl<J: Run> Guard<'_, J> {
     ghost use Rattle.books_shared.specs.Kept.{LockInvariant, number_of};
     ghost use Rattle.books_shared.specs.Rises.{command_rise, entries_closed, rise_of, tick_rise};
     ghost use Rattle.books_shared.specs.Traced.{IsLedTo, counted};
-    ghost use Rattle.one_list.specs.Steps.{done_by, next_place};
+    ghost use Rattle.one_list.specs.Steps.{done_by, next_place, of_tenant, of_worker};
     ghost use Rattle.books_shared.specs.Turns.{IsLeft, IsEnded};
 
     // What the type keeps.
@@ -83,6 +83,16 @@ impl<J: Run> Guard<'_, J> {
         ensures within { result < 2 ^ 47 }
     {
         self.kept.number()
+    }
+
+    /// The book's steps by the worker of the share are all that this worker has done for the tenant until now, in its order, and
+    /// nothing more. Nothing changes, and it takes neither room nor memory.
+    pub fn meet(&mut self, share: &mut Share<J>)
+        ensures book { self.new ≡ self.old }
+        ensures share { share.new ≡ share.old }
+        ensures shared { of_worker share.old.worker self.old.steps ≡ of_tenant self.old.state.opening.tenant share.old.steps }
+    {
+        self.kept.meet(self.chronicle, share);
     }
 
     /// Decides the frame of the slot by the book at this moment, as `Slot::decide` does, and counts what that adds: the

@@ -55,7 +55,7 @@ impl<J: Run> Kept<J> {
     ghost use Rattle.books_shared.specs.Kept.{LockInvariant, number_of};
     ghost use Rattle.books_shared.specs.Rises.{command_rise, entries_closed, rise_of, tick_rise};
     ghost use Rattle.books_shared.specs.Traced.{IsLedTo, IsTraced, counted};
-    ghost use Rattle.one_list.specs.Steps.{done_by, next_place};
+    ghost use Rattle.one_list.specs.Steps.{done_by, next_place, of_tenant, of_worker};
 
     /// A book in which nothing has happened, and the part of the one list of its tenant.
     pub fn new(book: Book, part: TenantPart<J>) -> Kept<J>
@@ -92,6 +92,15 @@ impl<J: Run> Kept<J> {
     {
         tenant_core::laws::book_is_sound(&self.book);
         self.closed + self.book.entries() as u64
+    }
+
+    /// What a share's worker did to the book, and nothing more of this worker, stands in the tenant's steps. Nothing changes.
+    pub fn meet(&mut self, chronicle: &Chronicle<J>, share: &mut Share<J>)
+        ensures book { self.new ≡ self.old }
+        ensures share { share.new ≡ share.old }
+        ensures shared { of_worker share.old.worker self.old.steps ≡ of_tenant self.old.state.opening.tenant share.old.steps }
+    {
+        share.meet(chronicle, &mut self.part);
     }
 
     /// The book and how many entries were appended, and its part of the one list.

@@ -87,7 +87,7 @@ impl<J: Run> Share<J> {
     ghost use Rattle.books_shared.specs.Shares.{IsRoomMade, fresh, max_count, raised, receipts_in, with_steps};
     ghost use Rattle.books_shared.specs.Traced.{part_of};
     ghost use Rattle.books_shared.specs.Tracing.{told_by};
-    ghost use Rattle.one_list.specs.Steps.{grown};
+    ghost use Rattle.one_list.specs.Steps.{grown, of_tenant, of_worker};
 
     // The share of a worker that has counted nothing. It keeps receipts where that is asked.
     pub(crate) fn fresh(alloc: Global, part: WorkerPart<J>, audited: bool) -> Share<J>
@@ -212,6 +212,15 @@ impl<J: Run> Share<J> {
         self.full[number] = full;
         self.spent |= has_full(&[entries, strangers, full]);
         self.room -= 1;
+    }
+
+    // The tenant's steps by the worker are the worker's steps of the tenant. Nothing changes.
+    pub(crate) fn meet(&mut self, chronicle: &Chronicle<J>, tenant: &mut TenantPart<J>)
+        ensures tenant { tenant.new ≡ tenant.old }
+        ensures share { self.new ≡ self.old }
+        ensures shared { of_worker self.old.worker tenant.old.steps ≡ of_tenant tenant.old.number self.old.steps }
+    {
+        chronicle.meet(tenant, &mut self.part);
     }
 
     // The worker's part of the one list.
