@@ -1,18 +1,22 @@
 -- What a worker's share grows by: what a call under a lock has counted, with room made before.
-use Rattle.std.proofs.Common.{◌≡◌, ℕ, List, Option, None, add-zero, append-nil, get_or, refl, sym, ap, subst, ◌∙◌}
+use Rattle.std.proofs.Common.{◌≡◌, ℕ, List, Option, None, Result, add-zero, append-nil, get_or, refl, sym, ap, subst, ◌∙◌}
 use Rattle.std.proofs.lemmas.List.{set-get_or}
+use Rattle.tenant_core.specs.Governed.{IsGoverned, made_by}
 use Rattle.tenant_core.specs.Sound.{IsSound}
 use Rattle.tenant_core.specs.State.{State}
+use Rattle.tenant_core.specs.declared.command.Answered.{Answered}
+use Rattle.tenant_core.specs.declared.command.Command.{Command}
+use Rattle.tenant_core.specs.declared.faults.CommandFault.{CommandFault}
 use Rattle.tenant_core.specs.declared.journal.Record.{Record}
 use Rattle.floor_core.specs.Work.{Called, Work}
 use Rattle.floor_core.specs.declared.parts.Turn.{Turn}
-use Rattle.one_list.specs.Steps.{Place, next_place}
-use Rattle.one_list.specs.declared.step.Done.{Done}
-use Rattle.books_shared.specs.Rises.{nothing, rise_of}
+use Rattle.one_list.specs.Steps.{Place, next_place, of_tenant, of_worker}
+use Rattle.books_shared.specs.Kept.{Kept}
+use Rattle.books_shared.specs.Rises.{command_rise, nothing, rise_of}
 use Rattle.books_shared.specs.Shares.{ShareView, added}
 use Rattle.books_shared.specs.Traced.{IsLedTo, counted}
 use Rattle.books_shared.specs.declared.rise.Rise.{Rise}
-use Rattle.workers.specs.Carrying.{AreAlike, Circumstances, Growth, HasGrown, IsSame, WasCalled, growth}
+use Rattle.workers.specs.Carrying.{AreAlike, Circumstances, Growth, HasGrown, IsSame, WasCalled, WasCommanded, growth}
 
 -- ---- a call
 
@@ -21,16 +25,19 @@ pub counted_grows : (rise : Rise) (at : Place) (made : Option Record) (t : ℕ) 
     → HasGrown rise at made (growth t before after)
 counted_grows rise at made t before after e = rw e refl
 
--- a call under a lock
-pub was_called : {under : Circumstances} (call : State → ℕ → Called) (t : ℕ) (s : State) (steps : List Done) (now : ℕ) (told : Turn) (left : Work) (before after : ShareView)
-    → IsSound s → IsLedTo under.openings s steps → under.Gives now → s.opening.tenant ≡ t → told ≡ (call s now).turn → left ≡ (call s now).work
-    → after ≡ counted (rise_of (call s now)) (next_place s) (call s now).made before → WasCalled under (growth t before after) call told left
-was_called call t s steps now told left before after sound led gave own turned worked counted = record {
-  found = record { book = s; steps = steps; now = now; sound = sound; led = led; gave = gave };
+-- a call under a lock: the book was found so, and stayed so when it met the share
+pub was_called : {under : Circumstances} (call : State → ℕ → Called) (t : ℕ) (k met : Kept) (now : ℕ) (told : Turn) (left : Work) (before roomy after : ShareView)
+    → met ≡ k → roomy ≡ before → IsSound k.state → IsLedTo under.openings k.state k.steps → under.Gives now → k.state.opening.tenant ≡ t
+    → of_worker before.worker k.steps ≡ of_tenant k.state.opening.tenant before.steps → told ≡ (call met.state now).turn → left ≡ (call met.state now).work
+    → after ≡ counted (rise_of (call met.state now)) (next_place met.state) (call met.state now).made roomy → WasCalled under (growth t before after) call told left
+was_called call t k met now told left before roomy after same alike sound led gave own mine turned worked grew = record {
+  found = record { book = k.state; steps = k.steps; now = now; sound = sound; led = led; gave = gave };
   own = own;
-  told = sym turned;
-  left = worked;
-  grew = counted_grows (rise_of (call s now)) (next_place s) (call s now).made t before after counted;
+  mine = mine ∙ ap (λ n. of_tenant n before.steps) own;
+  told = sym (turned ∙ ap (λ (z : Kept). (call z.state now).turn) same);
+  left = worked ∙ ap (λ (z : Kept). (call z.state now).work) same;
+  grew = counted_grows (rise_of (call k.state now)) (next_place k.state) (call k.state now).made t before after
+      (grew ∙ (λ i. counted (rise_of (call (same i).state now)) (next_place (same i).state) (call (same i).state now).made (alike i)));
 }
 
 -- ---- nothing
@@ -65,7 +72,24 @@ pub called_roomy : {under : Circumstances} (call : State → ℕ → Called) (t 
 called_roomy call t told left s roomy after is h = record {
   found = h.found;
   own = h.own;
+  mine = subst (λ (r : ShareView). of_worker r.worker h.found.steps ≡ of_tenant t r.steps) is h.mine;
   told = h.told;
   left = h.left;
   grew = grew_roomy _ _ _ t s roomy after is h.grew;
+}
+
+-- a command under a lock, once room was made
+pub was_commanded : {under : Circumstances} (t : ℕ) (k met : Kept) (now : ℕ) (given : Command) (answer : Result Answered CommandFault) (left : State) (s roomy ready after : ShareView)
+    → met ≡ k → roomy ≡ record s { room = 2 } → ready ≡ roomy → IsSound k.state → IsLedTo under.openings k.state k.steps → under.Gives now → k.state.opening.tenant ≡ t
+    → of_worker roomy.worker k.steps ≡ of_tenant k.state.opening.tenant roomy.steps → IsGoverned answer given met.state left now
+    → after ≡ counted (command_rise answer) (next_place met.state) (made_by answer met.state given now) ready → WasCommanded under (growth t s after) given answer
+was_commanded t k met now given answer left s roomy ready after same room alike sound led gave own mine governed grew = record {
+  found = record { book = k.state; steps = k.steps; now = now; sound = sound; led = led; gave = gave };
+  own = own;
+  mine = subst (λ (r : ShareView). of_worker r.worker k.steps ≡ of_tenant t r.steps) room (mine ∙ ap (λ n. of_tenant n roomy.steps) own);
+  after = left;
+  governed = subst (λ (z : Kept). IsGoverned answer given z.state left now) same governed;
+  grew = grew_roomy (command_rise answer) (next_place k.state) (made_by answer k.state given now) t s roomy after room
+      (counted_grows (command_rise answer) (next_place k.state) (made_by answer k.state given now) t roomy after
+      (grew ∙ (λ i. counted (command_rise answer) (next_place (same i).state) (made_by answer (same i).state given now) (alike i))));
 }

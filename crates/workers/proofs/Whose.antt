@@ -85,6 +85,7 @@ by_result {under} (Err fault) made told g w left came h call =
       record {
         found = h.found;
         own = h.own;
+        mine = h.mine;
         turn = h.told ∙ turned;
         none = grew_nothing (next_place h.found.book) g (subst (λ (c : Called). HasGrown (rise_of c) (next_place h.found.book) c.made g) call h.grew);
       },

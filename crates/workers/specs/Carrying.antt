@@ -12,7 +12,7 @@ use Rattle.floor_core.specs.Work.{Job, Work, Called, answer_call, carrying, deci
 use Rattle.floor_core.specs.declared.parts.Got.{Got}
 use Rattle.floor_core.specs.declared.parts.Turn.{Turn}
 use Rattle.floor_core.specs.declared.parts.Turn.TheVariants as turn
-use Rattle.one_list.specs.Steps.{Place, next_place}
+use Rattle.one_list.specs.Steps.{Place, next_place, of_tenant, of_worker}
 use Rattle.one_list.specs.declared.step.Done.{Done}
 use Rattle.books_shared.specs.Rises.{command_rise, rise_of}
 use Rattle.books_shared.specs.Shares.{ShareView}
@@ -35,7 +35,8 @@ abbrev pub circumstances : List Opening → (ℕ → Type 0) → Circumstances
 circumstances openings Gives = record { openings = openings; Gives = Gives }
 
 -- A book as it was found under a lock: the replay of its journal, and within its limits. The tenant's steps until then, over
--- all its periods, led to it from the tenant's first opening. And the moment that the clock gave then.
+-- all its periods, led to it from the tenant's first opening; which of them are the asking worker's, `HasOwnSteps` says. And the
+-- moment that the clock gave then.
 pub record Found (under : Circumstances) : Type 0 where
   pub book : State
   pub steps : List Done
@@ -55,6 +56,11 @@ pub record Growth : Type 0 where
   pub owner : ℕ
   pub before : ShareView
   pub after : ShareView
+
+-- The steps that led to the book have of this worker all that it had done for the tenant before the call, in its order, and no
+-- other. So the book is none from before the worker's last step.
+abbrev pub HasOwnSteps : {under : Circumstances} → Growth → Found under → Type 0
+HasOwnSteps g found = of_worker g.before.worker found.steps ≡ of_tenant g.owner g.before.steps
 
 -- a share before and after what was done for that tenant
 abbrev pub growth : ℕ → (before after : ShareView) → Growth
@@ -85,6 +91,7 @@ from between g = record g { before = between }
 pub record WasCalled (under : Circumstances) (g : Growth) (call : State → ℕ → Called) (turn : Turn) (after : Work) : Type 0 where
   pub found : Found under
   pub own : IsOf g.owner found
+  pub mine : HasOwnSteps g found
   pub told : (call found.book found.now).turn ≡ turn
   pub left : after ≡ (call found.book found.now).work
   pub grew : HasGrown (rise_of (call found.book found.now)) (next_place found.book) (call found.book found.now).made g
@@ -125,6 +132,7 @@ answer_with before came book now = answer_call before book now came
 pub record WasMissed (under : Circumstances) (g : Growth) (before : Work) (came : Got) : Type 0 where
   pub found : Found under
   pub own : IsOf g.owner found
+  pub mine : HasOwnSteps g found
   pub turn : (answer_with before came found.book found.now).turn ≡ turn.Stray
   pub none : IsSame g
 
@@ -183,6 +191,7 @@ closed _ left = left
 pub record WasCommanded (under : Circumstances) (g : Growth) (given : Command) (answer : Result Answered CommandFault) : Type 0 where
   pub found : Found under
   pub own : IsOf g.owner found
+  pub mine : HasOwnSteps g found
   pub after : State
   pub governed : IsGoverned answer given found.book after found.now
   pub grew : HasGrown (command_rise answer) (next_place found.book) (made_by answer found.book given found.now) g

@@ -43,7 +43,9 @@ pub struct Job<'a> {
 /// that keeps no receipts never comes to it.
 ///
 /// By the reply (`IsCarried`), the packet was judged by the tenant's book, sound at that moment, which the clock gave. Steps of
-/// the tenant led to each book that was asked, from the opening of its first period in this run. Where
+/// the tenant led to each book that was asked, from the opening of its first period in this run. Of this worker they are all
+/// that it had done for the tenant until then, and no other (`HasOwnSteps`): no book is from before the worker's last step, and
+/// the packet's own step stands in the steps that led to the book which is asked for its answer. Where
 /// the verdict was to send it on, what was sent is the packet with the verdict's amount and expiry, to the target of the
 /// verdict's peer; and the sender is told what the book made of it, or of what came back. The share has grown by just these
 /// calls with the book: by what each of them counts for the tenant, and by the record that it made, if it made one, as the
@@ -219,6 +221,7 @@ fn decide<J: Run, R: Wait, C: Clock>(
 {
     slot.is_work();
     let mut guard = tools.books.enter(tools.rt, tenant);
+    guard.meet(share);
     guard.decide(share, slot, tools.clock.now())
 }
 
@@ -259,5 +262,6 @@ fn answer<J: Run, R: Wait, C: Clock>(
     ensures ended { IsEnded result slot.old slot.new }
 {
     let mut guard = tools.books.enter(tools.rt, tenant);
+    guard.meet(share);
     guard.answer(share, slot, tools.clock.now(), got)
 }

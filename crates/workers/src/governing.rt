@@ -39,9 +39,10 @@ pub enum GovernFault {
 /// or as unavailable where the fault is `Spent` or want of memory, for the command or for its receipt.
 ///
 /// What is answered, or refused, is what the tenant's book, sound at that moment, which the clock gave, answers to this
-/// command (`IsDone`). Steps of the tenant led to that book, from the opening of its first period in this run. The share has
-/// grown by just that: by the entry for the tenant, if there is one, and by its record, as
-/// the next step of the worker's part of the one list.
+/// command (`IsDone`). Steps of the tenant led to that book, from the opening of its first period in this run; of this worker
+/// they are all that it had done for the tenant until then, and no other (`HasOwnSteps`). So balances and refusals are told
+/// of no book from before the worker's last step. The share has grown by just that: by the entry for the tenant, if there is
+/// one, and by its record, as the next step of the worker's part of the one list.
 ///
 /// The errors are, in the order in which they are looked for: `Spent`, exactly where one of the share's counts is full;
 /// `Memory`, where memory for the receipt was refused, to which a share that keeps none never comes; and what `Book::command`
@@ -105,6 +106,7 @@ fn commanded<J: Run, R: Wait, C: Clock>(
         Err(RoomFault::Memory) => return Err(GovernFault::Memory),
     }
     let mut guard = tools.books.enter(tools.rt, tenant);
+    guard.meet(share);
     let answer = guard.command(tools.alloc, share, command, tools.clock.now());
     answer.map_err(GovernFault::Refused)
 }

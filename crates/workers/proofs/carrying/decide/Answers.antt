@@ -8,5 +8,6 @@ pub returns-clause-decided : goal.returns-clause-decided
 returns-clause-decided g c =
     is_decided c.decide.result (growth c.args.tenant c.args.share.now c.decide.new.share) c.args.slot.now c.decide.new.slot
     c.requires.loaded c.is_work.ensures.readable c.requires.tenant
-    (was_called (decide_call c.args.slot.now) c.args.tenant c.enter-guard.result.state c.enter-guard.result.steps c.now.result c.decide.result c.decide.new.slot c.args.share.now c.decide.new.share
-    c.enter-guard.ensures.kept.sound c.enter-guard.ensures.led c.now.ensures c.enter-guard.ensures.own c.decide.ensures.turn c.decide.ensures.slot c.decide.ensures.share)
+    (was_called (decide_call c.args.slot.now) c.args.tenant c.enter-guard.result c.meet.new.self c.now.result c.decide.result c.decide.new.slot c.args.share.now c.meet.new.share c.decide.new.share
+    c.meet.ensures.book c.meet.ensures.share c.enter-guard.ensures.kept.sound c.enter-guard.ensures.led c.now.ensures c.enter-guard.ensures.own
+    c.meet.ensures.shared c.decide.ensures.turn c.decide.ensures.slot c.decide.ensures.share)
