@@ -28,6 +28,7 @@ module _ (So To : Sending → Type 0) (weaker : (s : Sending) → So s → To s)
   }
 
   pub carried_so : (under : Circumstances) (r : Reply) (g : Growth) (before after : Work) → IsCarried under r g before after So → IsCarried under r g before after To
+  unfolding went_so
   carried_so under reply.Malformed g before after is = is
   carried_so under reply.Nameless g before after is = is
   carried_so under reply.Stranger g before after is = is
@@ -45,5 +46,6 @@ module _ (So To : Sending → Type 0) (weaker : (s : Sending) → So s → To s)
     answered = lost.answered;
     went = went_so under _ before lost.answered got lost.went;
     missed = lost.missed;
+    elsewhere = lost.elsewhere;
     left = lost.left;
   }

@@ -1,5 +1,5 @@
 -- What a packet went through that a worker carried, and what a command did: which books decided, and when.
-use Rattle.std.specs.Prelude.{ℕ, ◌≡◌, List, Option, Some, Result, Ok, Err}
+use Rattle.std.specs.Prelude.{ℕ, ◌≡◌, List, [], ◌∷◌, Option, Some, Result, Ok, Err}
 use Rattle.tenant_core.specs.Governed.{IsGoverned, made_by}
 use Rattle.tenant_core.specs.Sound.{IsSound}
 use Rattle.tenant_core.specs.State.{State}
@@ -12,7 +12,8 @@ use Rattle.floor_core.specs.Work.{Job, Work, Called, answer_call, carrying, deci
 use Rattle.floor_core.specs.declared.parts.Got.{Got}
 use Rattle.floor_core.specs.declared.parts.Turn.{Turn}
 use Rattle.floor_core.specs.declared.parts.Turn.TheVariants as turn
-use Rattle.one_list.specs.Steps.{Place, next_place, of_tenant, of_worker}
+use Rattle.one_list.specs.Holds.{BeginsHold, IsAnsweredByAnother}
+use Rattle.one_list.specs.Steps.{Place, done_by, next_place, of_tenant, of_worker}
 use Rattle.one_list.specs.declared.step.Done.{Done}
 use Rattle.books_shared.specs.Rises.{command_rise, rise_of}
 use Rattle.books_shared.specs.Shares.{ShareView}
@@ -96,11 +97,14 @@ pub record WasCalled (under : Circumstances) (g : Growth) (call : State → ℕ 
   pub left : after ≡ (call found.book found.now).work
   pub grew : HasGrown (rise_of (call found.book found.now)) (next_place found.book) (call found.book found.now).made g
 
--- the tenant's book held the packet of the slot, to send it on to a peer
+-- the tenant's book held the packet of the slot, to send it on to a peer; the step of that record begins the hold
 pub record WasForwarded (under : Circumstances) (g : Growth) (before after : Work) : Type 0 where
   pub peer : ℕ
   pub hold : ℕ
   pub decided : WasCalled under g (decide_call before) (turn.Send peer hold) after
+  pub step : Done
+  pub made : done_by g.before.worker (next_place decided.found.book) (decide_call before decided.found.book decided.found.now).made ≡ step ∷ []
+  pub begins : BeginsHold hold step
 
 -- ---- a send
 
@@ -145,12 +149,14 @@ pub record CameBack (under : Circumstances) (g : Growth) (before : Work) (came :
   pub went : WentOn under (upto between g) before came answered So
   pub settled : WasCalled under (from between g) (answer_with answered came) turn.Reply after
 
--- the packet went on, and what came back was awaited no longer
+-- the packet went on, and what came back was awaited no longer: since the step by which it went on, another worker answered its
+-- hold
 pub record WasLost (under : Circumstances) (g : Growth) (before : Work) (came : Got) (after : Work) (So : Sending → Type 0) : Type 0 where
   pub between : ShareView
   pub answered : Work
   pub went : WentOn under (upto between g) before came answered So
   pub missed : WasMissed under (from between g) answered came
+  pub elsewhere : IsAnsweredByAnother went.forwarded.step went.forwarded.hold missed.found.steps
   pub left : after ≡ carrying Job.NoJob answered.room
 
 -- What became of the packet of a slot, by the reply: before is the slot as the packet was taken in, after is the slot in

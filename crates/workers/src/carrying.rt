@@ -47,7 +47,8 @@ pub struct Job<'a> {
 /// that it had done for the tenant until then, and no other (`HasOwnSteps`): no book is from before the worker's last step, and
 /// the packet's own step stands in the steps that led to the book which is asked for its answer. Where
 /// the verdict was to send it on, what was sent is the packet with the verdict's amount and expiry, to the target of the
-/// verdict's peer; and the sender is told what the book made of it, or of what came back. The share has grown by just these
+/// verdict's peer; and the sender is told what the book made of it, or of what came back. `Lost` is answered only by a book to
+/// which, since that step, another worker's answer to the packet led (`elsewhere`). The share has grown by just these
 /// calls with the book: by what each of them counts for the tenant, and by the record that it made, if it made one, as the
 /// next step of the worker's part of the one list.
 ///
@@ -177,6 +178,7 @@ fn exchanged<J: Run, R: Wait, L: Link, G: Gate, C: Clock>(
         (λ sending. L.sends_so link.old sending link.new) }
     ensures over { IsOver result slot.new.job }
 {
+    one_list::laws::answered_holds();
     if link.sends() >= MAX_SENDS {
         return Reply::Spent;
     }

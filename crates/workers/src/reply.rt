@@ -61,7 +61,7 @@ pub enum Reply {
     Decided,
     /// The packet was sent on, this came back, and the book has settled it (200).
     Settled(Got),
-    /// The packet was sent on, this came back, and the book awaited it no longer (503).
+    /// The packet was sent on, this came back, and the book awaited it no longer: another worker had answered it (503).
     Lost(Got),
 }
 

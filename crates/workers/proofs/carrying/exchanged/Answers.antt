@@ -5,6 +5,8 @@ use Rattle.floor_core.specs.declared.parts.Turn.TheVariants as turn
 use Rattle.books_shared.specs.Shares.{ShareView}
 use Rattle.workers.specs.Carrying.{Circumstances, WasCalled, WasExchanged, WentOn, growth}
 use Rattle.workers.specs.Replies.{Sending}
+use Rattle.one_list.specs.Steps.{done, done_by, next_place}
+use Rattle.workers.proofs.Elsewhere.{elsewhere, goes_on}
 use Rattle.workers.proofs.Growing.{called_roomy}
 use Rattle.workers.proofs.Whose.{unanswered}
 use Rattle.workers.proofs.carrying.exchanged.Goals as goal
@@ -13,15 +15,22 @@ use Rattle.workers.proofs.carrying.exchanged.Goals as goal
 went_on : {under : Circumstances} (t peer hold : ℕ) (before waiting left : Work) (came : Got) (So : Sending → Type 0) (s roomy after : ShareView) → roomy ≡ record s { room = 2 }
     → WasCalled under (growth t roomy after) (decide_call before) (turn.Send peer hold) waiting → WasExchanged t waiting came left So
     → WentOn under (growth t s after) before came left So
-went_on t peer hold before waiting left came So s roomy after is decided sent = record {
-  waiting = waiting;
-  forwarded = record {
-    peer = peer;
-    hold = hold;
-    decided = called_roomy (decide_call before) t (turn.Send peer hold) waiting s roomy after is decided;
-  };
-  sent = sent;
-}
+went_on {under} t peer hold before waiting left came So s roomy after is decided sent =
+    let called : WasCalled under (growth t s after) (decide_call before) (turn.Send peer hold) waiting = called_roomy (decide_call before) t (turn.Send peer hold) waiting s roomy after is decided in
+    let on = goes_on before called.found.book called.found.now peer hold called.told in
+    let at = next_place called.found.book in
+    record {
+      waiting = waiting;
+      forwarded = record {
+        peer = peer;
+        hold = hold;
+        decided = called;
+        step = done s.worker at on.verdict;
+        made = ap (done_by s.worker at) on.made;
+        begins = on.begins;
+      };
+      sent = sent;
+    }
 
 pub returns-in-Stranger-clause-carried : goal.returns-in-Stranger-clause-carried
 returns-in-Stranger-clause-carried g c =
@@ -44,7 +53,10 @@ returns-in-Reply-turn-clause-carried g c = record {
 
 pub returns-in_default : goal.returns-in_default
 returns-in_default g c =
-    let missed = unanswered c.answer-turn.result (growth c.args.tenant c.decide-turn.new.share c.answer-turn.new.share) c.send-got.result c.send-got.new.slot c.answer-turn.new.slot
+    let between = c.decide-turn.new.share in
+    let went = went_on c.args.tenant c.in-Send.peer c.in-Send.hold c.args.slot.now c.decide-turn.new.slot c.send-got.new.slot c.send-got.result (λ (sending : Sending). g.L.Link.sends_so c.args.link.now sending c.send-got.new.link) c.args.share.now c.make_room.new.self between
+    c.in-Ok.ensures.1 c.in-Send.ensures.decided c.send-got.ensures.exchanged in
+    let missed = unanswered c.answer-turn.result (growth c.args.tenant between c.answer-turn.new.share) c.send-got.result c.send-got.new.slot c.answer-turn.new.slot
     c.in_default.not-Reply c.answer-turn.ensures.answered in
     record {
       loaded = tt;
@@ -53,11 +65,11 @@ returns-in_default g c =
       sends = c.send-got.ensures.sends;
       sent = c.send-got.ensures.sent;
       carried = record {
-        between = c.decide-turn.new.share;
+        between = between;
         answered = c.send-got.new.slot;
-        went = went_on c.args.tenant c.in-Send.peer c.in-Send.hold c.args.slot.now c.decide-turn.new.slot c.send-got.new.slot c.send-got.result (λ (sending : Sending). g.L.Link.sends_so c.args.link.now sending c.send-got.new.link) c.args.share.now c.make_room.new.self c.decide-turn.new.share
-            c.in-Ok.ensures.1 c.in-Send.ensures.decided c.send-got.ensures.exchanged;
+        went = went;
         missed = missed.0;
+        elsewhere = elsewhere c.answered_holds.ensures (growth c.args.tenant c.args.share.now c.answer-turn.new.share) between c.args.slot.now c.send-got.new.slot c.send-got.result _ went missed.0;
         left = ap (λ (w : Work). carrying Job.NoJob w.room) missed.1;
       };
       over = tt;
