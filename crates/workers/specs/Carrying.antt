@@ -59,7 +59,7 @@ pub record Growth : Type 0 where
   pub after : ShareView
 
 -- The steps that led to the book have of this worker all that it had done for the tenant before the call, in its order, and no
--- other. So the book is none from before the worker's last step.
+-- other. So the book is none from before the worker's last step for the tenant.
 abbrev pub HasOwnSteps : {under : Circumstances} → Growth → Found under → Type 0
 HasOwnSteps g found = of_worker g.before.worker found.steps ≡ of_tenant g.owner g.before.steps
 
