@@ -8,11 +8,7 @@ use Rattle.std.specs.Io.KnownBytes.{Appends, Consumes}
 
 -- first i bytes of the text were written, and then n more
 pub Appends-more : (old between new : Option (List ℕ)) (text : List ℕ) (i n : ℕ) → Appends old between (take i text) → Appends between new (take n (drop i text)) → Appends old new (take (i + n) text)
-Appends-more None between new text i n a b = tt
-Appends-more (Some xs) None new text i n a b = absurd a
-Appends-more (Some xs) (Some ys) None text i n a b = absurd b
-Appends-more (Some xs) (Some ys) (Some zs) text i n a b =
-    b ∙ ap (λ (front : List ℕ). front ++ take n (drop i text)) a ∙ append_assoc xs (take i text) (take n (drop i text)) ∙ ap (λ (more : List ℕ). xs ++ more) (sym (take-add i n text))
+Appends-more old between new text i n a b = subst (Appends old new) (sym (take-add i n text)) (Appends-trans old between new (take i text) (take n (drop i text)) a b)
 
 -- a text was written, and then another one where that went well
 pub Appends-then : {A E : Type 0} (r : Result A E) (old between new : Option (List ℕ)) (front back : List ℕ) → Appends old between front → OnOk r (Appends between new back)

@@ -1,5 +1,6 @@
 pub mod Limits
 pub mod Counts
+pub mod Telling
 pub mod Fields
 pub mod Heads
 pub mod Bodies

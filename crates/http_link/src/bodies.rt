@@ -1,7 +1,7 @@
 //! Bodies that are read: of a stated length, or in chunks.
 
 ghost use Rattle.std.specs.Prelude.{◌≡◌, ◌≢◌, ◌↔◌, ◌⊎◌, ◌<◌, ◌≤◌, length, min, Err, IfOk};
-ghost use Rattle.http_link.specs.Counts.{Spends};
+ghost use Rattle.http_link.specs.Telling.{TellsReads};
 ghost use Rattle.http_link.specs.Bodies.{IsBody, IsSized, cut, most_of};
 ghost use Rattle.http_link.specs.BodyReading.{LiesBehind, ReadsAs, ReadsAtMost, ReadsNoFurther};
 ghost use Rattle.http_link.specs.Running.{held_in};
@@ -60,10 +60,7 @@ pub(crate) fn read_body<R: Source>(
     ensures fits { IfOk result (ReadsAtMost (most_of framing)) }
     ensures at_once { (r.new ≡ r.old) ⊎ IsBody framing (held_in room.old intake.old.held) cut }
     ensures exact { ReadsNoFurther manner.reach intake.old.held intake.new.held }
-    ensures read { (result ≡ Err LinkFault.Read) ↔ (manner.before < R.failure_count r.new) }
-    ensures write { result ≢ Err LinkFault.Write }
-    ensures spent { result ≡ Err LinkFault.Turns → intake.new.turns ≡ 0 }
-    ensures made { Spends R.was_read r.old r.new intake.old.turns intake.new.turns }
+    ensures told { TellsReads R.failure_count R.was_read manner.before r.old r.new intake.old.turns intake.new.turns result }
 {
     match framing {
         Framing::Sized(size) => read_sized(r, room, intake, size, manner),
@@ -89,10 +86,7 @@ fn read_sized<R: Source>(
     ensures fits { IfOk result (ReadsAtMost size) }
     ensures at_once { size ≤ length (held_in room.old intake.old.held) → r.new ≡ r.old }
     ensures exact { ReadsNoFurther Reach.Needed intake.old.held intake.new.held }
-    ensures read { (result ≡ Err LinkFault.Read) ↔ (manner.before < R.failure_count r.new) }
-    ensures write { result ≢ Err LinkFault.Write }
-    ensures spent { result ≡ Err LinkFault.Turns → intake.new.turns ≡ 0 }
-    ensures made { Spends R.was_read r.old r.new intake.old.turns intake.new.turns }
+    ensures told { TellsReads R.failure_count R.was_read manner.before r.old r.new intake.old.turns intake.new.turns result }
 {
     move_to_front(room, &mut intake.held);
     let had = intake.held.to;

@@ -2,7 +2,7 @@
 
 ghost use Rattle.std.specs.Prelude.{◌≡◌, ◌≢◌, ◌↔◌, ◌⊎◌, ◌+◌, ◌-◌, ◌<◌, ◌≤◌, ◌∷◌, ◌++◌, [], length, take, drop, min, Err, IfOk, IsTrue};
 ghost use Rattle.httparse.specs.Ascii.{crlf_bytes};
-ghost use Rattle.http_link.specs.Counts.{Spends};
+ghost use Rattle.http_link.specs.Telling.{TellsReads};
 ghost use Rattle.http_link.specs.Limits.{max_chunk_line, max_head};
 ghost use Rattle.http_link.specs.Bodies.{BeginsNothing, IsChunked, IsCutShort, cut, ends_line, ends_section};
 ghost use Rattle.http_link.specs.BodyReading.{AreTrailersIn, IsStatedIn, LiesBehind, ReadsAs, ReadsAtMost, ReadsNoFurther};
@@ -72,10 +72,7 @@ pub(crate) fn read_chunks<R: Source>(
     ensures fits { IfOk result (ReadsAtMost most) }
     ensures at_once { (r.new ≡ r.old) ⊎ IsChunked most (held_in room.old intake.old.held) cut }
     ensures exact { ReadsNoFurther manner.reach intake.old.held intake.new.held }
-    ensures read { (result ≡ Err LinkFault.Read) ↔ (manner.before < R.failure_count r.new) }
-    ensures write { result ≢ Err LinkFault.Write }
-    ensures spent { result ≡ Err LinkFault.Turns → intake.new.turns ≡ 0 }
-    ensures made { Spends R.was_read r.old r.new intake.old.turns intake.new.turns }
+    ensures told { TellsReads R.failure_count R.was_read manner.before r.old r.new intake.old.turns intake.new.turns result }
 {
     let mut done = 0;
     loop {
@@ -108,10 +105,7 @@ fn read_step<R: Source>(
     ensures at_once { ReadsOnlyFor r.old r.new result (TakesStep (held_in room.old intake.old.held) no_more no_more
         (held_in room.new intake.new.held) most done room.old room.new) (IsCutShort (most - done) (held_in room.old intake.old.held)) }
     ensures exact { ReadsNoFurther manner.reach intake.old.held intake.new.held }
-    ensures read { (result ≡ Err LinkFault.Read) ↔ (manner.before < R.failure_count r.new) }
-    ensures write { result ≢ Err LinkFault.Write }
-    ensures spent { result ≡ Err LinkFault.Turns → intake.new.turns ≡ 0 }
-    ensures made { Spends R.was_read r.old r.new intake.old.turns intake.new.turns }
+    ensures told { TellsReads R.failure_count R.was_read manner.before r.old r.new intake.old.turns intake.new.turns result }
 {
     match read_size(r, room, intake, done, manner)? {
         Stated::Size(0) => read_end(r, room, intake, done, manner),
@@ -144,10 +138,7 @@ fn read_size<R: Source>(
     ensures at_once { ReadsOnlyFor r.old r.new result (TakesSize (held_in room.old intake.old.held) no_more no_more
         (held_in room.new intake.new.held)) (BeginsNothing ends_line max_chunk_line (held_in room.old intake.old.held)) }
     ensures exact { ReadsNoFurther manner.reach intake.old.held intake.new.held }
-    ensures read { (result ≡ Err LinkFault.Read) ↔ (manner.before < R.failure_count r.new) }
-    ensures write { result ≢ Err LinkFault.Write }
-    ensures spent { result ≡ Err LinkFault.Turns → intake.new.turns ≡ 0 }
-    ensures made { Spends R.was_read r.old r.new intake.old.turns intake.new.turns }
+    ensures told { TellsReads R.failure_count R.was_read manner.before r.old r.new intake.old.turns intake.new.turns result }
 {
     let mut line = [0u8; MAX_CHUNK_LINE];
     match read_text(r, room, intake, done, Sought::Line, &mut line, manner)? {
@@ -197,10 +188,7 @@ fn read_chunk<R: Source>(
     ensures at_once { ReadsOnlyFor r.old r.new result (TakesChunk (held_in room.old intake.old.held) no_more no_more
         (held_in room.new intake.new.held) size done room.old room.new) (length (held_in room.old intake.old.held) < size + 2) }
     ensures exact { ReadsNoFurther manner.reach intake.old.held intake.new.held }
-    ensures read { (result ≡ Err LinkFault.Read) ↔ (manner.before < R.failure_count r.new) }
-    ensures write { result ≢ Err LinkFault.Write }
-    ensures spent { result ≡ Err LinkFault.Turns → intake.new.turns ≡ 0 }
-    ensures made { Spends R.was_read r.old r.new intake.old.turns intake.new.turns }
+    ensures told { TellsReads R.failure_count R.was_read manner.before r.old r.new intake.old.turns intake.new.turns result }
 {
     if !read_bytes(r, room, intake, done, size, manner)? {
         return Ok(Step::Over(BodyRead::Cut));
@@ -233,10 +221,7 @@ fn read_bytes<R: Source>(
     ensures at_once { ReadsOnlyFor r.old r.new result (TakesBytes (held_in room.old intake.old.held) no_more no_more
         (held_in room.new intake.new.held) size done room.old room.new) (length (held_in room.old intake.old.held) < size) }
     ensures exact { ReadsNoFurther Reach.Needed intake.old.held intake.new.held }
-    ensures read { (result ≡ Err LinkFault.Read) ↔ (manner.before < R.failure_count r.new) }
-    ensures write { result ≢ Err LinkFault.Write }
-    ensures spent { result ≡ Err LinkFault.Turns → intake.new.turns ≡ 0 }
-    ensures made { Spends R.was_read r.old r.new intake.old.turns intake.new.turns }
+    ensures told { TellsReads R.failure_count R.was_read manner.before r.old r.new intake.old.turns intake.new.turns result }
 {
     let moved = move_bytes(room, &mut intake.held, done, size);
     if moved == size {
@@ -288,10 +273,7 @@ fn read_line_end<R: Source>(
     ensures at_once { ReadsOnlyFor r.old r.new result (TakesEnd (held_in room.old intake.old.held) no_more no_more
         (held_in room.new intake.new.held)) (length (held_in room.old intake.old.held) < 2) }
     ensures exact { ReadsNoFurther manner.reach intake.old.held intake.new.held }
-    ensures read { (result ≡ Err LinkFault.Read) ↔ (manner.before < R.failure_count r.new) }
-    ensures write { result ≢ Err LinkFault.Write }
-    ensures spent { result ≡ Err LinkFault.Turns → intake.new.turns ≡ 0 }
-    ensures made { Spends R.was_read r.old r.new intake.old.turns intake.new.turns }
+    ensures told { TellsReads R.failure_count R.was_read manner.before r.old r.new intake.old.turns intake.new.turns result }
 {
     let Some(first) = next_byte(r, room, intake, done, manner)? else {
         return Ok(Checked::Short);
@@ -331,10 +313,7 @@ fn read_end<R: Source>(
         (held_in room.new intake.new.held) done room.old room.new)
         (BeginsNothing ends_section max_head (held_in room.old intake.old.held)) }
     ensures exact { ReadsNoFurther manner.reach intake.old.held intake.new.held }
-    ensures read { (result ≡ Err LinkFault.Read) ↔ (manner.before < R.failure_count r.new) }
-    ensures write { result ≢ Err LinkFault.Write }
-    ensures spent { result ≡ Err LinkFault.Turns → intake.new.turns ≡ 0 }
-    ensures made { Spends R.was_read r.old r.new intake.old.turns intake.new.turns }
+    ensures told { TellsReads R.failure_count R.was_read manner.before r.old r.new intake.old.turns intake.new.turns result }
 {
     let mut text = [0u8; MAX_HEAD];
     match read_text(r, room, intake, done, Sought::Section, &mut text, manner)? {

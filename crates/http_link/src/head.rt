@@ -1,7 +1,7 @@
 //! The reader of heads.
 
 ghost use Rattle.std.specs.Prelude.{◌≡◌, ◌≢◌, ◌↔◌, ◌⊎◌, ◌-◌, ◌<◌, ◌≤◌, length, take, false, Err, IfOk};
-ghost use Rattle.http_link.specs.Counts.{Spends};
+ghost use Rattle.http_link.specs.Telling.{TellsReads};
 ghost use Rattle.http_link.specs.Grammars.{ends_empty_line};
 ghost use Rattle.http_link.specs.Reading.{BeginsNot, Decides, EndsAt, GoesOn, HeadIsFound, Sees, SeesFurther};
 ghost use Rattle.http_link.specs.Limits.{max_head};
@@ -95,10 +95,7 @@ pub(crate) fn find_head<H: HeadSpans, R: Source>(
         ⊎ BeginsNot H.grammar (take intake.old.held.to room.old) (length lines.new) }
     ensures exact { manner.reach ≡ Reach.Needed → intake.old.held.to ≡ 0
         → IfOk result (EndsAt H.grammar intake.new.held.to) }
-    ensures read { (result ≡ Err LinkFault.Read) ↔ (manner.before < R.failure_count r.new) }
-    ensures write { result ≢ Err LinkFault.Write }
-    ensures spent { result ≡ Err LinkFault.Turns → intake.new.turns ≡ 0 }
-    ensures made { Spends R.was_read r.old r.new intake.old.turns intake.new.turns }
+    ensures told { TellsReads R.failure_count R.was_read manner.before r.old r.new intake.old.turns intake.new.turns result }
 {
     let mut seen = 0;
     let mut parsed = 0;

@@ -1,7 +1,7 @@
 //! What follows a head, byte by byte: bytes that have come, and then those of the reader.
 
 ghost use Rattle.std.specs.Prelude.{◌≡◌, ◌≢◌, ◌↔◌, ◌+◌, ◌<◌, ◌≤◌, [], length, take, Err, IfOk};
-ghost use Rattle.http_link.specs.Counts.{Spends};
+ghost use Rattle.http_link.specs.Telling.{TellsReads};
 ghost use Rattle.http_link.specs.Grammars.{ends_empty_line};
 ghost use Rattle.http_link.specs.Bodies.{BeginsNothing};
 ghost use Rattle.http_link.specs.BodyReading.{LiesBehind, ReadsNoFurther, ReadsOnlyFor, TakesNext, TakesText, ends_sought, no_more};
@@ -95,10 +95,7 @@ pub(crate) fn next_byte<R: Source>(
     ensures at_once { ReadsOnlyFor r.old r.new result (TakesNext (held_in room.old intake.old.held) no_more no_more
         (held_in room.new intake.new.held)) (held_in room.old intake.old.held ≡ []) }
     ensures exact { ReadsNoFurther manner.reach intake.old.held intake.new.held }
-    ensures read { (result ≡ Err LinkFault.Read) ↔ (manner.before < R.failure_count r.new) }
-    ensures write { result ≢ Err LinkFault.Write }
-    ensures spent { result ≡ Err LinkFault.Turns → intake.new.turns ≡ 0 }
-    ensures made { Spends R.was_read r.old r.new intake.old.turns intake.new.turns }
+    ensures told { TellsReads R.failure_count R.was_read manner.before r.old r.new intake.old.turns intake.new.turns result }
 {
     let Held { from, to } = intake.held;
     if from < to {
@@ -153,10 +150,7 @@ pub(crate) fn read_text<R: Source>(
         (held_in room.new intake.new.held) text.new)
         (BeginsNothing (ends_sought sought) (length text.old) (held_in room.old intake.old.held)) }
     ensures exact { ReadsNoFurther manner.reach intake.old.held intake.new.held }
-    ensures read { (result ≡ Err LinkFault.Read) ↔ (manner.before < R.failure_count r.new) }
-    ensures write { result ≢ Err LinkFault.Write }
-    ensures spent { result ≡ Err LinkFault.Turns → intake.new.turns ≡ 0 }
-    ensures made { Spends R.was_read r.old r.new intake.old.turns intake.new.turns }
+    ensures told { TellsReads R.failure_count R.was_read manner.before r.old r.new intake.old.turns intake.new.turns result }
 {
     let mut n = 0;
     while n < text.len() {

@@ -2,7 +2,8 @@
 
 ghost use Rattle.std.specs.Prelude.{◌≡◌, ◌≢◌, ◌↔◌, ◌<◌, ◌≤◌, length, take, Some, Ok, Err, IfOk, OnOk};
 ghost use Rattle.std.specs.Io.KnownBytes.{Appends};
-ghost use Rattle.http_link.specs.Counts.{MadeMore, MadeAll, NoFewer, Spends};
+ghost use Rattle.http_link.specs.Counts.{MadeMore, MadeAll, NoFewer};
+ghost use Rattle.http_link.specs.Telling.{TellsReads};
 ghost use Rattle.http_link.specs.Streams.{AppendsFront, EndsOrNot, FillsOn, PullsNext, ReadsBehind};
 
 use crate::devices::{Sink, Source};
@@ -68,10 +69,7 @@ pub(crate) fn fetch<R: Source>(
     requires unfailed { R.failure_count r.old ≤ before }
     ensures came { IfOk result (λ n. ReadsBehind (R.remaining r.old) (R.remaining r.new) at limit out.old out.new (Some n)) }
     ensures len { length out.new ≡ length out.old }
-    ensures read { (result ≡ Err LinkFault.Read) ↔ (before < R.failure_count r.new) }
-    ensures write { result ≢ Err LinkFault.Write }
-    ensures spent { result ≡ Err LinkFault.Turns → turns.new ≡ 0 }
-    ensures made { Spends R.was_read r.old r.new turns.old turns.new }
+    ensures told { TellsReads R.failure_count R.was_read before r.old r.new turns.old turns.new result }
 {
     while *turns > 0 {
         *turns -= 1;
@@ -90,10 +88,7 @@ pub(crate) fn fetch_one<R: Source>(
 ) -> Result<Option<u8>, LinkFault>
     requires unfailed { R.failure_count r.old ≤ before }
     ensures pulled { IfOk result (PullsNext (R.remaining r.old) (R.remaining r.new)) }
-    ensures read { (result ≡ Err LinkFault.Read) ↔ (before < R.failure_count r.new) }
-    ensures write { result ≢ Err LinkFault.Write }
-    ensures spent { result ≡ Err LinkFault.Turns → turns.new ≡ 0 }
-    ensures made { Spends R.was_read r.old r.new turns.old turns.new }
+    ensures told { TellsReads R.failure_count R.was_read before r.old r.new turns.old turns.new result }
 {
     let mut one = [0u8; 1];
     if fetch(r, &mut one, 0, 1, before, turns)? == 0 {
@@ -118,10 +113,7 @@ pub(crate) fn read_on<R: Source>(
     ensures filled { IfOk result (FillsOn (R.remaining r.old) (R.remaining r.new) (take had out.old) wanted out.new) }
     ensures at_once { wanted ≤ had → r.new ≡ r.old }
     ensures len { length out.new ≡ length out.old }
-    ensures read { (result ≡ Err LinkFault.Read) ↔ (before < R.failure_count r.new) }
-    ensures write { result ≢ Err LinkFault.Write }
-    ensures spent { result ≡ Err LinkFault.Turns → turns.new ≡ 0 }
-    ensures made { Spends R.was_read r.old r.new turns.old turns.new }
+    ensures told { TellsReads R.failure_count R.was_read before r.old r.new turns.old turns.new result }
 {
     let mut done = had;
     while done < wanted {
@@ -142,10 +134,7 @@ pub(crate) fn has_ended<R: Source>(
 ) -> Result<bool, LinkFault>
     requires unfailed { R.failure_count r.old ≤ before }
     ensures ended { IfOk result (EndsOrNot (R.remaining r.old)) }
-    ensures read { (result ≡ Err LinkFault.Read) ↔ (before < R.failure_count r.new) }
-    ensures write { result ≢ Err LinkFault.Write }
-    ensures spent { result ≡ Err LinkFault.Turns → turns.new ≡ 0 }
-    ensures made { Spends R.was_read r.old r.new turns.old turns.new }
+    ensures told { TellsReads R.failure_count R.was_read before r.old r.new turns.old turns.new result }
 {
     Ok(fetch_one(r, before, turns)?.is_none())
 }

@@ -22,4 +22,4 @@ returns-then-held-clause-awaited g c =
 
 pub returns-in_err-n-clause-turns : goal.returns-in_err-n-clause-turns
 returns-in_err-n-clause-turns g c told =
-    spent_all g.R.Source.was_read c.args.r.now c.fetch.new.r max_turns c.fetch.new.turns c.fetch.ensures.made (search rules)
+    spent_all g.R.Source.was_read c.args.r.now c.fetch.new.r max_turns c.fetch.new.turns c.fetch.ensures.told.made (search rules)

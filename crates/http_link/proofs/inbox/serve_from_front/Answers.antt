@@ -26,7 +26,7 @@ returns-in-Malformed-clause-turns g c told = inr (c.refuse.ensures.turns told)
 pub returns-in-Whole-clause-turns : goal.returns-in-Whole-clause-turns
 returns-in-Whole-clause-turns g c told =
     spends_then g.R.Source.was_read c.args.r.now c.find_head.new.r c.serve_found.new.r c.args.intake.now.turns c.find_head.new.intake.turns
-    c.find_head.ensures.made (c.serve_found.ensures.turns told)
+    c.find_head.ensures.told.made (c.serve_found.ensures.turns told)
 
 pub returns-in_err-find_head-clause-at_once : goal.returns-in_err-find_head-clause-at_once
 returns-in_err-find_head-clause-at_once g c = none_there _ _ (g.S.Service.tenant_of c.args.service.now) _ _ _ (omega arith) c.find_head.ensures.at_once

@@ -42,12 +42,12 @@ returns-in-Whole-clause-asked_once g c =
 
 pub returns-in_err-find_head-clause-turns : goal.returns-in_err-find_head-clause-turns
 returns-in_err-find_head-clause-turns g c told =
-    inl (spent_all g.R.Source.was_read c.args.r.now c.find_head.new.r max_turns c.find_head.new.intake.turns c.find_head.ensures.made (search rules))
+    inl (spent_all g.R.Source.was_read c.args.r.now c.find_head.new.r max_turns c.find_head.new.intake.turns c.find_head.ensures.told.made (search rules))
 
 pub returns-in-Whole-clause-turns : goal.returns-in-Whole-clause-turns
 returns-in-Whole-clause-turns g c told =
     spent_in_two g.R.Source.was_read c.args.r.now c.find_head.new.r c.serve_head.new.r max_turns c.find_head.new.intake.turns
-    c.find_head.ensures.made (c.serve_head.ensures.turns told)
+    c.find_head.ensures.told.made (c.serve_head.ensures.turns told)
 
 pub returns-in-Malformed-clause-turns : goal.returns-in-Malformed-clause-turns
 returns-in-Malformed-clause-turns g c told = inr (c.refuse.ensures.turns told)
