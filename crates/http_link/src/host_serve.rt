@@ -4,6 +4,7 @@ ghost use Rattle.std.specs.Prelude.{◌≡◌, ◌≢◌, ◌↔◌, ◌<◌, �
 ghost use Rattle.std.specs.Io.KnownBytes.{Appends};
 ghost use Rattle.httparse.specs.Grammar as grammar;
 ghost use Rattle.http_link.specs.Counts.{MadeAll};
+ghost use Rattle.http_link.specs.Telling.{TellsWrites};
 ghost use Rattle.http_link.specs.Heads.{BeginsWith, head_of};
 ghost use Rattle.http_link.specs.Lines.{head_at};
 ghost use Rattle.http_link.specs.HostDoor.{AnswersHost, IsHostAskedOnly, IsHostServed};
@@ -100,9 +101,7 @@ fn answer_host<W: Sink, S: HostService>(
         })) }
     ensures asked { IsHostAskedOnly (host_wanted_of (head_at head.now)) (service.new ≡ service.old)
         (λ question. S.asks service.old question service.new) }
-    ensures write { (result ≡ Err LinkFault.Write) ↔ (before < W.failure_count w.new) }
-    ensures read { result ≢ Err LinkFault.Read }
-    ensures turns { result ≡ Err LinkFault.Turns → MadeAll W.was_written w.old w.new }
+    ensures told { TellsWrites W.failure_count W.was_written before w.old w.new result }
 {
     match host_wanted_of(head) {
         Ok(wanted) => ask_host(w, service, &wanted, before),
@@ -122,9 +121,7 @@ fn ask_host<W: Sink, S: HostService>(
         × ((status : ℕ) × S.asks service.old (host_asking (host_wanted_at wanted.now) status) service.new
         × Appends (W.contents w.old) (W.contents w.new) (host_text wanted.now.request status (S.answer service.new)))) }
     ensures asked { (status : ℕ) × S.asks service.old (host_asking (host_wanted_at wanted.now) status) service.new }
-    ensures write { (result ≡ Err LinkFault.Write) ↔ (before < W.failure_count w.new) }
-    ensures read { result ≢ Err LinkFault.Read }
-    ensures turns { result ≡ Err LinkFault.Turns → MadeAll W.was_written w.old w.new }
+    ensures told { TellsWrites W.failure_count W.was_written before w.old w.new result }
 {
     let status = service.host(wanted.request, wanted.token);
     write_told(w, wanted.request, status, service.body(), before)
@@ -141,9 +138,7 @@ fn write_told<W: Sink>(
     requires unfailed { W.failure_count w.old ≤ before }
     ensures whole { IfOk result (λ served. (served ≡ Served.Closed)
         × Appends (W.contents w.old) (W.contents w.new) (host_text request status body.now)) }
-    ensures write { (result ≡ Err LinkFault.Write) ↔ (before < W.failure_count w.new) }
-    ensures read { result ≢ Err LinkFault.Read }
-    ensures turns { result ≡ Err LinkFault.Turns → MadeAll W.was_written w.old w.new }
+    ensures told { TellsWrites W.failure_count W.was_written before w.old w.new result }
 {
     match status {
         200 => write_closing(w, media_line(request), 200, body, before),
@@ -157,9 +152,7 @@ fn refuse_host<W: Sink>(w: &mut W, refusal: HostRefusal, before: u64) -> Result<
     requires unfailed { W.failure_count w.old ≤ before }
     ensures refused { IfOk result (λ served. (served ≡ Served.Closed)
         × Appends (W.contents w.old) (W.contents w.new) (host_refusal_text refusal)) }
-    ensures write { (result ≡ Err LinkFault.Write) ↔ (before < W.failure_count w.new) }
-    ensures read { result ≢ Err LinkFault.Read }
-    ensures turns { result ≡ Err LinkFault.Turns → MadeAll W.was_written w.old w.new }
+    ensures told { TellsWrites W.failure_count W.was_written before w.old w.new result }
 {
     match refusal {
         HostRefusal::Target => refuse(w, 404, before),
@@ -180,9 +173,7 @@ fn write_closing<W: Sink>(
     requires unfailed { W.failure_count w.old ≤ before }
     ensures whole { IfOk result (λ served. (served ≡ Served.Closed)
         × Appends (W.contents w.old) (W.contents w.new) (closing_text own.now status body.now)) }
-    ensures write { (result ≡ Err LinkFault.Write) ↔ (before < W.failure_count w.new) }
-    ensures read { result ≢ Err LinkFault.Read }
-    ensures turns { result ≡ Err LinkFault.Turns → MadeAll W.was_written w.old w.new }
+    ensures told { TellsWrites W.failure_count W.was_written before w.old w.new result }
 {
     write_message(w, head_with(own, status, body.len(), true), body, before)?;
     Ok(Served::Closed)

@@ -2,7 +2,7 @@
 
 ghost use Rattle.std.specs.Prelude.{◌≡◌, ◌≢◌, ◌↔◌, ◌+◌, ◌<◌, ◌≤◌, ◌++◌, [], length, decimal, Err, OnOk};
 ghost use Rattle.std.specs.Io.KnownBytes.{Appends};
-ghost use Rattle.http_link.specs.Counts.{MadeAll};
+ghost use Rattle.http_link.specs.Telling.{TellsWrites};
 ghost use Rattle.http_link.specs.Answers.{line};
 ghost use Rattle.http_link.specs.Limits.{max_written};
 
@@ -103,9 +103,7 @@ pub(crate) fn write_message<W: Sink>(
 ) -> Result<(), LinkFault>
     requires unfailed { W.failure_count w.old ≤ before }
     ensures whole { OnOk result (Appends (W.contents w.old) (W.contents w.new) (head ++ body.now)) }
-    ensures write { (result ≡ Err LinkFault.Write) ↔ (before < W.failure_count w.new) }
-    ensures read { result ≢ Err LinkFault.Read }
-    ensures turns { result ≡ Err LinkFault.Turns → MadeAll W.was_written w.old w.new }
+    ensures told { TellsWrites W.failure_count W.was_written before w.old w.new result }
 {
     if body.len() <= head.room() {
         head.push(body);

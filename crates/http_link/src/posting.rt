@@ -4,10 +4,11 @@ ghost use Rattle.std.specs.Prelude.{◌≡◌, ◌≢◌, ◌↔◌, ◌<◌, �
 ghost use Rattle.httparse.specs.Spans.{IsResponseWithin, header_bytes};
 ghost use Rattle.common_types.specs.Numbers.{is_between};
 ghost use Rattle.std.specs.Io.KnownBytes.{Appends};
-ghost use Rattle.http_link.specs.Counts.{MadeAll, Spends};
+ghost use Rattle.http_link.specs.Counts.{MadeAll};
+ghost use Rattle.http_link.specs.Telling.{TellsReadsAs};
 ghost use Rattle.http_link.specs.Lines.{lines_at, occurrence_at};
 ghost use Rattle.http_link.specs.BodyReading.{LiesBehind};
-ghost use Rattle.http_link.specs.Client.{FitsAnswer, GivesAs, Means, framing_by, framing_in, given, post_head, post_text, sized_by};
+ghost use Rattle.http_link.specs.Client.{FitsAnswer, GivesAs, Means, framing_by, framing_in, given, post_fault_of, post_head, post_text, sized_by};
 ghost use Rattle.http_link.specs.Fields.{value_of};
 ghost use Rattle.http_link.specs.Limits.{max_peer_answer, max_heads};
 ghost use Rattle.http_link.specs.Running.{held_in};
@@ -162,10 +163,8 @@ fn read_answer<R: Source>(
         → result ≢ Err PostFault.Read → result ≢ Err PostFault.Turns → Means max_heads stream (given result out.new) }
     ensures bound { IfOk result (λ n. n ≤ max_peer_answer) }
     ensures len { length out.new ≡ length out.old }
-    ensures read { (result ≡ Err PostFault.Read) ↔ (manner.before < R.failure_count r.new) }
-    ensures write { result ≢ Err PostFault.Write }
-    ensures spent { result ≡ Err PostFault.Turns → intake.new.turns ≡ 0 }
-    ensures made { Spends R.was_read r.old r.new intake.old.turns intake.new.turns }
+    ensures told { TellsReadsAs post_fault_of R.failure_count R.was_read manner.before r.old r.new
+        intake.old.turns intake.new.turns result }
 {
     let mut lines = [EMPTY_HEADER_SPAN; MAX_LINES];
     let mut heads = MAX_HEADS;
@@ -265,10 +264,8 @@ fn read_framed<R: Source>(
     ensures gives { GivesAs framing (held_in out.old intake.old.held) (R.remaining r.old) result out.new }
     ensures bound { IfOk result (λ n. n ≤ max_peer_answer) }
     ensures len { length out.new ≡ length out.old }
-    ensures read { (result ≡ Err PostFault.Read) ↔ (manner.before < R.failure_count r.new) }
-    ensures write { result ≢ Err PostFault.Write }
-    ensures spent { result ≡ Err PostFault.Turns → intake.new.turns ≡ 0 }
-    ensures made { Spends R.was_read r.old r.new intake.old.turns intake.new.turns }
+    ensures told { TellsReadsAs post_fault_of R.failure_count R.was_read manner.before r.old r.new
+        intake.old.turns intake.new.turns result }
 {
     let framing = match framing {
         AnswerFraming::Framed(framing) => framing,
@@ -295,10 +292,8 @@ fn read_to_end<R: Source>(
     ensures gives { GivesAs AnswerFraming.ToEnd (held_in out.old intake.old.held) (R.remaining r.old) result out.new }
     ensures bound { IfOk result (λ n. n ≤ max_peer_answer) }
     ensures len { length out.new ≡ length out.old }
-    ensures read { (result ≡ Err PostFault.Read) ↔ (manner.before < R.failure_count r.new) }
-    ensures write { result ≢ Err PostFault.Write }
-    ensures spent { result ≡ Err PostFault.Turns → intake.new.turns ≡ 0 }
-    ensures made { Spends R.was_read r.old r.new intake.old.turns intake.new.turns }
+    ensures told { TellsReadsAs post_fault_of R.failure_count R.was_read manner.before r.old r.new
+        intake.old.turns intake.new.turns result }
 {
     move_to_front(out, &mut intake.held);
     let had = intake.held.to;

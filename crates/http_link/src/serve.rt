@@ -6,6 +6,7 @@ ghost use Rattle.httparse.specs.Grammar as grammar;
 ghost use Rattle.httparse.specs.Spans.{IsRequestWithin};
 ghost use Rattle.http_link.specs.Connections.{IsCutBehind};
 ghost use Rattle.http_link.specs.Counts.{MadeAll, Spends};
+ghost use Rattle.http_link.specs.Telling.{TellsWrites};
 ghost use Rattle.http_link.specs.Bodies.{IsBody, cut, most_of, refusal_of};
 ghost use Rattle.http_link.specs.BodyReading.{LiesBehind, ReadsNoFurther};
 ghost use Rattle.http_link.specs.Heads.{BeginsWith, head_of};
@@ -163,9 +164,7 @@ pub(crate) fn refuse<W: Sink>(w: &mut W, status: u16, before: u64) -> Result<Ser
     requires unfailed { W.failure_count w.old ≤ before }
     ensures refused { IfOk result (λ served. (served ≡ Served.Closed)
         × Appends (W.contents w.old) (W.contents w.new) (refusal_text status)) }
-    ensures write { (result ≡ Err LinkFault.Write) ↔ (before < W.failure_count w.new) }
-    ensures read { result ≢ Err LinkFault.Read }
-    ensures turns { result ≡ Err LinkFault.Turns → MadeAll W.was_written w.old w.new }
+    ensures told { TellsWrites W.failure_count W.was_written before w.old w.new result }
 {
     let answer = answer_head(RequestKind::Ilp, status, 0, true);
     write_all(w, answer.as_slice(), before)?;
@@ -278,9 +277,7 @@ fn answer<W: Sink, S: Service>(
         × Appends (W.contents w.old) (W.contents w.new)
         (answer_text wanted.now.kind status (S.answer service.new) (closes (head_at head.now))))) }
     ensures asked { (status : ℕ) × S.asks service.old (asking (wanted_at wanted.now) body.now status) service.new }
-    ensures write { (result ≡ Err LinkFault.Write) ↔ (before < W.failure_count w.new) }
-    ensures read { result ≢ Err LinkFault.Read }
-    ensures turns { result ≡ Err LinkFault.Turns → MadeAll W.was_written w.old w.new }
+    ensures told { TellsWrites W.failure_count W.was_written before w.old w.new result }
 {
     let status = ask(service, wanted, body);
     let closed = closes(head);
@@ -336,9 +333,7 @@ fn write_answer<W: Sink>(
     requires unfailed { W.failure_count w.old ≤ before }
     ensures whole { OnOk result (Appends (W.contents w.old) (W.contents w.new)
         (answer_text kind status body.now closes)) }
-    ensures write { (result ≡ Err LinkFault.Write) ↔ (before < W.failure_count w.new) }
-    ensures read { result ≢ Err LinkFault.Read }
-    ensures turns { result ≡ Err LinkFault.Turns → MadeAll W.was_written w.old w.new }
+    ensures told { TellsWrites W.failure_count W.was_written before w.old w.new result }
 {
     let shown = told_body(status, body);
     let head = answer_head(kind, status_told(status), shown.len(), closes);

@@ -2,8 +2,8 @@
 
 ghost use Rattle.std.specs.Prelude.{◌≡◌, ◌≢◌, ◌↔◌, ◌<◌, ◌≤◌, length, take, Some, Ok, Err, IfOk, OnOk};
 ghost use Rattle.std.specs.Io.KnownBytes.{Appends};
-ghost use Rattle.http_link.specs.Counts.{MadeMore, MadeAll, NoFewer};
-ghost use Rattle.http_link.specs.Telling.{TellsReads};
+ghost use Rattle.http_link.specs.Counts.{MadeMore, NoFewer};
+ghost use Rattle.http_link.specs.Telling.{TellsReads, TellsWrites};
 ghost use Rattle.http_link.specs.Streams.{AppendsFront, EndsOrNot, FillsOn, PullsNext, ReadsBehind};
 
 use crate::devices::{Sink, Source};
@@ -165,10 +165,8 @@ pub(crate) fn write_all<W: Sink>(w: &mut W, bytes: &[u8], before: u64) -> Result
     requires unfailed { W.failure_count w.old ≤ before }
     ensures whole { OnOk result (Appends (W.contents w.old) (W.contents w.new) bytes.now) }
     ensures front { AppendsFront bytes.now (W.contents w.old) (W.contents w.new) }
-    ensures write { (result ≡ Err LinkFault.Write) ↔ (before < W.failure_count w.new) }
-    ensures read { result ≢ Err LinkFault.Read }
     ensures kept { NoFewer W.was_written w.old w.new }
-    ensures turns { result ≡ Err LinkFault.Turns → MadeAll W.was_written w.old w.new }
+    ensures told { TellsWrites W.failure_count W.was_written before w.old w.new result }
 {
     let mut done = 0;
     let mut turns = MAX_READS;

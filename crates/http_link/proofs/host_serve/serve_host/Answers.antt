@@ -44,7 +44,7 @@ returns-in_err-find_head-clause-turns g c told =
     inl (spent_all g.R.Source.was_read c.args.r.now c.find_head.new.r max_turns c.find_head.new.intake.turns c.find_head.ensures.told.made (search rules))
 
 pub returns-in-Malformed-clause-turns : goal.returns-in-Malformed-clause-turns
-returns-in-Malformed-clause-turns g c told = inr (c.refuse.ensures.turns told)
+returns-in-Malformed-clause-turns g c told = inr (c.refuse.ensures.told.turns told)
 
 pub returns-in-Whole-clause-turns : goal.returns-in-Whole-clause-turns
-returns-in-Whole-clause-turns g c told = inr (c.answer_host.ensures.turns told)
+returns-in-Whole-clause-turns g c told = inr (c.answer_host.ensures.told.turns told)

@@ -21,7 +21,7 @@ returns-in-Partial-clause-serves g c =
     partial_found (g.S.Service.tenant_of c.args.service.now) _ _ _ _ c.find_head.new.lines _ (omega arith) (rw c.in-Partial.is at c.in_ok-find_head.ensures.found) refl (Appends-nil (g.W.Write.contents c.args.w.now))
 
 pub returns-in-Malformed-clause-turns : goal.returns-in-Malformed-clause-turns
-returns-in-Malformed-clause-turns g c told = inr (c.refuse.ensures.turns told)
+returns-in-Malformed-clause-turns g c told = inr (c.refuse.ensures.told.turns told)
 
 pub returns-in-Whole-clause-turns : goal.returns-in-Whole-clause-turns
 returns-in-Whole-clause-turns g c told =

@@ -50,4 +50,4 @@ returns-in-Whole-clause-turns g c told =
     c.find_head.ensures.told.made (c.serve_head.ensures.turns told)
 
 pub returns-in-Malformed-clause-turns : goal.returns-in-Malformed-clause-turns
-returns-in-Malformed-clause-turns g c told = inr (c.refuse.ensures.turns told)
+returns-in-Malformed-clause-turns g c told = inr (c.refuse.ensures.told.turns told)

@@ -43,7 +43,7 @@ returns-in-Whole-clause-asks g c =
     (c.answer.new.service ≡ c.args.service.now) (λ question. g.S.Service.asks c.args.service.now question c.answer.new.service) read c.answer.ensures.asked
 
 pub returns-in-Whole-clause-turns : goal.returns-in-Whole-clause-turns
-returns-in-Whole-clause-turns g c told = inr (λ n least. c.answer.ensures.turns told n (c.write_all.ensures.kept n least))
+returns-in-Whole-clause-turns g c told = inr (λ n least. c.answer.ensures.told.turns told n (c.write_all.ensures.kept n least))
 
 pub returns-in-Bad-clause-turns : goal.returns-in-Bad-clause-turns
-returns-in-Bad-clause-turns g c told = inr (λ n least. c.refuse.ensures.turns told n (c.write_all.ensures.kept n least))
+returns-in-Bad-clause-turns g c told = inr (λ n least. c.refuse.ensures.told.turns told n (c.write_all.ensures.kept n least))

@@ -20,6 +20,9 @@ loop-done-preserved g c =
       made = search rules;
     }
 
-pub returns-then-turns-eq0-clause-turns : goal.returns-then-turns-eq0-clause-turns
-returns-then-turns-eq0-clause-turns g c told =
-    spent_all g.W.Sink.was_written c.args.w.now c.loop-done.w max_turns c.loop-done.turns c.loop-done.invariant.made (omega arith)
+pub returns-then-turns-eq0-clause-told : goal.returns-then-turns-eq0-clause-told
+returns-then-turns-eq0-clause-told g c = record {
+  write = search rules;
+  read = search rules;
+  turns = λ told. spent_all g.W.Sink.was_written c.args.w.now c.loop-done.w max_turns c.loop-done.turns c.loop-done.invariant.made (omega arith);
+}
