@@ -1,5 +1,5 @@
 -- What is read of a command's words is what they spell.
-use Rattle.std.proofs.Common.{◌≡◌, ◌∷◌, ◌++◌, [], ℕ, Bool, true, false, cond, List, length, drop, Result, Ok, refl, sym, ap, ◌∙◌, subst, ◌<◌, ◌^◌, arith, rules}
+use Rattle.std.proofs.Common.{◌≡◌, ◌∷◌, ◌++◌, [], ℕ, Bool, true, false, cond, List, length, drop, Result, Ok, Err, IsOkAnd, refl, sym, ap, ◌∙◌, subst, ◌<◌, ◌^◌, arith, rules}
 use Rattle.std.specs.Str.{bytes_eq}
 use Rattle.std.proofs.lemmas.Bool.{and_parts}
 use Rattle.std.proofs.lemmas.Slice.Eq.{bytes_eq-Decides}
@@ -9,7 +9,7 @@ use Rattle.tenant_core.specs.declared.command.Command.TheVariants as command
 use Rattle.tenant_core.specs.declared.command.Order.TheVariants.{AddPeer, Settle}
 use Rattle.tenant_core.specs.declared.command.Side.TheVariants.{In}
 use Rattle.admin_text.specs.Fields.{AllSaid, all_taken}
-use Rattle.admin_text.specs.Commands.{fields, verb_words, meaning, said, AreWordsOf, begin_with, verb_among, verbs, verb_taken, command_behind, command_among}
+use Rattle.admin_text.specs.Commands.{fields, verb_words, meaning, said, AreWordsOf, begin_with, verb_among, verbs, verb_taken, command_behind, command_among, TakesMemory, BeginsWithPrefix}
 use Rattle.admin_text.specs.declared.commands.TextFault.{TextFault}
 use Rattle.admin_text.specs.declared.commands.Verb.{Verb}
 use Rattle.admin_text.specs.declared.commands.Verb.TheVariants.{Balances, PeerAdd, RouteAdd, RateSet, SettleIn, SettleOut}
@@ -37,6 +37,15 @@ verb_is (v ∷ others) words r h = by (begin_with (verb_words v) words) refl (ve
 verb_read : (v : Verb) (others : List (List ℕ)) → verb_among verbs (verb_words v ++ others) ≡ Ok (v, others)
 verb_read Balances others = refl
 verb_read _ others = refl
+
+-- the words of a verb that takes memory begin with it
+pub begins_with_prefix : (words : List (List ℕ)) → IsOkAnd (verb_taken words) (λ first. TakesMemory first.0 first.1) → BeginsWithPrefix words
+unfolding verb_taken
+begins_with_prefix words h = by (verb_among verbs words) refl h
+  where
+    by : (r : Result (Verb × List (List ℕ)) TextFault) → verb_among verbs words ≡ r → IsOkAnd r (λ first. TakesMemory first.0 first.1) → BeginsWithPrefix words
+    by (Ok first) is takes = (first.0, first.1, verb_is verbs words first is, takes)
+    by (Err fault) is takes = absurd takes
 
 small : (v : Verb) → AreSmall (fields v)
 small PeerAdd = (tt, (tt, (tt, (tt, (tt, (omega arith, (tt, (tt, tt))))))))

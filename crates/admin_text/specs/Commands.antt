@@ -1,6 +1,6 @@
 -- The text of a command: words with single spaces between them.
 use Rattle.std.specs.Prelude.{◌≡◌, ℕ, List, [], ◌∷◌, ◌++◌, Bool, true, false, ◌&&◌, ◌↔◌, if◌then◌else◌, codes, drop, length}
-use Rattle.std.specs.Prelude.{Result, Ok, Err}
+use Rattle.std.specs.Prelude.{Result, Ok, Err, IsOk}
 use Rattle.std.specs.Str.{bytes_eq}
 use Rattle.common_types.specs.ResultChain.{◌>>=◌}
 use Rattle.common_types.specs.Words.{words_of}
@@ -11,7 +11,7 @@ use Rattle.tenant_core.specs.declared.command.Order.TheVariants.{AddPeer, Remove
 use Rattle.tenant_core.specs.declared.command.Order.TheVariants.{AddRoute, RemoveRoute, SetRate, Settle}
 use Rattle.tenant_core.specs.declared.command.Side.TheVariants.{In, Out}
 use Rattle.admin_text.specs.Fields.{Field, NAME, AMOUNT, TERM, PREFIX, PAIR, FEE, LIMITS, BUCKET}
-use Rattle.admin_text.specs.Fields.{◌&◌, AllSaid, AreSpelled, AreWithin, all_words, all_taken}
+use Rattle.admin_text.specs.Fields.{◌&◌, AllSaid, AreSpelled, AreWithin, all_words, taken, all_taken}
 use Rattle.admin_text.specs.PeerFields.{fields_of, peer_rows, peer_with, peer_values}
 use Rattle.admin_text.specs.declared.commands.TextFault.{TextFault}
 use Rattle.admin_text.specs.declared.commands.TextFault.TheVariants as fault
@@ -141,6 +141,19 @@ command_among words = do
 -- the command that a text spells, or the fault of the first word that fails
 abbrev pub command_in : List ℕ → Result Command TextFault
 command_in text = command_among (words_of text)
+
+-- ---- what takes memory
+
+-- the words behind the verb of a route begin with a prefix
+abbrev pub TakesMemory : Verb → List (List ℕ) → Type 0
+TakesMemory RouteAdd words = IsOk (taken PREFIX words)
+TakesMemory RouteRemove words = IsOk (taken PREFIX words)
+TakesMemory _ words = ⊥
+
+-- words begin with the verb of a route, and a prefix behind it
+abbrev pub BeginsWithPrefix : List (List ℕ) → Type 0
+BeginsWithPrefix words =
+    (verb : Verb) × (behind : List (List ℕ)) × (words ≡ verb_words verb ++ behind) × TakesMemory verb behind
 
 -- Commands and their texts.
 pub record CommandLaws : Type 0 where

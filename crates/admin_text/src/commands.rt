@@ -1,13 +1,14 @@
 //! Commands: lines of text by which an operator governs a tenant.
 
-ghost use Rattle.std.specs.Prelude.{◌≡◌, [], ◌∷◌, ◌&&◌, Ok, IfOk};
+ghost use Rattle.std.specs.Prelude.{◌≡◌, [], ◌∷◌, ◌&&◌, Ok, IsOk, IfOk, IsOkAnd};
 ghost use Rattle.std.specs.Str.{bytes_eq};
-ghost use Rattle.common_types.specs.Outcomes.{GivesUnlessMemory};
+ghost use Rattle.common_types.specs.Outcomes.{GivesUnlessMemory, OnMemory};
+ghost use Rattle.common_types.specs.Words.{words_of};
 ghost use Rattle.tenant_core.specs.declared.command.Command as spec;
 ghost use Rattle.admin_text.specs.Fields.{NAME, TOKEN, ASSET, NUMBER, ROLE, PREFIX, TARGET, PAIR, FEE, LIMITS, BUCKET};
 ghost use Rattle.admin_text.specs.Fields.{role_in, only_one, taken, all_taken, ended};
 ghost use Rattle.admin_text.specs.Commands.{two_word_verbs, verb_among, verb_taken, command_behind, command_among};
-ghost use Rattle.admin_text.specs.Commands.{command_in, IsCommandText};
+ghost use Rattle.admin_text.specs.Commands.{command_in, IsCommandText, TakesMemory, BeginsWithPrefix};
 ghost use Rattle.admin_text.specs.declared.commands.Verb.TheVariants as verb;
 
 use crate::prefixes::written_prefix;
@@ -156,7 +157,8 @@ fn next_bucket(words: Words<'_>) -> Result<(BucketTerms, Words<'_>), TextFault>
 
 #[tactic(auto, unfolding(crate::specs::Fields::taken))]
 fn next_prefix(alloc: Global, words: Words<'_>) -> Result<(Prefix, Words<'_>), ReadError<TextFault>>
-    ensures { GivesUnlessMemory (λ p. p) result (taken PREFIX words.entry) }
+    ensures exact { GivesUnlessMemory (λ p. p) result (taken PREFIX words.entry) }
+    ensures memory { OnMemory result (IsOk (taken PREFIX words.entry)) }
 {
     let Some((word, words)) = words.split_first() else {
         return Err(ReadError::Fault(TextFault::Argument));
@@ -285,7 +287,8 @@ fn roll(words: Words<'_>) -> Result<Command, TextFault>
 
 // A reading that takes no memory, beside those that do.
 fn given<T>(read: Result<T, TextFault>) -> Result<T, ReadError<TextFault>>
-    ensures { GivesUnlessMemory (λ t. t) result read }
+    ensures exact { GivesUnlessMemory (λ t. t) result read }
+    ensures memory { OnMemory result ⊥ }
 {
     match read {
         Ok(value) => Ok(value),
@@ -313,7 +316,8 @@ fn last_fee(words: Words<'_>) -> Result<Fee, TextFault>
 
 #[tactic(auto, unfolding(crate::specs::Commands::command_behind))]
 fn added_route(alloc: Global, words: Words<'_>) -> Result<Command, ReadError<TextFault>>
-    ensures { GivesUnlessMemory (λ c. c) result (command_behind verb.RouteAdd words.entry) }
+    ensures exact { GivesUnlessMemory (λ c. c) result (command_behind verb.RouteAdd words.entry) }
+    ensures memory { OnMemory result (TakesMemory verb.RouteAdd words.entry) }
 {
     let (prefix, words) = next_prefix(alloc, words)?;
     let (peer, words) = given(next_name(words))?;
@@ -323,7 +327,8 @@ fn added_route(alloc: Global, words: Words<'_>) -> Result<Command, ReadError<Tex
 
 #[tactic(auto, unfolding(crate::specs::Commands::command_behind))]
 fn removed_route(alloc: Global, words: Words<'_>) -> Result<Command, ReadError<TextFault>>
-    ensures { GivesUnlessMemory (λ c. c) result (command_behind verb.RouteRemove words.entry) }
+    ensures exact { GivesUnlessMemory (λ c. c) result (command_behind verb.RouteRemove words.entry) }
+    ensures memory { OnMemory result (TakesMemory verb.RouteRemove words.entry) }
 {
     let (prefix, words) = next_prefix(alloc, words)?;
     given(end(words))?;
@@ -387,7 +392,8 @@ fn command_behind(
     verb: Verb,
     words: Words<'_>,
 ) -> Result<Command, ReadError<TextFault>>
-    ensures { GivesUnlessMemory (λ c. c) result (command_behind verb words.entry) }
+    ensures exact { GivesUnlessMemory (λ c. c) result (command_behind verb words.entry) }
+    ensures memory { OnMemory result (TakesMemory verb words.entry) }
 {
     match verb {
         Verb::Balances => given(balances(words)),
@@ -406,7 +412,8 @@ fn command_behind(
 
 #[tactic(auto, unfolding(crate::specs::Commands::command_among))]
 fn command_among(alloc: Global, words: Words<'_>) -> Result<Command, ReadError<TextFault>>
-    ensures { GivesUnlessMemory (λ c. c) result (command_among words.entry) }
+    ensures exact { GivesUnlessMemory (λ c. c) result (command_among words.entry) }
+    ensures memory { OnMemory result (IsOkAnd (verb_taken words.entry) (λ first. TakesMemory first.0 first.1)) }
 {
     let (verb, words) = given(next_verb(words))?;
     command_behind(alloc, verb, words)
@@ -421,7 +428,8 @@ fn command_among(alloc: Global, words: Words<'_>) -> Result<Command, ReadError<T
 /// out 0, and a number `0` or digits without a zero in front.
 ///
 /// The first word that fails decides: the first one or two with `Verb`, a number outside its limits with `Range`, any
-/// other and one that is missing or too many with `Argument`. `Memory` comes for a prefix alone.
+/// other and one that is missing or too many with `Argument`. `Memory` comes only for a text that begins with `route add` or
+/// `route remove` and a prefix.
 pub fn parse_command(alloc: Global, text: &[u8]) -> Result<Command, ReadError<TextFault>>
     // What is read is spelled so.
     ensures found { IfOk result (λ c. IsCommandText text.now c) }
@@ -429,6 +437,8 @@ pub fn parse_command(alloc: Global, text: &[u8]) -> Result<Command, ReadError<Te
     ensures only { (c : spec.Command) → IsCommandText text.now c → GivesUnlessMemory (λ c. c) result (Ok c) }
     // Which fault comes: that of the first word that fails.
     ensures exact { GivesUnlessMemory (λ c. c) result (command_in text.now) }
+    // Memory is refused only behind `route add` or `route remove` and a prefix.
+    ensures memory { OnMemory result (BeginsWithPrefix (words_of text.now)) }
 {
     crate::laws::commands();
     command_among(alloc, Words::of(text))

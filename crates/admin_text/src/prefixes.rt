@@ -1,6 +1,6 @@
 //! Prefixes as operators write them.
 
-ghost use Rattle.std.specs.Prelude.{◌≡◌, IfOk};
+ghost use Rattle.std.specs.Prelude.{◌≡◌, IsSome, IfOk, OnErr};
 ghost use Rattle.admin_text.specs.Prefixes.{written_prefix};
 
 use common_types::ReadError;
@@ -10,7 +10,9 @@ use std::alloc::{AllocError, Global};
 /// The prefix that a text spells, `None` where it spells none: `*` is the empty one.
 #[tactic(auto, unfolding(crate::specs::Prefixes::written_prefix))]
 pub(crate) fn written_prefix(alloc: Global, text: &[u8]) -> Result<Option<Prefix>, AllocError>
-    ensures { IfOk result (λ prefix. prefix ≡ written_prefix text.now) }
+    ensures exact { IfOk result (λ prefix. prefix ≡ written_prefix text.now) }
+    // Memory is refused only where the text spells one.
+    ensures memory { OnErr result (IsSome (written_prefix text.now)) }
 {
     if text.is_empty() {
         return Ok(None);

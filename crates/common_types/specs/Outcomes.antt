@@ -17,3 +17,8 @@ Fails (Fault fault) read = read ≡ Err fault
 abbrev pub GivesUnlessMemory : {X Y F : Type 0} → (X → Y) → Result X (ReadError F) → Result Y F → Type 0
 GivesUnlessMemory view (Ok x) read = read ≡ Ok (view x)
 GivesUnlessMemory view (Err error) read = Fails error read
+
+-- A fact where memory was refused.
+abbrev pub OnMemory : {X F : Type 0} → Result X (ReadError F) → Type 0 → Type 0
+OnMemory (Err Memory) fact = fact
+OnMemory _ fact = Unit {0}

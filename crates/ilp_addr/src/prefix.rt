@@ -1,7 +1,7 @@
 //! Prefixes of addresses (RFC 0015, "Address Prefixes").
 
-ghost use Rattle.std.specs.Prelude.{◌≡◌, ◌≢◌, ◌≤◌, ◌∷◌, ℕ, [], List, length, Ok, Err, IfOk, MatchResult};
-ghost use Rattle.common_types.specs.Outcomes.{GivesUnlessMemory};
+ghost use Rattle.std.specs.Prelude.{◌≡◌, ◌≢◌, ◌≤◌, ◌∷◌, ℕ, [], List, length, Ok, Err, IsOk, IfOk, MatchResult};
+ghost use Rattle.common_types.specs.Outcomes.{GivesUnlessMemory, OnMemory};
 ghost use Rattle.ilp_addr.specs.Address.{IsPrefix, prefix_segments, prefix_at, checked_prefix, without_last_dot};
 ghost use Rattle.ilp_addr.specs.Address.{max_address};
 
@@ -44,6 +44,8 @@ impl Prefix {
             → GivesUnlessMemory (λ p. p) result (Ok (without_last_dot bytes.now)) }
         // Which fault comes.
         ensures exact { GivesUnlessMemory (λ p. p) result (prefix_at bytes.now) }
+        // Memory is refused only for bytes that spell a prefix: a fault comes first.
+        ensures memory { OnMemory result (IsOk (prefix_at bytes.now)) }
     {
         read(alloc, bytes)
     }
@@ -91,7 +93,8 @@ impl Prefix {
 }
 
 fn read(alloc: Global, bytes: &[u8]) -> Result<Prefix, ReadError<AddrFault>>
-    ensures { GivesUnlessMemory (λ p. p) result (prefix_at bytes.now) }
+    ensures exact { GivesUnlessMemory (λ p. p) result (prefix_at bytes.now) }
+    ensures memory { OnMemory result (IsOk (prefix_at bytes.now)) }
 {
     let bytes = match prefix_bytes(bytes) {
         Ok(bytes) => bytes,
