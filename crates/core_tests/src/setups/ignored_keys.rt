@@ -64,7 +64,8 @@ journal = 64
 margin = 1000
 hold = 30000
 peers = []
-0123456789012345678901234567890123456789012345678901234567890123456789 = 1
+0123456789012345678901234567890123456789012345678901234567890123 = 1
+01234567890123456789012345678901234567890123456789012345678901234 = 1
 ";
 
 const COLOUR: &str = "colour = \"red\": an unknown key, ignored\n";
@@ -78,7 +79,8 @@ tenant 0 acme: peer 1 alice: balence = 5: an unknown key, ignored
 
 const BEHIND: &str = "tenant 0 acme: route 2 g.acme.bob: fees is a table: an unknown key, ignored
 tenant 0 acme: rate 1 alice to bob: Num is a float: an unknown key, ignored
-tenant 1 beta: a key of 70 bytes = 1: an unknown key, ignored
+tenant 1 beta: 0123456789012345678901234567890123456789012345678901234567890123 = 1: an unknown key, ignored
+tenant 1 beta: a key of 65 bytes = 1: an unknown key, ignored
 tenant 1 beta: peers is an array: an unknown key, ignored
 ";
 

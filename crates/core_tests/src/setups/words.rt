@@ -173,6 +173,35 @@ fn names_of_tenants_differ(rt: HostRuntime) -> Result<(), Fail> {
     expect_words_of(&rt, rt.alloc(), &[HEAD, TENANT, TENANT, "\n"], words)
 }
 
+// What is said of a tenant whose name has so many bytes.
+fn expect_words_of_name(
+    rt: &impl Abort,
+    alloc: Global,
+    bytes: usize,
+    said: &[&str],
+) -> Result<(), Fail> {
+    let name = "a".repeat(alloc, bytes)?;
+    let words = said.join(alloc, name.as_str())?;
+    expect_words_of(
+        rt,
+        alloc,
+        &[HEAD, "[[tenant]]\nname = \"", name.as_str(), "\"\n"],
+        words.as_str(),
+    )
+}
+
+#[test]
+fn long_texts_are_counted(rt: HostRuntime) -> Result<(), Fail> {
+    let alloc = rt.alloc();
+    let wanted = "\": a text of 1 to 32 of a-z 0-9 -";
+    // A name of 64 bytes is shown with its tenant, and one of 100 as what stands at its key.
+    expect_words_of_name(&rt, alloc, 64, &["tenant 0 ", ": name = \"", wanted])?;
+    expect_words_of_name(&rt, alloc, 65, &["tenant 0: name = \"", wanted])?;
+    expect_words_of_name(&rt, alloc, 100, &["tenant 0: name = \"", wanted])?;
+    let counted = "tenant 0: name is a text of 101 bytes: a text of 1 to 32 of a-z 0-9 -";
+    expect_words_of_name(&rt, alloc, 101, &[counted])
+}
+
 #[test]
 fn setups_are_utf_8(rt: HostRuntime) -> Result<(), Fail> {
     let words = "TOML parse error at line 1, column 15: invalid UTF-8";
