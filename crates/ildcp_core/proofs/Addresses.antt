@@ -1,9 +1,11 @@
 -- The address of a child is an address.
-use Rattle.std.proofs.Common.{◌≡◌, ◌≤◌, ℕ, Bool, true, false, cond, eqb, leb, ◌||◌, List, [], ◌∷◌, ◌++◌, length, refl, sym, subst, ap, arith, inl, inr}
-use Rattle.std.specs.List.{list_all, onto_first}
+use Rattle.std.proofs.Common.{◌≡◌, ◌≤◌, ℕ, ◌+◌, Bool, true, false, eqb, leb, ◌||◌, List, [], ◌∷◌, ◌++◌, length, refl, sym, subst, ap, arith, inl, inr}
+use Rattle.std.specs.List.{list_all}
+use Rattle.std.specs.Prelude.{count_by}
 use Rattle.std.proofs.lemmas.Bool.{and_parts, and_from, leb-true, ne_eqb, cases_Bool}
 use Rattle.std.proofs.lemmas.List.{length-append}
 use Rattle.std.proofs.lemmas.List.Folds.{list_all-append}
+use Rattle.std.proofs.lemmas.List.Splits.{length-slice_split}
 use Rattle.common_types.specs.Numbers.{is_between}
 use Rattle.ilp_addr.specs.Address.{segments, is_segment_byte, is_segment, AreAddressParts, IsAddress}
 use Rattle.common_types.specs.Names.{is_name_byte, is_asset_byte}
@@ -39,13 +41,11 @@ segments_of_name (b ∷ text) h =
 
 -- there is a first part
 first_part : (bytes : List ℕ) → (first : List ℕ) × (others : List (List ℕ)) × (segments bytes ≡ first ∷ others)
-first_part [] = ([], [], refl)
-first_part (b ∷ bytes) =
-    let more = first_part bytes in
-    elim (eqb b 46) as (λ t. (first : List ℕ) × (others : List (List ℕ)) × (cond t ([] ∷ segments bytes) (onto_first b (segments bytes)) ≡ first ∷ others)) [
-      | true ↦ ([], segments bytes, refl)
-      | false ↦ (b ∷ more.0, more.1, ap (onto_first b) more.2)
-    ]
+first_part bytes = by (segments bytes) (length-slice_split (λ b. eqb b 46) bytes)
+  where
+    by : (parts : List (List ℕ)) → length parts ≡ count_by (λ b. eqb b 46) bytes + 1 → (first : List ℕ) × (others : List (List ℕ)) × (parts ≡ first ∷ others)
+    by [] some = absurd (omega arith)
+    by (first ∷ others) some = (first, others, refl)
 
 -- a name behind a dot is one segment more
 segments_more : (tenant name : List ℕ) → segments name ≡ name ∷ [] → segments (tenant ++ 46 ∷ name) ≡ segments tenant ++ name ∷ []

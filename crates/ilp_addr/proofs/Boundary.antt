@@ -1,10 +1,10 @@
 -- A prefix begins an address, by segments, where its bytes come first and then a dot or the end.
-use Rattle.std.proofs.Common.{◌≡◌, ℕ, Bool, true, false, cond, eqb, ◌&&◌, List, [], ◌∷◌, ◌++◌, length, get_or, ◌<◌, arith, refl, sym, ap, ◌∙◌, inl, inr}
-use Rattle.std.specs.Prelude.{IsTrue, ◌↔◌}
-use Rattle.std.specs.List.{onto_first}
+use Rattle.std.proofs.Common.{◌≡◌, ℕ, ◌+◌, Bool, true, false, eqb, ◌&&◌, List, [], ◌∷◌, ◌++◌, length, get_or, ◌<◌, arith, refl, sym, ap, ◌∙◌, inl, inr}
+use Rattle.std.specs.Prelude.{IsTrue, ◌↔◌, count_by}
 use Rattle.std.specs.Str.{bytes_eq}
 use Rattle.std.proofs.Math.Bool.{and_assoc}
 use Rattle.std.proofs.lemmas.Bool.{eqb-true, eqb-false, eq-eqb, ne_eqb, cases_Bool, and_parts}
+use Rattle.std.proofs.lemmas.List.Splits.{length-slice_split}
 use Rattle.std.proofs.lemmas.Slice.Eq.{bytes_eq-Decides}
 use Rattle.ilp_addr.specs.Address.{segments, prefix_segments, begins_with, Begins}
 
@@ -17,13 +17,11 @@ at_boundary (x ∷ p) (y ∷ d) = eqb x y && at_boundary p d
 
 -- there is a first part
 pub first_part : (bytes : List ℕ) → (first : List ℕ) × (others : List (List ℕ)) × (segments bytes ≡ first ∷ others)
-first_part [] = ([], [], refl)
-first_part (b ∷ bytes) =
-    let more = first_part bytes in
-    elim (eqb b 46) as (λ t. (first : List ℕ) × (others : List (List ℕ)) × (cond t ([] ∷ segments bytes) (onto_first b (segments bytes)) ≡ first ∷ others)) [
-      | true ↦ ([], segments bytes, refl)
-      | false ↦ (b ∷ more.0, more.1, ap (onto_first b) more.2)
-    ]
+first_part bytes = by (segments bytes) (length-slice_split (λ b. eqb b 46) bytes)
+  where
+    by : (parts : List (List ℕ)) → length parts ≡ count_by (λ b. eqb b 46) bytes + 1 → (first : List ℕ) × (others : List (List ℕ)) × (parts ≡ first ∷ others)
+    by [] some = absurd (omega arith)
+    by (first ∷ others) some = (first, others, refl)
 
 apart : (x y : ℕ) → eqb x 46 ≡ true → eqb y 46 ≡ false → eqb x y ≡ false
 apart x y h k = ne_eqb x y (λ e. eqb-false y 46 k (sym e ∙ eqb-true x 46 h))
