@@ -3,11 +3,10 @@
 use Rattle.std.proofs.Common.{◌≡◌, ◌≤◌, ℕ, List, [], ◌∷◌, ◌++◌, length, drop, Result, Ok, refl, sym, ap, subst, ◌∙◌, append_assoc, arith}
 use Rattle.std.proofs.lemmas.List.{append_cancel_left, length-append, nil_from_length}
 use Rattle.common_types.specs.ResultChain.{◌>>=◌}
-use Rattle.oer_core.specs.Length.{IsLength}
 use Rattle.ilp_view.specs.declared.fault.ViewFault.{ViewFault}
 use Rattle.ilp_view.specs.Below.{LawsBelow}
 use Rattle.ilp_view.specs.Packet.{IsFrame, Fulfill, fulfill_contents, IsFulfill, Reject, reject_contents, IsReject}
-use Rattle.ilp_view.specs.Reading.{fixed_at, string_at, data_at, envelope_at, fulfill_fields, fulfill_at, reject_fields, reject_at}
+use Rattle.ilp_view.specs.Reading.{fixed_at, string_at, data_at, envelope_at, fulfill_parts, fulfill_fields, fulfill_at, reject_parts, reject_fields, reject_at}
 use Rattle.ilp_view.proofs.Results.{bind_ok}
 use Rattle.ilp_view.proofs.FieldLaws.{same_ok, fixed_takes, fixed_again, string_takes, string_again, data_takes, data_again, envelope_takes, envelope_again}
 
@@ -19,46 +18,29 @@ Triple = List ℕ × List ℕ × List ℕ
 
 -- ---- a Fulfill
 
-abbrev fulfill_parts : List ℕ → Pair → Triple → Fulfill
-fulfill_parts spelling fulfillment payload = record { contents_length = spelling; fulfillment = fulfillment.0; data_length = payload.0; payload = payload.1; extra = payload.2 }
-
 abbrev made_fulfill : List ℕ → Pair → Triple → Result Fulfill ViewFault
 made_fulfill spelling fulfillment payload = Ok (fulfill_parts spelling fulfillment payload)
-
-record TakesFulfill (spelling contents : List ℕ) (p : Fulfill) : Type 0 where
-  pub same_spelling : p.contents_length ≡ spelling
-  pub same_contents : contents ≡ fulfill_contents p
-  pub fulfillment : length p.fulfillment ≡ 32
-  pub data_length : IsLength p.data_length (length p.payload)
-  pub payload : length p.payload ≤ 32768
 
 two_joined : (all a after_a f : List ℕ) → all ≡ a ++ after_a → after_a ≡ f → all ≡ a ++ f
 two_joined all a after_a f p q = cc
 
-fulfill_fields_take : LawsBelow → (spelling contents : List ℕ) (p : Fulfill) → fulfill_fields spelling contents ≡ Ok p → TakesFulfill spelling contents p
+-- a frame is what was read of its contents
+fulfill_fields_take : LawsBelow → (frame spelling contents : List ℕ) (p : Fulfill) → IsFrame frame 13 spelling contents → fulfill_fields spelling contents ≡ Ok p → IsFulfill frame p
 unfolding fulfill_fields
-fulfill_fields_take laws spelling contents p read =
+fulfill_fields_take laws frame spelling contents p envelope read =
     let a = bind_ok (fixed_at 32 contents) (λ fulfillment. data_at fulfillment.1 >>= λ payload. made_fulfill spelling fulfillment payload) p read in
     let f = bind_ok (data_at a.0.1) (λ payload. made_fulfill spelling a.0 payload) p a.2 in
     let ta = fixed_takes 32 contents a.0 a.1 in
     let tf = data_takes laws a.0.1 f.0 f.1 in
     let whole = two_joined contents a.0.0 a.0.1 (f.0.0 ++ (f.0.1 ++ f.0.2)) ta.0 tf.0 in
     let same : fulfill_parts spelling a.0 f.0 ≡ p = same_ok (fulfill_parts spelling a.0 f.0) p f.2 in
-    subst (λ (q : Fulfill). TakesFulfill spelling contents q) same (record { same_spelling = refl {a = spelling}; same_contents = whole; fulfillment = ta.1; data_length = tf.1; payload = tf.2 })
+    subst (IsFulfill frame) {x = fulfill_parts spelling a.0 f.0} {y = p} same (record { framed = subst (IsFrame frame 13 spelling) whole envelope; fulfillment = ta.1; data_length = tf.1; payload = tf.2 })
 
 pub fulfill_takes : LawsBelow → (frame : List ℕ) (p : Fulfill) → fulfill_at frame ≡ Ok p → IsFulfill frame p
 unfolding fulfill_at
 fulfill_takes laws frame p read =
     let b = bind_ok (envelope_at 13 frame) (λ e. fulfill_fields e.0 e.1) p read in
-    let envelope = envelope_takes laws 13 frame b.0 b.1 in
-    let t = fulfill_fields_take laws b.0.0 b.0.1 p b.2 in
-    let first : IsFrame frame 13 p.contents_length b.0.1 = subst (λ (s : List ℕ). IsFrame frame 13 s b.0.1) (sym t.same_spelling) envelope in
-    record {
-      framed = subst (λ (x : List ℕ). IsFrame frame 13 p.contents_length x) t.same_contents first;
-      fulfillment = t.fulfillment;
-      data_length = t.data_length;
-      payload = t.payload;
-    }
+    fulfill_fields_take laws frame b.0.0 b.0.1 p (envelope_takes laws 13 frame b.0 b.1) b.2
 
 fulfill_fields_again : LawsBelow → (frame : List ℕ) (p : Fulfill) → IsFulfill frame p → fulfill_fields p.contents_length (fulfill_contents p) ≡ Ok p
 unfolding fulfill_fields
@@ -70,19 +52,6 @@ unfolding fulfill_at
 fulfill_again laws frame p is = rw (envelope_again laws 13 frame p.contents_length (fulfill_contents p) is.framed) (fulfill_fields_again laws frame p is)
 
 -- ---- a Reject
-
-abbrev reject_parts : List ℕ → Pair → Triple → Triple → Triple → Reject
-reject_parts spelling code triggered_by message payload = record {
-  contents_length = spelling;
-  code = code.0;
-  triggered_by_length = triggered_by.0;
-  triggered_by = triggered_by.1;
-  message_length = message.0;
-  message = message.1;
-  data_length = payload.0;
-  payload = payload.1;
-  extra = payload.2;
-}
 
 abbrev made_reject : List ℕ → Pair → Triple → Triple → Triple → Result Reject ViewFault
 made_reject spelling code triggered_by message payload = Ok (reject_parts spelling code triggered_by message payload)
@@ -96,22 +65,14 @@ from_message spelling code triggered_by = string_at triggered_by.2 >>= λ messag
 abbrev from_triggered_by : List ℕ → Pair → Result Reject ViewFault
 from_triggered_by spelling code = string_at code.1 >>= λ triggered_by. from_message spelling code triggered_by
 
-record TakesReject (spelling contents : List ℕ) (p : Reject) : Type 0 where
-  pub same_spelling : p.contents_length ≡ spelling
-  pub same_contents : contents ≡ reject_contents p
-  pub code : length p.code ≡ 3
-  pub triggered_by_length : IsLength p.triggered_by_length (length p.triggered_by)
-  pub message_length : IsLength p.message_length (length p.message)
-  pub data_length : IsLength p.data_length (length p.payload)
-  pub payload : length p.payload ≤ 32768
-
 four_joined : (all a after_a s t after_t m n after_n f : List ℕ) → all ≡ a ++ after_a → after_a ≡ s ++ (t ++ after_t) → after_t ≡ m ++ (n ++ after_n)
     → after_n ≡ f → all ≡ a ++ (s ++ (t ++ (m ++ (n ++ f))))
 four_joined all a after_a s t after_t m n after_n f p q r u = cc
 
-reject_fields_take : LawsBelow → (spelling contents : List ℕ) (p : Reject) → reject_fields spelling contents ≡ Ok p → TakesReject spelling contents p
+-- a frame is what was read of its contents
+reject_fields_take : LawsBelow → (frame spelling contents : List ℕ) (p : Reject) → IsFrame frame 14 spelling contents → reject_fields spelling contents ≡ Ok p → IsReject frame p
 unfolding reject_fields
-reject_fields_take laws spelling contents p read =
+reject_fields_take laws frame spelling contents p envelope read =
     let a = bind_ok (fixed_at 3 contents) (λ code. from_triggered_by spelling code) p read in
     let t = bind_ok (string_at a.0.1) (λ triggered_by. from_message spelling a.0 triggered_by) p a.2 in
     let m = bind_ok (string_at t.0.2) (λ message. from_data spelling a.0 t.0 message) p t.2 in
@@ -122,24 +83,14 @@ reject_fields_take laws spelling contents p read =
     let tf = data_takes laws m.0.2 f.0 f.1 in
     let whole = four_joined contents a.0.0 a.0.1 t.0.0 t.0.1 t.0.2 m.0.0 m.0.1 m.0.2 (f.0.0 ++ (f.0.1 ++ f.0.2)) ta.0 tt'.0 tm.0 tf.0 in
     let same : reject_parts spelling a.0 t.0 m.0 f.0 ≡ p = same_ok (reject_parts spelling a.0 t.0 m.0 f.0) p f.2 in
-    subst (λ (q : Reject). TakesReject spelling contents q) {x = reject_parts spelling a.0 t.0 m.0 f.0} same
-    (record { same_spelling = refl {a = spelling}; same_contents = whole; code = ta.1; triggered_by_length = tt'.1; message_length = tm.1; data_length = tf.1; payload = tf.2 })
+    subst (IsReject frame) {x = reject_parts spelling a.0 t.0 m.0 f.0} {y = p} same
+    (record { framed = subst (IsFrame frame 14 spelling) {x = contents} {y = reject_contents (reject_parts spelling a.0 t.0 m.0 f.0)} whole envelope; code = ta.1; triggered_by_length = tt'.1; message_length = tm.1; data_length = tf.1; payload = tf.2 })
 
 pub reject_takes : LawsBelow → (frame : List ℕ) (p : Reject) → reject_at frame ≡ Ok p → IsReject frame p
 unfolding reject_at
 reject_takes laws frame p read =
     let b = bind_ok (envelope_at 14 frame) (λ e. reject_fields e.0 e.1) p read in
-    let envelope = envelope_takes laws 14 frame b.0 b.1 in
-    let t = reject_fields_take laws b.0.0 b.0.1 p b.2 in
-    let first : IsFrame frame 14 p.contents_length b.0.1 = subst (λ (s : List ℕ). IsFrame frame 14 s b.0.1) (sym t.same_spelling) envelope in
-    record {
-      framed = subst (λ (x : List ℕ). IsFrame frame 14 p.contents_length x) t.same_contents first;
-      code = t.code;
-      triggered_by_length = t.triggered_by_length;
-      message_length = t.message_length;
-      data_length = t.data_length;
-      payload = t.payload;
-    }
+    reject_fields_take laws frame b.0.0 b.0.1 p (envelope_takes laws 14 frame b.0 b.1) b.2
 
 contents_size : (frame : List ℕ) (kind : ℕ) (s c : List ℕ) → IsFrame frame kind s c → length c ≤ 34000
 contents_size frame kind s c f = omega (arith, f.size, ap length f.bytes, length-append (kind ∷ s) c)

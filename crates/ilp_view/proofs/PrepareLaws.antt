@@ -1,15 +1,14 @@
 -- A frame that is read is a Prepare with the parts that were read, and each Prepare is read.
-use Rattle.std.proofs.Common.{◌≡◌, ◌≤◌, ◌<◌, ◌+◌, ◌^◌, ℕ, List, ◌∷◌, ◌++◌, length, get_or, Result, Ok, Err, IfOk, refl, sym, ap, subst, ◌∙◌, arith}
+use Rattle.std.proofs.Common.{◌≡◌, ◌≤◌, ◌<◌, ◌+◌, ◌^◌, ℕ, List, ◌∷◌, ◌++◌, length, get_or, Result, Ok, Err, IfOk, refl, ap, subst, ◌∙◌, arith}
 use Rattle.std.specs.Int.{w64, to_be_bytes}
 use Rattle.std.proofs.lemmas.List.{get_or-append-add, length-append}
 use Rattle.common_types.specs.ResultChain.{◌>>=◌}
 use Rattle.oer_core.specs.Length.{AreBytes, IsLength, number_at}
-use Rattle.ilp_addr.specs.Address.{IsAddress}
 use Rattle.ilp_addr.specs.Timestamp.{IsTimestamp}
 use Rattle.ilp_view.specs.declared.fault.ViewFault.{ViewFault}
 use Rattle.ilp_view.specs.Below.{LawsBelow}
 use Rattle.ilp_view.specs.Packet.{IsFrame, Prepare, prepare_contents, prepare_frame, IsPrepare}
-use Rattle.ilp_view.specs.Reading.{as_oer, fixed_at, expiry_at, destination_at, data_at, envelope_at, prepare_fields, prepare_at}
+use Rattle.ilp_view.specs.Reading.{as_oer, fixed_at, expiry_at, destination_at, data_at, envelope_at, prepare_parts, prepare_fields, prepare_at}
 use Rattle.ilp_view.proofs.Results.{bind_ok}
 use Rattle.ilp_view.proofs.FieldLaws.{as_oer_ok, same_ok, fixed_takes, fixed_again, expiry_takes, expiry_again, destination_takes, destination_again, data_takes, data_again, envelope_takes, envelope_again}
 
@@ -20,21 +19,8 @@ abbrev Triple : Type 0
 Triple = List ℕ × List ℕ × List ℕ
 
 -- what is made of the fields that were read
-abbrev parts : List ℕ → ℕ × List ℕ → Pair → Pair → Triple → Triple → Prepare
-parts spelling amount expiry condition destination payload = record {
-  contents_length = spelling;
-  amount = amount.0;
-  expiry = expiry.0;
-  condition = condition.0;
-  destination_length = destination.0;
-  destination = destination.1;
-  data_length = payload.0;
-  payload = payload.1;
-  extra = payload.2;
-}
-
 abbrev made : List ℕ → ℕ × List ℕ → Pair → Pair → Triple → Triple → Result Prepare ViewFault
-made spelling amount expiry condition destination payload = Ok (parts spelling amount expiry condition destination payload)
+made spelling amount expiry condition destination payload = Ok (prepare_parts spelling amount expiry condition destination payload)
 
 abbrev from_data : List ℕ → ℕ × List ℕ → Pair → Pair → Triple → Result Prepare ViewFault
 from_data spelling amount expiry condition destination = data_at destination.2 >>= λ payload. made spelling amount expiry condition destination payload
@@ -48,25 +34,14 @@ from_condition spelling amount expiry = fixed_at 32 expiry.1 >>= λ condition. f
 abbrev from_expiry : List ℕ → ℕ × List ℕ → Result Prepare ViewFault
 from_expiry spelling amount = expiry_at amount.1 >>= λ expiry. from_condition spelling amount expiry
 
--- what holds of the parts of contents that were read
-record Takes (spelling contents : List ℕ) (p : Prepare) : Type 0 where
-  pub same_spelling : p.contents_length ≡ spelling
-  pub same_contents : contents ≡ prepare_contents p
-  pub amount : p.amount < 2 ^ 64
-  pub expiry : IsTimestamp p.expiry
-  pub condition : length p.condition ≡ 32
-  pub destination_length : IsLength p.destination_length (length p.destination)
-  pub destination : IsAddress p.destination
-  pub data_length : IsLength p.data_length (length p.payload)
-  pub payload : length p.payload ≤ 32768
-
 joined : (all a after_a e after_e c after_c s d after_d f : List ℕ) → all ≡ a ++ after_a → after_a ≡ e ++ after_e → after_e ≡ c ++ after_c
     → after_c ≡ s ++ (d ++ after_d) → after_d ≡ f → all ≡ a ++ (e ++ (c ++ (s ++ (d ++ f))))
 joined all a after_a e after_e c after_c s d after_d f p q r t u = cc
 
-fields_take : LawsBelow → (spelling contents : List ℕ) (p : Prepare) → AreBytes contents → prepare_fields spelling contents ≡ Ok p → Takes spelling contents p
+-- a frame is what was read of its contents
+fields_take : LawsBelow → (frame spelling contents : List ℕ) (p : Prepare) → IsFrame frame 12 spelling contents → AreBytes contents → prepare_fields spelling contents ≡ Ok p → IsPrepare frame p
 unfolding prepare_fields
-fields_take laws spelling contents p fits read =
+fields_take laws frame spelling contents p envelope fits read =
     let a = bind_ok (as_oer (number_at contents)) (λ amount. from_expiry spelling amount) p read in
     let e = bind_ok (expiry_at a.0.1) (λ expiry. from_condition spelling a.0 expiry) p a.2 in
     let c = bind_ok (fixed_at 32 e.0.1) (λ condition. from_destination spelling a.0 e.0 condition) p e.2 in
@@ -78,11 +53,10 @@ fields_take laws spelling contents p fits read =
     let td = destination_takes laws c.0.1 d.0 d.1 in
     let tf = data_takes laws d.0.2 f.0 f.1 in
     let whole = joined contents (to_be_bytes w64 a.0.0) a.0.1 e.0.0 e.0.1 c.0.0 c.0.1 d.0.0 d.0.1 d.0.2 (f.0.0 ++ (f.0.1 ++ f.0.2)) ta.1 te.0 tc.0 td.0 tf.0 in
-    let same : parts spelling a.0 e.0 c.0 d.0 f.0 ≡ p = same_ok (parts spelling a.0 e.0 c.0 d.0 f.0) p f.2 in
-    subst (λ (q : Prepare). Takes spelling contents q) {x = parts spelling a.0 e.0 c.0 d.0 f.0} same
+    let same : prepare_parts spelling a.0 e.0 c.0 d.0 f.0 ≡ p = same_ok (prepare_parts spelling a.0 e.0 c.0 d.0 f.0) p f.2 in
+    subst (IsPrepare frame) {x = prepare_parts spelling a.0 e.0 c.0 d.0 f.0} {y = p} same
     (record {
-      same_spelling = refl {a = spelling};
-      same_contents = whole;
+      framed = subst (IsFrame frame 12 spelling) {x = contents} {y = prepare_contents (prepare_parts spelling a.0 e.0 c.0 d.0 f.0)} whole envelope;
       amount = ta.0;
       expiry = te.1;
       condition = tc.1;
@@ -100,18 +74,7 @@ unfolding prepare_at
 prepare_takes laws frame p fits read =
     let b = bind_ok (envelope_at 12 frame) (λ e. prepare_fields e.0 e.1) p read in
     let envelope = envelope_takes laws 12 frame b.0 b.1 in
-    let t = fields_take laws b.0.0 b.0.1 p (AreBytes-contents frame (12 ∷ b.0.0) b.0.1 envelope.bytes fits) b.2 in
-    let first : IsFrame frame 12 p.contents_length b.0.1 = subst (λ (s : List ℕ). IsFrame frame 12 s b.0.1) (sym t.same_spelling) envelope in
-    record {
-      framed = subst (λ (x : List ℕ). IsFrame frame 12 p.contents_length x) t.same_contents first;
-      amount = t.amount;
-      expiry = t.expiry;
-      condition = t.condition;
-      destination_length = t.destination_length;
-      destination = t.destination;
-      data_length = t.data_length;
-      payload = t.payload;
-    }
+    fields_take laws frame b.0.0 b.0.1 p envelope (AreBytes-contents frame (12 ∷ b.0.0) b.0.1 envelope.bytes fits) b.2
 
 fields_again : LawsBelow → (frame : List ℕ) (p : Prepare) → IsPrepare frame p → prepare_fields p.contents_length (prepare_contents p) ≡ Ok p
 unfolding prepare_fields

@@ -46,6 +46,18 @@ fulfill_within laws fulfillment payload len small =
     let whole : length (octet_string contents) ≤ length contents + 3 = octets_short laws contents (omega arith) in
     omega arith
 
+-- a frame has its type, the length of its contents and these
+framed_size : (kind size : ℕ) (contents : List ℕ) → size ≡ length contents → 1 + length (shortest_length size) + size ≡ length (kind ∷ (shortest_length (length contents) ++ contents))
+framed_size kind size contents is =
+    let spelled : length (shortest_length size) ≡ length (shortest_length (length contents)) = ap (λ (n : ℕ). length (shortest_length n)) is in
+    omega (arith, length-append (shortest_length (length contents)) contents)
+
+pub fulfill_size : (size : ℕ) (fulfillment payload : List ℕ) → size ≡ length (fulfillment ++ octet_string payload) → 1 + length (shortest_length size) + size ≡ length (fulfill_frame fulfillment payload)
+fulfill_size size fulfillment payload is = framed_size 13 size (fulfillment ++ octet_string payload) is
+
+pub reject_size : (size : ℕ) (code t m p : List ℕ) → size ≡ length (code ++ (octet_string t ++ (octet_string m ++ octet_string p))) → 1 + length (shortest_length size) + size ≡ length (reject_frame code t m p)
+reject_size size code t m p is = framed_size 14 size (code ++ (octet_string t ++ (octet_string m ++ octet_string p))) is
+
 -- one more write behind what was written from the front on
 overwritten_next : WritingLaws → (old done bytes x y : List ℕ) (at : ℕ) → x ≡ overwritten old 0 done → at ≡ length done → y ≡ overwritten x at bytes
     → length done ≤ length old → y ≡ overwritten old 0 (done ++ bytes)

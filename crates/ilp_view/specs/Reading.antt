@@ -67,6 +67,21 @@ behind_type kind (b ∷ rest) = if b == kind then whole_string rest else Err Kin
 unfoldable pub envelope_at : ℕ → List ℕ → Result (List ℕ × List ℕ) ViewFault
 envelope_at kind frame = if nat_lt max_frame (length frame) then Err Size else behind_type kind frame
 
+-- The Prepare of parts that were read, each with the bytes after it.
+abbrev pub prepare_parts : List ℕ → ℕ × List ℕ → (expiry condition : List ℕ × List ℕ)
+    → (destination payload : List ℕ × List ℕ × List ℕ) → Prepare
+prepare_parts spelling amount expiry condition destination payload = record {
+  contents_length = spelling;
+  amount = amount.0;
+  expiry = expiry.0;
+  condition = condition.0;
+  destination_length = destination.0;
+  destination = destination.1;
+  data_length = payload.0;
+  payload = payload.1;
+  extra = payload.2;
+}
+
 -- The parts of a Prepare, its contents read field by field.
 unfoldable pub prepare_fields : List ℕ → List ℕ → Result Prepare ViewFault
 prepare_fields spelling contents = do
@@ -75,17 +90,7 @@ prepare_fields spelling contents = do
   condition ← fixed_at 32 expiry.1
   destination ← destination_at condition.1
   payload ← data_at destination.2
-  Ok (record {
-    contents_length = spelling;
-    amount = amount.0;
-    expiry = expiry.0;
-    condition = condition.0;
-    destination_length = destination.0;
-    destination = destination.1;
-    data_length = payload.0;
-    payload = payload.1;
-    extra = payload.2;
-  })
+  Ok (prepare_parts spelling amount expiry condition destination payload)
 
 -- The parts of the Prepare that the frame is, or the first fault (RFC 0027, "ILP Prepare").
 unfoldable pub prepare_at : List ℕ → Result Prepare ViewFault
@@ -93,24 +98,42 @@ prepare_at frame = do
   e ← envelope_at 12 frame
   prepare_fields e.0 e.1
 
+-- The Fulfill of parts that were read, each with the bytes after it.
+abbrev pub fulfill_parts : List ℕ → List ℕ × List ℕ → List ℕ × List ℕ × List ℕ → Fulfill
+fulfill_parts spelling fulfillment payload = record {
+  contents_length = spelling;
+  fulfillment = fulfillment.0;
+  data_length = payload.0;
+  payload = payload.1;
+  extra = payload.2;
+}
+
 -- The parts of a Fulfill, its contents read field by field.
 unfoldable pub fulfill_fields : List ℕ → List ℕ → Result Fulfill ViewFault
 fulfill_fields spelling contents = do
   fulfillment ← fixed_at 32 contents
   payload ← data_at fulfillment.1
-  Ok (record {
-    contents_length = spelling;
-    fulfillment = fulfillment.0;
-    data_length = payload.0;
-    payload = payload.1;
-    extra = payload.2;
-  })
+  Ok (fulfill_parts spelling fulfillment payload)
 
 -- The parts of the Fulfill that the frame is, or the first fault (RFC 0027, "ILP Fulfill").
 unfoldable pub fulfill_at : List ℕ → Result Fulfill ViewFault
 fulfill_at frame = do
   e ← envelope_at 13 frame
   fulfill_fields e.0 e.1
+
+-- The Reject of parts that were read, each with the bytes after it.
+abbrev pub reject_parts : List ℕ → List ℕ × List ℕ → (triggered_by message payload : List ℕ × List ℕ × List ℕ) → Reject
+reject_parts spelling code triggered_by message payload = record {
+  contents_length = spelling;
+  code = code.0;
+  triggered_by_length = triggered_by.0;
+  triggered_by = triggered_by.1;
+  message_length = message.0;
+  message = message.1;
+  data_length = payload.0;
+  payload = payload.1;
+  extra = payload.2;
+}
 
 -- The parts of a Reject, its contents read field by field.
 unfoldable pub reject_fields : List ℕ → List ℕ → Result Reject ViewFault
@@ -119,17 +142,7 @@ reject_fields spelling contents = do
   triggered_by ← string_at code.1
   message ← string_at triggered_by.2
   payload ← data_at message.2
-  Ok (record {
-    contents_length = spelling;
-    code = code.0;
-    triggered_by_length = triggered_by.0;
-    triggered_by = triggered_by.1;
-    message_length = message.0;
-    message = message.1;
-    data_length = payload.0;
-    payload = payload.1;
-    extra = payload.2;
-  })
+  Ok (reject_parts spelling code triggered_by message payload)
 
 -- The parts of the Reject that the frame is, or the first fault (RFC 0027, "ILP Reject").
 unfoldable pub reject_at : List ℕ → Result Reject ViewFault
