@@ -16,7 +16,7 @@ use Rattle.httparse.proofs.ChunkLemmas.{ReadsChunkLine-append, chunk_line_unique
 use Rattle.httparse.proofs.GrammarLemmas.{ReadsSection-append}
 use Rattle.http_link.specs.Limits.{max_chunk_line, max_head}
 use Rattle.http_link.specs.Bodies.{BeginsChunk, BeginsNothing, BeginsTrailers, BeginsWrong, Body, Chunk, EndsBody, EndsFirst, IsChunk, IsChunked, IsCutShort, IsMalformed, IsSizeLine, IsTrailerText, NoneEnds, bad, contents, cut, ends_line, ends_section, print_chunk}
-use Rattle.http_link.specs.BodyReading.{Takes, TakesAll, Makes, MakesAll, IsSizeOf, ReadsAs, ReadsAtMost, TakesChunk, TakesLast, TakesStep, TakesBytes, body_read}
+use Rattle.http_link.specs.BodyReading.{LiesBehind, Takes, TakesAll, Makes, MakesAll, IsSizeOf, ReadsAs, ReadsAtMost, TakesChunk, TakesLast, TakesStep, TakesBytes, body_read}
 use Rattle.http_link.specs.Running.{held_in}
 use Rattle.http_link.specs.Streams.{FillsOn}
 use Rattle.http_link.specs.declared.held.Held.{Held}
@@ -358,6 +358,14 @@ pub reached : (old new : Option (List ℕ)) (room out : List ℕ) (had wanted th
 reached old new room out had wanted there within fills =
     let long = ap length fills.grew in
     omega (arith, length-append (take had room) fills.came, length-take had room, length-take there out)
+
+-- all that came lies behind those that are done
+pub filled_lies : (old new : Option (List ℕ)) (room out : List ℕ) (done had wanted there : ℕ) → done ≤ had → had ≤ length room → FillsOn old new (take had room) wanted out there
+    → LiesBehind done out (record { from = there; to = there })
+filled_lies old new room out done had wanted there behind within fills =
+    let bound = fills.bound in
+    let ge = reached old new room out had wanted there within fills in
+    record { behind = omega arith; ordered = omega arith; within = omega arith }
 
 -- and no more than are wanted
 pub not_past : (old new : Option (List ℕ)) (room out : List ℕ) (had wanted there : ℕ) → had ≤ length room → had ≤ wanted → FillsOn old new (take had room) wanted out there → there ≤ wanted

@@ -1,5 +1,5 @@
 -- What a known stream means as an answer, head by head.
-use Rattle.std.proofs.Common.{◌≡◌, ◌⊎◌, inl, inr, ℕ, zero, suc, ◌-◌, ◌<◌, Bool, true, false, List, [], ◌++◌, length, take, drop, take-append-drop, refl, sym, map, ap, subst, ◌∙◌, arith, append_assoc, append-nil, take-take, Option, Some, Result, Err}
+use Rattle.std.proofs.Common.{◌≤◌, ◌≡◌, ◌⊎◌, inl, inr, ℕ, zero, suc, ◌-◌, ◌<◌, Bool, true, false, List, [], ◌++◌, length, take, drop, take-append-drop, refl, sym, map, ap, subst, ◌∙◌, arith, append_assoc, append-nil, take-take, Option, Some, Result, Err}
 use Rattle.common_types.specs.Numbers.{is_between}
 use Rattle.httparse.specs.declared.spans.HeaderSpan.{HeaderSpan}
 use Rattle.httparse.specs.declared.spans.ResponseSpans.{ResponseSpans}
@@ -98,11 +98,13 @@ reply_said : (said : List Line) (text : List ℕ) (lines : List HeaderSpan) (spa
 reply_said said text lines spans head says at = rw (says, at.code, at.version, at.fields) refl
 
 -- a final head that was found, whose body means that, is what all means
-pub final_read : (heads : ℕ) (old new : Option (List ℕ)) (had has rest text : List ℕ) (lines : List HeaderSpan) (spans : ResponseSpans) (said : List Line) (meaning : Result (List ℕ) PostFault)
-    → 0 < heads → length lines ≡ max_lines → HeadIsFound replies had old new has lines (offered.Whole spans) → old ≡ Some rest → text ≡ take spans.len has
+pub final_read : (heads : ℕ) (old new : Option (List ℕ)) (also had has rest text : List ℕ) (lines : List HeaderSpan) (spans : ResponseSpans) (said : List Line) (meaning : Result (List ℕ) PostFault)
+    → 0 < heads → length lines ≡ max_lines → also ≡ had → HeadIsFound replies also old new has lines (offered.Whole spans) → old ≡ Some rest → (spans.len ≤ length has → text ≡ take spans.len has)
     → said ≡ map (header_bytes text) (take spans.headers lines) → is_between 100 199 spans.code ≡ false
     → ((left : List ℕ) → new ≡ Some left → IsMeaning (record { status = spans.code; minor = spans.version; lines = said }) (drop spans.len has ++ left) meaning) → Means heads (had ++ rest) meaning
-final_read heads old new had has rest text lines spans said meaning some room found e same says final is =
+final_read heads old new also had has rest text lines spans said meaning some room moved found-before e text-is says final is =
+    let found : HeadIsFound replies had old new has lines (offered.Whole spans) = subst (λ (h : List ℕ). HeadIsFound replies h old new has lines (offered.Whole spans)) moved found-before in
+    let same = text-is found.stands.0 in
     let front = reply_begins old new had has rest lines spans room found e in
     let head = found.stands.2.head in
     let says_all : said ≡ map (header_bytes (take spans.len has)) (take spans.headers lines) = says ∙ ap (λ (t : List ℕ). map (header_bytes t) (take spans.headers lines)) same in
@@ -123,9 +125,10 @@ interim_read heads old new had has rest lines spans some room found e interim =
     )
 
 -- where the stream has ended and no head was found, the answer is cut
-pub partial_read : (heads : ℕ) (old new : Option (List ℕ)) (had has rest : List ℕ) (lines : List HeaderSpan) → 0 < heads → length lines ≡ max_lines
-    → HeadIsFound replies had old new has lines offered.Partial → old ≡ Some rest → Means heads (had ++ rest) (Err Cut)
-partial_read heads old new had has rest lines some room found e =
+pub partial_read : (heads : ℕ) (old new : Option (List ℕ)) (also had has rest : List ℕ) (lines : List HeaderSpan) → 0 < heads → length lines ≡ max_lines
+    → also ≡ had → HeadIsFound replies also old new has lines offered.Partial → old ≡ Some rest → Means heads (had ++ rest) (Err Cut)
+partial_read heads old new also had has rest lines some room moved found-before e =
+    let found : HeadIsFound replies had old new has lines offered.Partial = subst (λ (h : List ℕ). HeadIsFound replies h old new has lines offered.Partial) moved found-before in
     let front = begins_with_taken old new found.came rest found.taken e in
     let over : front.0 ≡ [] = subst IsAtEnd front.1 found.stands.1 in
     let came : rest ≡ found.came = front.2 ∙ ap (λ (w : List ℕ). found.came ++ w) over ∙ append-nil found.came in
@@ -134,9 +137,10 @@ partial_read heads old new had has rest lines some room found e =
     (λ head after begins. found.stands.0 (print_response head) after (reply_is (had ++ rest) head after (length lines) room begins) (all ∙ begins.reads.1) begins.short) (inr refl)
 
 -- where no head can be found, the answer has none
-pub malformed_read : (heads : ℕ) (old new : Option (List ℕ)) (had has rest : List ℕ) (lines : List HeaderSpan) → 0 < heads → length lines ≡ max_lines
-    → HeadIsFound replies had old new has lines offered.Malformed → old ≡ Some rest → Means heads (had ++ rest) (Err Head)
-malformed_read heads old new had has rest lines some room found e =
+pub malformed_read : (heads : ℕ) (old new : Option (List ℕ)) (also had has rest : List ℕ) (lines : List HeaderSpan) → 0 < heads → length lines ≡ max_lines
+    → also ≡ had → HeadIsFound replies also old new has lines offered.Malformed → old ≡ Some rest → Means heads (had ++ rest) (Err Head)
+malformed_read heads old new also had has rest lines some room moved found-before e =
+    let found : HeadIsFound replies had old new has lines offered.Malformed = subst (λ (h : List ℕ). HeadIsFound replies h old new has lines offered.Malformed) moved found-before in
     let front = begins_with_taken old new found.came rest found.taken e in
     let all : has ++ front.0 ≡ had ++ rest =
     ap (λ (w : List ℕ). w ++ front.0) found.grew ∙ append_assoc had found.came front.0 ∙ ap (λ (w : List ℕ). had ++ w) (sym front.2) in

@@ -1,18 +1,12 @@
 use Rattle.std.proofs.Common.{◌+◌, ◌≤◌, length, arith, length-drop, length-take, take}
 use Rattle.http_link.specs.Running.{held_in}
-use Rattle.http_link.proofs.ChunkedBodies.{bytes_cut, bytes_whole, not_past, reached}
+use Rattle.http_link.proofs.ChunkedBodies.{bytes_cut, bytes_whole, filled_lies, not_past}
 use Rattle.http_link.proofs.chunks.read_bytes.Goals as goal
 
 pub returns-then-there-end-clause-held : goal.returns-then-there-end-clause-held
 returns-then-there-end-clause-held g c =
-    let filled = c.in_ok-there.ensures.filled in
     let lies = c.move_bytes-moved.ensures.lies in
-    let within = lies.within in
-    let ordered = lies.ordered in
-    let behind = lies.behind in
-    let bound = filled.bound in
-    let ge = reached _ _ c.move_bytes-moved.new.room c.read_on.new.out (c.args.done + c.move_bytes-moved.result) _ c.in_ok-there.there (omega arith) filled in
-    record { behind = omega arith; ordered = omega arith; within = omega arith }
+    filled_lies _ _ c.move_bytes-moved.new.room c.read_on.new.out c.args.done (c.args.done + c.move_bytes-moved.result) _ c.in_ok-there.there (omega arith) (omega arith) c.in_ok-there.ensures.filled
 
 pub returns-then-there-end-clause-taken : goal.returns-then-there-end-clause-taken
 returns-then-there-end-clause-taken g c =
@@ -27,14 +21,8 @@ returns-then-there-end-clause-taken g c =
 
 pub returns-clause-held : goal.returns-clause-held
 returns-clause-held g c =
-    let filled = c.in_ok-there.ensures.filled in
     let lies = c.move_bytes-moved.ensures.lies in
-    let within = lies.within in
-    let ordered = lies.ordered in
-    let behind = lies.behind in
-    let bound = filled.bound in
-    let ge = reached _ _ c.move_bytes-moved.new.room c.read_on.new.out (c.args.done + c.move_bytes-moved.result) _ c.in_ok-there.there (omega arith) filled in
-    record { behind = omega arith; ordered = omega arith; within = omega arith }
+    filled_lies _ _ c.move_bytes-moved.new.room c.read_on.new.out c.args.done (c.args.done + c.move_bytes-moved.result) _ c.in_ok-there.there (omega arith) (omega arith) c.in_ok-there.ensures.filled
 
 pub returns-clause-taken : goal.returns-clause-taken
 returns-clause-taken g c =

@@ -13,56 +13,41 @@ use Rattle.http_link.proofs.posting.read_answer.Goals as goal
 
 pub returns-in-Partial-clause-means : goal.returns-in-Partial-clause-means
 returns-in-Partial-clause-means g c stream e not_read not_turns =
-    let had = held_in c.loop-heads.out c.loop-heads.intake.held in
-    let has : List ℕ = take c.find_head.new.intake.held.to c.find_head.new.room in
-    let lines = c.find_head.new.lines in
-    let found : HeadIsFound replies had (g.R.Read.remaining c.loop-heads.r) (g.R.Read.remaining c.find_head.new.r) has lines Partial =
-    subst (λ (h : List ℕ). HeadIsFound replies h (g.R.Read.remaining c.loop-heads.r) (g.R.Read.remaining c.find_head.new.r) has lines Partial) c.move_to_front.ensures.same (rw c.in-Partial.is at c.in_ok-find_head.ensures.found) in
     let so_far = c.loop-heads.invariant.means stream e in
-    so_far.2 (Err Cut) (partial_read c.loop-heads.heads _ _ had has so_far.0 lines (omega arith) (omega arith) found so_far.1)
+    so_far.2 (Err Cut)
+    (partial_read c.loop-heads.heads _ _ _ _ _ so_far.0 c.find_head.new.lines (omega arith) (omega arith) c.move_to_front.ensures.same (rw c.in-Partial.is at c.in_ok-find_head.ensures.found) so_far.1)
 
 pub returns-in-Malformed-clause-means : goal.returns-in-Malformed-clause-means
 returns-in-Malformed-clause-means g c stream e not_read not_turns =
-    let had = held_in c.loop-heads.out c.loop-heads.intake.held in
-    let has : List ℕ = take c.find_head.new.intake.held.to c.find_head.new.room in
-    let lines = c.find_head.new.lines in
-    let found : HeadIsFound replies had (g.R.Read.remaining c.loop-heads.r) (g.R.Read.remaining c.find_head.new.r) has lines Malformed =
-    subst (λ (h : List ℕ). HeadIsFound replies h (g.R.Read.remaining c.loop-heads.r) (g.R.Read.remaining c.find_head.new.r) has lines Malformed) c.move_to_front.ensures.same (rw c.in-Malformed.is at c.in_ok-find_head.ensures.found) in
     let so_far = c.loop-heads.invariant.means stream e in
-    so_far.2 (Err Head) (malformed_read c.loop-heads.heads _ _ had has so_far.0 lines (omega arith) (omega arith) found so_far.1)
+    so_far.2 (Err Head)
+    (malformed_read c.loop-heads.heads _ _ _ _ _ so_far.0 c.find_head.new.lines (omega arith) (omega arith) c.move_to_front.ensures.same (rw c.in-Malformed.is at c.in_ok-find_head.ensures.found) so_far.1)
 
 pub returns-in-Ok-clause-means : goal.returns-in-Ok-clause-means
 returns-in-Ok-clause-means g c stream e not_read not_turns =
-    let had = held_in c.loop-heads.out c.loop-heads.intake.held in
     let room : List ℕ = c.find_head.new.room in
     let there = c.find_head.new.intake.held.to in
-    let lines = c.find_head.new.lines in
     let spans = c.in-Whole.spans in
-    let found : HeadIsFound replies had (g.R.Read.remaining c.loop-heads.r) (g.R.Read.remaining c.find_head.new.r) (take there room) lines (Whole spans) =
-    subst (λ (h : List ℕ). HeadIsFound replies h (g.R.Read.remaining c.loop-heads.r) (g.R.Read.remaining c.find_head.new.r) (take there room) lines (Whole spans)) c.move_to_front.ensures.same (rw c.in-Whole.is at c.in_ok-find_head.ensures.found) in
-    let bound = found.stands.0 in
     let so_far = c.loop-heads.invariant.means stream e in
     let told : Result (List ℕ) PostFault = given c.read_framed.result c.read_framed.new.out in
     so_far.2 told
-    (final_read c.loop-heads.heads _ _ had (take there room) so_far.0 (take spans.len room) lines spans (lines_at c.lines_in-fields.result) told (omega arith) (omega arith) found so_far.1
-    (sym (take-take spans.len there room (omega (arith, length-take there room)))) c.lines_in-fields.ensures (sym c.if-not-is_interim.ensures)
+    (final_read c.loop-heads.heads _ _ _ _ (take there room) so_far.0 (take spans.len room) c.find_head.new.lines spans (lines_at c.lines_in-fields.result) told (omega arith) (omega arith)
+    c.move_to_front.ensures.same (rw c.in-Whole.is at c.in_ok-find_head.ensures.found) so_far.1
+    (λ bound. sym (take-take spans.len there room (omega (arith, length-take there room)))) c.lines_in-fields.ensures (sym c.if-not-is_interim.ensures)
     (λ left is. subst (λ (f : Result AnswerFraming PostFault). MeansAs f (drop spans.len (take there room) ++ left) told) c.in-Ok.ensures.value (c.read_framed.ensures.gives left is not_read not_turns)))
 
 pub returns-in-Err-clause-means : goal.returns-in-Err-clause-means
 returns-in-Err-clause-means g c stream e not_read not_turns =
-    let had = held_in c.loop-heads.out c.loop-heads.intake.held in
     let room : List ℕ = c.find_head.new.room in
     let there = c.find_head.new.intake.held.to in
-    let lines = c.find_head.new.lines in
     let spans = c.in-Whole.spans in
-    let found : HeadIsFound replies had (g.R.Read.remaining c.loop-heads.r) (g.R.Read.remaining c.find_head.new.r) (take there room) lines (Whole spans) =
-    subst (λ (h : List ℕ). HeadIsFound replies h (g.R.Read.remaining c.loop-heads.r) (g.R.Read.remaining c.find_head.new.r) (take there room) lines (Whole spans)) c.move_to_front.ensures.same (rw c.in-Whole.is at c.in_ok-find_head.ensures.found) in
-    let bound = found.stands.0 in
     let so_far = c.loop-heads.invariant.means stream e in
-    so_far.2 (Err c.in-Err.fault)
-    (final_read c.loop-heads.heads _ _ had (take there room) so_far.0 (take spans.len room) lines spans (lines_at c.lines_in-fields.result) (Err c.in-Err.fault) (omega arith) (omega arith) found so_far.1
-    (sym (take-take spans.len there room (omega (arith, length-take there room)))) c.lines_in-fields.ensures (sym c.if-not-is_interim.ensures)
-    (λ left is. subst (λ (f : Result AnswerFraming PostFault). MeansAs f (drop spans.len (take there room) ++ left) (Err c.in-Err.fault)) c.in-Err.ensures.value refl))
+    let told : Result (List ℕ) PostFault = Err c.in-Err.fault in
+    so_far.2 told
+    (final_read c.loop-heads.heads _ _ _ _ (take there room) so_far.0 (take spans.len room) c.find_head.new.lines spans (lines_at c.lines_in-fields.result) told (omega arith) (omega arith)
+    c.move_to_front.ensures.same (rw c.in-Whole.is at c.in_ok-find_head.ensures.found) so_far.1
+    (λ bound. sym (take-take spans.len there room (omega (arith, length-take there room)))) c.lines_in-fields.ensures (sym c.if-not-is_interim.ensures)
+    (λ left is. subst (λ (f : Result AnswerFraming PostFault). MeansAs f (drop spans.len (take there room) ++ left) told) c.in-Err.ensures.value refl))
 
 pub loop-heads-preserved : goal.loop-heads-preserved
 loop-heads-preserved g c =
