@@ -1,6 +1,6 @@
 -- Receipts beside the records that they name.
-use Rattle.std.proofs.Common.{◌≡◌, ℕ, zero, suc, ◌+◌, ◌<◌, ◌≤◌, ◌⊎◌, List, [], ◌∷◌, ◌++◌, length, map, take, Option, Some, None, slice_get, slice_set, slice_index, unwrap_or, refl, sym, ap, subst, ◌∙◌, arith, inl, inr}
-use Rattle.std.proofs.lemmas.Option.{slice_get_within}
+use Rattle.std.proofs.Common.{◌≡◌, ℕ, zero, suc, ◌+◌, ◌<◌, ◌≤◌, ◌⊎◌, List, [], ◌∷◌, ◌++◌, length, map, take, Option, Some, None, slice_get, slice_set, slice_index, get_or, unwrap_or, refl, sym, ap, subst, ◌∙◌, arith, inl, inr}
+use Rattle.std.proofs.lemmas.Option.{slice_get_read, slice_get_within}
 use Rattle.std.proofs.lemmas.List.Sums.{sum_by-cons}
 use mathlib.Core.Logic.{dite}
 use native.Mathlib.Decide.{ℕ_discrete, dec_lt}
@@ -10,6 +10,8 @@ use Rattle.joint_order.specs.Orders.{AreDistinct, AreHeld, list_at, point, point
 use Rattle.joint_order.specs.declared.point.ListPoint.{ListPoint}
 use Rattle.receipts.specs.Audits.{AreJoined, AreMatched, IsNumbered, LacksReceipt, NameOne, Names, place_of, points_of, receipts_of, record_of, records_before}
 use Rattle.receipts.specs.Layout.{AreLaid, AreNoted, HaveRows, IsBefore, IsFault, IsHeldNowhere, IsHeldWhole, IsIndexUpTo, IsLaid, IsNoted, IsRefused, held_of, place_in, points_in}
+use Rattle.receipts.specs.Rows.{AreRowsOf, IsIndexed}
+use Rattle.receipts.specs.declared.layout.Laid.{Laid}
 use Rattle.receipts.specs.declared.fault.AuditFault.{AuditFault}
 use Rattle.receipts.specs.declared.fault.AuditFault.TheVariants.{NoPeriod, Gap, Twice, Missing, Differs, Order, Memory}
 use Rattle.receipts.specs.declared.index.Index.{Index}
@@ -27,6 +29,16 @@ named_there index periods r k p x all place at there =
     let same : right.1.0 ≡ p = one_there periods k right.1.0 p right.1.1 at in
     let P : PeriodParts → Type 0 = λ q. IsNumbered r.tenant r.period q in
     (p, is_element periods k p at, subst P same right.1.2, there)
+
+-- what is read of the period that the index finds is named
+pub named_by_index : (index : Index) (periods : List PeriodParts) (r : Receipt) (k : ℕ) (p : PeriodParts) (records : List Record) (x : Record)
+    → IsIndexUpTo index periods (length periods) → Some k ≡ place_in index r.tenant r.period → p ≡ get_or periods k p → records ≡ p.records
+    → ◌≡◌ {A = Option Record} (Some x) (slice_get records r.number) → Names periods r x
+named_by_index index periods r k p records x all place read are there =
+    let below = (all.right r.tenant r.period k (sym place)).0 in
+    let R : List Record → Type 0 = λ rs. ◌≡◌ {A = Option Record} (Some x) (slice_get rs r.number) in
+    let get : R p.records = subst R are there in
+    named_there index periods r k p x all (sym place) (slice_get_read periods (length periods) k p refl below read) (sym get)
 
 -- entries of a tenant's journal at one place are of one period and one number
 pub same_entry : (periods : List PeriodParts) (t m n k l a b : ℕ) (p q : PeriodParts) → slice_get periods k ≡ Some p → slice_get periods l ≡ Some q
@@ -299,6 +311,31 @@ entry_placed index periods offsets holders k n p all rows at below =
     let offset = laid.offset p.opening.period k found in
     let room = laid.room p.opening.period k p found at in
     (omega arith, omega arith)
+
+-- the entry of a number of a period that was read lies in the row of the period's tenant
+pub entry_within : (laid : Laid) (holders : List (List (Option ℕ))) (k n t : ℕ) (p q : PeriodParts) → IsIndexed laid → AreRowsOf laid holders
+    → slice_get laid.periods.now k ≡ Some p → n < length p.records → q ≡ get_or laid.periods.now k q → t ≡ q.opening.tenant
+    → slice_index laid.offsets.now k + n < length (list_at holders t)
+entry_within laid holders k n t p q all rows at below read tenant =
+    let periods = laid.periods.now in
+    let same = one_there periods k p q at (slice_get_read periods (length periods) k q refl (slice_get_within periods k p at) read) in
+    let placed = entry_placed laid.index.now periods laid.offsets.now holders k n p all rows at below in
+    let W : ℕ → Type 0 = λ u. slice_index laid.offsets.now k + n < length (list_at holders u) in
+    let within : W p.opening.tenant = let place = placed.0 in let room = placed.1 in omega arith in
+    subst W (ap (λ (x : PeriodParts). x.opening.tenant) same ∙ sym tenant) within
+
+-- what stands there is what stands at its place
+pub entry_at : (laid : Laid) (holders : List (List (Option ℕ))) (k n t : ℕ) (p q : PeriodParts) (x : Option ℕ) → IsIndexed laid → AreRowsOf laid holders
+    → slice_get laid.periods.now k ≡ Some p → n < length p.records → q ≡ get_or laid.periods.now k q → t ≡ q.opening.tenant
+    → slice_get (list_at holders t) (slice_index laid.offsets.now k + n) ≡ Some x
+    → slice_get (list_at holders p.opening.tenant) (records_before laid.periods.now p.opening.tenant p.opening.period + n) ≡ Some x
+entry_at laid holders k n t p q x all rows at below read tenant there =
+    let periods = laid.periods.now in
+    let same = one_there periods k p q at (slice_get_read periods (length periods) k q refl (slice_get_within periods k p at) read) in
+    let placed = entry_placed laid.index.now periods laid.offsets.now holders k n p all rows at below in
+    let owner : t ≡ p.opening.tenant = tenant ∙ sym (ap (λ (y : PeriodParts). y.opening.tenant) same) in
+    let P : ℕ → ℕ → Type 0 = λ u place. slice_get (list_at holders u) place ≡ Some x in
+    subst (λ place. P p.opening.tenant place) placed.0 (subst (λ u. P u (slice_index laid.offsets.now k + n)) owner there)
 
 point_behind : {A B : Type 0} (f : A → B) (xs : List A) (n : ℕ) (x : A) → slice_get xs n ≡ Some x → take (suc n) (map f xs) ≡ take n (map f xs) ++ f x ∷ []
 point_behind {A = A} {B = B} f [] n x e = let below = slice_get_within [] n x e in absurd (omega arith)
