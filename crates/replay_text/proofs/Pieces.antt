@@ -2,6 +2,7 @@
 use Rattle.std.proofs.Common.{◌≡◌, ◌+◌, ◌≤◌, ℕ, List, [], ◌∷◌, ◌++◌, length, take, drop, Option, Some, None, refl, sym, ap, subst, ◌∙◌, append-nil, arith}
 use Rattle.std.specs.Prelude.{slice_index}
 use Rattle.std.specs.Io.KnownBytes.{Appends}
+use Rattle.std.proofs.KnownBytes.{Appends-trans}
 use Rattle.std.proofs.Math.Seq.{take-append_seam}
 use Rattle.std.proofs.lemmas.Grind.{flat_map-append}
 use Rattle.std.proofs.lemmas.List.{append_assoc, take-append-drop}
@@ -12,9 +13,10 @@ use Rattle.floor_core.specs.declared.step.Output.{Output}
 use Rattle.floor_core.specs.declared.step.Step.{Step}
 use Rattle.replay_text.specs.Printed.{line_of, printed_lines}
 use Rattle.replay_text.specs.Replay.{ArePrinted, Prints, WritesDone, WritesLines, WritesSome}
-use Rattle.replay_text.specs.Script.{meaning_of, steps_in}
+use Rattle.replay_text.specs.Script.{lines_of, meaning_of, steps_in}
 use Rattle.replay_text.specs.Streams.{AppendsFront, WritesUpTo}
 use Rattle.replay_text.specs.declared.script.Meaning.TheVariants.{Skipped, Runs}
+use Rattle.replay_text.proofs.Scripts.{steps_behind}
 
 -- ---- the laws of the floor
 
@@ -106,39 +108,51 @@ none_left names w m steps text far =
 
 -- ---- what is written
 
-Appends-both : (old between new : Option (List ℕ)) (xs ys : List ℕ) → Appends old between xs → Appends between new ys → Appends old new (xs ++ ys)
-Appends-both None between new xs ys a b = tt
-Appends-both (Some os) None new xs ys a b = absurd a
-Appends-both (Some os) (Some bs) None xs ys a b = absurd b
-Appends-both (Some os) (Some bs) (Some ns) xs ys a b = b ∙ ap (λ t. t ++ ys) a ∙ append_assoc os xs ys
-
 -- a text of which a front was written
 front_of : (old new : Option (List ℕ)) (text front rest : List ℕ) → text ≡ front ++ rest → Appends old new front → AppendsFront text old new
 front_of old new text front rest is done =
     (length front, subst (Appends old new) (sym (ap (take (length front)) is ∙ take-append_seam front rest)) done)
 
 -- some lines were written, and others are to be
-abbrev pub Far : List (List ℕ) → World → World → List Step → List Step → List ℕ → Option (List ℕ) → Option (List ℕ) → Type 0
-Far names before now steps rest text old new = (written : List ℕ) × Appends old new written × AreSoFar names before now steps rest (written ++ text)
+pub record Far (names : List (List ℕ)) (before now : World) (steps rest : List Step) (text : List ℕ) (old new : Option (List ℕ)) : Type 0 where
+  pub written : List ℕ
+  pub appended : Appends old new written
+  pub so_far : AreSoFar names before now steps rest (written ++ text)
 
 -- more lines are to be written
 pub farther : Laws → (names : List (List ℕ)) (steps rest piece behind : List Step) (w m n : World) (text longer : List ℕ) (old new : Option (List ℕ)) → piece ++ behind ≡ rest
     → Far names w m steps rest text old new → Prints names piece m n text longer → Far names w n steps behind longer old new
 farther laws names steps rest piece behind w m n text longer old new split far more =
-    (far.0, far.1, more_so_far laws names steps rest piece behind w m n (far.0 ++ text) (far.0 ++ longer) split far.2 (prints_behind names piece m n far.0 text longer more))
+    record {
+      written = far.written;
+      appended = far.appended;
+      so_far = more_so_far laws names steps rest piece behind w m n (far.written ++ text) (far.written ++ longer) split far.so_far (prints_behind names piece m n far.written text longer more);
+    }
+
+-- the lines of one more line of a script are to be written
+pub line_farther : Laws → (names : List (List ℕ)) (workers : ℕ) (steps : List Step) (rest line behind : List ℕ) (w m n : World) (text longer : List ℕ) (old new : Option (List ℕ)) → lines_of rest ≡ line ∷ lines_of behind
+    → Far names w m steps (steps_in names workers (lines_of rest)) text old new → Prints names (steps_in names workers (line ∷ [])) m n text longer
+    → Far names w n steps (steps_in names workers (lines_of behind)) longer old new
+line_farther laws names workers steps rest line behind w m n text longer old new first far more =
+    farther laws names steps (steps_in names workers (lines_of rest)) (steps_in names workers (line ∷ [])) (steps_in names workers (lines_of behind)) w m n text longer old new
+    (steps_behind names workers line (lines_of behind) ∙ ap (steps_in names workers) (sym first)) far more
+
+-- the same text is to be written
+pub same_far : (names : List (List ℕ)) (w m : World) (steps rest : List Step) (text same : List ℕ) (old new : Option (List ℕ)) → same ≡ text → Far names w m steps rest text old new → Far names w m steps rest same old new
+same_far names w m steps rest text same old new e far = subst (λ t. Far names w m steps rest t old new) (sym e) far
 
 -- some of those that were to be written were
 pub written_farther : (names : List (List ℕ)) (w m : World) (steps rest : List Step) (text left : List ℕ) (old between new : Option (List ℕ)) → Far names w m steps rest text old between → WritesUpTo text left between new
     → Far names w m steps rest left old new
-written_farther names w m steps rest text left old between new far more = (
-  far.0 ++ more.0,
-  Appends-both old between new far.0 more.0 far.1 more.2,
-  subst (AreSoFar names w m steps rest) (ap (λ t. far.0 ++ t) more.1 ∙ sym (append_assoc far.0 more.0 left)) far.2,
-)
+written_farther names w m steps rest text left old between new far more = record {
+  written = far.written ++ more.0;
+  appended = Appends-trans old between new far.written more.0 far.appended more.2;
+  so_far = subst (AreSoFar names w m steps rest) (ap (λ t. far.written ++ t) more.1 ∙ sym (append_assoc far.written more.0 left)) far.so_far;
+}
 
 -- nothing was done
 pub not_far : Laws → (names : List (List ℕ)) (w : World) (steps : List Step) (old : Option (List ℕ)) → Far names w w steps steps [] old old
-not_far laws names w steps old = ([], by old, none_so_far laws names w steps)
+not_far laws names w steps old = record { written = []; appended = by old; so_far = none_so_far laws names w steps }
   where
     by : (known : Option (List ℕ)) → Appends known known []
     by None = tt
@@ -148,32 +162,32 @@ not_far laws names w steps old = ([], by old, none_so_far laws names w steps)
 pub some_written : Laws → (names : List (List ℕ)) (w m : World) (steps rest : List Step) (text : List ℕ) (old between new : Option (List ℕ)) → Far names w m steps rest text old between → AppendsFront text between new
     → WritesSome names w steps old new
 some_written laws names w m steps rest text old between new far front =
-    let all = all_printed laws names w m steps rest (far.0 ++ text) far.2 in
+    let all = all_printed laws names w m steps rest (far.written ++ text) far.so_far in
     let here : List ℕ = take front.0 text in
     let behind : List ℕ = drop front.0 text ++ all.0 in
-    let split : (far.0 ++ text) ++ all.0 ≡ (far.0 ++ here) ++ behind =
-    ap (λ t. (far.0 ++ t) ++ all.0) (sym (take-append-drop front.0 text))
-    ∙ (ap (λ t. t ++ all.0) (sym (append_assoc far.0 here (drop front.0 text)))
-    ∙ append_assoc (far.0 ++ here) (drop front.0 text) all.0) in
-    ((far.0 ++ text) ++ all.0, all.1, front_of old new _ (far.0 ++ here) behind split (Appends-both old between new far.0 here far.1 front.1))
+    let split : (far.written ++ text) ++ all.0 ≡ (far.written ++ here) ++ behind =
+    ap (λ t. (far.written ++ t) ++ all.0) (sym (take-append-drop front.0 text))
+    ∙ (ap (λ t. t ++ all.0) (sym (append_assoc far.written here (drop front.0 text)))
+    ∙ append_assoc (far.written ++ here) (drop front.0 text) all.0) in
+    ((far.written ++ text) ++ all.0, all.1, front_of old new _ (far.written ++ here) behind split (Appends-trans old between new far.written here far.appended front.1))
 
 -- and what was written stays written
 pub written_before : Laws → (names : List (List ℕ)) (w m : World) (steps rest : List Step) (text : List ℕ) (old new : Option (List ℕ)) → Far names w m steps rest text old new → WritesSome names w steps old new
 written_before laws names w m steps rest text old new far =
-    let all = all_printed laws names w m steps rest (far.0 ++ text) far.2 in
-    ((far.0 ++ text) ++ all.0, all.1, front_of old new _ far.0 (text ++ all.0) (append_assoc far.0 text all.0) far.1)
+    let all = all_printed laws names w m steps rest (far.written ++ text) far.so_far in
+    ((far.written ++ text) ++ all.0, all.1, front_of old new _ far.written (text ++ all.0) (append_assoc far.written text all.0) far.appended)
 
 -- all lines were written
 pub all_written : (names : List (List ℕ)) (w m : World) (steps : List Step) (text : List ℕ) (old between new : Option (List ℕ)) → Far names w m steps [] text old between → Appends between new text
     → WritesLines names w steps old new
 all_written names w m steps text old between new far last =
-    (far.0 ++ text, none_left names w m steps (far.0 ++ text) far.2, Appends-both old between new far.0 text far.1 last)
+    (far.written ++ text, none_left names w m steps (far.written ++ text) far.so_far, Appends-trans old between new far.written text far.appended last)
 
 -- the lines of the steps that were done were written
 pub done_written : (names : List (List ℕ)) (w m : World) (steps rest : List Step) (text : List ℕ) (old between new : Option (List ℕ)) → Far names w m steps rest text old between → Appends between new text
     → WritesDone names w steps m old new
 done_written names w m steps rest text old between new far last =
-    (far.2.0, rest, far.2.1, far.0 ++ text, far.2.2, Appends-both old between new far.0 text far.1 last)
+    (far.so_far.0, rest, far.so_far.1, far.written ++ text, far.so_far.2, Appends-trans old between new far.written text far.appended last)
 
 -- ---- numbers of calls
 

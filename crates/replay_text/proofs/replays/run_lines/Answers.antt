@@ -1,12 +1,11 @@
-use Rattle.std.proofs.Common.{◌≡◌, ◌+◌, List, [], ◌∷◌, ◌++◌, length, sym, ap, subst, ◌∙◌, arith}
+use Rattle.std.proofs.Common.{◌≡◌, ◌+◌, List, [], length, sym, subst, ◌∙◌, arith}
 use Rattle.std.proofs.lemmas.List.{nil_from_length}
 use Rattle.std.proofs.lemmas.Bool.{eqb-true}
 use Rattle.floor_core.specs.FloorView.{FloorState, world_of}
 use Rattle.floor_core.specs.declared.step.Step.{Step}
 use Rattle.replay_text.specs.Replay.{WritesDone}
 use Rattle.replay_text.specs.Script.{lines_of, steps_in, NoneIsBad}
-use Rattle.replay_text.proofs.Pieces.{Laws, Far, not_far, farther, written_farther, some_written, written_before, all_written, done_written, room_for_fewer}
-use Rattle.replay_text.proofs.Scripts.{steps_behind}
+use Rattle.replay_text.proofs.Pieces.{Laws, Far, not_far, line_farther, same_far, written_farther, some_written, written_before, all_written, done_written, room_for_fewer}
 use Rattle.replay_text.proofs.replays.run_lines.Goals as goal
 
 pub loop-rest-init : goal.loop-rest-init
@@ -32,36 +31,18 @@ run_line-requires-clause-room g c = room_for_fewer c.loop-rest.floor 1 (length c
 pub returns-in_err-write_if_long-clause-front : goal.returns-in_err-write_if_long-clause-front
 returns-in_err-write_if_long-clause-front g c =
     let laws : Laws = record { outputs = c.one_after_the_other.ensures.outputs; left = c.one_after_the_other.ensures.left; replies = c.outputs_are_there.ensures.outputs; after = c.outputs_are_there.ensures.left } in
-    let names = c.args.names.now in
-    let workers = c.args.workers in
-    let old = g.W.Write.contents c.args.writer.now in
-    let between = g.W.Write.contents c.loop-rest.writer in
-    let steps : List Step = steps_in names workers (lines_of c.args.script.now) in
-    let rest : List Step = steps_in names workers (lines_of c.loop-rest.rest.now) in
-    let piece : List Step = steps_in names workers (c.first_line.result.0.now ∷ []) in
-    let behind : List Step = steps_in names workers (lines_of c.first_line.result.1.now) in
-    let split : piece ++ behind ≡ rest = steps_behind names workers c.first_line.result.0.now (lines_of c.first_line.result.1.now) ∙ ap (steps_in names workers) (sym c.first_line.ensures.value) in
-    let far : Far names (world_of c.args.floor.now) (world_of c.run_line.new.floor) steps behind c.run_line.new.text.items old between =
-    farther laws names steps rest piece behind (world_of c.args.floor.now) (world_of c.loop-rest.floor) (world_of c.run_line.new.floor) c.loop-rest.text.items c.run_line.new.text.items old between split c.loop-rest.invariant.far c.in-Ok.ensures.printed in
-    some_written laws names (world_of c.args.floor.now) (world_of c.run_line.new.floor) steps behind c.run_line.new.text.items old between (g.W.Write.contents c.write_if_long.new.writer) far c.write_if_long.ensures.front
+    some_written laws _ _ _ _ _ _ _ _ _
+    (line_farther laws _ c.args.workers _ c.loop-rest.rest.now _ c.first_line.result.1.now _ _ _ _ _ _ _ c.first_line.ensures.value c.loop-rest.invariant.far c.in-Ok.ensures.printed)
+    c.write_if_long.ensures.front
 
 pub loop-rest-preserved : goal.loop-rest-preserved
 loop-rest-preserved g c =
     let laws : Laws = record { outputs = c.one_after_the_other.ensures.outputs; left = c.one_after_the_other.ensures.left; replies = c.outputs_are_there.ensures.outputs; after = c.outputs_are_there.ensures.left } in
-    let names = c.args.names.now in
-    let workers = c.args.workers in
-    let old = g.W.Write.contents c.args.writer.now in
-    let between = g.W.Write.contents c.loop-rest.writer in
-    let steps : List Step = steps_in names workers (lines_of c.args.script.now) in
-    let rest : List Step = steps_in names workers (lines_of c.loop-rest.rest.now) in
-    let piece : List Step = steps_in names workers (c.first_line.result.0.now ∷ []) in
-    let behind : List Step = steps_in names workers (lines_of c.first_line.result.1.now) in
-    let split : piece ++ behind ≡ rest = steps_behind names workers c.first_line.result.0.now (lines_of c.first_line.result.1.now) ∙ ap (steps_in names workers) (sym c.first_line.ensures.value) in
-    let far : Far names (world_of c.args.floor.now) (world_of c.run_line.new.floor) steps behind c.run_line.new.text.items old between =
-    farther laws names steps rest piece behind (world_of c.args.floor.now) (world_of c.loop-rest.floor) (world_of c.run_line.new.floor) c.loop-rest.text.items c.run_line.new.text.items old between split c.loop-rest.invariant.far c.in-Ok.ensures.printed in
     record {
-      far = written_farther names (world_of c.args.floor.now) (world_of c.run_line.new.floor) steps behind c.run_line.new.text.items c.write_if_long.new.text.items old between (g.W.Write.contents c.write_if_long.new.writer) far c.in_ok-write_if_long.ensures.written;
-      good = (subst (NoneIsBad names workers) c.first_line.ensures.value c.loop-rest.invariant.good).1;
+      far = written_farther _ _ _ _ _ _ _ _ _ _
+          (line_farther laws _ c.args.workers _ c.loop-rest.rest.now _ c.first_line.result.1.now _ _ _ _ _ _ _ c.first_line.ensures.value c.loop-rest.invariant.far c.in-Ok.ensures.printed)
+          c.in_ok-write_if_long.ensures.written;
+      good = (subst (NoneIsBad c.args.names.now c.args.workers) c.first_line.ensures.value c.loop-rest.invariant.good).1;
       workers = c.run_line.ensures.workers ∙ c.loop-rest.invariant.workers;
       tenants = c.run_line.ensures.tenants ∙ c.loop-rest.invariant.tenants;
       room = c.run_line.ensures.room (length c.first_line.result.1.now) (room_for_fewer c.loop-rest.floor (1 + length c.first_line.result.1.now) (length c.loop-rest.rest.now) (omega (arith, c.first_line.ensures.shorter)) c.loop-rest.invariant.room);
@@ -71,66 +52,48 @@ loop-rest-preserved g c =
 pub returns-in_err-write_text-in-Err-Before-clause-front : goal.returns-in_err-write_text-in-Err-Before-clause-front
 returns-in_err-write_text-in-Err-Before-clause-front g c =
     let laws : Laws = record { outputs = c.one_after_the_other.ensures.outputs; left = c.one_after_the_other.ensures.left; replies = c.outputs_are_there.ensures.outputs; after = c.outputs_are_there.ensures.left } in
-    let names = c.args.names.now in
-    let workers = c.args.workers in
-    let old = g.W.Write.contents c.args.writer.now in
-    let between = g.W.Write.contents c.loop-rest.writer in
-    let steps : List Step = steps_in names workers (lines_of c.args.script.now) in
-    let rest : List Step = steps_in names workers (lines_of c.loop-rest.rest.now) in
     let before = rw c.in-Err-Before.field-0-is at c.in-Err-Before.is in
-    let far = subst (λ t. Far names (world_of c.args.floor.now) (world_of c.loop-rest.floor) steps rest t old between) (sym (c.run_line.ensures.unprinted before)) c.loop-rest.invariant.far in
-    some_written laws names (world_of c.args.floor.now) (world_of c.loop-rest.floor) steps rest c.run_line.new.text.items old between (g.W.Write.contents c.write_text.new.writer) far (rw c.as_slice.ensures.value at c.write_text.ensures.front)
+    some_written laws _ _ _ _ _ _ _ _ _
+    (same_far _ _ _ _ _ _ _ _ _ (c.run_line.ensures.unprinted before) c.loop-rest.invariant.far)
+    (rw c.as_slice.ensures.value at c.write_text.ensures.front)
 
 pub returns-in-Err-Before-clause-front : goal.returns-in-Err-Before-clause-front
 returns-in-Err-Before-clause-front g c =
     let laws : Laws = record { outputs = c.one_after_the_other.ensures.outputs; left = c.one_after_the_other.ensures.left; replies = c.outputs_are_there.ensures.outputs; after = c.outputs_are_there.ensures.left } in
-    let names = c.args.names.now in
-    let workers = c.args.workers in
-    let old = g.W.Write.contents c.args.writer.now in
-    let between = g.W.Write.contents c.loop-rest.writer in
-    let steps : List Step = steps_in names workers (lines_of c.args.script.now) in
-    let rest : List Step = steps_in names workers (lines_of c.loop-rest.rest.now) in
     let before = rw c.in-Err-Before.field-0-is at c.in-Err-Before.is in
-    let far = subst (λ t. Far names (world_of c.args.floor.now) (world_of c.loop-rest.floor) steps rest t old between) (sym (c.run_line.ensures.unprinted before)) c.loop-rest.invariant.far in
-    some_written laws names (world_of c.args.floor.now) (world_of c.loop-rest.floor) steps rest c.run_line.new.text.items old between (g.W.Write.contents c.write_text.new.writer) far (rw c.as_slice.ensures.value at c.write_text.ensures.front)
+    some_written laws _ _ _ _ _ _ _ _ _
+    (same_far _ _ _ _ _ _ _ _ _ (c.run_line.ensures.unprinted before) c.loop-rest.invariant.far)
+    (rw c.as_slice.ensures.value at c.write_text.ensures.front)
 
 pub returns-in-Err-Before-clause-done : goal.returns-in-Err-Before-clause-done
 returns-in-Err-Before-clause-done g c = λ e.
-    let names = c.args.names.now in
-    let workers = c.args.workers in
-    let old = g.W.Write.contents c.args.writer.now in
-    let between = g.W.Write.contents c.loop-rest.writer in
-    let steps : List Step = steps_in names workers (lines_of c.args.script.now) in
-    let rest : List Step = steps_in names workers (lines_of c.loop-rest.rest.now) in
     let before = rw c.in-Err-Before.field-0-is at c.in-Err-Before.is in
-    let far = subst (λ t. Far names (world_of c.args.floor.now) (world_of c.loop-rest.floor) steps rest t old between) (sym (c.run_line.ensures.unprinted before)) c.loop-rest.invariant.far in
-    let done = done_written names (world_of c.args.floor.now) (world_of c.loop-rest.floor) steps rest c.run_line.new.text.items old between (g.W.Write.contents c.write_text.new.writer) far (rw c.as_slice.ensures.value at c.in_ok-write_text-in-Err-Before.ensures.whole) in
-    subst (λ (f : FloorState). WritesDone names (world_of c.args.floor.now) steps (world_of f) old (g.W.Write.contents c.write_text.new.writer)) (sym (c.run_line.ensures.undone before)) done
+    let done =
+    done_written _ _ _ _ _ _ _ _ _
+    (same_far _ _ _ _ _ _ _ _ _ (c.run_line.ensures.unprinted before) c.loop-rest.invariant.far)
+    (rw c.as_slice.ensures.value at c.in_ok-write_text-in-Err-Before.ensures.whole) in
+    subst (λ (f : FloorState). WritesDone c.args.names.now (world_of c.args.floor.now) (steps_in c.args.names.now c.args.workers (lines_of c.args.script.now)) (world_of f) (g.W.Write.contents c.args.writer.now) (g.W.Write.contents c.write_text.new.writer))
+    (sym (c.run_line.ensures.undone before)) done
 
 pub returns-in-Err-Behind-clause-front : goal.returns-in-Err-Behind-clause-front
 returns-in-Err-Behind-clause-front g c =
     let laws : Laws = record { outputs = c.one_after_the_other.ensures.outputs; left = c.one_after_the_other.ensures.left; replies = c.outputs_are_there.ensures.outputs; after = c.outputs_are_there.ensures.left } in
-    written_before laws c.args.names.now (world_of c.args.floor.now) (world_of c.loop-rest.floor) (steps_in c.args.names.now c.args.workers (lines_of c.args.script.now)) (steps_in c.args.names.now c.args.workers (lines_of c.loop-rest.rest.now)) c.loop-rest.text.items
-    (g.W.Write.contents c.args.writer.now) (g.W.Write.contents c.loop-rest.writer) c.loop-rest.invariant.far
+    written_before laws _ _ _ _ _ _ _ _ c.loop-rest.invariant.far
 
 pub returns-clause-written : goal.returns-clause-written
 returns-clause-written g c = λ e.
     let names = c.args.names.now in
-    let workers = c.args.workers in
     let none : c.loop-rest.rest.now ≡ [] = nil_from_length _ (eqb-true _ _ (sym c.loop-rest-test.ensures)) in
-    let steps : List Step = steps_in names workers (lines_of c.args.script.now) in
-    let far = subst (λ t. Far names (world_of c.args.floor.now) (world_of c.loop-rest.floor) steps (steps_in names workers (lines_of t)) c.loop-rest.text.items (g.W.Write.contents c.args.writer.now) (g.W.Write.contents c.loop-rest.writer)) none c.loop-rest.invariant.far in
-    all_written names (world_of c.args.floor.now) (world_of c.loop-rest.floor) steps c.loop-rest.text.items (g.W.Write.contents c.args.writer.now) (g.W.Write.contents c.loop-rest.writer) (g.W.Write.contents c.write_text-2.new.writer) far
-    (rw c.as_slice-2.ensures.value at c.in_ok-write_text.ensures.whole)
+    let steps : List Step = steps_in names c.args.workers (lines_of c.args.script.now) in
+    let far = subst (λ t. Far names (world_of c.args.floor.now) (world_of c.loop-rest.floor) steps (steps_in names c.args.workers (lines_of t)) c.loop-rest.text.items (g.W.Write.contents c.args.writer.now) (g.W.Write.contents c.loop-rest.writer)) none c.loop-rest.invariant.far in
+    all_written _ _ _ _ _ _ _ _ far (rw c.as_slice-2.ensures.value at c.in_ok-write_text.ensures.whole)
 
 pub returns-in_err-write_text-clause-front : goal.returns-in_err-write_text-clause-front
 returns-in_err-write_text-clause-front g c =
     let laws : Laws = record { outputs = c.one_after_the_other.ensures.outputs; left = c.one_after_the_other.ensures.left; replies = c.outputs_are_there.ensures.outputs; after = c.outputs_are_there.ensures.left } in
-    some_written laws c.args.names.now (world_of c.args.floor.now) (world_of c.loop-rest.floor) (steps_in c.args.names.now c.args.workers (lines_of c.args.script.now)) (steps_in c.args.names.now c.args.workers (lines_of c.loop-rest.rest.now)) c.loop-rest.text.items
-    (g.W.Write.contents c.args.writer.now) (g.W.Write.contents c.loop-rest.writer) (g.W.Write.contents c.write_text-2.new.writer) c.loop-rest.invariant.far (rw c.as_slice-2.ensures.value at c.write_text-2.ensures.front)
+    some_written laws _ _ _ _ _ _ _ _ _ c.loop-rest.invariant.far (rw c.as_slice-2.ensures.value at c.write_text-2.ensures.front)
 
 pub returns-clause-front : goal.returns-clause-front
 returns-clause-front g c =
     let laws : Laws = record { outputs = c.one_after_the_other.ensures.outputs; left = c.one_after_the_other.ensures.left; replies = c.outputs_are_there.ensures.outputs; after = c.outputs_are_there.ensures.left } in
-    some_written laws c.args.names.now (world_of c.args.floor.now) (world_of c.loop-rest.floor) (steps_in c.args.names.now c.args.workers (lines_of c.args.script.now)) (steps_in c.args.names.now c.args.workers (lines_of c.loop-rest.rest.now)) c.loop-rest.text.items
-    (g.W.Write.contents c.args.writer.now) (g.W.Write.contents c.loop-rest.writer) (g.W.Write.contents c.write_text-2.new.writer) c.loop-rest.invariant.far (rw c.as_slice-2.ensures.value at c.write_text-2.ensures.front)
+    some_written laws _ _ _ _ _ _ _ _ _ c.loop-rest.invariant.far (rw c.as_slice-2.ensures.value at c.write_text-2.ensures.front)
