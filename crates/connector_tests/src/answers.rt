@@ -8,134 +8,80 @@ use test_texts::{filled, setup_with};
 
 static ANSWERS: &str = "\
 == a Fulfill goes back as it came, once
-> load 0 acme tok-alice {base}
-> decide 0 {T}
+>> alice|{base}|{T}|send bob 0 {sent}
 > answer 0 {T} {fulfill}
-> answer 0 {T} {fulfill}
-acme loaded 0
-acme send bob 0 {sent}
 acme reply {fulfill}
+> answer 0 {T} {fulfill}
 - idle
 == a Fulfill of another condition
-> load 0 acme tok-alice {base}
-> decide 0 {T}
+>> alice|{base}|{T}|send bob 0 {sent}
 > answer 0 {T} {fulfill of another condition}
-> load 0 acme tok-alice {base}
-> decide 0 {T}
-acme loaded 0
-acme send bob 0 {sent}
 acme reply {F05}
-acme loaded 1
-acme send bob 1 {sent}
+>> alice|{base}|{T}|send bob 1 {sent}
 == no answer, and bytes that are none
-> load 0 acme tok-alice {base}
-> decide 0 {T}
+>> alice|{base}|{T}|send bob 0 {sent}
 > answer 0 {T} fault
-> load 0 acme tok-alice {base}
-> decide 0 {T}
+acme reply {T01}
+>> alice|{base}|{T}|send bob 1 {sent}
 > answer 0 {T} -
-> load 0 acme tok-alice {base}
-> decide 0 {T}
+acme reply {T01}
+>> alice|{base}|{T}|send bob 2 {sent}
 > answer 0 {T} {fulfill cut}
-> load 0 acme tok-alice {base}
-> decide 0 {T}
+acme reply {T01}
+>> alice|{base}|{T}|send bob 3 {sent}
 > answer 0 {T} {base}
-acme loaded 0
-acme send bob 0 {sent}
-acme reply {T01}
-acme loaded 1
-acme send bob 1 {sent}
-acme reply {T01}
-acme loaded 2
-acme send bob 2 {sent}
-acme reply {T01}
-acme loaded 3
-acme send bob 3 {sent}
 acme reply {T01}
 == Rejects go back as they came, in long spellings and with bytes after the data too
-> load 0 acme tok-alice {base}
-> decide 0 {T}
+>> alice|{base}|{T}|send bob 0 {sent}
 > answer 0 {T} 0e06ff0000000000
-> load 0 acme tok-alice {base}
-> decide 0 {T}
-> answer 0 {T} 0e0746303001410000
-> load 0 acme tok-alice {base}
-> decide 0 {T}
-> answer 0 {T} 0e8106ff0000000000
-> load 0 acme tok-alice {base}
-> decide 0 {T}
-> answer 0 {T} 0e08ff00000000005555
-acme loaded 0
-acme send bob 0 {sent}
 acme reply 0e06ff0000000000
-acme loaded 1
-acme send bob 1 {sent}
+>> alice|{base}|{T}|send bob 1 {sent}
+> answer 0 {T} 0e0746303001410000
 acme reply 0e0746303001410000
-acme loaded 2
-acme send bob 2 {sent}
+>> alice|{base}|{T}|send bob 2 {sent}
+> answer 0 {T} 0e8106ff0000000000
 acme reply 0e8106ff0000000000
-acme loaded 3
-acme send bob 3 {sent}
+>> alice|{base}|{T}|send bob 3 {sent}
+> answer 0 {T} 0e08ff00000000005555
 acme reply 0e08ff00000000005555
 == an answer before the outgoing expiry
-> load 0 acme tok-alice {base}
-> decide 0 {T}
+>> alice|{base}|{T}|send bob 0 {sent}
 > answer 0 {T+8999} {fulfill}
-acme loaded 0
-acme send bob 0 {sent}
 acme reply {fulfill}
 == an answer at the outgoing expiry
-> load 0 acme tok-alice {base}
-> decide 0 {T}
+>> alice|{base}|{T}|send bob 0 {sent}
 > answer 0 {T+9000} {fulfill}
-acme loaded 0
-acme send bob 0 {sent}
 acme reply {R00}
 == a tick marks what is overdue, once, and an answer after it is late
-> load 0 acme tok-alice {base}
-> decide 0 {T}
+>> alice|{base}|{T}|send bob 0 {sent}
 > tick acme {T+8999}
-> tick acme {T+9000}
-> tick acme {T+9000}
-> answer 0 {T+9000} {fulfill}
-acme loaded 0
-acme send bob 0 {sent}
 acme ticked 0
+> tick acme {T+9000}
 acme ticked 1
+> tick acme {T+9000}
 acme ticked 0
+> answer 0 {T+9000} {fulfill}
 acme reply {R00}
 == after the mark a Reject is late too, at a moment that goes back
-> load 0 acme tok-alice {base}
-> decide 0 {T}
+>> alice|{base}|{T}|send bob 0 {sent}
 > tick acme {T+9000}
-> answer 0 {T} 0e06ff0000000000
-acme loaded 0
-acme send bob 0 {sent}
 acme ticked 1
+> answer 0 {T} 0e06ff0000000000
 acme reply {R00}
 == after the mark no answer is late too
-> load 0 acme tok-alice {base}
-> decide 0 {T}
+>> alice|{base}|{T}|send bob 0 {sent}
 > tick acme {T+9000}
-> answer 0 {T+9000} fault
-acme loaded 0
-acme send bob 0 {sent}
 acme ticked 1
+> answer 0 {T+9000} fault
 acme reply {R00}
 == a full journal takes no tick, and the clock stays
 | acme|journal|2
-> load 0 acme tok-alice {base}
-> decide 0 {T}
+>> alice|{base}|{T}|send bob 0 {sent}
 > tick acme {T+10000}
-> answer 0 {T} {fulfill}
-> load 0 acme tok-alice {base}
-> decide 0 {T}
-acme loaded 0
-acme send bob 0 {sent}
 acme refused full
+> answer 0 {T} {fulfill}
 acme reply {fulfill}
-acme loaded 1
-acme reply {T03}
+>> alice|{base}|{T}|reply {T03}
 == an idle worker has nothing to answer, and one that has loaded neither
 > answer 0 {T} {fulfill}
 > load 0 acme tok-alice {base}
@@ -169,7 +115,14 @@ fn expect_reply(rt: &impl Abort, alloc: Global, answer: &str, reply: &str) -> Re
     let sent = "acme loaded 0\nacme send bob 0 {sent}\nacme reply ";
     let lines = [sent, reply, "\n"].concat(alloc)?;
     let lines = filled(alloc, lines.as_str())?;
-    expect_written(rt, alloc, setup.as_str(), script.as_str(), lines.as_str())
+    expect_written(
+        rt,
+        alloc,
+        1,
+        setup.as_str(),
+        script.as_str(),
+        lines.as_str(),
+    )
 }
 
 #[test]

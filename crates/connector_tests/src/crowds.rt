@@ -1,6 +1,6 @@
 //! Many tenants and many workers, through replays.
 
-use crate::rows::{expect_rows, expect_rows_by, written_by};
+use crate::rows::{expect_rows, expect_rows_by, expect_written, written_by};
 use admin_text::{SetupFault, read_setup};
 use common_types::ReadError;
 use std::alloc::{AllocError, Global};
@@ -11,38 +11,24 @@ use test_texts::{filled, put};
 static TENANTS: &str = "\
 == two tenants by one worker
 | acme|journal|2
-| beta||[[tenant]]
-| beta alice||[[tenant.peer]]
-| beta bob||[[tenant.peer]]
-| beta route||[[tenant.route]]
-| beta rate||[[tenant.rate]]
-> load 0 acme tok-alice {wide}
-> decide 0 {T}
+| beta
+>> alice|{wide}|{T}|send bob 0 {wide sent}
 > answer 0 {T} fault
-> load 0 beta tok-alice {for beta}
-> decide 0 {T}
-> answer 0 {T} {fulfill}
-> load 0 acme tok-alice {base}
-> decide 0 {T}
-> do beta {T} balances
-acme loaded 0
-acme send bob 0 {wide sent}
 acme reply {T01}
+> load 0 beta tok-alice {for beta}
 beta loaded 0
+> decide 0 {T}
 beta send bob 0 {for beta sent}
+> answer 0 {T} {fulfill}
 beta reply {fulfill}
-acme loaded 1
-acme reply {T03}
+>> alice|{base}|{T}|reply {T03}
+> do beta {T} balances
 beta balance alice 1000 0 0
 beta balance bob -1500 0 0
 beta ok
 == the second tenant's own steps alone
 | acme|journal|2
-| beta||[[tenant]]
-| beta alice||[[tenant.peer]]
-| beta bob||[[tenant.peer]]
-| beta route||[[tenant.route]]
-| beta rate||[[tenant.rate]]
+| beta
 > load 0 beta tok-alice {for beta}
 > decide 0 {T}
 > answer 0 {T} {fulfill}
@@ -55,27 +41,16 @@ beta balance bob -1500 0 0
 beta ok
 == a token of another tenant
 | acme|journal|2
-| beta||[[tenant]]
-| beta alice||[[tenant.peer]]
+| beta
 | beta alice|token|'tok-other'
-| beta bob||[[tenant.peer]]
-| beta route||[[tenant.route]]
-| beta rate||[[tenant.rate]]
 > load 0 beta tok-alice {for beta}
-> decide 0 {T}
-> load 0 acme tok-alice {base}
-> decide 0 {T}
 beta loaded 0
+> decide 0 {T}
 beta stranger
-acme loaded 0
-acme send bob 0 {sent}
+>> alice|{base}|{T}|send bob 0 {sent}
 == moments of one tenant are not those of another
 | acme|journal|2
-| beta||[[tenant]]
-| beta alice||[[tenant.peer]]
-| beta bob||[[tenant.peer]]
-| beta route||[[tenant.route]]
-| beta rate||[[tenant.rate]]
+| beta
 > tick acme {T+10000}
 > load 0 beta tok-alice {for beta}
 > decide 0 {T}
@@ -89,66 +64,59 @@ beta reply {fulfill}
 static NEIGHBOURS: &str = "\
 == a neighbour whose journal is full, who goes to the last moment, and takes its peer and its route away
 | acme|journal|2
-| beta||[[tenant]]
-| beta alice||[[tenant.peer]]
-| beta bob||[[tenant.peer]]
-| beta route||[[tenant.route]]
-| beta rate||[[tenant.rate]]
+| beta
 > load 1 acme tok-alice {wide}
-> load 0 beta tok-alice {for beta}
-> decide 1 {T}
-> tick acme 253400000000000
-> load 1 acme tok-alice 0c80
-> decide 0 {T}
-> load 0 acme tok-alice {base}
-> load 0 acme tok-none {base}
-> decide 0 {T}
-> answer 1 {T} fault
-> load 1 acme tok-alice 0c80
-> load 1 acme tok-none {base}
-> decide 1 {T}
-> load 1 acme tok-alice {wide}
-> decide 1 {T}
-> do acme {T} peer limits alice 0 0 0
-> do acme {T} roll
-> do acme {T} peer limits alice 0 0 0
-> tick acme 253400000000000
-> do acme {T} roll
-> do acme {T} route remove g.acme.bob
-> do acme {T} peer remove bob
-> answer 0 {T} {fulfill}
-> load 0 acme tok-alice {wide}
-> decide 0 {T}
-> do beta {T} balances
 acme loaded 0
+> load 0 beta tok-alice {for beta}
 beta loaded 0
+> decide 1 {T}
 acme send bob 0 {wide sent}
+> tick acme 253400000000000
 acme refused full
+> load 1 acme tok-alice 0c80
 - busy
+> decide 0 {T}
 beta send bob 0 {for beta sent}
+> load 0 acme tok-alice {base}
 - busy
+> load 0 acme tok-none {base}
 - busy
+> decide 0 {T}
 - idle
+> answer 1 {T} fault
 acme reply {T01}
+> load 1 acme tok-alice 0c80
 acme bad oer
+> load 1 acme tok-none {base}
 acme loaded 1
+> decide 1 {T}
 acme stranger
+> load 1 acme tok-alice {wide}
 acme loaded 2
+> decide 1 {T}
 acme reply {T03}
+> do acme {T} peer limits alice 0 0 0
 acme refused full
+> do acme {T} roll
 acme balance alice 0 0 0
 acme balance bob 0 0 0
 acme rolled 0 3
+> do acme {T} peer limits alice 0 0 0
 acme ok
+> tick acme 253400000000000
 acme ticked 0
+> do acme {T} roll
 acme balance alice 0 0 0
 acme balance bob 0 0 0
 acme rolled 1 3
+> do acme {T} route remove g.acme.bob
 acme ok
+> do acme {T} peer remove bob
 acme ok
+> answer 0 {T} {fulfill}
 beta reply {fulfill}
-acme loaded 3
-acme reply {T03}
+>> alice|{wide}|{T}|reply {T03}
+> do beta {T} balances
 beta balance alice 1000 0 0
 beta balance bob -1500 0 0
 beta ok
@@ -176,19 +144,16 @@ acme balance bob -1500 0 0
 acme ok
 == a worker is free after a bad frame and not before an answer
 > load 1 acme tok-alice 0c80
-> decide 1 {T}
-> load 1 acme tok-alice {base}
-> decide 1 {T}
-> load 1 acme tok-alice {base}
-> load 0 acme tok-alice {base}
-> decide 0 {T}
 acme bad oer
+> decide 1 {T}
 - idle
+> load 1 acme tok-alice {base}
 acme loaded 0
+> decide 1 {T}
 acme send bob 0 {sent}
+> load 1 acme tok-alice {base}
 - busy
-acme loaded 1
-acme send bob 1 {sent}
+>> alice|{base}|{T}|send bob 1 {sent}
 ";
 
 #[test]
@@ -312,25 +277,13 @@ fn put_rounds(alloc: Global, script: &mut String, lines: &mut String) -> Result<
     put_round(alloc, script, lines, 1)
 }
 
-fn expect_written(
-    rt: &impl Abort,
-    alloc: Global,
-    setup: &str,
-    script: &str,
-    lines: &str,
-) -> Result<(), Fail> {
-    let script = filled(alloc, script)?;
-    let lines = filled(alloc, lines)?;
-    let text = written_by(alloc, setup, 64, script.as_str())?;
-    assert!(rt; text.as_slice() == lines.as_bytes());
-    Ok(())
-}
-
 fn expect_rounds(rt: &impl Abort, alloc: Global, setup: &str) -> Result<(), Fail> {
     let mut script = String::new(alloc);
     let mut lines = String::new(alloc);
     put_rounds(alloc, &mut script, &mut lines)?;
-    expect_written(rt, alloc, setup, script.as_str(), lines.as_str())
+    let script = filled(alloc, script.as_str())?;
+    let lines = filled(alloc, lines.as_str())?;
+    expect_written(rt, alloc, 64, setup, script.as_str(), lines.as_str())
 }
 
 fn fault_of(alloc: Global, setup: &str) -> Option<ReadError<SetupFault>> {

@@ -7,35 +7,23 @@ static FEES: &str = "\
 == a fee is kept of the price
 | |version|2
 | route|fee|500
-> load 0 acme tok-alice {base}
-> decide 0 {T}
+>> alice|{base}|{T}|send bob 0 {sent 1000}
 > answer 0 {T} {fulfill}
-> do acme {T} balances
-acme loaded 0
-acme send bob 0 {sent 1000}
 acme reply {fulfill}
+> do acme {T} balances
 acme balance alice 1000 0 0
 acme balance bob -1000 0 0
 acme ok
 == a fee as high as the price
 | |version|2
 | route|fee|1500
-> load 0 acme tok-alice {base}
-> decide 0 {T}
-acme loaded 0
-acme send bob 0 {sent 0}
+>> alice|{base}|{T}|send bob 0 {sent 0}
 == a fee above the price
 | |version|2
 | route|fee|1501
-> load 0 acme tok-alice {base}
-> decide 0 {T}
-> load 0 acme tok-alice {base 1}
-> decide 0 {T}
+>> alice|{base}|{T}|reply {R01}
+>> alice|{base 1}|{T}|reply {R01}
 > do acme {T} roll
-acme loaded 0
-acme reply {R01}
-acme loaded 1
-acme reply {R01}
 acme balance alice 0 0 0
 acme balance bob 0 0 0
 acme rolled 0 3
@@ -43,75 +31,45 @@ acme rolled 0 3
 | |version|2
 | route|fee|500
 | bob|cap|999
-> load 0 acme tok-alice {base}
-> decide 0 {T}
-> load 0 acme tok-alice {base 999}
-> decide 0 {T}
-acme loaded 0
-acme reply {F08 1000 999}
-acme loaded 1
-acme send bob 0 {sent 998}
+>> alice|{base}|{T}|reply {F08 1000 999}
+>> alice|{base 999}|{T}|send bob 0 {sent 998}
 == the greatest amount has a price below the fee itself
 | |version|2
 | rate|num|1000
 | rate|den|1
 | route|fee|999500
 | bob|cap|400
-> load 0 acme tok-alice {base}
-> decide 0 {T}
-> load 0 acme tok-alice {base 999}
-> decide 0 {T}
-acme loaded 0
-acme reply {F08 1000 999}
-acme loaded 1
-acme reply {R01}
+>> alice|{base}|{T}|reply {F08 1000 999}
+>> alice|{base 999}|{T}|reply {R01}
 == in version 1 there is no such key
 | route|fee|500
-> load 0 acme tok-alice {base}
-> decide 0 {T}
-acme loaded 0
-acme send bob 0 {sent}
+>> alice|{base}|{T}|send bob 0 {sent}
 == in version 1 the key may have any value
 | route|fee|'much'
-> load 0 acme tok-alice {base}
-> decide 0 {T}
-acme loaded 0
-acme send bob 0 {sent}
+>> alice|{base}|{T}|send bob 0 {sent}
 == the greatest fee
 | |version|2
 | route|fee|4611686018427387904
-> load 0 acme tok-alice {base}
-> decide 0 {T}
-acme loaded 0
-acme reply {R01}
+>> alice|{base}|{T}|reply {R01}
 == what is held stays as it was priced
 | |version|2
 | route|fee|500
-> load 0 acme tok-alice {base}
-> decide 0 {T}
+>> alice|{base}|{T}|send bob 0 {sent 1000}
 > do acme {T} route remove g.acme.bob
+acme ok
 > do acme {T} route add g.acme.bob bob 1500
+acme ok
 > answer 0 {T} {fulfill}
-> load 0 acme tok-alice {base}
-> decide 0 {T}
+acme reply {fulfill}
+>> alice|{base}|{T}|send bob 1 {sent 0}
 > answer 0 {T} {fulfill}
+acme reply {fulfill}
 > do acme {T} route remove g.acme.bob
+acme ok
 > do acme {T} route add g.acme.bob bob
-> load 0 acme tok-alice {base}
-> decide 0 {T}
+acme ok
+>> alice|{base}|{T}|send bob 2 {sent}
 > do acme {T} balances
-acme loaded 0
-acme send bob 0 {sent 1000}
-acme ok
-acme ok
-acme reply {fulfill}
-acme loaded 1
-acme send bob 1 {sent 0}
-acme reply {fulfill}
-acme ok
-acme ok
-acme loaded 2
-acme send bob 2 {sent}
 acme balance alice 2000 1000 0
 acme balance bob -1000 0 1500
 acme ok

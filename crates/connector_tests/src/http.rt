@@ -8,4 +8,5 @@ mod host;
 mod outcomes;
 mod posted;
 mod served;
+mod tenants;
 mod texts;

@@ -10,15 +10,9 @@ use test_texts::{Line, filled, setup_with};
 
 static ROWS: &str = "\
 == the forwarded frame
-> load 0 acme tok-alice {base}
-> decide 0 {T}
-acme loaded 0
-acme send bob 0 {sent}
+>> alice|{base}|{T}|send bob 0 {sent}
 == long spellings kept
-> load 0 acme tok-alice {long}
-> decide 0 {T}
-acme loaded 0
-acme send bob 0 {long sent}
+>> alice|{long}|{T}|send bob 0 {long sent}
 == nothing
 == a busy worker
 > load 0 acme tok-alice {base}
@@ -35,34 +29,16 @@ acme send bob 0 {sent}
 > decide 0 {T}
 - idle
 == expired
-> load 0 acme tok-alice {base until 0 s}
-> decide 0 {T}
-acme loaded 0
-acme reply {R02}
+>> alice|{base until 0 s}|{T}|reply {R02}
 == no time left to the next peer
-> load 0 acme tok-alice {base until 1 s}
-> decide 0 {T}
-acme loaded 0
-acme reply {R02}
+>> alice|{base until 1 s}|{T}|reply {R02}
 == no route
-> load 0 acme tok-alice {other}
-> decide 0 {T}
-acme loaded 0
-acme reply {F02}
+>> alice|{other}|{T}|reply {F02}
 == the route leads back
-> load 0 acme tok-bob {base}
-> decide 0 {T}
-acme loaded 0
-acme reply {F02}
+>> bob|{base}|{T}|reply {F02}
 == a stranger
-> load 0 acme tok-none {base}
-> decide 0 {T}
-> load 0 acme tok-alice {base}
-> decide 0 {T}
-acme loaded 0
-acme stranger
-acme loaded 1
-acme send bob 0 {sent}
+>> none|{base}|{T}|stranger
+>> alice|{base}|{T}|send bob 0 {sent}
 == a length of a reserved form
 > load 0 acme tok-alice 0c80
 > load 0 acme tok-alice 0c89
@@ -83,25 +59,13 @@ acme bad kind
 > load 0 acme tok-alice {base in month 13}
 acme bad field
 == upper case
-> load 0 acme tok-alice {BASE}
-> decide 0 {T}
-acme loaded 0
-acme send bob 0 {sent}
+>> alice|{BASE}|{T}|send bob 0 {sent}
 == a clock that doesn't go back
-> load 0 acme tok-alice {base}
-> decide 0 {T+10000}
-> load 0 acme tok-alice {base}
-> decide 0 {T}
-acme loaded 0
-acme reply {R02}
-acme loaded 1
-acme reply {R02}
+>> alice|{base}|{T+10000}|reply {R02}
+>> alice|{base}|{T}|reply {R02}
 == a journal with room for one packet
 | acme|journal|2
-> load 0 acme tok-alice {base}
-> decide 0 {T}
-acme loaded 0
-acme send bob 0 {sent}
+>> alice|{base}|{T}|send bob 0 {sent}
 ";
 
 const OPEN_SCRIPT: &str = "# a comment\n\nload 0 acme tok-alice {base}\ndecide 0 {T}";
@@ -117,7 +81,14 @@ fn expect_open(rt: &impl Abort, alloc: Global) -> Result<(), Fail> {
     let setup = setup_with(alloc, &[])?;
     let script = filled(alloc, OPEN_SCRIPT)?;
     let lines = filled(alloc, "acme loaded 0\nacme send bob 0 {sent}\n")?;
-    expect_written(rt, alloc, setup.as_str(), script.as_str(), lines.as_str())
+    expect_written(
+        rt,
+        alloc,
+        1,
+        setup.as_str(),
+        script.as_str(),
+        lines.as_str(),
+    )
 }
 
 fn expect_large(rt: &impl Abort, alloc: Global, rows: &[(usize, &str)]) -> Result<(), Fail> {
@@ -125,7 +96,7 @@ fn expect_large(rt: &impl Abort, alloc: Global, rows: &[(usize, &str)]) -> Resul
     for (bytes, line) in rows {
         let frame = "0c".repeat(alloc, *bytes)?;
         let script = ["load 0 acme tok-alice ", frame.as_str(), "\n"].concat(alloc)?;
-        expect_written(rt, alloc, setup.as_str(), script.as_str(), line)?;
+        expect_written(rt, alloc, 1, setup.as_str(), script.as_str(), line)?;
     }
     Ok(())
 }

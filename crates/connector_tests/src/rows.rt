@@ -1,6 +1,10 @@
 //! Rows of replays, which stand in texts. A row begins with `== ` and its title. Behind it come lines that change the
-//! usual setup, as `| bob|cap|1499` (whose line it is, its key and the value), the lines of its script, as
-//! `> decide 0 {T}`, and the lines that the script prints. Frames, replies and moments are named in braces.
+//! usual setup, as `| bob|cap|1499` (whose line it is, its key and the value; `| beta` adds the second tenant), the lines of
+//! its script, as `> decide 0 {T}`, and the lines that the script prints. Frames, replies and moments are named in braces.
+//!
+//! A packet that one worker loads and decides has a line of its own, as `>> alice|{base}|{T}|send bob 0 {sent}`: whose it
+//! is, its frame, the moment, and what is printed of its decision. It stands for `load` and `decide` and the two lines that
+//! these print.
 
 ghost use Rattle.std.specs.Prelude.{◌≤◌};
 
@@ -9,7 +13,7 @@ use std::alloc::Global;
 use std::process::Abort;
 use std::str;
 use std::test::Fail;
-use test_texts::{Line, filled_in, put, setup_in};
+use test_texts::{Line, PEER, RATE, ROUTE, TENANT, filled_in, put, setup_in};
 
 /// What a replay of the script writes, for the setup and one worker.
 pub fn written(alloc: Global, setup: &str, script: &str) -> Result<Vec<u8>, ReplayFault> {
@@ -110,20 +114,80 @@ fn change_of(text: &'static str) -> Option<Line> {
     Some((parts.next()?, parts.next()?, parts.next()?))
 }
 
+// The tables of the second tenant.
+static BETA: [Line; 5] = [
+    ("beta", "", TENANT),
+    ("beta alice", "", PEER),
+    ("beta bob", "", PEER),
+    ("beta route", "", ROUTE),
+    ("beta rate", "", RATE),
+];
+
+fn put_change(changes: &mut Vec<Line>, change: &'static str) -> Result<(), Fail> {
+    if change == "beta" {
+        for table in BETA {
+            changes.push(table)?;
+        }
+        return Ok(());
+    }
+    changes.push(change_of(change).ok_or("three parts")?)?;
+    Ok(())
+}
+
 fn changes_of(alloc: Global, row: &'static str) -> Result<Vec<Line>, Fail> {
     let mut changes = Vec::new(alloc);
     for line in row.lines() {
         if let Some(change) = line.strip_prefix("| ") {
-            changes.push(change_of(change).ok_or("three parts")?)?;
+            put_change(&mut changes, change)?;
         }
     }
     Ok(changes)
 }
 
+// A packet that is loaded and decided.
+#[derive(Clone, Copy)]
+struct Packet<'a> {
+    sender: &'a str,
+    frame: &'a str,
+    moment: &'a str,
+    decision: &'a str,
+}
+
+fn packet_in(line: &str) -> Option<Packet<'_>> {
+    let mut parts = line.strip_prefix(">> ")?.split('|');
+    Some(Packet {
+        sender: parts.next()?,
+        frame: parts.next()?,
+        moment: parts.next()?,
+        decision: parts.next()?,
+    })
+}
+
+fn put_steps(script: &mut String, packet: &Packet<'_>) -> Result<(), Fail> {
+    put(
+        script,
+        &["load 0 acme tok-", packet.sender, " ", packet.frame, "\n"],
+    )?;
+    put(script, &["decide 0 ", packet.moment, "\n"])?;
+    Ok(())
+}
+
+// The lines of a packet, before which the worker has loaded so many.
+fn put_told(lines: &mut String, loaded: usize, packet: &Packet<'_>) -> Result<(), Fail> {
+    let number = "0123456789"
+        .get(loaded..loaded + 1)
+        .ok_or("ten packets at most")?;
+    put(lines, &["acme loaded ", number, "\n"])?;
+    put(lines, &["acme ", packet.decision, "\n"])?;
+    Ok(())
+}
+
 fn script_of(alloc: Global, row: &str) -> Result<String, Fail> {
     let mut script = String::new(alloc);
     for line in row.lines() {
-        if let Some(step) = line.strip_prefix("> ") {
+        if let Some(packet) = packet_in(line) {
+            put_steps(&mut script, &packet)?;
+        } else if let Some(step) = line.strip_prefix("> ") {
             put(&mut script, &[step, "\n"])?;
         }
     }
@@ -132,22 +196,30 @@ fn script_of(alloc: Global, row: &str) -> Result<String, Fail> {
 
 fn lines_of(alloc: Global, row: &str) -> Result<String, Fail> {
     let mut lines = String::new(alloc);
+    let mut loaded = 0;
     for line in row.lines().skip(1) {
-        if !line.starts_with("| ") && !line.starts_with("> ") {
+        if let Some(packet) = packet_in(line) {
+            put_told(&mut lines, loaded, &packet)?;
+            loaded += 1;
+        } else if !line.starts_with("| ") && !line.starts_with("> ") {
             put(&mut lines, &[line, "\n"])?;
+            loaded += usize::from(line.starts_with("acme loaded "));
         }
     }
     Ok(lines)
 }
 
-/// A replay of the script prints these lines, for the setup and one worker.
+/// A replay of the script prints these lines, for the setup and so many workers.
 pub fn expect_written(
     rt: &impl Abort,
     alloc: Global,
+    workers: usize,
     setup: &str,
     script: &str,
     lines: &str,
-) -> Result<(), Fail> {
-    let text = written(alloc, setup, script)?;
+) -> Result<(), Fail>
+    requires { (1 ≤ workers) × (workers ≤ 64) }
+{
+    let text = written_by(alloc, setup, workers, script)?;
     expect_lines(rt, alloc, "a script", text.as_slice(), lines)
 }

@@ -3,6 +3,7 @@
 ghost use Rattle.std.specs.Prelude.{◌≡◌};
 
 use super::devices::{Pieces, Taken};
+use super::tenants::tenant_named;
 use super::texts::joined;
 use admin_text::{Setup, read_setup};
 use floor_core::{LoadFault, Slot, Turn};
@@ -113,24 +114,16 @@ impl Counter {
 }
 
 impl Service for Counter {
-    ghost use Rattle.std.specs.Prelude.{codes, Some, None, if◌then◌else◌};
-    ghost use Rattle.std.specs.Str.{bytes_eq};
+    ghost use Rattle.connector_tests.specs.Tenants.{tenant_named};
 
     ghost asks = { λ old question new. Unit {0} };
 
-    ghost tenant_of = { λ _ name. if bytes_eq name (codes "acme") then Some 0
-        else (if bytes_eq name (codes "beta") then Some 1 else None) };
+    ghost tenant_of = { λ _ name. tenant_named name };
 
     ghost answer = { λ c. c.body.items };
 
     fn tenant(&self, name: &[u8]) -> Option<usize> {
-        if name == b"acme".as_slice() {
-            Some(0)
-        } else if name == b"beta".as_slice() {
-            Some(1)
-        } else {
-            None
-        }
+        tenant_named(name)
     }
 
     fn ilp(&mut self, tenant: usize, token: &[u8], body: &[u8]) -> u16 {

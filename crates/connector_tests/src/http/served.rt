@@ -4,6 +4,7 @@ ghost use Rattle.std.specs.Prelude.{◌≡◌, ◌+◌, ◌-◌, ◌^◌, min};
 
 use super::devices::{Pieces, Taken};
 use super::outcomes::{Outcome, serve, serve_packet};
+use super::tenants::tenant_named;
 use super::texts::{bytes_of, fill, first_cell, is_joined, joined, repeat};
 use http_link::{LinkFault, RequestKind, Served, Service};
 use std::alloc::Global;
@@ -51,25 +52,18 @@ impl Desk {
 }
 
 impl Service for Desk {
-    ghost use Rattle.std.specs.Prelude.{◌≡◌, ◌+◌, ◌-◌, ◌^◌, min, codes, Some, None, if◌then◌else◌};
-    ghost use Rattle.std.specs.Str.{bytes_eq};
+    ghost use Rattle.std.specs.Prelude.{◌≡◌, ◌+◌, ◌-◌, ◌^◌, min};
+    ghost use Rattle.connector_tests.specs.Tenants.{tenant_named};
 
     ghost asks = { λ old question new. (question.status ≡ old.status) × (new.status ≡ old.status)
         × (new.questions ≡ min (old.questions + 1) (2 ^ 32 - 1)) };
 
-    ghost tenant_of = { λ _ name. if bytes_eq name (codes "acme") then Some 0
-        else (if bytes_eq name (codes "beta") then Some 1 else None) };
+    ghost tenant_of = { λ _ name. tenant_named name };
 
     ghost answer = { λ d. d.answer.now };
 
     fn tenant(&self, name: &[u8]) -> Option<usize> {
-        if name == b"acme".as_slice() {
-            Some(0)
-        } else if name == b"beta".as_slice() {
-            Some(1)
-        } else {
-            None
-        }
+        tenant_named(name)
     }
 
     fn ilp(&mut self, tenant: usize, token: &[u8], body: &[u8]) -> u16 {
