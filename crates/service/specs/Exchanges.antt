@@ -5,6 +5,8 @@ use Rattle.std.specs.Time.{instant_nanos}
 use Rattle.std.specs.declared.time.Instant.{Instant}
 use Rattle.floor_core.specs.declared.parts.Got.{Got}
 use Rattle.floor_core.specs.declared.parts.Got.TheVariants.{Fault}
+use Rattle.workers.specs.Replies.{Sending}
+use Rattle.workers.specs.declared.traits.Outgoing.{Outgoing}
 use Rattle.service.specs.declared.office.Terms.{Terms}
 
 -- for how many milliseconds from now on: as long as the tenant holds a packet at most, and until the packet expires
@@ -26,3 +28,14 @@ IsEndFor Gives terms tenant expiry until =
 -- one exchange was made, which gave that, or none was made and nothing came back
 abbrev pub IsOneExchange : Got → (Untouched Exchanged : Type 0) → Type 0
 IsOneExchange got Untouched Exchanged = ((got ≡ Fault) × Untouched) ⊎ Exchanged
+
+-- the sending of a packet, and what came back
+abbrev pub sending_of : Outgoing → Got → List ℕ → Sending
+sending_of packet got room = record {
+  tenant = packet.tenant;
+  target = packet.target.now;
+  frame = packet.frame.now;
+  expiry = packet.expiry;
+  got = got;
+  room = room;
+}

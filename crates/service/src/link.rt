@@ -1,17 +1,14 @@
 //! The way to the next peers.
 
-ghost use Rattle.std.specs.Prelude.{◌≡◌, ◌≢◌, ◌↔◌, ◌+◌, ◌*◌, ◌≤◌, ◌<◌, ◌^◌, ◌⊎◌, List, ℕ, length, Some, Err, IfOk, IfSome, IsSome};
-ghost use Rattle.std.specs.Io.KnownBytes.{Appends};
-ghost use Rattle.http_link.specs.Client.{Means, given, post_text};
-ghost use Rattle.http_link.specs.Counts.{MadeAll};
-ghost use Rattle.http_link.specs.Limits.{max_peer_answer, max_heads};
+ghost use Rattle.std.specs.Prelude.{◌≡◌, ◌↔◌, ◌+◌, ◌*◌, ◌≤◌, ◌<◌, ◌^◌, ℕ, length, IfSome, IsSome};
+ghost use Rattle.http_link.specs.Limits.{max_peer_answer};
 ghost use Rattle.workers.specs.Replies.{Sending};
-ghost use Rattle.service.specs.Exchanges.{IsEndFor, IsOneExchange, IsTimeFor, exchange_time};
+ghost use Rattle.service.specs.Exchanges.{IsEndFor, IsOneExchange, IsTimeFor, exchange_time, sending_of};
 
 use crate::connection::timed::Timed;
 use crate::office::Terms;
 use floor_core::Got;
-use http_link::{PostFault, Sink, Source, post};
+use http_link::post;
 use ilp_addr::{Host, Target};
 use std::io;
 use std::net::{IpAddr, Ipv4Addr, Ipv6Addr, Net, SocketAddr, TcpStream};
@@ -47,16 +44,7 @@ pub trait Peers {
     ) -> Got
         requires own { place.now.tenant ≡ packet.tenant }
         requires room { max_peer_answer ≤ length out.old }
-        ensures so { exchanges self.old
-            (record {
-              tenant = packet.entry.tenant;
-              target = packet.entry.target.now;
-              frame = packet.entry.frame.now;
-              expiry = packet.entry.expiry;
-              got = result;
-              room = out.new;
-            })
-            self.new }
+        ensures so { exchanges self.old (sending_of packet.entry result out.new) self.new }
         ensures len { length out.new ≡ length out.old };
 }
 
@@ -109,30 +97,6 @@ fn exchange_time(hold: u64, expiry: u64, now: u64) -> u64
     hold.min(expiry.saturating_sub(now))
 }
 
-// Sends a frame over a connection that is open, and reads the answer into `out`, as `post` does.
-fn exchange<R: Source, W: Sink>(
-    r: &mut R,
-    w: &mut W,
-    target: &Target,
-    frame: &[u8],
-    out: &mut [u8],
-) -> Result<usize, PostFault>
-    requires { max_peer_answer ≤ length out.old }
-    ensures sent { result ≢ Err PostFault.Write → result ≢ Err PostFault.Turns
-        → Appends (W.contents w.old) (W.contents w.new) (post_text target.now frame.now) }
-    ensures exact { (stream : List ℕ) → R.remaining r.old ≡ Some stream
-        → result ≢ Err PostFault.Read → result ≢ Err PostFault.Write → result ≢ Err PostFault.Turns
-        → Means max_heads stream (given result out.new) }
-    ensures bound { IfOk result (λ n. n ≤ max_peer_answer) }
-    ensures len { length out.new ≡ length out.old }
-    ensures read { (result ≡ Err PostFault.Read) ↔ (R.failure_count r.old < R.failure_count r.new) }
-    ensures write { (result ≡ Err PostFault.Write) ↔ (W.failure_count w.old < W.failure_count w.new) }
-    ensures turns { result ≡ Err PostFault.Turns
-        → MadeAll R.was_read r.old r.new ⊎ MadeAll W.was_written w.old w.new }
-{
-    post(r, w, target, frame, out)
-}
-
 impl<H: Net<Stream = TcpStream> + Clock> Sockets<'_, H> {
     fn connect_to(&self, ip: IpAddr, port: u16, until: Instant) -> io::Result<TcpStream> {
         let left = until.saturating_duration_since(Instant::now(self.handle)?);
@@ -169,7 +133,7 @@ impl<H: Wait + Net<Stream = TcpStream> + Clock> Peers for Sockets<'_, H> {
     ) -> Got {
         let mut reader = Timed::until(&connection, self.handle, until);
         let mut writer = Timed::until(&connection, self.handle, until);
-        match exchange(&mut reader, &mut writer, packet.target, packet.frame, out) {
+        match post(&mut reader, &mut writer, packet.target, packet.frame, out) {
             Ok(n) => Got::Filled(n),
             Err(_) => Got::Fault,
         }
@@ -202,16 +166,8 @@ impl<H: Wait + Clock, C: workers::Clock, P: Peers> PeerLink<'_, H, C, P> {
     fn exchanged(&mut self, packet: Outgoing<'_>, out: &mut [u8]) -> Got
         requires { max_peer_answer ≤ length out.old }
         ensures len { length out.new ≡ length out.old }
-        ensures once { IsOneExchange result (self.new.peers ≡ self.old.peers) (P.exchanges self.old.peers
-            (record {
-              tenant = packet.entry.tenant;
-              target = packet.entry.target.now;
-              frame = packet.entry.frame.now;
-              expiry = packet.entry.expiry;
-              got = result;
-              room = out.new;
-            })
-            self.new.peers) }
+        ensures once { IsOneExchange result (self.new.peers ≡ self.old.peers)
+            (P.exchanges self.old.peers (sending_of packet.entry result out.new) self.new.peers) }
         ensures sent { self.new.sent ≡ self.old.sent }
     {
         let Some(until) = self.end_of_exchange(packet) else {
@@ -237,16 +193,8 @@ impl<H: Wait + Clock, C: workers::Clock, P: Peers> PeerLink<'_, H, C, P> {
         requires own { place.now.tenant ≡ packet.tenant }
         requires room { max_peer_answer ≤ length out.old }
         ensures len { length out.new ≡ length out.old }
-        ensures once { IsOneExchange result (self.new.peers ≡ self.old.peers) (P.exchanges self.old.peers
-            (record {
-              tenant = packet.entry.tenant;
-              target = packet.entry.target.now;
-              frame = packet.entry.frame.now;
-              expiry = packet.entry.expiry;
-              got = result;
-              room = out.new;
-            })
-            self.new.peers) }
+        ensures once { IsOneExchange result (self.new.peers ≡ self.old.peers)
+            (P.exchanges self.old.peers (sending_of packet.entry result out.new) self.new.peers) }
         ensures sent { self.new.sent ≡ self.old.sent }
     {
         match self.peers.connect(place, packet.target, until) {
