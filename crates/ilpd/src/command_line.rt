@@ -52,6 +52,8 @@ pub struct CommandLine<'a> {
     pub workers: usize,
     pub address: &'a str,
     pub host: Option<HostWords<'a>>,
+    /// The folder where the statements of closed periods are kept.
+    pub statements: Option<&'a str>,
 }
 
 /// The address that a service listens on where the command line names none.
@@ -63,7 +65,7 @@ const VERSION: &str = "0.1.0";
 const USAGE: &str =
     "ilpd replay SETUP [--workers W] < SCRIPT\n       ilpd check SETUP [SCRIPT [--workers W]]\n       \
 ilpd serve SETUP --workers W [--connections C] [--rounds N] [--balances] [--audit] [--listen ADDR]\n                  \
-[--host ADDR --host-token FILE]";
+[--host ADDR --host-token FILE] [--statements DIR]";
 
 const WHERE: &str =
     "docs/FORMATS.md describes setups, scripts and what is printed; examples/ has some of each";
@@ -194,17 +196,25 @@ fn with_host<'a>(alloc: Global, serve: Command<'a>) -> Result<Command<'a>, Alloc
     serve.arg(host_address(alloc)?)?.arg(host_token(alloc)?)
 }
 
+fn statements_of<'a>(alloc: Global) -> Arg<'a> {
+    Arg::new(alloc, "statements")
+        .long("statements")
+        .value_name("DIR")
+        .help("The folder that gets the statement of each period that is closed: one of its own for each start")
+        .action(ArgAction::Set)
+}
+
 fn serve_of<'a>(alloc: Global) -> Result<Command<'a>, AllocError> {
     let serve = Command::new(alloc, "serve")
         .about(
             "Serves packets and commands over HTTP, and prints in the end how many were answered how",
         )
         .override_usage(
-            "ilpd serve SETUP --workers W [--connections C] [--rounds N] [--balances] [--audit] [--listen ADDR]\n                  [--host ADDR --host-token FILE]",
+            "ilpd serve SETUP --workers W [--connections C] [--rounds N] [--balances] [--audit] [--listen ADDR]\n                  [--host ADDR --host-token FILE] [--statements DIR]",
         )
         .after_help("Example: ilpd serve examples/serve.toml --workers 4");
     let serve = with_reports(alloc, with_extent(alloc, serve)?)?;
-    with_host(alloc, serve.arg(listen_of(alloc))?)
+    with_host(alloc, serve.arg(listen_of(alloc))?)?.arg(statements_of(alloc))
 }
 
 // How many workers there are, 1 where nothing is said.
@@ -264,6 +274,7 @@ fn line_of<'a>(
         workers,
         address,
         host: None,
+        statements: None,
     }
 }
 
@@ -287,6 +298,7 @@ fn line_in<'a>(matches: &ArgMatches<'a>) -> CommandLine<'a>
             let address = serve.get_str("listen").unwrap_or(ADDRESS);
             CommandLine {
                 host: host_of(serve),
+                statements: serve.get_str("statements"),
                 ..line_of(task, serve, workers_of(serve), address)
             }
         }
@@ -371,7 +383,7 @@ fn all_within_limits(alloc: Global, matches: &ArgMatches<'_>) -> Result<(), Erro
 
 /// Reads the words of `ilpd replay SETUP [--workers W]`, `ilpd check SETUP [SCRIPT [--workers W]]` or
 /// `ilpd serve SETUP --workers W [--connections C] [--rounds N] [--balances] [--audit] [--listen ADDR] [--host ADDR
-/// --host-token FILE]`, the program's name first. W is 1 to 64, and 1 for a script where it is left out; C is 1 to 4,096, and
+/// --host-token FILE] [--statements DIR]`, the program's name first. W is 1 to 64, and 1 for a script where it is left out; C is 1 to 4,096, and
 /// 256 where it is left out; N is 1 to 1,000,000; the ADDR to listen on is 127.0.0.1:7768 where it is left out. There is a
 /// host's door only where both of its words are there.
 ///

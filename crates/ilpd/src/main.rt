@@ -25,7 +25,7 @@ use oer_core::Counted;
 use reasons::reason_of;
 pub use replay_text::{ReplayFault, replay};
 use service::{
-    Doors, Extent, HostDoor, Plan, ServeFault, can_open, files_of, serve, without_line_feed,
+    Doors, Extent, Folder, HostDoor, Plan, ServeFault, can_open, files_of, serve, without_line_feed,
 };
 use std::alloc::AllocError;
 use std::io::ErrorKind;
@@ -178,6 +178,35 @@ fn expect_files(
     }
 }
 
+// That the folder of the statements is one, and has none of these tenants yet. Else a line on standard output says so.
+fn expect_folder(
+    rt: &(impl Files + Print + AllocGlobal),
+    path: &str,
+    setup: &Setup,
+) -> Result<(), Ending> {
+    let doing = "keep statements in";
+    match fs::metadata(rt, path) {
+        Ok(found) if found.is_dir() => {}
+        Ok(_) => {
+            say_cannot(rt, doing, path, "not a folder");
+            return Err(Ending::Fault(ReplayFault::Device));
+        }
+        Err(error) => return Err(cannot(rt, doing, path, &error)),
+    }
+    let folder = Folder::new(rt, rt.alloc(), path);
+    for tenant in setup.tenants.as_slice() {
+        match folder.has_file(&tenant.terms().name, 0) {
+            Ok(false) => {}
+            Ok(true) => {
+                say_cannot(rt, doing, path, "it has statements of a tenant already: each start needs a new folder");
+                return Err(Ending::Fault(ReplayFault::Device));
+            }
+            Err(error) => return Err(cannot(rt, doing, path, &error)),
+        }
+    }
+    Ok(())
+}
+
 // Serves the setup at the doors that the command line names.
 fn serve_at<
     R: Net<Listener = TcpListener, Stream = TcpStream>
@@ -192,7 +221,7 @@ fn serve_at<
 >(
     rt: &R,
     setup: &[u8],
-    plan: Plan,
+    plan: Plan<'_>,
     address: &str,
     host: Option<HostWords<'_>>,
 ) -> Result<(), Ending>
@@ -206,6 +235,9 @@ fn serve_at<
         Err(ReadError::Memory) => return Err(Ending::Fault(ReplayFault::Memory)),
         Err(ReadError::Fault(fault)) => return Err(Ending::Fault(ReplayFault::Setup(fault))),
     };
+    if let Some(path) = plan.statements {
+        expect_folder(rt, path, &setup)?;
+    }
     let Some(words) = host else {
         let packets = listener_on(rt, address)?;
         expect_files(rt, &packets, files_of(plan.extent, false))?;
@@ -224,6 +256,7 @@ fn serve_at<
 // Serves the setup at these doors, by the system's clock.
 fn serve_by<
     R: Net<Listener = TcpListener, Stream = TcpStream>
+        + Files
         + Threads
         + Wait
         + Clock
@@ -234,7 +267,7 @@ fn serve_by<
 >(
     rt: &R,
     setup: &Setup,
-    plan: Plan,
+    plan: Plan<'_>,
     packets: &TcpListener,
     host: Option<HostDoor<'_>>,
 ) -> Result<(), Ending>
@@ -285,7 +318,11 @@ fn run<
                 connections,
                 rounds,
             };
-            let plan = Plan { extent, report };
+            let plan = Plan {
+                extent,
+                report,
+                statements: line.statements,
+            };
             serve_at(rt, setup.as_slice(), plan, line.address, line.host)
         }
         Task::Replay => {

@@ -11,7 +11,7 @@ pub rolled_next : (under : Circumstances) (n : ℕ) (before between after : Roll
 rolled_next under n before between after rolled was = rw add-one (between, rolled, was)
 
 -- the first so many, and one more
-taken_next : {X : Type 0} (xs : List X) (i : ℕ) (x : X) → slice_get xs i ≡ Some x → take (suc i) xs ≡ take i xs ++ x ∷ []
+pub taken_next : {X : Type 0} (xs : List X) (i : ℕ) (x : X) → slice_get xs i ≡ Some x → take (suc i) xs ≡ take i xs ++ x ∷ []
 taken_next [] i x at = absurd cc
 taken_next (y ∷ ys) zero x at = let same : y ≡ x = cc in ap (λ z. z ∷ []) same
 taken_next (y ∷ ys) (suc i) x at = ap (λ zs. y ∷ zs) (taken_next ys i x at)

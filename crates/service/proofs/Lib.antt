@@ -7,3 +7,4 @@ pub mod Tallies
 pub mod Exchanged
 pub mod Audits
 pub mod Presents
+pub mod Filings

@@ -26,6 +26,9 @@ use Rattle.service.specs.contracts.office.Office as Office
 use Rattle.service.specs.contracts.office.Terms as Terms
 use Rattle.service.specs.contracts.connection.door.Door as Door
 use Rattle.workers.specs.contracts.places.Places as Places
+use Rattle.workers.specs.contracts.backlog.Backlog as Backlog
+use Rattle.workers.specs.contracts.backlog.Waiting as Waiting
+use Rattle.service.specs.contracts.filing.Filing as Filing
 
 opening_send : IsSend Network.the_row → IsSend Opening.the_field.row
 opening_send network = struct_send (shape Opening.the_type) (
@@ -79,12 +82,29 @@ places_sync = search (sendable, std.crosses) depth 40
 pub door_sync : IsSync Door.the_field.row
 door_sync = search (sendable, std.crosses) depth 40
 
+waiting_send : IsSend Network.the_row → IsSend Waiting.the_row
+waiting_send network =
+    let period = period_send network in
+    recorded_send _ _ _ Waiting.the_type.to_one (struct_send (shape Waiting.the_type)
+    (search (sendable, std.crosses, period) depth 40, (search (sendable, std.crosses) depth 40, tt)))
+
+backlog_sync : IsSend Network.the_row → IsSync (Backlog.the_field).row
+backlog_sync network =
+    let waiting = waiting_send network in
+    struct_sync (shape Backlog.the_type) (search (sendable, std.crosses, waiting) depth 40, tt)
+
+filing_sync : IsSend Network.the_row → IsSync Filing.the_row
+filing_sync network =
+    let fields = struct_sync (shape Filing.the_type) (search (sendable, std.crosses) depth 40, (backlog_sync network, tt)) in
+    search (recorded_sync, fields) depth 10
+
 pub office_sync : (J : RattleType) (r : Run.Ghosts J.Denot) → IsSync (Books.the_row J r) → IsSync Meters.the_row
-    → IsSync (Office.the_row J r)
-office_sync J r books meters =
+    → IsSend Network.the_row → IsSync (Office.the_row J r)
+office_sync J r books meters network =
+    let filing = filing_sync network in
     let fields = struct_sync (shape (Office.the_type J r)) (
       search (sendable, std.crosses, name_sync) depth 40,
-      (search (sendable, std.crosses, terms_sync) depth 40, (books, (meters, (places_sync, (door_sync, (search (sendable, std.crosses) depth 40, (search (sendable, std.crosses) depth 40, tt))))))),
+      (search (sendable, std.crosses, terms_sync) depth 40, (books, (meters, (places_sync, (door_sync, (search (sendable, std.crosses, filing) depth 40, (search (sendable, std.crosses) depth 40, (search (sendable, std.crosses) depth 40, tt)))))))),
     ) in
     search (recorded_sync, fields) depth 10
 

@@ -244,17 +244,17 @@ pub record IsOfficeOf {J : Type 0} {r : Ghosts J} (setup : Setup) (office : Offi
 
 -- A service of a setup, of which that is the run, has written the balances of the books in the end, where they are wanted, a
 -- line for each tenant, of what so many workers have counted, as the connections that each served left it, at moments that the
--- clock gave, and what an audit found, where one is wanted, for which one worker has rolled each tenant. And of all that
+-- clock gave, and what an audit found, where one is wanted. Where the last periods are closed, one worker has rolled each tenant. And of all that
 -- was done to the tenants' books there is one list, of which each worker's share has its part, and which is a run of a floor
 -- from the openings of the setup to the books in the end.
-pub record HasToldCountsIn {J : Type 0} (run : Ghosts J) (Gives : ℕ → Type 0) (setup : Setup) (workers : ℕ) (report : Report) (old new : Option (List ℕ)) : Type 0 where
+pub record HasToldCountsIn {J : Type 0} (run : Ghosts J) (Gives : ℕ → Type 0) (setup : Setup) (workers : ℕ) (report : Report) (closed : Bool) (old new : Option (List ℕ)) : Type 0 where
   pub office : Office J run
   pub known : IsOfficeOf setup office
   pub totals : TotalsState
   pub worked : List ShareView
   pub counted : HaveCounted Gives office workers worked (λ tenant kind. total_of tenant kind totals)
   pub shares : List ShareView
-  pub ended : HaveEnded (circumstances run.openings Gives) report.audit (length setup.tenants) worked shares
+  pub ended : HaveEnded (circumstances run.openings Gives) closed (length setup.tenants) worked shares
   pub books : List (State × ℕ)
   pub audit : List ℕ
   pub audited : IsAudited report.audit shares audit
@@ -273,6 +273,6 @@ run_of table setup workers = record {
 -- A service of a setup has written the balances in the end, where they are wanted, a line for each tenant, of what so many
 -- workers have counted, as the connections that each served left it, and what an audit found, where one is wanted; and all that
 -- they did is one list, a run of a floor from the setup to the books in the end.
-abbrev pub HasToldCounts : (Gives : ℕ → Type 0) → Setup → (workers : ℕ) → Report → (old new : Option (List ℕ)) → Type 0
-HasToldCounts Gives setup workers report old new =
-    (table : TableId) × HasToldCountsIn (run_of table setup workers) Gives setup workers report old new
+abbrev pub HasToldCounts : (Gives : ℕ → Type 0) → Setup → (workers : ℕ) → Report → (closed : Bool) → (old new : Option (List ℕ)) → Type 0
+HasToldCounts Gives setup workers report closed old new =
+    (table : TableId) × HasToldCountsIn (run_of table setup workers) Gives setup workers report closed old new

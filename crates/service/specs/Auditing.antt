@@ -53,9 +53,9 @@ abbrev pub HaveRolled : (under : Circumstances) → (tenants : ℕ) → (before 
 HaveRolled under zero before after = after ≡ before
 HaveRolled under (suc n) before after = (between : Rolling) × HaveRolled under n before between × WasRolled under n between after
 
--- the shares in the end, and the closed periods: where the run is audited, one worker has rolled all tenants, and else nothing
--- more was done
-abbrev pub HaveClosed : (under : Circumstances) → (audited : Bool) → (tenants : ℕ) → (before after : List ShareView)
+-- the shares in the end, and the closed periods: where that is wanted, one worker has rolled all tenants, and else nothing more
+-- was done
+abbrev pub HaveClosed : (under : Circumstances) → (wanted : Bool) → (tenants : ℕ) → (before after : List ShareView)
     → (closed closed_after : List PeriodParts) → Type 0
 HaveClosed under false tenants before after closed closed_after = (after ≡ before) × (closed_after ≡ closed)
 HaveClosed under true tenants before after closed closed_after =
@@ -63,10 +63,10 @@ HaveClosed under true tenants before after closed closed_after =
     × HaveRolled under tenants (record { share = first; closed = closed }) (record { share = last; closed = closed_after })
 
 -- the shares in the end, whatever periods were closed
-abbrev pub HaveEnded : (under : Circumstances) → (audited : Bool) → (tenants : ℕ) → (before after : List ShareView) → Type 0
-HaveEnded under audited tenants before after =
+abbrev pub HaveEnded : (under : Circumstances) → (wanted : Bool) → (tenants : ℕ) → (before after : List ShareView) → Type 0
+HaveEnded under wanted tenants before after =
     (closed : List PeriodParts) × (closed_after : List PeriodParts)
-    × HaveClosed under audited tenants before after closed closed_after
+    × HaveClosed under wanted tenants before after closed closed_after
 
 -- ---- the audit
 

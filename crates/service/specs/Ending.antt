@@ -8,16 +8,14 @@ use Rattle.service.specs.declared.running.ending.AuditEnd.TheVariants.{Good, Bad
 use Rattle.service.specs.declared.running.ending.ServeFault.{ServeFault}
 use Rattle.service.specs.declared.running.ending.ServeFault.TheVariants.{Memory, Device, Differs, Audit}
 
--- Memory that was refused for the audit comes first; then an accept that failed, unless the host stopped the service; then what
--- the audit found.
-abbrev pub end_of : (has_failed was_stopped : Bool) → AuditEnd → Result (Unit {0}) ServeFault
-end_of has_failed was_stopped Lacked = Err Memory
-end_of true false Good = Err Device
-end_of true false Bad = Err Device
-end_of true true Good = Ok tt
-end_of true true Bad = Err Audit
-end_of false was_stopped Good = Ok tt
-end_of false was_stopped Bad = Err Audit
+-- Memory that was refused for the audit comes first; then an accept that failed, unless the host stopped the service; then a
+-- statement that is not kept; then what the audit found.
+abbrev pub end_of : (has_failed was_stopped is_stated : Bool) → AuditEnd → Result (Unit {0}) ServeFault
+end_of has_failed was_stopped is_stated Lacked = Err Memory
+end_of true false is_stated audit = Err Device
+end_of has_failed was_stopped false audit = Err Device
+end_of has_failed was_stopped true Good = Ok tt
+end_of has_failed was_stopped true Bad = Err Audit
 
 -- Where the books were not gathered: for want of memory, or since they differ, which is what an audit finds where there is one.
 abbrev pub ungathered_end : {J : Type 0} → GatherFault J → (audited : Bool) → ServeFault

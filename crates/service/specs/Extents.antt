@@ -1,5 +1,10 @@
 -- How much a service serves.
-use Rattle.std.specs.Prelude.{ℕ, ◌-◌, ◌*◌, ◌/◌, ◌^◌, Option, Some, None}
+use Rattle.std.specs.Prelude.{ℕ, ◌-◌, ◌*◌, ◌/◌, ◌^◌, ◌||◌, Bool, Option, Some, None, is_some}
+use Rattle.service.specs.declared.running.plan.Plan.{Plan}
+
+-- whether each tenant's running period is closed in the end: for an audit, or for its statement
+abbrev pub closes : Plan → Bool
+closes plan = plan.report.audit || is_some plan.statements
 
 -- so many connections in all: so many rounds for each worker; without rounds as many as can be counted
 abbrev pub total_of : (workers : ℕ) → (rounds : Option ℕ) → ℕ

@@ -11,3 +11,4 @@ pub mod Pace
 pub mod Files
 pub mod Ending
 pub mod Extents
+pub mod Filing

@@ -1,5 +1,5 @@
 -- What the metrics of a service say, in the text format of Prometheus (version 0.0.4).
-use Rattle.std.specs.Prelude.{ℕ, ◌≡◌, Bool, true, false, List, ◌++◌, codes, length, Some}
+use Rattle.std.specs.Prelude.{ℕ, ◌≡◌, Bool, true, false, List, [], ◌++◌, codes, length, Some}
 use Rattle.std.specs.Fmt.{decimal}
 use Rattle.std.specs.List.{flat_map, slice_get}
 use Rattle.tenant_core.specs.Holds.{open_holds}
@@ -9,7 +9,7 @@ use Rattle.meters.specs.declared.kind.Kind.TheVariants as kind
 use Rattle.workers.specs.declared.places.PlaceUse.{PlaceUse}
 use Rattle.service.specs.declared.host.metrics.BookFigures.{BookFigures}
 use Rattle.service.specs.declared.host.metrics.Family.{Family}
-use Rattle.service.specs.declared.host.metrics.Family.TheVariants.{Accepts, Open, Waiting, Answers, LinkFaults, RefusedTokens, PlacesShare, PlacesUsed, PlacesAwaited, Period, Entries, JournalPlaces, OpenHolds}
+use Rattle.service.specs.declared.host.metrics.Family.TheVariants.{Accepts, Open, Waiting, Answers, LinkFaults, RefusedTokens, PlacesShare, PlacesUsed, PlacesAwaited, Period, Entries, JournalPlaces, OpenHolds, StatementsWaiting}
 use Rattle.service.specs.declared.host.metrics.ServiceCounts.{ServiceCounts}
 use Rattle.service.specs.declared.host.metrics.TenantCounts.{TenantCounts}
 
@@ -30,6 +30,7 @@ name_of Period = codes "ilpd_period"
 name_of Entries = codes "ilpd_journal_entries"
 name_of JournalPlaces = codes "ilpd_journal_places"
 name_of OpenHolds = codes "ilpd_holds_open"
+name_of StatementsWaiting = codes "ilpd_statements_waiting"
 
 -- what it is, in words
 abbrev pub help_of : Family → List ℕ
@@ -46,6 +47,7 @@ help_of Period = codes "The number of the running period."
 help_of Entries = codes "Entries of the running period."
 help_of JournalPlaces = codes "Entries that a period has room for, beside its roll."
 help_of OpenHolds = codes "Packets that went on and await their answers."
+help_of StatementsWaiting = codes "Closed periods whose statements are still to be written."
 
 -- whether its numbers only grow
 abbrev pub type_of : Family → List ℕ
@@ -96,6 +98,7 @@ figure_of Period counts = counts.book.period
 figure_of Entries counts = counts.book.entries
 figure_of JournalPlaces counts = counts.book.journal_places
 figure_of OpenHolds counts = counts.book.open_holds
+figure_of StatementsWaiting counts = counts.statements
 figure_of _ counts = 0
 
 -- the lines of a tenant's answers: 200, 4xx and 503
@@ -128,9 +131,14 @@ tenants_text all =
     all_answers all ++ each_text LinkFaults all ++ each_text RefusedTokens all ++ each_text PlacesShare all ++ each_text PlacesUsed all
     ++ each_text PlacesAwaited all ++ each_text Period all ++ each_text Entries all ++ each_text JournalPlaces all ++ each_text OpenHolds all
 
+-- what is told of the statements of closed periods, where some are kept
+abbrev pub statements_text : Bool → List TenantCounts → List ℕ
+statements_text false all = []
+statements_text true all = each_text StatementsWaiting all
+
 -- the metrics
 abbrev pub metrics_text : ServiceCounts → List TenantCounts → List ℕ
-metrics_text service all = service_text service ++ tenants_text all
+metrics_text service all = service_text service ++ tenants_text all ++ statements_text service.states all
 
 -- ---- what was read
 
@@ -147,8 +155,10 @@ figures_of book = record {
 abbrev pub IsBookOf : ℕ → BookFigures → Type 0
 IsBookOf tenant figures = (book : State) × (book.opening.tenant ≡ tenant) × (figures ≡ figures_of book)
 
--- these counts of a tenant are what was told of it: so often each kind, so many refused tokens, these places, and this book
+-- these counts of a tenant are what was told of it: so often each kind, so many refused tokens, these places, this book, and so
+-- many statements that wait
 pub record AreRead (Answered : Kind → ℕ → Type 0) (Tokens : ℕ → Type 0) (Places : PlaceUse → Type 0) (Book : BookFigures → Type 0)
+    (Statements : ℕ → Type 0)
     (counts : TenantCounts) : Type 0 where
   pub answered : Answered kind.Answered counts.answered
   pub refused : Answered kind.ClientError counts.refused
@@ -157,6 +167,7 @@ pub record AreRead (Answered : Kind → ℕ → Type 0) (Tokens : ℕ → Type 0
   pub refused_tokens : Tokens counts.refused_tokens
   pub places : Places counts.places
   pub book : Book counts.book
+  pub statements : Statements counts.statements
 
 -- the text tells the metrics of the tenants of these names, each of its own book
 abbrev pub IsMetricsOf : List (List ℕ) → List ℕ → Type 0

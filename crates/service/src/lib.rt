@@ -3,6 +3,7 @@
 //! - `connection`: what a connection is: how many may come, how long each may do what, and when it gives way to others.
 //! - `worker`: what one worker does on its thread: it serves connections, carries packets and obeys commands.
 //! - `link`: the way out to the next peers.
+//! - `filing`: the statements of closed periods: where they are kept, and which could not be written.
 //! - `host`: the host's door: who waits there, and what the host is told.
 //! - `running`: how a service begins, runs and ends.
 //! - `office`: what all of them share.
@@ -10,6 +11,7 @@
 #![tactic(auto)]
 
 mod connection;
+mod filing;
 mod host;
 mod link;
 mod office;
@@ -17,6 +19,8 @@ mod running;
 mod system;
 mod worker;
 
+pub use filing::disk::Disk;
+pub use filing::folder::Folder;
 pub use host::hosting::HostDoor;
 pub use running::ending::ServeFault;
 pub use running::files::{can_open, files_of};

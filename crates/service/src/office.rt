@@ -4,6 +4,7 @@ ghost use Rattle.std.specs.Prelude.{◌≡◌, vec_len};
 ghost use Rattle.service.specs.Served.{tenant_named};
 
 use crate::connection::door::Door;
+use crate::filing::Filing;
 use books_shared::Books;
 use common_types::{Name, Token};
 use ilp_addr::Moment;
@@ -33,6 +34,8 @@ pub struct Office<J: Run> {
     pub places: Places,
     /// Where connections come in.
     pub door: Door,
+    /// Where the statements of closed periods are kept, if anywhere.
+    pub filing: Option<Filing>,
     /// How many commands came for each tenant under a token that is not its operator's.
     pub refused_tokens: Vec<AtomicU64>,
     /// Where the tenants' clocks began.

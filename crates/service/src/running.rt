@@ -5,6 +5,7 @@ pub mod balances;
 pub mod ended;
 pub mod ending;
 pub mod files;
+pub mod finishing;
 pub mod meeting;
 pub mod opening;
 pub mod plan;

@@ -11,6 +11,7 @@ pub mod desk;
 
 use crate::connection::pace::{Activity, Rush, yields};
 use crate::connection::timed::{Paced, Timed};
+use crate::filing::disk::Disk;
 use crate::office::Office;
 use crate::system::System;
 use crate::worker::desk::Desk;
@@ -94,7 +95,7 @@ impl<'a, H, C, J: Run> Worker<'a, H, C, J> {
     }
 }
 
-impl<H: Wait + Net<Stream = TcpStream> + std::time::Clock, C: Clock, J: Run> Service
+impl<H: Wait + Net<Stream = TcpStream> + std::time::Clock + Disk, C: Clock, J: Run> Service
     for Worker<'_, H, C, J> {
     ghost asks = { λ before asked after. (after.office ≡ before.office) × (after.clock ≡ before.clock)
         × HasAnswered (C.gives before.clock.now) before.office.now before.desk asked after.desk };
@@ -141,7 +142,12 @@ const MAX_TRIES: u32 = 600;
 /// How many milliseconds it waits before it tries again.
 const PAUSE: u64 = 100;
 
-impl<H: Wait + Net<Stream = TcpStream> + std::time::Clock, C: Clock, J: Run> Worker<'_, H, C, J> {
+impl<H: Wait + Net<Stream = TcpStream> + std::time::Clock + Disk, C: Clock, J: Run> Worker<
+    '_,
+    H,
+    C,
+    J,
+> {
     // Does a command under the token of the tenant's operator.
     fn ordered(&mut self, tenant: usize, token: &[u8], body: &[u8]) -> Status
         ensures office { self.new.office ≡ self.old.office }
@@ -281,7 +287,7 @@ impl<H: Wait + Net<Stream = TcpStream> + std::time::Clock, C: Clock, J: Run> Wor
 }
 
 impl<
-    H: Wait + Net<Stream = TcpStream> + std::time::Clock + Sync,
+    H: Wait + Net<Stream = TcpStream> + std::time::Clock + Disk + Sync,
     C: Clock + Sync,
     J: Run + Send + Sync,
 > Lane for Worker<'_, H, C, J> {

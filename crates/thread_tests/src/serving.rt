@@ -12,8 +12,9 @@ mod patience;
 pub mod wire;
 
 use admin_text::read_setup;
-use service::{Doors, Extent, Plan, Report, ServeFault, serve};
+use service::{Disk, Doors, Extent, Plan, Report, ServeFault, serve};
 use std::alloc::Global;
+
 use std::io::{Read, Write};
 use std::net::{Net, OpenListener, Shutdown, SocketAddr, TcpListener, TcpStream};
 use std::process::Abort;
@@ -75,7 +76,7 @@ fn serve_as<R>(
     lines: &mut Vec<u8>,
 ) -> Result<(), ServeFault>
 where
-    R: Threads + Wait + Clock + AllocGlobal + Sync,
+    R: Threads + Wait + Clock + Disk + AllocGlobal + Sync,
     R: Net<Listener = TcpListener, Stream = TcpStream>,
     requires workers { (1 ≤ extent.workers) × (extent.workers ≤ max_places) }
     requires connections { (1 ≤ extent.connections) × (extent.connections ≤ max_workers) }
@@ -88,7 +89,11 @@ where
         rt,
         rt.alloc(),
         &setup,
-        Plan { extent, report },
+        Plan {
+            extent,
+            report,
+            statements: None,
+        },
         Doors {
             packets: listener,
             host: None,
@@ -132,7 +137,7 @@ fn served_while<R, T, F>(
     ask: F,
 ) -> Result<(T, Vec<u8>), Fail>
 where
-    R: Threads + Wait + Clock + AllocGlobal + Sync,
+    R: Threads + Wait + Clock + Disk + AllocGlobal + Sync,
     R: Net<Listener = TcpListener, Stream = TcpStream>,
     T: Send + Drop,
     F: FnOnce(&SocketAddr) -> Result<T, Fail> + Send + Drop,
@@ -164,7 +169,7 @@ fn served<R>(
     requests: &[Vec<u8>],
 ) -> Result<(Vec<Vec<u8>>, Vec<u8>), Fail>
 where
-    R: Threads + Wait + Clock + AllocGlobal + Sync,
+    R: Threads + Wait + Clock + Disk + AllocGlobal + Sync,
     R: Net<Listener = TcpListener, Stream = TcpStream>,
 {
     let extent = Extent {
@@ -257,7 +262,7 @@ fn with_peer<R>(
     hold: u32,
 ) -> Result<(Vec<Vec<u8>>, Vec<u8>), Fail>
 where
-    R: Threads + Wait + Clock + AllocGlobal + Sync,
+    R: Threads + Wait + Clock + Disk + AllocGlobal + Sync,
     R: Net<Listener = TcpListener, Stream = TcpStream>,
 {
     let alloc = rt.alloc();

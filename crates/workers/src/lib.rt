@@ -2,6 +2,7 @@
 //! and a clock that it is given; and many workers at once, on threads.
 #![tactic(auto)]
 
+mod backlog;
 mod carrying;
 mod governing;
 mod lanes;
@@ -10,6 +11,7 @@ mod reply;
 mod tools;
 mod traits;
 
+pub use backlog::{Backlog, BacklogRoom};
 pub use carrying::{Job, carry};
 pub use governing::{GovernFault, govern};
 pub use lanes::{Lane, StartFault, run_workers};

@@ -143,7 +143,7 @@ impl<H: Wait, J: Run> Gauges for Inspected<'_, H, J> {
 
     ghost meters = { λ s. s.office.now.meters.id };
 
-    // Of what the meters, the counters of tokens and the places tell nothing more is known.
+    // Of what the meters, the counters of tokens, the places and the backlog tell nothing more is known.
     ghost tells = { λ _ _ _ _. Unit {0} };
 
     ghost tells_tokens = { λ _ _ _. Unit {0} };
@@ -151,6 +151,8 @@ impl<H: Wait, J: Run> Gauges for Inspected<'_, H, J> {
     ghost tells_places = { λ _ _ _. Unit {0} };
 
     ghost tells_book = { λ _ tenant figures. IsBookOf tenant figures };
+
+    ghost tells_statements = { λ _ _ _. Unit {0} };
 
     fn counted(&self, seat: &mut MeterSeat, tenant: usize, kind: Kind) -> u64 {
         self.office.meters.read(seat, tenant, kind)
@@ -171,6 +173,13 @@ impl<H: Wait, J: Run> Gauges for Inspected<'_, H, J> {
     fn book(&self, tenant: usize) -> BookFigures {
         let guard = self.office.books.enter(self.handle, tenant);
         figures_of(guard.book())
+    }
+
+    fn statements(&self, tenant: usize) -> u64 {
+        match &self.office.filing {
+            Some(filing) => filing.backlog.len(self.handle, tenant) as u64,
+            None => 0,
+        }
     }
 }
 
@@ -201,6 +210,7 @@ impl<H: Wait + Clock, J: Run> Hosted for Inspected<'_, H, J> {
             accepts: office.door.lets_in(),
             open: office.door.open(),
             waiting: office.door.waiting(),
+            states: office.filing.is_some(),
         };
         metrics_text(self.alloc, service, all.as_slice())
     }

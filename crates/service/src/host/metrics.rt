@@ -6,7 +6,7 @@ ghost use Rattle.atomic_table.specs.Seated.{TableId};
 ghost use Rattle.meters.specs.declared.kind.Kind as meter;
 ghost use Rattle.service.specs.declared.host.metrics.TenantCounts as told;
 ghost use Rattle.service.specs.Metrics.{AreRead, all_answers, answer_line, answers_of, bit, each_text, figure_of, figures_of, head_of};
-ghost use Rattle.service.specs.Metrics.{help_of, label_of, line_of, metrics_text, name_of, number_text, service_text, single_text};
+ghost use Rattle.service.specs.Metrics.{help_of, label_of, line_of, metrics_text, name_of, number_text, service_text, single_text, statements_text};
 ghost use Rattle.service.specs.Metrics.{tenants_text, type_of};
 
 use common_types::Name;
@@ -40,6 +40,8 @@ pub struct TenantCounts<'a> {
     pub refused_tokens: u64,
     pub places: PlaceUse,
     pub book: BookFigures,
+    /// How many closed periods wait for their statements to be written.
+    pub statements: u64,
 }
 
 /// What is counted of the whole service, at one moment.
@@ -50,6 +52,8 @@ pub struct ServiceCounts {
     /// How many connections are open, and how many threads wait for one.
     pub open: u64,
     pub waiting: u64,
+    /// Whether statements of closed periods are kept.
+    pub states: bool,
 }
 
 /// What tells the numbers of tenants, as they stand.
@@ -62,7 +66,8 @@ pub trait Gauges {
 
     ghost meters: { Self → TableId };
 
-    /// That it told that number: of a tenant and a kind, of its refused tokens, of its places, and of its book.
+    /// That it told that number: of a tenant and a kind, of its refused tokens, of its places, of its book,
+    /// and of its statements that wait.
     ghost tells: { Self → ℕ → meter.Kind → ℕ → Type 0 };
 
     ghost tells_tokens: { Self → ℕ → ℕ → Type 0 };
@@ -70,6 +75,8 @@ pub trait Gauges {
     ghost tells_places: { Self → ℕ → PlaceUse → Type 0 };
 
     ghost tells_book: { Self → ℕ → BookFigures → Type 0 };
+
+    ghost tells_statements: { Self → ℕ → ℕ → Type 0 };
 
     /// How many of a kind were counted for a tenant, read through a seat of the meters.
     fn counted(&self, seat: &mut MeterSeat, tenant: usize, kind: Kind) -> u64
@@ -90,6 +97,10 @@ pub trait Gauges {
     fn book(&self, tenant: usize) -> BookFigures
         requires { tenant < tenants self.now }
         ensures { tells_book self.now tenant result };
+
+    /// How many closed periods of a tenant wait for their statements to be written.
+    fn statements(&self, tenant: usize) -> u64
+        ensures { tells_statements self.now tenant result };
 }
 
 /// What is told of a book.
@@ -116,7 +127,7 @@ fn counts_of<'a, G: Gauges>(
     ensures same { seat.new ≡ seat.old }
     ensures name { result.name.now ≡ name.now }
     ensures read { AreRead (G.tells gauges.now tenant) (G.tells_tokens gauges.now tenant) (G.tells_places gauges.now tenant)
-        (G.tells_book gauges.now tenant) result }
+        (G.tells_book gauges.now tenant) (G.tells_statements gauges.now tenant) result }
 {
     TenantCounts {
         name,
@@ -127,6 +138,7 @@ fn counts_of<'a, G: Gauges>(
         refused_tokens: gauges.refused_tokens(tenant),
         places: gauges.places(tenant),
         book: gauges.book(tenant),
+        statements: gauges.statements(tenant),
     }
 }
 
@@ -144,7 +156,7 @@ pub fn all_counts<'a, G: Gauges>(
     ensures read { IfOk result (λ all. (tenant : ℕ) (counts : told.TenantCounts) → slice_get all.items tenant ≡ Some counts
         → (slice_get names.now tenant ≡ Some counts.name.now)
         × AreRead (G.tells gauges.now tenant) (G.tells_tokens gauges.now tenant) (G.tells_places gauges.now tenant)
-        (G.tells_book gauges.now tenant) counts) }
+        (G.tells_book gauges.now tenant) (G.tells_statements gauges.now tenant) counts) }
 {
     let mut all = Vec::with_capacity(alloc, names.len())?;
     for tenant in 0..names.len() {
@@ -172,6 +184,7 @@ enum Family {
     Entries,
     JournalPlaces,
     OpenHolds,
+    StatementsWaiting,
 }
 
 impl Family {
@@ -192,6 +205,7 @@ impl Family {
             Family::Entries => b"ilpd_journal_entries",
             Family::JournalPlaces => b"ilpd_journal_places",
             Family::OpenHolds => b"ilpd_holds_open",
+            Family::StatementsWaiting => b"ilpd_statements_waiting",
         }
     }
 
@@ -215,6 +229,8 @@ impl Family {
             Family::Entries => b"Entries of the running period.",
             Family::JournalPlaces => b"Entries that a period has room for, beside its roll.",
             Family::OpenHolds => b"Packets that went on and await their answers.",
+            Family::StatementsWaiting =>
+                b"Closed periods whose statements are still to be written.",
         }
     }
 
@@ -244,6 +260,7 @@ impl TenantCounts<'_> {
             Family::Entries => self.book.entries,
             Family::JournalPlaces => self.book.journal_places,
             Family::OpenHolds => self.book.open_holds,
+            Family::StatementsWaiting => self.statements,
             Family::Accepts | Family::Open | Family::Waiting | Family::Answers => 0,
         }
     }
@@ -419,7 +436,22 @@ fn put_tenants(
     put_each(alloc, text, Family::OpenHolds, all)
 }
 
-/// The metrics of a service and of its tenants. The one error is want of memory.
+// What is told of the statements, where some are kept.
+fn put_statements(
+    alloc: Global,
+    text: &mut Vec<u8>,
+    states: bool,
+    all: &[TenantCounts<'_>],
+) -> Result<(), AllocError>
+    ensures { OnOk result (text.new.items ≡ text.old.items ++ statements_text states all.now) }
+{
+    if states {
+        put_each(alloc, text, Family::StatementsWaiting, all)?;
+    }
+    Ok(())
+}
+
+/// The metrics of a service and of its tenants. The one error is that memory was refused.
 pub fn metrics_text(
     alloc: Global,
     service: ServiceCounts,
@@ -430,5 +462,6 @@ pub fn metrics_text(
     let mut text = Vec::new(alloc);
     put_service(alloc, &mut text, service)?;
     put_tenants(alloc, &mut text, all)?;
+    put_statements(alloc, &mut text, service.states, all)?;
     Ok(text)
 }

@@ -103,20 +103,20 @@ fn roll_each<J: Run, H: Wait, C: Clock>(
     roll_below(system, office, &meters, &mut seat, share, periods)
 }
 
-// Closes the running period of each tenant by one of the shares, where the run is audited, and keeps what was closed. The one
-// error is that memory was refused.
-fn roll_all<J: Run, H: Wait, C: Clock>(
+/// Closes the running period of each tenant by one of the shares, where that is wanted, and keeps what was closed. The one error
+/// is that memory was refused.
+pub fn roll_all<J: Run, H: Wait, C: Clock>(
     system: &System<'_, H, C>,
-    audited: bool,
+    wanted: bool,
     office: &Office<J>,
     shares: &mut Vec<Share<J>>,
     periods: &mut Vec<Period>,
 ) -> Result<(), AllocError>
     requires { 0 < vec_len shares.old }
-    ensures { OnOk result (HaveClosed (circumstances J.openings (C.gives system.now.clock.now)) audited office.now.books.tenants
+    ensures { OnOk result (HaveClosed (circumstances J.openings (C.gives system.now.clock.now)) wanted office.now.books.tenants
         shares.old.items shares.new.items periods.old.items periods.new.items) }
 {
-    if !audited {
+    if !wanted {
         return Ok(());
     }
     let Some(mut share) = shares.pop() else {
@@ -174,8 +174,8 @@ pub struct Found {
     pub end: AuditEnd,
 }
 
-// Nothing, since memory was refused.
-fn lacked(alloc: Global) -> Found
+/// Nothing, since memory was refused.
+pub fn lacked(alloc: Global) -> Found
     ensures end { result.end ≡ AuditEnd.Lacked }
     ensures line { result.line.items ≡ [] }
 {
@@ -185,35 +185,8 @@ fn lacked(alloc: Global) -> Found
     }
 }
 
-/// Closes the running periods, and audits what the workers did, where that is wanted: by the periods that were closed before,
-/// if there was memory to put them together. One of the workers closes the last ones.
-pub fn finish_audit<J: Run, H: Wait, C: Clock>(
-    system: &System<'_, H, C>,
-    wanted: bool,
-    office: &Office<J>,
-    shares: &mut Vec<Share<J>>,
-    periods: Option<Vec<Period>>,
-) -> Found
-    requires { 0 < vec_len shares.old }
-    ensures ended { result.end ≡ AuditEnd.Good → HaveEnded (circumstances J.openings (C.gives system.now.clock.now)) wanted office.now.books.tenants shares.old.items shares.new.items }
-    ensures audited { result.end ≡ AuditEnd.Good → IsAudited wanted shares.new.items result.line.items }
-    ensures found { (closed : List PeriodParts) × IsFound wanted closed shares.new.items result.end result.line.items }
-{
-    let alloc = system.alloc;
-    let Some(mut periods) = periods else {
-        return lacked(alloc);
-    };
-    match roll_all(system, wanted, office, shares, &mut periods) {
-        Ok(()) => match audited(alloc, wanted, periods.as_slice(), shares.as_slice()) {
-            Ok(found) => found,
-            Err(AllocError) => lacked(alloc),
-        },
-        Err(AllocError) => lacked(alloc),
-    }
-}
-
-// Audits what the workers did, where that is wanted. The one error is that memory was refused.
-fn audited<J: Run>(
+/// Audits what the workers did, where that is wanted, by all periods that were closed. The one error is that memory was refused.
+pub fn audited<J: Run>(
     alloc: Global,
     wanted: bool,
     periods: &[Period],

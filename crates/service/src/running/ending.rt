@@ -1,6 +1,6 @@
 //! How a service ends.
 
-ghost use Rattle.std.specs.Prelude.{◌≡◌, OnOk};
+ghost use Rattle.std.specs.Prelude.{◌≡◌, OnOk, true};
 ghost use Rattle.service.specs.Ending.{end_of, ungathered_end};
 
 use books_shared::GatherFault;
@@ -16,8 +16,8 @@ pub enum ServeFault {
     /// Memory was refused.
     #[error("out of memory")]
     Memory,
-    /// A thread could not be started, the lines not be written, or, unless its host stopped the service, a connection not be
-    /// accepted.
+    /// A thread could not be started, the lines or a statement not be written, or, unless its host stopped the service, a
+    /// connection not be accepted.
     #[error("device")]
     Device,
     /// The books in the end are not what the workers have counted. No lock that hands out what was left in it comes to this.
@@ -66,14 +66,20 @@ pub enum AuditEnd {
 }
 
 /// How a service ends whose books were gathered and whose lines were written: of which an accept has failed, or none, which its
-/// host stopped, or not, and whose audit came to that.
-pub fn end_of(has_failed: bool, was_stopped: bool, audit: AuditEnd) -> Result<(), ServeFault>
-    ensures end { result ≡ end_of has_failed was_stopped audit }
-    ensures good { OnOk result (audit ≡ AuditEnd.Good) }
+/// host stopped, or not, whose statements are all kept, or not, and whose audit came to that.
+pub fn end_of(
+    has_failed: bool,
+    was_stopped: bool,
+    is_stated: bool,
+    audit: AuditEnd,
+) -> Result<(), ServeFault>
+    ensures end { result ≡ end_of has_failed was_stopped is_stated audit }
+    ensures good { OnOk result ((audit ≡ AuditEnd.Good) × (is_stated ≡ true)) }
 {
     match audit {
         AuditEnd::Lacked => Err(ServeFault::Memory),
         AuditEnd::Good | AuditEnd::Bad if has_failed && !was_stopped => Err(ServeFault::Device),
+        AuditEnd::Good | AuditEnd::Bad if !is_stated => Err(ServeFault::Device),
         AuditEnd::Good => Ok(()),
         AuditEnd::Bad => Err(ServeFault::Audit),
     }

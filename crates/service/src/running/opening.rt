@@ -10,6 +10,7 @@ ghost use Rattle.books_shared.specs.Traced.{openings_of};
 ghost use Rattle.service.specs.Answering.{IsFresh, IsOfficeOf};
 
 use crate::connection::door::Door;
+use crate::filing::Filing;
 use crate::office::{Office, Terms};
 use crate::running::plan::{Extent, Plan, most_waiting_of, total_of};
 use admin_text::Setup;
@@ -19,7 +20,7 @@ use one_list::{Opened, Run};
 use std::alloc::{AllocError, Global};
 use std::sync::atomic::AtomicU64;
 use tenant_core::TenantSetup;
-use workers::Places;
+use workers::{Backlog, Places};
 
 /// What a service begins with.
 #[derive(Drop)]
@@ -38,7 +39,7 @@ pub fn open_office<J: Run>(
     alloc: Global,
     opened: Opened,
     setup: &Setup,
-    plan: Plan,
+    plan: Plan<'_>,
 ) -> Result<Begun<J>, AllocError>
     requires list { (opened.table ≡ J.table) × (opened.size ≡ J.size) }
     requires size { J.size ≡ record { tenants = length setup.now.tenants; workers = plan.extent.connections } }
@@ -49,10 +50,14 @@ pub fn open_office<J: Run>(
     ensures known { IfOk result (λ begun. IsOfficeOf setup.now begun.office) }
     ensures first { IfOk result (λ begun. begun.first ≡ empty_seat begun.office.meters.id true) }
     ensures zero { IfOk result (λ begun. (tenant : ℕ) (kind : meter.Kind) → count_of tenant kind begun.first ≡ 0) }
-    ensures each { IfOk result (λ begun. vec_len begun.shares ≡ plan.extent.connections) }
+    ensures each { IfOk result (λ begun. vec_len begun.shares ≡ plan.entry.extent.connections) }
     ensures fresh { IfOk result (λ begun. All IsFresh begun.shares.items) }
 {
-    let Plan { extent, report } = plan;
+    let Plan {
+        extent,
+        report,
+        statements,
+    } = plan;
     let (tenants, workers) = (setup.tenants.as_slice(), extent.connections);
     let (books, shares) = Books::new(alloc, opened, tenants, setup.start, workers, report.audit)?;
     let (meters, first) = Meters::new(alloc, tenants.len())?;
@@ -63,6 +68,7 @@ pub fn open_office<J: Run>(
         meters,
         places: places_of(alloc, extent, tenants.len())?,
         door: Door::new(total_of(extent)),
+        filing: filing_of(alloc, statements, tenants.len())?,
         refused_tokens: counters(alloc, tenants.len())?,
         start: setup.start,
     };
@@ -80,6 +86,21 @@ fn places_of(alloc: Global, extent: Extent, tenants: usize) -> Result<Places, Al
 {
     let waiting = most_waiting_of(extent, tenants);
     Places::new(alloc, extent.workers, tenants, waiting)
+}
+
+// What a service of so many tenants knows of its statements, where it keeps them in that folder.
+fn filing_of(
+    alloc: Global,
+    folder: Option<&str>,
+    tenants: usize,
+) -> Result<Option<Filing>, AllocError> {
+    let Some(path) = folder else {
+        return Ok(None);
+    };
+    Ok(Some(Filing {
+        folder: String::from_str(alloc, path)?,
+        backlog: Backlog::new(alloc, tenants)?,
+    }))
 }
 
 // So many counters, which stand at nothing.

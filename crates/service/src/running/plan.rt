@@ -2,7 +2,7 @@
 
 ghost use Rattle.std.specs.Prelude.{◌≡◌, ◌≤◌};
 ghost use Rattle.allotment.specs.Loans.{max_places};
-ghost use Rattle.service.specs.Extents.{most_waiting_of, total_of};
+ghost use Rattle.service.specs.Extents.{closes, most_waiting_of, total_of};
 
 /// How many threads serve, how many packets are exchanged with next peers at once, and how many connections are served.
 #[derive(Clone, Copy)]
@@ -24,11 +24,22 @@ pub struct Report {
     pub audit: bool,
 }
 
-/// What a service is to do: how much it serves, and what it tells in the end.
+/// What a service is to do: how much it serves, what it tells in the end, and in which folder it keeps the statements of closed
+/// periods, if in any.
 #[derive(Clone, Copy)]
-pub struct Plan {
+pub struct Plan<'a> {
     pub extent: Extent,
     pub report: Report,
+    pub statements: Option<&'a str>,
+}
+
+impl Plan<'_> {
+    /// Whether each tenant's running period is closed in the end: for an audit, or for its statement.
+    pub fn closes(&self) -> bool
+        ensures { result ≡ closes self.now }
+    {
+        self.report.audit || self.statements.is_some()
+    }
 }
 
 /// How many connections are served in all: so many rounds for each worker, or as many as can be counted.

@@ -12,17 +12,20 @@ ghost use Rattle.meters.specs.Seats.{count_of, max_splits};
 ghost use Rattle.meters.specs.declared.kind.Kind as meter;
 ghost use Rattle.service.specs.Answering.{HasToldCounts, HasToldCountsIn, HasWorked, HaveCounted, IsFresh, IsNew};
 ghost use Rattle.service.specs.Ending.{EndsTold, ungathered_end, ungathered_line};
+ghost use Rattle.service.specs.Extents.{closes};
 ghost use Rattle.service.specs.Hosting.{HasStayed, IsIdle, seats_in};
 ghost use Rattle.service.specs.Served.{line_of, lines_upto};
 
 use crate::connection::door::Door;
+use crate::filing::disk::Disk;
 use crate::host::callers::{Beside, Callers, Porter};
 use crate::host::hosting::{Host, HostDoor};
 use crate::office::Office;
-use crate::running::auditing::{Found, audit_told, finish_audit};
+use crate::running::auditing::audit_told;
 use crate::running::balances::balance_lines;
 use crate::running::ended::{Ended, work_to_the_end};
 use crate::running::ending::{ServeFault, end_of, ungathered_end};
+use crate::running::finishing::{Last, finish, followed_by, with_more};
 use crate::running::meeting::Meeting;
 use crate::running::opening::{Begun, open_office};
 use crate::running::plan::Plan;
@@ -137,15 +140,6 @@ fn dismissed<H, C, J: Run>(
     }
 }
 
-// Periods and more of them, where there is memory to put them together.
-fn with_more(periods: Option<Vec<Period>>, more: Vec<Period>) -> Option<Vec<Period>> {
-    let mut all = periods?;
-    for period in more {
-        all.push(period).ok()?;
-    }
-    Some(all)
-}
-
 // The host at that door, who reads the meters through a seat of its own, and room for those who wait at the door.
 fn host_at<'a, H, J: Run>(
     handle: &'a H,
@@ -242,7 +236,12 @@ fn run_beside<H: Threads + Wait + std::time::Clock + Sync, W: Lane, B: Beside>(
 // Lets all workers serve, on threads, and the host, where there is one, answer until they have ended.
 fn work_all<
     J: Run + Send + Sync,
-    H: Threads + Wait + Net<Listener = TcpListener, Stream = TcpStream> + std::time::Clock + Sync,
+    H: Threads
+        + Wait
+        + Net<Listener = TcpListener, Stream = TcpStream>
+        + std::time::Clock
+        + Disk
+        + Sync,
     C: workers::Clock + Sync,
 >(
     handle: &H,
@@ -270,7 +269,12 @@ fn work_all<
 /// Lets a worker for each share serve connections, and joins them all.
 pub fn run_all<
     'a,
-    H: Threads + Wait + Net<Listener = TcpListener, Stream = TcpStream> + std::time::Clock + Sync,
+    H: Threads
+        + Wait
+        + Net<Listener = TcpListener, Stream = TcpStream>
+        + std::time::Clock
+        + Disk
+        + Sync,
     C: workers::Clock + Sync,
     J: Run + Send + Sync,
 >(
@@ -397,18 +401,27 @@ pub struct Doors<'a> {
 /// memory grows with what is done. In the end one worker rolls each tenant, and all receipts are checked against all periods:
 /// `audit ok N` tells that these N receipts are complete, and `audit WORD` what is wrong.
 ///
-/// `Memory` where memory was refused, also for the audit alone; `Device` where a thread could not be started, the lines not be
+/// Where statements are kept, one is written of each period that a roll closes, before the roll is answered and after its lock is
+/// free again. One that can't be written is tried again at the tenant's next roll and in the end. Then one worker rolls each
+/// tenant, and a line tells each statement that is not kept: `statement NAME PERIOD missing`.
+///
+/// `Memory` where memory was refused, also for the audit alone; `Device` where a thread could not be started, the lines or a statement not be
 /// written, or, unless the host stopped the service, a connection not be accepted; `Differs` where the books in the end are not what the workers have counted, which comes of no lock
 /// that hands out what was left in it; `Audit` where an audit found a fault, or the books differ. The lines are written first, unless no thread was started or memory was refused.
 pub fn serve<
-    H: Threads + Wait + Net<Listener = TcpListener, Stream = TcpStream> + std::time::Clock + Sync,
+    H: Threads
+        + Wait
+        + Net<Listener = TcpListener, Stream = TcpStream>
+        + std::time::Clock
+        + Disk
+        + Sync,
     C: workers::Clock + Sync,
     W: Write,
 >(
     handle: &H,
     alloc: Global,
     setup: &Setup,
-    plan: Plan,
+    plan: Plan<'_>,
     doors: Doors<'_>,
     clock: &C,
     writer: &mut W,
@@ -416,7 +429,7 @@ pub fn serve<
     requires tenants { (1 ≤ length setup.now.tenants) × (length setup.now.tenants ≤ max_tenants) }
     requires workers { (1 ≤ plan.extent.workers) × (plan.extent.workers ≤ max_places) }
     requires connections { (1 ≤ plan.extent.connections) × (plan.extent.connections ≤ max_workers) }
-    ensures { OnOk result (HasToldCounts (C.gives clock.now) setup.now plan.extent.connections plan.report (W.contents writer.old) (W.contents writer.new)) }
+    ensures { OnOk result (HasToldCounts (C.gives clock.now) setup.now plan.entry.extent.connections plan.entry.report (closes plan.entry) (W.contents writer.old) (W.contents writer.new)) }
 {
     let system = System {
         handle,
@@ -431,14 +444,19 @@ pub fn serve<
 // Serves, with one list of all that is done to the books, which has just been opened.
 fn serve_run<
     J: Run + Send + Sync,
-    H: Threads + Wait + Net<Listener = TcpListener, Stream = TcpStream> + std::time::Clock + Sync,
+    H: Threads
+        + Wait
+        + Net<Listener = TcpListener, Stream = TcpStream>
+        + std::time::Clock
+        + Disk
+        + Sync,
     C: workers::Clock + Sync,
     W: Write,
 >(
     system: System<'_, H, C>,
     opened: Opened,
     setup: &Setup,
-    plan: Plan,
+    plan: Plan<'_>,
     doors: Doors<'_>,
     writer: &mut W,
 ) -> Result<(), ServeFault>
@@ -448,7 +466,7 @@ fn serve_run<
     requires tenants { (1 ≤ length setup.now.tenants) × (length setup.now.tenants ≤ max_tenants) }
     requires workers { (1 ≤ plan.extent.workers) × (plan.extent.workers ≤ max_places) }
     requires connections { (1 ≤ plan.extent.connections) × (plan.extent.connections ≤ max_workers) }
-    ensures { OnOk result (HasToldCountsIn J.Run (C.gives system.entry.clock.now) setup.now plan.extent.connections plan.report
+    ensures { OnOk result (HasToldCountsIn J.Run (C.gives system.entry.clock.now) setup.now plan.entry.extent.connections plan.entry.report (closes plan.entry)
         (W.contents writer.old) (W.contents writer.new)) }
 {
     let (alloc, report) = (system.alloc, plan.report);
@@ -463,7 +481,8 @@ fn serve_run<
         periods,
         failed,
     } = done;
-    let Found { line, end } = finish_audit(&system, report.audit, &office, &mut shares, periods);
+    let Last { statements, audit } = finish(&system, plan, &office, &mut shares, periods);
+    let last = followed_by(statements, audit.line.as_slice())?;
     let was_stopped = office.door.is_closed();
     let Office {
         books,
@@ -476,8 +495,8 @@ fn serve_run<
     match books.gather(alloc, shares) {
         Ok(gathered) => {
             let text = balance_lines(alloc, report.balances, names, gathered)?;
-            tell(alloc, text, names, &totals, line.as_slice(), writer)?;
-            end_of(failed, was_stopped, end)
+            tell(alloc, text, names, &totals, last.text.as_slice(), writer)?;
+            end_of(failed, was_stopped, last.is_stated, audit.end)
         }
         Err(fault) => tell_ungathered(alloc, &fault, report.audit, names, &totals, writer),
     }

@@ -4,6 +4,9 @@ ghost use Rattle.std.specs.Prelude.{◌≡◌, ◌<◌};
 ghost use Rattle.admin_text.specs.Commands.{command_in};
 ghost use Rattle.service.specs.Answering.{IsPrinted, IsTold, IsUntouched, WasCarried, WasGoverned, WasObeyed, command_line};
 
+use crate::filing::disk::Disk;
+use crate::filing::file;
+use crate::filing::folder::Folder;
 use crate::link::{PeerLink, Sockets};
 use crate::office::Office;
 use crate::system::System;
@@ -16,7 +19,7 @@ use std::alloc::{AllocError, Global};
 use std::net::{Net, TcpStream};
 use std::sync::Wait;
 use tenant_core::{Answered, Command, CommandFault, Period};
-use workers::{Clock, Gate, GovernFault, Job, Link, Point, Status, carry, govern};
+use workers::{BacklogRoom, Clock, Gate, GovernFault, Job, Link, Point, Status, carry, govern};
 
 /// A gate that stands open.
 struct NoGate;
@@ -64,6 +67,7 @@ impl<J: Run> Desk<J> {
     fn make_room(&mut self) -> Result<(), AllocError>
         ensures untouched { IsUntouched self.old self.new }
         ensures told { self.new.told ≡ self.old.told }
+        ensures printed { self.new.printed ≡ self.old.printed }
     {
         if self.share.is_audited() {
             self.periods.reserve(1)?;
@@ -71,22 +75,77 @@ impl<J: Run> Desk<J> {
         Ok(())
     }
 
-    // Keeps the period that a command closed, where the run is audited: in the room that was made for it.
-    fn keep(&mut self, closed: Option<Period>)
+    // Keeps a closed period for the audit, where the run is audited: in the room that was made for it.
+    fn keep(&mut self, period: Period)
         ensures untouched { IsUntouched self.old self.new }
         ensures told { self.new.told ≡ self.old.told }
         ensures printed { self.new.printed ≡ self.old.printed }
     {
-        let Some(period) = closed else {
-            return;
-        };
         if self.share.is_audited() {
             let _ = self.periods.push(period);
         }
     }
 
+    // Has the statement written of a period that a command closed, where statements are kept, and of those that wait; then
+    // keeps it.
+    fn close<H: Wait + Disk, C: Clock>(
+        &mut self,
+        system: &System<'_, H, C>,
+        office: &Office<J>,
+        closed: Option<Period>,
+        room: Option<BacklogRoom<'_>>,
+    )
+        ensures untouched { IsUntouched self.old self.new }
+        ensures told { self.new.told ≡ self.old.told }
+        ensures printed { self.new.printed ≡ self.old.printed }
+    {
+        match (closed, room) {
+            (Some(period), Some(room)) => {
+                let tenant = period.tenant();
+                room.put(system.handle, period);
+                self.file_waiting(system, office, tenant);
+            }
+            (None, Some(room)) => room.give_up(system.handle),
+            (Some(period), None) => self.keep(period),
+            (None, None) => {}
+        }
+    }
+
+    // Tries to write each statement of the tenant that waits, once. What is written is kept for the audit, where the run is
+    // audited.
+    fn file_waiting<H: Wait + Disk, C: Clock>(
+        &mut self,
+        system: &System<'_, H, C>,
+        office: &Office<J>,
+        tenant: usize,
+    )
+        ensures untouched { IsUntouched self.old self.new }
+        ensures told { self.new.told ≡ self.old.told }
+        ensures printed { self.new.printed ≡ self.old.printed }
+    {
+        let (handle, alloc) = (system.handle, system.alloc);
+        let Some(filing) = &office.filing else {
+            return;
+        };
+        let mut folder = Folder::new(handle, alloc, filing.folder.as_str());
+        for _ in 0..filing.backlog.len(handle, tenant) {
+            if self.make_room().is_err() {
+                return;
+            }
+            let Some((period, room)) = filing.backlog.take(handle, tenant) else {
+                return;
+            };
+            if file(alloc, &mut folder, &period) {
+                room.give_up(handle);
+                self.keep(period);
+            } else {
+                room.put(handle, period);
+            }
+        }
+    }
+
     /// Does what stands in a body, where it is a command, for a tenant of the office, and gives the status of the answer.
-    pub fn obey<H: Wait, C: Clock>(
+    pub fn obey<H: Wait + Disk, C: Clock>(
         &mut self,
         system: &System<'_, H, C>,
         office: &Office<J>,
@@ -107,20 +166,25 @@ impl<J: Run> Desk<J> {
         if self.make_room().is_err() {
             return Status::Unavailable;
         }
-        self.govern(system, office, tenant, &command)
+        let Ok(room) = backlog_room(system.handle, office, tenant, &command) else {
+            return Status::Unavailable;
+        };
+        let (status, closed) = self.govern(system, office, tenant, &command);
+        self.close(system, office, closed, room);
+        status
     }
 
-    // Governs a tenant of the office, and keeps what is printed of the answer.
+    // Governs a tenant of the office, keeps what is printed of the answer, and gives the status, and the period that was closed.
     fn govern<H: Wait, C: Clock>(
         &mut self,
         system: &System<'_, H, C>,
         office: &Office<J>,
         tenant: usize,
         command: &Command,
-    ) -> Status
+    ) -> (Status, Option<Period>)
         requires seat { self.old.seat.meters ≡ office.now.meters.id }
         requires tenant { tenant < office.now.books.tenants }
-        ensures governed { WasGoverned (C.gives system.now.clock.now) office.now self.old tenant command.now result self.new }
+        ensures governed { WasGoverned (C.gives system.now.clock.now) office.now self.old tenant command.now result.0 self.new }
         ensures same_meters { self.new.seat.meters ≡ self.old.seat.meters }
         ensures told { self.new.told ≡ self.old.told }
     {
@@ -135,9 +199,20 @@ impl<J: Run> Desk<J> {
             tenant,
             command,
         );
-        let (status, closed) = tell(system.alloc, office, tenant, answer, &mut self.printed);
-        self.keep(closed);
-        status
+        tell(system.alloc, office, tenant, answer, &mut self.printed)
+    }
+}
+
+// Room for the period that a roll may close, where statements are kept. The error is that memory was refused.
+fn backlog_room<'a, H: Wait, J: Run>(
+    handle: &H,
+    office: &'a Office<J>,
+    tenant: usize,
+    command: &Command,
+) -> Result<Option<BacklogRoom<'a>>, AllocError> {
+    match (&office.filing, command) {
+        (Some(filing), Command::Roll) => Ok(Some(filing.backlog.make_room(handle, tenant)?)),
+        _ => Ok(None),
     }
 }
 

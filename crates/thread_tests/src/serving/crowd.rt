@@ -2,8 +2,9 @@
 
 use super::wire::{good_reply, good_text, packet_by, peer_answer, posted, request, two_tenants};
 use super::{ALL, served_while};
-use service::Extent;
+use service::{Disk, Extent};
 use std::alloc::Global;
+
 use std::io::{Read, Write};
 use std::net::{Net, OpenListener, SocketAddr, TcpListener, TcpStream};
 use std::sync::Wait;
@@ -252,7 +253,7 @@ pub fn both_exchanges(alloc: Global) -> Result<(Exchange, Exchange), Fail> {
 /// What comes of that beside a peer that fulfils all packets, and how many it fulfilled.
 pub fn beside_peer<R, T, F>(rt: &R, peer: &TcpListener, run: F) -> Result<(T, u32), Fail>
 where
-    R: Threads + Wait + Clock + AllocGlobal + Sync,
+    R: Threads + Wait + Clock + Disk + AllocGlobal + Sync,
     R: Net<Listener = TcpListener, Stream = TcpStream>,
     T: Send + Drop,
     F: FnOnce() -> Result<T, Fail> + Send + Drop,
@@ -286,7 +287,7 @@ struct Crowd {
 
 fn crowd_of<R>(rt: &R) -> Result<Crowd, Fail>
 where
-    R: Threads + Wait + Clock + AllocGlobal + Sync,
+    R: Threads + Wait + Clock + Disk + AllocGlobal + Sync,
     R: Net<Listener = TcpListener, Stream = TcpStream>,
 {
     let peer = TcpListener::bind(rt, "127.0.0.1:0")?;

@@ -5,8 +5,9 @@ use super::wire::{FixedClock, is_reply, packet_by, request};
 use super::{NOTHING_MORE, asked};
 use admin_text::read_setup;
 use common_types::Token;
-use service::{Doors, Extent, HostDoor, Plan, ServeFault, serve};
+use service::{Disk, Doors, Extent, HostDoor, Plan, ServeFault, serve};
 use std::alloc::Global;
+
 use std::net::{Net, OpenListener, SocketAddr, TcpListener, TcpStream};
 use std::process::Abort;
 use std::sync::Wait;
@@ -45,7 +46,7 @@ pub fn serve_with_host<'a, R>(
     lines: &mut Vec<u8>,
 ) -> Result<(), ServeFault>
 where
-    R: Threads + Wait + Clock + AllocGlobal + Sync,
+    R: Threads + Wait + Clock + Disk + AllocGlobal + Sync,
     R: Net<Listener = TcpListener, Stream = TcpStream>,
 {
     admin_text::laws::setups();
@@ -64,6 +65,7 @@ where
     let plan = Plan {
         extent,
         report: NOTHING_MORE,
+        statements: None,
     };
     let doors = Doors {
         packets,
@@ -142,7 +144,7 @@ pub struct Addresses {
 /// What comes of questions to a service with a host's door, for the setup of that text, and what it prints in the end.
 pub fn served_with_host<R, T, F>(rt: &R, text: &str, ask: F) -> Result<(T, Vec<u8>), Fail>
 where
-    R: Threads + Wait + Clock + AllocGlobal + Sync,
+    R: Threads + Wait + Clock + Disk + AllocGlobal + Sync,
     R: Net<Listener = TcpListener, Stream = TcpStream>,
     T: Send + Drop,
     F: FnOnce(Addresses) -> Result<T, Fail> + Send + Drop,
@@ -187,7 +189,7 @@ fn told_in_turn(
 // The same, and what the service prints in the end.
 fn served_in_turn<R>(rt: &R) -> Result<(Vec<Vec<u8>>, Vec<u8>), Fail>
 where
-    R: Threads + Wait + Clock + AllocGlobal + Sync,
+    R: Threads + Wait + Clock + Disk + AllocGlobal + Sync,
     R: Net<Listener = TcpListener, Stream = TcpStream>,
 {
     let alloc = rt.alloc();
@@ -374,7 +376,7 @@ struct Stop {
 
 fn stop_under_load<R>(rt: &R) -> Result<Stop, Fail>
 where
-    R: Threads + Wait + Clock + AllocGlobal + Sync,
+    R: Threads + Wait + Clock + Disk + AllocGlobal + Sync,
     R: Net<Listener = TcpListener, Stream = TcpStream>,
 {
     let peer = TcpListener::bind(rt, "127.0.0.1:0")?;

@@ -4,8 +4,9 @@ use super::crowd::{connected, setup_text};
 use super::host::{Addresses, HEALTH, HEALTHY, METRICS, STOP, serve_with_host, served_with_host};
 use super::wire::{good_reply, good_text, one_tenant, packet_by, peer_answer, posted, request};
 use super::{ALONE, NOTHING, NOTHING_MORE, answer_of, asked, next_request, served_while, usual};
-use service::Extent;
+use service::{Disk, Extent};
 use std::alloc::Global;
+
 use std::io::{Read, Write};
 use std::net::{Net, OpenListener, SocketAddr, TcpListener, TcpStream};
 use std::process::Abort;
@@ -231,7 +232,7 @@ fn served_between<R>(
     both: &Pipelined,
 ) -> Result<(bool, Vec<u8>), Fail>
 where
-    R: Threads + Wait + Clock + AllocGlobal + Sync,
+    R: Threads + Wait + Clock + Disk + AllocGlobal + Sync,
     R: Net<Listener = TcpListener, Stream = TcpStream>,
 {
     let answer = peer_answer(rt.alloc())?;

@@ -1,8 +1,9 @@
-use Rattle.std.proofs.Common.{ℕ, ◌≡◌, ◌++◌, [], List, length, rules, ap, subst, ◌∙◌, if◌then◌else◌}
+use Rattle.std.proofs.Common.{ℕ, ◌≡◌, ◌++◌, [], List, length, rules, ap, subst, ◌∙◌, if◌then◌else◌, true}
 use Rattle.std.proofs.lemmas.Result.{on_ok_weaker}
 use Rattle.std.specs.Io.KnownBytes.{Appends}
 use Rattle.workers.specs.Carrying.{circumstances}
 use Rattle.service.specs.Auditing.{HaveEnded}
+use Rattle.service.specs.Extents.{closes}
 use Rattle.service.specs.declared.running.ending.AuditEnd.TheVariants.{Good}
 use Rattle.service.specs.Served.{lines_upto}
 use Rattle.service.specs.Balances.{balance_lines}
@@ -18,13 +19,16 @@ returns-in-Ok g c =
     let names : length office.names.items ≡ length c.args.setup.now.tenants
     = ap length known.names ∙ length_map _ c.args.setup.now.tenants in
     let front : List ℕ = if c.args.plan.report.balances then balance_lines office.names.items c.in-Ok.gathered.items else [] in
-    let audit = c.finish_audit-line in
-    let last : List ℕ = audit.result.line.items in
+    let finish = c.finish-statements in
+    let found : List ℕ = finish.result.audit.line.items in
+    let last : List ℕ = c.in_ok-last.last.text.items in
     let text_is : c.in_ok-text-in-Ok.text.items ≡ front = search rules in
     let Told : List ℕ → ℕ → Type 0 = λ text n. Appends (g.W.Write.contents c.args.writer.now) (g.W.Write.contents c.tell.new.writer)
     (text ++ lines_upto n office.names.items c.close-totals.result ++ last) in
     let told : Told c.in_ok-text-in-Ok.text.items (length office.names.items) = search rules in
-    on_ok_weaker c.end_of.result (λ (good : audit.result.end ≡ Good). record {
+    on_ok_weaker c.end_of.result (λ (good : (finish.result.audit.end ≡ Good) × (c.in_ok-last.last.is_stated ≡ true)).
+    let only : last ≡ found = c.in_ok-last.ensures.kept good.1 ∙ c.as_slice.ensures.value in
+    record {
       office = office;
       known = known;
       totals = c.close-totals.result;
@@ -36,12 +40,14 @@ returns-in-Ok g c =
         worked = counted.worked;
         sums = λ tenant kind below. exact tenant kind (search rules) ∙ counted.sums tenant kind below;
       };
-      shares = audit.new.shares.items;
-      ended = subst (λ (n : ℕ). HaveEnded (circumstances g.J.Run.openings (g.C.Clock.gives c.args.system.clock.now)) c.args.plan.report.audit n c.in_ok-done.done.shares.items audit.new.shares.items)
-          known.books (audit.ensures.ended good);
+      shares = finish.new.shares.items;
+      ended = subst (λ (n : ℕ). HaveEnded (circumstances g.J.Run.openings (g.C.Clock.gives c.args.system.clock.now)) (closes c.args.plan) n c.in_ok-done.done.shares.items finish.new.shares.items)
+          known.books (finish.ensures.ended good.0);
       books = c.in-Ok.gathered.items;
-      audit = last;
-      audited = audit.ensures.audited good;
-      told = subst (λ n. Told front n) names (subst (λ text. Told text (length office.names.items)) text_is told);
+      audit = found;
+      audited = finish.ensures.audited good.0;
+      told = subst (λ (l : List ℕ). Appends (g.W.Write.contents c.args.writer.now) (g.W.Write.contents c.tell.new.writer)
+          (front ++ lines_upto (length c.args.setup.now.tenants) office.names.items c.close-totals.result ++ l)) only
+          (subst (λ n. Told front n) names (subst (λ text. Told text (length office.names.items)) text_is told));
       one_list = c.in-Ok.ensures.one_list;
     }) c.end_of.ensures.good

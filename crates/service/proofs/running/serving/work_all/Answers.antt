@@ -9,7 +9,7 @@ use Rattle.service.proofs.running.serving.work_all.Goals as goal
 
 pub run_beside-requires-send-W : goal.run_beside-requires-send-W
 run_beside-requires-send-W g c κs within =
-    let office = office_sync (param 0 g.row.J) g.J.Run c.books_are_shared.ensures c.meters_are_shared.ensures.shared in
+    let office = office_sync (param 0 g.row.J) g.J.Run c.books_are_shared.ensures c.meters_are_shared.ensures.shared c.networks_cross.ensures in
     let seat = c.meters_are_shared.ensures.sent in
     let lane : (κ : NamedLft) → IsSend (Worker.the_row κ (param 1 g.row.H) (param 2 g.row.C) (param 0 g.row.J) g.J.Run)
     = λ κ. worker_send κ (param 1 g.row.H) (param 2 g.row.C) (param 0 g.row.J) g.J.Run c.type_bounds.sync-H c.type_bounds.sync-C office

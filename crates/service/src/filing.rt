@@ -1,0 +1,96 @@
+//! The statements of closed periods: where they are kept, and which could not be written.
+
+ghost use Rattle.std.specs.Prelude.{◌≡◌, ◌++◌, Bool, List, Option, OnOk, ℕ};
+ghost use Rattle.std.specs.Fmt.{decimal};
+ghost use Rattle.service.specs.Filing.{AreFiled, IsFiled, Stated, line_unless, missing_line};
+
+pub mod disk;
+pub mod folder;
+
+use common_types::Name;
+use statements::write_statement;
+use std::alloc::{AllocError, Global};
+use tenant_core::Period;
+use workers::Backlog;
+
+/// What a service knows of its statements: the folder where they are kept, and the periods whose statements are still to be
+/// written.
+#[derive(Drop)]
+pub struct Filing {
+    pub folder: String,
+    pub backlog: Backlog,
+}
+
+/// Where statements are kept.
+pub trait StatementStore {
+    /// What a question makes of it: before, of whose period it was asked, the answer, and after.
+    ghost tells: { Self → List ℕ → ℕ → Option Bool → Self → Type 0 };
+
+    /// What keeping makes of it: before, what was to be kept, whether it is kept now, and after.
+    ghost keeps: { Self → Stated → Bool → Self → Type 0 };
+
+    /// Whether there is a statement of a tenant's period; `None` where that can't be told.
+    fn has(&mut self, name: &Name, period: u64) -> Option<bool>
+        ensures { tells self.old name.now period result self.new };
+
+    /// Keeps the statement of a tenant's period for good, of which there is none. Says whether it is kept now.
+    fn keep(&mut self, name: &Name, period: u64, text: &[u8]) -> bool
+        ensures { keeps self.old (record { name = name.now; period = period; text = text.now }) result self.new };
+}
+
+/// Writes the statement of a closed period, unless there is one of that period, and says whether it is kept now. It is not where
+/// memory was refused.
+pub fn file<S: StatementStore>(alloc: Global, store: &mut S, period: &Period) -> bool
+    ensures { IsFiled S.tells S.keeps period.now result store.old store.new }
+{
+    let Ok(text) = write_statement(alloc, period) else {
+        return false;
+    };
+    let (name, number) = (&period.opening().name, period.number());
+    store.has(name, number) == Some(false) && store.keep(name, number, text.as_slice())
+}
+
+/// Writes the statements of closed periods, one after another, and a line for each that is not kept now. The one error is that
+/// memory was refused for a line.
+pub fn file_each<S: StatementStore>(
+    alloc: Global,
+    store: &mut S,
+    periods: &[Period],
+) -> Result<Vec<u8>, AllocError>
+    ensures { OnOk result ((lines : List ℕ) × AreFiled S.tells S.keeps periods.now store.old store.new lines) }
+{
+    let mut lines = Vec::new(alloc);
+    for period in periods {
+        file_or_tell(alloc, store, period, &mut lines)?;
+    }
+    Ok(lines)
+}
+
+// Writes the statement of a closed period, or a line where it is not kept now.
+fn file_or_tell<S: StatementStore>(
+    alloc: Global,
+    store: &mut S,
+    period: &Period,
+    lines: &mut Vec<u8>,
+) -> Result<(), AllocError>
+    ensures { OnOk result ((kept : Bool) × IsFiled S.tells S.keeps period.now kept store.old store.new
+        × (lines.new.items ≡ lines.old.items ++ line_unless kept period.now)) }
+{
+    if file(alloc, store, period) {
+        return Ok(());
+    }
+    put_missing(alloc, lines, period)
+}
+
+// The line of a period whose statement is not kept.
+#[tactic(auto, unfolding(crate::specs::Filing::missing_line))]
+fn put_missing(alloc: Global, lines: &mut Vec<u8>, period: &Period) -> Result<(), AllocError>
+    ensures { OnOk result (lines.new.items ≡ lines.old.items ++ missing_line period.now) }
+{
+    lines.extend_from_slice(b"statement ")?;
+    lines.extend_from_slice(period.opening().name.as_bytes())?;
+    lines.extend_from_slice(b" ")?;
+    let number = period.number().to_string(alloc)?;
+    lines.extend_from_slice(number.as_bytes())?;
+    lines.extend_from_slice(b" missing\n")
+}

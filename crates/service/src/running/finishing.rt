@@ -1,0 +1,150 @@
+//! What a service does once no worker works any more: it closes periods, and has statements written and receipts audited.
+
+ghost use Rattle.std.specs.Prelude.{◌≡◌, ◌≢◌, ◌<◌, ◌++◌, [], List, vec_len, true, false, IfOk, OnOk};
+ghost use Rattle.tenant_core.specs.declared.period.PeriodParts.{PeriodParts};
+ghost use Rattle.service.specs.Auditing.{HaveEnded, IsAudited, IsFound};
+ghost use Rattle.service.specs.Extents.{closes};
+ghost use Rattle.workers.specs.Carrying.{circumstances};
+
+use crate::filing::disk::Disk;
+use crate::filing::file_each;
+use crate::filing::folder::Folder;
+use crate::office::Office;
+use crate::running::auditing::{Found, audited, lacked, roll_all};
+use crate::running::ending::AuditEnd;
+use crate::running::plan::Plan;
+use crate::system::System;
+use books_shared::Share;
+use one_list::Run;
+use std::alloc::AllocError;
+use std::sync::Wait;
+use tenant_core::Period;
+use workers::Clock;
+
+/// What a service tells last: a line for each period whose statement is not kept, and what an audit found.
+#[derive(Drop)]
+pub struct Last {
+    pub statements: Vec<u8>,
+    pub audit: Found,
+}
+
+/// Periods and more of them, where there is memory to put them together.
+pub fn with_more(periods: Option<Vec<Period>>, more: Vec<Period>) -> Option<Vec<Period>> {
+    let mut all = periods?;
+    for period in more {
+        all.push(period).ok()?;
+    }
+    Some(all)
+}
+
+// The periods whose statements are still to be written, taken out of the backlog. The one error is that memory was refused.
+fn waiting_periods<J: Run, H: Wait, C>(
+    system: &System<'_, H, C>,
+    office: &Office<J>,
+) -> Result<Vec<Period>, AllocError> {
+    let mut all = Vec::new(system.alloc);
+    let Some(filing) = &office.filing else {
+        return Ok(all);
+    };
+    for tenant in 0..office.books.tenants() {
+        for _ in 0..filing.backlog.len(system.handle, tenant) {
+            all.reserve(1)?;
+            let Some((period, room)) = filing.backlog.take(system.handle, tenant) else {
+                break;
+            };
+            room.give_up(system.handle);
+            all.push_reserved(period);
+        }
+    }
+    Ok(all)
+}
+
+// Has the statements of these periods written, where statements are kept, and gives a line for each that is not kept now. The
+// one error is that memory was refused.
+fn file_late<J: Run, H: Disk, C>(
+    system: &System<'_, H, C>,
+    office: &Office<J>,
+    periods: &[Period],
+) -> Result<Vec<u8>, AllocError> {
+    match &office.filing {
+        Some(filing) => {
+            let path = filing.folder.as_str();
+            let mut folder = Folder::new(system.handle, system.alloc, path);
+            file_each(system.alloc, &mut folder, periods)
+        }
+        None => Ok(Vec::new(system.alloc)),
+    }
+}
+
+// Closes what is to be closed, has statements written and receipts audited. The one error is that memory was refused.
+fn finished<J: Run, H: Wait + Disk, C: Clock>(
+    system: &System<'_, H, C>,
+    plan: Plan<'_>,
+    office: &Office<J>,
+    shares: &mut Vec<Share<J>>,
+    periods: Option<Vec<Period>>,
+) -> Result<Last, AllocError>
+    requires { 0 < vec_len shares.old }
+    ensures ended { OnOk result (HaveEnded (circumstances J.openings (C.gives system.now.clock.now)) (closes plan.entry)
+        office.now.books.tenants shares.old.items shares.new.items) }
+    ensures audited { IfOk result (λ last. last.audit.end ≡ AuditEnd.Good
+        → IsAudited plan.entry.report.audit shares.new.items last.audit.line.items) }
+    ensures found { IfOk result (λ last. (closed : List PeriodParts)
+        × IsFound plan.entry.report.audit closed shares.new.items last.audit.end last.audit.line.items) }
+{
+    let mut late = waiting_periods(system, office)?;
+    roll_all(system, plan.closes(), office, shares, &mut late)?;
+    let statements = file_late(system, office, late.as_slice())?;
+    let closed = with_more(periods, late).ok_or(AllocError)?;
+    let wanted = plan.report.audit;
+    let audit = audited(system.alloc, wanted, closed.as_slice(), shares.as_slice())?;
+    Ok(Last { statements, audit })
+}
+
+/// Closes the running periods, where an audit or statements want it; has the statements written that are not yet; and audits what
+/// the workers did, where that is wanted, by the periods that were closed before, if there was memory to put them together. One
+/// of the workers closes the last ones.
+pub fn finish<J: Run, H: Wait + Disk, C: Clock>(
+    system: &System<'_, H, C>,
+    plan: Plan<'_>,
+    office: &Office<J>,
+    shares: &mut Vec<Share<J>>,
+    periods: Option<Vec<Period>>,
+) -> Last
+    requires { 0 < vec_len shares.old }
+    ensures ended { result.audit.end ≡ AuditEnd.Good → HaveEnded (circumstances J.openings (C.gives system.now.clock.now))
+        (closes plan.entry) office.now.books.tenants shares.old.items shares.new.items }
+    ensures audited { result.audit.end ≡ AuditEnd.Good → IsAudited plan.entry.report.audit shares.new.items result.audit.line.items }
+    ensures found { (closed : List PeriodParts)
+        × IsFound plan.entry.report.audit closed shares.new.items result.audit.end result.audit.line.items }
+{
+    match finished(system, plan, office, shares, periods) {
+        Ok(last) => last,
+        Err(AllocError) => Last {
+            statements: Vec::new(system.alloc),
+            audit: lacked(system.alloc),
+        },
+    }
+}
+
+/// What a service tells last, as a text.
+#[derive(Drop)]
+pub struct LastText {
+    pub text: Vec<u8>,
+    /// Whether all statements are kept: the text is what the audit found, and nothing else.
+    pub is_stated: bool,
+}
+
+/// The lines of statements that are not kept, and after them the line of the audit.
+pub fn followed_by(mut lines: Vec<u8>, last: &[u8]) -> Result<LastText, AllocError>
+    ensures all { IfOk result (λ told. told.text.items ≡ lines.items ++ last.now) }
+    ensures kept { IfOk result (λ told. told.is_stated ≡ true → told.text.items ≡ last.now) }
+    ensures missing { IfOk result (λ told. told.is_stated ≡ false → lines.items ≢ []) }
+{
+    let is_stated = lines.is_empty();
+    lines.extend_from_slice(last)?;
+    Ok(LastText {
+        text: lines,
+        is_stated,
+    })
+}
