@@ -9,7 +9,7 @@ use crate::command::{Answered, Command, Order};
 use crate::faults::{BookFault, CommandFault, HoldFault};
 use crate::fresh::{begin_period, next_period};
 use crate::ground::Ground;
-use crate::hold::begun_by;
+use crate::hold::{Hold, begun_by};
 use crate::hold_table::HoldTable;
 use crate::journal::{AnswerEntry, AnswerKey, ChangeEntry, PrepareKey, RollEntry, TickEntry};
 use crate::judge::{Standing, child_of};
@@ -28,10 +28,10 @@ use crate::setup::TenantSetup;
 use crate::verdict::Verdict;
 use common_types::{Boxed, Items};
 use ildcp_core::Child;
-use ilp_addr::{Moment, Target};
+use ilp_addr::{Address, Moment, Target};
 use money_core::Purse;
 use rate_bucket::Bucket;
-use route_table::PeerNo;
+use route_table::{Hop, PeerNo};
 use std::alloc::{AllocError, Global};
 use std::marker::Model;
 use std::mem;
@@ -70,7 +70,8 @@ impl Book {
     ghost use Rattle.std.specs.Prelude.{◌≡◌, ◌<◌, ◌≤◌, length, IfOk, IfSome, option_copied, option_map};
     ghost use Rattle.ilp_addr.specs.OwnAddress.{max_own_address};
     ghost use Rattle.tenant_core.specs.Answer.{has_no_place};
-    ghost use Rattle.tenant_core.specs.Holds.{open_holds};
+    ghost use Rattle.route_table.specs.Routes.{best_route};
+    ghost use Rattle.tenant_core.specs.Holds.{holds_of, open_holds};
     ghost use Rattle.tenant_core.specs.State.{opened, opening_of};
     ghost use Rattle.tenant_core.specs.Limits.{max_tenants};
     ghost use Rattle.tenant_core.specs.Network.{peer_numbered, peer_with_token};
@@ -92,25 +93,12 @@ impl Book {
         requires { tenant < max_tenants }
         ensures { IfOk result (λ book. book ≡ opened (opening_of tenant setup.now start)) }
     {
-        let terms = setup.terms();
+        setup.terms();
         let clock = start.millis();
-        let mut network = terms.network.copy(alloc)?;
-        network.begin(clock);
-        network.is_network();
+        let opening = Opening::first(alloc, tenant, setup, start)?;
+        opening.network.is_network();
         rate_bucket::laws::running();
-        let fresh = begin_period(alloc, &network, terms.journal)?;
-        let opening = Opening {
-            tenant,
-            name: terms.name.copy(),
-            address: terms.address.copy(),
-            journal: terms.journal,
-            margin: terms.margin,
-            hold: terms.hold,
-            period: 0,
-            clock,
-            next_hold: 0,
-            network,
-        };
+        let fresh = begin_period(alloc, &opening.network, opening.journal)?;
         Ok(Book {
             opening,
             network: fresh.network,
@@ -215,6 +203,20 @@ impl Book {
         ensures { result ≡ open_holds self.now }
     {
         self.holds.awaited()
+    }
+
+    /// The packets of the running period that went on, in the order of their numbers.
+    pub fn holds(&self) -> &[Hold]
+        ensures { result.now ≡ holds_of self.now }
+    {
+        self.holds.as_slice()
+    }
+
+    /// Where the best route of a destination leads, and the fee that is kept of what goes there.
+    pub fn hop(&self, destination: &Address<'_>) -> Option<Hop>
+        ensures { result ≡ best_route (network_of self.now).routes destination.now }
+    {
+        self.network.routes().find(destination)
     }
 
     /// What the peer of that number owes, and what is held from it and for it.

@@ -37,6 +37,7 @@ pub use arena::Journal;
 pub use book::Book;
 pub use command::{Amount, Answered, Command, Order, Pair, Side};
 pub use faults::{BookFault, CommandFault, HoldFault, OpeningFault};
+pub use hold::{Fate, Hold};
 pub use ildcp_core::Role;
 pub use journal::{
     AnswerEntry, AnswerKey, Change, ChangeEntry, DecideEntry, Entry, Expiry, Outcome, PrepareKey,

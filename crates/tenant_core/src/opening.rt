@@ -1,8 +1,9 @@
 //! What a period begins with.
 
 use crate::network::Network;
+use crate::setup::TenantSetup;
 use common_types::Name;
-use ilp_addr::OwnAddress;
+use ilp_addr::{Moment, OwnAddress};
 use std::alloc::{AllocError, Global};
 
 /// A tenant as a period finds it.
@@ -28,6 +29,35 @@ pub struct Opening {
 
 impl Opening {
     ghost use Rattle.std.specs.Prelude.{◌≡◌, IfOk};
+    ghost use Rattle.tenant_core.specs.State.{opening_of};
+
+    /// What the first period of a tenant begins with, which is at that place among all tenants and starts at that moment. The
+    /// one error is want of memory.
+    pub fn first(
+        alloc: Global,
+        tenant: usize,
+        setup: &TenantSetup,
+        start: Moment,
+    ) -> Result<Opening, AllocError>
+        ensures { IfOk result (λ opening. opening ≡ opening_of tenant setup.now start) }
+    {
+        let terms = setup.terms();
+        let clock = start.millis();
+        let mut network = terms.network.copy(alloc)?;
+        network.begin(clock);
+        Ok(Opening {
+            tenant,
+            name: terms.name.copy(),
+            address: terms.address.copy(),
+            journal: terms.journal,
+            margin: terms.margin,
+            hold: terms.hold,
+            period: 0,
+            clock,
+            next_hold: 0,
+            network,
+        })
+    }
 
     /// The same opening once more. The one error is want of memory.
     pub fn copy(&self, alloc: Global) -> Result<Opening, AllocError>

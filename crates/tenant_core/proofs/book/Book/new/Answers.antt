@@ -1,4 +1,4 @@
-use Rattle.std.proofs.Common.{arith, refl, true, ◌≡◌, ◌≤◌, ◌<◌, ℕ, sym, ap, subst}
+use Rattle.std.proofs.Common.{arith, refl, true, ◌≡◌, ◌≤◌, ◌<◌, ℕ, sym, ap, subst, ◌∙◌}
 use Rattle.std.specs.Prelude.{count_by}
 use Rattle.std.proofs.lemmas.Bool.Decides.{nat_tests}
 use Rattle.ilp_addr.specs.Timestamp.{last_moment}
@@ -9,7 +9,7 @@ use Rattle.tenant_core.specs.Limits.{max_hold, max_journal, max_margin, max_tena
 use Rattle.tenant_core.specs.Network.{Net, IsNetwork}
 use Rattle.tenant_core.specs.Setup.{is_tenant_setup}
 use Rattle.tenant_core.specs.Sound.{IsSound}
-use Rattle.tenant_core.specs.State.{State, opened}
+use Rattle.tenant_core.specs.State.{State, opened, opening_of}
 use Rattle.tenant_core.proofs.Calling.{calls_opened}
 use Rattle.tenant_core.proofs.Courses.{holds_of-opened}
 use Rattle.tenant_core.proofs.Openings.{AreFresh, begun_fresh}
@@ -64,22 +64,21 @@ first_sound o tenant within period first clock network =
 
 pub invariant_of-result : goal.invariant_of-result
 invariant_of-result c =
-    let t : TenantTerms = c.terms-terms.result.now in
-    let o : Opening = record {
-      tenant = c.args.tenant;
-      name = c.copy-2.result;
-      address = c.copy-3.result;
-      journal = t.journal;
-      margin = t.margin;
-      hold = t.hold;
-      period = 0;
-      clock = c.millis-clock.result;
-      next_hold = 0;
-      network = c.begin.new.self;
-    } in
-    let within = limits t c.terms-terms.ensures.within in
+    let t : TenantTerms = c.args.setup.now in
+    let legal : is_tenant_setup t ≡ true = subst (λ (x : TenantTerms). is_tenant_setup x ≡ true) c.terms.ensures.same c.terms.ensures.within in
+    let o : Opening = c.in_ok-opening.opening in
+    let start : ℕ = c.args.start in
+    let e : o ≡ opening_of c.args.tenant t start = c.in_ok-opening.ensures in
+    let within : IsWithin o.journal o.margin o.hold =
+    subst (λ (x : Opening). IsWithin x.journal x.margin x.hold) (sym e) (limits t legal) in
+    let tenant : o.tenant < max_tenants = subst (λ (x : Opening). x.tenant < max_tenants) (sym e) c.requires in
+    let period : o.period ≡ 0 = ap (λ (x : Opening). x.period) e in
+    let first : o.next_hold ≡ 0 = ap (λ (x : Opening). x.next_hold) e in
+    let begins : o.clock ≡ start = ap (λ (x : Opening). x.clock) e in
+    let clock : o.clock ≡ c.millis-clock.result = begins ∙ sym c.millis-clock.ensures.value in
+    let early : o.clock ≤ last_moment = subst (λ (n : ℕ). n ≤ last_moment) (sym clock) c.millis-clock.ensures.bound in
     let network : IsNetwork o.network = c.is_network.ensures in
-    let early : o.clock ≤ last_moment = c.millis-clock.ensures.bound in
-    let fresh : AreFresh o.clock o.network.peers = subst (λ (n : Net). AreFresh o.clock n.peers) (sym c.begin.ensures) (begun_fresh c.in_ok-network.network o.clock) in
-    empty_kept c.running.ensures _ (first_sound o c.requires within refl refl early network) network fresh
-    (fresh_empty o o.clock c.in_ok-fresh.fresh refl c.in_ok-fresh.ensures)
+    let fresh : AreFresh o.clock o.network.peers =
+    subst (λ (x : Opening). AreFresh x.clock x.network.peers) (sym e) (begun_fresh t.network start) in
+    empty_kept c.running.ensures _ (first_sound o tenant within period first early network) network fresh
+    (fresh_empty o c.millis-clock.result c.in_ok-fresh.fresh clock c.in_ok-fresh.ensures)
