@@ -225,3 +225,16 @@ pub record IsStatement (text : List ℕ) (p : PeriodParts) : Type 0 where
   pub listed : AreRoutesOf p.opening.network.routes routes
   pub listed_next : AreRoutesOf p.ending.network.routes next
   pub written : text ≡ statement_text routes next p
+
+-- the text is all that stands before the records where a period begins with that, in any order of its routes
+pub record IsHead (text : List ℕ) (o : Opening) : Type 0 where
+  pub routes : List Route
+  pub listed : AreRoutesOf o.network.routes routes
+  pub written : text ≡ head_text routes o
+
+-- the text begins so
+pub record OpensWith (text : List ℕ) (o : Opening) : Type 0 where
+  pub head : List ℕ
+  pub is_head : IsHead head o
+  pub rest : List ℕ
+  pub written : text ≡ head ++ rest

@@ -1,6 +1,8 @@
 //! Statements that are checked.
 
-ghost use Rattle.std.specs.Prelude.{◌≡◌, false, IfOk, None};
+ghost use Rattle.std.specs.Prelude.{◌≡◌, false, IfOk, IfSome, IsTrue, None};
+ghost use Rattle.statements.specs.Fees.{goes_on, route_fee};
+ghost use Rattle.statements.specs.Gone.{IsCharged, IsGone};
 ghost use Rattle.statements.specs.Statement.{IsStatement};
 ghost use Rattle.tenant_core.specs.Reopening.{is_roll, opening_fault};
 
@@ -9,10 +11,11 @@ use crate::opening::opening_in;
 use crate::words::Lines;
 use crate::written::write_statement;
 use common_types::ReadError;
-use ilp_addr::Moment;
+use ilp_addr::{Address, Moment};
 use std::alloc::Global;
 use tenant_core::{
-    Answered, Book, Change, Command, CommandFault, Entry, OpeningFault, PeerNo, Period,
+    Answered, Book, Change, Command, CommandFault, Entry, Hold, OpeningFault, Outcome,
+    PeerNo, Period, Verdict,
 };
 use thiserror::Error;
 
@@ -52,21 +55,69 @@ fn limit(fault: OpeningFault) -> ReadError<StatementFault> {
     bad(StatementFault::Limit(fault))
 }
 
-/// A period that is gone over again: its book so far, and the number that the next peer gets.
+/// A period that was gone over again, with its packets that went on and the fees that were kept of them.
+#[derive(Drop)]
+pub struct Gone {
+    pub period: Period,
+    pub holds: Vec<Hold>,
+    pub fees: Vec<u64>,
+}
+
+/// A period that is gone over again: its book so far, the fees of its packets that went on, and the number that the next peer
+/// gets.
 #[derive(Drop)]
 struct Course {
     book: Book,
+    fees: Vec<u64>,
     next_peer: PeerNo,
 }
 
 // The course of the period whose opening stands on these lines.
-fn begun(alloc: Global, lines: &mut Lines<'_>) -> Checked<Course> {
+#[tactic(auto, unfolding(crate::specs::Fees::fees_of))]
+fn begun(alloc: Global, lines: &mut Lines<'_>) -> Checked<Course>
+    ensures { IfOk result IsCharged }
+{
     let opening = opening_in(alloc, lines)?;
     let next_peer = opening.network.next_peer();
     match Book::reopened(alloc, opening) {
-        Ok(book) => Ok(Course { book, next_peer }),
+        Ok(book) => Ok(Course {
+            book,
+            fees: Vec::new(alloc),
+            next_peer,
+        }),
         Err(ReadError::Memory) => Err(ReadError::Memory),
         Err(ReadError::Fault(fault)) => Err(limit(fault)),
+    }
+}
+
+// The fee of the best route of a packet's destination, 0 of another entry; `None` where the destination is no address.
+fn route_fee(book: &Book, entry: &Entry) -> Option<u64>
+    ensures { IfSome result (λ fee. fee ≡ route_fee book.now entry.now) }
+{
+    let Entry::Decide(decide) = entry else {
+        return Some(0);
+    };
+    let destination = Address::parse(decide.destination.as_slice()).ok()?;
+    match book.hop(&destination) {
+        Some(hop) => Some(hop.fee.get()),
+        None => Some(0),
+    }
+}
+
+// Whether a packet goes on.
+fn goes_on(outcome: &Outcome) -> bool
+    ensures { result ≡ goes_on outcome.now }
+{
+    matches!(outcome, Outcome::Packet(Verdict::Forward { .. }))
+}
+
+// The number that the next peer gets, after the entry.
+fn next_peer(entry: &Entry, next: PeerNo) -> PeerNo {
+    match entry {
+        Entry::Change(entry) if matches!(entry.change, Change::PeerAdded(_)) => {
+            next.saturating_add(1)
+        }
+        _ => next,
     }
 }
 
@@ -74,25 +125,36 @@ impl Course {
     // Follows an entry; `false` where it would not have been recorded.
     fn follow(&mut self, alloc: Global, entry: &Entry) -> Checked<bool>
         requires { is_roll entry.now ≡ false }
+        ensures { IfOk result (λ is_followed. IsTrue is_followed → IsCharged self.old → IsCharged self.new) }
     {
-        if self.book.follow(alloc, entry)?.is_none() {
+        let Some(fee) = route_fee(&self.book, entry) else {
             return Ok(false);
+        };
+        let Some(outcome) = self.book.follow(alloc, entry)? else {
+            return Ok(false);
+        };
+        if goes_on(&outcome) {
+            self.fees.push(fee)?;
         }
-        if let Entry::Change(entry) = entry
-            && let Change::PeerAdded(_) = &entry.change
-        {
-            self.next_peer = self.next_peer.saturating_add(1);
-        }
+        self.next_peer = next_peer(entry, self.next_peer);
         Ok(true)
     }
 
     // The period that a roll at that moment closes, if nothing refuses it.
-    fn rolled(&mut self, alloc: Global, now: u64) -> Checked<Option<Period>> {
+    fn rolled(mut self, alloc: Global, now: u64) -> Checked<Option<Gone>>
+        requires { IsCharged self }
+        ensures { IfOk result (λ rolled. IfSome rolled IsGone) }
+    {
         let Some(now) = Moment::new(now) else {
             return Ok(None);
         };
+        let holds = Vec::from_slice(alloc, self.book.holds())?;
         match self.book.command(alloc, &Command::Roll, now) {
-            Ok(Answered::Rolled(period)) => Ok(Some(period)),
+            Ok(Answered::Rolled(period)) => Ok(Some(Gone {
+                period,
+                holds,
+                fees: self.fees,
+            })),
             Err(CommandFault::Memory) => Err(ReadError::Memory),
             _ => Ok(None),
         }
@@ -100,7 +162,9 @@ impl Course {
 }
 
 // The period that its own entries lead to, from its own opening on.
-fn gone_over(alloc: Global, text: &[u8]) -> Checked<Period> {
+fn gone_over(alloc: Global, text: &[u8]) -> Checked<Gone>
+    ensures { IfOk result IsGone }
+{
     let mut lines = Lines::of(text);
     let mut course = begun(alloc, &mut lines)?;
     for place in 0..MOST_RECORDS {
@@ -108,8 +172,8 @@ fn gone_over(alloc: Global, text: &[u8]) -> Checked<Period> {
         let entry = entry_in(alloc, line, course.next_peer)?;
         let entry = entry.ok_or(bad(StatementFault::Entry(place)))?;
         if entry.is_roll() {
-            let period = course.rolled(alloc, entry.moment())?;
-            return period.ok_or(bad(StatementFault::Refused(place)));
+            let gone = course.rolled(alloc, entry.moment())?;
+            return gone.ok_or(bad(StatementFault::Refused(place)));
         }
         if !course.follow(alloc, &entry)? {
             return Err(bad(StatementFault::Refused(place)));
@@ -119,7 +183,7 @@ fn gone_over(alloc: Global, text: &[u8]) -> Checked<Period> {
 }
 
 // The line of a text that first differs from the other's.
-fn first_difference(text: &[u8], other: &[u8]) -> usize {
+pub fn first_difference(text: &[u8], other: &[u8]) -> usize {
     let mut line: usize = 1;
     for (one, two) in text.iter().zip(other.iter()) {
         if one != two {
@@ -130,6 +194,24 @@ fn first_difference(text: &[u8], other: &[u8]) -> usize {
         }
     }
     line
+}
+
+/// The period that a text states, as `check_statement` gives it, with its packets that went on.
+pub fn checked(alloc: Global, text: &[u8]) -> Checked<Gone>
+    ensures stated { IfOk result (λ gone. IsStatement text.now gone.period) }
+    ensures begins { IfOk result (λ gone. opening_fault gone.period.opening ≡ None) }
+    ensures gone { IfOk result IsGone }
+{
+    let gone = gone_over(alloc, text)?;
+    if let Some(fault) = gone.period.opening().fault() {
+        return Err(limit(fault));
+    }
+    let written = write_statement(alloc, &gone.period)?;
+    if written.as_slice() == text {
+        Ok(gone)
+    } else {
+        Err(bad(StatementFault::Differs(first_difference(text, written.as_slice()))))
+    }
 }
 
 /// The closed period that a text states word for word, but for tokens and targets, which no statement has: each peer gets a
@@ -144,14 +226,5 @@ pub fn check_statement(alloc: Global, text: &[u8]) -> Result<Period, ReadError<S
     ensures stated { IfOk result (λ period. IsStatement text.now period) }
     ensures begins { IfOk result (λ period. opening_fault period.opening ≡ None) }
 {
-    let period = gone_over(alloc, text)?;
-    if let Some(fault) = period.opening().fault() {
-        return Err(limit(fault));
-    }
-    let written = write_statement(alloc, &period)?;
-    if written.as_slice() == text {
-        Ok(period)
-    } else {
-        Err(bad(StatementFault::Differs(first_difference(text, written.as_slice()))))
-    }
+    Ok(checked(alloc, text)?.period)
 }

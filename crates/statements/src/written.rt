@@ -1,9 +1,9 @@
 //! Statements, as they are written.
 
-ghost use Rattle.std.specs.Prelude.{◌≡◌, ◌++◌, IfOk, OnOk, Some};
+ghost use Rattle.std.specs.Prelude.{◌≡◌, ◌++◌, IfOk, IsTrue, OnOk, Some};
 ghost use Rattle.std.specs.List.{flat_map, slice_get};
 ghost use Rattle.statements.specs.Statement.{decide_words, entry_words, record_line, tenant_line, period_line, peer_line, route_line, rate_line};
-ghost use Rattle.statements.specs.Statement.{opening_text, version_line, head_text, ending_text, statement_text, IsStatement};
+ghost use Rattle.statements.specs.Statement.{opening_text, version_line, head_text, ending_text, statement_text, IsHead, IsStatement, OpensWith};
 ghost use Rattle.std.specs.Fmt.{decimal};
 ghost use Rattle.tenant_core.specs.State.{entered_at};
 ghost use Rattle.tenant_core.specs.declared.journal.Record.{Record};
@@ -218,6 +218,25 @@ fn put_statement(
     put_head(out, routes, period.opening())?;
     put_records(out, period.records())?;
     put_ending(out, next, period.ending())
+}
+
+/// What a statement of a period begins with that has that opening: all that stands before its records. The one error is that
+/// memory was refused.
+pub fn write_head(alloc: Global, opening: &Opening) -> Result<Vec<u8>, AllocError>
+    ensures { IfOk result (λ text. IsHead text.items opening.now) }
+{
+    let routes = opening.network.routes().list(alloc)?;
+    let mut out = Vec::new(alloc);
+    put_head(&mut out, routes.as_slice(), opening)?;
+    Ok(out)
+}
+
+/// Whether a text begins with all that stands before the records of a statement whose period has that opening. The one error
+/// is that memory was refused.
+pub fn opens_with(alloc: Global, text: &[u8], opening: &Opening) -> Result<bool, AllocError>
+    ensures { IfOk result (λ is. IsTrue is → OpensWith text.now opening.now) }
+{
+    Ok(text.starts_with(write_head(alloc, opening)?.as_slice()))
 }
 
 /// The text of a closed period. The one error is want of memory.

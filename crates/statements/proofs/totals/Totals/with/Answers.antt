@@ -1,0 +1,38 @@
+use Rattle.std.proofs.Common.{◌≡◌, ◌+◌, ℕ, List, [], ◌∷◌, ◌++◌, length, refl, ap, sym, ◌∙◌, arith}
+use Rattle.std.specs.Prelude.{sum_by}
+use Rattle.std.specs.List.{zip}
+use Rattle.std.proofs.lemmas.List.{length-append}
+use Rattle.std.proofs.lemmas.List.Sums.{sum_by_push}
+use Rattle.tenant_core.specs.Purse.{taken_for, taken_from}
+use Rattle.tenant_core.specs.Holds.{holds_of}
+use Rattle.tenant_core.specs.Closing.{state_before_roll}
+use Rattle.tenant_core.specs.declared.hold.Hold.{Hold}
+use Rattle.tenant_core.specs.declared.period.PeriodParts.{PeriodParts}
+use Rattle.statements.specs.Fees.{fees_of}
+use Rattle.statements.specs.Sums.{fee_by, went_by}
+use Rattle.statements.specs.Totals.{came_from, went_to, fulfilled_from, fulfilled_to, settled_from, settled_to, fees_from}
+use Rattle.statements.proofs.TotalSteps.{seen_more, sum_more}
+use Rattle.statements.proofs.totals.Totals.with.Goals as goal
+
+pub returns : goal.returns
+returns c = λ ps were.
+    let p : PeriodParts = c.args.gone.now.period in
+    let kept : List Hold = holds_of (state_before_roll p) in
+    let same : c.as_slice-holds.result.now ≡ kept = c.as_slice-holds.ensures.value ∙ c.requires.holds in
+    record {
+      periods = c.in_ok-raised.ensures ∙ (let was = were.periods in let long = length-append ps (p ∷ []) in omega arith);
+      entries = c.in_ok-raised-2.ensures ∙ (let was = were.entries in let more = sum_by_push (λ (q : PeriodParts). length q.records) ps p in omega arith);
+      peers = c.in_ok-seen_with.ensures ∙ seen_more c.args.self.now.periods c.as_slice.result.now ps p were.periods (c.as_slice.ensures.value ∙ were.peers);
+      came = sum_more came_from _ c.args.self.now.came c.in_ok-with_records.field-0 ps p were.came c.in_ok-with_records.ensures (λ n. refl);
+      went = sum_more went_to _ c.args.self.now.went c.in_ok-with_holds.field-0 ps p were.went c.in_ok-with_holds.ensures
+          (λ n. ap (λ (xs : List Hold). sum_by (went_by n) xs) same);
+      fulfilled_in = sum_more fulfilled_from _ c.args.self.now.fulfilled_in c.in_ok-with_holds-2.field-0 ps p were.fulfilled_in c.in_ok-with_holds-2.ensures
+          (λ n. ap (λ (xs : List Hold). sum_by (taken_from n) xs) same);
+      fulfilled_out = sum_more fulfilled_to _ c.args.self.now.fulfilled_out c.in_ok-with_holds-3.field-0 ps p were.fulfilled_out c.in_ok-with_holds-3.ensures
+          (λ n. ap (λ (xs : List Hold). sum_by (taken_for n) xs) same);
+      settled_in = sum_more settled_from _ c.args.self.now.settled_in c.in_ok-with_records-2.field-0 ps p were.settled_in c.in_ok-with_records-2.ensures (λ n. refl);
+      settled_out = sum_more settled_to _ c.args.self.now.settled_out c.in_ok-with_records-3.field-0 ps p were.settled_out c.in_ok-with_records-3.ensures (λ n. refl);
+      fees = sum_more fees_from _ c.args.self.now.fees c.in_ok-with_fees.field-0 ps p were.fees c.in_ok-with_fees.ensures
+          (λ n. ap (λ (xs : List Hold). sum_by (fee_by n) (zip xs c.args.gone.now.fees.items)) c.requires.holds
+          ∙ ap (λ (fs : List ℕ). sum_by (fee_by n) (zip kept fs)) c.requires.fees);
+    }

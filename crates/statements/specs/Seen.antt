@@ -1,0 +1,44 @@
+-- The peers that were there during some periods.
+use Rattle.std.specs.Prelude.{ℕ, ◌≡◌, pos, List, [], ◌∷◌, ◌++◌, map}
+use Rattle.std.specs.List.{flat_map}
+use Rattle.statements.specs.declared.seen.PeerSeen.{PeerSeen}
+use Rattle.tenant_core.specs.Peers.{next_by}
+use Rattle.tenant_core.specs.declared.journal.Change.{Change as Changed}
+use Rattle.tenant_core.specs.declared.journal.Change.TheVariants.{PeerAdded}
+use Rattle.tenant_core.specs.declared.journal.Entry.{Entry}
+use Rattle.tenant_core.specs.declared.journal.Entry.TheVariants.{Change}
+use Rattle.tenant_core.specs.declared.journal.Record.{Record}
+use Rattle.tenant_core.specs.declared.peer.Peer.{Peer}
+use Rattle.tenant_core.specs.declared.period.PeriodParts.{PeriodParts}
+
+-- a peer that was there as the first period began, and what it owed
+abbrev pub seen_at_first : Peer → PeerSeen
+seen_at_first p = record { number = p.number; name = p.terms.name; began = p.balance }
+
+-- the peer that a change adds, which gets that number and owes nothing
+abbrev pub seen_in : ℕ → Changed → List PeerSeen
+seen_in next (PeerAdded t) = (record { number = next; name = t.name; began = pos 0 }) ∷ []
+seen_in next _ = []
+
+-- the peer that an entry adds
+abbrev pub seen_by : ℕ → Entry → List PeerSeen
+seen_by next (Change c) = seen_in next c.change
+seen_by next _ = []
+
+-- the peers that records add, of which the first gets that number
+abbrev pub seen_among : ℕ → List Record → List PeerSeen
+seen_among next [] = []
+seen_among next (r ∷ rs) = seen_by next r.entry ++ seen_among (next_by next r.entry) rs
+
+-- the peers that a period added
+abbrev pub seen_during : PeriodParts → List PeerSeen
+seen_during p = seen_among p.opening.network.next_peer p.records
+
+-- the peers that were there as the first of the periods began
+abbrev pub seen_before : List PeriodParts → List PeerSeen
+seen_before [] = []
+seen_before (p ∷ ps) = map seen_at_first p.opening.network.peers
+
+-- all peers that were there, those that were taken away too
+abbrev pub peers_seen : List PeriodParts → List PeerSeen
+peers_seen ps = seen_before ps ++ flat_map seen_during ps

@@ -1,0 +1,57 @@
+-- What closed periods come to for each peer, in its units.
+use Rattle.std.specs.Prelude.{ℕ, ◌≡◌, List, length, sum_by}
+use Rattle.std.specs.List.{zip}
+use Rattle.statements.specs.Fees.{fees_of}
+use Rattle.statements.specs.Seen.{peers_seen}
+use Rattle.statements.specs.Sums.{came_by, fee_by, sum_at, went_by}
+use Rattle.statements.specs.declared.tally.Tally.{Tally}
+use Rattle.statements.specs.declared.totals.Totals.{Totals}
+use Rattle.tenant_core.specs.Closing.{state_before_roll}
+use Rattle.tenant_core.specs.Holds.{holds_of}
+use Rattle.tenant_core.specs.Purse.{settled_in, settled_out, taken_in_of, taken_out_of}
+use Rattle.tenant_core.specs.declared.period.PeriodParts.{PeriodParts}
+
+-- how many packets came from the peer of that number in a period, refused ones too
+abbrev pub came_from : ℕ → PeriodParts → ℕ
+came_from n p = sum_by (came_by n) p.records
+
+-- how many packets went on to it
+abbrev pub went_to : ℕ → PeriodParts → ℕ
+went_to n p = sum_by (went_by n) (holds_of (state_before_roll p))
+
+-- what its fulfilled packets brought
+abbrev pub fulfilled_from : ℕ → PeriodParts → ℕ
+fulfilled_from n p = taken_in_of (state_before_roll p) n
+
+-- what fulfilled packets came to that went on to it
+abbrev pub fulfilled_to : ℕ → PeriodParts → ℕ
+fulfilled_to n p = taken_out_of (state_before_roll p) n
+
+-- what it paid
+abbrev pub settled_from : ℕ → PeriodParts → ℕ
+settled_from n p = sum_by (settled_in n) p.records
+
+-- what it was paid
+abbrev pub settled_to : ℕ → PeriodParts → ℕ
+settled_to n p = sum_by (settled_out n) p.records
+
+-- the fees that were kept of fulfilled packets that went on to it
+abbrev pub fees_from : ℕ → PeriodParts → ℕ
+fees_from n p = sum_by (fee_by n) (zip (holds_of (state_before_roll p)) (fees_of (state_before_roll p)))
+
+-- the sums are those over the periods, for each peer
+abbrev pub IsSum : Tally → (ℕ → PeriodParts → ℕ) → List PeriodParts → Type 0
+IsSum t part ps = (n : ℕ) → sum_at t n ≡ sum_by (part n) ps
+
+-- what is told of the periods is what they come to
+pub record AreTotals (ps : List PeriodParts) (t : Totals) : Type 0 where
+  pub periods : t.periods ≡ length ps
+  pub entries : t.entries ≡ sum_by (λ p. length p.records) ps
+  pub peers : t.peers.items ≡ peers_seen ps
+  pub came : IsSum t.came came_from ps
+  pub went : IsSum t.went went_to ps
+  pub fulfilled_in : IsSum t.fulfilled_in fulfilled_from ps
+  pub fulfilled_out : IsSum t.fulfilled_out fulfilled_to ps
+  pub settled_in : IsSum t.settled_in settled_from ps
+  pub settled_out : IsSum t.settled_out settled_to ps
+  pub fees : IsSum t.fees fees_from ps

@@ -1,0 +1,122 @@
+//! Peers that were there.
+
+ghost use Rattle.std.specs.Prelude.{◌≡◌, ◌++◌, ◌∷◌, [], IfOk, OnOk, map, Some, if◌then◌else◌};
+ghost use Rattle.std.specs.List.{slice_get};
+ghost use Rattle.statements.specs.Seen.{seen_at_first, seen_by, seen_among, seen_during};
+ghost use Rattle.tenant_core.specs.Peers.{next_by};
+ghost use Rattle.tenant_core.specs.Views.{entry_of};
+ghost use Rattle.tenant_core.specs.declared.journal.Record.{Record};
+
+use crate::tally::{LONG, Summed};
+use common_types::Name;
+use std::alloc::{AllocError, Global};
+use tenant_core::{Change, EntryView, Peer, PeerNo, Period, Records};
+
+/// A peer that was there, and what it owed as the first period began, in its units; 0 where it was added since.
+#[derive(Drop)]
+pub struct PeerSeen {
+    pub number: PeerNo,
+    pub name: Name,
+    pub began: i64,
+}
+
+fn put_seen(out: &mut Vec<PeerSeen>, seen: &PeerSeen) -> Result<(), AllocError>
+    ensures { OnOk result (out.new.items ≡ out.old.items ++ seen.now ∷ []) }
+{
+    Ok(out.push(PeerSeen {
+        number: seen.number,
+        name: seen.name.copy(),
+        began: seen.began,
+    })?)
+}
+
+fn copied(alloc: Global, peers: &[PeerSeen]) -> Result<Vec<PeerSeen>, AllocError>
+    ensures { IfOk result (λ copy. copy.items ≡ peers.now) }
+{
+    let mut copy = Vec::new(alloc);
+    for seen in peers {
+        put_seen(&mut copy, seen)?;
+    }
+    Ok(copy)
+}
+
+fn put_first(out: &mut Vec<PeerSeen>, peer: &Peer) -> Result<(), AllocError>
+    ensures { OnOk result (out.new.items ≡ out.old.items ++ seen_at_first peer.now ∷ []) }
+{
+    Ok(out.push(PeerSeen {
+        number: peer.number,
+        name: peer.terms.name.copy(),
+        began: peer.balance.get(),
+    })?)
+}
+
+fn put_all_first(out: &mut Vec<PeerSeen>, peers: &[Peer]) -> Result<(), AllocError>
+    ensures { OnOk result (out.new.items ≡ out.old.items ++ map seen_at_first peers.now) }
+{
+    for peer in peers {
+        put_first(out, peer)?;
+    }
+    Ok(())
+}
+
+// Puts the peer that an entry adds, if it adds one, which gets that number; and gives the number of the next one.
+fn put_added(out: &mut Vec<PeerSeen>, entry: &EntryView<'_>, next: PeerNo) -> Summed<PeerNo>
+    ensures { IfOk result (λ after. (out.new.items ≡ out.old.items ++ seen_by next (entry_of entry.now)) × (after ≡ next_by next (entry_of entry.now))) }
+{
+    let EntryView::Change(entry) = entry else {
+        return Ok(next);
+    };
+    let Change::PeerAdded(terms) = &entry.change else {
+        return Ok(next);
+    };
+    out.push(PeerSeen {
+        number: next,
+        name: terms.name.copy(),
+        began: 0,
+    })?;
+    next.checked_add(1).ok_or(LONG)
+}
+
+fn put_added_at(
+    out: &mut Vec<PeerSeen>,
+    records: &Records,
+    place: usize,
+    next: PeerNo,
+) -> Summed<PeerNo>
+    ensures { IfOk result (λ after. (r : Record) → slice_get records.now place ≡ Some r
+        → (out.new.items ≡ out.old.items ++ seen_by next r.entry) × (after ≡ next_by next r.entry)) }
+{
+    match records.get(place) {
+        Some(view) => put_added(out, &view.entry, next),
+        None => Ok(next),
+    }
+}
+
+fn put_all_added(out: &mut Vec<PeerSeen>, records: &Records, first: PeerNo) -> Summed<()>
+    ensures { OnOk result (out.new.items ≡ out.old.items ++ seen_among first records.now) }
+{
+    let mut next = first;
+    for place in 0..records.len() {
+        next = put_added_at(out, records, place, next)?;
+    }
+    Ok(())
+}
+
+/// The peers that were there, and those that a period more added; and those that it began with, if it is the first.
+pub fn seen_with(
+    alloc: Global,
+    peers: &[PeerSeen],
+    is_first: bool,
+    period: &Period,
+) -> Summed<Vec<PeerSeen>>
+    ensures { IfOk result (λ all. all.items
+        ≡ (peers.now ++ (if is_first then map seen_at_first period.now.opening.network.peers else [])) ++ seen_during period.now) }
+{
+    let mut all = copied(alloc, peers)?;
+    let network = &period.opening().network;
+    if is_first {
+        put_all_first(&mut all, network.peers())?;
+    }
+    put_all_added(&mut all, period.records(), network.next_peer())?;
+    Ok(all)
+}

@@ -1,0 +1,75 @@
+//! What closed periods come to, for each peer.
+
+ghost use Rattle.std.specs.Prelude.{◌≡◌, ◌+◌, ◌++◌, ◌∷◌, [], IfOk, List};
+ghost use Rattle.statements.specs.Gone.{IsGone};
+ghost use Rattle.statements.specs.Totals.{AreTotals};
+ghost use Rattle.tenant_core.specs.declared.period.PeriodParts.{PeriodParts};
+
+use crate::checked::Gone;
+use crate::counting::{OfHold, OfRecord, with_fees, with_holds, with_records};
+use crate::seen::{PeerSeen, seen_with};
+use crate::tally::{LONG, Summed, Tally};
+use std::alloc::Global;
+
+/// What closed periods come to: how many there are, how many records they have, who was there, and sums for each peer.
+#[derive(Drop)]
+pub struct Totals {
+    pub periods: u64,
+    pub entries: u64,
+    pub peers: Vec<PeerSeen>,
+    pub came: Tally,
+    pub went: Tally,
+    pub fulfilled_in: Tally,
+    pub fulfilled_out: Tally,
+    pub settled_in: Tally,
+    pub settled_out: Tally,
+    pub fees: Tally,
+}
+
+// A count and so many more.
+fn raised(count: u64, more: u64) -> Summed<u64>
+    ensures { IfOk result (λ sum. sum ≡ count + more) }
+{
+    count.checked_add(more).ok_or(LONG)
+}
+
+impl Totals {
+    /// Those of no period.
+    pub fn new(alloc: Global) -> Totals
+        ensures { AreTotals [] result }
+    {
+        Totals {
+            periods: 0,
+            entries: 0,
+            peers: Vec::new(alloc),
+            came: Tally::new(alloc),
+            went: Tally::new(alloc),
+            fulfilled_in: Tally::new(alloc),
+            fulfilled_out: Tally::new(alloc),
+            settled_in: Tally::new(alloc),
+            settled_out: Tally::new(alloc),
+            fees: Tally::new(alloc),
+        }
+    }
+
+    /// Those of a period more.
+    pub fn with(&self, alloc: Global, gone: &Gone) -> Summed<Totals>
+        requires { IsGone gone.now }
+        ensures { IfOk result (λ totals. (ps : List PeriodParts) → AreTotals ps self.now → AreTotals (ps ++ gone.now.period ∷ []) totals) }
+    {
+        let period = &gone.period;
+        let holds = gone.holds.as_slice();
+        Ok(Totals {
+            periods: raised(self.periods, 1)?,
+            entries: raised(self.entries, period.len() as u64)?,
+            peers: seen_with(alloc, self.peers.as_slice(), self.periods == 0, period)?,
+            came: with_records(alloc, &self.came, period, OfRecord::Came)?,
+            went: with_holds(alloc, &self.went, period, holds, OfHold::Went)?,
+            fulfilled_in: with_holds(alloc, &self.fulfilled_in, period, holds, OfHold::Brought)?,
+            fulfilled_out: with_holds(alloc, &self.fulfilled_out, period, holds, OfHold::CameTo)?,
+            settled_in: with_records(alloc, &self.settled_in, period, OfRecord::Paid)?,
+            settled_out: with_records(alloc, &self.settled_out, period, OfRecord::WasPaid)?,
+            fees: with_fees(alloc, &self.fees, gone)?,
+        })
+    }
+}
