@@ -4,9 +4,10 @@ use Rattle.std.specs.Prelude.{sum_by}
 use Rattle.std.specs.List.{flat_map}
 use Rattle.statements.specs.Chain.{IsChain}
 use Rattle.statements.specs.Seen.{peers_seen}
-use Rattle.statements.specs.Summary.{Told, chain_text, good_line, seen_line, summary_text, told_by, told_of}
+use Rattle.statements.specs.Summary.{chain_text, good_line, seen_line, summary_text, told_by, told_line, told_of}
 use Rattle.statements.specs.declared.chain.Chain.{Chain}
 use Rattle.statements.specs.declared.seen.PeerSeen.{PeerSeen}
+use Rattle.statements.specs.declared.summary.Told.{Told}
 use Rattle.tenant_core.specs.declared.period.PeriodParts.{PeriodParts}
 
 told_same : (texts : List (List ℕ)) (c : Chain) (is : IsChain texts c) (n : ℕ) → told_by c n ≡ told_of is.periods n
@@ -23,10 +24,9 @@ told_same texts c is n =
 
 lines_same : (told other : ℕ → Told) → ((n : ℕ) → told n ≡ other n) → (xs : List PeerSeen)
     → flat_map (seen_line told) xs ≡ flat_map (seen_line other) xs
-unfolding seen_line
 lines_same told other same [] = refl
 lines_same told other same (s ∷ xs) =
-    let here : seen_line told s ≡ seen_line other s = let e = same s.number in cc in
+    let here : seen_line told s ≡ seen_line other s = ap (λ (t : Told). told_line s t) (same s.number) in
     let rest : flat_map (seen_line told) xs ≡ flat_map (seen_line other) xs = lines_same told other same xs in
     ap (λ (line : List ℕ). line ++ flat_map (seen_line told) xs) here
     ∙ ap (λ (lines : List ℕ). seen_line other s ++ lines) rest

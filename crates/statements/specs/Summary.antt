@@ -9,6 +9,7 @@ use Rattle.statements.specs.Sums.{sum_at}
 use Rattle.statements.specs.Totals.{came_from, fees_from, fulfilled_from, fulfilled_to, settled_from, settled_to, went_to}
 use Rattle.statements.specs.declared.chain.Chain.{Chain}
 use Rattle.statements.specs.declared.seen.PeerSeen.{PeerSeen}
+use Rattle.statements.specs.declared.summary.Told.{Told}
 use Rattle.tenant_core.specs.Network.{peer_numbered}
 use Rattle.tenant_core.specs.Purse.{opening_balance}
 use Rattle.tenant_core.specs.declared.opening.Opening.{Opening}
@@ -18,17 +19,6 @@ use Rattle.tenant_core.specs.declared.period.PeriodParts.{PeriodParts}
 abbrev pub balance_in : Option Opening → ℕ → ℤ
 balance_in None n = pos 0
 balance_in (Some ending) n = opening_balance (peer_numbered n ending.network.peers)
-
--- what is told of a peer
-pub record Told : Type 0 where
-  pub ended : ℤ
-  pub came : ℕ
-  pub fulfilled_in : ℕ
-  pub settled_in : ℕ
-  pub went : ℕ
-  pub fulfilled_out : ℕ
-  pub settled_out : ℕ
-  pub fees : ℕ
 
 -- what periods come to for a peer
 abbrev pub told_of : List PeriodParts → ℕ → Told
@@ -59,26 +49,38 @@ told_by c n =
     }
 
 -- a number under its key
-abbrev pub keyed : List ℕ → ℕ → List ℕ
+unfoldable pub keyed : List ℕ → ℕ → List ℕ
 keyed key n = word key ++ number n
 
 -- a number that may be below 0, under its key
-abbrev pub keyed_signed : List ℕ → ℤ → List ℕ
+unfoldable pub keyed_signed : List ℕ → ℤ → List ℕ
 keyed_signed key n = word key ++ word (signed_decimal n)
 
--- what came in from a peer and went out to it
-unfoldable pub told_words : Told → List ℕ
-told_words t =
+-- what came in from a peer
+unfoldable pub in_words : Told → List ℕ
+in_words t =
     keyed (codes "packets-in") t.came ++ keyed (codes "fulfilled-in") t.fulfilled_in
-    ++ keyed (codes "settled-in") t.settled_in ++ keyed (codes "packets-out") t.went
-    ++ keyed (codes "fulfilled-out") t.fulfilled_out ++ keyed (codes "settled-out") t.settled_out
-    ++ keyed (codes "fees") t.fees
+    ++ keyed (codes "settled-in") t.settled_in
+
+-- what went out to it
+unfoldable pub out_words : Told → List ℕ
+out_words t =
+    keyed (codes "packets-out") t.went ++ keyed (codes "fulfilled-out") t.fulfilled_out
+    ++ keyed (codes "settled-out") t.settled_out
+
+-- who it is, what it owed at first and in the end
+unfoldable pub seen_words : PeerSeen → Told → List ℕ
+seen_words s t =
+    codes "peer" ++ number s.number ++ word s.name ++ keyed_signed (codes "began") s.began
+    ++ keyed_signed (codes "ended") t.ended
 
 -- the line of a peer: what it owed at first and in the end, and what is told of it
-unfoldable pub seen_line : (ℕ → Told) → PeerSeen → List ℕ
-seen_line told s =
-    codes "peer" ++ number s.number ++ word s.name ++ keyed_signed (codes "began") s.began
-    ++ keyed_signed (codes "ended") (told s.number).ended ++ told_words (told s.number) ++ 10 ∷ []
+unfoldable pub told_line : PeerSeen → Told → List ℕ
+told_line s t = seen_words s t ++ in_words t ++ out_words t ++ keyed (codes "fees") t.fees ++ 10 ∷ []
+
+-- the line of a peer of which that is told
+abbrev pub seen_line : (ℕ → Told) → PeerSeen → List ℕ
+seen_line told s = told_line s (told s.number)
 
 -- how many periods there are, and how many records they have
 unfoldable pub good_line : ℕ → ℕ → List ℕ

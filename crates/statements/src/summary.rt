@@ -3,7 +3,8 @@
 ghost use Rattle.std.specs.Prelude.{◌≡◌, ◌++◌, IfOk, List, ℕ, OnOk, option_copied};
 ghost use Rattle.std.specs.List.{flat_map};
 ghost use Rattle.statements.specs.Chain.{IsChain};
-ghost use Rattle.statements.specs.Summary.{balance_in, chain_text, good_line, keyed, keyed_signed, seen_line, summary_text, told_by, told_words};
+ghost use Rattle.statements.specs.Summary.{balance_in, chain_text, good_line, in_words, keyed, keyed_signed};
+ghost use Rattle.statements.specs.Summary.{out_words, seen_line, seen_words, summary_text, told_by, told_line};
 
 use crate::chain::Chain;
 use crate::put::{put_number, put_signed, put_word};
@@ -11,6 +12,19 @@ use crate::seen::PeerSeen;
 use itoa::Buffer;
 use std::alloc::{AllocError, Global};
 use tenant_core::{Opening, PeerNo};
+
+/// What is told of a peer, in its units: what it owes in the end, what came in from it and went out to it, and the fees.
+#[derive(Clone, Copy, Debug, PartialEq, Eq)]
+struct Told {
+    ended: i64,
+    came: u128,
+    fulfilled_in: u128,
+    settled_in: u128,
+    went: u128,
+    fulfilled_out: u128,
+    settled_out: u128,
+    fees: u128,
+}
 
 // What the peer of that number owes where that is the ending.
 fn balance_in(ending: Option<&Opening>, peer: PeerNo) -> i64
@@ -25,6 +39,7 @@ fn balance_in(ending: Option<&Opening>, peer: PeerNo) -> i64
     }
 }
 
+#[tactic(auto, unfolding(crate::specs::Summary::keyed))]
 fn put_keyed(out: &mut Vec<u8>, key: &[u8], value: u128) -> Result<(), AllocError>
     ensures { OnOk result (out.new.items ≡ out.old.items ++ keyed key.now value) }
 {
@@ -33,6 +48,7 @@ fn put_keyed(out: &mut Vec<u8>, key: &[u8], value: u128) -> Result<(), AllocErro
     put_word(out, digits.format(value).as_bytes())
 }
 
+#[tactic(auto, unfolding(crate::specs::Summary::keyed_signed))]
 fn put_keyed_signed(out: &mut Vec<u8>, key: &[u8], value: i64) -> Result<(), AllocError>
     ensures { OnOk result (out.new.items ≡ out.old.items ++ keyed_signed key.now value) }
 {
@@ -40,31 +56,67 @@ fn put_keyed_signed(out: &mut Vec<u8>, key: &[u8], value: i64) -> Result<(), All
     put_signed(out, value)
 }
 
-#[tactic(auto, unfolding(crate::specs::Summary::told_words))]
-fn put_told(out: &mut Vec<u8>, chain: &Chain, peer: PeerNo) -> Result<(), AllocError>
-    ensures { OnOk result (out.new.items ≡ out.old.items ++ told_words (told_by chain.now peer)) }
+// What a chain tells of a peer.
+fn told_by(chain: &Chain, peer: PeerNo) -> Told
+    ensures { result ≡ told_by chain.now peer }
 {
     let totals = chain.totals();
-    put_keyed(out, b"packets-in", totals.came.get(peer))?;
-    put_keyed(out, b"fulfilled-in", totals.fulfilled_in.get(peer))?;
-    put_keyed(out, b"settled-in", totals.settled_in.get(peer))?;
-    put_keyed(out, b"packets-out", totals.went.get(peer))?;
-    put_keyed(out, b"fulfilled-out", totals.fulfilled_out.get(peer))?;
-    put_keyed(out, b"settled-out", totals.settled_out.get(peer))?;
-    put_keyed(out, b"fees", totals.fees.get(peer))
+    Told {
+        ended: balance_in(chain.ending(), peer),
+        came: totals.came.get(peer),
+        fulfilled_in: totals.fulfilled_in.get(peer),
+        settled_in: totals.settled_in.get(peer),
+        went: totals.went.get(peer),
+        fulfilled_out: totals.fulfilled_out.get(peer),
+        settled_out: totals.settled_out.get(peer),
+        fees: totals.fees.get(peer),
+    }
 }
 
-#[tactic(auto, unfolding(crate::specs::Summary::seen_line))]
-fn put_seen(out: &mut Vec<u8>, chain: &Chain, seen: &PeerSeen) -> Result<(), AllocError>
-    ensures { OnOk result (out.new.items ≡ out.old.items ++ seen_line (told_by chain.now) seen.now) }
+#[tactic(auto, unfolding(crate::specs::Summary::in_words))]
+fn put_in(out: &mut Vec<u8>, told: &Told) -> Result<(), AllocError>
+    ensures { OnOk result (out.new.items ≡ out.old.items ++ in_words told.now) }
+{
+    put_keyed(out, b"packets-in", told.came)?;
+    put_keyed(out, b"fulfilled-in", told.fulfilled_in)?;
+    put_keyed(out, b"settled-in", told.settled_in)
+}
+
+#[tactic(auto, unfolding(crate::specs::Summary::out_words))]
+fn put_out(out: &mut Vec<u8>, told: &Told) -> Result<(), AllocError>
+    ensures { OnOk result (out.new.items ≡ out.old.items ++ out_words told.now) }
+{
+    put_keyed(out, b"packets-out", told.went)?;
+    put_keyed(out, b"fulfilled-out", told.fulfilled_out)?;
+    put_keyed(out, b"settled-out", told.settled_out)
+}
+
+#[tactic(auto, unfolding(crate::specs::Summary::seen_words))]
+fn put_words(out: &mut Vec<u8>, seen: &PeerSeen, told: &Told) -> Result<(), AllocError>
+    ensures { OnOk result (out.new.items ≡ out.old.items ++ seen_words seen.now told.now) }
 {
     out.extend_from_slice(b"peer")?;
     put_number(out, seen.number as u64)?;
     put_word(out, seen.name.as_bytes())?;
     put_keyed_signed(out, b"began", seen.began)?;
-    put_keyed_signed(out, b"ended", balance_in(chain.ending(), seen.number))?;
-    put_told(out, chain, seen.number)?;
+    put_keyed_signed(out, b"ended", told.ended)
+}
+
+#[tactic(auto, unfolding(crate::specs::Summary::told_line))]
+fn put_line(out: &mut Vec<u8>, seen: &PeerSeen, told: &Told) -> Result<(), AllocError>
+    ensures { OnOk result (out.new.items ≡ out.old.items ++ told_line seen.now told.now) }
+{
+    put_words(out, seen, told)?;
+    put_in(out, told)?;
+    put_out(out, told)?;
+    put_keyed(out, b"fees", told.fees)?;
     Ok(out.push(b'\n')?)
+}
+
+fn put_seen(out: &mut Vec<u8>, chain: &Chain, seen: &PeerSeen) -> Result<(), AllocError>
+    ensures { OnOk result (out.new.items ≡ out.old.items ++ seen_line (told_by chain.now) seen.now) }
+{
+    put_line(out, seen, &told_by(chain, seen.number))
 }
 
 fn put_all_seen(out: &mut Vec<u8>, chain: &Chain, peers: &[PeerSeen]) -> Result<(), AllocError>

@@ -236,7 +236,8 @@ pub fn write_head(alloc: Global, opening: &Opening) -> Result<Vec<u8>, AllocErro
 pub fn opens_with(alloc: Global, text: &[u8], opening: &Opening) -> Result<bool, AllocError>
     ensures { IfOk result (λ is. IsTrue is → OpensWith text.now opening.now) }
 {
-    Ok(text.starts_with(write_head(alloc, opening)?.as_slice()))
+    let head = write_head(alloc, opening)?;
+    Ok(text.starts_with(head.as_slice()))
 }
 
 /// The text of a closed period. The one error is want of memory.
