@@ -33,7 +33,7 @@ kept_more s (q ∷ rs) r =
     ap (λ (xs : List ℕ). fee_kept s q ++ xs) one
     ∙ (sym (append_assoc (fee_kept s q) (fees_kept next rs) (fee_kept (with_records next rs) r))
     ∙ ap (λ (xs : List Record). (fee_kept s q ++ fees_kept next rs) ++ fee_kept (record s { records = xs }) r)
-        (append_assoc s.records (q ∷ []) rs))
+    (append_assoc s.records (q ∷ []) rs))
 
 pub fees_more : (s : State) (r : Record) → fees_of (recorded s (Some r)) ≡ fees_of s ++ fee_kept s r
 unfolding fees_of

@@ -35,9 +35,9 @@ pub chain_text_is : (texts : List (List ℕ)) (c : Chain) (is : IsChain texts c)
 chain_text_is texts c is =
     let ps : List PeriodParts = is.periods in
     let good : good_line c.totals.periods c.totals.entries ≡ good_line (length ps) (sum_by (λ p. length p.records) ps) =
-        let periods = is.totals.periods in let entries = is.totals.entries in cc in
+    let periods = is.totals.periods in let entries = is.totals.entries in cc in
     let lines : flat_map (seen_line (told_by c)) c.totals.peers.items ≡ flat_map (seen_line (told_of ps)) (peers_seen ps) =
-        lines_same (told_by c) (told_of ps) (told_same texts c is) c.totals.peers.items
-        ∙ ap (λ (xs : List PeerSeen). flat_map (seen_line (told_of ps)) xs) is.totals.peers in
+    lines_same (told_by c) (told_of ps) (told_same texts c is) c.totals.peers.items
+    ∙ ap (λ (xs : List PeerSeen). flat_map (seen_line (told_of ps)) xs) is.totals.peers in
     ap (λ (line : List ℕ). line ++ flat_map (seen_line (told_by c)) c.totals.peers.items) good
     ∙ ap (λ (rest : List ℕ). good_line (length ps) (sum_by (λ p. length p.records) ps) ++ rest) lines

@@ -37,7 +37,7 @@ seen_step (q ∷ qs) p =
     ∙ (ap (λ (xs : List PeerSeen). xs ++ seen_during p) (append-nil (b ++ f))
     ∙ (append_assoc b f (seen_during p)
     ∙ ap (λ (xs : List PeerSeen). b ++ xs)
-        (sym (flat_map-append seen_during (q ∷ qs) (p ∷ []) ∙ ap (λ (xs : List PeerSeen). f ++ xs) (append-nil (seen_during p))))))
+    (sym (flat_map-append seen_during (q ∷ qs) (p ∷ []) ∙ ap (λ (xs : List PeerSeen). f ++ xs) (append-nil (seen_during p))))))
 
 pub seen_more : (count : ℕ) (peers : List PeerSeen) (ps : List PeriodParts) (p : PeriodParts) → count ≡ length ps → peers ≡ peers_seen ps
     → (peers ++ (if count == 0 then map seen_at_first p.opening.network.peers else [])) ++ seen_during p ≡ peers_seen (ps ++ p ∷ [])

@@ -14,8 +14,8 @@ use common_types::ReadError;
 use ilp_addr::{Address, Moment};
 use std::alloc::Global;
 use tenant_core::{
-    Answered, Book, Change, Command, CommandFault, Entry, Hold, OpeningFault, Outcome,
-    PeerNo, Period, Verdict,
+    Answered, Book, Change, Command, CommandFault, Entry, Hold, OpeningFault, Outcome, PeerNo,
+    Period, Verdict,
 };
 use thiserror::Error;
 
@@ -162,7 +162,7 @@ impl Course {
 }
 
 // The period that its own entries lead to, from its own opening on.
-fn gone_over(alloc: Global, text: &[u8]) -> Checked<Gone>
+pub fn gone_over(alloc: Global, text: &[u8]) -> Checked<Gone>
     ensures { IfOk result IsGone }
 {
     let mut lines = Lines::of(text);

@@ -237,7 +237,11 @@ pub fn opens_with(alloc: Global, text: &[u8], opening: &Opening) -> Result<bool,
     ensures { IfOk result (λ is. IsTrue is → OpensWith text.now opening.now) }
 {
     let head = write_head(alloc, opening)?;
-    Ok(text.starts_with(head.as_slice()))
+    if head.len() > text.len() {
+        return Ok(false);
+    }
+    let (front, _) = text.split_at(head.len());
+    Ok(front == head.as_slice())
 }
 
 /// The text of a closed period. The one error is want of memory.

@@ -11,7 +11,7 @@ pub returns-in-Ok-Rolled : goal.returns-in-Ok-Rolled
 returns-in-Ok-Rolled c =
     let rolled : c.command.result ≡ Ok (Rolled c.in-Ok-Rolled.period) = cc (c.in-Ok-Rolled.is, c.in-Ok-Rolled.field-0-is) in
     let here : state_before_roll c.in-Ok-Rolled.period ≡ c.args.self.book =
-        governed_closed c.args.self.book c.command.new.self c.command.result c.in-Ok-Rolled.period _ c.command.ensures rolled in
+    governed_closed c.args.self.book c.command.new.self c.command.result c.in-Ok-Rolled.period _ c.command.ensures rolled in
     record {
       holds = c.in_ok-holds.ensures.items ∙ (c.holds.ensures ∙ ap holds_of (sym here));
       fees = c.requires ∙ ap fees_of (sym here);
