@@ -53,7 +53,7 @@ pub struct CommandLine<'a> {
     pub address: &'a str,
     pub host: Option<HostWords<'a>>,
     /// The folder where the statements of closed periods are kept.
-    pub statements: Option<&'a str>,
+    pub folder: Option<&'a str>,
 }
 
 /// The address that a service listens on where the command line names none.
@@ -274,7 +274,7 @@ fn line_of<'a>(
         workers,
         address,
         host: None,
-        statements: None,
+        folder: None,
     }
 }
 
@@ -298,7 +298,7 @@ fn line_in<'a>(matches: &ArgMatches<'a>) -> CommandLine<'a>
             let address = serve.get_str("listen").unwrap_or(ADDRESS);
             CommandLine {
                 host: host_of(serve),
-                statements: serve.get_str("statements"),
+                folder: serve.get_str("statements"),
                 ..line_of(task, serve, workers_of(serve), address)
             }
         }

@@ -321,7 +321,7 @@ fn run<
             let plan = Plan {
                 extent,
                 report,
-                statements: line.statements,
+                statements: line.folder,
             };
             serve_at(rt, setup.as_slice(), plan, line.address, line.host)
         }
