@@ -5,12 +5,13 @@ use Rattle.books_shared.specs.Gathers.{max_workers}
 use Rattle.service.specs.Answering.{command_line}
 use Rattle.ilpd.specs.declared.command_line.Task.{Task}
 use Rattle.ilpd.specs.declared.command_line.TheConstants.{MAX_ROUNDS}
-use Rattle.ilpd.specs.declared.command_line.Task.TheVariants.{Replay, Check, Serve}
+use Rattle.ilpd.specs.declared.command_line.Task.TheVariants.{Replay, Check, Verify, Serve}
 
 -- a service has 1 to 4,096 connections at once, and where it ends it has served 1 to 1,000,000 for each worker
 abbrev pub IsBounded : Task → Type 0
 IsBounded Replay = Unit {0}
 IsBounded Check = Unit {0}
+IsBounded Verify = Unit {0}
 IsBounded (Serve connections rounds report) =
     (1 ≤ connections) × (connections ≤ max_workers) × IfSome rounds (λ n. (1 ≤ n) × (n ≤ MAX_ROUNDS))
 

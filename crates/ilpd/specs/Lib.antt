@@ -2,3 +2,4 @@ pub mod CommandLine
 pub mod Endings
 pub mod Checking
 pub mod Reasons
+pub mod Verifying

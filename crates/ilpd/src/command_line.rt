@@ -12,13 +12,15 @@ use floor_core::MAX_SEATS;
 use service::Report;
 use std::alloc::{AllocError, Global};
 
-/// What the program is to do with a setup.
+/// What the program is to do.
 #[derive(Clone, Copy, Debug, PartialEq, Eq)]
 pub enum Task {
     /// To replay the script on standard input.
     Replay,
     /// To say whether it is good, and whether a script for it is.
     Check,
+    /// To say whether statements are good and go on, one after another, and what they come to.
+    Verify,
     /// To serve so many connections at once, each on a thread of its own, and to end once as many were served for each worker,
     /// if it is to end; and what to tell then.
     Serve {
@@ -54,6 +56,10 @@ pub struct CommandLine<'a> {
     pub host: Option<HostWords<'a>>,
     /// The folder where the statements of closed periods are kept.
     pub folder: Option<&'a str>,
+    /// The files of the statements that are to be verified.
+    pub statements: Option<Vec<&'a str>>,
+    /// The file of the setup that the first of them is to begin with.
+    pub first: Option<&'a str>,
 }
 
 /// The address that a service listens on where the command line names none.
@@ -63,7 +69,7 @@ const ADDRESS: &str = "127.0.0.1:7768";
 const VERSION: &str = "0.1.0";
 
 const USAGE: &str =
-    "ilpd replay SETUP [--workers W] < SCRIPT\n       ilpd check SETUP [SCRIPT [--workers W]]\n       \
+    "ilpd replay SETUP [--workers W] < SCRIPT\n       ilpd check SETUP [SCRIPT [--workers W]]\n       ilpd verify [--setup SETUP] FILE..\n       \
 ilpd serve SETUP --workers W [--connections C] [--rounds N] [--balances] [--audit] [--listen ADDR]\n                  \
 [--host ADDR --host-token FILE] [--statements DIR]";
 
@@ -110,6 +116,49 @@ fn script_of<'a>(alloc: Global) -> Arg<'a> {
     Arg::new(alloc, "SCRIPT")
         .help("The file of a script for the setup's tenants")
         .action(ArgAction::Set)
+}
+
+fn verify_of<'a>(alloc: Global) -> Result<Command<'a>, AllocError> {
+    Command::new(alloc, "verify")
+        .about(
+            "Says whether statements are good and go on, and what they come to, or what is wrong",
+        )
+        .override_usage("ilpd verify [--setup SETUP] FILE..")
+        .after_help(
+            "Example: ilpd verify --setup examples/fees.toml examples/acme.0.statement examples/acme.1.statement",
+        )
+        .arg(first_setup(alloc))?
+        .arg(statements_of(alloc))
+}
+
+fn first_setup<'a>(alloc: Global) -> Arg<'a> {
+    Arg::new(alloc, "setup")
+        .long("setup")
+        .value_name("SETUP")
+        .help("The file of the setup that the first statement is to begin with")
+        .action(ArgAction::Set)
+}
+
+fn statements_of<'a>(alloc: Global) -> Arg<'a> {
+    Arg::new(alloc, "FILE")
+        .help("The files of a tenant's statements, one period after another")
+        .required(true)
+        .num_args(1..)
+        .action(ArgAction::Append)
+}
+
+// The files of the statements that the words of `verify` name.
+fn files_of<'a>(
+    alloc: Global,
+    matches: &ArgMatches<'a>,
+) -> Result<Option<Vec<&'a str>>, AllocError> {
+    let Some(("verify", words)) = matches.subcommand() else {
+        return Ok(None);
+    };
+    match words.get_strs("FILE") {
+        Some(files) => Ok(Some(Vec::from_slice(alloc, files)?)),
+        None => Ok(None),
+    }
 }
 
 fn service_workers<'a>(alloc: Global) -> Arg<'a> {
@@ -196,11 +245,13 @@ fn with_host<'a>(alloc: Global, serve: Command<'a>) -> Result<Command<'a>, Alloc
     serve.arg(host_address(alloc)?)?.arg(host_token(alloc)?)
 }
 
-fn statements_of<'a>(alloc: Global) -> Arg<'a> {
+fn folder_of<'a>(alloc: Global) -> Arg<'a> {
     Arg::new(alloc, "statements")
         .long("statements")
         .value_name("DIR")
-        .help("The folder that gets the statement of each period that is closed: one of its own for each start")
+        .help(
+            "The folder that gets the statement of each period that is closed: one of its own for each start",
+        )
         .action(ArgAction::Set)
 }
 
@@ -214,7 +265,7 @@ fn serve_of<'a>(alloc: Global) -> Result<Command<'a>, AllocError> {
         )
         .after_help("Example: ilpd serve examples/serve.toml --workers 4");
     let serve = with_reports(alloc, with_extent(alloc, serve)?)?;
-    with_host(alloc, serve.arg(listen_of(alloc))?)?.arg(statements_of(alloc))
+    with_host(alloc, serve.arg(listen_of(alloc))?)?.arg(folder_of(alloc))
 }
 
 // How many workers there are, 1 where nothing is said.
@@ -275,6 +326,8 @@ fn line_of<'a>(
         address,
         host: None,
         folder: None,
+        statements: None,
+        first: words.get_str("setup"),
     }
 }
 
@@ -286,6 +339,7 @@ fn line_in<'a>(matches: &ArgMatches<'a>) -> CommandLine<'a>
 {
     match matches.subcommand() {
         Some(("check", check)) => line_of(Task::Check, check, workers_of(check), ADDRESS),
+        Some(("verify", verify)) => line_of(Task::Verify, verify, 1, ADDRESS),
         Some(("serve", serve)) => {
             let task = Task::Serve {
                 connections: connections_of(serve),
@@ -375,13 +429,15 @@ fn within_limits(
 fn all_within_limits(alloc: Global, matches: &ArgMatches<'_>) -> Result<(), Error> {
     match matches.subcommand() {
         Some(("check", words)) => within_limits(alloc, check_of(alloc)?, words),
+        Some(("verify", _)) => Ok(()),
         Some(("serve", words)) => within_limits(alloc, serve_of(alloc)?, words),
         Some((_, words)) => within_limits(alloc, replay_of(alloc)?, words),
         None => Ok(()),
     }
 }
 
-/// Reads the words of `ilpd replay SETUP [--workers W]`, `ilpd check SETUP [SCRIPT [--workers W]]` or
+/// Reads the words of `ilpd replay SETUP [--workers W]`, `ilpd check SETUP [SCRIPT [--workers W]]`,
+/// `ilpd verify [--setup SETUP] FILE..` or
 /// `ilpd serve SETUP --workers W [--connections C] [--rounds N] [--balances] [--audit] [--listen ADDR] [--host ADDR
 /// --host-token FILE] [--statements DIR]`, the program's name first. W is 1 to 64, and 1 for a script where it is left out; C is 1 to 4,096, and
 /// 256 where it is left out; N is 1 to 1,000,000; the ADDR to listen on is 127.0.0.1:7768 where it is left out. There is a
@@ -401,8 +457,11 @@ pub fn arguments<'a>(alloc: Global, words: &'a [String]) -> Result<CommandLine<'
         .subcommand_required(true)
         .subcommand(replay_of(alloc)?)?
         .subcommand(check_of(alloc)?)?
+        .subcommand(verify_of(alloc)?)?
         .subcommand(serve_of(alloc)?)?;
     let matches = command.try_get_matches_from(words)?;
     all_within_limits(alloc, &matches)?;
-    Ok(line_in(&matches))
+    let mut line = line_in(&matches);
+    line.statements = files_of(alloc, &matches)?;
+    Ok(line)
 }

@@ -19,6 +19,8 @@ pub enum Ending {
     Served(ServeFault),
     /// The file of the host's token holds none, as a line has said.
     NoToken,
+    /// A statement is not good, or does not go on where the one before it ended, as lines have said.
+    NotGood,
 }
 
 /// How a run ends whose words were not taken: for want of memory where they were refused it, and else with the text for
@@ -47,6 +49,7 @@ pub fn exit_status(ended: &Result<(), Ending>) -> u8
     match ended {
         Ok(()) => 0,
         Err(Ending::Usage(_) | Ending::NoToken) => 2,
+        Err(Ending::NotGood) => 4,
         Err(Ending::Fault(fault)) => fault.status(),
         Err(Ending::Served(ServeFault::Memory)) => 1,
         Err(Ending::Served(ServeFault::Device)) => 5,

@@ -14,6 +14,7 @@ mod ending;
 mod reasons;
 #[cfg(test)]
 mod tests;
+mod verifying;
 
 use admin_text::{Setup, read_setup};
 use checking::{Script, check, ending_of, printing};
@@ -27,6 +28,7 @@ pub use replay_text::{ReplayFault, replay};
 use service::{
     Doors, Extent, Folder, HostDoor, Plan, ServeFault, can_open, files_of, serve, without_line_feed,
 };
+use statements::Chain;
 use std::alloc::AllocError;
 use std::io::ErrorKind;
 use std::net::{Net, SocketAddr, TcpListener, TcpStream};
@@ -36,6 +38,7 @@ use std::sync::Wait;
 use std::thread::Threads;
 use std::time::Clock;
 use std::{env, fs, io};
+use verifying::{begin, take, tell};
 
 // Says on standard error that there are only so many of something for so many others, and what comes of it.
 fn complain(
@@ -108,7 +111,7 @@ fn read_setup_file(
 ) -> Result<Vec<u8>, Ending> {
     match task {
         Task::Replay => fs::read(rt, file).map_err(printing),
-        Task::Check | Task::Serve { .. } => read_file(rt, file),
+        Task::Check | Task::Verify | Task::Serve { .. } => read_file(rt, file),
     }
 }
 
@@ -126,6 +129,29 @@ fn check_at(
     let text = read_file(rt, file)?;
     let text = text.as_slice();
     check(alloc, setup, Some(Script { text, workers }), &mut writer)
+}
+
+// Says whether the statements in these files are good and go on, the first one from a setup where one is named, and what they
+// come to. One file is in memory at a time.
+fn verify_at(
+    rt: &(impl Files + Print + AllocGlobal),
+    setup: Option<&str>,
+    files: &[&str],
+) -> Result<(), Ending> {
+    let (alloc, mut writer) = (rt.alloc(), io::writer(rt));
+    let mut setup = match setup {
+        Some(file) => Some(read_file(rt, file)?),
+        None => None,
+    };
+    let mut chain = Chain::new(alloc);
+    for file in files {
+        let text = read_file(rt, file)?;
+        take(alloc, &mut chain, file, text.as_slice(), &mut writer)?;
+        if let Some(setup) = setup.take() {
+            begin(alloc, setup.as_slice(), file, text.as_slice(), &mut writer)?;
+        }
+    }
+    tell(alloc, &chain, &mut writer)
 }
 
 // Why a word is no address to listen on.
@@ -198,7 +224,12 @@ fn expect_folder(
         match folder.has_file(&tenant.terms().name, 0) {
             Ok(false) => {}
             Ok(true) => {
-                say_cannot(rt, doing, path, "it has statements of a tenant already: each start needs a new folder");
+                say_cannot(
+                    rt,
+                    doing,
+                    path,
+                    "it has statements of a tenant already: each start needs a new folder",
+                );
                 return Err(Ending::Fault(ReplayFault::Device));
             }
             Err(error) => return Err(cannot(rt, doing, path, &error)),
@@ -305,8 +336,12 @@ fn run<
         Err(error) if asks_version(&error) => return rt.print(error).map_err(printing),
         Err(error) => return Err(words_refused(error)),
     };
+    if let Some(files) = &line.statements {
+        return verify_at(rt, line.first, files.as_slice());
+    }
     let setup = read_setup_file(rt, line.task, line.setup)?;
     match line.task {
+        Task::Verify => Ok(()),
         Task::Check => check_at(rt, setup.as_slice(), line.script, line.workers),
         Task::Serve {
             connections,
@@ -337,7 +372,7 @@ fn run<
 fn main(rt: HostRuntime) -> ExitCode {
     let ended = run(&rt);
     match &ended {
-        Ok(()) | Err(Ending::Served(ServeFault::Audit) | Ending::NoToken) => {}
+        Ok(()) | Err(Ending::Served(ServeFault::Audit) | Ending::NoToken | Ending::NotGood) => {}
         Err(Ending::Usage(error)) => {
             let _ = rt.eprint(error);
         }

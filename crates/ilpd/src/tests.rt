@@ -3,8 +3,10 @@
 use crate::checking::{Script, check};
 use crate::clock::SystemClock;
 use crate::command_line::{CommandLine, HostWords, Task, arguments};
-use crate::ending::exit_status;
+use crate::ending::{Ending, exit_status};
+use crate::verifying::{begin, take, tell};
 use crate::{replay, token_of};
+use statements::Chain;
 use std::alloc::{AllocError, Global};
 use std::process::Abort;
 use std::test::Fail;
@@ -60,6 +62,10 @@ serve s1.toml --workers 1 --rounds 1000001 -> error: invalid value '1000001' for
 --version -> ilpd 0.1.0
 -V -> ilpd 0.1.0
 check --version -> error:
+verify -> error:
+verify --setup s1.toml -> error:
+verify a.statement b.statement ->  1 verify
+verify --help -> Says whether statements
 help -> A connector
 replay --help -> Runs the script
 ";
@@ -89,6 +95,7 @@ fn task_told(alloc: Global, task: Task) -> Result<String, Fail> {
     match task {
         Task::Replay => Ok(String::from_str(alloc, "replay")?),
         Task::Check => Ok(String::from_str(alloc, "check")?),
+        Task::Verify => Ok(String::from_str(alloc, "verify")?),
         Task::Serve {
             connections,
             rounds,
@@ -213,6 +220,95 @@ fn scripts_to_check(rt: HostRuntime) -> Result<(), Fail> {
     let alloc = rt.alloc();
     assert!(rt; names_script(alloc, "check s1.toml a.script", Some("a.script"))?);
     assert!(rt; names_script(alloc, "check s1.toml", None)?);
+    Ok(())
+}
+
+// Whether the words name these statements, and that setup to begin with.
+fn names_statements(
+    alloc: Global,
+    words: &str,
+    files: &[&str],
+    first: Option<&str>,
+) -> Result<bool, Fail> {
+    let line = line_of(alloc, words)?;
+    let found = arguments(alloc, line.as_slice())?;
+    match &found.statements {
+        Some(statements) => Ok(statements.as_slice() == files && found.first == first),
+        None => Ok(false),
+    }
+}
+
+#[test]
+fn statements_to_verify(rt: HostRuntime) -> Result<(), Fail> {
+    let alloc = rt.alloc();
+    let two = ["a.statement", "b.statement"];
+    assert!(rt; names_statements(alloc, "verify a.statement b.statement", &two, None)?);
+    let words = "verify --setup s1.toml a.statement b.statement";
+    assert!(rt; names_statements(alloc, words, &two, Some("s1.toml"))?);
+    Ok(())
+}
+
+// The first period of the tenant of `SETUP`, in which nothing happened but the roll.
+const STATEMENT: &str = "statement 1
+tenant 0 acme g.acme 1024 1000 30000
+period 0 1893456000000 0 0
+1893456000001 roll
+ending
+tenant 0 acme g.acme 1024 1000 30000
+period 1 1893456000001 0 0
+";
+
+// The period after it.
+const NEXT: &str = "statement 1
+tenant 0 acme g.acme 1024 1000 30000
+period 1 1893456000001 0 0
+1893456000001 tick = 0
+1893456000002 roll
+ending
+tenant 0 acme g.acme 1024 1000 30000
+period 2 1893456000002 0 0
+";
+
+// The statements in a.statement and b.statement, what is said of them, and the exit status.
+static VERIFIED: [(&str, &str, &str, u8); 5] = [
+    (STATEMENT, NEXT, "good 2 3\n", 0),
+    (
+        STATEMENT,
+        STATEMENT,
+        "b.statement: line 3: not what the statement before it ended with\nit says: period 0 1893456000000 0 0\nit has to say: period 1 1893456000001 0 0\n",
+        4,
+    ),
+    (
+        NEXT,
+        NEXT,
+        "a.statement: line 3: not what the setup leads to\nit says: period 1 1893456000001 0 0\nit has to say: period 0 1893456000000 0 0\n",
+        4,
+    ),
+    (STATEMENT, "", "b.statement: no opening\n", 4),
+    (
+        STATEMENT,
+        "statement 1\ntenant 0 acme g.acme 1024 1000 30000\nperiod 1 1893456000001 0 0\n1893456000001 tick = 1\n1893456000002 roll\nending\n",
+        "b.statement: line 4: not what the rules lead to\nit says: 1893456000001 tick = 1\nit has to say: 1893456000001 tick = 0\n",
+        4,
+    ),
+];
+
+fn verified(alloc: Global, a: &str, b: &str, out: &mut Vec<u8>) -> Result<(), Ending> {
+    let mut chain = Chain::new(alloc);
+    take(alloc, &mut chain, "a.statement", a.as_bytes(), out)?;
+    begin(alloc, SETUP.as_bytes(), "a.statement", a.as_bytes(), out)?;
+    take(alloc, &mut chain, "b.statement", b.as_bytes(), out)?;
+    tell(alloc, &chain, out)
+}
+
+#[test]
+fn what_verify_says(rt: HostRuntime) -> Result<(), Fail> {
+    for (a, b, said, status) in &VERIFIED {
+        let mut out = Vec::new(rt.alloc());
+        let ended = verified(rt.alloc(), a, b, &mut out);
+        assert!(rt; out.as_slice() == said.as_bytes(), "{said}");
+        assert!(rt; exit_status(&ended) == *status);
+    }
     Ok(())
 }
 

@@ -1,6 +1,7 @@
 //! The examples: each script prints the lines of its file.
 
 use crate::fault::Fault;
+use crate::verified;
 use replay_text::replay;
 use std::alloc::Global;
 use std::fs;
@@ -52,11 +53,24 @@ fn is_as_told(
     Ok(is_as_told)
 }
 
+// Whether the statements of the example come to its lines, which it says.
+fn are_statements_as_told(rt: &(impl Files + Print + AllocGlobal)) -> Result<bool, Fault> {
+    let is_as_told = verified::is_as_told(rt)?;
+    let verb = if is_as_told {
+        "come to"
+    } else {
+        "do not come to"
+    };
+    println!(rt; "the statements of verify.script {verb} verify.lines")?;
+    Ok(is_as_told)
+}
+
 /// Runs the examples, which lie in the folder examples/.
 pub fn run(rt: &(impl Files + Print + AllocGlobal)) -> Result<(), Fault> {
     let mut all_are = true;
     for (name, setup) in &EXAMPLES {
         all_are = is_as_told(rt, name, setup)? && all_are;
     }
+    all_are = are_statements_as_told(rt)? && all_are;
     if all_are { Ok(()) } else { Err(Fault::Example) }
 }

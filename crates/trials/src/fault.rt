@@ -11,7 +11,7 @@ pub enum Fault {
     #[error("out of memory")]
     Memory,
     /// The words ask for no trial.
-    #[error("words: steps SETUP SCRIPT, crowd ROUNDS STEPS, audit ENTRIES (1 to 16385), or examples, one after another")]
+    #[error("words: steps SETUP SCRIPT, statements SETUP SCRIPT, crowd ROUNDS STEPS, audit ENTRIES (1 to 16385), or examples, one after another")]
     Words,
     /// A file can't be read, or a line not be printed.
     #[error("device")]

@@ -13,6 +13,7 @@ mod packets;
 mod scripts;
 mod seen;
 mod steps;
+mod verified;
 
 use fault::Fault;
 use receipts::AuditFault;
@@ -68,6 +69,24 @@ fn run_crowd(
     Ok(rt.println(line.as_str())?)
 }
 
+// Prints the statements of the periods that a script's steps close, one after another.
+fn run_statements(
+    rt: &(impl Files + Print + AllocGlobal),
+    setup: &str,
+    script: &str,
+) -> Result<(), Fault> {
+    let setup = fs::read(rt, setup)?;
+    let script = fs::read(rt, script)?;
+    let texts = verified::statements_of(rt.alloc(), setup.as_slice(), script.as_slice())?;
+    for text in &texts {
+        match str::from_utf8(text.as_slice()) {
+            Ok(lines) => rt.print(lines)?,
+            Err(_) => return Err(Fault::Steps),
+        }
+    }
+    Ok(())
+}
+
 // The word is how many receipts each tenant has, its roll's included.
 fn run_audit(rt: &(impl Print + AllocGlobal), entries: &str) -> Result<(), Fault> {
     let Ok(entries) = entries.parse::<u32>() else {
@@ -102,6 +121,7 @@ fn run_trial(
     match trial {
         "steps" => run_steps(rt, first, second),
         "crowd" => run_crowd(rt, first, second),
+        "statements" => run_statements(rt, first, second),
         _ => Err(Fault::Words),
     }
 }

@@ -11,6 +11,7 @@ use common_types::{Name, ReadError};
 use floor_core::{Floor, Output, Step};
 use replay_text::{Meaning, ReplayFault, meaning_of, print_lines};
 use std::alloc::Global;
+use tenant_core::{Answered, Period};
 
 const WORKERS: usize = 2;
 
@@ -134,4 +135,23 @@ fn told_of(alloc: Global, setup: &Setup, script: &str) -> Result<Told, Fault> {
 pub fn tell(alloc: Global, setup: &[u8], script: &str) -> Result<Told, Fault> {
     let setup = setup_of(alloc, setup)?;
     told_of(alloc, &setup, script)
+}
+
+/// The periods that the steps of a script close, for the tenants of a setup.
+pub fn periods(alloc: Global, setup: &[u8], script: &str) -> Result<Vec<Period>, Fault> {
+    let setup = setup_of(alloc, setup)?;
+    let names = setup.names(alloc)?;
+    let mut rooms = rooms_for(alloc, script)?;
+    let steps = steps_of(alloc, names.as_slice(), script, rooms.as_mut_slice())?;
+    let mut periods = Vec::new(alloc);
+    for output in run_all(alloc, &setup, steps.as_slice())?.outputs {
+        if let Output::Governed {
+            answer: Ok(Answered::Rolled(period)),
+            ..
+        } = output
+        {
+            periods.push(period)?;
+        }
+    }
+    Ok(periods)
 }

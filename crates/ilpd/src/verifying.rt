@@ -1,0 +1,240 @@
+//! What `verify` says of the statements of a tenant, one after another.
+
+ghost use Rattle.std.specs.Prelude.{◌≡◌, ◌∷◌, ◌++◌, ℕ, List, IfSome, OnOk, IsErr};
+ghost use Rattle.std.specs.Io.KnownBytes.{Appends};
+ghost use Rattle.admin_text.specs.Setup.{setup_of};
+ghost use Rattle.statements.specs.Chain.{IsChain};
+ghost use Rattle.statements.specs.Summary.{summary_text};
+ghost use Rattle.ilpd.specs.Verifying.{BeginsSo};
+
+use crate::checking::printing;
+use crate::ending::Ending;
+use admin_text::{Setup, read_setup};
+use common_types::ReadError;
+use replay_text::ReplayFault;
+use statements::{
+    Chain, ChainFault, StatementFault, line_apart, line_at, line_of, opens_with, ruled, write_head,
+};
+use std::alloc::{AllocError, Global};
+use std::io::Write;
+use tenant_core::Opening;
+
+fn memory_refused(_: AllocError) -> Ending {
+    Ending::Fault(ReplayFault::Memory)
+}
+
+// A line of a text behind these words; the text may have ended before it.
+fn put_line(out: &mut Vec<u8>, words: &str, text: &[u8], line: usize) -> Result<(), AllocError> {
+    out.extend_from_slice(words.as_bytes())?;
+    match line_at(text, line) {
+        Some(bytes) => out.extend_from_slice(bytes)?,
+        None => out.extend_from_slice(b"(nothing)")?,
+    }
+    out.extend_from_slice(b"\n")
+}
+
+// `FILE: line N: REASON`, what stands there, and what has to stand there, where that is known.
+fn put_place(
+    out: &mut Vec<u8>,
+    alloc: Global,
+    text: &[u8],
+    line: Option<usize>,
+    reason: &str,
+    right: Option<&[u8]>,
+) -> Result<(), AllocError> {
+    let Some(line) = line else {
+        out.extend_from_slice(reason.as_bytes())?;
+        return out.extend_from_slice(b"\n");
+    };
+    let digits = line.to_string(alloc)?;
+    out.extend_from_slice(b"line ")?;
+    out.extend_from_slice(digits.as_bytes())?;
+    out.extend_from_slice(b": ")?;
+    out.extend_from_slice(reason.as_bytes())?;
+    out.extend_from_slice(b"\n")?;
+    put_line(out, "it says: ", text, line)?;
+    match right {
+        Some(right) => put_line(out, "it has to say: ", right, line),
+        None => Ok(()),
+    }
+}
+
+fn begun(alloc: Global, file: &str) -> Result<Vec<u8>, AllocError> {
+    let mut out = Vec::from_slice(alloc, file.as_bytes())?;
+    out.extend_from_slice(b": ")?;
+    Ok(out)
+}
+
+// Says what is wrong, and gives how the run ends.
+fn refuse<W: Write>(writer: &mut W, words: &[u8]) -> Result<(), Ending>
+    ensures { IsErr result }
+{
+    writer.write_all(words).map_err(printing)?;
+    Err(Ending::NotGood)
+}
+
+// Why a text does not go on with a chain, but for the number of the line.
+fn reason_of(alloc: Global, fault: ChainFault) -> Result<String, AllocError> {
+    match fault {
+        ChainFault::Statement(StatementFault::Differs(_)) => {
+            String::from_str(alloc, "not what the rules lead to")
+        }
+        ChainFault::Apart(_) => {
+            String::from_str(alloc, "not what the statement before it ended with")
+        }
+        other => other.to_string(alloc),
+    }
+}
+
+// The text that has to stand in place of one that is wrong, where that is known.
+fn right_text(
+    alloc: Global,
+    chain: &Chain,
+    text: &[u8],
+    fault: ChainFault,
+) -> Result<Option<Vec<u8>>, AllocError> {
+    match fault {
+        ChainFault::Apart(_) => Ok(Some(chain.next_head(alloc)?)),
+        ChainFault::Statement(StatementFault::Differs(_)) => match ruled(alloc, text) {
+            Ok(ruled) => Ok(Some(ruled)),
+            Err(ReadError::Memory) => Err(AllocError),
+            Err(ReadError::Fault(_)) => Ok(None),
+        },
+        _ => Ok(None),
+    }
+}
+
+fn fault_words(
+    alloc: Global,
+    chain: &Chain,
+    file: &str,
+    text: &[u8],
+    fault: ChainFault,
+) -> Result<Vec<u8>, AllocError> {
+    let reason = reason_of(alloc, fault)?;
+    let line = line_of(text, fault);
+    let mut out = begun(alloc, file)?;
+    match right_text(alloc, chain, text, fault)? {
+        Some(right) => {
+            let right = right.as_slice();
+            put_place(&mut out, alloc, text, line, reason.as_str(), Some(right))?;
+        }
+        None => put_place(&mut out, alloc, text, line, reason.as_str(), None)?,
+    }
+    Ok(out)
+}
+
+/// Takes the text of a file as the next statement of a chain. Where it is not good, or does not go on, it says so, with the line
+/// as it is written and as it has to be, and the run ends.
+pub fn take<W: Write>(
+    alloc: Global,
+    chain: &mut Chain,
+    file: &str,
+    text: &[u8],
+    writer: &mut W,
+) -> Result<(), Ending>
+    ensures chain { OnOk result ((texts : List (List ℕ)) → IsChain texts chain.old → IsChain (texts ++ text.now ∷ []) chain.new) }
+    ensures silent { OnOk result (writer.new ≡ writer.old) }
+{
+    match chain.add(alloc, text) {
+        Ok(()) => Ok(()),
+        Err(ReadError::Memory) => Err(Ending::Fault(ReplayFault::Memory)),
+        Err(ReadError::Fault(fault)) => {
+            let words = fault_words(alloc, chain, file, text, fault).map_err(memory_refused)?;
+            refuse(writer, words.as_slice())
+        }
+    }
+}
+
+/// Says what the statements of a chain come to.
+pub fn tell<W: Write>(alloc: Global, chain: &Chain, writer: &mut W) -> Result<(), Ending>
+    ensures { OnOk result ((texts : List (List ℕ)) (is : IsChain texts chain.now)
+        → Appends (W.contents writer.old) (W.contents writer.new) (summary_text is.periods)) }
+{
+    let text = chain.summary(alloc).map_err(memory_refused)?;
+    writer.write_all(text.as_slice()).map_err(printing)
+}
+
+// The tenant's word of the line that a statement has for it: `tenant PLACE NAME ..`.
+fn name_in(text: &[u8]) -> Option<&[u8]> {
+    line_at(text, 2)?.split(|byte| *byte == b' ').nth(2)
+}
+
+// The place of the tenant whose name the text has; past all of them where none has it.
+fn place_in(setup: &Setup, text: &[u8]) -> usize {
+    let tenants = setup.tenants.as_slice();
+    let Some(name) = name_in(text) else {
+        return tenants.len();
+    };
+    for place in 0..tenants.len() {
+        if tenants[place].terms().name.as_bytes() == name {
+            return place;
+        }
+    }
+    tenants.len()
+}
+
+fn setup_in(alloc: Global, text: &[u8]) -> Result<Setup, Ending> {
+    match read_setup(alloc, text) {
+        Ok(setup) => Ok(setup),
+        Err(ReadError::Memory) => Err(Ending::Fault(ReplayFault::Memory)),
+        Err(ReadError::Fault(fault)) => Err(Ending::Fault(ReplayFault::Setup(fault))),
+    }
+}
+
+// What is said of a text that does not begin as the setup does.
+fn setup_words(
+    alloc: Global,
+    file: &str,
+    text: &[u8],
+    opening: &Opening,
+) -> Result<Vec<u8>, AllocError> {
+    let right = write_head(alloc, opening)?;
+    let line = Some(line_apart(alloc, text, opening)?);
+    let mut out = begun(alloc, file)?;
+    let right = Some(right.as_slice());
+    put_place(
+        &mut out,
+        alloc,
+        text,
+        line,
+        "not what the setup leads to",
+        right,
+    )?;
+    Ok(out)
+}
+
+// What is said of a text whose tenant the setup has not.
+fn stranger_words(alloc: Global, file: &str) -> Result<Vec<u8>, AllocError> {
+    let mut out = begun(alloc, file)?;
+    out.extend_from_slice(b"the setup has no tenant of its name\n")?;
+    Ok(out)
+}
+
+/// Says of the text of a file, a statement of a tenant, whether it begins as the first period of the tenant of that name does by
+/// a setup; where it does not, with the line as it is written and as the setup has it, and the run ends.
+pub fn begin<W: Write>(
+    alloc: Global,
+    setup: &[u8],
+    file: &str,
+    text: &[u8],
+    writer: &mut W,
+) -> Result<(), Ending>
+    ensures begins { OnOk result (BeginsSo (setup_of setup.now) text.now) }
+    ensures silent { OnOk result (writer.new ≡ writer.old) }
+{
+    let setup = setup_in(alloc, setup)?;
+    let tenants = setup.tenants.as_slice();
+    let place = place_in(&setup, text);
+    let Some(tenant) = tenants.get(place) else {
+        let words = stranger_words(alloc, file).map_err(memory_refused)?;
+        return refuse(writer, words.as_slice());
+    };
+    let opening = Opening::first(alloc, place, tenant, setup.start);
+    let opening = opening.map_err(memory_refused)?;
+    if opens_with(alloc, text, &opening).map_err(memory_refused)? {
+        return Ok(());
+    }
+    let words = setup_words(alloc, file, text, &opening).map_err(memory_refused)?;
+    refuse(writer, words.as_slice())
+}
