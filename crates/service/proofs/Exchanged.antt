@@ -2,7 +2,7 @@
 use Rattle.std.proofs.Common.{ℕ}
 use Rattle.floor_core.specs.Work.{Work}
 use Rattle.floor_core.specs.declared.parts.Got.{Got}
-use Rattle.workers.specs.Carrying.{CameBack, Circumstances, Growth, IsCarried, WasExchanged, WasLost, WentOn}
+use Rattle.workers.specs.Carrying.{Circumstances, Growth, IsCarried, WasExchanged, WentOn}
 use Rattle.workers.specs.Replies.{Sending}
 use Rattle.workers.specs.declared.reply.Reply.{Reply}
 use Rattle.workers.specs.declared.reply.Reply.TheVariants as reply
