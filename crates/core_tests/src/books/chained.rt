@@ -54,14 +54,17 @@ fn periods(alloc: Global) -> Result<[Period; 3], Fail> {
 }
 
 // 1,000 of p0's units cost 1,500 of p1's. Fulfilled were 2,000 of p0's: 1,500 went on, and then 1,500 less the fee of 500.
-const SUMMARY: &str = "good 3 17
+const SUMMARY: &str = "good 3 16
 peer 0 p0 began 0 ended 1300 packets-in 3 fulfilled-in 2000 settled-in 700 packets-out 0 fulfilled-out 0 settled-out 0 fees 0
 peer 1 p1 began 0 ended 100 packets-in 0 fulfilled-in 0 settled-in 0 packets-out 3 fulfilled-out 2500 settled-out 2600 fees 500
 peer 2 p2 began 0 ended 0 packets-in 0 fulfilled-in 0 settled-in 0 packets-out 0 fulfilled-out 0 settled-out 0 fees 0
 ";
 
 // The chain of these periods, or the place of the first that does not go on, and why.
-fn chain_of(alloc: Global, periods: &[&Period]) -> Result<Result<Chain, (usize, ChainFault)>, Fail> {
+fn chain_of(
+    alloc: Global,
+    periods: &[&Period],
+) -> Result<Result<Chain, (usize, ChainFault)>, Fail> {
     let mut chain = Chain::new(alloc);
     for (place, period) in periods.iter().enumerate() {
         let text = write_statement(alloc, period)?;
@@ -95,7 +98,10 @@ fn expect_apart(
 ) -> Result<(), Fail> {
     let (place, line) = wanted;
     let fault = chain_of(alloc, periods)?.err();
-    assert!(rt; fault == Some((place, ChainFault::Apart(line))), "{fault:?}");
+    assert!(rt;
+        fault == Some((place, ChainFault::Apart(line))),
+        "{fault:?}"
+    );
     Ok(())
 }
 
@@ -107,7 +113,12 @@ fn what_does_not_go_on_is_told_by_its_first_line(rt: HostRuntime) -> Result<(), 
     expect_apart(&rt, rt.alloc(), &[&first, &third], (1, 3))?;
     expect_apart(&rt, rt.alloc(), &[&second, &first], (1, 3))?;
     expect_apart(&rt, rt.alloc(), &[&first, &second, &second], (2, 3))?;
-    expect_apart(&rt, rt.alloc(), &[&first, &period_of_each(rt.alloc())?], (1, 2))
+    expect_apart(
+        &rt,
+        rt.alloc(),
+        &[&first, &period_of_each(rt.alloc())?],
+        (1, 2),
+    )
 }
 
 // A refused text leaves the chain as it was.
@@ -116,7 +127,10 @@ fn a_chain_goes_on_after_a_refusal(rt: HostRuntime) -> Result<(), Fail> {
     let alloc = rt.alloc();
     let [first, second, _] = periods(alloc)?;
     let mut chain = Chain::new(alloc);
-    let texts = [write_statement(alloc, &first)?, write_statement(alloc, &second)?];
+    let texts = [
+        write_statement(alloc, &first)?,
+        write_statement(alloc, &second)?,
+    ];
     assert!(rt; chain.add(alloc, texts[0].as_slice()).is_ok());
     assert!(rt; chain.add(alloc, texts[0].as_slice()).is_err());
     assert!(rt; chain.add(alloc, b"statement 1\n").is_err());
