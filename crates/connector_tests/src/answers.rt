@@ -115,14 +115,7 @@ fn expect_reply(rt: &impl Abort, alloc: Global, answer: &str, reply: &str) -> Re
     let sent = "acme loaded 0\nacme send bob 0 {sent}\nacme reply ";
     let lines = [sent, reply, "\n"].concat(alloc)?;
     let lines = filled(alloc, lines.as_str())?;
-    expect_written(
-        rt,
-        alloc,
-        1,
-        setup.as_str(),
-        script.as_str(),
-        lines.as_str(),
-    )
+    expect_written(rt, alloc, setup.as_str(), script.as_str(), lines.as_str())
 }
 
 #[test]

@@ -1,6 +1,6 @@
 //! Many tenants and many workers, through replays.
 
-use crate::rows::{expect_rows, expect_rows_by, expect_written, written_by};
+use crate::rows::{expect_rows, expect_rows_by, expect_written_by, written_by};
 use admin_text::{SetupFault, read_setup};
 use common_types::ReadError;
 use std::alloc::{AllocError, Global};
@@ -283,7 +283,7 @@ fn expect_rounds(rt: &impl Abort, alloc: Global, setup: &str) -> Result<(), Fail
     put_rounds(alloc, &mut script, &mut lines)?;
     let script = filled(alloc, script.as_str())?;
     let lines = filled(alloc, lines.as_str())?;
-    expect_written(rt, alloc, 64, setup, script.as_str(), lines.as_str())
+    expect_written_by(rt, alloc, 64, setup, script.as_str(), lines.as_str())
 }
 
 fn fault_of(alloc: Global, setup: &str) -> Option<ReadError<SetupFault>> {

@@ -81,14 +81,7 @@ fn expect_open(rt: &impl Abort, alloc: Global) -> Result<(), Fail> {
     let setup = setup_with(alloc, &[])?;
     let script = filled(alloc, OPEN_SCRIPT)?;
     let lines = filled(alloc, "acme loaded 0\nacme send bob 0 {sent}\n")?;
-    expect_written(
-        rt,
-        alloc,
-        1,
-        setup.as_str(),
-        script.as_str(),
-        lines.as_str(),
-    )
+    expect_written(rt, alloc, setup.as_str(), script.as_str(), lines.as_str())
 }
 
 fn expect_large(rt: &impl Abort, alloc: Global, rows: &[(usize, &str)]) -> Result<(), Fail> {
@@ -96,7 +89,7 @@ fn expect_large(rt: &impl Abort, alloc: Global, rows: &[(usize, &str)]) -> Resul
     for (bytes, line) in rows {
         let frame = "0c".repeat(alloc, *bytes)?;
         let script = ["load 0 acme tok-alice ", frame.as_str(), "\n"].concat(alloc)?;
-        expect_written(rt, alloc, 1, setup.as_str(), script.as_str(), line)?;
+        expect_written(rt, alloc, setup.as_str(), script.as_str(), line)?;
     }
     Ok(())
 }

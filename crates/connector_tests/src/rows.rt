@@ -209,8 +209,19 @@ fn lines_of(alloc: Global, row: &str) -> Result<String, Fail> {
     Ok(lines)
 }
 
-/// A replay of the script prints these lines, for the setup and so many workers.
+/// A replay of the script prints these lines, for the setup and one worker.
 pub fn expect_written(
+    rt: &impl Abort,
+    alloc: Global,
+    setup: &str,
+    script: &str,
+    lines: &str,
+) -> Result<(), Fail> {
+    expect_written_by(rt, alloc, 1, setup, script, lines)
+}
+
+/// A replay of the script prints these lines, for the setup and so many workers.
+pub fn expect_written_by(
     rt: &impl Abort,
     alloc: Global,
     workers: usize,
