@@ -26,7 +26,8 @@ use oer_core::Counted;
 use reasons::reason_of;
 pub use replay_text::{ReplayFault, replay};
 use service::{
-    Doors, Extent, Folder, HostDoor, Plan, ServeFault, can_open, files_of, serve, without_line_feed,
+    Disk, Doors, Extent, Folder, HostDoor, Plan, ServeFault, can_open, files_of, serve,
+    without_line_feed,
 };
 use statements::Chain;
 use std::alloc::AllocError;
@@ -242,6 +243,7 @@ fn expect_folder(
 fn serve_at<
     R: Net<Listener = TcpListener, Stream = TcpStream>
         + Files
+        + Disk
         + Threads
         + Wait
         + Clock
@@ -287,7 +289,7 @@ fn serve_at<
 // Serves the setup at these doors, by the system's clock.
 fn serve_by<
     R: Net<Listener = TcpListener, Stream = TcpStream>
-        + Files
+        + Disk
         + Threads
         + Wait
         + Clock
@@ -316,6 +318,7 @@ fn serve_by<
 fn run<
     R: Env
         + Files
+        + Disk
         + Input
         + Print
         + Eprint

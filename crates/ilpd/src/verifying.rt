@@ -1,11 +1,12 @@
 //! What `verify` says of the statements of a tenant, one after another.
 
-ghost use Rattle.std.specs.Prelude.{◌≡◌, ◌∷◌, ◌++◌, ℕ, List, IfSome, OnOk, IsErr};
-ghost use Rattle.std.specs.Io.KnownBytes.{Appends};
+ghost use Rattle.std.specs.Prelude.{◌≡◌, [], ◌∷◌, ◌++◌, ℕ, List, Ok, IfOk, IfSome, OnOk, IsErr, IsTrue};
 ghost use Rattle.admin_text.specs.Setup.{setup_of};
 ghost use Rattle.statements.specs.Chain.{IsChain};
-ghost use Rattle.statements.specs.Summary.{summary_text};
-ghost use Rattle.ilpd.specs.Verifying.{BeginsSo};
+ghost use Rattle.ilpd.specs.Verifying.{BeginsSo, IsSummaryOf, TellsSummary};
+ghost use Rattle.std.specs.Io.KnownBytes.{Appends};
+ghost use Rattle.statements.specs.Statement.{OpensWith};
+ghost use Rattle.tenant_core.specs.State.{opening_of};
 
 use crate::checking::printing;
 use crate::ending::Ending;
@@ -17,7 +18,7 @@ use statements::{
 };
 use std::alloc::{AllocError, Global};
 use std::io::Write;
-use tenant_core::Opening;
+use tenant_core::{Opening, TenantSetup};
 
 fn memory_refused(_: AllocError) -> Ending {
     Ending::Fault(ReplayFault::Memory)
@@ -146,13 +147,29 @@ pub fn take<W: Write>(
     }
 }
 
+// What the statements of a chain come to.
+fn summary_of(alloc: Global, chain: &Chain) -> Result<Vec<u8>, Ending>
+    ensures { IfOk result (λ text. IsSummaryOf chain.now text.items) }
+{
+    match chain.summary(alloc) {
+        Ok(text) => Ok(text),
+        Err(AllocError) => Err(Ending::Fault(ReplayFault::Memory)),
+    }
+}
+
+// Writes a text.
+fn write<W: Write>(writer: &mut W, text: &[u8]) -> Result<(), Ending>
+    ensures { OnOk result (Appends (W.contents writer.old) (W.contents writer.new) text.now) }
+{
+    writer.write_all(text).map_err(printing)
+}
+
 /// Says what the statements of a chain come to.
 pub fn tell<W: Write>(alloc: Global, chain: &Chain, writer: &mut W) -> Result<(), Ending>
-    ensures { OnOk result ((texts : List (List ℕ)) (is : IsChain texts chain.now)
-        → Appends (W.contents writer.old) (W.contents writer.new) (summary_text is.periods)) }
+    ensures { OnOk result (TellsSummary chain.now (W.contents writer.old) (W.contents writer.new)) }
 {
-    let text = chain.summary(alloc).map_err(memory_refused)?;
-    writer.write_all(text.as_slice()).map_err(printing)
+    let text = summary_of(alloc, chain)?;
+    write(writer, text.as_slice())
 }
 
 // The tenant's word of the line that a statement has for it: `tenant PLACE NAME ..`.
@@ -174,7 +191,9 @@ fn place_in(setup: &Setup, text: &[u8]) -> usize {
     tenants.len()
 }
 
-fn setup_in(alloc: Global, text: &[u8]) -> Result<Setup, Ending> {
+fn setup_in(alloc: Global, text: &[u8]) -> Result<Setup, Ending>
+    ensures { IfOk result (λ setup. setup_of text.now ≡ Ok setup) }
+{
     match read_setup(alloc, text) {
         Ok(setup) => Ok(setup),
         Err(ReadError::Memory) => Err(Ending::Fault(ReplayFault::Memory)),
@@ -211,6 +230,31 @@ fn stranger_words(alloc: Global, file: &str) -> Result<Vec<u8>, AllocError> {
     Ok(out)
 }
 
+// What the first period of a tenant of a setup begins with.
+fn first_opening(
+    alloc: Global,
+    setup: &Setup,
+    place: usize,
+    tenant: &TenantSetup,
+) -> Result<Opening, Ending>
+    ensures { IfOk result (λ opening. opening ≡ opening_of place tenant.now setup.now.start) }
+{
+    match Opening::first(alloc, place, tenant, setup.start) {
+        Ok(opening) => Ok(opening),
+        Err(AllocError) => Err(Ending::Fault(ReplayFault::Memory)),
+    }
+}
+
+// Whether a text begins with all that stands before the records of a period with that opening.
+fn opens(alloc: Global, text: &[u8], opening: &Opening) -> Result<bool, Ending>
+    ensures { IfOk result (λ is. IsTrue is → OpensWith text.now opening.now) }
+{
+    match opens_with(alloc, text, opening) {
+        Ok(is) => Ok(is),
+        Err(AllocError) => Err(Ending::Fault(ReplayFault::Memory)),
+    }
+}
+
 /// Says of the text of a file, a statement of a tenant, whether it begins as the first period of the tenant of that name does by
 /// a setup; where it does not, with the line as it is written and as the setup has it, and the run ends.
 pub fn begin<W: Write>(
@@ -230,9 +274,9 @@ pub fn begin<W: Write>(
         let words = stranger_words(alloc, file).map_err(memory_refused)?;
         return refuse(writer, words.as_slice());
     };
-    let opening = Opening::first(alloc, place, tenant, setup.start);
-    let opening = opening.map_err(memory_refused)?;
-    if opens_with(alloc, text, &opening).map_err(memory_refused)? {
+    let opening = first_opening(alloc, &setup, place, tenant)?;
+    let is_first = opens(alloc, text, &opening)?;
+    if is_first {
         return Ok(());
     }
     let words = setup_words(alloc, file, text, &opening).map_err(memory_refused)?;
