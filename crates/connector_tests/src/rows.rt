@@ -175,7 +175,7 @@ fn put_steps(script: &mut String, packet: &Packet<'_>) -> Result<(), Fail> {
 // The lines of a packet, before which the worker has loaded so many.
 fn put_told(lines: &mut String, loaded: usize, packet: &Packet<'_>) -> Result<(), Fail> {
     let number = "0123456789"
-        .get(loaded..loaded + 1)
+        .get(loaded..loaded.saturating_add(1))
         .ok_or("ten packets at most")?;
     put(lines, &["acme loaded ", number, "\n"])?;
     put(lines, &["acme ", packet.decision, "\n"])?;
@@ -196,14 +196,14 @@ fn script_of(alloc: Global, row: &str) -> Result<String, Fail> {
 
 fn lines_of(alloc: Global, row: &str) -> Result<String, Fail> {
     let mut lines = String::new(alloc);
-    let mut loaded = 0;
+    let mut loaded: usize = 0;
     for line in row.lines().skip(1) {
         if let Some(packet) = packet_in(line) {
             put_told(&mut lines, loaded, &packet)?;
-            loaded += 1;
+            loaded = loaded.saturating_add(1);
         } else if !line.starts_with("| ") && !line.starts_with("> ") {
             put(&mut lines, &[line, "\n"])?;
-            loaded += usize::from(line.starts_with("acme loaded "));
+            loaded = loaded.saturating_add(usize::from(line.starts_with("acme loaded ")));
         }
     }
     Ok(lines)

@@ -137,14 +137,10 @@ pub fn tell(alloc: Global, setup: &[u8], script: &str) -> Result<Told, Fault> {
     told_of(alloc, &setup, script)
 }
 
-/// The periods that the steps of a script close, for the tenants of a setup.
-pub fn periods(alloc: Global, setup: &[u8], script: &str) -> Result<Vec<Period>, Fault> {
-    let setup = setup_of(alloc, setup)?;
-    let names = setup.names(alloc)?;
-    let mut rooms = rooms_for(alloc, script)?;
-    let steps = steps_of(alloc, names.as_slice(), script, rooms.as_mut_slice())?;
+// The periods that were closed, of all that was put out.
+fn closed_in(alloc: Global, outputs: Vec<Output>) -> Result<Vec<Period>, Fault> {
     let mut periods = Vec::new(alloc);
-    for output in run_all(alloc, &setup, steps.as_slice())?.outputs {
+    for output in outputs {
         if let Output::Governed {
             answer: Ok(Answered::Rolled(period)),
             ..
@@ -154,4 +150,18 @@ pub fn periods(alloc: Global, setup: &[u8], script: &str) -> Result<Vec<Period>,
         }
     }
     Ok(periods)
+}
+
+fn periods_of(alloc: Global, setup: &Setup, script: &str) -> Result<Vec<Period>, Fault> {
+    let names = setup.names(alloc)?;
+    let mut rooms = rooms_for(alloc, script)?;
+    let steps = steps_of(alloc, names.as_slice(), script, rooms.as_mut_slice())?;
+    let ran = run_all(alloc, setup, steps.as_slice())?;
+    closed_in(alloc, ran.outputs)
+}
+
+/// The periods that the steps of a script close, for the tenants of a setup.
+pub fn periods(alloc: Global, setup: &[u8], script: &str) -> Result<Vec<Period>, Fault> {
+    let setup = setup_of(alloc, setup)?;
+    periods_of(alloc, &setup, script)
 }
