@@ -11,7 +11,7 @@ use common_types::{Name, ReadError};
 use floor_core::{Floor, Output, Step};
 use replay_text::{Meaning, ReplayFault, meaning_of, print_lines};
 use std::alloc::Global;
-use tenant_core::{Answered, Period};
+use tenant_core::{Answered, CommandFault, Period};
 
 const WORKERS: usize = 2;
 
@@ -137,15 +137,29 @@ pub fn tell(alloc: Global, setup: &[u8], script: &str) -> Result<Told, Fault> {
     told_of(alloc, &setup, script)
 }
 
+fn answer_in(output: Output) -> Option<Result<Answered, CommandFault>> {
+    match output {
+        Output::Governed { answer, .. } => Some(answer),
+        _ => None,
+    }
+}
+
+fn closed_by(answer: Result<Answered, CommandFault>) -> Option<Period> {
+    match answer {
+        Ok(Answered::Rolled(period)) => Some(period),
+        _ => None,
+    }
+}
+
+fn closed_with(output: Output) -> Option<Period> {
+    closed_by(answer_in(output)?)
+}
+
 // The periods that were closed, of all that was put out.
 fn closed_in(alloc: Global, outputs: Vec<Output>) -> Result<Vec<Period>, Fault> {
     let mut periods = Vec::new(alloc);
     for output in outputs {
-        if let Output::Governed {
-            answer: Ok(Answered::Rolled(period)),
-            ..
-        } = output
-        {
+        if let Some(period) = closed_with(output) {
             periods.push(period)?;
         }
     }
