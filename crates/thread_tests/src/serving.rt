@@ -14,7 +14,6 @@ pub mod wire;
 use admin_text::read_setup;
 use service::{Disk, Doors, Extent, Plan, Report, ServeFault, serve};
 use std::alloc::Global;
-
 use std::io::{Read, Write};
 use std::net::{Net, OpenListener, Shutdown, SocketAddr, TcpListener, TcpStream};
 use std::process::Abort;

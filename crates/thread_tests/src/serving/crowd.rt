@@ -4,7 +4,6 @@ use super::wire::{good_reply, good_text, packet_by, peer_answer, posted, request
 use super::{ALL, served_while};
 use service::{Disk, Extent};
 use std::alloc::Global;
-
 use std::io::{Read, Write};
 use std::net::{Net, OpenListener, SocketAddr, TcpListener, TcpStream};
 use std::sync::Wait;

@@ -7,7 +7,6 @@ use admin_text::read_setup;
 use common_types::Token;
 use service::{Disk, Doors, Extent, HostDoor, Plan, ServeFault, serve};
 use std::alloc::Global;
-
 use std::net::{Net, OpenListener, SocketAddr, TcpListener, TcpStream};
 use std::process::Abort;
 use std::sync::Wait;

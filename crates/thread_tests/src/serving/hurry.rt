@@ -6,7 +6,6 @@ use super::wire::{good_reply, good_text, one_tenant, packet_by, peer_answer, pos
 use super::{ALONE, NOTHING, NOTHING_MORE, answer_of, asked, next_request, served_while, usual};
 use service::{Disk, Extent};
 use std::alloc::Global;
-
 use std::io::{Read, Write};
 use std::net::{Net, OpenListener, SocketAddr, TcpListener, TcpStream};
 use std::process::Abort;
