@@ -5,6 +5,7 @@ use Rattle.std.specs.Int.{w64, to_be_bytes}
 use Rattle.ildcp_core.specs.Answer.{config_answer}
 use Rattle.ildcp_core.specs.Client.{Client}
 use Rattle.ilp_view.specs.Packet.{reject_frame}
+use Rattle.tenant_core.specs.Codes.{code_of}
 use Rattle.tenant_core.specs.Judge.{child_of}
 use Rattle.tenant_core.specs.Network.{peer_with_token}
 use Rattle.tenant_core.specs.Present.{network_of}
@@ -16,21 +17,6 @@ use Rattle.tenant_core.specs.declared.verdict.RejectCode.TheVariants.{Busy, Insu
 use Rattle.tenant_core.specs.declared.verdict.RejectCode.TheVariants.{TimedOut, InsufficientSource, InsufficientTimeout}
 use Rattle.tenant_core.specs.declared.verdict.Verdict.{Verdict}
 use Rattle.tenant_core.specs.declared.verdict.Verdict.TheVariants.{Unknown, NoRoom, Refuse, Fulfil, Forward, Relay}
-
--- the three bytes of a code
-abbrev pub code_of : RejectCode → List ℕ
-code_of BadRequest = codes "F00"
-code_of Unreachable = codes "F02"
-code_of InvalidAmount = codes "F03"
-code_of WrongCondition = codes "F05"
-code_of AmountTooLarge = codes "F08"
-code_of PeerUnreachable = codes "T01"
-code_of Busy = codes "T03"
-code_of InsufficientLiquidity = codes "T04"
-code_of RateLimited = codes "T05"
-code_of TimedOut = codes "R00"
-code_of InsufficientSource = codes "R01"
-code_of InsufficientTimeout = codes "R02"
 
 -- the message for people
 abbrev pub message_of : RejectCode → List ℕ

@@ -5,30 +5,12 @@ ghost use Rattle.oer_core.specs.Writing.{Writes};
 ghost use Rattle.ilp_addr.specs.OwnAddress.{max_own_address};
 ghost use Rattle.ilp_view.specs.Packet.{max_frame, reject_frame};
 ghost use Rattle.std.specs.Prelude.{Some, codes};
-ghost use Rattle.floor_core.specs.Replies.{code_of, message_of, amounts_data, refusal_reply, decision_reply};
+ghost use Rattle.floor_core.specs.Replies.{message_of, amounts_data, refusal_reply, decision_reply};
 ghost use Rattle.floor_core.specs.World.{settled_reply};
+ghost use Rattle.tenant_core.specs.Codes.{code_of};
 
 use ilp_view::write_reject;
 use tenant_core::{Book, RejectCode, Verdict};
-
-fn code_of(code: RejectCode) -> &'static [u8; 3]
-    ensures { result.now ≡ code_of code }
-{
-    match code {
-        RejectCode::BadRequest => b"F00",
-        RejectCode::Unreachable => b"F02",
-        RejectCode::InvalidAmount => b"F03",
-        RejectCode::WrongCondition => b"F05",
-        RejectCode::AmountTooLarge => b"F08",
-        RejectCode::PeerUnreachable => b"T01",
-        RejectCode::Busy => b"T03",
-        RejectCode::InsufficientLiquidity => b"T04",
-        RejectCode::RateLimited => b"T05",
-        RejectCode::TimedOut => b"R00",
-        RejectCode::InsufficientSource => b"R01",
-        RejectCode::InsufficientTimeout => b"R02",
-    }
-}
 
 fn message_of(code: RejectCode) -> &'static [u8]
     ensures value { result.now ≡ message_of code }
@@ -60,7 +42,7 @@ fn put_reject(out: &mut [u8], address: &[u8], code: RejectCode, payload: &[u8]) 
     ensures within { result ≤ max_frame }
 {
     ilp_view::laws::written_frames_are_short();
-    write_reject(out, code_of(code), address, message_of(code), payload).unwrap()
+    write_reject(out, code.letters(), address, message_of(code), payload).unwrap()
 }
 
 fn two_amounts(amounts: (u64, u64)) -> [u8; 16]

@@ -10,6 +10,7 @@ use Rattle.tenant_core.specs.Closing.{IsPeriod, moment_of_last, state_before_rol
 use Rattle.tenant_core.specs.Holds.{open_holds}
 use Rattle.tenant_core.specs.Limits.{max_period}
 use Rattle.tenant_core.specs.Periods.{closed, roll_record, roll_refusal}
+use Rattle.tenant_core.specs.Reopening.{opening_fault}
 use Rattle.tenant_core.specs.Sound.{IsSound}
 use Rattle.tenant_core.specs.State.{State, entered_at}
 use Rattle.tenant_core.specs.declared.journal.Record.{Record}
@@ -31,14 +32,15 @@ before_roll s now =
 moment_of_roll : (s : State) (now : ℕ) → moment_of_last (closed s now).records ≡ now
 moment_of_roll s now = fold_push (λ (n : ℕ) (r : Record). entered_at r.entry) 0 s.records (roll_record now)
 
-pub closed_is : (s : State) (now : ℕ) → IsSound s → roll_refusal s ≡ None → now ≤ last_moment → IsPeriod (closed s now)
-closed_is s now sound free early =
+pub closed_is : (s : State) (now : ℕ) → opening_fault s.opening ≡ None → IsSound s → roll_refusal s ≡ None → now ≤ last_moment → IsPeriod (closed s now)
+closed_is s now begins sound free early =
     let before : state_before_roll (closed s now) ≡ s = before_roll s now in
     let at : moment_of_last (closed s now).records ≡ now = moment_of_roll s now in
     let longer = length_push s.records (roll_record now) in
     let room = sound.room in
     let journal = sound.journal in
     record {
+      begins = begins;
       sound = subst IsSound (sym before) sound;
       free = ap roll_refusal before ∙ free;
       early = subst (λ n. n ≤ last_moment) (sym at) early;
@@ -55,5 +57,6 @@ free_roll s count is none before =
     rw (free, early) refl
 
 -- the same of parts that are what it closes
-pub period_is : (p : PeriodParts) (s : State) (now : ℕ) → p ≡ closed s now → IsSound s → roll_refusal s ≡ None → now ≤ last_moment → IsPeriod p
-period_is p s now same sound free early = subst IsPeriod (sym same) (closed_is s now sound free early)
+pub period_is : (p : PeriodParts) (s : State) (now : ℕ) → p ≡ closed s now → opening_fault s.opening ≡ None → IsSound s → roll_refusal s ≡ None → now ≤ last_moment
+    → IsPeriod p
+period_is p s now same begins sound free early = subst IsPeriod (sym same) (closed_is s now begins sound free early)

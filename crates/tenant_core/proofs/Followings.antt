@@ -1,7 +1,8 @@
 -- What an entry that is followed leads to is what the calls of a book say.
-use Rattle.std.proofs.Common.{◌≡◌, ◌+◌, ℕ, List, true, false, refl, sym, ap, subst, ◌∙◌, eqb}
-use Rattle.std.specs.Prelude.{◌==◌, ◌||◌, not, is_some, Bool, cond, Option, Some, None, max, nat_le, nat_lt, option_map, Result, Ok, Err, if◌then◌else◌}
-use Rattle.std.specs.Option.{option_or}
+use Rattle.std.proofs.Common.{◌≡◌, ◌+◌, ℕ, List, true, false, refl, sym, ap, subst, ◌∙◌}
+use Rattle.std.specs.Prelude.{◌==◌, not, Bool, cond, Option, Some, None, max, nat_le, nat_lt, option_map, Result, Ok, Err, IfOk, OnErr}
+use Rattle.std.specs.Result.{result_ok}
+use Rattle.std.specs.declared.alloc.AllocError.{AllocError}
 use Rattle.std.specs.Str.{bytes_eq}
 use Rattle.std.proofs.lemmas.Slice.Eq.{bytes_eq-Decides}
 use Rattle.std.proofs.lemmas.Bool.{eqb-true}
@@ -14,29 +15,28 @@ use Rattle.rate_bucket.specs.Bucket.{is_admitted}
 use Rattle.tenant_core.specs.Bucket.{stretch_of}
 use Rattle.tenant_core.specs.Limits.{max_holds}
 use Rattle.tenant_core.specs.Purse.{is_over_ceiling, is_over_credit}
-use Rattle.tenant_core.specs.Answer.{answer_to, answered, settled, settle_answer, answer_record, has_no_place, tick_result, ticked, tick_count, tick_record}
+use Rattle.tenant_core.specs.Answer.{has_no_place}
 use Rattle.tenant_core.specs.Checks.{◌otherwise◌}
-use Rattle.tenant_core.specs.Holds.{next_hold, open_hold, open_holds}
+use Rattle.tenant_core.specs.Holds.{next_hold, open_holds}
 use Rattle.tenant_core.specs.Judge.{judge, decided, decide_record, is_full, is_recorded, refuse, refuse_over, config_verdict, verdict_for_sender, verdict_at_rate}
 use Rattle.tenant_core.specs.Key.{Key}
 use Rattle.tenant_core.specs.Network.{Net, IsNetwork, peer_named, peer_numbered, peer_with_token}
-use Rattle.tenant_core.specs.Orders.{IsOrdered, number_named, ordered, change_of, change_refusal, change_record, names_present, unless_refused}
+use Rattle.tenant_core.specs.Orders.{IsOrdered, number_named, ordered, change_refusal, names_present, unless_refused}
 use Rattle.tenant_core.specs.Present.{network_of}
-use Rattle.tenant_core.specs.Reopening.{IsStep, followed}
-use Rattle.tenant_core.specs.Replay.{is_sayable, key_entered, decide_outcome}
+use Rattle.tenant_core.specs.Reopening.{IsOrderFor, IsStep}
+use Rattle.tenant_core.specs.Followed.{order_outcome}
+use Rattle.tenant_core.specs.Replay.{is_sayable, key_entered, change_outcome, decide_outcome}
 use Rattle.tenant_core.specs.Routing.{Way, onward, outgoing_expiry, rate_between, stays_here}
 use Rattle.tenant_core.specs.State.{State, clock_of, recorded}
 use Rattle.tenant_core.specs.declared.command.Order.{Order}
 use Rattle.tenant_core.specs.declared.faults.CommandFault.{CommandFault}
 use Rattle.tenant_core.specs.declared.faults.CommandFault.TheVariants.{Full, InUse, Present, Absent, Limit, Memory}
-use Rattle.tenant_core.specs.declared.faults.HoldFault.{HoldFault}
-use Rattle.tenant_core.specs.declared.hold.Hold.{Hold}
-use Rattle.tenant_core.specs.declared.journal.AnswerEntry.{AnswerEntry}
 use Rattle.tenant_core.specs.declared.journal.Change.{Change as Changed}
 use Rattle.tenant_core.specs.declared.journal.ChangeEntry.{ChangeEntry}
 use Rattle.tenant_core.specs.declared.journal.DecideEntry.{DecideEntry}
-use Rattle.tenant_core.specs.declared.journal.Entry.TheVariants.{Decide, Answer, Tick, Change}
-use Rattle.tenant_core.specs.declared.journal.Outcome.TheVariants.{Packet, Ticked, Done}
+use Rattle.tenant_core.specs.declared.journal.Entry.TheVariants.{Decide, Change}
+use Rattle.tenant_core.specs.declared.journal.Outcome.TheVariants.{Packet, Done}
+use Rattle.tenant_core.specs.declared.journal.Outcome.{Outcome}
 use Rattle.tenant_core.specs.declared.peer.Peer.{Peer}
 use Rattle.tenant_core.specs.declared.verdict.RejectCode.TheVariants.{Busy, InsufficientLiquidity, InsufficientSource, InsufficientTimeout, RateLimited, Unreachable}
 use Rattle.tenant_core.specs.declared.verdict.Verdict.{Verdict}
@@ -128,3 +128,64 @@ one_number net a b n m same first second =
     let one : a ≡ b = (bytes_eq-Decides a b).0 same in
     let both : (Some n) ≡ (Some m) = sym first ∙ (ap (number_named net) one ∙ second) in
     cc
+
+-- ---- changes
+
+-- what was told of the entry of a change, and the state after it
+abbrev pub Came : State → ChangeEntry → Option (Option Outcome) → State → Type 0
+Came s c None after = after ≡ s
+Came s c (Some o) after = IsStep s after (Change c) o
+
+nothing_came : (s after : State) (c : ChangeEntry) (given : CommandFault) → None ≡ change_outcome s c → after ≡ s
+    → Came s c (order_outcome (Err given)) after
+nothing_came s after c Full none same = (none, same)
+nothing_came s after c InUse none same = (none, same)
+nothing_came s after c Present none same = (none, same)
+nothing_came s after c Absent none same = (none, same)
+nothing_came s after c Limit none same = (none, same)
+nothing_came s after c Memory none same = same
+
+refused_came : (s after : State) (c : ChangeEntry) (done : Result (Unit {0}) CommandFault) (fault : CommandFault) → None ≡ change_outcome s c
+    → IsOrdered done (Err fault) s after c.now → Came s c (order_outcome done) after
+refused_came s after c (Ok done) fault none is = absurd is
+refused_came s after c (Err Full) fault none is = nothing_came s after c Full none is.1
+refused_came s after c (Err InUse) fault none is = nothing_came s after c InUse none is.1
+refused_came s after c (Err Present) fault none is = nothing_came s after c Present none is.1
+refused_came s after c (Err Absent) fault none is = nothing_came s after c Absent none is.1
+refused_came s after c (Err Limit) fault none is = nothing_came s after c Limit none is.1
+refused_came s after c (Err Memory) fault none is = nothing_came s after c Memory none is.1
+
+made_came : (s after : State) (c : ChangeEntry) (done : Result (Unit {0}) CommandFault) → Some Done ≡ change_outcome s c
+    → IsOrdered done (Ok c.change) s after c.now → Came s c (order_outcome done) after
+made_came s after c (Ok done) some is = (some, is)
+made_came s after c (Err Full) some is = absurd is
+made_came s after c (Err InUse) some is = absurd is
+made_came s after c (Err Present) some is = absurd is
+made_came s after c (Err Absent) some is = absurd is
+made_came s after c (Err Limit) some is = absurd is
+made_came s after c (Err Memory) some is = is
+
+allowed_came : (s after : State) (c : ChangeEntry) (done : Result (Unit {0}) CommandFault) (refusal : Option CommandFault)
+    → has_no_place s ≡ false → names_present (network_of s) c.change ≡ true → change_refusal s (network_of s) c.change ≡ refusal
+    → IsOrdered done (unless_refused c.change refusal) s after c.now → Came s c (order_outcome done) after
+allowed_came s after c done None room there e is = made_came s after c done (rw (room, there, e) refl) is
+allowed_came s after c done (Some fault) room there e is = refused_came s after c done fault (rw (room, there, e) refl) is
+
+-- what comes of an order for a change comes of the entry of that change
+pub order_came : (s after : State) (c : ChangeEntry) (order : Order) (done : Result (Unit {0}) CommandFault)
+    → IsOrderFor (network_of s) c.change (Some order) → IsOrdered done (ordered s order) s after c.now → Came s c (order_outcome done) after
+order_came s after c order done for is = by (has_no_place s) refl
+  where
+    by : (full : Bool) → has_no_place s ≡ full → Came s c (order_outcome done) after
+    by true e =
+        let shape : ordered s order ≡ Err Full = rw e refl in
+        refused_came s after c done Full (rw e refl) (subst (λ (x : Result Changed CommandFault). IsOrdered done x s after c.now) shape is)
+    by false e =
+        let shape : ordered s order ≡ unless_refused c.change (change_refusal s (network_of s) c.change) = rw (e, for.1) refl in
+        allowed_came s after c done (change_refusal s (network_of s) c.change) e for.0 refl
+        (subst (λ (x : Result Changed CommandFault). IsOrdered done x s after c.now) shape is)
+
+pub followed_by : (s after : State) (c : ChangeEntry) (given : Option (Option Outcome)) (r : Result (Option Outcome) AllocError)
+    → result_ok r ≡ given → Came s c given after → IfOk r (IsStep s after (Change c)) × OnErr r (after ≡ s)
+followed_by s after c given (Ok o) is came = (subst (λ (x : Option (Option Outcome)). Came s c x after) (sym is) came, tt)
+followed_by s after c given (Err e) is came = (tt, subst (λ (x : Option (Option Outcome)). Came s c x after) (sym is) came)

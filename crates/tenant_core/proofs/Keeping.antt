@@ -24,6 +24,7 @@ use Rattle.tenant_core.specs.Key.{Key}
 use Rattle.tenant_core.specs.Sound.{IsSound}
 use Rattle.tenant_core.specs.Network.{Net, IsNetwork, peer_with_token, peer_numbered}
 use Rattle.tenant_core.specs.Present.{network_of, net_after}
+use Rattle.tenant_core.specs.Reopening.{opening_fault}
 use Rattle.tenant_core.specs.Replay.{is_sayable}
 use Rattle.tenant_core.specs.Called.{IsOfBytes}
 use Rattle.tenant_core.specs.State.{State, clock_of, later, extended, recorded}
@@ -110,6 +111,7 @@ kept b c r k f h run sound =
       purses = run.purses ∙ ap (λ (t : State). map (purse_of t) (network_of t).peers) (sym is);
       buckets = subst (λ (t : State). AreLevels t (network_of t).peers c.buckets.items) (sym is) run.buckets;
       named = subst (λ (t : State). IsNamed t) (sym is) run.named;
+      begins = ap opening_fault f.opening ∙ k.begins;
       sound = subst (λ (t : State). IsSound t) (sym is) sound;
     }
 
@@ -329,5 +331,6 @@ untouched_kept b holds purses k same moved =
           ∙ ap (λ (n : Net). map (purse_of s) n.peers) k.network));
       buckets = k.buckets;
       named = k.named;
+      begins = k.begins;
       sound = k.sound;
     }

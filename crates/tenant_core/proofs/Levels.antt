@@ -1,8 +1,8 @@
 -- Buckets and their stretches, one record more.
 use Rattle.std.proofs.Common.{◌≡◌, ℕ, zero, suc, ◌≤◌, Bool, true, false, cond, eqb, List, [], ◌∷◌, ◌++◌, length, map, refl, sym, ap, ◌∙◌, subst, arith, drop, le_refl}
 use Rattle.std.specs.Prelude.{option_map, Some, max, fold, ◌&&◌, not, nat_le}
-use Rattle.std.specs.List.{slice_get}
-use Rattle.std.proofs.lemmas.Bool.{eq-eqb, ne_eqb, leb-true}
+use Rattle.std.specs.List.{list_all, slice_get}
+use Rattle.std.proofs.lemmas.Bool.{and_parts, eq-eqb, eqb-true, ne_eqb, leb-true}
 use Rattle.std.proofs.lemmas.List.{length_push, drop-append-le, length-map}
 use Rattle.std.proofs.lemmas.List.Sums.{fold_push}
 use Rattle.std.proofs.lemmas.Option.{slice_get-map}
@@ -13,6 +13,7 @@ use Rattle.tenant_core.specs.ChangedAt.{changed_at}
 use Rattle.tenant_core.specs.Following.{charged}
 use Rattle.tenant_core.specs.Judge.{decide_record}
 use Rattle.tenant_core.specs.Key.{Key}
+use Rattle.tenant_core.specs.Reopening.{is_fresh}
 use Rattle.tenant_core.specs.Running.{AreLevels, IsLevel, opened_level}
 use Rattle.tenant_core.specs.State.{State, opened, clock_of, later, is_of, recorded}
 use Rattle.tenant_core.specs.declared.journal.Record.{Record}
@@ -180,15 +181,29 @@ levels_stay s r peers levels none all =
     record { long = all.long; each = λ k p l there here. level_stays s r p l (none p.number) (all.each k p l there here) }
 
 -- a period begins
+fresh_one : (clock : ℕ) (p : Peer) → is_fresh clock p ≡ true → (p.bucket.clock ≡ clock) × (p.bucket.entries ≡ 0)
+fresh_one clock p e =
+    let parts = and_parts _ _ e in
+    let more = and_parts _ _ parts.1 in
+    (eqb-true p.bucket.clock clock parts.0, eqb-true p.bucket.entries 0 more.0)
+
+fresh_at : (clock : ℕ) (peers : List Peer) → list_all (is_fresh clock) peers ≡ true
+    → (k : ℕ) (p : Peer) → slice_get peers k ≡ Some p → (p.bucket.clock ≡ clock) × (p.bucket.entries ≡ 0)
+fresh_at clock [] e k p at = absurd cc
+fresh_at clock (q ∷ qs) e zero p at =
+    let same : q ≡ p = cc in
+    subst (λ x. (x.bucket.clock ≡ clock) × (x.bucket.entries ≡ 0)) same (fresh_one clock q (and_parts _ _ e).0)
+fresh_at clock (q ∷ qs) e (suc k) p at = fresh_at clock qs (and_parts _ _ e).1 k p at
+
 pub levels_opened : (laws : RunningLaws) (o : Opening) (peers : List Peer) (levels : List Level) → levels ≡ map opened_level peers
-    → ((k : ℕ) (p : Peer) → slice_get peers k ≡ Some p → (p.bucket.clock ≡ o.clock) × (p.bucket.entries ≡ 0)) → AreLevels (opened o) peers levels
+    → list_all (is_fresh o.clock) peers ≡ true → AreLevels (opened o) peers levels
 levels_opened laws o peers levels is fresh =
     record {
       long = ap length is ∙ length-map peers opened_level;
       each = λ k p l there here.
           let made : Some (opened_level p) ≡ Some l = sym (slice_get-map opened_level peers k ∙ ap (option_map opened_level) there) ∙ (ap (λ xs. slice_get xs k) (sym is) ∙ here) in
           let one : opened_level p ≡ l = cc in
-          let f = fresh k p there in
+          let f = fresh_at o.clock peers fresh k p there in
           subst (λ x. IsLevel (opened o) p x) one (record {
             stretch = subst (λ n. IsLevelOf (bucket_of p (drop n [])) (opened_level p)) (sym f.1) (laws.begun p.bucket.clock p.bucket.credit p.terms.bucket.burst p.terms.bucket.per_second);
             clock = subst (λ n. n ≤ o.clock) (sym f.0) (le_refl o.clock);

@@ -1,14 +1,18 @@
 -- What is kept running as a period begins.
-use Rattle.std.proofs.Common.{◌≡◌, ℕ, zero, suc, ◌∷◌, ◌<◌, ◌≤◌, ℤ, pos, ◌+ℤ◌, ◌-ℤ◌, List, [], map, refl, sym, ap, ◌∙◌, subst, arith, le_refl}
+use Rattle.std.proofs.Common.{◌≡◌, ℕ, ◌∷◌, ◌<◌, ◌≤◌, true, ℤ, pos, ◌+ℤ◌, ◌-ℤ◌, List, [], map, refl, sym, ap, ◌∙◌, subst, arith, le_refl}
 use Rattle.std.proofs.lemmas.Int.{ints}
-use Rattle.std.specs.Prelude.{All, Some}
-use Rattle.std.specs.List.{slice_get}
+use Rattle.std.specs.Prelude.{All, Some, ◌==◌, ◌&&◌, nat_le}
+use Rattle.std.specs.List.{list_all, slice_get}
+use Rattle.std.proofs.lemmas.Bool.{eq-eqb, le-leb}
 use Rattle.std.proofs.lemmas.List.Elements.{All-nil}
 use Rattle.money_core.specs.Account.{Account}
+use Rattle.rate_bucket.specs.Bucket.{credit_at, full_bucket, windows_left}
+use Rattle.tenant_core.specs.Bucket.{stretch_of}
 use Rattle.tenant_core.specs.Network.{Net, IsNetwork, begun, filled, peer_numbered}
 use Rattle.tenant_core.specs.Periods.{carried, carried_net}
 use Rattle.tenant_core.specs.Present.{network_of}
 use Rattle.tenant_core.specs.Purse.{opening_balance}
+use Rattle.tenant_core.specs.Reopening.{is_fresh}
 use Rattle.tenant_core.specs.Running.{opened_purse, purse_of, purse_by, IsNamed}
 use Rattle.tenant_core.specs.State.{State, opened}
 use Rattle.tenant_core.specs.declared.hold.Hold.{Hold}
@@ -51,15 +55,30 @@ named_opened o net =
 -- ---- buckets: the level of each peer was taken as the period began
 
 abbrev pub AreFresh : ℕ → List Peer → Type 0
-AreFresh clock peers = (k : ℕ) (p : Peer) → slice_get peers k ≡ Some p → (p.bucket.clock ≡ clock) × (p.bucket.entries ≡ 0)
+AreFresh clock peers = list_all (is_fresh clock) peers ≡ true
 
-fresh_by : (f : Peer → Peer) (clock : ℕ) → ((p : Peer) → (f p).bucket.clock ≡ clock) → ((p : Peer) → (f p).bucket.entries ≡ 0) → (peers : List Peer) → AreFresh clock (map f peers)
-fresh_by f clock at none [] k p e = absurd cc
-fresh_by f clock at none (q ∷ qs) zero p e = let one : f q ≡ p = cc in (ap (λ (x : Peer). x.bucket.clock) (sym one) ∙ at q, ap (λ (x : Peer). x.bucket.entries) (sym one) ∙ none q)
-fresh_by f clock at none (q ∷ qs) (suc k) p e = fresh_by f clock at none qs k p e
+-- a bucket that holds no more than it can, from that clock on
+fresh_one : (clock credit burst : ℕ) → credit ≤ full_bucket burst → ((clock == clock) && ((0 == 0) && nat_le credit (full_bucket burst))) ≡ true
+fresh_one clock credit burst fits = rw (eq-eqb clock clock refl, le-leb credit (full_bucket burst) fits) refl
+
+fresh_by : (f : Peer → Peer) (clock : ℕ) → ((p : Peer) → is_fresh clock (f p) ≡ true) → (peers : List Peer) → AreFresh clock (map f peers)
+fresh_by f clock each [] = refl
+fresh_by f clock each (p ∷ ps) = rw (each p, fresh_by f clock each ps) refl
 
 pub begun_fresh : (net : Net) (clock : ℕ) → AreFresh clock (begun clock net).peers
-begun_fresh net clock = fresh_by (filled clock) clock (λ p. refl) (λ p. refl) net.peers
+begun_fresh net clock =
+    fresh_by (filled clock) clock
+    (λ (p : Peer). let burst : ℕ = p.terms.bucket.burst in fresh_one clock (full_bucket burst) burst (le_refl (full_bucket burst))) net.peers
+
+-- no window leaves more than a full bucket
+windows_fit : (burst per_second now : ℕ) (ats : List ℕ) → windows_left burst per_second now ats ≤ full_bucket burst
+windows_fit burst per_second now [] = le_refl (full_bucket burst)
+windows_fit burst per_second now (at ∷ ats) = let rest = windows_fit burst per_second now ats in omega arith
 
 pub carried_fresh : (s : State) (clock : ℕ) (net : Net) → AreFresh clock (carried_net s clock net).peers
-carried_fresh s clock net = fresh_by (carried s clock) clock (λ p. refl) (λ p. refl) net.peers
+carried_fresh s clock net =
+    fresh_by (carried s clock) clock
+    (λ (p : Peer).
+    let burst : ℕ = p.terms.bucket.burst in
+    let fits = windows_fit burst p.terms.bucket.per_second clock (stretch_of s p).admitted in
+    fresh_one clock (credit_at (stretch_of s p) clock) burst (omega arith)) net.peers

@@ -1,20 +1,17 @@
 -- An opening that breaks no limit begins a period.
-use Rattle.std.proofs.Common.{◌≡◌, ℕ, zero, suc, ◌<◌, ◌≤◌, ◌*◌, true, false, not, List, [], ◌∷◌, refl, sym, ap, subst, ◌∙◌, arith, eqb}
+use Rattle.std.proofs.Common.{◌≡◌, ℕ, ◌<◌, ◌≤◌, ◌*◌, true, false, not, List, refl, sym, ap, subst, arith}
 use Rattle.std.specs.Prelude.{Bool, cond, Option, Some, None, count_by, nat_le, nat_lt}
-use Rattle.std.specs.List.{list_all, slice_get}
-use Rattle.std.proofs.lemmas.Bool.{and_parts, eqb-true, ltb-false}
 use Rattle.std.proofs.lemmas.Bool.Decides.{nat_tests}
 use Rattle.common_types.specs.Numbers.{is_between}
 use Rattle.ilp_addr.specs.Timestamp.{last_moment}
 use Rattle.tenant_core.specs.Holds.{is_open, open_holds, AreNumbered}
 use Rattle.tenant_core.specs.Limits.{max_tenants, max_journal, max_margin, max_hold, max_period}
 use Rattle.tenant_core.specs.Network.{Net, IsNetwork}
-use Rattle.tenant_core.specs.Reopening.{is_fresh, opening_fault}
+use Rattle.tenant_core.specs.Reopening.{opening_fault}
 use Rattle.tenant_core.specs.Sound.{IsSound}
 use Rattle.tenant_core.specs.State.{State, opened}
 use Rattle.tenant_core.specs.declared.hold.Hold.{Hold}
 use Rattle.tenant_core.specs.declared.opening.Opening.{Opening}
-use Rattle.tenant_core.specs.declared.peer.Peer.{Peer}
 use Rattle.tenant_core.proofs.Calling.{calls_opened}
 use Rattle.tenant_core.proofs.Courses.{holds_of-opened}
 use Rattle.tenant_core.proofs.Openings.{AreFresh}
@@ -52,19 +49,6 @@ truly : (b : Bool) → not b ≡ false → b ≡ true
 truly true e = refl
 truly false e = absurd cc
 
-fresh_one : (clock : ℕ) (p : Peer) → is_fresh clock p ≡ true → (p.bucket.clock ≡ clock) × (p.bucket.entries ≡ 0)
-fresh_one clock p e =
-    let parts = and_parts _ _ e in
-    let more = and_parts _ _ parts.1 in
-    (eqb-true p.bucket.clock clock parts.0, eqb-true p.bucket.entries 0 more.0)
-
-fresh_all : (clock : ℕ) (peers : List Peer) → list_all (is_fresh clock) peers ≡ true → AreFresh clock peers
-fresh_all clock [] e k p at = absurd cc
-fresh_all clock (q ∷ qs) e zero p at =
-    let same : q ≡ p = cc in
-    subst (λ x. (x.bucket.clock ≡ clock) × (x.bucket.entries ≡ 0)) same (fresh_one clock q (and_parts _ _ e).0)
-fresh_all clock (q ∷ qs) e (suc k) p at = fresh_all clock qs (and_parts _ _ e).1 k p at
-
 pub opening_within : (o : Opening) → opening_fault o ≡ None → IsOpening o
 opening_within o e =
     let a = passed _ _ _ e in
@@ -87,7 +71,7 @@ opening_within o e =
       period = at_most max_period o.period f.0;
       clock = at_most last_moment o.clock g.0;
       number = at_most (max_journal * o.period) o.next_hold h.0;
-      fresh = fresh_all o.clock o.network.peers (truly _ i.0);
+      fresh = truly _ i.0;
     }
 
 -- a period that begins with it is within its limits
@@ -114,3 +98,17 @@ opening_sound o is network =
       period = is.period;
       clock = is.clock;
     }
+
+-- a state in which nothing has happened, within its limits, has an opening that breaks none
+pub opening_free : (o : Opening) → IsSound (opened o) → AreFresh o.clock o.network.peers → opening_fault o ≡ None
+opening_free o sound fresh =
+    let a : nat_le max_tenants o.tenant ≡ false = let is = sound.tenant in grind (arith, nat_tests) in
+    let b : not (is_between 2 max_journal o.journal) ≡ false =
+    let least = sound.places in let most = sound.journal in grind (arith, nat_tests) in
+    let c : nat_lt max_margin o.margin ≡ false = let is = sound.margin in grind (arith, nat_tests) in
+    let d : not (is_between 1 max_hold o.hold) ≡ false =
+    let least = sound.some_hold in let most = sound.hold in grind (arith, nat_tests) in
+    let e : nat_lt max_period o.period ≡ false = let is = sound.period in grind (arith, nat_tests) in
+    let f : nat_lt last_moment o.clock ≡ false = let is : o.clock ≤ last_moment = sound.clock in grind (arith, nat_tests) in
+    let g : nat_lt (max_journal * o.period) o.next_hold ≡ false = let is = sound.first_hold in grind (arith, nat_tests) in
+    rw (a, b, c, d, e, f, g, fresh) refl

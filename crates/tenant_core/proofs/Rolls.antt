@@ -28,6 +28,7 @@ use Rattle.tenant_core.proofs.Calling.{calls_opened}
 use Rattle.tenant_core.proofs.Courses.{holds_of-opened}
 use Rattle.tenant_core.proofs.Presents.{network_of-opened}
 use Rattle.tenant_core.proofs.Purses.{opened_within}
+use Rattle.tenant_core.proofs.Reopenings.{opening_free}
 use Rattle.tenant_core.proofs.Replays.{opened_replay}
 
 -- what a book with an empty journal keeps beside its opening
@@ -100,6 +101,7 @@ empty_kept laws c sound network fresh e =
       purses = e.purses ∙ (purses_opened o o.network.peers network refl ∙ ap (λ (t : State). map (purse_of t) (network_of t).peers) (sym shown));
       buckets = subst (λ (t : State). AreLevels t (network_of t).peers c.buckets.items) (sym shown) (subst (λ (n : Net). AreLevels (opened o) n.peers c.buckets.items) (sym net_now) (levels_opened laws o o.network.peers c.buckets.items e.buckets fresh));
       named = subst (λ (t : State). IsNamed t) (sym shown) (named_opened o network);
+      begins = opening_free o sound fresh;
       sound = subst (λ (t : State). IsSound t) (sym shown) sound;
     }
 

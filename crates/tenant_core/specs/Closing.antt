@@ -3,6 +3,7 @@ use Rattle.std.specs.Prelude.{ℕ, ◌≡◌, ◌≤◌, ◌+◌, ◌-◌, List,
 use Rattle.ilp_addr.specs.Timestamp.{last_moment}
 use Rattle.tenant_core.specs.Limits.{max_journal}
 use Rattle.tenant_core.specs.Periods.{closed, roll_refusal}
+use Rattle.tenant_core.specs.Reopening.{opening_fault}
 use Rattle.tenant_core.specs.Replay.{IsReplay}
 use Rattle.tenant_core.specs.Sound.{IsSound}
 use Rattle.tenant_core.specs.State.{State, entered_at}
@@ -23,6 +24,8 @@ state_before_roll p = record { opening = p.opening; records = take (length p.rec
 
 -- the period is what a roll closed
 pub record IsPeriod (p : PeriodParts) : Type 0 where
+  -- its opening breaks no limit, and each bucket's level was taken as it began
+  pub begins : opening_fault p.opening ≡ None
   -- the state before the roll was within its limits, and nothing refused the roll, which came at a moment
   pub sound : IsSound (state_before_roll p)
   pub free : roll_refusal (state_before_roll p) ≡ None

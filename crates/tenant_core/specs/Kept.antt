@@ -1,8 +1,9 @@
 -- What a book keeps beside its records.
-use Rattle.std.specs.Prelude.{◌≡◌, ◌≤◌, ◌+◌, map, length}
+use Rattle.std.specs.Prelude.{◌≡◌, ◌≤◌, ◌+◌, map, length, None}
 use Rattle.tenant_core.specs.declared.book.Book.TheInside.{Inside}
 use Rattle.tenant_core.specs.Holds.{holds_of}
 use Rattle.tenant_core.specs.Present.{network_of}
+use Rattle.tenant_core.specs.Reopening.{opening_fault}
 use Rattle.tenant_core.specs.Running.{purse_of, AreLevels, IsNamed}
 use Rattle.tenant_core.specs.Sound.{IsSound}
 use Rattle.tenant_core.specs.State.{State, clock_of}
@@ -25,5 +26,6 @@ pub record BookInvariant (b : Inside) : Type 0 where
   pub purses : b.purses.items ≡ map (purse_of (state_of b)) (network_of (state_of b)).peers
   pub buckets : AreLevels (state_of b) (network_of (state_of b)).peers b.buckets.items
   pub named : IsNamed (state_of b)
-  -- the state is within its limits
+  -- the opening breaks no limit, and the state is within its own
+  pub begins : opening_fault b.opening ≡ None
   pub sound : IsSound (state_of b)

@@ -1,4 +1,5 @@
 pub mod Limits
+pub mod Codes
 pub mod Commands
 pub mod Key
 pub mod Terms
@@ -45,3 +46,4 @@ pub mod Standing
 pub mod Kept
 pub mod PresentSetup
 pub mod Reopening
+pub mod Followed

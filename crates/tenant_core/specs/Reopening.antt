@@ -15,7 +15,7 @@ use Rattle.tenant_core.specs.declared.faults.OpeningFault.{OpeningFault}
 use Rattle.tenant_core.specs.declared.faults.OpeningFault.TheVariants.{Tenant, Journal, Margin, Hold, Period, Clock, Number, Bucket}
 use Rattle.tenant_core.specs.declared.journal.Change.{Change as Changed}
 use Rattle.tenant_core.specs.declared.journal.Entry.{Entry}
-use Rattle.tenant_core.specs.declared.journal.Entry.TheVariants.{Decide, Answer, Tick, Change, Roll}
+use Rattle.tenant_core.specs.declared.journal.Entry.TheVariants.{Roll}
 use Rattle.tenant_core.specs.declared.journal.Outcome.{Outcome}
 use Rattle.tenant_core.specs.declared.opening.Opening.{Opening}
 use Rattle.tenant_core.specs.declared.peer.Peer.{Peer}

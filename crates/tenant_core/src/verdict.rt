@@ -35,6 +35,30 @@ pub enum RejectCode {
     InsufficientTimeout,
 }
 
+impl RejectCode {
+    ghost use Rattle.tenant_core.specs.Codes.{code_of};
+
+    /// Its three letters.
+    pub fn letters(self) -> &'static [u8; 3]
+        ensures { result.now ≡ code_of self }
+    {
+        match self {
+            RejectCode::BadRequest => b"F00",
+            RejectCode::Unreachable => b"F02",
+            RejectCode::InvalidAmount => b"F03",
+            RejectCode::WrongCondition => b"F05",
+            RejectCode::AmountTooLarge => b"F08",
+            RejectCode::PeerUnreachable => b"T01",
+            RejectCode::Busy => b"T03",
+            RejectCode::InsufficientLiquidity => b"T04",
+            RejectCode::RateLimited => b"T05",
+            RejectCode::TimedOut => b"R00",
+            RejectCode::InsufficientSource => b"R01",
+            RejectCode::InsufficientTimeout => b"R02",
+        }
+    }
+}
+
 /// The answer to a Prepare, or what becomes of an answer.
 #[derive(Clone, Copy, Debug, PartialEq, Eq)]
 pub enum Verdict {

@@ -1,6 +1,8 @@
 //! Books that follow the entries of a journal.
 
 ghost use Rattle.std.specs.Prelude.{◌≡◌, false, IfOk, OnErr, length};
+ghost use Rattle.std.specs.Result.{result_ok};
+ghost use Rattle.tenant_core.specs.Followed.{order_outcome};
 ghost use Rattle.tenant_core.specs.Reopening.{is_roll, IsStep, IsFollowed};
 ghost use Rattle.tenant_core.specs.State.{entered_at};
 ghost use Rattle.tenant_core.specs.declared.journal.Entry.TheVariants as entries;
@@ -15,6 +17,17 @@ use crate::record_view::is_sayable;
 use crate::routing::peer_numbered;
 use ilp_addr::{Address, Moment};
 use std::alloc::{AllocError, Global};
+
+// What the entry of a change leads to, by what came of its order.
+fn order_outcome(done: Result<(), CommandFault>) -> Result<Option<Outcome>, AllocError>
+    ensures { result_ok result ≡ order_outcome done }
+{
+    match done {
+        Ok(()) => Ok(Some(Outcome::Done)),
+        Err(CommandFault::Memory) => Err(AllocError),
+        Err(_) => Ok(None),
+    }
+}
 
 impl Entry {
     /// The moment at which it came, in milliseconds since 1970-01-01.
@@ -98,11 +111,7 @@ impl Book {
         let Some(order) = order_for(alloc, &self.network, &change.change)? else {
             return Ok(None);
         };
-        match self.order(alloc, &order, now) {
-            Ok(()) => Ok(Some(Outcome::Done)),
-            Err(CommandFault::Memory) => Err(AllocError),
-            Err(_) => Ok(None),
-        }
+        order_outcome(self.order(alloc, &order, now))
     }
 
     /// Does once more what an entry says that happened, and gives what it leads to now; `None` where it would not be recorded,

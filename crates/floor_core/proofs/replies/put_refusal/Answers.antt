@@ -1,7 +1,8 @@
 use Rattle.std.proofs.Common.{List, ℕ, subst}
 use Rattle.oer_core.specs.Writing.{Writes}
 use Rattle.ilp_view.specs.Packet.{reject_frame}
-use Rattle.floor_core.specs.Replies.{code_of, message_of}
+use Rattle.floor_core.specs.Replies.{message_of}
+use Rattle.tenant_core.specs.Codes.{code_of}
 use Rattle.floor_core.proofs.replies.put_refusal.Goals as goal
 
 pub returns-in-Some-clause-written : goal.returns-in-Some-clause-written

@@ -5,7 +5,6 @@ use Rattle.tenant_core.specs.declared.journal.Entry.TheVariants.{Decide}
 use Rattle.tenant_core.specs.declared.journal.Outcome.TheVariants.{Packet}
 use Rattle.tenant_core.specs.declared.peer.Peer.{Peer}
 use Rattle.tenant_core.specs.Judge.{decided, is_full, judge}
-use Rattle.tenant_core.specs.Kept.{state_of}
 use Rattle.tenant_core.specs.Key.{Key}
 use Rattle.tenant_core.specs.Network.{Net, IsNetwork, peer_numbered}
 use Rattle.tenant_core.specs.Present.{network_of}

@@ -1,6 +1,5 @@
 use Rattle.std.proofs.Common.{◌≡◌, refl, sym, ◌∙◌}
-use Rattle.std.specs.Prelude.{Option, Some, None}
-use Rattle.tenant_core.specs.declared.faults.OpeningFault.{OpeningFault}
+use Rattle.std.specs.Prelude.{None}
 use Rattle.tenant_core.specs.declared.opening.Opening.{Opening}
 use Rattle.tenant_core.specs.Network.{IsNetwork}
 use Rattle.tenant_core.specs.Reopening.{opening_fault}

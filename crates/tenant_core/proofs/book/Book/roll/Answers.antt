@@ -9,6 +9,7 @@ use Rattle.tenant_core.specs.Holds.{is_open, open_holds}
 use Rattle.tenant_core.specs.Kept.{state_of}
 use Rattle.tenant_core.specs.Present.{network_of}
 use Rattle.tenant_core.specs.Purse.{row_of}
+use Rattle.tenant_core.specs.Reopening.{opening_fault}
 use Rattle.tenant_core.specs.Sound.{IsSound}
 use Rattle.tenant_core.specs.State.{State, clock_of}
 use Rattle.tenant_core.specs.Limits.{max_period}
@@ -63,9 +64,10 @@ new-requires-2 c =
     let clock : c.max-clock.result ≡ max (clock_of (state_of c.self.inside)) c.args.now = search rules in
     let ending : c.get_mut-parts.result.now.ending ≡ next_opening s (max (clock_of s) c.args.now) =
     next ∙ is ∙ ap (next_opening (state_of c.self.inside)) clock ∙ ap (λ (t : State). next_opening t (max (clock_of t) c.args.now)) c.self.view_is in
+    let begins : opening_fault s.opening ≡ None = subst (λ (t : State). opening_fault t.opening ≡ None) c.self.view_is c.self.invariant.begins in
     let sound : IsSound s = subst IsSound c.self.view_is c.self.invariant.sound in
     period_is _ s c.args.now (λ i. record { opening = opening i; records = records i; rows = rows i; ending = ending i })
-    sound (free_roll s c.awaited.result count c.if-awaited-gt0.false before) early
+    begins sound (free_roll s c.awaited.result count c.if-awaited-gt0.false before) early
 
 pub returns-in_err-closed : goal.returns-in_err-closed
 returns-in_err-closed c =

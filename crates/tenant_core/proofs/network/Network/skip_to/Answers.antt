@@ -1,4 +1,4 @@
-use Rattle.std.proofs.Common.{arith, ◌≤◌}
+use Rattle.std.proofs.Common.{arith}
 use Rattle.tenant_core.proofs.network.Network.skip_to.Goals as goal
 
 pub invariant_of-self : goal.invariant_of-self
