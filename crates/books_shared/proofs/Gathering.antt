@@ -31,7 +31,7 @@ use Rattle.floor_core.specs.World.{tenant_at_start, world_at_start}
 use Rattle.floor_core.specs.declared.step.Given.{Given}
 use Rattle.floor_core.specs.declared.step.Malformed.{Malformed}
 use Rattle.one_list.specs.History.{LeadTo, after_entry, after_record}
-use Rattle.one_list.specs.Steps.{HaveOneList, PartView, of_tenant, of_worker, parts_numbered}
+use Rattle.one_list.specs.Steps.{HaveOneList, IsBeginning, PartView, WorkerView, of_tenant, of_worker, parts_numbered}
 use Rattle.one_list.specs.declared.step.Done.{Done}
 use Rattle.one_list.specs.declared.step.Size.{Size}
 use Rattle.books_shared.specs.Shares.{ShareView}
@@ -64,6 +64,13 @@ of_shares log [] own = All-nil _
 of_shares log (s ∷ ss) own =
     All-cons (λ x. of_worker x.worker log ≡ x.steps) s ss (All-head (λ p. of_worker p.number log ≡ p.steps) (part_of s) (map part_of ss) own)
     (of_shares log ss (All-tail (λ p. of_worker p.number log ≡ p.steps) (part_of s) (map part_of ss) own))
+
+met_by_shares : (log : List Done) (shares : List ShareView) → All (λ (p : WorkerView). All (IsBeginning log) p.met) (map part_of shares)
+    → All (λ (s : ShareView). All (IsBeginning log) s.met) shares
+met_by_shares log [] own = All-nil _
+met_by_shares log (s ∷ ss) own =
+    All-cons (λ (x : ShareView). All (IsBeginning log) x.met) s ss (All-head (λ (p : WorkerView). All (IsBeginning log) p.met) (part_of s) (map part_of ss) own)
+    (met_by_shares log ss (All-tail (λ (p : WorkerView). All (IsBeginning log) p.met) (part_of s) (map part_of ss) own))
 
 -- how many of the books are that tenant's
 abbrev books_of : ℕ → List (State × ℕ) → ℕ
@@ -319,6 +326,7 @@ list_of runs size openings found books shares parts many each traced moved sorte
       record {
         tenants = led;
         workers = of_shares log shares one.workers;
+        met = met_by_shares log shares one.met;
         others = one.others;
         in_order = order;
         run = runs openings (map entry_of log) (book_among books) (placed openings log books (each ∙ sym as_many) order led)

@@ -1,5 +1,6 @@
 pub mod Entries
 pub mod Tracing
+pub mod Owning
 pub mod Commanded
 pub mod Counted
 pub mod Crossing

@@ -6,7 +6,7 @@ use Rattle.ilp_addr.specs.Timestamp.{last_moment}
 use Rattle.ilp_view.specs.Packet.{Prepare}
 use Rattle.ilp_view.specs.Reading.{prepare_at}
 use Rattle.ilp_view.specs.declared.fault.ViewFault.{ViewFault}
-use Rattle.tenant_core.specs.Answer.{answer_made, tick_count, tick_made, tick_record, tick_result, has_no_place, answer_to}
+use Rattle.tenant_core.specs.Answer.{answer_made, answer_record, settle_answer, tick_count, tick_made, tick_record, tick_result, has_no_place, answer_to}
 use Rattle.tenant_core.specs.Calls.{CallLaws}
 use Rattle.tenant_core.specs.Governed.{IsGoverned, command_answer, command_made, commanded, made_by, order_answer, order_left, order_made, roll_answer, roll_left, roll_made}
 use Rattle.tenant_core.specs.Holds.{open_hold}
@@ -28,6 +28,7 @@ use Rattle.tenant_core.specs.declared.faults.BookFault.TheVariants.{Full}
 use Rattle.tenant_core.specs.declared.faults.CommandFault.{CommandFault}
 use Rattle.tenant_core.specs.declared.faults.HoldFault.{HoldFault}
 use Rattle.tenant_core.specs.declared.hold.Hold.{Hold}
+use Rattle.tenant_core.specs.declared.journal.AnswerKey.{AnswerKey}
 use Rattle.tenant_core.specs.declared.journal.Change.{Change as Changed}
 use Rattle.tenant_core.specs.declared.journal.Record.{Record}
 use Rattle.tenant_core.specs.declared.opening.Opening.{Opening}
@@ -58,72 +59,94 @@ use Rattle.books_shared.specs.Tracing.{HasAppended, told_by, told_of}
 abbrev pub Stays : Option Record → Type 0
 Stays made = (s : State) → after_made s made ≡ recorded s made
 
-pub stays_none : Stays None
+stays_none : Stays None
 stays_none s = refl
 
-either_stays : (b : Bool) (r : Record) → Stays (Some r) → Stays (if b then Some r else None)
-either_stays true r h = h
-either_stays false r h = stays_none
+-- what holds where no record is made, and of each kind of record, holds of what a call makes
+module _ (P : Option Record → Type 0) (none : P None) where
+  either_made : (b : Bool) (r : Record) → P (Some r) → P (if b then Some r else None)
+  either_made true r h = h
+  either_made false r h = none
+
+  neither_made : (b : Bool) (r : Record) → P (Some r) → P (if b then None else Some r)
+  neither_made true r h = none
+  neither_made false r h = h
+
+  pub record_makes : ((n : ℕ) (key : Key) (now : ℕ) (v : Verdict) → P (Some (decide_record n key now v)))
+      → (o : Option Peer) (key : Key) (now : ℕ) (v : Verdict) → P (record_left o key now v)
+  record_makes each None key now v = none
+  record_makes each (Some from) key now v = either_made (is_recorded v) (decide_record from.number key now v) (each from.number key now v)
+
+  verdict_makes : (s : State) (t : ℕ) (token : List ℕ) (p : Prepare) (room : List ℕ) (made : Option Record) (v : Verdict)
+      → P made → P (verdict_call s t token p room made v).made
+  verdict_makes s t token p room made Unknown h = h
+  verdict_makes s t token p room made NoRoom h = h
+  verdict_makes s t token p room made (Refuse code amounts) h = h
+  verdict_makes s t token p room made Fulfil h = h
+  verdict_makes s t token p room made (Forward hold peer amount expiry) h = h
+  verdict_makes s t token p room made Relay h = h
+
+  own_makes : (b : Bool) (one other : Called) → P one.made → P other.made → P (if b then one else other).made
+  own_makes true one other h k = h
+  own_makes false one other h k = k
+
+  frame_makes : ((n : ℕ) (key : Key) (now : ℕ) (v : Verdict) → P (Some (decide_record n key now v)))
+      → (w : Work) (s : State) (t : ℕ) (token : List ℕ) (r : Result Prepare ViewFault) (now : ℕ) → P (frame_call w s t token r now).made
+  frame_makes each w s t token (Ok p) now =
+      verdict_makes s t token p w.room (decide_made s token (key_in p) now) (judge s token (key_in p) now)
+      (record_makes each (peer_with_token token (network_of s).peers) (key_in p) now (judge s token (key_in p) now))
+  frame_makes each w s t token (Err fault) now = none
+
+  decided_makes : ((n : ℕ) (key : Key) (now : ℕ) (v : Verdict) → P (Some (decide_record n key now v)))
+      → (j : Job) (w : Work) (s : State) (now : ℕ) → P (job_decided j w s now).made
+  decided_makes each Job.NoJob w s now = none
+  decided_makes each (Job.Carries t token frame) w s now =
+      own_makes (s.opening.tenant == t) _ _ (frame_makes each w s t token (prepare_at frame) now) none
+  decided_makes each (Job.Waits t hold frame) w s now = none
+
+  pub decide_makes : ((n : ℕ) (key : Key) (now : ℕ) (v : Verdict) → P (Some (decide_record n key now v)))
+      → (w : Work) (s : State) (now : ℕ) → P (decide_call w s now).made
+  decide_makes each w s now = decided_makes each w.job w s now
+
+  pub held_makes : (o : Option Hold) (f : Hold → Record) → ((h : Hold) → P (Some (f h))) → P (option_map f o)
+  held_makes None f each = none
+  held_makes (Some h) f each = each h
+
+  settled_makes : (w : Work) (s : State) (given : Given) (made : Option Record) (r : Result Verdict HoldFault) → P made → P (settled_call w s given made r).made
+  settled_makes w s given made (Ok v) h = h
+  settled_makes w s given made (Err fault) h = none
+
+  answered_makes : (j : Job) (w : Work) (s : State) (now : ℕ) (given : Given)
+      → ((t hold : ℕ) (frame : List ℕ) (key : AnswerKey) (v : Verdict) → j ≡ Job.Waits t hold frame → P (Some (answer_record hold now key v))) → P (job_answered j w s now given).made
+  answered_makes Job.NoJob w s now given each = none
+  answered_makes (Job.Carries t token frame) w s now given each = none
+  answered_makes (Job.Waits t hold frame) w s now given each =
+      own_makes (s.opening.tenant == t) _ _
+      (settled_makes w s given (answer_made s hold now (answer_key given)) (answer_to s hold now (answer_key given))
+      (held_makes (open_hold s hold) _ (λ h. each t hold frame (answer_key given) (settle_answer h (max (clock_of s) now) (answer_key given)) refl))) none
+
+  pub answer_makes : (w : Work) (s : State) (now : ℕ) (got : Got)
+      → ((t hold : ℕ) (frame : List ℕ) (key : AnswerKey) (v : Verdict) → w.job ≡ Job.Waits t hold frame → P (Some (answer_record hold now key v))) → P (answer_call w s now got).made
+  answer_makes w s now got each = answered_makes w.job w s now (given_by w.room got) each
+
+  pub tick_makes : (s : State) (now : ℕ) → ((count : ℕ) → P (Some (tick_record now count))) → P (tick_made s now)
+  tick_makes s now each =
+      let count : ℕ = tick_count s (max (clock_of s) now) in neither_made (has_no_place s) (tick_record now count) (each count)
 
 pub record_stays : (o : Option Peer) (key : Key) (now : ℕ) (v : Verdict) → Stays (record_left o key now v)
-record_stays None key now v = stays_none
-record_stays (Some from) key now v = either_stays (is_recorded v) (decide_record from.number key now v) (λ s. refl)
-
-verdict_stays : (s : State) (t : ℕ) (token : List ℕ) (p : Prepare) (room : List ℕ) (made : Option Record) (v : Verdict)
-    → Stays made → Stays (verdict_call s t token p room made v).made
-verdict_stays s t token p room made Unknown h = h
-verdict_stays s t token p room made NoRoom h = h
-verdict_stays s t token p room made (Refuse code amounts) h = h
-verdict_stays s t token p room made Fulfil h = h
-verdict_stays s t token p room made (Forward hold peer amount expiry) h = h
-verdict_stays s t token p room made Relay h = h
-
-frame_stays : (w : Work) (s : State) (t : ℕ) (token : List ℕ) (r : Result Prepare ViewFault) (now : ℕ)
-    → Stays (frame_call w s t token r now).made
-frame_stays w s t token (Ok p) now =
-    verdict_stays s t token p w.room (decide_made s token (key_in p) now) (judge s token (key_in p) now)
-    (record_stays (peer_with_token token (network_of s).peers) (key_in p) now (judge s token (key_in p) now))
-frame_stays w s t token (Err fault) now = stays_none
-
-own_stays : (b : Bool) (one other : Called) → Stays one.made → Stays other.made → Stays (if b then one else other).made
-own_stays true one other h k = h
-own_stays false one other h k = k
-
-decided_stays : (j : Job) (w : Work) (s : State) (now : ℕ) → Stays (job_decided j w s now).made
-decided_stays Job.NoJob w s now = stays_none
-decided_stays (Job.Carries t token frame) w s now =
-    own_stays (s.opening.tenant == t) _ _ (frame_stays w s t token (prepare_at frame) now) stays_none
-decided_stays (Job.Waits t hold frame) w s now = stays_none
-
-pub decide_stays : (w : Work) (s : State) (now : ℕ) → Stays (decide_call w s now).made
-decide_stays w s now = decided_stays w.job w s now
+record_stays = record_makes Stays stays_none (λ n key now v s. refl)
 
 pub held_stays : (o : Option Hold) (f : Hold → Record) → ((h : Hold) → Stays (Some (f h))) → Stays (option_map f o)
-held_stays None f each = stays_none
-held_stays (Some h) f each = each h
+held_stays = held_makes Stays stays_none
 
-settled_stays : (w : Work) (s : State) (given : Given) (made : Option Record) (r : Result Verdict HoldFault)
-    → Stays made → Stays (settled_call w s given made r).made
-settled_stays w s given made (Ok v) h = h
-settled_stays w s given made (Err fault) h = stays_none
-
-answered_stays : (j : Job) (w : Work) (s : State) (now : ℕ) (given : Given) → Stays (job_answered j w s now given).made
-answered_stays Job.NoJob w s now given = stays_none
-answered_stays (Job.Carries t token frame) w s now given = stays_none
-answered_stays (Job.Waits t hold frame) w s now given =
-    own_stays (s.opening.tenant == t) _ _
-    (settled_stays w s given (answer_made s hold now (answer_key given)) (answer_to s hold now (answer_key given))
-    (held_stays (open_hold s hold) _ (λ h x. refl))) stays_none
+pub decide_stays : (w : Work) (s : State) (now : ℕ) → Stays (decide_call w s now).made
+decide_stays = decide_makes Stays stays_none (λ n key now v s. refl)
 
 pub answer_stays : (w : Work) (s : State) (now : ℕ) (got : Got) → Stays (answer_call w s now got).made
-answer_stays w s now got = answered_stays w.job w s now (given_by w.room got)
-
-neither_stays : (b : Bool) (r : Record) → Stays (Some r) → Stays (if b then None else Some r)
-neither_stays true r h = stays_none
-neither_stays false r h = h
+answer_stays w s now got = answer_makes Stays stays_none w s now got (λ t hold frame key v is x. refl)
 
 pub tick_stays : (s : State) (now : ℕ) → Stays (tick_made s now)
-tick_stays s now = neither_stays (has_no_place s) (tick_record now (tick_count s (max (clock_of s) now))) (λ x. refl)
+tick_stays s now = tick_makes Stays stays_none s now (λ count x. refl)
 
 -- a tick counts the entry that it appends
 pub tick_entries : (s : State) (now : ℕ) (count : Result ℕ BookFault) (rise : Rise) → count ≡ tick_result s now → rise ≡ tick_rise count

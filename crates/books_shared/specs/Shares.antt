@@ -3,6 +3,7 @@ use Rattle.std.specs.Prelude.{ℕ, ◌≡◌, ◌+◌, ◌-◌, ◌^◌, Bool, t
 use Rattle.std.specs.Prelude.{Option, Some, None, Result, Ok, Err, if◌then◌else◌}
 use Rattle.std.specs.List.{list_any}
 use Rattle.tenant_core.specs.Limits.{max_tenants}
+use Rattle.one_list.specs.declared.step.Beginning.{Beginning}
 use Rattle.one_list.specs.declared.step.Done.{Done}
 use Rattle.books_shared.specs.declared.rise.Rise.{Rise}
 use Rattle.books_shared.specs.declared.share.RoomFault.{RoomFault}
@@ -11,8 +12,8 @@ use Rattle.receipts.specs.Ledgers.{receipt_of}
 use Rattle.receipts.specs.declared.receipt.Receipt.{Receipt}
 
 -- a worker's number; of each tenant, how many entries it appended, how many tokens were no peer's, and how many packets
--- found the journal full; for how many calls there is room; the worker's steps in the one list; and whether it keeps a
--- receipt of each of them
+-- found the journal full; for how many calls there is room; the worker's steps in the one list; the tenants' steps that it has
+-- met, each time as far as they had come then; and whether it keeps a receipt of each of its own
 pub record ShareView : Type 0 where
   pub worker : ℕ
   pub counts : List ℕ
@@ -20,6 +21,7 @@ pub record ShareView : Type 0 where
   pub full : List ℕ
   pub room : ℕ
   pub steps : List Done
+  pub met : List Beginning
   pub audited : Bool
 
 -- ---- new shares
@@ -38,6 +40,7 @@ fresh audited worker =
       full = no_counts;
       room = 0;
       steps = [];
+      met = [];
       audited = audited;
     }
 
@@ -65,6 +68,10 @@ raised rise tenant s =
 -- the share with these steps more
 abbrev pub with_steps : List Done → ShareView → ShareView
 with_steps more s = record s { steps = s.steps ++ more }
+
+-- the share, once its worker has met the steps of that tenant
+abbrev pub has_met : ℕ → List Done → ShareView → ShareView
+has_met tenant steps s = record s { met = s.met ++ record { tenant = tenant; steps = steps } ∷ [] }
 
 -- ---- room
 

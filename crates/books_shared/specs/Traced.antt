@@ -6,7 +6,7 @@ use Rattle.tenant_core.specs.declared.journal.Record.{Record}
 use Rattle.tenant_core.specs.declared.opening.Opening.{Opening}
 use Rattle.tenant_core.specs.declared.terms.TenantTerms.{TenantTerms}
 use Rattle.one_list.specs.History.{IsHistory, after_record}
-use Rattle.one_list.specs.Steps.{PartView, Place, done_by, of_tenant, of_worker}
+use Rattle.one_list.specs.Steps.{IsBeginning, PartView, Place, WorkerView, done_by, of_tenant, of_worker}
 use Rattle.one_list.specs.declared.step.Done.{Done}
 use Rattle.one_list.specs.declared.step.Size.{Size}
 use Rattle.floor_core.specs.Causes.{AreRun, Entered, HasCause}
@@ -66,12 +66,14 @@ abbrev pub entry_of : Done → Entered
 entry_of e = record { tenant = e.tenant; made = e.made }
 
 -- It is the list of all that was done: of each tenant it has what led to the tenant's book, in the order of its journals, with
--- the outcomes of the replay; of each worker what its share knows that it did, in its order; and nothing else. The books are
+-- the outcomes of the replay; of each worker what its share knows that it did, in its order; and nothing else. What a worker has
+-- met of a tenant, whenever it met it, are the first steps that the list has of the tenant. The books are
 -- those of all tenants, in order. And the list is a run: there are steps of a floor that, from the openings on, make just its
 -- records, in its order, and leave these books
 pub record IsListOf (size : Size) (openings : List Opening) (books : List (State × ℕ)) (shares : List ShareView) (log : List Done) : Type 0 where
   pub tenants : All (λ b. IsLedTo openings b.0 (of_tenant b.0.opening.tenant log)) books
   pub workers : All (λ s. of_worker s.worker log ≡ s.steps) shares
+  pub met : All (λ s. All (IsBeginning log) s.met) shares
   pub others : All (λ e. (e.tenant < size.tenants) × (e.worker < size.workers)) log
   pub in_order : AreInOrder 0 books
   pub run : AreRun openings (map entry_of log) (book_among books)
@@ -87,5 +89,5 @@ AreTraced openings (b ∷ bs) (p ∷ ps) = IsTraced openings b.0 p × AreTraced 
 AreTraced openings _ _ = ⊥
 
 -- the part of the list that a share knows
-abbrev pub part_of : ShareView → PartView
-part_of s = record { number = s.worker; steps = s.steps }
+abbrev pub part_of : ShareView → WorkerView
+part_of s = record { number = s.worker; steps = s.steps; met = s.met }

@@ -1,6 +1,8 @@
 -- What follows of a slot from a turn alone, for whoever does not know the book.
-use Rattle.std.specs.Prelude.{◌≡◌}
+use Rattle.std.specs.Prelude.{ℕ, ◌≡◌, List, Some}
 use Rattle.floor_core.specs.Work.{Job, Work, IsWaiting, tenant_in, waiting_in}
+use Rattle.one_list.specs.Holds.{holder}
+use Rattle.one_list.specs.declared.step.Done.{Done}
 use Rattle.floor_core.specs.declared.parts.Turn.{Turn}
 use Rattle.floor_core.specs.declared.parts.Turn.TheVariants.{Idle, Stray, Stranger, Reply, Send}
 
@@ -27,3 +29,8 @@ IsLeft (Send peer hold) before after = IsSentOn before.job after.job
 abbrev pub IsEnded : Turn → Work → Work → Type 0
 IsEnded Reply before after = after.job ≡ Job.NoJob
 IsEnded _ before after = after ≡ before
+
+-- the packet that the call awaits was sent on by that worker, by these steps of its tenant
+abbrev pub IsSentBy : ℕ → Job → List Done → Type 0
+IsSentBy worker (Job.Waits tenant hold frame) steps = holder hold steps ≡ Some worker
+IsSentBy worker _ steps = Unit {0}

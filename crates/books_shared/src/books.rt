@@ -48,12 +48,13 @@ impl<J: Run> Model for Books<J> {
 }
 
 impl<J: Run> Books<J> {
-    ghost use Rattle.std.specs.Prelude.{◌≡◌, ◌<◌, ◌≤◌, length, IfOk, IfSome};
+    ghost use Rattle.std.specs.Prelude.{◌≡◌, ◌<◌, ◌≤◌, length, true, IfOk, IfSome};
     ghost use Rattle.tenant_core.specs.Limits.{max_tenants};
     ghost use Rattle.books_shared.specs.Gathers.{max_workers};
     ghost use Rattle.books_shared.specs.Kept.{LockInvariant};
     ghost use Rattle.books_shared.specs.Shares.{fresh_shares};
     ghost use Rattle.books_shared.specs.Traced.{IsLedTo, openings_of};
+    ghost use Rattle.one_list.specs.Holds.{AreOwnAnswers};
 
     /// The books of these tenants, in which nothing has happened and whose first periods begin at `start`, and the shares
     /// of so many workers, in order: their numbers are 0, 1 and so on, all counts are 0, and there is no room for a
@@ -104,12 +105,14 @@ impl<J: Run> Books<J> {
 
     /// The book of that tenant, one of the books, once no other guard of it is held: until then the call waits. (If another
     /// tenant's book lay behind the lock, it would wait for ever: books never move.) What is known of the book is what
-    /// holds whenever its lock is free.
+    /// holds whenever its lock is free. In a run in which each worker answers only packets that it sent on itself (`Run::own`),
+    /// each answer among the book's steps is such a one.
     pub fn enter(&self, rt: &impl Wait, tenant: usize) -> Guard<'_, J>
         requires { tenant < self.now.tenants }
         ensures own { result.state.opening.tenant ≡ tenant }
         ensures kept { LockInvariant result }
         ensures led { IsLedTo J.openings result.state result.steps }
+        ensures answers { J.own ≡ true → AreOwnAnswers result.steps }
     {
         for _ in rt.forever() {
             let guard = Guard::new(self.locks[tenant].lock(rt), &self.chronicle);
@@ -127,6 +130,7 @@ impl<J: Run> Books<J> {
         ensures own { IfSome result (λ guard. guard.state.opening.tenant ≡ tenant) }
         ensures kept { IfSome result (λ guard. LockInvariant guard) }
         ensures led { IfSome result (λ guard. IsLedTo J.openings guard.state guard.steps) }
+        ensures answers { IfSome result (λ guard. J.own ≡ true → AreOwnAnswers guard.steps) }
     {
         let guard = Guard::new(self.locks[tenant].try_lock()?, &self.chronicle);
         if guard.book().tenant() != tenant {

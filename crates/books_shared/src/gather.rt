@@ -36,7 +36,8 @@ impl<J: Run> Books<J> {
     ///
     /// There is one list of all that was done, whatever the threads did: of each tenant it has what led to its book from the
     /// opening of the tenant's setup, over all its periods, in the order of its journals and with the outcomes of the replay; of
-    /// each worker what it did, in its order; and nothing else. And the list is a run (`AreRun`): there are steps of some workers
+    /// each worker what it did, in its order; and nothing else. What a worker has met of a tenant (`Guard::meet`) are the first steps
+    /// that the list has of the tenant. And the list is a run (`AreRun`): there are steps of some workers
     /// that, from those openings on, make just its records, in its order, and leave these books. Of this run holds what holds of
     /// `Floor::run`: each tenant sees and keeps what the one-tenant connector makes of its own steps alone, and each frame that
     /// goes on is the one that came, with 8 other bytes for its amount and 17 others for its expiry.

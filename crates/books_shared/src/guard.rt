@@ -45,7 +45,7 @@ impl<'a, J: Run> Guard<'a, J> {
 }
 
 impl<J: Run> Guard<'_, J> {
-    ghost use Rattle.std.specs.Prelude.{◌≡◌, ◌+◌, ◌++◌, ◌<◌, ◌^◌, length};
+    ghost use Rattle.std.specs.Prelude.{◌≡◌, ◌+◌, ◌++◌, ◌<◌, ◌^◌, length, true};
     ghost use Rattle.floor_core.specs.Work.{decide_call, answer_call};
     ghost use Rattle.tenant_core.specs.State.{recorded};
     ghost use Rattle.tenant_core.specs.Answer.{tick_made, tick_result, ticked};
@@ -53,14 +53,17 @@ impl<J: Run> Guard<'_, J> {
     ghost use Rattle.tenant_core.specs.Sound.{IsSound};
     ghost use Rattle.books_shared.specs.Kept.{LockInvariant, number_of};
     ghost use Rattle.books_shared.specs.Rises.{command_rise, entries_closed, rise_of, tick_rise};
+    ghost use Rattle.books_shared.specs.Shares.{has_met};
     ghost use Rattle.books_shared.specs.Traced.{IsLedTo, counted};
     ghost use Rattle.one_list.specs.Steps.{done_by, next_place, of_tenant, of_worker};
-    ghost use Rattle.books_shared.specs.Turns.{IsLeft, IsEnded};
+    ghost use Rattle.books_shared.specs.Turns.{IsLeft, IsEnded, IsSentBy};
+    ghost use Rattle.one_list.specs.Holds.{AreOwnAnswers};
 
     // What the type keeps.
     pub(crate) fn is_kept(&self)
         ensures kept { LockInvariant self.now }
         ensures led { IsLedTo J.openings self.now.state self.now.steps }
+        ensures answers { J.own ≡ true → AreOwnAnswers self.now.steps }
     {
         self.kept.is_kept();
     }
@@ -86,10 +89,11 @@ impl<J: Run> Guard<'_, J> {
     }
 
     /// The book's steps by the worker of the share are all that this worker has done for the tenant until now, in its order, and
-    /// nothing more. Nothing changes, and it takes neither room nor memory.
+    /// nothing more. The share keeps that it has met the steps which led to this book: in the end they are the first ones that
+    /// the one list has of the tenant (`Books::gather`). Nothing else changes, and it takes neither room nor memory.
     pub fn meet(&mut self, share: &mut Share<J>)
         ensures book { self.new ≡ self.old }
-        ensures share { share.new ≡ share.old }
+        ensures share { share.new ≡ has_met self.old.state.opening.tenant self.old.steps share.old }
         ensures shared { of_worker share.old.worker self.old.steps ≡ of_tenant self.old.state.opening.tenant share.old.steps }
     {
         self.kept.meet(self.chronicle, share);
@@ -121,9 +125,11 @@ impl<J: Run> Guard<'_, J> {
     /// Settles the packet of the slot by the book and what came back, as `Slot::answer` does, and counts the entry that
     /// `Reply` appends. After `Idle` and `Stray` nothing has changed but that the call was used up.
     ///
-    /// The share has room for a call, which this one uses up.
+    /// The share has room for a call, which this one uses up. In a run in which each worker answers only packets that it sent on
+    /// itself (`Run::own`), the share's worker has sent this one on.
     pub fn answer(&mut self, share: &mut Share<J>, slot: &mut Slot, now: Moment, got: Got) -> Turn
         requires room { 0 < share.old.room }
+        requires sent { J.own ≡ true → IsSentBy share.old.worker slot.old.job self.old.steps }
         ensures turn { result ≡ (answer_call slot.old self.old.state now got).turn }
         ensures slot { slot.new ≡ (answer_call slot.old self.old.state now got).work }
         ensures book { self.new.state ≡ recorded self.old.state (answer_call slot.old self.old.state now got).made }

@@ -9,7 +9,7 @@ ghost use Rattle.tenant_core.specs.Limits.{max_tenants};
 ghost use Rattle.tenant_core.specs.State.{recorded};
 ghost use Rattle.books_shared.specs.Rises.{IsSmall, command_rise, entries_closed, rise_of, tick_rise};
 ghost use Rattle.books_shared.specs.Kept.{most_entries};
-ghost use Rattle.books_shared.specs.Shares.{raised, with_steps};
+ghost use Rattle.books_shared.specs.Shares.{has_met, raised, with_steps};
 ghost use Rattle.books_shared.specs.Tracing.{HasAppended, told_by, told_of};
 
 use crate::rise::{Rise, command_rise, entries_closed, rise_of_turn, tick_rise};
@@ -35,7 +35,8 @@ impl<J: Run> Model for Kept<J> {
     ghost use Rattle.books_shared.specs.Traced.{IsTraced};
     ghost use Rattle.std.specs.Coded.{codes};
     ghost use Rattle.route_table.specs.contracts.routes.Routes as routes;
-    ghost use Rattle.std.specs.Prelude.{◌≤◌};
+    ghost use Rattle.std.specs.Prelude.{◌≤◌, ◌≡◌, true};
+    ghost use Rattle.one_list.specs.Holds.{AreOwnAnswers};
 
     ghost Value = { Kept };
 
@@ -43,12 +44,15 @@ impl<J: Run> Model for Kept<J> {
 
     ghost view = { λ k. record { state = k.book; closed = k.closed; steps = k.part.steps } };
 
-    ghost invariant = { λ k. (k.closed ≤ most_entries k.book.opening.period) × IsTraced J.openings k.book k.part };
+    ghost invariant = { λ k. (k.closed ≤ most_entries k.book.opening.period) × IsTraced J.openings k.book k.part
+        × (J.own ≡ true → AreOwnAnswers k.part.steps) };
 }
 
 impl<J: Run> Kept<J> {
-    ghost use Rattle.std.specs.Prelude.{◌≡◌, ◌+◌, ◌<◌, ◌^◌, [], ◌++◌, length};
+    ghost use Rattle.std.specs.Prelude.{◌≡◌, ◌+◌, ◌<◌, ◌^◌, [], ◌++◌, length, true};
     ghost use Rattle.floor_core.specs.Work.{decide_call, answer_call};
+    ghost use Rattle.one_list.specs.Holds.{AreOwnAnswers};
+    ghost use Rattle.books_shared.specs.Turns.{IsSentBy};
     ghost use Rattle.tenant_core.specs.Answer.{tick_made, tick_result, ticked};
     ghost use Rattle.tenant_core.specs.Governed.{IsGoverned, made_by};
     ghost use Rattle.tenant_core.specs.State.{opened, recorded};
@@ -59,7 +63,8 @@ impl<J: Run> Kept<J> {
 
     /// A book in which nothing has happened, and the part of the one list of its tenant.
     pub fn new(book: Book, part: TenantPart<J>) -> Kept<J>
-        requires { IsTraced J.openings book part }
+        requires traced { IsTraced J.openings book part }
+        requires answers { J.own ≡ true → AreOwnAnswers part.steps }
         ensures { result ≡ record { state = book; closed = 0; steps = part.steps } }
     {
         Kept {
@@ -80,6 +85,7 @@ impl<J: Run> Kept<J> {
     pub fn is_kept(&self)
         ensures kept { LockInvariant self.now }
         ensures led { IsLedTo J.openings self.now.state self.now.steps }
+        ensures answers { J.own ≡ true → AreOwnAnswers self.now.steps }
     {
         tenant_core::laws::book_is_sound(&self.book);
         let _closed = self.closed;
@@ -94,10 +100,11 @@ impl<J: Run> Kept<J> {
         self.closed + self.book.entries() as u64
     }
 
-    /// What a share's worker did to the book, and nothing more of this worker, stands in the tenant's steps. Nothing changes.
+    /// What a share's worker did to the book, and nothing more of this worker, stands in the tenant's steps; and the share keeps
+    /// that it has met these. Nothing else changes.
     pub fn meet(&mut self, chronicle: &Chronicle<J>, share: &mut Share<J>)
         ensures book { self.new ≡ self.old }
-        ensures share { share.new ≡ share.old }
+        ensures share { share.new ≡ has_met self.old.state.opening.tenant self.old.steps share.old }
         ensures shared { of_worker share.old.worker self.old.steps ≡ of_tenant self.old.state.opening.tenant share.old.steps }
     {
         share.meet(chronicle, &mut self.part);
@@ -134,6 +141,7 @@ impl<J: Run> Kept<J> {
     {
         tenant_core::laws::records_are_made();
         one_list::laws::histories();
+        one_list::laws::own_answers();
         slot.is_work();
         let (turn, rise) = decide_in(&mut self.book, slot, now);
         tenant_core::laws::book_is_sound(&self.book);
@@ -151,6 +159,7 @@ impl<J: Run> Kept<J> {
         got: Got,
     ) -> Turn
         requires room { 0 < share.old.room }
+        requires sent { J.own ≡ true → IsSentBy share.old.worker slot.old.job self.old.steps }
         ensures turn { result ≡ (answer_call slot.old self.old.state now got).turn }
         ensures slot { slot.new ≡ (answer_call slot.old self.old.state now got).work }
         ensures book { self.new.state ≡ recorded self.old.state (answer_call slot.old self.old.state now got).made }
@@ -163,6 +172,7 @@ impl<J: Run> Kept<J> {
     {
         tenant_core::laws::records_are_made();
         one_list::laws::histories();
+        one_list::laws::own_answers();
         let (turn, rise) = answer_in(&mut self.book, slot, now, got);
         tenant_core::laws::book_is_sound(&self.book);
         trace(chronicle, &mut self.part, share, &self.book, rise);
@@ -188,6 +198,7 @@ impl<J: Run> Kept<J> {
     {
         tenant_core::laws::records_are_made();
         one_list::laws::histories();
+        one_list::laws::own_answers();
         let (count, rise) = tick_in(&mut self.book, now);
         tenant_core::laws::book_is_sound(&self.book);
         trace(chronicle, &mut self.part, share, &self.book, rise);
@@ -216,6 +227,7 @@ impl<J: Run> Kept<J> {
         tenant_core::laws::calls();
         tenant_core::laws::records_are_made();
         one_list::laws::histories();
+        one_list::laws::own_answers();
         let (answer, closed) = command_in(&mut self.book, alloc, command, now);
         tenant_core::laws::book_is_sound(&self.book);
         self.closed += closed;

@@ -1,7 +1,7 @@
 //! What a worker counts.
 
 ghost use Rattle.std.specs.Prelude.{◌≡◌, ◌<◌, [], IfSome, is_some};
-ghost use Rattle.one_list.specs.Steps.{grown};
+ghost use Rattle.one_list.specs.Steps.{grown, worked};
 ghost use Rattle.receipts.specs.Ledgers.{last_receipt};
 ghost use Rattle.books_shared.specs.ShareKept.{HasKept, HasMadeRoom, IsLedgerOf};
 ghost use Rattle.books_shared.specs.Shares.{has_full, receipts_told};
@@ -43,7 +43,7 @@ impl From<AllocError> for RoomFault {
 
 /// What one worker has counted for each of 64 tenants: the entries that it appended to the tenant's book, the tokens that
 /// were no peer's, and the packets that found the journal full; for the proofs alone, its steps in the one list of all that is
-/// done to the books; and, where the run is audited, a receipt of each of these steps. Contracts see it as a `ShareView`.
+/// done to the books, and the tenants' steps that it has met; and, where the run is audited, a receipt of each of these steps. Contracts see it as a `ShareView`.
 ///
 /// It has room for a number of calls of a `Guard`, each of which uses one up; `make_room` makes room for two. So no
 /// count passes 2^47 + 1. A share that keeps no receipts does not grow.
@@ -74,6 +74,7 @@ impl<J: Run> Model for Share<J> {
       full = s.full;
       room = s.room;
       steps = s.part.steps;
+      met = s.part.met;
       audited = is_some s.ledger;
     } };
 
@@ -84,14 +85,14 @@ impl<J: Run> Share<J> {
     ghost use Rattle.std.specs.Prelude.{◌≡◌, ◌+◌, ◌<◌, ◌≤◌, ◌==◌, Bool, [], count_by, length, option_map, slice_index};
     ghost use Rattle.tenant_core.specs.Limits.{max_tenants};
     ghost use Rattle.books_shared.specs.Rises.{IsSmall};
-    ghost use Rattle.books_shared.specs.Shares.{IsRoomMade, fresh, max_count, raised, receipts_in, with_steps};
+    ghost use Rattle.books_shared.specs.Shares.{IsRoomMade, fresh, has_met, max_count, raised, receipts_in, with_steps};
     ghost use Rattle.books_shared.specs.Traced.{part_of};
     ghost use Rattle.books_shared.specs.Tracing.{told_by};
     ghost use Rattle.one_list.specs.Steps.{grown, of_tenant, of_worker};
 
     // The share of a worker that has counted nothing. It keeps receipts where that is asked.
     pub(crate) fn fresh(alloc: Global, part: WorkerPart<J>, audited: bool) -> Share<J>
-        requires { part ≡ record { number = part.number; steps = [] } }
+        requires { part ≡ record { number = part.number; steps = []; met = [] } }
         ensures { result ≡ fresh audited part.number }
     {
         Share {
@@ -214,10 +215,10 @@ impl<J: Run> Share<J> {
         self.room -= 1;
     }
 
-    // The tenant's steps by the worker are the worker's steps of the tenant. Nothing changes.
+    // The tenant's steps by the worker are the worker's steps of the tenant; and the worker has met the tenant's.
     pub(crate) fn meet(&mut self, chronicle: &Chronicle<J>, tenant: &mut TenantPart<J>)
         ensures tenant { tenant.new ≡ tenant.old }
-        ensures share { self.new ≡ self.old }
+        ensures share { self.new ≡ has_met tenant.old.number tenant.old.steps self.old }
         ensures shared { of_worker self.old.worker tenant.old.steps ≡ of_tenant tenant.old.number self.old.steps }
     {
         chronicle.meet(tenant, &mut self.part);
@@ -279,7 +280,7 @@ fn tell<J: Run>(
     ensures tenant { tenant.new
         ≡ grown tenant.old (told_by entries worker.old.number tenant.old.number period journal.now.records) }
     ensures worker { worker.new
-        ≡ grown worker.old (told_by entries worker.old.number tenant.old.number period journal.now.records) }
+        ≡ worked worker.old (told_by entries worker.old.number tenant.old.number period journal.now.records) }
     ensures ledger { HasKept ledger.old ledger.new
         (receipts_told (told_by entries worker.old.number tenant.old.number period journal.now.records)) }
 {

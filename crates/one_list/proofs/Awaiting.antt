@@ -27,20 +27,12 @@ use Rattle.tenant_core.specs.declared.journal.Record.{Record}
 use Rattle.tenant_core.specs.declared.opening.Opening.{Opening}
 use Rattle.tenant_core.specs.declared.verdict.Verdict.TheVariants.{Unknown, NoRoom, Refuse, Forward, Fulfil, Relay}
 use Rattle.one_list.specs.History.{IsHistory, IsStep, LeadTo, after_entry, after_record}
-use Rattle.one_list.specs.Holds.{BeginsHold, HoldLaws, IsAnsweredByAnother, IsAnswerTo}
+use Rattle.one_list.specs.Holds.{BeginsHold, HoldLaws, IsAnsweredByAnother, IsAnswerTo, holder, is_numbered}
+use Rattle.one_list.proofs.Numbers.{course_of, held, holds_pushed}
 use Rattle.one_list.specs.Steps.{of_worker}
 use Rattle.one_list.specs.declared.step.Done.{Done}
 
 -- ---- one record more
-
--- what a state's records leave of its holds
-course_of : State → Course
-course_of s = fold course_after (record { clock = s.opening.clock; holds = [] }) s.records
-
-holds_pushed : (s : State) (r : Record)
-    → holds_of (recorded s (Some r)) ≡ extended (map (hold_after (later (course_of s).clock r) r.entry r.outcome) (holds_of s)) (hold_begun r.entry r.outcome)
-unfolding holds_of course_of
-holds_pushed s r = ap (λ (c : Course). c.holds) (fold_push course_after (record { clock = s.opening.clock; holds = [] }) s.records r)
 
 module _ (p : Hold → Bool) where
   -- what is found is found among more
@@ -156,9 +148,17 @@ awaited_after s r n made awaited other = by r.entry refl
     by (Change c) is = awaited_still s r n awaited other
     by (Roll x) is = absurd (no_roll s r n x.now is made awaited)
 
+-- a hold that has that number
+some_numbered : (n : ℕ) (o : Option Hold) → is_numbered n o ≡ true → IsSomeAnd o (λ h. h.number ≡ n)
+some_numbered n None is = absurd cc
+some_numbered n (Some h) is = eqb-true h.number n is
+
 begun_after : (s : State) (e : Done) (n : ℕ) → BeginsHold n e → is_awaited (after_record s e.made) n ≡ true
-begun_after s e n begins = by e.made.entry refl
+begun_after s e n is = by e.made.entry refl
   where
+    begins : IsSomeAnd (hold_begun e.made.entry e.made.outcome) (λ h. h.number ≡ n)
+    begins = some_numbered n (hold_begun e.made.entry e.made.outcome) is
+
     by : (x : Entry) → e.made.entry ≡ x → is_awaited (after_entry x s e.made) n ≡ true
     by (Decide d) is = awaited_begun s e.made n begins
     by (Answer a) is = awaited_begun s e.made n begins
@@ -183,10 +183,15 @@ lead_at : (s t : State) (earlier : List Done) (e : Done) (later : List Done) →
 lead_at s t [] e later led = (s, led.0, led.1)
 lead_at s t (x ∷ xs) e later led = lead_at (after_record s x.made) t xs e later led.1
 
+pub some_answer : (o : Opening) (earlier later : List Done) (e : Done) (s : State) (n : ℕ) → IsHistory o (earlier ++ e ∷ later) s → BeginsHold n e → is_awaited s n ≡ false
+    → list_any (λ x. is_answer_to n x.made.entry) later ≡ true
+some_answer o earlier later e s n history begins none =
+    let at = lead_at (opened o) s earlier e later history in
+    answered_by (after_record at.0 e.made) s later n at.2 (begun_after at.0 e n begins) none
+
 answered : (o : Opening) (earlier later : List Done) (e : Done) (s : State) (n : ℕ) → IsHistory o (earlier ++ e ∷ later) s → BeginsHold n e → is_awaited s n ≡ false → Any (IsAnswerTo n) later
 answered o earlier later e s n history begins none =
-    let at = lead_at (opened o) s earlier e later history in
-    Any-from_list_any (λ (x : Done). is_answer_to n x.made.entry) later (answered_by (after_record at.0 e.made) s later n at.2 (begun_after at.0 e n begins) none)
+    Any-from_list_any (λ (x : Done). is_answer_to n x.made.entry) later (some_answer o earlier later e s n history begins none)
 
 -- ---- by whom
 
@@ -200,16 +205,16 @@ module _ {X : Type 0} (p : X → Bool) where
       by true is none rest = absurd (let wrong : x ∷ filter p xs ≡ [] = none in cc)
       by false is none rest = All-cons (λ y. p y ≡ false) x xs is (rest none)
 
-  record Stands (last : X) (xs : List X) : Type 0 where
-    earlier : List X
-    later : List X
-    there : xs ≡ earlier ++ last ∷ later
-    none : All (λ y. p y ≡ false) later
+  pub record Stands (last : X) (xs : List X) : Type 0 where
+    pub earlier : List X
+    pub later : List X
+    pub there : xs ≡ earlier ++ last ∷ later
+    pub none : All (λ y. p y ≡ false) later
 
   behind : (x last : X) (xs : List X) → Stands last xs → Stands last (x ∷ xs)
   behind x last xs s = record { earlier = x ∷ s.earlier; later = s.later; there = ap (λ l. x ∷ l) s.there; none = s.none }
 
-  last_kept : (xs before : List X) (last : X) → filter p xs ≡ before ++ last ∷ [] → Stands last xs
+  pub last_kept : (xs before : List X) (last : X) → filter p xs ≡ before ++ last ∷ [] → Stands last xs
   last_kept [] [] last e = absurd cc
   last_kept [] (y ∷ ys) last e = absurd cc
   last_kept (x ∷ xs) before last e = by (p x) before e (last_kept xs)
@@ -235,4 +240,12 @@ by_another o steps before e s n history mine begins none =
     }
 
 pub laws : HoldLaws
-laws = record { answered = answered; by_another = by_another }
+laws =
+    record {
+      answered = answered;
+      by_another = by_another;
+      held = λ o steps before e s n history mine begins. (
+          let at = last_kept (λ (x : Done). x.worker == e.worker) steps before e mine in
+          let led = subst (λ (l : List Done). IsHistory o l s) at.there history in
+          ap (holder n) at.there ∙ held (opened o) s at.earlier at.later e n led begins);
+    }

@@ -6,69 +6,104 @@ use Rattle.std.proofs.lemmas.List.Sums.{sum_by-cons}
 use Rattle.std.proofs.lemmas.List.{append-nil, map-append}
 use Rattle.std.proofs.lemmas.List.Elements.{filter-append, All-nil, All-cons}
 use Rattle.tenant_core.specs.Journals.{Recorded}
+use Rattle.one_list.specs.declared.step.Beginning.{Beginning}
 use Rattle.one_list.specs.declared.step.Done.{Done}
 use Rattle.one_list.specs.declared.step.Size.{Size}
 use Rattle.one_list.specs.declared.rule.Claim.{Claim}
-use Rattle.one_list.specs.Steps.{PartView, HaveOneList, parts_numbered}
+use Rattle.one_list.specs.Steps.{IsBeginning, PartView, WorkerView, HaveOneList, of_tenant, of_worker, parts_numbered}
 use Rattle.one_list.specs.Rules.{AllFit, Fits, IsTold, claim, claims_of, count_of, is_kind, is_of}
-use Rattle.one_list.specs.Parts.{gathered, parts_of, steps_in}
+use Rattle.one_list.specs.Parts.{gathered, met_in, steps_in, tenants_in, workers_in}
 
 -- what a seat holds that a badge became
 pub seated : {c : List Claim} {me : Me Recorded (List Claim)} → me.0 ∷ [] ≡ c ∷ [] → me.1 ≡ [] → me ≡ (c, [])
 seated {c} {me} e f = let h : me.0 ≡ c = cc (e) in λ i. (h i, f i)
 
 -- a badge claims the steps that are in it
-pub claimed : {b : Bool} {n : ℕ} {steps : List Done} {views : List (List Claim)} → views ≡ (claim b n steps ∷ []) ∷ [] → views ≡ (claim b n (steps_in views) ∷ []) ∷ []
-claimed {b} {n} {steps} {views} e = e ∙ ap (λ (l : List Done). (claim b n l ∷ []) ∷ []) (sym (ap steps_in e))
+pub claimed : {b : Bool} {n : ℕ} {steps : List Done} {met : List Beginning} {views : List (List Claim)} → views ≡ (claim b n steps met ∷ []) ∷ []
+    → views ≡ (claim b n (steps_in views) met ∷ []) ∷ []
+claimed {b} {n} {steps} {met} {views} e = e ∙ ap (λ (l : List Done). (claim b n l met ∷ []) ∷ []) (sym (ap steps_in e))
 
--- the part of which a claim speaks
+-- and has met what is in it
+pub claimed_met : {b : Bool} {n : ℕ} {steps : List Done} {met : List Beginning} {views : List (List Claim)} → views ≡ (claim b n steps met ∷ []) ∷ []
+    → views ≡ (claim b n (steps_in views) (met_in views) ∷ []) ∷ []
+claimed_met {b} {n} {steps} {met} {views} e = claimed e ∙ ap (λ (l : List Beginning). (claim b n (steps_in views) l ∷ []) ∷ []) (sym (ap met_in e))
+
+-- the parts of which a claim speaks
 abbrev part_in : Claim → PartView
 part_in c = record { number = c.number; steps = c.steps }
 
-parts-append : (b : Bool) (v w : List Claim) → parts_of b (v ++ w) ≡ parts_of b v ++ parts_of b w
-parts-append b v w = ap (map (λ c. part_in c)) (filter-append (is_kind b) v w) ∙ map-append (λ c. part_in c) (claims_of b v) (claims_of b w)
+abbrev worker_in : Claim → WorkerView
+worker_in c = record { number = c.number; steps = c.steps; met = c.met }
+
+tenants-append : (v w : List Claim) → tenants_in (v ++ w) ≡ tenants_in v ++ tenants_in w
+tenants-append v w = ap (map (λ c. part_in c)) (filter-append (is_kind false) v w) ∙ map-append (λ c. part_in c) (claims_of false v) (claims_of false w)
+
+workers-append : (v w : List Claim) → workers_in (v ++ w) ≡ workers_in v ++ workers_in w
+workers-append v w = ap (map (λ c. worker_in c)) (filter-append (is_kind true) v w) ∙ map-append (λ c. worker_in c) (claims_of true v) (claims_of true w)
 
 -- a tenant's part more, and a worker's
-pub with_tenant : (v w : List Claim) (n : ℕ) (steps : List Done) → w ≡ claim false n steps ∷ []
+pub with_tenant : (v w : List Claim) (n : ℕ) (steps : List Done) → w ≡ claim false n steps [] ∷ []
     → gathered (v ++ w) ≡ record { tenants = (gathered v).tenants ++ record { number = n; steps = steps } ∷ []; workers = (gathered v).workers }
 with_tenant v w n steps is =
-    let t = parts-append false v w ∙ ap (λ l. parts_of false v ++ parts_of false l) is in
-    let u = parts-append true v w ∙ (ap (λ l. parts_of true v ++ parts_of true l) is ∙ append-nil (parts_of true v)) in
+    let t = tenants-append v w ∙ ap (λ l. tenants_in v ++ tenants_in l) is in
+    let u = workers-append v w ∙ (ap (λ l. workers_in v ++ workers_in l) is ∙ append-nil (workers_in v)) in
     λ i. record { tenants = t i; workers = u i }
 
-pub with_worker : (v w : List Claim) (n : ℕ) (steps : List Done) → w ≡ claim true n steps ∷ []
-    → gathered (v ++ w) ≡ record { tenants = (gathered v).tenants; workers = (gathered v).workers ++ record { number = n; steps = steps } ∷ [] }
-with_worker v w n steps is =
-    let t = parts-append false v w ∙ (ap (λ l. parts_of false v ++ parts_of false l) is ∙ append-nil (parts_of false v)) in
-    let u = parts-append true v w ∙ ap (λ l. parts_of true v ++ parts_of true l) is in
+pub with_worker : (v w : List Claim) (n : ℕ) (steps : List Done) (met : List Beginning) → w ≡ claim true n steps met ∷ []
+    → gathered (v ++ w) ≡ record { tenants = (gathered v).tenants; workers = (gathered v).workers ++ record { number = n; steps = steps; met = met } ∷ [] }
+with_worker v w n steps met is =
+    let t = tenants-append v w ∙ (ap (λ l. tenants_in v ++ tenants_in l) is ∙ append-nil (tenants_in v)) in
+    let u = workers-append v w ∙ ap (λ l. workers_in v ++ workers_in l) is in
     λ i. record { tenants = t i; workers = u i }
 
 -- ---- at the end
 
--- the claim that those are all steps of the worker, or of the tenant, of a part
-abbrev Tells : Bool → List Done → PartView → Type 0
-Tells of_worker log p = filter (λ (e : Done). cond of_worker (e.worker == p.number) (e.tenant == p.number)) log ≡ p.steps
+-- the list has of a tenant just the steps of its part
+abbrev TellsTenant : List Done → PartView → Type 0
+TellsTenant log p = of_tenant p.number log ≡ p.steps
 
-told_tenant : (log : List Done) (c : Claim) (cs : List Claim) (b : Bool) → c.of_worker ≡ b → Fits log c → All (Tells false log) (parts_of false cs) → All (Tells false log) (map part_in (cond (not b) (c ∷ claims_of false cs) (claims_of false cs)))
+-- of a worker just the steps of its part
+abbrev TellsWorker : List Done → WorkerView → Type 0
+TellsWorker log p = of_worker p.number log ≡ p.steps
+
+-- what the worker has met are beginnings of the list
+abbrev HasMet : List Done → WorkerView → Type 0
+HasMet log p = All (IsBeginning log) p.met
+
+told_tenant : (log : List Done) (c : Claim) (cs : List Claim) (b : Bool) → c.of_worker ≡ b → Fits log c → All (TellsTenant log) (tenants_in cs)
+    → All (TellsTenant log) (map part_in (cond (not b) (c ∷ claims_of false cs) (claims_of false cs)))
 told_tenant log c cs true is f rest = rest
 told_tenant log c cs false is f rest =
-    All-cons (Tells false log) (part_in c) (parts_of false cs) (subst (λ b. filter (λ (e : Done). cond b (e.worker == c.number) (e.tenant == c.number)) log ≡ c.steps) is f) rest
+    All-cons (TellsTenant log) (part_in c) (tenants_in cs) (subst (λ b. filter (λ (e : Done). cond b (e.worker == c.number) (e.tenant == c.number)) log ≡ c.steps) is f.0) rest
 
-told_worker : (log : List Done) (c : Claim) (cs : List Claim) (b : Bool) → c.of_worker ≡ b → Fits log c → All (Tells true log) (parts_of true cs) → All (Tells true log) (map part_in (cond b (c ∷ claims_of true cs) (claims_of true cs)))
+told_worker : (log : List Done) (c : Claim) (cs : List Claim) (b : Bool) → c.of_worker ≡ b → Fits log c → All (TellsWorker log) (workers_in cs)
+    → All (TellsWorker log) (map worker_in (cond b (c ∷ claims_of true cs) (claims_of true cs)))
 told_worker log c cs true is f rest =
-    All-cons (Tells true log) (part_in c) (parts_of true cs) (subst (λ b. filter (λ (e : Done). cond b (e.worker == c.number) (e.tenant == c.number)) log ≡ c.steps) is f) rest
+    All-cons (TellsWorker log) (worker_in c) (workers_in cs) (subst (λ b. filter (λ (e : Done). cond b (e.worker == c.number) (e.tenant == c.number)) log ≡ c.steps) is f.0) rest
 told_worker log c cs false is f rest = rest
 
-told : (k : Bool) (log : List Done) (v : List Claim) → AllFit log v → All (Tells k log) (parts_of k v)
-told k log [] f = All-nil (Tells k log)
-told true log (c ∷ cs) f = told_worker log c cs c.of_worker refl f.0 (told true log cs f.1)
-told false log (c ∷ cs) f = told_tenant log c cs c.of_worker refl f.0 (told false log cs f.1)
+told_met : (log : List Done) (c : Claim) (cs : List Claim) (b : Bool) → Fits log c → All (HasMet log) (workers_in cs)
+    → All (HasMet log) (map worker_in (cond b (c ∷ claims_of true cs) (claims_of true cs)))
+told_met log c cs true f rest = All-cons (HasMet log) (worker_in c) (workers_in cs) f.1 rest
+told_met log c cs false f rest = rest
+
+tenants_told : (log : List Done) (v : List Claim) → AllFit log v → All (TellsTenant log) (tenants_in v)
+tenants_told log [] f = All-nil (TellsTenant log)
+tenants_told log (c ∷ cs) f = told_tenant log c cs c.of_worker refl f.0 (tenants_told log cs f.1)
+
+workers_told : (log : List Done) (v : List Claim) → AllFit log v → All (TellsWorker log) (workers_in v)
+workers_told log [] f = All-nil (TellsWorker log)
+workers_told log (c ∷ cs) f = told_worker log c cs c.of_worker refl f.0 (workers_told log cs f.1)
+
+met_told : (log : List Done) (v : List Claim) → AllFit log v → All (HasMet log) (workers_in v)
+met_told log [] f = All-nil (HasMet log)
+met_told log (c ∷ cs) f = told_met log c cs c.of_worker f.0 (met_told log cs f.1)
 
 -- a tenant's parts are counted as the claims are that speak of it
-numbered_by : (n : ℕ) (c : Claim) (cs : List Claim) (b : Bool) → c.of_worker ≡ b → parts_numbered n (parts_of false cs) ≡ count_of false n cs
-    → parts_numbered n (parts_of false (c ∷ cs)) ≡ count_of false n (c ∷ cs)
+numbered_by : (n : ℕ) (c : Claim) (cs : List Claim) (b : Bool) → c.of_worker ≡ b → parts_numbered n (tenants_in cs) ≡ count_of false n cs
+    → parts_numbered n (tenants_in (c ∷ cs)) ≡ count_of false n (c ∷ cs)
 numbered_by n c cs true is rest =
-    let left : parts_numbered n (parts_of false (c ∷ cs)) ≡ parts_numbered n (parts_of false cs)
+    let left : parts_numbered n (tenants_in (c ∷ cs)) ≡ parts_numbered n (tenants_in cs)
     = ap (λ (b : Bool). parts_numbered n (map part_in (cond (not b) (c ∷ claims_of false cs) (claims_of false cs)))) is in
     let right : count_of false n (c ∷ cs) ≡ cond (is_of false n c) 1 0 + count_of false n cs = sum_by-cons (λ x. cond (is_of false n x) 1 0) c cs in
     let one : ℕ = cond (is_of false n c) 1 0 in
@@ -76,25 +111,26 @@ numbered_by n c cs true is rest =
     omega (arith, left, right, none, rest)
 numbered_by n c cs false is rest =
     let one : ℕ = cond (c.number == n) 1 0 in
-    let left : parts_numbered n (parts_of false (c ∷ cs)) ≡ one + parts_numbered n (parts_of false cs)
+    let left : parts_numbered n (tenants_in (c ∷ cs)) ≡ one + parts_numbered n (tenants_in cs)
     = ap (λ (b : Bool). parts_numbered n (map part_in (cond (not b) (c ∷ claims_of false cs) (claims_of false cs)))) is
-    ∙ sum_by-cons (λ (p : PartView). cond (p.number == n) 1 0) (part_in c) (parts_of false cs) in
+    ∙ sum_by-cons (λ (p : PartView). cond (p.number == n) 1 0) (part_in c) (tenants_in cs) in
     let right : count_of false n (c ∷ cs) ≡ cond (is_of false n c) 1 0 + count_of false n cs = sum_by-cons (λ x. cond (is_of false n x) 1 0) c cs in
     let own : ℕ = cond (is_of false n c) 1 0 in
     let here : own ≡ one = ap (λ (b : Bool). cond (not b && (c.number == n)) 1 0) is in
     omega (arith, left, right, here, rest)
 
-numbered : (n : ℕ) (v : List Claim) → parts_numbered n (parts_of false v) ≡ count_of false n v
+numbered : (n : ℕ) (v : List Claim) → parts_numbered n (tenants_in v) ≡ count_of false n v
 numbered n [] = refl
 numbered n (c ∷ cs) = numbered_by n c cs c.of_worker refl (numbered n cs)
 
 -- where the claims are right there is one list
-pub one_list : (size : Size) (v : List Claim) → IsTold size v → HaveOneList size (parts_of false v) (parts_of true v)
+pub one_list : (size : Size) (v : List Claim) → IsTold size v → HaveOneList size (tenants_in v) (workers_in v)
 one_list size v t = (
   t.0,
   record {
-    tenants = told false t.0 v t.1;
-    workers = told true t.0 v t.1;
+    tenants = tenants_told t.0 v t.1;
+    workers = workers_told t.0 v t.1;
+    met = met_told t.0 v t.1;
     others = t.2;
     once = λ n. omega (arith, numbered n v, t.3 false n);
   },

@@ -4,3 +4,5 @@ pub mod History
 pub mod Crossing
 pub mod Meeting
 pub mod Awaiting
+pub mod Numbers
+pub mod Own

@@ -1,6 +1,7 @@
 -- A tenant's part and a worker's part agree.
 use Rattle.std.proofs.Common.{◌≡◌, ◌==◌, ℕ, Bool, true, false, cond, List, [], ◌∷◌, refl, sym, ap, ◌∙◌, subst}
 use Rattle.std.specs.Prelude.{filter}
+use Rattle.one_list.specs.declared.step.Beginning.{Beginning}
 use Rattle.one_list.specs.declared.step.Done.{Done}
 use Rattle.one_list.specs.declared.step.Size.{Size}
 use Rattle.one_list.specs.declared.rule.Claim.{Claim}
@@ -19,8 +20,8 @@ filter_both p q (x ∷ xs) = by (p x) (q x) refl refl (filter_both p q xs)
     by false false e f rest = rest
 
 -- of right claims, of a worker and of a tenant: what the worker did for the tenant is what the worker did of the tenant's steps
-pub told_alike : (size : Size) (worker tenant : ℕ) (ls js : List Done) (claims : List Claim) → claims ≡ claim true worker ls ∷ claim false tenant js ∷ [] → IsTold size claims
+pub told_alike : (size : Size) (worker tenant : ℕ) (ls js : List Done) (met : List Beginning) (claims : List Claim) → claims ≡ claim true worker ls met ∷ claim false tenant js [] ∷ [] → IsTold size claims
     → of_worker worker js ≡ of_tenant tenant ls
-told_alike size worker tenant ls js claims is told =
+told_alike size worker tenant ls js met claims is told =
     let t = subst (IsTold size) is told in
-    ap (of_worker worker) (sym t.1.1.0) ∙ (filter_both (λ (e : Done). e.worker == worker) (λ (e : Done). e.tenant == tenant) t.0 ∙ ap (of_tenant tenant) t.1.0)
+    ap (of_worker worker) (sym t.1.1.0.0) ∙ (filter_both (λ (e : Done). e.worker == worker) (λ (e : Done). e.tenant == tenant) t.0 ∙ ap (of_tenant tenant) t.1.0.0)

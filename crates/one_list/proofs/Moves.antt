@@ -1,21 +1,22 @@
 -- Each move keeps the one list.
 use Rattle.std.proofs.Common.{◌≡◌, ◌≢◌, ◌⊎◌, ◌≤◌, ◌<◌, ◌==◌, ℕ, zero, suc, ◌+◌, ◌-◌, List, [], ◌∷◌, ◌++◌, set, map, Bool, true, false, cond, not, refl, sym, ap, ◌∙◌, subst, ⊎_elim, inl, inr, arith}
-use Rattle.std.specs.Prelude.{filter, sum_by, Option, Some, None}
+use Rattle.std.specs.Prelude.{filter, sum_by, All, Option, Some, None}
 use mathlib.Core.Option.{some, none, some-ne-none, some-injective}
 use lib.ListN.{get_elem?}
 use Rattle.atomic_table.specs.Table.{Allows, Enters, Splits, Joins, Me, State, keeps, step}
 use Rattle.atomic_table.proofs.Lists.{at_set, at_snoc, set_again}
-use Rattle.std.proofs.lemmas.List.Elements.{filter-append, All-append, All-cons, All-nil}
+use Rattle.std.proofs.lemmas.List.Elements.{filter-append, All-append, All-cons, All-nil, All-weaker}
 use Rattle.std.proofs.lemmas.List.Sums.{sum_by-cons, sum_by-append}
-use Rattle.std.proofs.lemmas.List.{append-nil}
+use Rattle.std.proofs.lemmas.List.{append_assoc, append-nil}
 use Rattle.std.proofs.lemmas.Bool.Decides.{nat_tests}
 use Rattle.tenant_core.specs.Journals.{Recorded, last_of}
 use Rattle.tenant_core.specs.declared.journal.Record.{Record}
+use Rattle.one_list.specs.declared.step.Beginning.{Beginning}
 use Rattle.one_list.specs.declared.step.Done.{Done}
 use Rattle.one_list.specs.declared.step.Size.{Size}
 use Rattle.one_list.specs.declared.rule.Claim.{Claim}
-use Rattle.one_list.specs.Steps.{Place, done, done_by, done_last, last_place}
-use Rattle.one_list.specs.Rules.{new_claims, first_view, claim, concerns, Fits, AllFit, is_kind, is_of, count_of, AreBelow, ChronicleInvariant, steps_by, claim_after, claims_after, Adds, Looks, first_claim, other_claims, claims_of}
+use Rattle.one_list.specs.Steps.{IsBeginning, Place, done, done_by, done_last, last_place, of_tenant}
+use Rattle.one_list.specs.Rules.{new_claims, first_view, claim, concerns, Fits, AllFit, is_kind, is_of, count_of, AreBelow, ChronicleInvariant, steps_by, claim_after, claims_after, Adds, Looks, Meets, met_claims, first_claim, other_claims, claims_of}
 
 -- ---- sums over all views
 
@@ -45,14 +46,22 @@ fit-append : (log : List Done) (v w : List Claim) → AllFit log v → AllFit lo
 fit-append log [] w a b = b
 fit-append log (c ∷ cs) w a b = (a.0, fit-append log cs w a.1 b)
 
+-- a beginning is one of more steps too
+begins_more : (log es : List Done) (b : Beginning) → IsBeginning log b → IsBeginning (log ++ es) b
+begins_more log es b h =
+    (h.0 ++ of_tenant b.tenant es, filter-append (λ (e : Done). e.tenant == b.tenant) log es ∙ (ap (λ l. l ++ of_tenant b.tenant es) h.1 ∙ append_assoc b.steps h.0 (of_tenant b.tenant es)))
+
+met_more : (log es : List Done) (met : List Beginning) → All (IsBeginning log) met → All (IsBeginning (log ++ es)) met
+met_more log es met all = All-weaker (IsBeginning log) (IsBeginning (log ++ es)) (λ b h. begins_more log es b h) met all
+
 -- the claims, after more steps
 all_after : (log es : List Done) (v : List Claim) → AllFit log v → AllFit (log ++ es) (map (claim_after es) v)
 all_after log es [] f = tt
-all_after log es (c ∷ cs) f = (filter-append (concerns c) log es ∙ ap (λ l. l ++ filter (concerns c) es) f.0, all_after log es cs f.1)
+all_after log es (c ∷ cs) f = ((filter-append (concerns c) log es ∙ ap (λ l. l ++ filter (concerns c) es) f.0.0, met_more log es c.met f.0.1), all_after log es cs f.1)
 
 -- a claim that the step does not concern
 fits_else : (log : List Done) (e : Done) (c : Claim) → concerns c e ≡ false → Fits log c → Fits (log ++ e ∷ []) c
-fits_else log e c n f = filter-append (concerns c) log (e ∷ []) ∙ (ap (λ b. filter (concerns c) log ++ cond b (e ∷ []) []) n ∙ (append-nil _ ∙ f))
+fits_else log e c n f = (filter-append (concerns c) log (e ∷ []) ∙ (ap (λ b. filter (concerns c) log ++ cond b (e ∷ []) []) n ∙ (append-nil _ ∙ f.0)), met_more log (e ∷ []) c.met f.1)
 
 -- whom a claim concerns that concerns the step
 owner : (c : Claim) (e : Done) → concerns c e ≡ true → (is_of true e.worker c ≡ true) ⊎ (is_of false e.tenant c ≡ true)
@@ -134,41 +143,80 @@ self_equal : (n : ℕ) → (n == n) ≡ true
 self_equal n = grind (arith, nat_tests)
 
 -- a step of the worker and the tenant that are claimed
-pub adds_as : (size : Size) (slots id word : ℕ) (me : Me Recorded (List Claim)) (worker tenant period : ℕ) (j : Recorded) (f : ℕ → ℕ) (ls js : List Done)
-    → me ≡ (claim true worker ls ∷ claim false tenant js ∷ [], []) → tenant < size.tenants → worker < size.workers
+pub adds_as : (size : Size) (slots id word : ℕ) (me : Me Recorded (List Claim)) (worker tenant period : ℕ) (j : Recorded) (f : ℕ → ℕ) (ls js : List Done) (met : List Beginning)
+    → me ≡ (claim true worker ls met ∷ claim false tenant js [] ∷ [], []) → tenant < size.tenants → worker < size.workers
     → Allows (λ (s : State Recorded (List Claim)). ChronicleInvariant size s.views) slots id me word f (Adds (step slots word 0 period (some j)) me)
-adds_as size slots id word me worker tenant period j f ls js is t w =
-    let v = claim true worker ls ∷ claim false tenant js ∷ [] in
+adds_as size slots id word me worker tenant period j f ls js met is t w =
+    let v = claim true worker ls met ∷ claim false tenant js [] ∷ [] in
     let here : 0 < count_of true worker v = rw (self_equal worker) (omega arith) in
     let there : 0 < count_of false tenant v = rw (self_equal tenant) (omega arith) in
     subst (λ (m : Me Recorded (List Claim)). Allows (λ (s : State Recorded (List Claim)). ChronicleInvariant size s.views) slots id m word f (Adds (step slots word 0 period (some j)) m)) (sym is)
     (adds size slots id word worker tenant period v j f refl here there t w)
 
 -- what the step of a record made of both claims
-both_by : (w : ℕ) (at : Place) (m : Option Record) (ls js : List Done)
-    → map (claim_after (done_by w at m)) (claim true w ls ∷ claim false at.tenant js ∷ []) ≡ claim true w (ls ++ done_by w at m) ∷ claim false at.tenant (js ++ done_by w at m) ∷ []
-both_by w at None ls js = refl
-both_by w at (Some r) ls js =
-    λ i. claim true w (ls ++ cond (self_equal w i) (done w at r ∷ []) []) ∷ claim false at.tenant (js ++ cond (self_equal at.tenant i) (done w at r ∷ []) []) ∷ []
+both_by : (w : ℕ) (at : Place) (m : Option Record) (ls js : List Done) (met : List Beginning)
+    → map (claim_after (done_by w at m)) (claim true w ls met ∷ claim false at.tenant js [] ∷ []) ≡ claim true w (ls ++ done_by w at m) met ∷ claim false at.tenant (js ++ done_by w at m) [] ∷ []
+both_by w at None ls js met = refl
+both_by w at (Some r) ls js met =
+    λ i. claim true w (ls ++ cond (self_equal w i) (done w at r ∷ []) []) met ∷ claim false at.tenant (js ++ cond (self_equal at.tenant i) (done w at r ∷ []) []) [] ∷ []
 
-both_after : (w t period : ℕ) (records : List Record) (ls js : List Done)
-    → map (claim_after (done_last w t period records)) (claim true w ls ∷ claim false t js ∷ [])
-    ≡ claim true w (ls ++ done_last w t period records) ∷ claim false t (js ++ done_last w t period records) ∷ []
-both_after w t period records ls js = both_by w (last_place t period records) (last_of records) ls js
+both_after : (w t period : ℕ) (records : List Record) (ls js : List Done) (met : List Beginning)
+    → map (claim_after (done_last w t period records)) (claim true w ls met ∷ claim false t js [] ∷ [])
+    ≡ claim true w (ls ++ done_last w t period records) met ∷ claim false t (js ++ done_last w t period records) [] ∷ []
+both_after w t period records ls js met = both_by w (last_place t period records) (last_of records) ls js met
 
 -- both passes were put together, and the last record was told
-pub after_add : (w t period : ℕ) (j : Recorded) (ls js : List Done) (theirs mine both after : Me Recorded (List Claim)) → theirs ≡ (claim true w ls ∷ [], []) → mine ≡ (claim false t js ∷ [], [])
+pub after_add : (w t period : ℕ) (j : Recorded) (ls js : List Done) (met : List Beginning) (theirs mine both after : Me Recorded (List Claim)) → theirs ≡ (claim true w ls met ∷ [], []) → mine ≡ (claim false t js [] ∷ [], [])
     → both ≡ (theirs.0 ++ mine.0, theirs.1) → after ≡ (claims_after period (some j) both.0, both.1)
-    → after ≡ (claim true w (ls ++ done_last w t period j.records) ∷ claim false t (js ++ done_last w t period j.records) ∷ [], [])
-after_add w t period j ls js theirs mine both after a b joined told =
-    let is : both ≡ (claim true w ls ∷ claim false t js ∷ [], []) = joined ∙ (λ i. ((a i).0 ++ (b i).0, (a i).1)) in
-    told ∙ (ap (λ (m : Me Recorded (List Claim)). (claims_after period (some j) m.0, m.1)) is ∙ (λ i. (both_after w t period j.records ls js i, [])))
+    → after ≡ (claim true w (ls ++ done_last w t period j.records) met ∷ claim false t (js ++ done_last w t period j.records) [] ∷ [], [])
+after_add w t period j ls js met theirs mine both after a b joined told =
+    let is : both ≡ (claim true w ls met ∷ claim false t js [] ∷ [], []) = joined ∙ (λ i. ((a i).0 ++ (b i).0, (a i).1)) in
+    told ∙ (ap (λ (m : Me Recorded (List Claim)). (claims_after period (some j) m.0, m.1)) is ∙ (λ i. (both_after w t period j.records ls js met i, [])))
 
 -- a look
 pub looks_as : (size : Size) (slots id word : ℕ) (me : Me Recorded (List Claim)) (known : Size) → size ≡ known
     → Allows (λ (s : State Recorded (List Claim)). ChronicleInvariant size s.views) slots id me word (λ n. n) (Looks known (step slots word 0 0 none) me)
 looks_as size slots id word me known is s k homes at small =
     (me.0, keeps, tt, subst (λ l. ChronicleInvariant size l) (sym (set_again s.views id me.0 at)) k, ((k.log, k.fits id me.0 at, subst (λ (z : Size). AreBelow z k.log) is k.below, λ b n. omega (arith, k.once b n, at_most_sum (count_of b n) s.views id me.0 at)), refl))
+
+-- ---- a meeting
+
+-- what is claimed of the tenant is the whole of its steps, and so a beginning of them
+met_fit : (log : List Done) (w t : ℕ) (ls js : List Done) (met : List Beginning) → AllFit log (claim true w ls met ∷ claim false t js [] ∷ [])
+    → AllFit log (met_claims (claim true w ls met ∷ claim false t js [] ∷ []))
+met_fit log w t ls js met f =
+    let b : Beginning = record { tenant = t; steps = js } in
+    let whole : IsBeginning log b = ([], f.1.0.0 ∙ sym (append-nil js)) in
+    ((f.0.0, All-append (IsBeginning log) met (b ∷ []) f.0.1 (All-cons (IsBeginning log) b [] whole (All-nil (IsBeginning log)))), f.1)
+
+-- a worker and a tenant that are claimed meet
+pub meets_as : (size : Size) (slots id word : ℕ) (me : Me Recorded (List Claim)) (known : Size) (w t : ℕ) (ls js : List Done) (met : List Beginning) → size ≡ known
+    → me ≡ (claim true w ls met ∷ claim false t js [] ∷ [], [])
+    → Allows (λ (s : State Recorded (List Claim)). ChronicleInvariant size s.views) slots id me word (λ n. n) (Meets known (step slots word 0 0 none) me)
+meets_as size slots id word me known w t ls js met is claims =
+    let v = claim true w ls met ∷ claim false t js [] ∷ [] in
+    let u = met_claims v in
+    subst (λ (m : Me Recorded (List Claim)). Allows (λ (s : State Recorded (List Claim)). ChronicleInvariant size s.views) slots id m word (λ n. n) (Meets known (step slots word 0 0 none) m)) (sym claims)
+    (λ s k homes at small. (
+      u,
+      keeps,
+      tt,
+      record {
+        log = k.log;
+        fits = fit_set k.log s.views id u (λ i x apart there. k.fits i x there) (met_fit k.log w t ls js met (k.fits id v at));
+        once = λ b n. omega (arith, k.once b n, sum_set (count_of b n) s.views id v u at, counts-cons b n (claim true w ls met) (claim false t js [] ∷ []), counts-cons b n (claim true w ls (met ++ record { tenant = t; steps = js } ∷ [])) (claim false t js [] ∷ []));
+        below = k.below;
+      },
+      ((k.log, k.fits id v at, subst (λ (z : Size). AreBelow z k.log) is k.below, λ b n. omega (arith, k.once b n, at_most_sum (count_of b n) s.views id v at)), refl),
+    ))
+
+-- what a meeting made of two passes that were put together
+pub after_meet : (w t : ℕ) (ls js : List Done) (met : List Beginning) (theirs mine both after : Me Recorded (List Claim)) → theirs ≡ (claim true w ls met ∷ [], []) → mine ≡ (claim false t js [] ∷ [], [])
+    → both ≡ (theirs.0 ++ mine.0, theirs.1) → after ≡ (met_claims both.0, both.1)
+    → after ≡ (claim true w ls (met ++ record { tenant = t; steps = js } ∷ []) ∷ claim false t js [] ∷ [], [])
+after_meet w t ls js met theirs mine both after a b joined told =
+    let is : both ≡ (claim true w ls met ∷ claim false t js [] ∷ [], []) = joined ∙ (λ i. ((a i).0 ++ (b i).0, (a i).1)) in
+    told ∙ ap (λ (m : Me Recorded (List Claim)). (met_claims m.0, m.1)) is
 
 -- ---- cut in two, and put together
 
@@ -234,20 +282,20 @@ splits_kinds size id v = splits size id v (claims_of false v) (claims_of true v)
 
 new_fit : (b : Bool) (k n : ℕ) → AllFit [] (new_claims b k n)
 new_fit b k zero = tt
-new_fit b k (suc n) = (refl, new_fit b (suc k) n)
+new_fit b k (suc n) = ((refl, All-nil (IsBeginning [])), new_fit b (suc k) n)
 
 -- no claims of the other kind, none below the first number, and one each
 new_other : (b : Bool) (m k n : ℕ) → count_of (not b) m (new_claims b k n) ≡ 0
 new_other b m k zero = refl
-new_other true m k (suc n) = omega (arith, counts-cons false m (claim true k []) (new_claims true (suc k) n), new_other true m (suc k) n)
-new_other false m k (suc n) = omega (arith, counts-cons true m (claim false k []) (new_claims false (suc k) n), new_other false m (suc k) n)
+new_other true m k (suc n) = omega (arith, counts-cons false m (claim true k [] []) (new_claims true (suc k) n), new_other true m (suc k) n)
+new_other false m k (suc n) = omega (arith, counts-cons true m (claim false k [] []) (new_claims false (suc k) n), new_other false m (suc k) n)
 
-is_of_same : (b : Bool) (m k : ℕ) → is_of b m (claim b k []) ≡ (k == m)
+is_of_same : (b : Bool) (m k : ℕ) → is_of b m (claim b k [] []) ≡ (k == m)
 is_of_same true m k = refl
 is_of_same false m k = refl
 
 count_next : (b : Bool) (m k n : ℕ) → count_of b m (new_claims b k (suc n)) ≡ cond (k == m) 1 0 + count_of b m (new_claims b (suc k) n)
-count_next b m k n = counts-cons b m (claim b k []) (new_claims b (suc k) n) ∙ ap (λ t. cond t 1 0 + count_of b m (new_claims b (suc k) n)) (is_of_same b m k)
+count_next b m k n = counts-cons b m (claim b k [] []) (new_claims b (suc k) n) ∙ ap (λ t. cond t 1 0 + count_of b m (new_claims b (suc k) n)) (is_of_same b m k)
 
 new_below : (b : Bool) (m k n : ℕ) → m < k → count_of b m (new_claims b k n) ≡ 0
 new_below b m k zero lt = refl
@@ -300,17 +348,17 @@ enters size slots word s k homes small = (
 -- ---- parts that are handed out
 
 -- the next claim, and the claims after it
-pub next_claims : (b : Bool) (k n : ℕ) → k < n → new_claims b k (n - k) ≡ claim b k [] ∷ new_claims b (k + 1) (n - (k + 1))
+pub next_claims : (b : Bool) (k n : ℕ) → k < n → new_claims b k (n - k) ≡ claim b k [] [] ∷ new_claims b (k + 1) (n - (k + 1))
 next_claims b k n lt =
     let e : n - k ≡ suc (n - (k + 1)) = omega arith in
     let s : suc k ≡ k + 1 = omega arith in
-    ap (new_claims b k) e ∙ ap (λ j. claim b k [] ∷ new_claims b j (n - (k + 1))) s
+    ap (new_claims b k) e ∙ ap (λ j. claim b k [] [] ∷ new_claims b j (n - (k + 1))) s
 
 -- of claims of one kind
 same_kind : (b : Bool) (k n : ℕ) → claims_of b (new_claims b k n) ≡ new_claims b k n
 same_kind b k zero = refl
-same_kind true k (suc n) = ap (λ l. claim true k [] ∷ l) (same_kind true (suc k) n)
-same_kind false k (suc n) = ap (λ l. claim false k [] ∷ l) (same_kind false (suc k) n)
+same_kind true k (suc n) = ap (λ l. claim true k [] [] ∷ l) (same_kind true (suc k) n)
+same_kind false k (suc n) = ap (λ l. claim false k [] [] ∷ l) (same_kind false (suc k) n)
 
 other_kind : (b : Bool) (k n : ℕ) → claims_of (not b) (new_claims b k n) ≡ []
 other_kind b k zero = refl

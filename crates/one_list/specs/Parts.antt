@@ -4,10 +4,11 @@ use Rattle.atomic_table.specs.Seated.{TableId}
 use Rattle.atomic_table.specs.Table.{Me}
 use Rattle.tenant_core.specs.Journals.{Recorded}
 use Rattle.tenant_core.specs.Limits.{max_tenants}
+use Rattle.one_list.specs.declared.step.Beginning.{Beginning}
 use Rattle.one_list.specs.declared.step.Done.{Done}
 use Rattle.one_list.specs.declared.step.Size.{Size}
 use Rattle.one_list.specs.declared.rule.Claim.{Claim}
-use Rattle.one_list.specs.Steps.{PartView}
+use Rattle.one_list.specs.Steps.{PartView, WorkerView}
 use Rattle.one_list.specs.Rules.{claim, claims_of, first_view, new_claims, table_words}
 
 -- a list of which no run has been picked: which table stands behind it, and how many tenants and workers there are
@@ -23,7 +24,7 @@ pub record UnclaimedView : Type 0 where
 -- the parts that were put together
 pub record GatheringView : Type 0 where
   pub tenants : List PartView
-  pub workers : List PartView
+  pub workers : List WorkerView
 
 -- ---- what the types keep
 
@@ -57,23 +58,36 @@ abbrev pub steps_in : List (List Claim) → List Done
 steps_in ((c ∷ cs) ∷ vs) = c.steps
 steps_in _ = []
 
--- what a part is seen as
+-- what a part's pass has met
+abbrev pub met_in : List (List Claim) → List Beginning
+met_in ((c ∷ cs) ∷ vs) = c.met
+met_in _ = []
+
+-- what a tenant's part is seen as
 abbrev pub part_of : ℕ → List (List Claim) → PartView
 part_of number views = record { number = number; steps = steps_in views }
 
--- the pass of the part of that worker, or of that tenant
-pub record IsPart (table : TableId) (of_worker : Bool) (number most : ℕ) (at : TableId) (views : List (List Claim)) : Type 0 where
+-- what a worker's part is seen as
+abbrev pub worker_part_of : ℕ → List (List Claim) → WorkerView
+worker_part_of number views = record { number = number; steps = steps_in views; met = met_in views }
+
+-- the pass of the part of that worker, or of that tenant, which has met that
+pub record IsPart (table : TableId) (of_worker : Bool) (number most : ℕ) (met : List Beginning) (at : TableId) (views : List (List Claim)) : Type 0 where
   pub below : number < most
   pub same_table : at ≡ table
-  pub claims : views ≡ (claim of_worker number (steps_in views) ∷ []) ∷ []
+  pub claims : views ≡ (claim of_worker number (steps_in views) met ∷ []) ∷ []
 
--- the workers', or the tenants', parts of which the claims speak
-abbrev pub parts_of : Bool → List Claim → List PartView
-parts_of of_worker v = map (λ c. record { number = c.number; steps = c.steps }) (claims_of of_worker v)
+-- the tenants' parts of which the claims speak
+abbrev pub tenants_in : List Claim → List PartView
+tenants_in v = map (λ c. record { number = c.number; steps = c.steps }) (claims_of false v)
+
+-- the workers' parts of which they speak
+abbrev pub workers_in : List Claim → List WorkerView
+workers_in v = map (λ c. record { number = c.number; steps = c.steps; met = c.met }) (claims_of true v)
 
 -- what parts that were put together are seen as
 abbrev pub gathered : List Claim → GatheringView
-gathered v = record { tenants = parts_of false v; workers = parts_of true v }
+gathered v = record { tenants = tenants_in v; workers = workers_in v }
 
 -- the pass of the parts that were put together
 pub record IsGathering (table at : TableId) (me : Me Recorded (List Claim)) : Type 0 where

@@ -7,10 +7,11 @@ use Rattle.atomic_table.specs.Seated.{TableId}
 use Rattle.tenant_core.specs.Journals.{Recorded}
 use Rattle.tenant_core.specs.Limits.{max_tenants}
 use Rattle.tenant_core.specs.declared.journal.Record.{Record}
+use Rattle.one_list.specs.declared.step.Beginning.{Beginning}
 use Rattle.one_list.specs.declared.step.Done.{Done}
 use Rattle.one_list.specs.declared.step.Size.{Size}
 use Rattle.one_list.specs.declared.rule.Claim.{Claim}
-use Rattle.one_list.specs.Steps.{done_last}
+use Rattle.one_list.specs.Steps.{IsBeginning, done_last}
 
 -- the name of no table
 abbrev pub no_table : TableId
@@ -26,17 +27,17 @@ table_words = (max_tenants + 1) * 8
 
 -- ---- claims
 
--- the claim that these are all steps of that worker, or of that tenant, in their order
-abbrev pub claim : Bool → ℕ → List Done → Claim
-claim of_worker number steps = record { of_worker = of_worker; number = number; steps = steps }
+-- the claim that these are all steps of that worker, or of that tenant, in their order, and that the worker has met those
+abbrev pub claim : Bool → ℕ → List Done → List Beginning → Claim
+claim of_worker number steps met = record { of_worker = of_worker; number = number; steps = steps; met = met }
 
 -- the step is one of those that the claim speaks of
 abbrev pub concerns : Claim → Done → Bool
 concerns c e = cond c.of_worker (e.worker == c.number) (e.tenant == c.number)
 
--- the claim is right: these are all such steps of the list, in its order
+-- the claim is right: these are all such steps of the list, in its order, and what was met are tenants' first steps in it
 abbrev pub Fits : List Done → Claim → Type 0
-Fits log c = filter (concerns c) log ≡ c.steps
+Fits log c = (filter (concerns c) log ≡ c.steps) × All (IsBeginning log) c.met
 
 -- all claims are right
 abbrev pub AllFit : List Done → List Claim → Type 0
@@ -72,7 +73,7 @@ pub record ChronicleInvariant (size : Size) (views : List (List Claim)) : Type 0
 -- claims of no step, of so many workers or tenants from that number on
 abbrev pub new_claims : Bool → ℕ → ℕ → List Claim
 new_claims of_worker from zero = []
-new_claims of_worker from (suc n) = claim of_worker from [] ∷ new_claims of_worker (suc from) n
+new_claims of_worker from (suc n) = claim of_worker from [] [] ∷ new_claims of_worker (suc from) n
 
 -- what the first pass claims: no step of each tenant and each worker
 abbrev pub first_view : Size → List Claim
@@ -82,7 +83,7 @@ first_view size = new_claims false 0 size.tenants ++ new_claims true 0 size.work
 
 -- the claim after these steps
 abbrev pub claim_after : List Done → Claim → Claim
-claim_after es c = claim c.of_worker c.number (c.steps ++ filter (concerns c) es)
+claim_after es c = claim c.of_worker c.number (c.steps ++ filter (concerns c) es) c.met
 
 -- the step of the last of a period's records, by the worker and for the tenant that are claimed
 abbrev pub steps_by : List Claim → (period : ℕ) → List Record → List Done
@@ -109,6 +110,16 @@ IsTold size v = (log : List Done) × AllFit log v × AreBelow size log × AreOnc
 -- what a look tells: the claims are right, and it leaves them
 abbrev pub Looks : Size → Step Recorded → Me Recorded (List Claim) → ℕ → Me Recorded (List Claim) → Type 0
 Looks size st me n me' = IsTold size me.0 × (me' ≡ me)
+
+-- the claims after the worker that is claimed has met the steps of the tenant that is
+abbrev pub met_claims : List Claim → List Claim
+met_claims (w ∷ t ∷ cs) =
+    record w { met = w.met ++ record { tenant = t.number; steps = t.steps } ∷ [] } ∷ t ∷ cs
+met_claims v = v
+
+-- what a meeting tells: the claims are right, and the worker's knows of the tenant's steps from now on
+abbrev pub Meets : Size → Step Recorded → Me Recorded (List Claim) → ℕ → Me Recorded (List Claim) → Type 0
+Meets size st me n me' = IsTold size me.0 × (me' ≡ (met_claims me.0, me.1))
 
 -- ---- cut in two
 

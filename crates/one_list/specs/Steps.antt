@@ -3,6 +3,7 @@ use Rattle.std.specs.Prelude.{ℕ, ◌≡◌, ◌==◌, ◌<◌, ◌≤◌, ◌-
 use Rattle.tenant_core.specs.Journals.{last_of}
 use Rattle.tenant_core.specs.State.{State}
 use Rattle.tenant_core.specs.declared.journal.Record.{Record}
+use Rattle.one_list.specs.declared.step.Beginning.{Beginning}
 use Rattle.one_list.specs.declared.step.Done.{Done}
 use Rattle.one_list.specs.declared.step.Size.{Size}
 
@@ -45,7 +46,7 @@ of_worker worker log = filter (λ e. e.worker == worker) log
 
 -- ---- parts
 
--- a tenant's part of the list, or a worker's: its number, and the steps of it in their order
+-- a tenant's part of the list: its number, and the steps of it in their order
 pub record PartView : Type 0 where
   pub number : ℕ
   pub steps : List Done
@@ -54,20 +55,41 @@ pub record PartView : Type 0 where
 abbrev pub grown : PartView → List Done → PartView
 grown p es = record p { steps = p.steps ++ es }
 
+-- a worker's part of the list: its number, the steps of it in their order, and the tenants' steps that it has met, each time as
+-- far as they had come then
+pub record WorkerView : Type 0 where
+  pub number : ℕ
+  pub steps : List Done
+  pub met : List Beginning
+
+-- the part with these steps more
+abbrev pub worked : WorkerView → List Done → WorkerView
+worked p es = record p { steps = p.steps ++ es }
+
+-- the part, once the worker has met the steps of a tenant's part
+abbrev pub has_met : WorkerView → PartView → WorkerView
+has_met p t = record p { met = p.met ++ record { tenant = t.number; steps = t.steps } ∷ [] }
+
+-- they are the first steps that the list has of the tenant
+abbrev pub IsBeginning : List Done → Beginning → Type 0
+IsBeginning log b = (rest : List Done) × (of_tenant b.tenant log ≡ b.steps ++ rest)
+
 -- ---- one list
 
 -- how many of the parts have that number
 abbrev pub parts_numbered : ℕ → List PartView → ℕ
 parts_numbered number parts = count_by (λ p. p.number == number) parts
 
--- the list has of each tenant just the steps of its part, of each worker just those of its part, each in their order; every
--- step is of one of the tenants by one of the workers; and no tenant has two of the parts
-pub record IsOneList (size : Size) (of_tenants of_workers : List PartView) (log : List Done) : Type 0 where
+-- the list has of each tenant just the steps of its part, of each worker just those of its part, each in their order; what a
+-- worker has met of a tenant are the first steps that the list has of the tenant; every step is of one of the tenants by one of
+-- the workers; and no tenant has two of the parts
+pub record IsOneList (size : Size) (of_tenants : List PartView) (of_workers : List WorkerView) (log : List Done) : Type 0 where
   pub tenants : All (λ p. of_tenant p.number log ≡ p.steps) of_tenants
   pub workers : All (λ p. of_worker p.number log ≡ p.steps) of_workers
+  pub met : All (λ p. All (IsBeginning log) p.met) of_workers
   pub others : All (λ e. (e.tenant < size.tenants) × (e.worker < size.workers)) log
   pub once : (number : ℕ) → parts_numbered number of_tenants ≤ 1
 
 -- there is one list of which these are parts
-abbrev pub HaveOneList : Size → List PartView → List PartView → Type 0
+abbrev pub HaveOneList : Size → List PartView → List WorkerView → Type 0
 HaveOneList size tenants workers = (log : List Done) × IsOneList size tenants workers log

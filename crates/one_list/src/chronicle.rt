@@ -1,14 +1,15 @@
 //! The list of a run, and the parts of it that are still to be handed out.
 
 ghost use Rattle.std.specs.Prelude.{◌≡◌, ◌+◌, ◌^◌, ◌<◌, ◌≤◌, ℕ, true, false, List, [], ◌∷◌, ◌++◌};
+ghost use Rattle.one_list.specs.declared.step.Beginning.{Beginning};
 ghost use Rattle.one_list.specs.declared.step.Done.{Done};
-ghost use Rattle.one_list.specs.Rules.{IsTold, claim, claims_of, first_claim, first_view, new_claims, other_claims, table_words};
-ghost use Rattle.one_list.specs.Steps.{done_last, grown, of_tenant, of_worker};
+ghost use Rattle.one_list.specs.Rules.{IsTold, claim, claims_of, first_claim, first_view, met_claims, new_claims, other_claims, table_words};
+ghost use Rattle.one_list.specs.Steps.{done_last, grown, has_met, of_tenant, of_worker, worked};
 ghost use Rattle.tenant_core.specs.Limits.{max_tenants};
 
 use crate::opened::LINE_WORDS;
 use crate::parts::{TenantPart, WorkerPart};
-use crate::rule::{Add, Blank, Both, First, Look, Pass, Words, Workers};
+use crate::rule::{Add, Blank, Both, First, Look, Meet, Pass, Words, Workers};
 use crate::run::Run;
 use atomic_table::Badge;
 use std::marker::{Model, PhantomData};
@@ -102,7 +103,7 @@ impl<J: Run> Chronicle<J> {
     /// Hands out the part of the next worker. They come in the order of their numbers.
     pub fn worker_part(&self, unclaimed: &mut Unclaimed<J>) -> WorkerPart<J>
         requires { unclaimed.old.workers < J.size.workers }
-        ensures part { result ≡ record { number = unclaimed.old.workers; steps = [] } }
+        ensures part { result ≡ record { number = unclaimed.old.workers; steps = []; met = [] } }
         ensures rest { unclaimed.new ≡ record unclaimed.old { workers = unclaimed.old.workers + 1 } }
     {
         let number = unclaimed.workers;
@@ -121,7 +122,7 @@ impl<J: Run> Chronicle<J> {
         journal: &Journal,
     )
         ensures tenant { tenant.new ≡ grown tenant.old (done_last worker.old.number tenant.old.number period journal.now.records) }
-        ensures worker { worker.new ≡ grown worker.old (done_last worker.old.number tenant.old.number period journal.now.records) }
+        ensures worker { worker.new ≡ worked worker.old (done_last worker.old.number tenant.old.number period journal.now.records) }
     {
         let mine = mem::replace(&mut tenant.pass, Badge::blank()).into_seat();
         let theirs = mem::replace(&mut worker.pass, Badge::blank()).into_seat();
@@ -130,35 +131,40 @@ impl<J: Run> Chronicle<J> {
         worker.pass = theirs.into_badge();
     }
 
-    /// A tenant's part and a worker's part agree: the tenant's steps by the worker are the worker's steps of the tenant, in one
-    /// order. Nothing changes, and it takes no memory.
+    /// A tenant's part and a worker's part meet. The tenant's steps by the worker are the worker's steps of the tenant, in one
+    /// order; and the worker's part keeps which steps of the tenant it has met. It takes no memory.
     pub fn meet(&self, tenant: &mut TenantPart<J>, worker: &mut WorkerPart<J>)
         ensures tenant { tenant.new ≡ tenant.old }
-        ensures worker { worker.new ≡ worker.old }
+        ensures worker { worker.new ≡ has_met worker.old tenant.old }
         ensures shared { of_worker worker.old.number tenant.old.steps ≡ of_tenant tenant.old.number worker.old.steps }
     {
         let mine = mem::replace(&mut tenant.pass, Badge::blank()).into_seat();
         let theirs = mem::replace(&mut worker.pass, Badge::blank()).into_seat();
-        let (mine, theirs) = self.compare(tenant.number, mine, theirs);
+        let (mine, theirs) = self.introduce(tenant.number, mine, theirs);
         tenant.pass = mine.into_badge();
         worker.pass = theirs.into_badge();
     }
 
-    // Looks at the passes of that tenant and of a worker together.
-    fn compare(&self, tenant: u64, mine: Pass, theirs: Pass) -> (Pass, Pass)
+    // Has the pass of a worker meet that of a tenant.
+    fn introduce(&self, tenant: u64, mine: Pass, theirs: Pass) -> (Pass, Pass)
         requires tables { (mine.table_id ≡ J.table) × (theirs.table_id ≡ J.table) }
         requires below { tenant < J.size.tenants }
-        requires mine { (steps : List Done) × (mine.me ≡ (claim false tenant steps ∷ [], [])) }
-        requires theirs { (worker : ℕ) × (steps : List Done) × (theirs.me ≡ (claim true worker steps ∷ [], [])) }
+        requires mine { (steps : List Done) × (mine.me ≡ (claim false tenant steps [] ∷ [], [])) }
+        requires theirs { (worker : ℕ) × (steps : List Done) × (met : List Beginning) × (theirs.me ≡ (claim true worker steps met ∷ [], [])) }
         ensures tables { (result.0.table_id ≡ J.table) × (result.1.table_id ≡ J.table) }
-        ensures same { (result.0.me ≡ mine.me) × (result.1.me ≡ theirs.me) }
-        ensures shared { (worker : ℕ) (steps others : List Done) → mine.me ≡ (claim false tenant steps ∷ [], [])
-            → theirs.me ≡ (claim true worker others ∷ [], []) → of_worker worker steps ≡ of_tenant tenant others }
+        ensures free { (result.0.me.1 ≡ []) × (result.1.me.1 ≡ []) }
+        ensures mine { result.0.me ≡ mine.me }
+        ensures theirs { (worker : ℕ) (steps others : List Done) (met : List Beginning) → mine.me ≡ (claim false tenant steps [] ∷ [], [])
+            → theirs.me ≡ (claim true worker others met ∷ [], [])
+            → result.1.me ≡ (claim true worker others (met ++ record { tenant = tenant; steps = steps } ∷ []) ∷ [], []) }
+        ensures shared { (worker : ℕ) (steps others : List Done) (met : List Beginning) → mine.me ≡ (claim false tenant steps [] ∷ [], [])
+            → theirs.me ≡ (claim true worker others met ∷ [], []) → of_worker worker steps ≡ of_tenant tenant others }
     {
+        let words = &self.words.shared;
         let mut both = theirs;
-        self.words.shared.join_seat::<Both>(&mut both, mine);
-        self.look(&mut both, word_of(tenant));
-        let theirs = self.first(&mut both);
+        words.join_seat::<Both>(&mut both, mine);
+        words.load::<Meet<J>>(&mut both, word_of(tenant));
+        let theirs = words.split_seat::<First>(&mut both);
         (both, theirs)
     }
 
@@ -174,14 +180,14 @@ impl<J: Run> Chronicle<J> {
     ) -> (Pass, Pass)
         requires tables { (mine.table_id ≡ J.table) × (theirs.table_id ≡ J.table) }
         requires below { (tenant < J.size.tenants) × (worker < J.size.workers) }
-        requires mine { (steps : List Done) × (mine.me ≡ (claim false tenant steps ∷ [], [])) }
-        requires theirs { (steps : List Done) × (theirs.me ≡ (claim true worker steps ∷ [], [])) }
+        requires mine { (steps : List Done) × (mine.me ≡ (claim false tenant steps [] ∷ [], [])) }
+        requires theirs { (steps : List Done) × (met : List Beginning) × (theirs.me ≡ (claim true worker steps met ∷ [], [])) }
         ensures tables { (result.0.table_id ≡ J.table) × (result.1.table_id ≡ J.table) }
         ensures free { (result.0.me.1 ≡ []) × (result.1.me.1 ≡ []) }
-        ensures mine { (steps : List Done) → mine.me ≡ (claim false tenant steps ∷ [], [])
-            → result.0.me ≡ (claim false tenant (steps ++ done_last worker tenant period journal.now.records) ∷ [], []) }
-        ensures theirs { (steps : List Done) → theirs.me ≡ (claim true worker steps ∷ [], [])
-            → result.1.me ≡ (claim true worker (steps ++ done_last worker tenant period journal.now.records) ∷ [], []) }
+        ensures mine { (steps : List Done) → mine.me ≡ (claim false tenant steps [] ∷ [], [])
+            → result.0.me ≡ (claim false tenant (steps ++ done_last worker tenant period journal.now.records) [] ∷ [], []) }
+        ensures theirs { (steps : List Done) (met : List Beginning) → theirs.me ≡ (claim true worker steps met ∷ [], [])
+            → result.1.me ≡ (claim true worker (steps ++ done_last worker tenant period journal.now.records) met ∷ [], []) }
     {
         let words = &self.words.shared;
         let mut both = theirs;

@@ -2,7 +2,7 @@
 
 ghost use denote.Param.Send.{IsSend, IsSync};
 ghost use Rattle.one_list.specs.History.{HistoryLaws};
-ghost use Rattle.one_list.specs.Holds.{HoldLaws};
+ghost use Rattle.one_list.specs.Holds.{HoldLaws, OwnAnswerLaws};
 ghost use Rattle.one_list.specs.contracts.chronicle.Chronicle as Chronicle;
 ghost use Rattle.one_list.specs.contracts.parts.TenantPart as TenantPart;
 ghost use Rattle.one_list.specs.contracts.parts.WorkerPart as WorkerPart;
@@ -15,9 +15,14 @@ pub fn histories()
 {}
 
 /// A packet that went on by a step of a history, and is awaited no longer where the history led to, was answered by a later
-/// step: by another worker's, where its own worker has done nothing since for the tenant.
+/// step: by another worker's, where its own worker has done nothing since for the tenant. No other step begins its hold.
 pub fn answered_holds()
     ensures { HoldLaws }
+{}
+
+/// Where each worker answers only packets that it sent on itself, a packet is awaited until its worker answers it.
+pub fn own_answers()
+    ensures { OwnAnswerLaws }
 {}
 
 /// Threads may share a run's list, and a part of it may go from one thread to another. Call it ahead of a call that hands

@@ -19,4 +19,4 @@ pub use gathering::Gathering;
 pub use opened::Opened;
 pub use parts::{TenantPart, WorkerPart};
 pub use run::Run;
-pub use step::{Done, Size};
+pub use step::{Beginning, Done, Size};

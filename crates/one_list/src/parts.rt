@@ -17,7 +17,7 @@ pub struct TenantPart<J: Run> {
 }
 
 impl<J: Run> Model for TenantPart<J> {
-    ghost use Rattle.std.specs.Prelude.{false};
+    ghost use Rattle.std.specs.Prelude.{false, []};
     ghost use Rattle.one_list.specs.Steps.{PartView};
     ghost use Rattle.one_list.specs.Parts.{part_of, IsPart};
 
@@ -25,10 +25,11 @@ impl<J: Run> Model for TenantPart<J> {
 
     ghost view = { λ p. part_of p.number p.pass.views };
 
-    ghost invariant = { λ p. IsPart J.table false p.number J.size.tenants p.pass.table_id p.pass.views };
+    ghost invariant = { λ p. IsPart J.table false p.number J.size.tenants [] p.pass.table_id p.pass.views };
 }
 
-/// A worker's part of the list. Contracts see the worker's number, and the steps of it so far.
+/// A worker's part of the list. Contracts see the worker's number, the steps of it so far, and the tenants' steps that it has met,
+/// each time as far as they had come then.
 #[derive(Drop)]
 pub struct WorkerPart<J: Run> {
     pub(crate) number: u64,
@@ -38,14 +39,14 @@ pub struct WorkerPart<J: Run> {
 
 impl<J: Run> Model for WorkerPart<J> {
     ghost use Rattle.std.specs.Prelude.{true};
-    ghost use Rattle.one_list.specs.Steps.{PartView};
-    ghost use Rattle.one_list.specs.Parts.{part_of, IsPart};
+    ghost use Rattle.one_list.specs.Steps.{WorkerView};
+    ghost use Rattle.one_list.specs.Parts.{worker_part_of, met_in, IsPart};
 
-    ghost Value = { PartView };
+    ghost Value = { WorkerView };
 
-    ghost view = { λ p. part_of p.number p.pass.views };
+    ghost view = { λ p. worker_part_of p.number p.pass.views };
 
-    ghost invariant = { λ p. IsPart J.table true p.number J.size.workers p.pass.table_id p.pass.views };
+    ghost invariant = { λ p. IsPart J.table true p.number J.size.workers (met_in p.pass.views) p.pass.table_id p.pass.views };
 }
 
 impl<J: Run> TenantPart<J> {
@@ -53,7 +54,7 @@ impl<J: Run> TenantPart<J> {
     pub(crate) fn new(number: u64, pass: Pass) -> TenantPart<J>
         requires below { number < J.size.tenants }
         requires table { pass.table_id ≡ J.table }
-        requires claims { pass.me ≡ (claim false number [] ∷ [], []) }
+        requires claims { pass.me ≡ (claim false number [] [] ∷ [], []) }
         ensures { result ≡ record { number = number; steps = [] } }
     {
         TenantPart {
@@ -74,7 +75,7 @@ impl<J: Run> TenantPart<J> {
     // The part's pass.
     pub(crate) fn into_pass(self) -> Pass
         ensures table { result.table_id ≡ J.table }
-        ensures claims { result.me ≡ (claim false self.number self.steps ∷ [], []) }
+        ensures claims { result.me ≡ (claim false self.number self.steps [] ∷ [], []) }
     {
         let TenantPart {
             number: _,
@@ -90,8 +91,8 @@ impl<J: Run> WorkerPart<J> {
     pub(crate) fn new(number: u64, pass: Pass) -> WorkerPart<J>
         requires below { number < J.size.workers }
         requires table { pass.table_id ≡ J.table }
-        requires claims { pass.me ≡ (claim true number [] ∷ [], []) }
-        ensures { result ≡ record { number = number; steps = [] } }
+        requires claims { pass.me ≡ (claim true number [] [] ∷ [], []) }
+        ensures { result ≡ record { number = number; steps = []; met = [] } }
     {
         WorkerPart {
             number,
@@ -111,7 +112,7 @@ impl<J: Run> WorkerPart<J> {
     // The part's pass.
     pub(crate) fn into_pass(self) -> Pass
         ensures table { result.table_id ≡ J.table }
-        ensures claims { result.me ≡ (claim true self.number self.steps ∷ [], []) }
+        ensures claims { result.me ≡ (claim true self.number self.steps self.met ∷ [], []) }
     {
         let WorkerPart {
             number: _,

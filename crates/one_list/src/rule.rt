@@ -2,18 +2,20 @@
 //! for the table and its passes.
 
 use crate::run::Run;
-use crate::step::{Done, Size};
+use crate::step::{Beginning, Done, Size};
 use atomic_table::{Join, Play, Seat, Split, Table, TableRule};
 use std::alloc::Global;
 use std::collections::LinkedList;
 use std::marker::PhantomData;
 use tenant_core::Journal;
 
-/// What a pass knows of a worker, or of a tenant: all steps of it, in their order.
+/// What a pass knows of a worker, or of a tenant: all steps of it, in their order; and the tenants' steps that the worker has
+/// met, each time as far as they had come then.
 pub struct Claim {
     pub of_worker: bool,
     pub number: u64,
     pub steps: LinkedList<Done>,
+    pub met: LinkedList<Beginning>,
 }
 
 /// All that a pass knows.
@@ -55,6 +57,17 @@ impl<J: Run> Play<Journal, View> for Look<J> {
     ghost use Rattle.one_list.specs.Rules.{Looks};
 
     ghost then = { Looks J.size };
+}
+
+/// The claims are right, and the worker that is claimed has met the steps of the tenant that is.
+pub struct Meet<J: Run> {
+    run: PhantomData<J>,
+}
+
+impl<J: Run> Play<Journal, View> for Meet<J> {
+    ghost use Rattle.one_list.specs.Rules.{Meets};
+
+    ghost then = { Meets J.size };
 }
 
 /// A pass begins with no claim.

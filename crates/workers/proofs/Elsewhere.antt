@@ -2,7 +2,7 @@
 use Rattle.std.proofs.Common.{◌≡◌, ◌==◌, ℕ, Bool, true, false, cond, eqb, Some, List, [], ◌∷◌, ◌++◌, refl, sym, ap, subst, ◌∙◌}
 use Rattle.std.proofs.lemmas.Bool.{eqb-true, eq-eqb}
 use Rattle.std.proofs.lemmas.List.Elements.{filter-append}
-use Rattle.std.specs.Prelude.{Option, None, Result, Ok, Err, IsSomeAnd, is_some, max}
+use Rattle.std.specs.Prelude.{Option, None, Result, Ok, Err, is_some, max}
 use Rattle.ilp_addr.specs.Timestamp.{timestamp_of}
 use Rattle.ilp_view.specs.Packet.{Prepare, with_amount_and_expiry}
 use Rattle.ilp_view.specs.Reading.{prepare_at}
@@ -27,7 +27,7 @@ use Rattle.floor_core.specs.World.{answer_key, key_in}
 use Rattle.floor_core.specs.declared.parts.Got.{Got}
 use Rattle.floor_core.specs.declared.parts.Turn.TheVariants as turns
 use Rattle.floor_core.specs.declared.step.Given.{Given}
-use Rattle.one_list.specs.Holds.{HoldLaws, IsAnsweredByAnother}
+use Rattle.one_list.specs.Holds.{HoldLaws, IsAnsweredByAnother, is_numbered}
 use Rattle.one_list.specs.Steps.{done, done_by, next_place, of_tenant, of_worker}
 use Rattle.one_list.specs.declared.step.Done.{Done}
 use Rattle.books_shared.specs.Shares.{ShareView}
@@ -40,7 +40,7 @@ use Rattle.workers.specs.Replies.{Sending}
 pub record GoesOn (c : Called) (tenant hold : ℕ) : Type 0 where
   pub verdict : Record
   pub made : c.made ≡ Some verdict
-  pub begins : IsSomeAnd (hold_begun verdict.entry verdict.outcome) (λ h. h.number ≡ hold)
+  pub begins : is_numbered hold (hold_begun verdict.entry verdict.outcome) ≡ true
   pub frame : List ℕ
   pub waits : c.work.job ≡ Job.Waits tenant hold frame
 
@@ -51,7 +51,7 @@ by_verdict (Forward number other amount expiry) s t token p room peer key now to
     record {
       verdict = decide_record peer.number key now (Forward number other amount expiry);
       made = refl;
-      begins = same;
+      begins = eq-eqb number hold same;
       frame = with_amount_and_expiry p amount (timestamp_of expiry);
       waits = ap (λ n. Job.Waits t n (with_amount_and_expiry p amount (timestamp_of expiry))) same;
     }

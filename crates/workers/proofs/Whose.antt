@@ -21,7 +21,6 @@ use Rattle.floor_core.specs.World.{answer_key, key_in}
 use Rattle.floor_core.specs.declared.parts.Got.{Got}
 use Rattle.floor_core.specs.declared.parts.Turn.{Turn}
 use Rattle.floor_core.specs.declared.parts.Turn.TheVariants as turns
-use Rattle.one_list.specs.Steps.{next_place}
 use Rattle.books_shared.specs.Rises.{rise_of}
 use Rattle.books_shared.specs.Turns.{IsLoaded}
 use Rattle.workers.specs.declared.governing.GovernFault.{GovernFault}
@@ -87,7 +86,7 @@ by_result {under} (Err fault) made told g w left came h call =
         own = h.own;
         mine = h.mine;
         turn = h.told ∙ turned;
-        none = grew_nothing (next_place h.found.book) g (subst (λ (c : Called). HasGrown (rise_of c) (next_place h.found.book) c.made g) call h.grew);
+        none = grew_nothing h.found g (subst (λ (c : Called). HasGrown h.found (rise_of c) c.made g) call h.grew);
       },
       h.left ∙ ap (λ (c : Called). c.work) call,
     )

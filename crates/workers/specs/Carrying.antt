@@ -1,5 +1,5 @@
 -- What a packet went through that a worker carried, and what a command did: which books decided, and when.
-use Rattle.std.specs.Prelude.{ℕ, ◌≡◌, List, [], ◌∷◌, Option, Some, Result, Ok, Err}
+use Rattle.std.specs.Prelude.{ℕ, ◌≡◌, List, [], ◌∷◌, ◌++◌, Option, Some, Result, Ok, Err}
 use Rattle.tenant_core.specs.Governed.{IsGoverned, made_by}
 use Rattle.tenant_core.specs.Sound.{IsSound}
 use Rattle.tenant_core.specs.State.{State}
@@ -16,7 +16,7 @@ use Rattle.one_list.specs.Holds.{BeginsHold, IsAnsweredByAnother}
 use Rattle.one_list.specs.Steps.{Place, done_by, next_place, of_tenant, of_worker}
 use Rattle.one_list.specs.declared.step.Done.{Done}
 use Rattle.books_shared.specs.Rises.{command_rise, rise_of}
-use Rattle.books_shared.specs.Shares.{ShareView}
+use Rattle.books_shared.specs.Shares.{ShareView, has_met}
 use Rattle.books_shared.specs.Traced.{IsLedTo, counted}
 use Rattle.books_shared.specs.declared.rise.Rise.{Rise}
 use Rattle.workers.specs.Replies.{Sending}
@@ -36,8 +36,8 @@ abbrev pub circumstances : List Opening → (ℕ → Type 0) → Circumstances
 circumstances openings Gives = record { openings = openings; Gives = Gives }
 
 -- A book as it was found under a lock: the replay of its journal, and within its limits. The tenant's steps until then, over
--- all its periods, led to it from the tenant's first opening; which of them are the asking worker's, `HasOwnSteps` says. And the
--- moment that the clock gave then.
+-- all its periods, led to it from the tenant's first opening; which of them are the asking worker's, `HasOwnSteps` says, and that
+-- the worker has met just these, `HasGrown`. And the moment that the clock gave then.
 pub record Found (under : Circumstances) : Type 0 where
   pub book : State
   pub steps : List Done
@@ -67,13 +67,23 @@ HasOwnSteps g found = of_worker g.before.worker found.steps ≡ of_tenant g.owne
 abbrev pub growth : ℕ → (before after : ShareView) → Growth
 growth owner before after = record { owner = owner; before = before; after = after }
 
--- the same worker, with the same counts, steps and receipts: for how many calls there is room is left open
+-- the same worker, with the same counts, steps, meetings and receipts: for how many calls there is room is left open
 abbrev pub AreAlike : (one other : ShareView) → Type 0
 AreAlike one other = other ≡ record one { room = other.room }
 
--- the share has grown by one call, with that rise, and that record at that place
-abbrev pub HasGrown : Rise → Place → Option Record → Growth → Type 0
-HasGrown rise at made g = AreAlike (counted rise at made g.before) g.after
+-- the share, once its worker has met the steps that led to the book
+abbrev pub meeting : {under : Circumstances} → Found under → ShareView → ShareView
+meeting found s = has_met found.book.opening.tenant found.steps s
+
+-- The share has grown by one call with the book: by what it has met, by that rise, and by that record where the book's next one
+-- stands. What it has met is, in the end, what the one list begins with of the tenant. So no book is asked but those to which the
+-- tenant's steps in the one list led.
+abbrev pub HasGrown : {under : Circumstances} → Found under → Rise → Option Record → Growth → Type 0
+HasGrown found rise made g = AreAlike (counted rise (next_place found.book) made (meeting found g.before)) g.after
+
+-- it has met the steps that led to the book, and nothing else
+abbrev pub HasMet : {under : Circumstances} → Found under → Growth → Type 0
+HasMet found g = AreAlike (meeting found g.before) g.after
 
 -- it has not grown
 abbrev pub IsSame : Growth → Type 0
@@ -95,7 +105,7 @@ pub record WasCalled (under : Circumstances) (g : Growth) (call : State → ℕ 
   pub mine : HasOwnSteps g found
   pub told : (call found.book found.now).turn ≡ turn
   pub left : after ≡ (call found.book found.now).work
-  pub grew : HasGrown (rise_of (call found.book found.now)) (next_place found.book) (call found.book found.now).made g
+  pub grew : HasGrown found (rise_of (call found.book found.now)) (call found.book found.now).made g
 
 -- the tenant's book held the packet of the slot, to send it on to a peer; the step of that record begins the hold
 pub record WasForwarded (under : Circumstances) (g : Growth) (before after : Work) : Type 0 where
@@ -128,17 +138,30 @@ pub record WentOn (under : Circumstances) (g : Growth) (before : Work) (came : G
 
 -- ---- an answer
 
+-- the last that the worker did for the tenant was to send on the packet of that hold
+pub record HasSentOn (share : ShareView) (tenant hold : ℕ) : Type 0 where
+  pub before : List Done
+  pub step : Done
+  pub last : of_tenant tenant share.steps ≡ before ++ step ∷ []
+  pub by_it : step.worker ≡ share.worker
+  pub begins : BeginsHold hold step
+
+-- the last that the worker did for the tenant was to send on the packet that the call awaits
+abbrev pub IsOwnCall : ShareView → ℕ → Job → Type 0
+IsOwnCall share tenant (Job.Waits owner hold frame) = HasSentOn share tenant hold
+IsOwnCall share tenant _ = Unit {0}
+
 -- what an answer with what came back comes to
 abbrev pub answer_with : Work → Got → State → ℕ → Called
 answer_with before came book now = answer_call before book now came
 
--- the tenant's book has no such hold, and the share has not grown
+-- the tenant's book has no such hold, and the share has met its steps alone
 pub record WasMissed (under : Circumstances) (g : Growth) (before : Work) (came : Got) : Type 0 where
   pub found : Found under
   pub own : IsOf g.owner found
   pub mine : HasOwnSteps g found
   pub turn : (answer_with before came found.book found.now).turn ≡ turn.Stray
-  pub none : IsSame g
+  pub none : HasMet found g
 
 -- ---- a packet
 
@@ -200,7 +223,7 @@ pub record WasCommanded (under : Circumstances) (g : Growth) (given : Command) (
   pub mine : HasOwnSteps g found
   pub after : State
   pub governed : IsGoverned answer given found.book after found.now
-  pub grew : HasGrown (command_rise answer) (next_place found.book) (made_by answer found.book given found.now) g
+  pub grew : HasGrown found (command_rise answer) (made_by answer found.book given found.now) g
 
 -- what became of a command, by its answer: `Stray` is never answered
 abbrev pub IsDone : (under : Circumstances) → Result Answered GovernFault → Growth → Command → Type 0

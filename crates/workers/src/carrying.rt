@@ -1,12 +1,13 @@
 //! One packet, carried: taken in, decided, sent on, and its answer settled.
 
-ghost use Rattle.std.specs.Prelude.{◌≡◌, ◌+◌, ◌<◌, ◌≤◌, ◌^◌, ◌↔◌, true, false, is_ok, Some};
+ghost use Rattle.std.specs.Prelude.{◌≡◌, ◌≢◌, ◌+◌, ◌<◌, ◌≤◌, ◌^◌, ◌↔◌, true, false, is_ok, Some};
 ghost use Rattle.common_types.specs.Token.{is_token};
 ghost use Rattle.ilp_view.specs.Reading.{prepare_at};
 ghost use Rattle.floor_core.specs.Work.{IsWaiting, loaded, tenant_in};
 ghost use Rattle.floor_core.specs.Work.Job.{NoJob};
+ghost use Rattle.floor_core.specs.declared.parts.Turn.TheVariants as turn;
 ghost use Rattle.books_shared.specs.Turns.{IsEnded, IsLeft, IsLoaded};
-ghost use Rattle.workers.specs.Carrying.{IsAnswered, IsCarried, IsDecided, WasExchanged, circumstances, closed, growth};
+ghost use Rattle.workers.specs.Carrying.{IsAnswered, IsCarried, IsDecided, IsOwnCall, WasExchanged, circumstances, closed, growth};
 ghost use Rattle.workers.specs.Counting.{IsSpent, reply_tallied, tallied};
 ghost use Rattle.workers.specs.Replies.{IsOfPrepare, IsOver, IsSentSo, WasSent, sends_of};
 ghost use Rattle.workers.specs.declared.reply.Reply.TheVariants as reply;
@@ -45,10 +46,12 @@ pub struct Job<'a> {
 /// By the reply (`IsCarried`), the packet was judged by the tenant's book, sound at that moment, which the clock gave. Steps of
 /// the tenant led to each book that was asked, from the opening of its first period in this run. Of this worker they are all
 /// that it had done for the tenant until then, and no other (`HasOwnSteps`): no book is from before the worker's last step, and
-/// the packet's own step stands in the steps that led to the book which is asked for its answer. Where
+/// the packet's own step stands in the steps that led to the book which is asked for its answer. The share has met just these
+/// steps (`HasGrown`), so that in the end they are the first ones that the one list has of the tenant. Where
 /// the verdict was to send it on, what was sent is the packet with the verdict's amount and expiry, to the target of the
 /// verdict's peer; and the sender is told what the book made of it, or of what came back. `Lost` is answered only by a book to
-/// which, since that step, another worker's answer to the packet led (`elsewhere`). The share has grown by just these
+/// which, since that step, another worker's answer to the packet led (`elsewhere`); in a run in which each worker answers only
+/// packets that it sent on itself (`Run::own`), never. The share has grown by just these
 /// calls with the book: by what each of them counts for the tenant, and by the record that it made, if it made one, as the
 /// next step of the worker's part of the one list.
 ///
@@ -77,6 +80,7 @@ pub fn carry<J: Run, R: Wait, L: Link, G: Gate, C: Clock>(
     ensures spent { result ≡ reply.Spent ↔ (is_token job.entry.token.now ≡ true)
         × (is_ok (prepare_at job.entry.frame.now) ≡ true) × IsSpent share.old (L.sent link.old) }
     ensures memory { result ≡ reply.Memory → share.old.audited ≡ true }
+    ensures lost { (got : Got) → J.own ≡ true → result ≢ reply.Lost got }
     ensures sends { L.sent link.new ≡ L.sent link.old + sends_of result }
     ensures sent { IsSentSo result job.entry.tenant
         (λ sending. L.sends_so link.old sending link.new) (link.new ≡ link.old) }
@@ -138,6 +142,7 @@ fn carried<J: Run, R: Wait, L: Link, G: Gate, C: Clock>(
     ensures spent { result ≡ reply.Spent ↔ (is_token job.entry.token.now ≡ true)
         × (is_ok (prepare_at job.entry.frame.now) ≡ true) × IsSpent share.old (L.sent link.old) }
     ensures memory { result ≡ reply.Memory → share.old.audited ≡ true }
+    ensures lost { (got : Got) → J.own ≡ true → result ≢ reply.Lost got }
     ensures sends { L.sent link.new ≡ L.sent link.old + sends_of result }
     ensures sent { IsSentSo result job.entry.tenant
         (λ sending. L.sends_so link.old sending link.new) (link.new ≡ link.old) }
@@ -171,6 +176,7 @@ fn exchanged<J: Run, R: Wait, L: Link, G: Gate, C: Clock>(
     ensures loaded { IsOfPrepare result }
     ensures spent { result ≡ reply.Spent ↔ IsSpent share.old (L.sent link.old) }
     ensures memory { result ≡ reply.Memory → share.old.audited ≡ true }
+    ensures lost { (got : Got) → J.own ≡ true → result ≢ reply.Lost got }
     ensures sends { L.sent link.new ≡ L.sent link.old + sends_of result }
     ensures sent { IsSentSo result tenant
         (λ sending. L.sends_so link.old sending link.new) (link.new ≡ link.old) }
@@ -259,10 +265,14 @@ fn answer<J: Run, R: Wait, C: Clock>(
     requires books { tenant < tools.now.books.now.tenants }
     requires waits { IsWaiting slot.old.job }
     requires tenant { tenant_in slot.old.job ≡ Some tenant }
+    requires sent { IsOwnCall share.old tenant slot.old.job }
     requires room { 0 < share.old.room }
+    ensures sure { J.own ≡ true → result ≡ turn.Reply }
     ensures answered { IsAnswered (circumstances J.openings (C.gives tools.now.clock.now)) result (growth tenant share.old share.new) got slot.old slot.new }
     ensures ended { IsEnded result slot.old slot.new }
 {
+    one_list::laws::answered_holds();
+    one_list::laws::own_answers();
     let mut guard = tools.books.enter(tools.rt, tenant);
     guard.meet(share);
     guard.answer(share, slot, tools.clock.now(), got)

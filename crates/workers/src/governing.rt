@@ -40,8 +40,9 @@ pub enum GovernFault {
 ///
 /// What is answered, or refused, is what the tenant's book, sound at that moment, which the clock gave, answers to this
 /// command (`IsDone`). Steps of the tenant led to that book, from the opening of its first period in this run; of this worker
-/// they are all that it had done for the tenant until then, and no other (`HasOwnSteps`). So balances and refusals are told
-/// of no book from before the worker's last step. The share has grown by just that: by the entry for the tenant, if there is
+/// they are all that it had done for the tenant until then, and no other (`HasOwnSteps`). The share has met just these steps
+/// (`HasGrown`), so that in the end they are the first ones that the one list has of the tenant. So balances and refusals are
+/// told of no book from before the worker's last step, and of none that other steps led to. The share has grown by just that: by the entry for the tenant, if there is
 /// one, and by its record, as the next step of the worker's part of the one list.
 ///
 /// The errors are, in the order in which they are looked for: `Spent`, exactly where one of the share's counts is full;

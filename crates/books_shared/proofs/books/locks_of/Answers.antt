@@ -7,8 +7,8 @@ use Rattle.books_shared.specs.Traced.{IsTraced}
 use Rattle.books_shared.proofs.Tracing.{opening_at, traced_first}
 use Rattle.books_shared.proofs.books.locks_of.Goals as goal
 
-pub new-requires-in-loop-tenant : goal.new-requires-in-loop-tenant
-new-requires-in-loop-tenant g c =
+pub new-requires-in-loop-tenant-clause-traced : goal.new-requires-in-loop-tenant-clause-traced
+new-requires-in-loop-tenant-clause-traced g c =
     let setup = c.index-setups-tenant.result in
     let first = opening_of c.loop-tenant.tenant setup c.args.start in
     let here : slice_get c.args.setups.now c.loop-tenant.tenant ≡ Some setup = search (rules, slice_get_read) in

@@ -8,6 +8,7 @@ use Rattle.workers.specs.Replies.{Sending}
 use Rattle.one_list.specs.Steps.{done, done_by, next_place}
 use Rattle.workers.proofs.Elsewhere.{elsewhere, goes_on}
 use Rattle.workers.proofs.Growing.{called_roomy}
+use Rattle.workers.proofs.Sure.{is_own_call}
 use Rattle.workers.proofs.Whose.{unanswered}
 use Rattle.workers.proofs.carrying.exchanged.Goals as goal
 
@@ -61,6 +62,7 @@ returns-in_default g c =
     record {
       loaded = tt;
       memory = λ is. absurd cc;
+      lost = λ got own is. absurd (c.in_default.not-Reply (c.answer-turn.ensures.sure own));
       spent = search rules;
       sends = c.send-got.ensures.sends;
       sent = c.send-got.ensures.sent;
@@ -74,3 +76,7 @@ returns-in_default g c =
       };
       over = tt;
     }
+
+pub answer-turn-requires-clause-sent : goal.answer-turn-requires-clause-sent
+answer-turn-requires-clause-sent g c =
+    is_own_call c.args.tenant c.in-Send.peer c.in-Send.hold c.args.slot.now c.decide-turn.new.slot c.decide-turn.new.share c.make_room.new.self c.send-got.new.slot.job c.in-Send.ensures.decided c.send-got.ensures.job

@@ -1,5 +1,5 @@
 use Rattle.std.proofs.Common.{ℕ, ◌≡◌, List, length, map, rules, subst, sym}
-use Rattle.one_list.specs.Steps.{HaveOneList, PartView}
+use Rattle.one_list.specs.Steps.{HaveOneList, PartView, WorkerView}
 use Rattle.books_shared.specs.BooksKept.{AreFew}
 use Rattle.books_shared.specs.Traced.{part_of}
 use Rattle.books_shared.proofs.Gathering.{list_of}
@@ -18,4 +18,4 @@ returns-clause-one_list g c =
     list_of c.records_are_a_run.ensures g.J.Run.size g.J.Run.openings c.in-Ok.opened.0.items c.sort.new.books.items c.args.shares.items c.in-Ok.opened.1.tenants
     many each c.in-Ok.ensures.parts c.sort.ensures.moved c.sort.ensures.sorted
     (subst (λ (ps : List PartView). HaveOneList g.J.Run.size ps (map part_of c.args.shares.items)) tenants
-    (subst (λ (ps : List PartView). HaveOneList g.J.Run.size c.add_all.new.parts.tenants ps) workers c.close.ensures))
+    (subst (λ (ps : List WorkerView). HaveOneList g.J.Run.size c.add_all.new.parts.tenants ps) workers c.close.ensures))

@@ -1,15 +1,18 @@
-use Rattle.std.proofs.Common.{◌≡◌, ◌≤◌, ◌<◌, ◌++◌, ◌∙◌, ap, subst, sym}
+use Rattle.std.proofs.Common.{◌≡◌, true, ◌≤◌, ◌<◌, ◌++◌, ◌∙◌, ap, subst, sym}
 use Rattle.tenant_core.specs.Limits.{max_tenants}
 use Rattle.tenant_core.specs.declared.opening.Opening.{Opening}
 use Rattle.floor_core.specs.Work.{Called, answer_call}
+use Rattle.one_list.specs.Holds.{AreOwnAnswers}
 use Rattle.one_list.specs.Steps.{done_by, next_place}
 use Rattle.books_shared.specs.Kept.{Kept, most_entries}
 use Rattle.books_shared.specs.Rises.{IsSmall, entries_of, rise_of}
 use Rattle.books_shared.specs.Traced.{counted}
 use Rattle.books_shared.specs.Tracing.{told_by}
+use Rattle.books_shared.specs.Turns.{IsSentBy}
 use Rattle.books_shared.specs.declared.rise.Rise.{Rise}
 use Rattle.books_shared.proofs.Entries.{entries_told, small}
 use Rattle.books_shared.proofs.Causes.{answer_cause}
+use Rattle.books_shared.proofs.Owning.{answer_answers, own_on}
 use Rattle.books_shared.proofs.Tracing.{answer_stays, place_at, share_told, steps_told, told_call, traced_call}
 use Rattle.books_shared.proofs.kept.Kept.answer.Goals as goal
 use Rattle.books_shared.proofs.kept.Kept.answer.Given.{Over}
@@ -38,6 +41,17 @@ told g c =
     told_call c.histories.ensures c.self.inside.book c.answer_in-turn.new.book (call g c).made c.answer_in-turn.result.1.entries c.args.share.now.worker c.self.inside.part.number
     c.answer_in-turn.ensures.book (many g c)
 
+-- the steps after the call
+grown_steps : (g : Over) (c : goal.After-trace g)
+    → c.trace.new.part.steps ≡ c.self.inside.part.steps ++ done_by c.args.share.now.worker (next_place c.self.inside.book) (call g c).made
+grown_steps g c =
+    steps_told c.self.inside.part c.trace.new.part c.args.share.now.worker c.self.inside.book (call g c).made _ c.trace.ensures.part
+    (told g c) c.self.invariant.1.number
+
+-- the worker has sent the packet on, by the steps so far
+sent_inside : (g : Over) (c : goal.After-trace g) → g.J.Run.own ≡ true → IsSentBy c.args.share.now.worker c.args.slot.now.job c.self.inside.part.steps
+sent_inside g c own = subst (λ (k : Kept). IsSentBy c.args.share.now.worker c.args.slot.now.job k.steps) (sym c.self.view_is) (c.requires.sent own)
+
 pub invariant_of-self : goal.invariant_of-self
 invariant_of-self g c = (
   subst (λ (o : Opening). c.self.inside.closed ≤ most_entries o.period) (sym c.answer_in-turn.ensures.opening) c.self.invariant.0,
@@ -45,14 +59,16 @@ invariant_of-self g c = (
       c.answer_in-turn.result.1.entries c.self.invariant.1 (answer_stays c.args.slot.now c.self.inside.book c.args.now c.args.got)
       (answer_cause c.args.slot.now c.self.inside.book c.args.now c.args.got) c.answer_in-turn.ensures.book
       c.book_is_sound.ensures.replay (many g c) c.trace.ensures.part,
+  λ own. subst AreOwnAnswers (sym (grown_steps g c))
+      (own_on c.own_answers.ensures c.self.inside.part.steps c.args.share.now.worker (next_place c.self.inside.book) (call g c).made (c.self.invariant.2 own)
+      (answer_answers c.self.inside.part.steps c.args.share.now.worker c.args.slot.now c.self.inside.book c.args.now c.args.got (sent_inside g c own))),
 )
 
 pub returns-clause-steps : goal.returns-clause-steps
 returns-clause-steps g c =
     subst (λ (k : Kept). c.trace.new.part.steps ≡ k.steps ++ done_by c.args.share.now.worker (next_place k.state) (answer_call c.args.slot.now k.state c.args.now c.args.got).made)
     c.self.view_is
-    (steps_told c.self.inside.part c.trace.new.part c.args.share.now.worker c.self.inside.book (call g c).made _ c.trace.ensures.part
-    (told g c) c.self.invariant.1.number)
+    (grown_steps g c)
 
 pub returns-clause-share : goal.returns-clause-share
 returns-clause-share g c =

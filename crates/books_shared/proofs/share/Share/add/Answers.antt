@@ -1,5 +1,5 @@
 use Rattle.std.proofs.Common.{ℕ, ◌≡◌, ◌<◌, ◌+◌, ◌-◌, ◌++◌, List, length, get_or, set, ap, rules, subst, sym}
-use Rattle.one_list.specs.Steps.{PartView}
+use Rattle.one_list.specs.Steps.{WorkerView}
 use Rattle.one_list.specs.declared.step.Done.{Done}
 use Rattle.books_shared.specs.ShareKept.{AreTallied, IsLedgerOf}
 use Rattle.books_shared.specs.Tracing.{told_by}
@@ -12,7 +12,7 @@ invariant_of-self g c =
     let counts : List ℕ = c.self.inside.counts in
     let inside : c.args.tenant.now.number < length counts = search rules in
     let told : List Done = told_by c.args.rise.entries c.self.inside.part.number c.args.tenant.now.number c.args.period c.args.journal.now.records in
-    let steps_after : c.self.inside.part.steps ++ told ≡ c.tell.new.worker.steps = sym (ap (λ (p : PartView). p.steps) c.tell.ensures.worker) in
+    let steps_after : c.self.inside.part.steps ++ told ≡ c.tell.new.worker.steps = sym (ap (λ (p : WorkerView). p.steps) c.tell.ensures.worker) in
     record {
       roomy = search rules;
       known = known_more c.self.inside.counts c.self.inside.strangers c.self.inside.full c.number-number.result c.args.rise.entries c.args.rise.strangers

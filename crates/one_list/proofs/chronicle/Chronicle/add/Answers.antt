@@ -20,12 +20,12 @@ pub compare_exchange_with-requires : goal.compare_exchange_with-requires
 compare_exchange_with-requires g c =
     let i = c.self.invariant in
     let j = c.join_seat.ensures in
-    let theirs = c.requires.theirs.1 in
+    let theirs = c.requires.theirs.2 in
     let mine = c.requires.mine.1 in
     let is = j.2 ∙ (λ k. ((theirs k).0 ++ (mine k).0, (theirs k).1)) in (
       j.0 ∙ (c.requires.tables.1 ∙ sym i.same_table),
       subst (λ (z : TableId). c.word_of-word.result < z.words) (sym i.same_table) (omega (arith, i.roomy.words, c.word_of-word.ensures)),
-      adds_as _ _ _ _ _ c.args.worker c.args.tenant c.args.period c.args.journal.now (λ n. n) c.requires.theirs.0 c.requires.mine.0 is
+      adds_as _ _ _ _ _ c.args.worker c.args.tenant c.args.period c.args.journal.now (λ n. n) c.requires.theirs.0 c.requires.mine.0 c.requires.theirs.1 is
           (subst (λ (z : Size). c.args.tenant < z.tenants) (sym i.same_size) c.requires.below.0) (subst (λ (z : Size). c.args.worker < z.workers) (sym i.same_size) c.requires.below.1),
     )
 
@@ -37,11 +37,11 @@ split_seat-theirs-requires g c =
 pub returns-clause-mine : goal.returns-clause-mine
 returns-clause-mine g c steps e =
     let theirs = c.requires.theirs in
-    let after = after_add c.args.worker c.args.tenant c.args.period c.args.journal.now theirs.0 steps _ _ _ _ theirs.1 e c.join_seat.ensures.2 c.compare_exchange_with.ensures.2 in
+    let after = after_add c.args.worker c.args.tenant c.args.period c.args.journal.now theirs.0 steps theirs.1 _ _ _ _ theirs.2 e c.join_seat.ensures.2 c.compare_exchange_with.ensures.2 in
     c.split_seat-theirs.ensures.2 ∙ ap (λ (m : Me Recorded (List Claim)). (other_claims m.0, m.1)) after
 
 pub returns-clause-theirs : goal.returns-clause-theirs
-returns-clause-theirs g c steps e =
+returns-clause-theirs g c steps met e =
     let mine = c.requires.mine in
-    let after = after_add c.args.worker c.args.tenant c.args.period c.args.journal.now steps mine.0 _ _ _ _ e mine.1 c.join_seat.ensures.2 c.compare_exchange_with.ensures.2 in
+    let after = after_add c.args.worker c.args.tenant c.args.period c.args.journal.now steps mine.0 met _ _ _ _ e mine.1 c.join_seat.ensures.2 c.compare_exchange_with.ensures.2 in
     c.split_seat-theirs.ensures.4 ∙ ap (λ (m : Me Recorded (List Claim)). (first_claim m.0, [])) after
