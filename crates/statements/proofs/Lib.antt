@@ -6,3 +6,4 @@ pub mod SeenSteps
 pub mod TotalSteps
 pub mod ChainSteps
 pub mod SummarySteps
+pub mod KnownSteps

@@ -1,18 +1,22 @@
--- What a chain tells is what its periods come to.
-use Rattle.std.proofs.Common.{◌≡◌, ℕ, List, [], ◌∷◌, ◌++◌, length, refl, ap, sym, ◌∙◌}
-use Rattle.std.specs.Prelude.{sum_by}
-use Rattle.std.specs.List.{flat_map}
-use Rattle.statements.specs.Chain.{IsChain}
-use Rattle.statements.specs.Seen.{peers_seen}
-use Rattle.statements.specs.Summary.{chain_text, good_line, seen_line, summary_text, told_by, told_line, told_of}
+-- What a chain tells is what its statements come to.
+use Rattle.std.proofs.Common.{◌≡◌, ℕ, ◌+◌, List, [], ◌∷◌, length, map, refl, ap, ◌∙◌, arith}
+use Rattle.std.specs.Prelude.{Option, Some, None}
+use Rattle.statements.specs.Chain.{IsChain, Link, due_behind, lines_behind, periods_in, records_in, records_of}
+use Rattle.statements.specs.Due.{due_after}
+use Rattle.statements.specs.Line.{line_of, line_under, line_with, lines_after, lines_with, newcomers, told_both, told_of}
+use Rattle.statements.specs.Seen.{seen_before}
+use Rattle.statements.specs.Summary.{chain_text, lines_of, summary_text, told_by}
 use Rattle.statements.specs.declared.chain.Chain.{Chain}
+use Rattle.statements.specs.declared.due.Due.TheVariants.{Anything}
+use Rattle.statements.specs.declared.line.Line.{Line}
+use Rattle.statements.specs.declared.line.Told.{Told}
 use Rattle.statements.specs.declared.seen.PeerSeen.{PeerSeen}
-use Rattle.statements.specs.declared.summary.Told.{Told}
 use Rattle.tenant_core.specs.declared.period.PeriodParts.{PeriodParts}
 
-told_same : (texts : List (List ℕ)) (c : Chain) (is : IsChain texts c) (n : ℕ) → told_by c n ≡ told_of is.periods n
-told_same texts c is n =
-    let ending = is.ending in
+told_same : (links : List Link) (c : Chain) (is : IsChain links c) (n : ℕ)
+    → told_by c n ≡ told_of (due_after (due_behind Anything is.done) is.periods) is.periods n
+told_same links c is n =
+    let due = is.due in
     let came = is.totals.came n in
     let fulfilled_in = is.totals.fulfilled_in n in
     let settled_in = is.totals.settled_in n in
@@ -22,22 +26,40 @@ told_same texts c is n =
     let fees = is.totals.fees n in
     cc
 
-lines_same : (told other : ℕ → Told) → ((n : ℕ) → told n ≡ other n) → (xs : List PeerSeen)
-    → flat_map (seen_line told) xs ≡ flat_map (seen_line other) xs
-lines_same told other same [] = refl
-lines_same told other same (s ∷ xs) =
-    let here : seen_line told s ≡ seen_line other s = ap (λ (t : Told). told_line s t) (same s.number) in
-    let rest : flat_map (seen_line told) xs ≡ flat_map (seen_line other) xs = lines_same told other same xs in
-    ap (λ (line : List ℕ). line ++ flat_map (seen_line told) xs) here
-    ∙ ap (λ (lines : List ℕ). seen_line other s ++ lines) rest
+alike : {A B : Type 0} (f g : A → B) → ((x : A) → f x ≡ g x) → (xs : List A) → map f xs ≡ map g xs
+alike f g same [] = refl
+alike f g same (x ∷ xs) = rw (same x, alike f g same xs) refl
 
-pub chain_text_is : (texts : List (List ℕ)) (c : Chain) (is : IsChain texts c) → chain_text c ≡ summary_text is.periods
-chain_text_is texts c is =
+under_same : (told other : ℕ → Told) → ((n : ℕ) → told n ≡ other n) → (l : Line) (here : Option ℕ)
+    → line_under told l here ≡ line_under other l here
+under_same told other same l None = refl
+under_same told other same l (Some n) = ap (λ (t : Told). let x : Line = record l { told = told_both l.told t } in x) (same n)
+
+with_same : (told other : ℕ → Told) → ((n : ℕ) → told n ≡ other n) → (ls : List Line) (first added : List PeerSeen)
+    → lines_with told ls first added ≡ lines_with other ls first added
+with_same told other same ls first added =
+    let before : map (line_with told) ls ≡ map (line_with other) ls =
+    alike (line_with told) (line_with other) (λ (l : Line). under_same told other same l l.here) ls in
+    let rest : map (line_of told) (newcomers ls first added) ≡ map (line_of other) (newcomers ls first added) =
+    alike (line_of told) (line_of other)
+    (λ (s : PeerSeen). ap (λ (t : Told). let x : Line = record { seen = s; here = Some s.number; told = t } in x) (same s.number))
+    (newcomers ls first added) in
+    rw (before, rest) refl
+
+pub lines_are : (links : List Link) (c : Chain) (is : IsChain links c)
+    → lines_of c ≡ lines_after (lines_behind [] Anything is.done) (due_behind Anything is.done) is.periods
+lines_are links c is =
+    let told : ℕ → Told = told_of (due_after (due_behind Anything is.done) is.periods) is.periods in
+    with_same (told_by c) told (told_same links c is) c.past.lines.items c.totals.first.items c.totals.added.items
+    ∙ (ap (λ (ls : List Line). lines_with told ls c.totals.first.items c.totals.added.items) is.past_lines
+    ∙ (ap (λ (ps : List PeerSeen). lines_with told (lines_behind [] Anything is.done) ps c.totals.added.items) is.totals.first
+    ∙ ap (λ (ps : List PeerSeen). lines_with told (lines_behind [] Anything is.done) (seen_before is.periods) ps) is.totals.added))
+
+pub chain_text_is : (links : List Link) (c : Chain) (is : IsChain links c) → chain_text c ≡ summary_text is.done is.periods
+chain_text_is links c is =
     let ps : List PeriodParts = is.periods in
-    let good : good_line c.totals.periods c.totals.entries ≡ good_line (length ps) (sum_by (λ p. length p.records) ps) =
-    let periods = is.totals.periods in let entries = is.totals.entries in cc in
-    let lines : flat_map (seen_line (told_by c)) c.totals.peers.items ≡ flat_map (seen_line (told_of ps)) (peers_seen ps) =
-    lines_same (told_by c) (told_of ps) (told_same texts c is) c.totals.peers.items
-    ∙ ap (λ (xs : List PeerSeen). flat_map (seen_line (told_of ps)) xs) is.totals.peers in
-    ap (λ (line : List ℕ). line ++ flat_map (seen_line (told_by c)) c.totals.peers.items) good
-    ∙ ap (λ (rest : List ℕ). good_line (length ps) (sum_by (λ p. length p.records) ps) ++ rest) lines
+    let periods : c.past.periods + c.totals.periods ≡ periods_in is.done + length ps =
+    let a = is.past_periods in let b = is.totals.periods in omega arith in
+    let entries : c.past.entries + c.totals.entries ≡ records_in is.done + records_of ps =
+    let a = is.past_records in let b = is.totals.entries in omega arith in
+    rw (periods, entries, lines_are links c is) refl

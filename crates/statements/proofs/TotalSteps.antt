@@ -1,12 +1,12 @@
 -- What a period more comes to.
-use Rattle.std.proofs.Common.{◌≡◌, ℕ, ◌+◌, zero, suc, List, [], ◌∷◌, ◌++◌, length, refl, ap, sym, subst, ◌∙◌, arith, Bool, false}
+use Rattle.std.proofs.Common.{◌≡◌, ℕ, ◌+◌, suc, List, [], ◌∷◌, ◌++◌, length, refl, ap, sym, ◌∙◌, arith, false}
 use Rattle.std.specs.Prelude.{map, sum_by, ◌==◌, if◌then◌else◌}
 use Rattle.std.specs.List.{flat_map}
 use Rattle.std.proofs.lemmas.Bool.Decides.{nat_tests}
 use Rattle.std.proofs.lemmas.Grind.{flat_map-append}
-use Rattle.std.proofs.lemmas.List.{append-nil, append_assoc}
+use Rattle.std.proofs.lemmas.List.{append-nil}
 use Rattle.std.proofs.lemmas.List.Sums.{sum_by_push}
-use Rattle.statements.specs.Seen.{peers_seen, seen_at_first, seen_before, seen_during}
+use Rattle.statements.specs.Seen.{seen_at_first, seen_before, seen_during}
 use Rattle.statements.specs.Sums.{IsAdded, sum_at}
 use Rattle.statements.specs.Totals.{IsSum}
 use Rattle.statements.specs.declared.seen.PeerSeen.{PeerSeen}
@@ -25,23 +25,13 @@ sum_more part more before after ps p was added same = λ (n : ℕ).
 not_zero : (n : ℕ) → (suc n == 0) ≡ false
 not_zero n = grind (arith, nat_tests)
 
-seen_step : (ps : List PeriodParts) (p : PeriodParts)
-    → (peers_seen ps ++ (if length ps == 0 then map seen_at_first p.opening.network.peers else [])) ++ seen_during p
-    ≡ peers_seen (ps ++ p ∷ [])
-seen_step [] p =
-    ap (λ (xs : List PeerSeen). map seen_at_first p.opening.network.peers ++ xs) (sym (append-nil (seen_during p)))
-seen_step (q ∷ qs) p =
-    let b : List PeerSeen = map seen_at_first q.opening.network.peers in
-    let f : List PeerSeen = flat_map seen_during (q ∷ qs) in
-    ap (λ (is : Bool). ((b ++ f) ++ (if is then map seen_at_first p.opening.network.peers else [])) ++ seen_during p) (not_zero (length qs))
-    ∙ (ap (λ (xs : List PeerSeen). xs ++ seen_during p) (append-nil (b ++ f))
-    ∙ (append_assoc b f (seen_during p)
-    ∙ ap (λ (xs : List PeerSeen). b ++ xs)
-    (sym (flat_map-append seen_during (q ∷ qs) (p ∷ []) ∙ ap (λ (xs : List PeerSeen). f ++ xs) (append-nil (seen_during p))))))
+pub first_more : (count : ℕ) (first : List PeerSeen) (ps : List PeriodParts) (p : PeriodParts) → count ≡ length ps → first ≡ seen_before ps
+    → (if count == 0 then map seen_at_first p.opening.network.peers else first) ≡ seen_before (ps ++ p ∷ [])
+first_more count first [] p long is = rw long refl
+first_more count first (q ∷ qs) p long is = rw (long, not_zero (length qs)) is
 
-pub seen_more : (count : ℕ) (peers : List PeerSeen) (ps : List PeriodParts) (p : PeriodParts) → count ≡ length ps → peers ≡ peers_seen ps
-    → (peers ++ (if count == 0 then map seen_at_first p.opening.network.peers else [])) ++ seen_during p ≡ peers_seen (ps ++ p ∷ [])
-seen_more count peers ps p long is =
-    ap (λ (xs : List PeerSeen). (xs ++ (if count == 0 then map seen_at_first p.opening.network.peers else [])) ++ seen_during p) is
-    ∙ (ap (λ (n : ℕ). (peers_seen ps ++ (if n == 0 then map seen_at_first p.opening.network.peers else [])) ++ seen_during p) long
-    ∙ seen_step ps p)
+pub added_more : (added : List PeerSeen) (ps : List PeriodParts) (p : PeriodParts) → added ≡ flat_map seen_during ps
+    → added ++ seen_during p ≡ flat_map seen_during (ps ++ p ∷ [])
+added_more added ps p is =
+    ap (λ (xs : List PeerSeen). xs ++ seen_during p) is
+    ∙ sym (flat_map-append seen_during ps (p ∷ []) ∙ ap (λ (xs : List PeerSeen). flat_map seen_during ps ++ xs) (append-nil (seen_during p)))

@@ -4,5 +4,8 @@ pub mod Gone
 pub mod Sums
 pub mod Seen
 pub mod Totals
+pub mod Known
+pub mod Due
+pub mod Line
 pub mod Chain
 pub mod Summary

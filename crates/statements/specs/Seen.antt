@@ -1,6 +1,5 @@
 -- The peers that were there during some periods.
-use Rattle.std.specs.Prelude.{ℕ, ◌≡◌, pos, List, [], ◌∷◌, ◌++◌, map}
-use Rattle.std.specs.List.{flat_map}
+use Rattle.std.specs.Prelude.{ℕ, pos, List, [], ◌∷◌, ◌++◌, map}
 use Rattle.statements.specs.declared.seen.PeerSeen.{PeerSeen}
 use Rattle.tenant_core.specs.Peers.{next_by}
 use Rattle.tenant_core.specs.declared.journal.Change.{Change as Changed}
@@ -38,7 +37,3 @@ seen_during p = seen_among p.opening.network.next_peer p.records
 abbrev pub seen_before : List PeriodParts → List PeerSeen
 seen_before [] = []
 seen_before (p ∷ ps) = map seen_at_first p.opening.network.peers
-
--- all peers that were there, those that were taken away too
-abbrev pub peers_seen : List PeriodParts → List PeerSeen
-peers_seen ps = seen_before ps ++ flat_map seen_during ps

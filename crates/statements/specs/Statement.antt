@@ -10,6 +10,7 @@ use Rattle.ildcp_core.specs.declared.child.Role.TheVariants.{Child, Peer as Equa
 use Rattle.route_table.specs.Listing.{entry_of}
 use Rattle.route_table.specs.Routes.{RouteMap}
 use Rattle.route_table.specs.declared.route.Route.{Route}
+use Rattle.tenant_core.specs.Codes.{code_of}
 use Rattle.tenant_core.specs.State.{entered_at}
 use Rattle.tenant_core.specs.declared.command.Side.TheVariants.{In, Out}
 use Rattle.tenant_core.specs.declared.journal.AnswerKey.{AnswerKey}
@@ -30,9 +31,6 @@ use Rattle.tenant_core.specs.declared.terms.BucketTerms.{BucketTerms}
 use Rattle.tenant_core.specs.declared.terms.PeerLimits.{PeerLimits}
 use Rattle.tenant_core.specs.declared.terms.PeerTerms.{PeerTerms}
 use Rattle.tenant_core.specs.declared.terms.RateTerms.{RateTerms}
-use Rattle.tenant_core.specs.declared.verdict.RejectCode.{RejectCode}
-use Rattle.tenant_core.specs.declared.verdict.RejectCode.TheVariants.{BadRequest, Unreachable, InvalidAmount, WrongCondition, AmountTooLarge, PeerUnreachable, Busy}
-use Rattle.tenant_core.specs.declared.verdict.RejectCode.TheVariants.{InsufficientLiquidity, RateLimited, TimedOut, InsufficientSource, InsufficientTimeout}
 use Rattle.tenant_core.specs.declared.verdict.Verdict.{Verdict}
 use Rattle.tenant_core.specs.declared.verdict.Verdict.TheVariants.{Unknown, NoRoom, Refuse, Fulfil, Forward, Relay}
 
@@ -111,28 +109,13 @@ opening_text routes o =
 
 -- ---- a record
 
--- the code of a refusal (RFC 0027, "Error Codes")
-abbrev pub code_word : RejectCode → List ℕ
-code_word BadRequest = codes "F00"
-code_word Unreachable = codes "F02"
-code_word InvalidAmount = codes "F03"
-code_word WrongCondition = codes "F05"
-code_word AmountTooLarge = codes "F08"
-code_word PeerUnreachable = codes "T01"
-code_word Busy = codes "T03"
-code_word InsufficientLiquidity = codes "T04"
-code_word RateLimited = codes "T05"
-code_word TimedOut = codes "R00"
-code_word InsufficientSource = codes "R01"
-code_word InsufficientTimeout = codes "R02"
-
 -- what became of a packet, or of what came back for it
 unfoldable pub verdict_words : Verdict → List ℕ
 verdict_words Unknown = codes " unknown"
 verdict_words NoRoom = codes " full"
-verdict_words (Refuse code None) = codes " refuse" ++ word (code_word code)
+verdict_words (Refuse code None) = codes " refuse" ++ word (code_of code)
 verdict_words (Refuse code (Some amounts)) =
-    codes " refuse" ++ word (code_word code) ++ number amounts.0 ++ number amounts.1
+    codes " refuse" ++ word (code_of code) ++ number amounts.0 ++ number amounts.1
 verdict_words Fulfil = codes " fulfil"
 verdict_words (Forward hold peer amount expiry) =
     codes " forward" ++ number hold ++ number peer ++ number amount ++ number expiry
@@ -231,10 +214,3 @@ pub record IsHead (text : List ℕ) (o : Opening) : Type 0 where
   pub routes : List Route
   pub listed : AreRoutesOf o.network.routes routes
   pub written : text ≡ head_text routes o
-
--- the text begins so
-pub record OpensWith (text : List ℕ) (o : Opening) : Type 0 where
-  pub head : List ℕ
-  pub is_head : IsHead head o
-  pub rest : List ℕ
-  pub written : text ≡ head ++ rest

@@ -1,44 +1,24 @@
 -- What statements come to, in lines.
-use Rattle.std.specs.Prelude.{ℕ, ℤ, pos, List, [], ◌∷◌, ◌++◌, codes, length, sum_by, Option, Some, None}
-use Rattle.std.specs.Fmt.{decimal, signed_decimal}
+use Rattle.std.specs.Prelude.{ℕ, ℤ, ◌+◌, List, [], ◌∷◌, ◌++◌, codes, length}
+use Rattle.std.specs.Fmt.{signed_decimal}
 use Rattle.std.specs.List.{flat_map}
-use Rattle.statements.specs.Chain.{ending_after}
-use Rattle.statements.specs.Seen.{peers_seen}
+use Rattle.statements.specs.Chain.{Done, due_behind, lines_behind, periods_in, records_in, records_of}
+use Rattle.statements.specs.Due.{opening_due}
+use Rattle.statements.specs.Line.{balance_in, lines_after, lines_with}
 use Rattle.statements.specs.Statement.{number, word}
 use Rattle.statements.specs.Sums.{sum_at}
-use Rattle.statements.specs.Totals.{came_from, fees_from, fulfilled_from, fulfilled_to, settled_from, settled_to, went_to}
 use Rattle.statements.specs.declared.chain.Chain.{Chain}
+use Rattle.statements.specs.declared.due.Due.TheVariants.{Anything}
+use Rattle.statements.specs.declared.line.Line.{Line}
+use Rattle.statements.specs.declared.line.Told.{Told}
 use Rattle.statements.specs.declared.seen.PeerSeen.{PeerSeen}
-use Rattle.statements.specs.declared.summary.Told.{Told}
-use Rattle.tenant_core.specs.Network.{peer_numbered}
-use Rattle.tenant_core.specs.Purse.{opening_balance}
-use Rattle.tenant_core.specs.declared.opening.Opening.{Opening}
 use Rattle.tenant_core.specs.declared.period.PeriodParts.{PeriodParts}
 
--- what the peer of that number owes where that is the ending; 0 where it was taken away
-abbrev pub balance_in : Option Opening → ℕ → ℤ
-balance_in None n = pos 0
-balance_in (Some ending) n = opening_balance (peer_numbered n ending.network.peers)
-
--- what periods come to for a peer
-abbrev pub told_of : List PeriodParts → ℕ → Told
-told_of ps n =
-    record {
-      ended = balance_in (ending_after None ps) n;
-      came = sum_by (came_from n) ps;
-      fulfilled_in = sum_by (fulfilled_from n) ps;
-      settled_in = sum_by (settled_from n) ps;
-      went = sum_by (went_to n) ps;
-      fulfilled_out = sum_by (fulfilled_to n) ps;
-      settled_out = sum_by (settled_to n) ps;
-      fees = sum_by (fees_from n) ps;
-    }
-
--- what a chain tells of a peer
+-- what a chain tells of a peer since the service began last
 abbrev pub told_by : Chain → ℕ → Told
 told_by c n =
     record {
-      ended = balance_in c.ending n;
+      ended = balance_in (opening_due c.due) n;
       came = sum_at c.totals.came n;
       fulfilled_in = sum_at c.totals.fulfilled_in n;
       settled_in = sum_at c.totals.settled_in n;
@@ -47,6 +27,10 @@ told_by c n =
       settled_out = sum_at c.totals.settled_out n;
       fees = sum_at c.totals.fees n;
     }
+
+-- the lines of a chain
+abbrev pub lines_of : Chain → List Line
+lines_of c = lines_with (told_by c) c.past.lines.items c.totals.first.items c.totals.added.items
 
 -- a number under its key
 unfoldable pub keyed : List ℕ → ℕ → List ℕ
@@ -78,19 +62,19 @@ seen_words s t =
 unfoldable pub told_line : PeerSeen → Told → List ℕ
 told_line s t = seen_words s t ++ in_words t ++ out_words t ++ keyed (codes "fees") t.fees ++ 10 ∷ []
 
--- the line of a peer of which that is told
-abbrev pub seen_line : (ℕ → Told) → PeerSeen → List ℕ
-seen_line told s = told_line s (told s.number)
+abbrev pub line_text : Line → List ℕ
+line_text l = told_line l.seen l.told
 
 -- how many periods there are, and how many records they have
 unfoldable pub good_line : ℕ → ℕ → List ℕ
 good_line periods entries = codes "good" ++ number periods ++ number entries ++ 10 ∷ []
 
--- what periods come to: how many there are, and a line for each peer that was there
-abbrev pub summary_text : List PeriodParts → List ℕ
-summary_text ps =
-    good_line (length ps) (sum_by (λ p. length p.records) ps) ++ flat_map (seen_line (told_of ps)) (peers_seen ps)
+-- what statements come to: how many there are, and a line for each peer that was there
+abbrev pub summary_text : List Done → List PeriodParts → List ℕ
+summary_text ds ps =
+    good_line (periods_in ds + length ps) (records_in ds + records_of ps)
+    ++ flat_map line_text (lines_after (lines_behind [] Anything ds) (due_behind Anything ds) ps)
 
 -- the same, as a chain tells it
 abbrev pub chain_text : Chain → List ℕ
-chain_text c = good_line c.totals.periods c.totals.entries ++ flat_map (seen_line (told_by c)) c.totals.peers.items
+chain_text c = good_line (c.past.periods + c.totals.periods) (c.past.entries + c.totals.entries) ++ flat_map line_text (lines_of c)

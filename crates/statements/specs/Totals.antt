@@ -1,8 +1,8 @@
 -- What closed periods come to for each peer, in its units.
 use Rattle.std.specs.Prelude.{ℕ, ◌≡◌, List, length, sum_by}
-use Rattle.std.specs.List.{zip}
+use Rattle.std.specs.List.{flat_map, zip}
 use Rattle.statements.specs.Fees.{fees_of}
-use Rattle.statements.specs.Seen.{peers_seen}
+use Rattle.statements.specs.Seen.{seen_before, seen_during}
 use Rattle.statements.specs.Sums.{came_by, fee_by, sum_at, went_by}
 use Rattle.statements.specs.declared.tally.Tally.{Tally}
 use Rattle.statements.specs.declared.totals.Totals.{Totals}
@@ -47,7 +47,8 @@ IsSum t part ps = (n : ℕ) → sum_at t n ≡ sum_by (part n) ps
 pub record AreTotals (ps : List PeriodParts) (t : Totals) : Type 0 where
   pub periods : t.periods ≡ length ps
   pub entries : t.entries ≡ sum_by (λ p. length p.records) ps
-  pub peers : t.peers.items ≡ peers_seen ps
+  pub first : t.first.items ≡ seen_before ps
+  pub added : t.added.items ≡ flat_map seen_during ps
   pub came : IsSum t.came came_from ps
   pub went : IsSum t.went went_to ps
   pub fulfilled_in : IsSum t.fulfilled_in fulfilled_from ps

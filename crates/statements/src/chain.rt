@@ -1,41 +1,67 @@
 //! Chains of statements.
 
-ghost use Rattle.std.specs.Prelude.{◌≡◌, ◌≢◌, ◌∷◌, ◌++◌, [], ℕ, ◌↔◌, Err, IfOk, IsTrue, List, OnErr, OnOk, option_copied};
+ghost use Rattle.std.specs.Prelude.{◌≡◌, ◌≢◌, ◌+◌, ◌∷◌, ◌++◌, [], ℕ, ◌↔◌, Err, IfOk, IsTrue, List, OnErr, OnOk, map, option_copied};
 ghost use Rattle.common_types.specs.declared.read_error.ReadError.TheVariants as read_error;
-ghost use Rattle.statements.specs.Chain.{Follows, IsApart, IsChain};
+ghost use Rattle.statements.specs.Chain.{Continues, IsApart, IsChain, Link, Opens};
+ghost use Rattle.statements.specs.Chain.Link.{Begun, Stated};
+ghost use Rattle.statements.specs.Due.{opening_due, peers_of, start_at};
 ghost use Rattle.statements.specs.Gone.{IsGone};
+ghost use Rattle.statements.specs.Known.{GoesOn};
+ghost use Rattle.statements.specs.Line.{line_anew};
 ghost use Rattle.statements.specs.Statement.{IsStatement};
+ghost use Rattle.statements.specs.Summary.{lines_of};
 ghost use Rattle.statements.specs.declared.chain.ChainFault.TheVariants as fault;
+ghost use Rattle.tenant_core.specs.PresentSetup.{present_setup};
+ghost use Rattle.tenant_core.specs.State.{opened};
 
 use crate::checked::{Gone, StatementFault, checked, first_difference};
-use crate::tally::Long;
-use crate::totals::Totals;
+use crate::due::Due;
+use crate::known::{goes_on, opens_as};
+use crate::line::{Line, lines_anew, lines_of};
+use crate::tally::{Long, Summed};
+use crate::totals::{Totals, raised};
 use crate::written::write_head;
-use common_types::ReadError;
+use common_types::{ReadError, Token};
+use ilp_addr::Moment;
 use std::alloc::{AllocError, Global};
-use tenant_core::{Opening, Period, laws};
+use tenant_core::{Book, Opening, Peer, Period, TenantSetup, laws};
 use thiserror::Error;
 
-/// Why a text does not go on with a chain of statements.
+/// Why a text or a setup does not go on with a chain of statements.
 #[derive(Clone, Copy, Debug, PartialEq, Eq, Error)]
 pub enum ChainFault {
-    /// It is not good.
+    /// The text is not good.
     #[error("{0}")]
     Statement(StatementFault),
-    /// It is good, and does not begin with what the statement before it ended with, from that line on. Lines are counted
+    /// The text is good, and does not begin with what the statement before it ended with, from that line on. Lines are counted
     /// from 1.
     #[error("line {0} is not what the statement before it ended with")]
     Apart(usize),
-    /// It is good and goes on, and a sum has no room for what it adds.
+    /// The text is good, and does not begin with what the setup before it leads to, from that line on.
+    #[error("line {0} is not what the setup leads to")]
+    Unlike(usize),
+    /// The setup does not have what the statement before it ended with.
+    #[error("not what the statement before it ended with")]
+    Changed,
+    /// It goes on, and a sum has no room for what it adds.
     #[error("too long to be summed up")]
     Long,
 }
 
-/// Statements one after another, as far as they were checked: what the last one ended with, and what all come to. It needs no
-/// more memory than one period, and sums for each peer.
+/// What the runs of the service came to that ended: how many periods they had and how many records, and a line for each peer.
+#[derive(Drop)]
+struct Past {
+    periods: u64,
+    entries: u64,
+    lines: Vec<Line>,
+}
+
+/// Statements one after another, and setups that the service began with between them, as far as they were checked: what the next
+/// one is to begin with, and what all come to. It needs no more memory than one period, and sums for each peer.
 #[derive(Drop)]
 pub struct Chain {
-    ending: Option<Opening>,
+    due: Due,
+    past: Past,
     totals: Totals,
 }
 
@@ -52,69 +78,195 @@ fn gone_of(alloc: Global, text: &[u8]) -> Result<Gone, ReadError<ChainFault>>
     }
 }
 
+// The setup of a tenant whose next period opens so, as a service writes it, with that token of its operator.
+pub fn present(
+    alloc: Global,
+    opening: &Opening,
+    admin: Token,
+) -> Result<TenantSetup, ReadError<ChainFault>>
+    ensures { IfOk result (λ setup. setup ≡ present_setup (opened opening.now) admin) }
+{
+    match Book::reopened(alloc, opening.copy(alloc)?) {
+        Ok(book) => Ok(book.present_setup(alloc, admin)?),
+        Err(ReadError::Memory) => Err(ReadError::Memory),
+        Err(ReadError::Fault(_)) => Err(ReadError::Fault(ChainFault::Changed)),
+    }
+}
+
+// Whether a setup has what a tenant has whose next period opens so.
+fn has(alloc: Global, opening: &Opening, setup: &TenantSetup) -> Result<bool, ReadError<ChainFault>>
+    ensures { IfOk result (λ has. IsTrue has → GoesOn (present_setup (opened opening.now) setup.now.admin) setup.now) }
+{
+    let present = present(alloc, opening, setup.terms().admin.copy())?;
+    Ok(goes_on(alloc, present.terms(), setup.terms())?)
+}
+
+fn peers_of(opening: Option<&Opening>) -> &[Peer]
+    ensures { result.now ≡ peers_of (option_copied opening.entry) }
+{
+    match opening {
+        Some(opening) => opening.network.peers(),
+        None => &[],
+    }
+}
+
 impl Chain {
-    // Whether the period opens with what the last one ended with.
+    // Whether the period opens with what is due.
     fn is_followed(&self, period: &Period) -> bool
-        ensures { IsTrue result ↔ Follows self.now.ending period.now }
+        ensures { IsTrue result ↔ Opens self.now.due period.now }
     {
-        match &self.ending {
-            Some(ending) => period.opening().is_same(ending),
-            None => true,
+        match &self.due {
+            Due::Anything => true,
+            Due::Ending(ending) => period.opening().is_same(ending),
+            Due::Setup(opening) => opens_as(period.opening(), opening),
         }
     }
 
-    // The line from which a text does not begin as the last one ended.
-    fn apart(&self, alloc: Global, text: &[u8]) -> Result<usize, AllocError> {
-        match &self.ending {
-            Some(ending) => Ok(first_difference(text, write_head(alloc, ending)?.as_slice())),
-            None => Ok(1),
+    // Whether a setup has what is due of the tenant.
+    fn is_continued(
+        &self,
+        alloc: Global,
+        setup: &TenantSetup,
+    ) -> Result<bool, ReadError<ChainFault>>
+        ensures { IfOk result (λ is. (place clock : ℕ) → IsTrue is → Continues self.now.due (start_at place setup.now clock)) }
+    {
+        match &self.due {
+            Due::Anything => Ok(true),
+            Due::Ending(opening) | Due::Setup(opening) => has(alloc, opening, setup),
         }
     }
 
-    /// No statement yet.
+    // From which line on a text does not begin with what is due, and which fault that is.
+    fn apart(&self, alloc: Global, text: &[u8]) -> Result<ChainFault, AllocError> {
+        match &self.due {
+            Due::Anything => Ok(ChainFault::Apart(1)),
+            Due::Ending(ending) => Ok(ChainFault::Apart(first_difference(
+                text,
+                write_head(alloc, ending)?.as_slice(),
+            ))),
+            Due::Setup(opening) => Ok(ChainFault::Unlike(first_difference(
+                text,
+                write_head(alloc, opening)?.as_slice(),
+            ))),
+        }
+    }
+
+    // What all runs came to, where the service begins again, with the numbers that peers have by that setup.
+    fn past_anew(&self, alloc: Global, setup: &TenantSetup) -> Summed<Past>
+        ensures { IfOk result (λ past. (past.periods ≡ self.now.past.periods + self.now.totals.periods)
+            × (past.entries ≡ self.now.past.entries + self.now.totals.entries)
+            × (past.lines.items ≡ map (line_anew (peers_of (opening_due self.now.due)) setup.now.network.peers) (lines_of self.now))) }
+    {
+        let lines = lines_of(alloc, self)?;
+        let peers = peers_of(self.due.opening());
+        Ok(Past {
+            periods: raised(self.past.periods, self.totals.periods)?,
+            entries: raised(self.past.entries, self.totals.entries)?,
+            lines: lines_anew(
+                alloc,
+                peers,
+                setup.terms().network.peers(),
+                lines.as_slice(),
+            )?,
+        })
+    }
+
+    /// Nothing yet.
     pub fn new(alloc: Global) -> Chain
         ensures { IsChain [] result }
     {
         Chain {
-            ending: None,
+            due: Due::Anything,
+            past: Past {
+                periods: 0,
+                entries: 0,
+                lines: Vec::new(alloc),
+            },
             totals: Totals::new(alloc),
         }
     }
 
-    /// What the next statement is to begin with, if there was one.
-    pub fn ending(&self) -> Option<&Opening>
-        ensures { option_copied result ≡ self.now.ending }
+    /// What the next statement is to begin with, if anything came; of a setup, its tokens and targets do not count.
+    pub fn opening_due(&self) -> Option<&Opening>
+        ensures { option_copied result ≡ opening_due self.now.due }
     {
-        self.ending.as_ref()
+        self.due.opening()
     }
 
-    /// What the statements come to.
+    /// What the statements since the last setup come to.
     pub fn totals(&self) -> &Totals
         ensures { result.now ≡ self.now.totals }
     {
         &self.totals
     }
 
-    /// Takes the next statement of the tenant: a good one, which begins with what the one before it ended with.
+    /// What is told of the peers of the runs that ended.
+    pub fn past_lines(&self) -> &[Line]
+        ensures { result.now ≡ self.now.past.lines.items }
+    {
+        self.past.lines.as_slice()
+    }
+
+    /// How many periods and records there are.
+    pub fn counts(&self) -> Summed<(u64, u64)>
+        ensures { IfOk result (λ counts. (counts.0 ≡ self.now.past.periods + self.now.totals.periods)
+            × (counts.1 ≡ self.now.past.entries + self.now.totals.entries)) }
+    {
+        let periods = raised(self.past.periods, self.totals.periods)?;
+        let entries = raised(self.past.entries, self.totals.entries)?;
+        Ok((periods, entries))
+    }
+
+    /// Takes the next statement of the tenant: a good one, which begins with what the one before it ended with, or as the first
+    /// period of the setup before it does.
     ///
     /// So there are closed periods, one for each text so far, each of which is what the rules lead to from its opening on, and
-    /// each goes on where the one before it ended: all are one tenant's. Where it is refused, nothing has changed.
+    /// each goes on where the one before it ended, or where the setup between them begins, which has what the one before it
+    /// ended with: all are one tenant's. Where it is refused, nothing has changed.
     pub fn add(&mut self, alloc: Global, text: &[u8]) -> Result<(), ReadError<ChainFault>>
-        ensures chain { OnOk result ((texts : List (List ℕ)) → IsChain texts self.old → IsChain (texts ++ text.now ∷ []) self.new) }
-        ensures apart { (line : ℕ) → result ≡ Err (read_error.Fault (fault.Apart line)) → IsApart text.now self.old.ending }
+        ensures chain { OnOk result ((links : List Link) → IsChain links self.old → IsChain (links ++ Stated text.now ∷ []) self.new) }
+        ensures apart { (line : ℕ) → result ≡ Err (read_error.Fault (fault.Apart line)) → IsApart text.now self.old.due }
         ensures err { OnErr result (self.new ≡ self.old) }
     {
         let gone = gone_of(alloc, text)?;
         laws::period_is_kept(&gone.period);
         if !self.is_followed(&gone.period) {
-            let line = self.apart(alloc, text)?;
-            return Err(ReadError::Fault(ChainFault::Apart(line)));
+            return Err(ReadError::Fault(self.apart(alloc, text)?));
         }
         let ending = gone.period.ending().copy(alloc)?;
         match self.totals.with(alloc, &gone) {
             Ok(totals) => {
                 self.totals = totals;
-                self.ending = Some(ending);
+                self.due = Due::Ending(ending);
+                Ok(())
+            }
+            Err(ReadError::Memory) => Err(ReadError::Memory),
+            Err(ReadError::Fault(Long)) => Err(ReadError::Fault(ChainFault::Long)),
+        }
+    }
+
+    /// Takes a setup that the service began with, which has the tenant at that place and starts at that moment. Where anything came
+    /// before, it is to have what was due of the tenant, as a running service writes it: the same terms, peers with the same
+    /// balances, routes and rates. Tokens and targets are not compared. Where it is refused, nothing has changed.
+    pub fn begin(
+        &mut self,
+        alloc: Global,
+        place: usize,
+        setup: &TenantSetup,
+        start: Moment,
+    ) -> Result<(), ReadError<ChainFault>>
+        ensures chain { OnOk result ((links : List Link) → IsChain links self.old → IsChain (links ++ Begun (start_at place setup.now start) ∷ []) self.new) }
+        ensures err { OnErr result (self.new ≡ self.old) }
+    {
+        if !self.is_continued(alloc, setup)? {
+            return Err(ReadError::Fault(ChainFault::Changed));
+        }
+        let opening = Opening::first(alloc, place, setup, start)?;
+        match self.past_anew(alloc, setup) {
+            Ok(past) => {
+                self.past = past;
+                self.totals = Totals::new(alloc);
+                self.due = Due::Setup(opening);
                 Ok(())
             }
             Err(ReadError::Memory) => Err(ReadError::Memory),

@@ -15,7 +15,7 @@ use ilp_addr::{Address, Moment};
 use std::alloc::Global;
 use tenant_core::{
     Answered, Book, Change, Command, CommandFault, Entry, Hold, OpeningFault, Outcome, PeerNo,
-    Period, Verdict,
+    Period, Verdict, laws,
 };
 use thiserror::Error;
 
@@ -182,7 +182,7 @@ pub fn gone_over(alloc: Global, text: &[u8]) -> Checked<Gone>
     Err(bad(StatementFault::Unclosed))
 }
 
-// The line of a text that first differs from the other's.
+/// The line of a text that first differs from the other's, counted from 1.
 pub fn first_difference(text: &[u8], other: &[u8]) -> usize {
     let mut line: usize = 1;
     for (one, two) in text.iter().zip(other.iter()) {
@@ -203,9 +203,7 @@ pub fn checked(alloc: Global, text: &[u8]) -> Checked<Gone>
     ensures gone { IfOk result IsGone }
 {
     let gone = gone_over(alloc, text)?;
-    if let Some(fault) = gone.period.opening().fault() {
-        return Err(limit(fault));
-    }
+    laws::period_is_kept(&gone.period);
     let written = write_statement(alloc, &gone.period)?;
     if written.as_slice() == text {
         Ok(gone)

@@ -4,7 +4,10 @@
 mod chain;
 mod checked;
 mod counting;
+mod due;
 mod entry;
+mod known;
+mod line;
 mod opening;
 mod put;
 mod seen;
@@ -17,9 +20,13 @@ mod words;
 mod written;
 
 pub use chain::{Chain, ChainFault};
-pub use checked::{StatementFault, check_statement};
+pub use checked::{StatementFault, check_statement, first_difference};
+pub use entry::entry_in;
+pub use line::{Line, Told};
+pub use put::put_number;
 pub use seen::PeerSeen;
-pub use shown::{line_apart, line_at, line_of, ruled};
-pub use tally::Tally;
+pub use shown::{SetupLines, line_at, line_of, ruled};
+pub use tally::{Long, Summed, Tally};
 pub use totals::Totals;
-pub use written::{opens_with, write_head, write_statement};
+pub use words::LineWords;
+pub use written::{put_record, write_head, write_statement};

@@ -4,14 +4,14 @@ ghost use Rattle.std.specs.Prelude.{◌≡◌, ◌++◌, OnOk};
 ghost use Rattle.hex.specs.Hex.{encode_lower};
 ghost use Rattle.std.specs.Fmt.{signed_decimal};
 ghost use Rattle.statements.specs.Statement.{word, number, role_word, prefix_word, limits_words, bucket_words, terms_words, hop_words};
-ghost use Rattle.statements.specs.Statement.{rate_words, code_word, verdict_words, outcome_words, answer_words, change_verb, change_parts, change_words};
+ghost use Rattle.statements.specs.Statement.{rate_words, verdict_words, outcome_words, answer_words, change_verb, change_parts, change_words};
 
 use ilp_addr::Prefix;
 use itoa::Buffer;
 use std::alloc::AllocError;
 use tenant_core::{
-    AnswerKey, BucketTerms, Change, Hop, Outcome, PeerLimits, PeerTerms, RateTerms, RejectCode,
-    Role, Side, Verdict,
+    AnswerKey, BucketTerms, Change, Hop, Outcome, PeerLimits, PeerTerms, RateTerms, Role, Side,
+    Verdict,
 };
 
 pub fn put_word(out: &mut Vec<u8>, text: &[u8]) -> Result<(), AllocError>
@@ -21,6 +21,7 @@ pub fn put_word(out: &mut Vec<u8>, text: &[u8]) -> Result<(), AllocError>
     out.extend_from_slice(text)
 }
 
+/// Puts a number behind a text, after a space. The one error is that memory was refused.
 pub fn put_number(out: &mut Vec<u8>, value: u64) -> Result<(), AllocError>
     ensures { OnOk result (out.new.items ≡ out.old.items ++ number value) }
 {
@@ -114,25 +115,6 @@ pub fn put_rate(out: &mut Vec<u8>, rate: &RateTerms) -> Result<(), AllocError>
     put_number(out, rate.rate.denominator())
 }
 
-pub fn code_word(code: RejectCode) -> &'static [u8]
-    ensures { result.now ≡ code_word code }
-{
-    match code {
-        RejectCode::BadRequest => b"F00",
-        RejectCode::Unreachable => b"F02",
-        RejectCode::InvalidAmount => b"F03",
-        RejectCode::WrongCondition => b"F05",
-        RejectCode::AmountTooLarge => b"F08",
-        RejectCode::PeerUnreachable => b"T01",
-        RejectCode::Busy => b"T03",
-        RejectCode::InsufficientLiquidity => b"T04",
-        RejectCode::RateLimited => b"T05",
-        RejectCode::TimedOut => b"R00",
-        RejectCode::InsufficientSource => b"R01",
-        RejectCode::InsufficientTimeout => b"R02",
-    }
-}
-
 #[tactic(auto, unfolding(crate::specs::Statement::verdict_words))]
 fn put_verdict(out: &mut Vec<u8>, verdict: Verdict) -> Result<(), AllocError>
     ensures { OnOk result (out.new.items ≡ out.old.items ++ verdict_words verdict) }
@@ -145,14 +127,14 @@ fn put_verdict(out: &mut Vec<u8>, verdict: Verdict) -> Result<(), AllocError>
             amounts: None,
         } => {
             out.extend_from_slice(b" refuse")?;
-            put_word(out, code_word(code))
+            put_word(out, code.letters().as_slice())
         }
         Verdict::Refuse {
             code,
             amounts: Some((amount, greatest)),
         } => {
             out.extend_from_slice(b" refuse")?;
-            put_word(out, code_word(code))?;
+            put_word(out, code.letters().as_slice())?;
             put_number(out, amount)?;
             put_number(out, greatest)
         }

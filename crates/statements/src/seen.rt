@@ -20,14 +20,21 @@ pub struct PeerSeen {
     pub began: i64,
 }
 
-fn put_seen(out: &mut Vec<PeerSeen>, seen: &PeerSeen) -> Result<(), AllocError>
-    ensures { OnOk result (out.new.items ≡ out.old.items ++ seen.now ∷ []) }
+/// The same once more.
+pub fn copy_of(seen: &PeerSeen) -> PeerSeen
+    ensures { result ≡ seen.now }
 {
-    Ok(out.push(PeerSeen {
+    PeerSeen {
         number: seen.number,
         name: seen.name.copy(),
         began: seen.began,
-    })?)
+    }
+}
+
+fn put_seen(out: &mut Vec<PeerSeen>, seen: &PeerSeen) -> Result<(), AllocError>
+    ensures { OnOk result (out.new.items ≡ out.old.items ++ seen.now ∷ []) }
+{
+    Ok(out.push(copy_of(seen))?)
 }
 
 fn copied(alloc: Global, peers: &[PeerSeen]) -> Result<Vec<PeerSeen>, AllocError>
@@ -102,21 +109,32 @@ fn put_all_added(out: &mut Vec<PeerSeen>, records: &Records, first: PeerNo) -> S
     Ok(())
 }
 
-/// The peers that were there, and those that a period more added; and those that it began with, if it is the first.
-pub fn seen_with(
+/// The peers that were there as the first period began: those of this one, if it is the first.
+pub fn first_with(
     alloc: Global,
-    peers: &[PeerSeen],
+    first: &[PeerSeen],
     is_first: bool,
     period: &Period,
 ) -> Summed<Vec<PeerSeen>>
-    ensures { IfOk result (λ all. all.items
-        ≡ (peers.now ++ (if is_first then map seen_at_first period.now.opening.network.peers else [])) ++ seen_during period.now) }
+    ensures { IfOk result (λ all. all.items ≡ (if is_first then map seen_at_first period.now.opening.network.peers else first.now)) }
 {
-    let mut all = copied(alloc, peers)?;
-    let network = &period.opening().network;
-    if is_first {
-        put_all_first(&mut all, network.peers())?;
+    if !is_first {
+        return Ok(copied(alloc, first)?);
     }
-    put_all_added(&mut all, period.records(), network.next_peer())?;
+    let mut all = Vec::new(alloc);
+    put_all_first(&mut all, period.opening().network.peers())?;
+    Ok(all)
+}
+
+/// The peers that were added, and those that a period more added.
+pub fn added_with(alloc: Global, added: &[PeerSeen], period: &Period) -> Summed<Vec<PeerSeen>>
+    ensures { IfOk result (λ all. all.items ≡ added.now ++ seen_during period.now) }
+{
+    let mut all = copied(alloc, added)?;
+    put_all_added(
+        &mut all,
+        period.records(),
+        period.opening().network.next_peer(),
+    )?;
     Ok(all)
 }

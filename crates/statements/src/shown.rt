@@ -1,12 +1,14 @@
 //! Where a text is not good, for people: which line, and what the rules lead to there. No clause says which line is shown.
 
-use crate::chain::{Chain, ChainFault};
-use crate::checked::{StatementFault, gone_over};
+use crate::chain::{Chain, ChainFault, present};
+use crate::checked::{StatementFault, first_difference, gone_over};
+use crate::put::{put_number, put_prefix, put_signed, put_terms, put_word};
 use crate::words::Lines;
 use crate::written::{write_head, write_statement};
 use common_types::{ReadError, first_word};
+use route_table::Route;
 use std::alloc::{AllocError, Global};
-use tenant_core::Opening;
+use tenant_core::{Network, Peer, PeerNo, RateTerms, TenantSetup, TenantTerms};
 
 /// The lines that may stand before the records.
 const HEAD_LINES: usize = 3 + 256 + 4_096 + 4_096;
@@ -37,9 +39,9 @@ fn head_lines(text: &[u8]) -> usize {
 /// The line that a fault of a text is about, counted from 1, where it is about one.
 pub fn line_of(text: &[u8], fault: ChainFault) -> Option<usize> {
     match fault {
-        ChainFault::Apart(line) | ChainFault::Statement(StatementFault::Differs(line)) => Some(
-            line,
-        ),
+        ChainFault::Apart(line)
+        | ChainFault::Unlike(line)
+        | ChainFault::Statement(StatementFault::Differs(line)) => Some(line),
         ChainFault::Statement(StatementFault::Entry(place) | StatementFault::Refused(place)) => {
             Some(head_lines(text).saturating_add(place).saturating_add(1))
         }
@@ -53,20 +55,106 @@ pub fn ruled(alloc: Global, text: &[u8]) -> Result<Vec<u8>, ReadError<StatementF
     Ok(write_statement(alloc, &gone_over(alloc, text)?.period)?)
 }
 
-/// The line from which a text does not begin as a period with that opening is written, counted from 1. The one error is that
-/// memory was refused.
-pub fn line_apart(alloc: Global, text: &[u8], opening: &Opening) -> Result<usize, AllocError> {
-    let head = write_head(alloc, opening)?;
-    Ok(crate::checked::first_difference(text, head.as_slice()))
+// The place of the peer of that number.
+fn place_of(network: &Network, number: PeerNo) -> u64 {
+    network.place_numbered(number).unwrap_or(0) as u64
+}
+
+fn put_peer(out: &mut Vec<u8>, place: usize, peer: &Peer) -> Result<(), AllocError> {
+    out.extend_from_slice(b"peer")?;
+    put_number(out, place as u64)?;
+    put_terms(out, &peer.terms)?;
+    put_signed(out, peer.balance.get())?;
+    out.extend_from_slice(b"\n")
+}
+
+fn put_route(out: &mut Vec<u8>, network: &Network, route: &Route) -> Result<(), AllocError> {
+    out.extend_from_slice(b"route")?;
+    put_prefix(out, &route.prefix)?;
+    put_number(out, place_of(network, route.hop.peer))?;
+    put_number(out, route.hop.fee.get())?;
+    out.extend_from_slice(b"\n")
+}
+
+fn put_rate(out: &mut Vec<u8>, network: &Network, rate: &RateTerms) -> Result<(), AllocError> {
+    out.extend_from_slice(b"rate")?;
+    put_number(out, place_of(network, rate.from))?;
+    put_number(out, place_of(network, rate.to))?;
+    put_number(out, rate.rate.numerator())?;
+    put_number(out, rate.rate.denominator())?;
+    out.extend_from_slice(b"\n")
+}
+
+fn put_tenant(out: &mut Vec<u8>, terms: &TenantTerms) -> Result<(), AllocError> {
+    out.extend_from_slice(b"tenant")?;
+    put_word(out, terms.name.as_bytes())?;
+    put_word(out, terms.address.as_bytes())?;
+    put_number(out, terms.journal)?;
+    put_number(out, terms.margin)?;
+    put_number(out, terms.hold)?;
+    out.extend_from_slice(b"\n")
+}
+
+// What a setup says of a tenant, in the words of a statement: peers by their places, and nothing of their buckets.
+fn setup_text(alloc: Global, terms: &TenantTerms) -> Result<Vec<u8>, AllocError> {
+    let network = &terms.network;
+    let mut out = Vec::new(alloc);
+    put_tenant(&mut out, terms)?;
+    for (place, peer) in network.peers().iter().enumerate() {
+        put_peer(&mut out, place, peer)?;
+    }
+    for route in &network.routes().list(alloc)? {
+        put_route(&mut out, network, route)?;
+    }
+    for rate in network.rates() {
+        put_rate(&mut out, network, rate)?;
+    }
+    Ok(out)
+}
+
+/// The first line in which a setup does not say of a tenant what was due, in the words of a statement: as it is, and as it has
+/// to be. Empty, where nothing is left to be said there.
+#[derive(Drop)]
+pub struct SetupLines {
+    pub said: Vec<u8>,
+    pub due: Vec<u8>,
+}
+
+fn line_in(alloc: Global, text: &[u8], line: usize) -> Result<Vec<u8>, AllocError> {
+    Vec::from_slice(alloc, line_at(text, line).unwrap_or(&[]))
 }
 
 impl Chain {
-    /// What the next statement is to begin with: all that stands before its records; nothing where there was no statement. The
-    /// one error is that memory was refused.
+    /// What the next statement is to begin with: all that stands before its records; nothing where nothing came before. The one
+    /// error is that memory was refused.
     pub fn next_head(&self, alloc: Global) -> Result<Vec<u8>, AllocError> {
-        match self.ending() {
-            Some(ending) => write_head(alloc, ending),
+        match self.opening_due() {
+            Some(opening) => write_head(alloc, opening),
             None => Ok(Vec::new(alloc)),
         }
+    }
+
+    /// Where a setup does not have what is due of the tenant; `None` where nothing is due. The one error is that memory was refused.
+    pub fn differing_lines(
+        &self,
+        alloc: Global,
+        setup: &TenantSetup,
+    ) -> Result<Option<SetupLines>, AllocError> {
+        let Some(opening) = self.opening_due() else {
+            return Ok(None);
+        };
+        let terms = setup.terms();
+        let Ok(present) = present(alloc, opening, terms.admin.copy()) else {
+            return Ok(None);
+        };
+        let (said, due) = (
+            setup_text(alloc, terms)?,
+            setup_text(alloc, present.terms())?,
+        );
+        let line = first_difference(said.as_slice(), due.as_slice());
+        Ok(Some(SetupLines {
+            said: line_in(alloc, said.as_slice(), line)?,
+            due: line_in(alloc, due.as_slice(), line)?,
+        }))
     }
 }

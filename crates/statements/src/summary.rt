@@ -1,43 +1,18 @@
 //! What statements come to, in lines.
 
-ghost use Rattle.std.specs.Prelude.{◌≡◌, ◌++◌, IfOk, List, ℕ, OnOk, option_copied};
+ghost use Rattle.std.specs.Prelude.{◌≡◌, ◌++◌, IfOk, List, OnOk};
 ghost use Rattle.std.specs.List.{flat_map};
-ghost use Rattle.statements.specs.Chain.{IsChain};
-ghost use Rattle.statements.specs.Summary.{balance_in, chain_text, good_line, in_words, keyed, keyed_signed};
-ghost use Rattle.statements.specs.Summary.{out_words, seen_line, seen_words, summary_text, told_by, told_line};
+ghost use Rattle.statements.specs.Chain.{IsChain, Link};
+ghost use Rattle.statements.specs.Summary.{chain_text, good_line, in_words, keyed, keyed_signed, line_text};
+ghost use Rattle.statements.specs.Summary.{out_words, seen_words, summary_text, told_line};
 
 use crate::chain::Chain;
+use crate::line::{Line, Told, lines_of};
 use crate::put::{put_number, put_signed, put_word};
 use crate::seen::PeerSeen;
+use crate::tally::Summed;
 use itoa::Buffer;
 use std::alloc::{AllocError, Global};
-use tenant_core::{Opening, PeerNo};
-
-/// What is told of a peer, in its units: what it owes in the end, what came in from it and went out to it, and the fees.
-#[derive(Clone, Copy, Debug, PartialEq, Eq)]
-struct Told {
-    ended: i64,
-    came: u128,
-    fulfilled_in: u128,
-    settled_in: u128,
-    went: u128,
-    fulfilled_out: u128,
-    settled_out: u128,
-    fees: u128,
-}
-
-// What the peer of that number owes where that is the ending.
-fn balance_in(ending: Option<&Opening>, peer: PeerNo) -> i64
-    ensures { result ≡ balance_in (option_copied ending.entry) peer }
-{
-    let Some(ending) = ending else {
-        return 0;
-    };
-    match ending.network.place_numbered(peer) {
-        Some(place) => ending.network.peers()[place].balance.get(),
-        None => 0,
-    }
-}
 
 #[tactic(auto, unfolding(crate::specs::Summary::keyed))]
 fn put_keyed(out: &mut Vec<u8>, key: &[u8], value: u128) -> Result<(), AllocError>
@@ -54,23 +29,6 @@ fn put_keyed_signed(out: &mut Vec<u8>, key: &[u8], value: i64) -> Result<(), All
 {
     put_word(out, key)?;
     put_signed(out, value)
-}
-
-// What a chain tells of a peer.
-fn told_by(chain: &Chain, peer: PeerNo) -> Told
-    ensures { result ≡ told_by chain.now peer }
-{
-    let totals = chain.totals();
-    Told {
-        ended: balance_in(chain.ending(), peer),
-        came: totals.came.get(peer),
-        fulfilled_in: totals.fulfilled_in.get(peer),
-        settled_in: totals.settled_in.get(peer),
-        went: totals.went.get(peer),
-        fulfilled_out: totals.fulfilled_out.get(peer),
-        settled_out: totals.settled_out.get(peer),
-        fees: totals.fees.get(peer),
-    }
 }
 
 #[tactic(auto, unfolding(crate::specs::Summary::in_words))]
@@ -113,17 +71,11 @@ fn put_line(out: &mut Vec<u8>, seen: &PeerSeen, told: &Told) -> Result<(), Alloc
     Ok(out.push(b'\n')?)
 }
 
-fn put_seen(out: &mut Vec<u8>, chain: &Chain, seen: &PeerSeen) -> Result<(), AllocError>
-    ensures { OnOk result (out.new.items ≡ out.old.items ++ seen_line (told_by chain.now) seen.now) }
+fn put_lines(out: &mut Vec<u8>, lines: &[Line]) -> Result<(), AllocError>
+    ensures { OnOk result (out.new.items ≡ out.old.items ++ flat_map line_text lines.now) }
 {
-    put_line(out, seen, &told_by(chain, seen.number))
-}
-
-fn put_all_seen(out: &mut Vec<u8>, chain: &Chain, peers: &[PeerSeen]) -> Result<(), AllocError>
-    ensures { OnOk result (out.new.items ≡ out.old.items ++ flat_map (seen_line (told_by chain.now)) peers.now) }
-{
-    for seen in peers {
-        put_seen(out, chain, seen)?;
+    for line in lines {
+        put_line(out, &line.seen, &line.told)?;
     }
     Ok(())
 }
@@ -139,23 +91,24 @@ fn put_good(out: &mut Vec<u8>, periods: u64, entries: u64) -> Result<(), AllocEr
 }
 
 // The lines as the chain's own sums tell them.
-fn chain_text(alloc: Global, chain: &Chain) -> Result<Vec<u8>, AllocError>
+fn chain_text(alloc: Global, chain: &Chain) -> Summed<Vec<u8>>
     ensures { IfOk result (λ text. text.items ≡ chain_text chain.now) }
 {
-    let totals = chain.totals();
+    let (periods, entries) = chain.counts()?;
+    let lines = lines_of(alloc, chain)?;
     let mut out = Vec::new(alloc);
-    put_good(&mut out, totals.periods, totals.entries)?;
-    put_all_seen(&mut out, chain, totals.peers.as_slice())?;
+    put_good(&mut out, periods, entries)?;
+    put_lines(&mut out, lines.as_slice())?;
     Ok(out)
 }
 
 impl Chain {
     /// What the statements come to: `good`, how many there are and how many records they have; and for each peer that was there
-    /// a line of what it owed at first and in the end, what came in from it and went out to it, and the fees. The one error is
-    /// that memory was refused.
+    /// a line of what it owed at first and in the end, what came in from it and went out to it, and the fees. The fault is that a
+    /// sum has no room.
     #[tactic(auto, using(crate::proofs::SummarySteps::chain_text_is))]
-    pub fn summary(&self, alloc: Global) -> Result<Vec<u8>, AllocError>
-        ensures { IfOk result (λ text. (texts : List (List ℕ)) (chain : IsChain texts self.now) → text.items ≡ summary_text chain.periods) }
+    pub fn summary(&self, alloc: Global) -> Summed<Vec<u8>>
+        ensures { IfOk result (λ text. (links : List Link) (chain : IsChain links self.now) → text.items ≡ summary_text chain.done chain.periods) }
     {
         chain_text(alloc, self)
     }

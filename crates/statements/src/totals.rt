@@ -7,7 +7,7 @@ ghost use Rattle.tenant_core.specs.declared.period.PeriodParts.{PeriodParts};
 
 use crate::checked::Gone;
 use crate::counting::{OfHold, OfRecord, with_fees, with_holds, with_records};
-use crate::seen::{PeerSeen, seen_with};
+use crate::seen::{PeerSeen, added_with, first_with};
 use crate::tally::{LONG, Summed, Tally};
 use std::alloc::Global;
 
@@ -16,7 +16,10 @@ use std::alloc::Global;
 pub struct Totals {
     pub periods: u64,
     pub entries: u64,
-    pub peers: Vec<PeerSeen>,
+    /// The peers that were there as the first period began.
+    pub first: Vec<PeerSeen>,
+    /// Those that were added since.
+    pub added: Vec<PeerSeen>,
     pub came: Tally,
     pub went: Tally,
     pub fulfilled_in: Tally,
@@ -27,7 +30,7 @@ pub struct Totals {
 }
 
 // A count and so many more.
-fn raised(count: u64, more: u64) -> Summed<u64>
+pub fn raised(count: u64, more: u64) -> Summed<u64>
     ensures { IfOk result (λ sum. sum ≡ count + more) }
 {
     count.checked_add(more).ok_or(LONG)
@@ -41,7 +44,8 @@ impl Totals {
         Totals {
             periods: 0,
             entries: 0,
-            peers: Vec::new(alloc),
+            first: Vec::new(alloc),
+            added: Vec::new(alloc),
             came: Tally::new(alloc),
             went: Tally::new(alloc),
             fulfilled_in: Tally::new(alloc),
@@ -62,7 +66,8 @@ impl Totals {
         Ok(Totals {
             periods: raised(self.periods, 1)?,
             entries: raised(self.entries, period.len() as u64)?,
-            peers: seen_with(alloc, self.peers.as_slice(), self.periods == 0, period)?,
+            first: first_with(alloc, self.first.as_slice(), self.periods == 0, period)?,
+            added: added_with(alloc, self.added.as_slice(), period)?,
             came: with_records(alloc, &self.came, period, OfRecord::Came)?,
             went: with_holds(alloc, &self.went, period, holds, OfHold::Went)?,
             fulfilled_in: with_holds(alloc, &self.fulfilled_in, period, holds, OfHold::Brought)?,

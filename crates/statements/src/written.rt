@@ -1,9 +1,9 @@
 //! Statements, as they are written.
 
-ghost use Rattle.std.specs.Prelude.{◌≡◌, ◌++◌, IfOk, IsTrue, OnOk, Some};
+ghost use Rattle.std.specs.Prelude.{◌≡◌, ◌++◌, IfOk, OnOk, Some};
 ghost use Rattle.std.specs.List.{flat_map, slice_get};
 ghost use Rattle.statements.specs.Statement.{decide_words, entry_words, record_line, tenant_line, period_line, peer_line, route_line, rate_line};
-ghost use Rattle.statements.specs.Statement.{opening_text, version_line, head_text, ending_text, statement_text, IsHead, IsStatement, OpensWith};
+ghost use Rattle.statements.specs.Statement.{opening_text, version_line, head_text, ending_text, statement_text, IsHead, IsStatement};
 ghost use Rattle.std.specs.Fmt.{decimal};
 ghost use Rattle.tenant_core.specs.State.{entered_at};
 ghost use Rattle.tenant_core.specs.declared.journal.Record.{Record};
@@ -61,8 +61,9 @@ fn put_moment(out: &mut Vec<u8>, moment: u64) -> Result<(), AllocError>
     out.extend_from_slice(digits.format(moment).as_bytes())
 }
 
+/// Puts the line of a record behind a text. The one error is that memory was refused.
 #[tactic(auto, unfolding(crate::specs::Statement::record_line))]
-fn put_record(out: &mut Vec<u8>, view: &RecordView<'_>) -> Result<(), AllocError>
+pub fn put_record(out: &mut Vec<u8>, view: &RecordView<'_>) -> Result<(), AllocError>
     ensures { OnOk result (out.new.items ≡ out.old.items ++ record_line (record_of view.now)) }
 {
     put_moment(out, moment_of(&view.entry))?;
@@ -229,19 +230,6 @@ pub fn write_head(alloc: Global, opening: &Opening) -> Result<Vec<u8>, AllocErro
     let mut out = Vec::new(alloc);
     put_head(&mut out, routes.as_slice(), opening)?;
     Ok(out)
-}
-
-/// Whether a text begins with all that stands before the records of a statement whose period has that opening. The one error
-/// is that memory was refused.
-pub fn opens_with(alloc: Global, text: &[u8], opening: &Opening) -> Result<bool, AllocError>
-    ensures { IfOk result (λ is. IsTrue is → OpensWith text.now opening.now) }
-{
-    let head = write_head(alloc, opening)?;
-    if head.len() > text.len() {
-        return Ok(false);
-    }
-    let (front, _) = text.split_at(head.len());
-    Ok(front == head.as_slice())
 }
 
 /// The text of a closed period. The one error is want of memory.

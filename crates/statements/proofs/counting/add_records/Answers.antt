@@ -1,4 +1,4 @@
-use Rattle.std.proofs.Common.{◌≡◌, ◌+◌, ℕ, List, inl, inr, arith}
+use Rattle.std.proofs.Common.{ℕ, List, inl, inr, arith}
 use Rattle.std.proofs.lemmas.Option.{slice_get_cases}
 use Rattle.tenant_core.specs.declared.journal.Record.{Record}
 use Rattle.statements.specs.Sums.{by_record}

@@ -1,11 +1,11 @@
-use Rattle.std.proofs.Common.{◌≡◌, ◌++◌, ℕ, List, take, inl, inr, sym, ap, ◌∙◌, arith}
+use Rattle.std.proofs.Common.{◌++◌, ℕ, List, take, inl, inr, sym, ap, ◌∙◌, arith}
 use Rattle.std.proofs.lemmas.List.{append_assoc}
 use Rattle.std.proofs.lemmas.Option.{slice_get_cases}
 use Rattle.statements.specs.Seen.{seen_among, seen_by}
 use Rattle.statements.specs.declared.seen.PeerSeen.{PeerSeen}
 use Rattle.tenant_core.specs.Peers.{next_by}
 use Rattle.tenant_core.specs.declared.journal.Record.{Record}
-use Rattle.statements.proofs.SeenSteps.{next_after, next_more, seen_more}
+use Rattle.statements.proofs.SeenSteps.{next_more, seen_more}
 use Rattle.statements.proofs.seen.put_all_added.Goals as goal
 
 pub loop-place-preserved : goal.loop-place-preserved

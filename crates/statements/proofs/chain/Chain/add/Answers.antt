@@ -1,5 +1,5 @@
-use Rattle.std.proofs.Common.{◌≡◌, true, ap, ◌∙◌}
-use Rattle.std.specs.Prelude.{Some}
+use Rattle.std.proofs.Common.{◌≡◌, true, ap, refl, ◌∙◌}
+use Rattle.statements.specs.declared.due.Due.TheVariants.{Ending}
 use Rattle.tenant_core.specs.declared.period.PeriodParts.{PeriodParts}
 use Rattle.statements.proofs.ChainSteps.{chain_more}
 use Rattle.statements.proofs.chain.Chain.add.Goals as goal
@@ -9,14 +9,14 @@ returns-then-not-is_followed-clause-apart c = λ line is. record {
   period = c.in_ok-gone.gone.period;
   stated = c.in_ok-gone.ensures.stated;
   closed = c.period_is_kept.ensures;
-  apart = λ follows.
-      let yes : c.is_followed.result ≡ true = c.is_followed.ensures.1 follows in
+  apart = λ opens.
+      let yes : c.is_followed.result ≡ true = c.is_followed.ensures.1 opens in
       let no = c.if-not-is_followed.true in
       cc;
 }
 
 pub returns-in-Ok-clause-chain : goal.returns-in-Ok-clause-chain
-returns-in-Ok-clause-chain c = λ texts chain.
+returns-in-Ok-clause-chain c = λ links chain.
     let p : PeriodParts = c.in_ok-gone.gone.period in
-    chain_more texts c.args.self.now _ c.args.text.now p c.in_ok-gone.ensures.stated c.period_is_kept.ensures
-    (c.is_followed.ensures.0 c.if-not-is_followed.false) (ap Some (c.in_ok-ending.ensures ∙ c.ending.ensures)) c.in-Ok.ensures chain
+    chain_more links c.args.self.now _ c.args.text.now p c.in_ok-gone.ensures.stated c.period_is_kept.ensures
+    (c.is_followed.ensures.0 c.if-not-is_followed.false) (ap Ending (c.in_ok-ending.ensures ∙ c.ending.ensures)) refl c.in-Ok.ensures chain

@@ -1,4 +1,4 @@
-use Rattle.std.proofs.Common.{◌≡◌, ◌+◌, ℕ, List, [], ◌∷◌, ◌++◌, length, refl, ap, sym, ◌∙◌, arith}
+use Rattle.std.proofs.Common.{◌≡◌, ℕ, List, [], ◌∷◌, length, refl, ap, ◌∙◌, arith}
 use Rattle.std.specs.Prelude.{sum_by}
 use Rattle.std.specs.List.{zip}
 use Rattle.std.proofs.lemmas.List.{length-append}
@@ -8,10 +8,9 @@ use Rattle.tenant_core.specs.Holds.{holds_of}
 use Rattle.tenant_core.specs.Closing.{state_before_roll}
 use Rattle.tenant_core.specs.declared.hold.Hold.{Hold}
 use Rattle.tenant_core.specs.declared.period.PeriodParts.{PeriodParts}
-use Rattle.statements.specs.Fees.{fees_of}
 use Rattle.statements.specs.Sums.{fee_by, went_by}
 use Rattle.statements.specs.Totals.{came_from, went_to, fulfilled_from, fulfilled_to, settled_from, settled_to, fees_from}
-use Rattle.statements.proofs.TotalSteps.{seen_more, sum_more}
+use Rattle.statements.proofs.TotalSteps.{added_more, first_more, sum_more}
 use Rattle.statements.proofs.totals.Totals.with.Goals as goal
 
 pub returns : goal.returns
@@ -22,7 +21,8 @@ returns c = λ ps were.
     record {
       periods = c.in_ok-raised.ensures ∙ (let was = were.periods in let long = length-append ps (p ∷ []) in omega arith);
       entries = c.in_ok-raised-2.ensures ∙ (let was = were.entries in let more = sum_by_push (λ (q : PeriodParts). length q.records) ps p in omega arith);
-      peers = c.in_ok-seen_with.ensures ∙ seen_more c.args.self.now.periods c.as_slice.result.now ps p were.periods (c.as_slice.ensures.value ∙ were.peers);
+      first = c.in_ok-first_with.ensures ∙ first_more c.args.self.now.periods c.as_slice.result.now ps p were.periods (c.as_slice.ensures.value ∙ were.first);
+      added = c.in_ok-added_with.ensures ∙ added_more c.as_slice-2.result.now ps p (c.as_slice-2.ensures.value ∙ were.added);
       came = sum_more came_from _ c.args.self.now.came c.in_ok-with_records.field-0 ps p were.came c.in_ok-with_records.ensures (λ n. refl);
       went = sum_more went_to _ c.args.self.now.went c.in_ok-with_holds.field-0 ps p were.went c.in_ok-with_holds.ensures
           (λ n. ap (λ (xs : List Hold). sum_by (went_by n) xs) same);

@@ -1,0 +1,98 @@
+-- What two tellings of a tenant have in common: all but the tokens and the targets of its peers, which no statement has; and,
+-- where one of them is a setup, but the numbers of its peers and what their buckets hold, which no setup has.
+use Rattle.std.specs.Prelude.{ℕ, ℤ, ◌≡◌, ◌==◌, List, ◌∷◌, map, Option, Some, None, unwrap_or, if◌then◌else◌}
+use Rattle.ildcp_core.specs.declared.child.Role.{Role}
+use Rattle.route_table.specs.Routes.{RouteMap}
+use Rattle.route_table.specs.declared.route.Route.{Route}
+use Rattle.statements.specs.Statement.{AreRoutesOf}
+use Rattle.tenant_core.specs.declared.opening.Opening.{Opening}
+use Rattle.tenant_core.specs.declared.peer.Level.{Level}
+use Rattle.tenant_core.specs.declared.peer.Peer.{Peer}
+use Rattle.tenant_core.specs.declared.terms.BucketTerms.{BucketTerms}
+use Rattle.tenant_core.specs.declared.terms.PeerLimits.{PeerLimits}
+use Rattle.tenant_core.specs.declared.terms.RateTerms.{RateTerms}
+use Rattle.tenant_core.specs.declared.terms.TenantTerms.{TenantTerms}
+
+-- what is agreed with a peer, and what it owes
+pub record Known : Type 0 where
+  pub name : List ℕ
+  pub role : Role
+  pub asset : List ℕ
+  pub scale : ℕ
+  pub limits : PeerLimits
+  pub bucket : BucketTerms
+  pub balance : ℤ
+
+abbrev pub known : Peer → Known
+known p =
+    record {
+      name = p.terms.name;
+      role = p.terms.role;
+      asset = p.terms.asset;
+      scale = p.terms.scale;
+      limits = p.terms.limits;
+      bucket = p.terms.bucket;
+      balance = p.balance;
+    }
+
+-- the same under its number, with what its bucket holds: all that a statement has of a peer
+pub record Stated : Type 0 where
+  pub number : ℕ
+  pub known : Known
+  pub level : Level
+
+abbrev pub stated : Peer → Stated
+stated p = record { number = p.number; known = known p; level = p.bucket }
+
+-- two openings are the same, but for the tokens and the targets of peers
+pub record IsStatedAs (o other : Opening) : Type 0 where
+  pub tenant : o.tenant ≡ other.tenant
+  pub name : o.name ≡ other.name
+  pub address : o.address ≡ other.address
+  pub journal : o.journal ≡ other.journal
+  pub margin : o.margin ≡ other.margin
+  pub hold : o.hold ≡ other.hold
+  pub period : o.period ≡ other.period
+  pub clock : o.clock ≡ other.clock
+  pub next_hold : o.next_hold ≡ other.next_hold
+  pub next_peer : o.network.next_peer ≡ other.network.next_peer
+  pub peers : map stated o.network.peers ≡ map stated other.network.peers
+  pub routes : o.network.routes ≡ other.network.routes
+  pub rates : o.network.rates ≡ other.network.rates
+
+-- ---- numbered anew
+
+-- the number that a peer has among others, where these have it under that number
+abbrev pub anew : List Peer → List Peer → ℕ → Option ℕ
+anew (p ∷ ps) (q ∷ qs) n = if p.number == n then Some q.number else anew ps qs n
+anew ps qs n = None
+
+-- the same; 0 where none of these has that number
+abbrev pub anew_or : List Peer → List Peer → ℕ → ℕ
+anew_or ps qs n = unwrap_or (anew ps qs n) 0
+
+-- a route with its peer numbered so
+abbrev pub led : (ℕ → ℕ) → Route → Route
+led to r = record r { hop = record r.hop { peer = to r.hop.peer } }
+
+-- a rate with its peers numbered so
+abbrev pub rated : (ℕ → ℕ) → RateTerms → RateTerms
+rated to r = record r { from = to r.from; to = to r.to }
+
+-- the routes are the same, with their peers numbered so
+pub record AreLed (to : ℕ → ℕ) (routes others : RouteMap) : Type 0 where
+  pub listed : List Route
+  pub before : AreRoutesOf routes listed
+  pub after : AreRoutesOf others (map (led to) listed)
+
+-- one setup of a tenant says what the other one does, but for the tokens, the targets and the numbers of peers, and what their
+-- buckets hold
+pub record GoesOn (t other : TenantTerms) : Type 0 where
+  pub name : t.name ≡ other.name
+  pub address : t.address ≡ other.address
+  pub journal : t.journal ≡ other.journal
+  pub margin : t.margin ≡ other.margin
+  pub hold : t.hold ≡ other.hold
+  pub peers : map known t.network.peers ≡ map known other.network.peers
+  pub routes : AreLed (anew_or t.network.peers other.network.peers) t.network.routes other.network.routes
+  pub rates : map (rated (anew_or t.network.peers other.network.peers)) t.network.rates ≡ other.network.rates

@@ -1,0 +1,78 @@
+-- What is told of each peer that was there, over all runs of the service.
+use Rattle.std.specs.Prelude.{ℕ, ℤ, pos, ◌+◌, List, [], ◌∷◌, ◌++◌, map, sum_by, Option, Some, None, option_and_then}
+use Rattle.std.specs.List.{flat_map}
+use Rattle.statements.specs.Due.{due_after, opening_due}
+use Rattle.statements.specs.Known.{anew}
+use Rattle.statements.specs.Seen.{seen_before, seen_during}
+use Rattle.statements.specs.Totals.{came_from, fees_from, fulfilled_from, fulfilled_to, settled_from, settled_to, went_to}
+use Rattle.statements.specs.declared.due.Due.{Due}
+use Rattle.statements.specs.declared.line.Line.{Line}
+use Rattle.statements.specs.declared.line.Told.{Told}
+use Rattle.statements.specs.declared.seen.PeerSeen.{PeerSeen}
+use Rattle.tenant_core.specs.Network.{peer_numbered}
+use Rattle.tenant_core.specs.Purse.{opening_balance}
+use Rattle.tenant_core.specs.declared.opening.Opening.{Opening}
+use Rattle.tenant_core.specs.declared.peer.Peer.{Peer}
+use Rattle.tenant_core.specs.declared.period.PeriodParts.{PeriodParts}
+
+-- what the peer of that number owes where that is the ending; 0 where it was taken away
+abbrev pub balance_in : Option Opening → ℕ → ℤ
+balance_in None n = pos 0
+balance_in (Some ending) n = opening_balance (peer_numbered n ending.network.peers)
+
+-- what periods come to for a peer, after which that is due
+abbrev pub told_of : Due → List PeriodParts → ℕ → Told
+told_of due ps n =
+    record {
+      ended = balance_in (opening_due due) n;
+      came = sum_by (came_from n) ps;
+      fulfilled_in = sum_by (fulfilled_from n) ps;
+      settled_in = sum_by (settled_from n) ps;
+      went = sum_by (went_to n) ps;
+      fulfilled_out = sum_by (fulfilled_to n) ps;
+      settled_out = sum_by (settled_to n) ps;
+      fees = sum_by (fees_from n) ps;
+    }
+
+-- what is told before and after, together: the sums of both, and what is owed in the end
+abbrev pub told_both : Told → Told → Told
+told_both before after =
+    record {
+      ended = after.ended;
+      came = before.came + after.came;
+      fulfilled_in = before.fulfilled_in + after.fulfilled_in;
+      settled_in = before.settled_in + after.settled_in;
+      went = before.went + after.went;
+      fulfilled_out = before.fulfilled_out + after.fulfilled_out;
+      settled_out = before.settled_out + after.settled_out;
+      fees = before.fees + after.fees;
+    }
+
+-- the line of a peer that a run of the service has for the first time, of which that is told
+abbrev pub line_of : (ℕ → Told) → PeerSeen → Line
+line_of told s = record { seen = s; here = Some s.number; told = told s.number }
+
+-- the line of a peer that was there before, after a run in which it has that number; none, where it was taken away before
+abbrev pub line_under : (ℕ → Told) → Line → Option ℕ → Line
+line_under told l None = l
+line_under told l (Some n) = record l { told = told_both l.told (told n) }
+
+abbrev pub line_with : (ℕ → Told) → Line → Line
+line_with told l = line_under told l l.here
+
+-- the peers that have no line yet: those that a run added, and, where nobody had one, those that it began with
+abbrev pub newcomers : List Line → (first added : List PeerSeen) → List PeerSeen
+newcomers [] first added = first ++ added
+newcomers (l ∷ ls) first added = added
+
+-- the lines after a run of which that is told
+abbrev pub lines_with : (ℕ → Told) → List Line → (first added : List PeerSeen) → List Line
+lines_with told ls first added = map (line_with told) ls ++ map (line_of told) (newcomers ls first added)
+
+-- the lines after a run of these periods, which began with what was due
+abbrev pub lines_after : List Line → Due → List PeriodParts → List Line
+lines_after ls due ps = lines_with (told_of (due_after due ps) ps) ls (seen_before ps) (flat_map seen_during ps)
+
+-- a line where the service began again, whose peers have the numbers of the others from then on: none, where its peer is gone
+abbrev pub line_anew : List Peer → List Peer → Line → Line
+line_anew peers others l = record l { here = option_and_then (anew peers others) l.here }
