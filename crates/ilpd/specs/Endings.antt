@@ -3,10 +3,10 @@ use Rattle.std.specs.Prelude.{ℕ, Result, Ok, Err}
 use Rattle.replay_text.specs.Replay.{status_of}
 use Rattle.service.specs.declared.running.ending.ServeFault.TheVariants as service
 use Rattle.ilpd.specs.declared.ending.Ending.{Ending}
-use Rattle.ilpd.specs.declared.ending.Ending.TheVariants.{Usage, Fault, Served, NoToken, NotGood}
+use Rattle.ilpd.specs.declared.ending.Ending.TheVariants.{Usage, Fault, Served, NoToken, NotGood, Audit}
 
--- 0 where nothing went wrong, 2 for a bad command line or token, 4 for a bad statement, and else by what went wrong: a replay, a
--- file, or a service
+-- 0 where nothing went wrong, 2 for a bad command line or token, 4 for a bad statement or text of receipts, 6 for an audit that found
+-- a fault, and else by what went wrong: a replay, a file, or a service
 abbrev pub exit_status : Result (Unit {0}) Ending → ℕ
 exit_status (Ok done) = 0
 exit_status (Err (Usage error)) = 2
@@ -17,3 +17,4 @@ exit_status (Err (Served service.Differs)) = 6
 exit_status (Err (Served service.Audit)) = 6
 exit_status (Err NoToken) = 2
 exit_status (Err NotGood) = 4
+exit_status (Err Audit) = 6

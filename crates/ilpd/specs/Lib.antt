@@ -3,3 +3,5 @@ pub mod Endings
 pub mod Checking
 pub mod Reasons
 pub mod Verifying
+pub mod Filing
+pub mod Auditing

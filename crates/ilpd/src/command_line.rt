@@ -60,6 +60,8 @@ pub struct CommandLine<'a> {
     pub statements: Option<Vec<&'a str>>,
     /// The file of the setup that the first of them is to begin with.
     pub first: Option<&'a str>,
+    /// The file of the receipts that are to be audited by them.
+    pub receipts: Option<&'a str>,
 }
 
 /// The address that a service listens on where the command line names none.
@@ -69,7 +71,8 @@ const ADDRESS: &str = "127.0.0.1:7768";
 const VERSION: &str = "0.1.0";
 
 const USAGE: &str =
-    "ilpd replay SETUP [--workers W] < SCRIPT\n       ilpd check SETUP [SCRIPT [--workers W]]\n       ilpd verify [--setup SETUP] FILE..\n       \
+    "ilpd replay SETUP [--workers W] [--statements DIR] < SCRIPT\n       ilpd check SETUP [SCRIPT [--workers W]]\n       \
+ilpd verify [--setup SETUP] [--receipts FILE] FILE..\n       \
 ilpd serve SETUP --workers W [--connections C] [--rounds N] [--balances] [--audit] [--listen ADDR]\n                  \
 [--host ADDR --host-token FILE] [--statements DIR]";
 
@@ -96,10 +99,21 @@ fn script_workers<'a>(alloc: Global) -> Arg<'a> {
 fn replay_of<'a>(alloc: Global) -> Result<Command<'a>, AllocError> {
     Command::new(alloc, "replay")
         .about("Runs the script on standard input, and prints what each of its steps gives")
-        .override_usage("ilpd replay SETUP [--workers W] < SCRIPT")
+        .override_usage("ilpd replay SETUP [--workers W] [--statements DIR] < SCRIPT")
         .after_help("Example: ilpd replay examples/s1.toml < examples/forward.script")
         .arg(setup_of(alloc))?
-        .arg(script_workers(alloc))
+        .arg(script_workers(alloc))?
+        .arg(script_folder(alloc))
+}
+
+fn script_folder<'a>(alloc: Global) -> Arg<'a> {
+    Arg::new(alloc, "statements")
+        .long("statements")
+        .value_name("DIR")
+        .help(
+            "The folder that gets the statement of each period that the script closes, and has none of these tenants yet",
+        )
+        .action(ArgAction::Set)
 }
 
 fn check_of<'a>(alloc: Global) -> Result<Command<'a>, AllocError> {
@@ -123,12 +137,23 @@ fn verify_of<'a>(alloc: Global) -> Result<Command<'a>, AllocError> {
         .about(
             "Says whether statements are good and go on, and what they come to, or what is wrong",
         )
-        .override_usage("ilpd verify [--setup SETUP] FILE..")
+        .override_usage("ilpd verify [--setup SETUP] [--receipts FILE] FILE..")
         .after_help(
             "Example: ilpd verify --setup examples/fees.toml examples/acme.0.statement examples/acme.1.statement",
         )
         .arg(first_setup(alloc))?
+        .arg(receipts_of(alloc))?
         .arg(statements_of(alloc))
+}
+
+fn receipts_of<'a>(alloc: Global) -> Arg<'a> {
+    Arg::new(alloc, "receipts")
+        .long("receipts")
+        .value_name("FILE")
+        .help(
+            "The file of the receipts of all workers that are to be audited: then each FILE is a statement of any tenant",
+        )
+        .action(ArgAction::Set)
 }
 
 fn first_setup<'a>(alloc: Global) -> Arg<'a> {
@@ -141,7 +166,9 @@ fn first_setup<'a>(alloc: Global) -> Arg<'a> {
 
 fn statements_of<'a>(alloc: Global) -> Arg<'a> {
     Arg::new(alloc, "FILE")
-        .help("The files of a tenant's statements, one period after another")
+        .help(
+            "The files of a tenant's statements, one period after another, and .toml files: the setups that the service started with again",
+        )
         .required(true)
         .num_args(1..)
         .action(ArgAction::Append)
@@ -328,6 +355,7 @@ fn line_of<'a>(
         folder: None,
         statements: None,
         first: words.get_str("setup"),
+        receipts: words.get_str("receipts"),
     }
 }
 
@@ -356,7 +384,10 @@ fn line_in<'a>(matches: &ArgMatches<'a>) -> CommandLine<'a>
                 ..line_of(task, serve, workers_of(serve), address)
             }
         }
-        Some((_, replay)) => line_of(Task::Replay, replay, workers_of(replay), ADDRESS),
+        Some((_, replay)) => CommandLine {
+            folder: replay.get_str("statements"),
+            ..line_of(Task::Replay, replay, workers_of(replay), ADDRESS)
+        },
         None => line_of(Task::Replay, matches, 1, ADDRESS),
     }
 }
@@ -436,8 +467,8 @@ fn all_within_limits(alloc: Global, matches: &ArgMatches<'_>) -> Result<(), Erro
     }
 }
 
-/// Reads the words of `ilpd replay SETUP [--workers W]`, `ilpd check SETUP [SCRIPT [--workers W]]`,
-/// `ilpd verify [--setup SETUP] FILE..` or
+/// Reads the words of `ilpd replay SETUP [--workers W] [--statements DIR]`, `ilpd check SETUP [SCRIPT [--workers W]]`,
+/// `ilpd verify [--setup SETUP] [--receipts FILE] FILE..` or
 /// `ilpd serve SETUP --workers W [--connections C] [--rounds N] [--balances] [--audit] [--listen ADDR] [--host ADDR
 /// --host-token FILE] [--statements DIR]`, the program's name first. W is 1 to 64, and 1 for a script where it is left out; C is 1 to 4,096, and
 /// 256 where it is left out; N is 1 to 1,000,000; the ADDR to listen on is 127.0.0.1:7768 where it is left out. There is a

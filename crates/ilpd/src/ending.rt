@@ -19,8 +19,10 @@ pub enum Ending {
     Served(ServeFault),
     /// The file of the host's token holds none, as a line has said.
     NoToken,
-    /// A statement is not good, or does not go on where the one before it ended, as lines have said.
+    /// A statement is not good, or does not go on where the one before it ended, or a text of receipts is none, as lines have said.
     NotGood,
+    /// An audit of receipts found a fault, as a line has said.
+    Audit,
 }
 
 /// How a run ends whose words were not taken: for want of memory where they were refused it, and else with the text for
@@ -53,6 +55,6 @@ pub fn exit_status(ended: &Result<(), Ending>) -> u8
         Err(Ending::Fault(fault)) => fault.status(),
         Err(Ending::Served(ServeFault::Memory)) => 1,
         Err(Ending::Served(ServeFault::Device)) => 5,
-        Err(Ending::Served(ServeFault::Differs | ServeFault::Audit)) => 6,
+        Err(Ending::Served(ServeFault::Differs | ServeFault::Audit) | Ending::Audit) => 6,
     }
 }

@@ -1,27 +1,34 @@
 //! The connector's program.
 #![tactic(auto)]
 
-ghost use Rattle.std.specs.Prelude.{◌≡◌, ◌≤◌, length};
+ghost use Rattle.std.specs.Prelude.{◌≡◌, ◌≤◌, length, IfOk};
 ghost use Rattle.allotment.specs.Loans.{max_places};
 ghost use Rattle.books_shared.specs.Gathers.{max_workers};
+ghost use Rattle.floor_core.specs.FloorView.{max_seats};
 ghost use Rattle.ilpd.specs.CommandLine.{token_of};
 ghost use Rattle.tenant_core.specs.Limits.{max_tenants};
 
+#[cfg(test)]
+mod audit_tests;
+mod auditing;
 mod checking;
 mod clock;
 mod command_line;
 mod ending;
+mod filing;
 mod reasons;
 #[cfg(test)]
 mod tests;
 mod verifying;
 
 use admin_text::{Setup, read_setup};
+use auditing::{Statements, tell_audit};
 use checking::{Script, check, ending_of, printing};
 use clock::SystemClock;
 use command_line::{HostWords, Task, arguments};
-use common_types::{ReadError, Token};
+use common_types::{Name, ReadError, Token};
 use ending::{Ending, asks_version, exit_status, words_refused};
+pub use filing::{Filer, replay_filing};
 use oer_core::Counted;
 use reasons::reason_of;
 pub use replay_text::{ReplayFault, replay};
@@ -30,8 +37,8 @@ use service::{
     without_line_feed,
 };
 use statements::Chain;
-use std::alloc::AllocError;
-use std::io::ErrorKind;
+use std::alloc::{AllocError, AllocFailed, Global};
+use std::io::{ErrorKind, Write};
 use std::net::{Net, SocketAddr, TcpListener, TcpStream};
 use std::process::ExitCode;
 use std::rt::{Env, Files};
@@ -39,7 +46,7 @@ use std::sync::Wait;
 use std::thread::Threads;
 use std::time::Clock;
 use std::{env, fs, io};
-use verifying::{begin, take, tell};
+use verifying::{begin, memory_refused, name_in, take, tell};
 
 // Says on standard error that there are only so many of something for so many others, and what comes of it.
 fn complain(
@@ -132,27 +139,116 @@ fn check_at(
     check(alloc, setup, Some(Script { text, workers }), &mut writer)
 }
 
-// Says whether the statements in these files are good and go on, the first one from a setup where one is named, and what they
-// come to. One file is in memory at a time.
+fn no_memory<T: Drop>(_: AllocFailed<T>) -> Ending {
+    Ending::Fault(ReplayFault::Memory)
+}
+
+// A file of `verify`, and what is in it.
+#[derive(Drop)]
+struct Named<'a> {
+    file: &'a str,
+    text: Vec<u8>,
+}
+
+// Whether a file of that name is a setup, and no statement.
+fn is_setup(file: &str) -> bool {
+    file.ends_with(".toml")
+}
+
+// Takes the first statement, and before it the setups that came before it, for its tenant. What is wrong with the statement alone
+// is said first.
+fn take_first<W: Write>(
+    alloc: Global,
+    chain: &mut Chain,
+    setups: &[Named<'_>],
+    statement: &Named<'_>,
+    writer: &mut W,
+) -> Result<(), Ending> {
+    let (file, text) = (statement.file, statement.text.as_slice());
+    take(alloc, &mut Chain::new(alloc), file, text, writer)?;
+    for setup in setups {
+        let setup = setup.text.as_slice();
+        begin(alloc, chain, setup, name_in(text), file, writer)?;
+    }
+    take(alloc, chain, file, text, writer)
+}
+
+// Takes a setup for the tenant whose statements came before it.
+fn begin_again<W: Write>(
+    alloc: Global,
+    chain: &mut Chain,
+    setup: &Named<'_>,
+    name: &Name,
+    writer: &mut W,
+) -> Result<(), Ending> {
+    let text = setup.text.as_slice();
+    begin(alloc, chain, text, name.as_bytes(), setup.file, writer)
+}
+
+// The name of the tenant whose statements a chain took, if it took any.
+fn tenant_of(chain: &Chain) -> Option<Name> {
+    Some(chain.opening_due()?.name.copy())
+}
+
+// Says whether the statements in these files are good and go on, also over the setups between them, the first one from a setup
+// where one is named, and what they come to. One statement is in memory at a time.
 fn verify_at(
     rt: &(impl Files + Print + AllocGlobal),
     setup: Option<&str>,
     files: &[&str],
 ) -> Result<(), Ending> {
     let (alloc, mut writer) = (rt.alloc(), io::writer(rt));
-    let mut setup = match setup {
-        Some(file) => Some(read_file(rt, file)?),
-        None => None,
-    };
     let mut chain = Chain::new(alloc);
+    let mut setups = Vec::new(alloc);
+    if let Some(file) = setup {
+        let text = read_file(rt, file)?;
+        setups.push(Named { file, text }).map_err(no_memory)?;
+    }
     for file in files {
         let text = read_file(rt, file)?;
-        take(alloc, &mut chain, file, text.as_slice(), &mut writer)?;
-        if let Some(setup) = setup.take() {
-            begin(alloc, setup.as_slice(), file, text.as_slice(), &mut writer)?;
+        let named = Named { file, text };
+        match tenant_of(&chain) {
+            None if is_setup(file) => setups.push(named).map_err(no_memory)?,
+            None => take_first(alloc, &mut chain, setups.as_slice(), &named, &mut writer)?,
+            Some(name) if is_setup(file) => {
+                begin_again(alloc, &mut chain, &named, &name, &mut writer)?;
+            }
+            Some(_) => take(alloc, &mut chain, file, named.text.as_slice(), &mut writer)?,
         }
     }
     tell(alloc, &chain, &mut writer)
+}
+
+// Audits the receipts in a file by the statements in others, of all tenants, each tenant's one period after another, and the first
+// ones from a setup where one is named. All periods are in memory then.
+fn audit_at(
+    rt: &(impl Files + Print + AllocGlobal),
+    setup: Option<&str>,
+    receipts: &str,
+    files: &[&str],
+) -> Result<(), Ending> {
+    let (alloc, mut writer) = (rt.alloc(), io::writer(rt));
+    let setup = match setup {
+        Some(file) => Some(read_file(rt, file)?),
+        None => None,
+    };
+    let setup = match &setup {
+        Some(text) => Some(text.as_slice()),
+        None => None,
+    };
+    let mut statements = Statements::new(alloc).map_err(memory_refused)?;
+    for file in files {
+        let text = read_file(rt, file)?;
+        statements.take(alloc, setup, file, text.as_slice(), &mut writer)?;
+    }
+    let text = read_file(rt, receipts)?;
+    tell_audit(
+        alloc,
+        statements.periods(),
+        receipts,
+        text.as_slice(),
+        &mut writer,
+    )
 }
 
 // Why a word is no address to listen on.
@@ -205,38 +301,123 @@ fn expect_files(
     }
 }
 
-// That the folder of the statements is one, and has none of these tenants yet. Else a line on standard output says so.
+// Why nothing is kept in a folder.
+#[derive(Drop)]
+enum FolderFault {
+    /// It can't be looked at, or memory was refused.
+    Unseen(io::Error),
+    /// What is wrong with it.
+    Wrong(&'static str),
+}
+
+impl From<io::Error> for FolderFault {
+    fn from(error: io::Error) -> FolderFault {
+        FolderFault::Unseen(error)
+    }
+}
+
+// That the folder of the statements is one, and has none of these tenants yet; and no receipts, where they are kept there too.
+fn check_folder(
+    rt: &(impl Files + AllocGlobal),
+    path: &str,
+    setup: &Setup,
+    has_receipts: bool,
+) -> Result<(), FolderFault> {
+    if !fs::metadata(rt, path)?.is_dir() {
+        return Err(FolderFault::Wrong("not a folder"));
+    }
+    let folder = Folder::new(rt, rt.alloc(), path);
+    for tenant in setup.tenants.as_slice() {
+        if folder.has_file(&tenant.terms().name, 0)? {
+            return Err(FolderFault::Wrong(
+                "it has statements of a tenant already: each start needs a new folder",
+            ));
+        }
+    }
+    if has_receipts && folder.has_receipts_file()? {
+        return Err(FolderFault::Wrong("it has receipts already: each start needs a new folder"));
+    }
+    Ok(())
+}
+
+// The same for a service. A line on standard output says what is wrong.
 fn expect_folder(
     rt: &(impl Files + Print + AllocGlobal),
     path: &str,
     setup: &Setup,
+    has_receipts: bool,
 ) -> Result<(), Ending> {
     let doing = "keep statements in";
-    match fs::metadata(rt, path) {
-        Ok(found) if found.is_dir() => {}
-        Ok(_) => {
-            say_cannot(rt, doing, path, "not a folder");
-            return Err(Ending::Fault(ReplayFault::Device));
-        }
-        Err(error) => return Err(cannot(rt, doing, path, &error)),
-    }
-    let folder = Folder::new(rt, rt.alloc(), path);
-    for tenant in setup.tenants.as_slice() {
-        match folder.has_file(&tenant.terms().name, 0) {
-            Ok(false) => {}
-            Ok(true) => {
-                say_cannot(
-                    rt,
-                    doing,
-                    path,
-                    "it has statements of a tenant already: each start needs a new folder",
-                );
-                return Err(Ending::Fault(ReplayFault::Device));
-            }
-            Err(error) => return Err(cannot(rt, doing, path, &error)),
+    match check_folder(rt, path, setup, has_receipts) {
+        Ok(()) => Ok(()),
+        Err(FolderFault::Unseen(error)) => Err(cannot(rt, doing, path, &error)),
+        Err(FolderFault::Wrong(why)) => {
+            say_cannot(rt, doing, path, why);
+            Err(Ending::Fault(ReplayFault::Device))
         }
     }
-    Ok(())
+}
+
+// The setup of a text.
+fn setup_in(alloc: Global, text: &[u8]) -> Result<Setup, Ending>
+    ensures tenants { IfOk result (λ setup. (1 ≤ length setup.tenants) × (length setup.tenants ≤ max_tenants)) }
+{
+    admin_text::laws::setups();
+    match read_setup(alloc, text) {
+        Ok(setup) => Ok(setup),
+        Err(ReadError::Memory) => Err(Ending::Fault(ReplayFault::Memory)),
+        Err(ReadError::Fault(fault)) => Err(Ending::Fault(ReplayFault::Setup(fault))),
+    }
+}
+
+// That a replay can keep statements in that folder. A replay prints its lines alone, so it does not say why not.
+fn expect_free_folder(
+    rt: &(impl Files + AllocGlobal),
+    path: &str,
+    setup: &Setup,
+) -> Result<(), Ending> {
+    match check_folder(rt, path, setup, false) {
+        Ok(()) => Ok(()),
+        Err(FolderFault::Unseen(error)) => Err(ending_of(error.kind())),
+        Err(FolderFault::Wrong(_)) => Err(Ending::Fault(ReplayFault::Device)),
+    }
+}
+
+// Replays the script on standard input, and keeps the statements of the periods that it closes in a folder. Nothing but the lines
+// of its steps is printed.
+fn replay_into(
+    rt: &(impl Files + Disk + Input + Print + AllocGlobal),
+    setup: &[u8],
+    workers: usize,
+    path: &str,
+) -> Result<(), Ending>
+    requires { (1 ≤ workers) × (workers ≤ max_seats) }
+{
+    let alloc = rt.alloc();
+    expect_free_folder(rt, path, &setup_in(alloc, setup)?)?;
+    let mut reader = Counted::new(rt.reader());
+    let mut writer = Counted::new(io::writer(rt));
+    let mut filer = Filer::new(alloc, Folder::new(rt, alloc, path));
+    replay_filing(alloc, setup, workers, &mut reader, &mut filer, &mut writer).map_err(
+        Ending::Fault,
+    )
+}
+
+// Replays the script on standard input, and keeps statements where a folder for them is named.
+fn replay_at(
+    rt: &(impl Files + Disk + Input + Print + AllocGlobal),
+    setup: &[u8],
+    workers: usize,
+    folder: Option<&str>,
+) -> Result<(), Ending>
+    requires { (1 ≤ workers) × (workers ≤ max_seats) }
+{
+    if let Some(path) = folder {
+        return replay_into(rt, setup, workers, path);
+    }
+    let mut reader = Counted::new(rt.reader());
+    let mut writer = Counted::new(io::writer(rt));
+    replay(rt.alloc(), setup, workers, &mut reader, &mut writer).map_err(Ending::Fault)
 }
 
 // Serves the setup at the doors that the command line names.
@@ -261,15 +442,9 @@ fn serve_at<
     requires workers { (1 ≤ plan.extent.workers) × (plan.extent.workers ≤ max_places) }
     requires connections { (1 ≤ plan.extent.connections) × (plan.extent.connections ≤ max_workers) }
 {
-    let alloc = rt.alloc();
-    admin_text::laws::setups();
-    let setup = match read_setup(alloc, setup) {
-        Ok(setup) => setup,
-        Err(ReadError::Memory) => return Err(Ending::Fault(ReplayFault::Memory)),
-        Err(ReadError::Fault(fault)) => return Err(Ending::Fault(ReplayFault::Setup(fault))),
-    };
+    let setup = setup_in(rt.alloc(), setup)?;
     if let Some(path) = plan.statements {
-        expect_folder(rt, path, &setup)?;
+        expect_folder(rt, path, &setup, plan.report.audit)?;
     }
     let Some(words) = host else {
         let packets = listener_on(rt, address)?;
@@ -339,8 +514,12 @@ fn run<
         Err(error) if asks_version(&error) => return rt.print(error).map_err(printing),
         Err(error) => return Err(words_refused(error)),
     };
+    let (first, receipts) = (line.first, line.receipts);
     if let Some(files) = &line.statements {
-        return verify_at(rt, line.first, files.as_slice());
+        return match receipts {
+            Some(receipts) => audit_at(rt, first, receipts, files.as_slice()),
+            None => verify_at(rt, first, files.as_slice()),
+        };
     }
     let setup = read_setup_file(rt, line.task, line.setup)?;
     match line.task {
@@ -363,19 +542,17 @@ fn run<
             };
             serve_at(rt, setup.as_slice(), plan, line.address, line.host)
         }
-        Task::Replay => {
-            let mut reader = Counted::new(rt.reader());
-            let mut writer = Counted::new(io::writer(rt));
-            let (setup, workers) = (setup.as_slice(), line.workers);
-            replay(alloc, setup, workers, &mut reader, &mut writer).map_err(Ending::Fault)
-        }
+        Task::Replay => replay_at(rt, setup.as_slice(), line.workers, line.folder),
     }
 }
 
 fn main(rt: HostRuntime) -> ExitCode {
     let ended = run(&rt);
     match &ended {
-        Ok(()) | Err(Ending::Served(ServeFault::Audit) | Ending::NoToken | Ending::NotGood) => {}
+        Ok(())
+        | Err(
+            Ending::Served(ServeFault::Audit) | Ending::NoToken | Ending::NotGood | Ending::Audit,
+        ) => {}
         Err(Ending::Usage(error)) => {
             let _ = rt.eprint(error);
         }

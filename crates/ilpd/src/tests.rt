@@ -4,7 +4,7 @@ use crate::checking::{Script, check};
 use crate::clock::SystemClock;
 use crate::command_line::{CommandLine, HostWords, Task, arguments};
 use crate::ending::{Ending, exit_status};
-use crate::verifying::{begin, take, tell};
+use crate::verifying::{begin, name_in, take, tell};
 use crate::{replay, token_of};
 use statements::Chain;
 use std::alloc::{AllocError, Global};
@@ -181,7 +181,7 @@ fn the_version(rt: HostRuntime) -> Result<(), Fail> {
 
 const WORKERS_REFUSED: &str = "error: invalid value '65' for '--workers <W>': 1 to 64
 
-Usage: ilpd replay SETUP [--workers W] < SCRIPT
+Usage: ilpd replay SETUP [--workers W] [--statements DIR] < SCRIPT
 
 For more information, try '--help'.
 ";
@@ -298,10 +298,55 @@ static VERIFIED: [(&str, &str, &str, u8); 5] = [
 
 fn verified(alloc: Global, a: &str, b: &str, out: &mut Vec<u8>) -> Result<(), Ending> {
     let mut chain = Chain::new(alloc);
+    let name = name_in(a.as_bytes());
+    begin(
+        alloc,
+        &mut chain,
+        SETUP.as_bytes(),
+        name,
+        "a.statement",
+        out,
+    )?;
     take(alloc, &mut chain, "a.statement", a.as_bytes(), out)?;
-    begin(alloc, SETUP.as_bytes(), "a.statement", a.as_bytes(), out)?;
     take(alloc, &mut chain, "b.statement", b.as_bytes(), out)?;
     tell(alloc, &chain, out)
+}
+
+// The setup after the first statement, what is said then of the statement that it begins with again, and the exit status.
+static BEGUN: [(&str, &str, &str, u8); 3] = [
+    ("", STATEMENT, "good 2 2\n", 0),
+    (
+        "hold = 29000\n",
+        STATEMENT,
+        "b.toml: not what the statement before it ended with\nit says: tenant acme g.acme 1024 1000 29000\nit has to say: tenant acme g.acme 1024 1000 30000\n",
+        4,
+    ),
+    (
+        "",
+        NEXT,
+        "b.statement: line 3: not what the setup leads to\nit says: period 1 1893456000001 0 0\nit has to say: period 0 1893456000000 0 0\n",
+        4,
+    ),
+];
+
+fn begun_again(alloc: Global, setup: &str, b: &str, out: &mut Vec<u8>) -> Result<(), Ending> {
+    let mut chain = Chain::new(alloc);
+    take(alloc, &mut chain, "a.statement", STATEMENT.as_bytes(), out)?;
+    begin(alloc, &mut chain, setup.as_bytes(), b"acme", "b.toml", out)?;
+    take(alloc, &mut chain, "b.statement", b.as_bytes(), out)?;
+    tell(alloc, &chain, out)
+}
+
+#[test]
+fn what_verify_says_over_a_setup(rt: HostRuntime) -> Result<(), Fail> {
+    for (more, b, said, status) in &BEGUN {
+        let setup = [SETUP, *more].concat(rt.alloc())?;
+        let mut out = Vec::new(rt.alloc());
+        let ended = begun_again(rt.alloc(), setup.as_str(), b, &mut out);
+        assert!(rt; out.as_slice() == said.as_bytes(), "{said}");
+        assert!(rt; exit_status(&ended) == *status);
+    }
+    Ok(())
 }
 
 #[test]

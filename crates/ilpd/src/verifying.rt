@@ -1,26 +1,24 @@
 //! What `verify` says of the statements of a tenant, one after another.
 
-ghost use Rattle.std.specs.Prelude.{◌≡◌, [], ◌∷◌, ◌++◌, ℕ, List, Ok, IfOk, IfSome, OnOk, IsErr, IsTrue};
+ghost use Rattle.std.specs.Prelude.{◌≡◌, [], ◌∷◌, ◌++◌, List, Ok, IfOk, OnOk, IsErr};
 ghost use Rattle.admin_text.specs.Setup.{setup_of};
-ghost use Rattle.statements.specs.Chain.{IsChain};
-ghost use Rattle.ilpd.specs.Verifying.{BeginsSo, IsSummaryOf, TellsSummary};
+ghost use Rattle.statements.specs.Chain.{IsChain, Link};
+ghost use Rattle.statements.specs.Chain.Link.{Stated};
+ghost use Rattle.ilpd.specs.Verifying.{GoesOnBy, IsSummaryOf, TellsSummary};
 ghost use Rattle.std.specs.Io.KnownBytes.{Appends};
-ghost use Rattle.statements.specs.Statement.{OpensWith};
-ghost use Rattle.tenant_core.specs.State.{opening_of};
 
 use crate::checking::printing;
 use crate::ending::Ending;
 use admin_text::{Setup, read_setup};
 use common_types::ReadError;
 use replay_text::ReplayFault;
-use statements::{
-    Chain, ChainFault, StatementFault, line_apart, line_at, line_of, opens_with, ruled, write_head,
-};
+use statements::{Chain, ChainFault, Long, StatementFault, line_at, line_of, ruled};
 use std::alloc::{AllocError, Global};
 use std::io::Write;
-use tenant_core::{Opening, TenantSetup};
+use tenant_core::TenantSetup;
 
-fn memory_refused(_: AllocError) -> Ending {
+/// How a run ends that was refused memory.
+pub fn memory_refused(_: AllocError) -> Ending {
     Ending::Fault(ReplayFault::Memory)
 }
 
@@ -34,8 +32,8 @@ fn put_line(out: &mut Vec<u8>, words: &str, text: &[u8], line: usize) -> Result<
     out.extend_from_slice(b"\n")
 }
 
-// `FILE: line N: REASON`, what stands there, and what has to stand there, where that is known.
-fn put_place(
+/// `FILE: line N: REASON`, what stands there, and what has to stand there, where that is known.
+pub fn put_place(
     out: &mut Vec<u8>,
     alloc: Global,
     text: &[u8],
@@ -60,14 +58,15 @@ fn put_place(
     }
 }
 
-fn begun(alloc: Global, file: &str) -> Result<Vec<u8>, AllocError> {
+/// What is said of a file begins with its name.
+pub fn begun(alloc: Global, file: &str) -> Result<Vec<u8>, AllocError> {
     let mut out = Vec::from_slice(alloc, file.as_bytes())?;
     out.extend_from_slice(b": ")?;
     Ok(out)
 }
 
-// Says what is wrong, and gives how the run ends.
-fn refuse<W: Write>(writer: &mut W, words: &[u8]) -> Result<(), Ending>
+/// Says what is wrong, and gives how the run ends.
+pub fn refuse<W: Write>(writer: &mut W, words: &[u8]) -> Result<(), Ending>
     ensures { IsErr result }
 {
     writer.write_all(words).map_err(printing)?;
@@ -83,6 +82,7 @@ fn reason_of(alloc: Global, fault: ChainFault) -> Result<String, AllocError> {
         ChainFault::Apart(_) => {
             String::from_str(alloc, "not what the statement before it ended with")
         }
+        ChainFault::Unlike(_) => String::from_str(alloc, "not what the setup leads to"),
         other => other.to_string(alloc),
     }
 }
@@ -95,7 +95,7 @@ fn right_text(
     fault: ChainFault,
 ) -> Result<Option<Vec<u8>>, AllocError> {
     match fault {
-        ChainFault::Apart(_) => Ok(Some(chain.next_head(alloc)?)),
+        ChainFault::Apart(_) | ChainFault::Unlike(_) => Ok(Some(chain.next_head(alloc)?)),
         ChainFault::Statement(StatementFault::Differs(_)) => match ruled(alloc, text) {
             Ok(ruled) => Ok(Some(ruled)),
             Err(ReadError::Memory) => Err(AllocError),
@@ -105,7 +105,8 @@ fn right_text(
     }
 }
 
-fn fault_words(
+/// What is said of a text that does not go on with a chain.
+pub fn fault_words(
     alloc: Global,
     chain: &Chain,
     file: &str,
@@ -134,7 +135,7 @@ pub fn take<W: Write>(
     text: &[u8],
     writer: &mut W,
 ) -> Result<(), Ending>
-    ensures chain { OnOk result ((texts : List (List ℕ)) → IsChain texts chain.old → IsChain (texts ++ text.now ∷ []) chain.new) }
+    ensures chain { OnOk result ((links : List Link) → IsChain links chain.old → IsChain (links ++ Stated text.now ∷ []) chain.new) }
     ensures silent { OnOk result (writer.new ≡ writer.old) }
 {
     match chain.add(alloc, text) {
@@ -148,17 +149,14 @@ pub fn take<W: Write>(
 }
 
 // What the statements of a chain come to.
-fn summary_of(alloc: Global, chain: &Chain) -> Result<Vec<u8>, Ending>
+fn summary_of(alloc: Global, chain: &Chain) -> Result<Vec<u8>, ReadError<Long>>
     ensures { IfOk result (λ text. IsSummaryOf chain.now text.items) }
 {
-    match chain.summary(alloc) {
-        Ok(text) => Ok(text),
-        Err(AllocError) => Err(Ending::Fault(ReplayFault::Memory)),
-    }
+    chain.summary(alloc)
 }
 
-// Writes a text.
-fn write<W: Write>(writer: &mut W, text: &[u8]) -> Result<(), Ending>
+/// Writes a text.
+pub fn write<W: Write>(writer: &mut W, text: &[u8]) -> Result<(), Ending>
     ensures { OnOk result (Appends (W.contents writer.old) (W.contents writer.new) text.now) }
 {
     writer.write_all(text).map_err(printing)
@@ -168,21 +166,22 @@ fn write<W: Write>(writer: &mut W, text: &[u8]) -> Result<(), Ending>
 pub fn tell<W: Write>(alloc: Global, chain: &Chain, writer: &mut W) -> Result<(), Ending>
     ensures { OnOk result (TellsSummary chain.now (W.contents writer.old) (W.contents writer.new)) }
 {
-    let text = summary_of(alloc, chain)?;
-    write(writer, text.as_slice())
+    match summary_of(alloc, chain) {
+        Ok(text) => write(writer, text.as_slice()),
+        Err(ReadError::Memory) => Err(Ending::Fault(ReplayFault::Memory)),
+        Err(ReadError::Fault(Long)) => refuse(writer, b"too long to be summed up\n"),
+    }
 }
 
-// The tenant's word of the line that a statement has for it: `tenant PLACE NAME ..`.
-fn name_in(text: &[u8]) -> Option<&[u8]> {
-    line_at(text, 2)?.split(|byte| *byte == b' ').nth(2)
+/// The name of the tenant whose statement a text is, by its line `tenant PLACE NAME ..`.
+pub fn name_in(text: &[u8]) -> &[u8] {
+    let line = line_at(text, 2).unwrap_or(&[]);
+    line.split(|byte| *byte == b' ').nth(2).unwrap_or(&[])
 }
 
-// The place of the tenant whose name the text has; past all of them where none has it.
-fn place_in(setup: &Setup, text: &[u8]) -> usize {
+// The place of the tenant of that name; past all of them where none has it.
+fn place_in(setup: &Setup, name: &[u8]) -> usize {
     let tenants = setup.tenants.as_slice();
-    let Some(name) = name_in(text) else {
-        return tenants.len();
-    };
     for place in 0..tenants.len() {
         if tenants[place].terms().name.as_bytes() == name {
             return place;
@@ -201,84 +200,56 @@ fn setup_in(alloc: Global, text: &[u8]) -> Result<Setup, Ending>
     }
 }
 
-// What is said of a text that does not begin as the setup does.
+// What is said of a setup that does not go on.
 fn setup_words(
     alloc: Global,
+    chain: &Chain,
     file: &str,
-    text: &[u8],
-    opening: &Opening,
+    tenant: &TenantSetup,
+    fault: ChainFault,
 ) -> Result<Vec<u8>, AllocError> {
-    let right = write_head(alloc, opening)?;
-    let line = Some(line_apart(alloc, text, opening)?);
+    let reason = fault.to_string(alloc)?;
     let mut out = begun(alloc, file)?;
-    let right = Some(right.as_slice());
-    put_place(
-        &mut out,
-        alloc,
-        text,
-        line,
-        "not what the setup leads to",
-        right,
-    )?;
+    put_place(&mut out, alloc, b"", None, reason.as_str(), None)?;
+    if let Some(lines) = chain.differing_lines(alloc, tenant)? {
+        put_line(&mut out, "it says: ", lines.said.as_slice(), 1)?;
+        put_line(&mut out, "it has to say: ", lines.due.as_slice(), 1)?;
+    }
     Ok(out)
 }
 
-// What is said of a text whose tenant the setup has not.
+// What is said of a file whose tenant the setup has not.
 fn stranger_words(alloc: Global, file: &str) -> Result<Vec<u8>, AllocError> {
     let mut out = begun(alloc, file)?;
     out.extend_from_slice(b"the setup has no tenant of its name\n")?;
     Ok(out)
 }
 
-// What the first period of a tenant of a setup begins with.
-fn first_opening(
-    alloc: Global,
-    setup: &Setup,
-    place: usize,
-    tenant: &TenantSetup,
-) -> Result<Opening, Ending>
-    ensures { IfOk result (λ opening. opening ≡ opening_of place tenant.now setup.now.start) }
-{
-    match Opening::first(alloc, place, tenant, setup.start) {
-        Ok(opening) => Ok(opening),
-        Err(AllocError) => Err(Ending::Fault(ReplayFault::Memory)),
-    }
-}
-
-// Whether a text begins with all that stands before the records of a period with that opening.
-fn opens(alloc: Global, text: &[u8], opening: &Opening) -> Result<bool, Ending>
-    ensures { IfOk result (λ is. IsTrue is → OpensWith text.now opening.now) }
-{
-    match opens_with(alloc, text, opening) {
-        Ok(is) => Ok(is),
-        Err(AllocError) => Err(Ending::Fault(ReplayFault::Memory)),
-    }
-}
-
-/// Says of the text of a file, a statement of a tenant, whether it begins as the first period of the tenant of that name does by
-/// a setup; where it does not, with the line as it is written and as the setup has it, and the run ends.
+/// Takes a setup that the service began with as what a chain goes on with, for the tenant of that name. Where it does not go on, or
+/// has no such tenant, what stands there is said of that file, and the run ends.
 pub fn begin<W: Write>(
     alloc: Global,
+    chain: &mut Chain,
     setup: &[u8],
+    name: &[u8],
     file: &str,
-    text: &[u8],
     writer: &mut W,
 ) -> Result<(), Ending>
-    ensures begins { OnOk result (BeginsSo (setup_of setup.now) text.now) }
+    ensures begins { OnOk result (GoesOnBy (setup_of setup.now) chain.old chain.new) }
     ensures silent { OnOk result (writer.new ≡ writer.old) }
 {
     let setup = setup_in(alloc, setup)?;
-    let tenants = setup.tenants.as_slice();
-    let place = place_in(&setup, text);
-    let Some(tenant) = tenants.get(place) else {
+    let place = place_in(&setup, name);
+    let Some(tenant) = setup.tenants.as_slice().get(place) else {
         let words = stranger_words(alloc, file).map_err(memory_refused)?;
         return refuse(writer, words.as_slice());
     };
-    let opening = first_opening(alloc, &setup, place, tenant)?;
-    let is_first = opens(alloc, text, &opening)?;
-    if is_first {
-        return Ok(());
+    match chain.begin(alloc, place, tenant, setup.start) {
+        Ok(()) => Ok(()),
+        Err(ReadError::Memory) => Err(Ending::Fault(ReplayFault::Memory)),
+        Err(ReadError::Fault(fault)) => {
+            let words = setup_words(alloc, chain, file, tenant, fault).map_err(memory_refused)?;
+            refuse(writer, words.as_slice())
+        }
     }
-    let words = setup_words(alloc, file, text, &opening).map_err(memory_refused)?;
-    refuse(writer, words.as_slice())
 }

@@ -14,7 +14,7 @@ use Rattle.floor_core.specs.declared.step.Step.{Step}
 use Rattle.admin_text.specs.Setup.{setup_of}
 use Rattle.admin_text.specs.declared.setup.Setup.{Setup}
 use Rattle.replay_text.specs.Printed.{printed_lines}
-use Rattle.replay_text.specs.Replay.{names_in, refusal_of, IsRefusedBy, IsAnswered, IsReplayed, IsReplayedFor, LeavesWritten, LeavesWrittenFor, WritesAll, WritesFront, world_of_setup}
+use Rattle.replay_text.specs.Replay.{names_in, refusal_of, ArePrinted, IsRefusedBy, IsAnswered, IsReplayed, IsReplayedFor, LeavesWritten, LeavesWrittenFor, WritesAll, WritesFront, WritesLines, world_of_setup}
 use Rattle.replay_text.specs.Streams.{AppendsFront}
 use Rattle.replay_text.specs.Script.{lines_of, meaning_of, steps_of_script}
 use Rattle.replay_text.specs.declared.script.Meaning.TheVariants.{Runs}
@@ -63,7 +63,7 @@ none_in_hand : (t call : ℕ) → Hand.Free ≡ Hand.Has t call → ⊥
 none_in_hand t call e = cc
 
 -- so it is of the steps of a script
-sends_on : SendsOn → (setup : Setup) (workers : ℕ) (script : List ℕ) (steps : List Step) (outputs : List Output)
+pub sends_on : SendsOn → (setup : Setup) (workers : ℕ) (script : List ℕ) (steps : List Step) (outputs : List Output)
     → steps_of_script (names_in setup) workers script ≡ Ok steps → AreOutputs (world_of_setup setup) steps outputs → AreForwards no_frames steps outputs
 sends_on law setup workers script steps outputs parsed are =
     let names = names_in setup in
@@ -84,6 +84,23 @@ pub replayed_for : (known : Option (List ℕ)) (workers : ℕ) (setup : Setup) (
     → IfSome known (λ script. IsReplayedFor setup workers script text)
 replayed_for None workers setup steps text parsed answers = tt
 replayed_for (Some script) workers setup steps text parsed answers = (steps, parsed, answers)
+
+-- what the steps of a script print is a replay of it, however many bytes of the reader are known
+pub written_for : {A : Type 0} (names : List (List ℕ)) (known : Option (List ℕ)) (workers : ℕ) (setup : Setup) (script : List ℕ) (steps : List Step) (result : Result A ReplayFault) (old new : Option (List ℕ))
+    → names ≡ names_in setup → IfSome known (λ bytes. script ≡ bytes) → steps_of_script names workers script ≡ Ok steps
+    → OnOk result (WritesLines names (world_of_setup setup) steps old new)
+    → OnOk result (IfSome known (λ script. (text : List ℕ) × IsReplayedFor setup workers script text × Appends old new text))
+written_for names None workers setup script steps (Ok done) old new same whole parsed written = tt
+written_for names (Some bytes) workers setup script steps (Ok done) old new same whole parsed (text, printed, appended) = (
+  text,
+  (
+    steps,
+    subst (λ (ns : List (List ℕ)). steps_of_script ns workers bytes ≡ Ok steps) same (subst (λ (b : List ℕ). steps_of_script names workers b ≡ Ok steps) whole parsed),
+    subst (λ (ns : List (List ℕ)). ArePrinted ns (world_of_setup setup) steps text) same printed,
+  ),
+  appended,
+)
+written_for names known workers setup script steps (Err f) old new same whole parsed written = tt
 
 pub replayed_by : SendsOn → (known : Option (List ℕ)) (setup_text : List ℕ) (workers : ℕ) (setup : Setup) (text : List ℕ)
     → setup_of setup_text ≡ Ok setup → IfSome known (λ script. IsReplayedFor setup workers script text)

@@ -13,3 +13,4 @@ pub mod Decoding
 pub mod Values
 pub mod LastWords
 pub mod Putting
+pub mod Takings

@@ -12,7 +12,7 @@ use Rattle.floor_core.specs.Worlds.{reply, after, replies, after_all}
 use Rattle.floor_core.specs.declared.step.Output.{Output}
 use Rattle.floor_core.specs.declared.step.Step.{Step}
 use Rattle.replay_text.specs.Printed.{line_of, printed_lines}
-use Rattle.replay_text.specs.Replay.{ArePrinted, Prints, WritesDone, WritesLines, WritesSome}
+use Rattle.replay_text.specs.Replay.{ArePrinted, HasLong, Prints, WritesDone, WritesLines, WritesSome}
 use Rattle.replay_text.specs.Script.{lines_of, meaning_of, steps_in}
 use Rattle.replay_text.specs.Streams.{AppendsFront, WritesUpTo}
 use Rattle.replay_text.specs.declared.script.Meaning.TheVariants.{Skipped, Runs}
@@ -208,3 +208,8 @@ prints_line names workers line step w m a b e p = rw e p
 pub prints_skipped : RepliesLaw → AfterLaw → (names : List (List ℕ)) (workers : ℕ) (line : List ℕ) (w : World) (a : List ℕ) → meaning_of names workers line ≡ Skipped
     → Prints names (steps_in names workers (line ∷ [])) w w a a
 prints_skipped outputs left names workers line w a e = rw e ([], outputs w [], left w [], sym (append-nil a))
+
+-- and so it is where its lines are too long
+pub long_line : (most : ℕ) (names : List (List ℕ)) (workers : ℕ) (line : List ℕ) (step : Step) (w m : World) → meaning_of names workers line ≡ Runs step
+    → HasLong most names (step ∷ []) w m → HasLong most names (steps_in names workers (line ∷ [])) w m
+long_line most names workers line step w m e long = rw e long

@@ -5,3 +5,4 @@ pub mod ScriptWrong
 pub mod Printed
 pub mod Streams
 pub mod Replay
+pub mod Closed

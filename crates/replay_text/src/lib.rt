@@ -4,6 +4,7 @@
 
 mod causes;
 mod hexadecimal;
+mod keeping;
 pub mod laws;
 mod lines;
 mod numbers;
@@ -16,9 +17,10 @@ mod streams;
 mod words;
 
 pub use causes::{LineFault, Operand, Verb};
+pub use keeping::PeriodKeeper;
 pub use lines::line_fault;
 pub use printed::{print_lines, put_answer};
-pub use replays::{ReplayFault, replay};
+pub use replays::{ReplayFault, replay, replay_keeping};
 pub use script::{
     MAX_LINE, MAX_SCRIPT, Meaning, ScriptFault, ScriptWrong, check_script, explain_script,
     meaning_of,

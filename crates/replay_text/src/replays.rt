@@ -9,7 +9,9 @@ ghost use Rattle.floor_core.specs.FloorView.{Fits, HasRoom, max_seats, world_of}
 ghost use Rattle.tenant_core.specs.Limits.{max_tenants};
 ghost use Rattle.replay_text.specs.Script.{lines_of, steps_in, steps_of_script, IsBad, NoneIsBad};
 ghost use Rattle.replay_text.specs.Streams.{AppendsFront, ConsumesAtMost, WritesUpTo};
+ghost use Rattle.replay_text.specs.Closed.{Closes, ClosesAll, TakesClosed, TakesClosedFor};
 
+use crate::keeping::{LetGo, PeriodKeeper, hand_over};
 use crate::printed::put_told;
 use crate::script::{MAX_SCRIPT, Meaning, ScriptFault, check_script, meaning_of};
 use crate::streams::{StreamFault, read_script, write_text};
@@ -78,13 +80,21 @@ impl ReplayFault {
     }
 }
 
-// Does a step, and puts the lines of its output behind a text.
-fn run_step(
+/// Whom the lines of a script may name: the tenants, and so many workers.
+#[derive(Clone, Copy)]
+struct Cast<'a> {
+    names: &'a [Name],
+    workers: usize,
+}
+
+// Does a step, puts the lines of its output behind a text, and hands the keeper what it closed.
+fn run_step<K: PeriodKeeper>(
     alloc: Global,
     floor: &mut Floor,
     names: &[Name],
     step: &Step,
     text: &mut Vec<u8>,
+    keeper: &mut K,
 ) -> Result<(), Refusal>
     requires fits { Fits floor.old step.now }
     requires room { HasRoom floor.old 1 }
@@ -93,6 +103,7 @@ fn run_step(
     ensures undone { result ≡ Err Refusal.Before → floor.new ≡ floor.old }
     ensures unprinted { result ≡ Err Refusal.Before → text.new.items ≡ text.old.items }
     ensures lost { result ≡ Err Refusal.Behind → HasLong STEP_ROOM names.now (step.now ∷ []) (world_of floor.old) (world_of floor.new) }
+    ensures closed { OnOk result (Closes K.takes (step.now ∷ []) (world_of floor.old) (world_of floor.new) keeper.old keeper.new) }
     ensures workers { length floor.new.seats ≡ length floor.old.seats }
     ensures tenants { length floor.new.books ≡ length floor.old.books }
     ensures room { (n : ℕ) → HasRoom floor.old (1 + n) → HasRoom floor.new n }
@@ -107,40 +118,44 @@ fn run_step(
     let Ok(()) = put_told(names, text, floor, &told) else {
         return Err(Refusal::Behind);
     };
+    hand_over(&told, keeper);
     Ok(())
 }
 
-// Does what a line says that is not bad, and puts the lines of its output behind a text.
-fn run_line(
+// Does what a line says that is not bad, puts the lines of its output behind a text, and hands the keeper what it closed.
+fn run_line<K: PeriodKeeper>(
     alloc: Global,
     floor: &mut Floor,
-    names: &[Name],
-    workers: usize,
+    cast: &Cast<'_>,
     line: &[u8],
     room: &mut Vec<u8>,
     text: &mut Vec<u8>,
+    keeper: &mut K,
 ) -> Result<(), Refusal>
-    requires good { ¬ (IsBad names.now workers line.now) }
-    requires workers { length floor.old.seats ≡ workers }
-    requires tenants { length floor.old.books ≡ length names.now }
+    requires good { ¬ (IsBad cast.now.names.now cast.now.workers line.now) }
+    requires workers { length floor.old.seats ≡ cast.now.workers }
+    requires tenants { length floor.old.books ≡ length cast.now.names.now }
     requires room { HasRoom floor.old 1 }
-    ensures printed { OnOk result (Prints names.now (steps_in names.now workers (line.now ∷ []))
+    ensures printed { OnOk result (Prints cast.now.names.now (steps_in cast.now.names.now cast.now.workers (line.now ∷ []))
         (world_of floor.old) (world_of floor.new) text.old.items text.new.items) }
     ensures undone { result ≡ Err Refusal.Before → floor.new ≡ floor.old }
     ensures unprinted { result ≡ Err Refusal.Before → text.new.items ≡ text.old.items }
-    ensures lost { result ≡ Err Refusal.Behind → HasLong STEP_ROOM names.now (steps_in names.now workers (line.now ∷ []))
+    ensures lost { result ≡ Err Refusal.Behind
+        → HasLong STEP_ROOM cast.now.names.now (steps_in cast.now.names.now cast.now.workers (line.now ∷ []))
         (world_of floor.old) (world_of floor.new) }
+    ensures closed { OnOk result (Closes K.takes (steps_in cast.now.names.now cast.now.workers (line.now ∷ []))
+        (world_of floor.old) (world_of floor.new) keeper.old keeper.new) }
     ensures workers { length floor.new.seats ≡ length floor.old.seats }
     ensures tenants { length floor.new.books ≡ length floor.old.books }
     ensures room { (n : ℕ) → HasRoom floor.old (1 + n) → HasRoom floor.new n }
 {
     floor_core::laws::outputs_are_there();
-    let Ok(meaning) = meaning_of(alloc, names, workers, line, room) else {
+    let Ok(meaning) = meaning_of(alloc, cast.names, cast.workers, line, room) else {
         return Err(Refusal::Before);
     };
     match meaning {
         Meaning::Skipped => Ok(()),
-        Meaning::Runs(step) => run_step(alloc, floor, names, &step, text),
+        Meaning::Runs(step) => run_step(alloc, floor, cast.names, &step, text, keeper),
         Meaning::Bad => unreachable!(),
     }
 }
@@ -168,27 +183,29 @@ fn write_if_long<W: Write + Device>(
 }
 
 // Does what the lines of a script say, none of which is bad, and writes the lines of the outputs, as soon as there are
-// many. Where memory is refused, the lines of the steps that were done are written.
-fn run_lines<W: Write + Device>(
+// many. Where memory is refused, the lines of the steps that were done are written. The keeper gets what the steps close.
+fn run_lines<K: PeriodKeeper, W: Write + Device>(
     alloc: Global,
     floor: &mut Floor,
-    names: &[Name],
-    workers: usize,
+    cast: &Cast<'_>,
     script: &[u8],
+    keeper: &mut K,
     writer: &mut W,
     before: u64,
 ) -> Result<Course, StreamFault>
-    requires good { NoneIsBad names.now workers (lines_of script.now) }
-    requires workers { length floor.old.seats ≡ workers }
-    requires tenants { length floor.old.books ≡ length names.now }
+    requires good { NoneIsBad cast.now.names.now cast.now.workers (lines_of script.now) }
+    requires workers { length floor.old.seats ≡ cast.now.workers }
+    requires tenants { length floor.old.books ≡ length cast.now.names.now }
     requires room { HasRoom floor.old (length script.now) }
     requires unfailed { W.failure_count writer.old ≤ before }
-    ensures written { result ≡ Ok Course.Whole → WritesLines names.now (world_of floor.old)
-        (steps_in names.now workers (lines_of script.now)) (W.contents writer.old) (W.contents writer.new) }
-    ensures done { result ≡ Ok Course.Cut → WritesDone names.now (world_of floor.old)
-        (steps_in names.now workers (lines_of script.now)) (world_of floor.new) (W.contents writer.old) (W.contents writer.new) }
-    ensures front { WritesSome names.now (world_of floor.old)
-        (steps_in names.now workers (lines_of script.now)) (W.contents writer.old) (W.contents writer.new) }
+    ensures written { result ≡ Ok Course.Whole → WritesLines cast.now.names.now (world_of floor.old)
+        (steps_in cast.now.names.now cast.now.workers (lines_of script.now)) (W.contents writer.old) (W.contents writer.new) }
+    ensures closed { result ≡ Ok Course.Whole
+        → ClosesAll K.takes (steps_in cast.now.names.now cast.now.workers (lines_of script.now)) (world_of floor.old) keeper.old keeper.new }
+    ensures done { result ≡ Ok Course.Cut → WritesDone cast.now.names.now (world_of floor.old)
+        (steps_in cast.now.names.now cast.now.workers (lines_of script.now)) (world_of floor.new) (W.contents writer.old) (W.contents writer.new) }
+    ensures front { WritesSome cast.now.names.now (world_of floor.old)
+        (steps_in cast.now.names.now cast.now.workers (lines_of script.now)) (W.contents writer.old) (W.contents writer.new) }
     ensures size { result ≢ Err StreamFault.Size }
     ensures device { (result ≡ Err StreamFault.Device) ↔ (before < W.failure_count writer.new) }
 {
@@ -199,7 +216,7 @@ fn run_lines<W: Write + Device>(
     let mut rest = script;
     while !rest.is_empty() {
         let (line, after) = first_line(rest);
-        match run_line(alloc, floor, names, workers, line, &mut room, &mut text) {
+        match run_line(alloc, floor, cast, line, &mut room, &mut text, keeper) {
             Ok(()) => {}
             Err(Refusal::Before) => {
                 write_text(writer, text.as_slice(), before)?;
@@ -246,12 +263,13 @@ fn good_script<R: Read + Device>(
 }
 
 // Runs a good script for the tenants of a setup, who begin anew.
-fn run_script<W: Write + Device>(
+fn run_script<K: PeriodKeeper, W: Write + Device>(
     alloc: Global,
     setup: &Setup,
     names: &[Name],
     workers: usize,
     script: &[u8],
+    keeper: &mut K,
     writer: &mut W,
 ) -> Result<(), ReplayFault>
     requires tenants { (1 ≤ length setup.now.tenants) × (length setup.now.tenants ≤ max_tenants) }
@@ -261,6 +279,8 @@ fn run_script<W: Write + Device>(
     requires short { length script.now ≤ MAX_SCRIPT }
     ensures written { OnOk result (WritesLines names.now (world_of_setup setup.now)
         (steps_in names.now workers (lines_of script.now)) (W.contents writer.old) (W.contents writer.new)) }
+    ensures closed { OnOk result (ClosesAll K.takes (steps_in names.now workers (lines_of script.now)) (world_of_setup setup.now)
+        keeper.old keeper.new) }
     ensures left { OnErr result (Keeps (W.contents writer.old) (W.contents writer.new)
         ⊎ WritesSome names.now (world_of_setup setup.now)
         (steps_in names.now workers (lines_of script.now)) (W.contents writer.old) (W.contents writer.new)) }
@@ -271,7 +291,8 @@ fn run_script<W: Write + Device>(
     let Ok(mut floor) = Floor::new(alloc, setup.tenants.as_slice(), setup.start, workers) else {
         return Err(ReplayFault::Memory);
     };
-    match run_lines(alloc, &mut floor, names, workers, script, writer, before) {
+    let cast = Cast { names, workers };
+    match run_lines(alloc, &mut floor, &cast, script, keeper, writer, before) {
         Ok(Course::Whole) => Ok(()),
         Err(StreamFault::Device) => Err(ReplayFault::Device),
         Ok(Course::Cut) | Err(_) => Err(ReplayFault::Memory),
@@ -279,11 +300,12 @@ fn run_script<W: Write + Device>(
 }
 
 // Replays the script that the reader has left for a setup that was read.
-fn replay_for<R: Read + Device, W: Write + Device>(
+fn replay_for<K: PeriodKeeper, R: Read + Device, W: Write + Device>(
     alloc: Global,
     setup: &Setup,
     workers: usize,
     reader: &mut R,
+    keeper: &mut K,
     writer: &mut W,
 ) -> Result<(), ReplayFault>
     requires tenants { (1 ≤ length setup.now.tenants) × (length setup.now.tenants ≤ max_tenants) }
@@ -291,6 +313,8 @@ fn replay_for<R: Read + Device, W: Write + Device>(
     ensures written { OnOk result (IfSome (R.remaining reader.old) (λ script.
         (text : List ℕ) × IsReplayedFor setup.now workers script text
         × Appends (W.contents writer.old) (W.contents writer.new) text)) }
+    ensures closed { OnOk result (IfSome (R.remaining reader.old)
+        (λ script. TakesClosedFor K.takes setup.now workers script keeper.old keeper.new)) }
     ensures refused { IfErr result (λ fault. IsRefusedBy fault (Ok setup.now) workers (R.remaining reader.old)) }
     ensures left { IfErr result (λ fault. LeavesWrittenFor fault setup.now workers (R.remaining reader.old)
         (W.contents writer.old) (W.contents writer.new)) }
@@ -312,8 +336,51 @@ fn replay_for<R: Read + Device, W: Write + Device>(
         names.as_slice(),
         workers,
         script.as_slice(),
+        keeper,
         writer,
     )
+}
+
+/// Replays the script that the reader has left, as `replay` does, and shows the keeper each period that a roll of the script closes.
+///
+/// It sees them in the order of the script's steps, each once, before the next step. No period is copied. Where the replay ends early,
+/// it has seen those of some first steps.
+pub fn replay_keeping<K: PeriodKeeper, R: Read + Device, W: Write + Device>(
+    alloc: Global,
+    setup: &[u8],
+    workers: usize,
+    reader: &mut R,
+    keeper: &mut K,
+    writer: &mut W,
+) -> Result<(), ReplayFault>
+    requires { (1 ≤ workers) × (workers ≤ max_seats) }
+    // What was written are, to each tenant, the lines of the one-tenant connector on the tenant's own steps alone.
+    ensures written { OnOk result (IfSome (R.remaining reader.old)
+        (λ script. WritesAll setup.now workers script (W.contents writer.old) (W.contents writer.new))) }
+    // The keeper took just the periods that the steps closed.
+    ensures closed { OnOk result (IfSome (R.remaining reader.old)
+        (λ script. TakesClosed K.takes setup.now workers script keeper.old keeper.new)) }
+    // Which fault it is, and what it leaves.
+    ensures refused { IfErr result (λ fault. IsRefusedBy fault (setup_of setup.now) workers (R.remaining reader.old)) }
+    ensures left { IfErr result (λ fault.
+        LeavesWritten fault setup.now workers (R.remaining reader.old) (W.contents writer.old) (W.contents writer.new)) }
+    ensures device { (result ≡ Err ReplayFault.Device)
+        ↔ ((R.failure_count reader.old < R.failure_count reader.new)
+        ⊎ (W.failure_count writer.old < W.failure_count writer.new)) }
+    // The setup is looked at before the devices, and the script before the writer.
+    ensures order { result ≡ Err ReplayFault.Device → IsOk (setup_of setup.now) }
+    ensures script_order { result ≡ Err ReplayFault.Device
+        → R.failure_count reader.new ≤ R.failure_count reader.old
+        → IfSome (R.remaining reader.old) (λ script. refusal_of (setup_of setup.now) workers script ≡ None) }
+    ensures taken { ConsumesAtMost (MAX_SCRIPT + 1) (R.remaining reader.old) (R.remaining reader.new) }
+{
+    admin_text::laws::setups();
+    floor_core::laws::frames_that_go_on();
+    match read_setup(alloc, setup) {
+        Ok(setup) => replay_for(alloc, &setup, workers, reader, keeper, writer),
+        Err(ReadError::Memory) => Err(ReplayFault::Memory),
+        Err(ReadError::Fault(fault)) => Err(ReplayFault::Setup(fault)),
+    }
 }
 
 /// Replays the script that the reader has left, for the setup, and writes a line or more for each of its steps.
@@ -348,11 +415,5 @@ pub fn replay<R: Read + Device, W: Write + Device>(
         → IfSome (R.remaining reader.old) (λ script. refusal_of (setup_of setup.now) workers script ≡ None) }
     ensures taken { ConsumesAtMost (MAX_SCRIPT + 1) (R.remaining reader.old) (R.remaining reader.new) }
 {
-    admin_text::laws::setups();
-    floor_core::laws::frames_that_go_on();
-    match read_setup(alloc, setup) {
-        Ok(setup) => replay_for(alloc, &setup, workers, reader, writer),
-        Err(ReadError::Memory) => Err(ReplayFault::Memory),
-        Err(ReadError::Fault(fault)) => Err(ReplayFault::Setup(fault)),
-    }
+    replay_keeping(alloc, setup, workers, reader, &mut LetGo, writer)
 }

@@ -1,5 +1,5 @@
 -- What a worker answers to a question, what it counts with it, and what connections leave of a worker.
-use Rattle.std.specs.Prelude.{ℕ, ◌≡◌, ◌+◌, ◌<◌, ◌-◌, ◌==◌, ◌⊎◌, ◌↔◌, true, false, Bool, List, [], ◌∷◌, ◌++◌, length, take, map, nat_lt}
+use Rattle.std.specs.Prelude.{ℕ, ◌≡◌, ◌≢◌, ◌+◌, ◌<◌, ◌-◌, ◌==◌, ◌⊎◌, ◌↔◌, true, false, Bool, List, [], ◌∷◌, ◌++◌, length, take, map, nat_lt}
 use Rattle.std.specs.Prelude.{slice_index_or, if◌then◌else◌, Option, Result, Ok, Err, IfOk, is_ok}
 use Rattle.std.specs.List.{flat_map, sum_by}
 use Rattle.std.specs.Prelude.{All}
@@ -20,6 +20,7 @@ use Rattle.one_list.specs.declared.run.Run.{Ghosts}
 use Rattle.books_shared.specs.Shares.{ShareView, fresh, is_spent}
 use Rattle.books_shared.specs.Traced.{HaveListOf, openings_of}
 use Rattle.floor_core.specs.Work.{loaded}
+use Rattle.floor_core.specs.declared.parts.Got.{Got}
 use Rattle.workers.specs.Carrying.{IsCarried, IsDone, circumstances, growth}
 use Rattle.workers.specs.Counting.{IsSpent, command_kind, reply_tallied, tallied}
 use Rattle.workers.specs.Replies.{code_of, sends_of, status_of}
@@ -63,7 +64,8 @@ pub record IsUntouched {J : Type 0} {r : Ghosts J} (before after : Desk J r) : T
 -- books' share has grown by each call of the book: it counts what the book did, and each record that the book made is the next
 -- step of the worker's part of the one list; no other step came to that part. A token that is none and a frame that is no Prepare get no further, and nothing does where
 -- no more may be counted or sent, nor, in an audited run, where memory for receipts was refused. Books were asked at moments
--- that the clock gave, and steps led to them from the run's openings.
+-- that the clock gave, and steps led to them from the run's openings. Where workers answer only packets that they sent on
+-- themselves, none is lost: what came back for it is settled.
 pub record WasCarried {J : Type 0} {r : Ghosts J} (Gives : ℕ → Type 0) (before : Desk J r) (tenant : ℕ) (token frame : List ℕ) (told : Status)
     (after : Desk J r) : Type 0 where
   pub reply : Reply
@@ -73,6 +75,7 @@ pub record WasCarried {J : Type 0} {r : Ghosts J} (Gives : ℕ → Type 0) (befo
   pub spent : reply ≡ replies.Spent ↔ (is_token token ≡ true) × (is_ok (prepare_at frame) ≡ true)
       × IsSpent before.share before.sent
   pub memory : reply ≡ replies.Memory → before.share.audited ≡ true
+  pub sure : (got : Got) → r.own ≡ true → reply ≢ replies.Lost got
   pub sent : after.sent ≡ before.sent + sends_of reply
   pub carried : IsCarried (circumstances r.openings Gives) reply (growth tenant before.share after.share)
       (loaded before.slot tenant token frame) after.slot (λ sending. Unit {0})
@@ -262,12 +265,13 @@ pub record HasToldCountsIn {J : Type 0} (run : Ghosts J) (Gives : ℕ → Type 0
       ++ lines_upto (length setup.tenants) office.names.items totals ++ audit)
   pub one_list : HaveListOf run.size run.openings books shares
 
--- the run of a service of a setup, whose list stands behind that table
+-- the run of a service of a setup, whose list stands behind that table: each worker answers only packets that it sent on itself
 abbrev pub run_of : TableId → Setup → (workers : ℕ) → Ghosts Brand
 run_of table setup workers = record {
   table = table;
   size = record { tenants = length setup.tenants; workers = workers };
   openings = openings_of setup.tenants setup.start;
+  own = true;
 }
 
 -- A service of a setup has written the balances in the end, where they are wanted, a line for each tenant, of what so many

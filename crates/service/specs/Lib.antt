@@ -12,3 +12,4 @@ pub mod Files
 pub mod Ending
 pub mod Extents
 pub mod Filing
+pub mod ReceiptFiling

@@ -6,6 +6,7 @@ ghost use Rattle.service.specs.Filing.{AreFiled, IsFiled, Stated, line_unless, m
 
 pub mod disk;
 pub mod folder;
+pub mod receipt_store;
 
 use common_types::Name;
 use statements::write_statement;

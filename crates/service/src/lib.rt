@@ -21,7 +21,9 @@ mod worker;
 
 pub use filing::disk::Disk;
 pub use filing::folder::Folder;
+pub use filing::{StatementStore, file};
 pub use host::hosting::HostDoor;
+pub use running::auditing::{audit_told, good_line, word_of};
 pub use running::ending::ServeFault;
 pub use running::files::{can_open, files_of};
 pub use running::plan::{Extent, Plan, Report};

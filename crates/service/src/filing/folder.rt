@@ -1,13 +1,18 @@
-//! A folder of statements.
+//! A folder of statements, and of receipts.
 
 use crate::filing::StatementStore;
 use crate::filing::disk::Disk;
+use crate::filing::receipt_store::ReceiptStore;
 use common_types::Name;
 use std::alloc::Global;
 use std::io;
 use std::io::ErrorKind;
 
-/// A folder in which each statement is a file, NAME.PERIOD.statement, that its owner alone may read.
+/// The name of the file of the receipts.
+const RECEIPTS: &[u8] = b"receipts";
+
+/// A folder in which each statement is a file, NAME.PERIOD.statement, and the receipts of all workers are one, receipts. Their
+/// owner alone may read them.
 ///
 /// A file comes under its name once it is whole and on the disk.
 #[derive(Drop)]
@@ -25,31 +30,49 @@ impl<'a, D> Folder<'a, D> {
 }
 
 impl<D: Disk> Folder<'_, D> {
-    // The path of a statement, and what is put behind it.
-    fn path_of(&self, name: &Name, period: u64, ending: &[u8]) -> io::Result<String> {
-        let number = period.to_string(self.alloc)?;
+    // The path of a file, and what is put behind it.
+    fn path_of(&self, file: &[u8], ending: &[u8]) -> io::Result<String> {
         let mut path = Vec::new(self.alloc);
         path.extend_from_slice(self.path.as_bytes())?;
         path.push(b'/')?;
-        path.extend_from_slice(name.as_bytes())?;
-        path.push(b'.')?;
-        path.extend_from_slice(number.as_bytes())?;
-        path.extend_from_slice(b".statement")?;
+        path.extend_from_slice(file)?;
         path.extend_from_slice(ending)?;
         String::from_utf8(path).map_err(|_| io::Error::from(ErrorKind::InvalidInput))
     }
 
+    // The name of the file of a statement.
+    fn file_of(&self, name: &Name, period: u64) -> io::Result<Vec<u8>> {
+        let number = period.to_string(self.alloc)?;
+        let mut file = Vec::new(self.alloc);
+        file.extend_from_slice(name.as_bytes())?;
+        file.push(b'.')?;
+        file.extend_from_slice(number.as_bytes())?;
+        file.extend_from_slice(b".statement")?;
+        Ok(file)
+    }
+
     /// Whether there is a file for a statement.
     pub fn has_file(&self, name: &Name, period: u64) -> io::Result<bool> {
-        self.disk.has(self.path_of(name, period, b"")?.as_str())
+        let file = self.file_of(name, period)?;
+        self.disk.has(self.path_of(file.as_slice(), b"")?.as_str())
+    }
+
+    /// Whether there is a file for receipts.
+    pub fn has_receipts_file(&self) -> io::Result<bool> {
+        self.disk.has(self.path_of(RECEIPTS, b"")?.as_str())
     }
 
     // Writes a text beside, and gives it its name once it is whole.
-    fn write(&self, name: &Name, period: u64, text: &[u8]) -> io::Result<()> {
-        let part = self.path_of(name, period, b".part")?;
-        let path = self.path_of(name, period, b"")?;
+    fn write(&self, file: &[u8], text: &[u8]) -> io::Result<()> {
+        let part = self.path_of(file, b".part")?;
+        let path = self.path_of(file, b"")?;
         self.disk.write_anew(part.as_str(), text)?;
         self.disk.rename(self.path, part.as_str(), path.as_str())
+    }
+
+    fn write_statement(&self, name: &Name, period: u64, text: &[u8]) -> io::Result<()> {
+        let file = self.file_of(name, period)?;
+        self.write(file.as_slice(), text)
     }
 }
 
@@ -64,6 +87,21 @@ impl<D: Disk> StatementStore for Folder<'_, D> {
     }
 
     fn keep(&mut self, name: &Name, period: u64, text: &[u8]) -> bool {
-        self.write(name, period, text).is_ok()
+        self.write_statement(name, period, text).is_ok()
+    }
+}
+
+impl<D: Disk> ReceiptStore for Folder<'_, D> {
+    // What a file system keeps no clause can say.
+    ghost tells_receipts = { λ _ _ _. Unit {0} };
+
+    ghost keeps_receipts = { λ _ _ _ _. Unit {0} };
+
+    fn has_receipts(&mut self) -> Option<bool> {
+        self.has_receipts_file().ok()
+    }
+
+    fn keep_receipts(&mut self, text: &[u8]) -> bool {
+        self.write(RECEIPTS, text).is_ok()
     }
 }

@@ -127,8 +127,8 @@ pub fn roll_all<J: Run, H: Wait, C: Clock>(
     rolled
 }
 
-// The receipts of each worker, where all have kept them.
-fn lists_of<J: Run>(alloc: Global, shares: &[Share<J>]) -> Result<Vec<&[Receipt]>, AuditFault>
+/// The receipts of each worker, where all have kept them.
+pub fn lists_of<J: Run>(alloc: Global, shares: &[Share<J>]) -> Result<Vec<&[Receipt]>, AuditFault>
     ensures lists { IfOk result (λ lists. map (λ list. list.now) lists.items ≡ lists_of shares.now) }
     ensures kept { IfOk result (λ lists. All (λ s. s.audited ≡ true) shares.now) }
     ensures lacking { IfErr result (AreLacking shares.now) }
@@ -213,8 +213,8 @@ pub fn audited<J: Run>(
     }
 }
 
-// The line of an audit that says yes.
-fn good_line(alloc: Global, receipts: usize) -> Result<Vec<u8>, AllocError>
+/// The line of an audit that says yes to that many receipts.
+pub fn good_line(alloc: Global, receipts: usize) -> Result<Vec<u8>, AllocError>
     ensures { IfOk result (λ line. line.items ≡ audit_line receipts) }
 {
     let mut line = Vec::new(alloc);
@@ -236,8 +236,8 @@ pub fn audit_told(alloc: Global, words: &[u8]) -> Result<Vec<u8>, AllocError>
     Ok(line)
 }
 
-// The word for a fault, but for want of memory.
-fn word_of(fault: &AuditFault) -> Result<&'static [u8], AllocError>
+/// The word for a fault, but for want of memory.
+pub fn word_of(fault: &AuditFault) -> Result<&'static [u8], AllocError>
     ensures { IfOk result (λ word. word.now ≡ fault_word fault.now) }
 {
     match fault {

@@ -9,6 +9,7 @@ ghost use Rattle.workers.specs.Carrying.{circumstances};
 use crate::filing::disk::Disk;
 use crate::filing::file_each;
 use crate::filing::folder::Folder;
+use crate::filing::receipt_store::file_receipts;
 use crate::office::Office;
 use crate::running::auditing::{Found, audited, lacked, roll_all};
 use crate::running::ending::AuditEnd;
@@ -21,10 +22,11 @@ use std::sync::Wait;
 use tenant_core::Period;
 use workers::Clock;
 
-/// What a service tells last: a line for each period whose statement is not kept, and what an audit found.
+/// What a service tells last: a line for each period whose statement is not kept, one where the receipts are not, and what an
+/// audit found.
 #[derive(Drop)]
 pub struct Last {
-    pub statements: Vec<u8>,
+    pub missing: Vec<u8>,
     pub audit: Found,
 }
 
@@ -76,7 +78,29 @@ fn file_late<J: Run, H: Disk, C>(
     }
 }
 
-// Closes what is to be closed, has statements written and receipts audited. The one error is that memory was refused.
+// Has the receipts of all workers written, where they are kept and statements are, and puts a line behind a text where they are
+// not kept now. The one error is that memory was refused.
+fn file_receipts_late<J: Run, H: Disk, C>(
+    system: &System<'_, H, C>,
+    plan: Plan<'_>,
+    office: &Office<J>,
+    shares: &[Share<J>],
+    lines: &mut Vec<u8>,
+) -> Result<(), AllocError> {
+    let Some(filing) = &office.filing else {
+        return Ok(());
+    };
+    if !plan.report.audit {
+        return Ok(());
+    }
+    let mut folder = Folder::new(system.handle, system.alloc, filing.folder.as_str());
+    if file_receipts(system.alloc, &mut folder, shares) {
+        return Ok(());
+    }
+    lines.extend_from_slice(b"receipts missing\n")
+}
+
+// Closes what is to be closed, has statements and receipts written, and receipts audited. The one error is that memory was refused.
 fn finished<J: Run, H: Wait + Disk, C: Clock>(
     system: &System<'_, H, C>,
     plan: Plan<'_>,
@@ -94,15 +118,16 @@ fn finished<J: Run, H: Wait + Disk, C: Clock>(
 {
     let mut late = waiting_periods(system, office)?;
     roll_all(system, plan.closes(), office, shares, &mut late)?;
-    let statements = file_late(system, office, late.as_slice())?;
+    let mut missing = file_late(system, office, late.as_slice())?;
+    file_receipts_late(system, plan, office, shares.as_slice(), &mut missing)?;
     let closed = with_more(periods, late).ok_or(AllocError)?;
     let wanted = plan.report.audit;
     let audit = audited(system.alloc, wanted, closed.as_slice(), shares.as_slice())?;
-    Ok(Last { statements, audit })
+    Ok(Last { missing, audit })
 }
 
-/// Closes the running periods, where an audit or statements want it; has the statements written that are not yet; and audits what
-/// the workers did, where that is wanted, by the periods that were closed before, if there was memory to put them together. One
+/// Closes the running periods, where an audit or statements want it; has the statements written that are not yet, and the receipts,
+/// where both are kept; and audits what the workers did, where that is wanted, by the periods that were closed before, if there was memory to put them together. One
 /// of the workers closes the last ones.
 pub fn finish<J: Run, H: Wait + Disk, C: Clock>(
     system: &System<'_, H, C>,
@@ -121,7 +146,7 @@ pub fn finish<J: Run, H: Wait + Disk, C: Clock>(
     match finished(system, plan, office, shares, periods) {
         Ok(last) => last,
         Err(AllocError) => Last {
-            statements: Vec::new(system.alloc),
+            missing: Vec::new(system.alloc),
             audit: lacked(system.alloc),
         },
     }
@@ -131,11 +156,11 @@ pub fn finish<J: Run, H: Wait + Disk, C: Clock>(
 #[derive(Drop)]
 pub struct LastText {
     pub text: Vec<u8>,
-    /// Whether all statements are kept: the text is what the audit found, and nothing else.
+    /// Whether all statements and receipts are kept: the text is what the audit found, and nothing else.
     pub is_stated: bool,
 }
 
-/// The lines of statements that are not kept, and after them the line of the audit.
+/// The lines of what is not kept, and after them the line of the audit.
 pub fn followed_by(mut lines: Vec<u8>, last: &[u8]) -> Result<LastText, AllocError>
     ensures all { IfOk result (λ told. told.text.items ≡ lines.items ++ last.now) }
     ensures kept { IfOk result (λ told. told.is_stated ≡ true → told.text.items ≡ last.now) }

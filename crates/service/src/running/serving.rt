@@ -403,7 +403,8 @@ pub struct Doors<'a> {
 ///
 /// Where statements are kept, one is written of each period that a roll closes, before the roll is answered and after its lock is
 /// free again. One that can't be written is tried again at the tenant's next roll and in the end. Then one worker rolls each
-/// tenant, and a line tells each statement that is not kept: `statement NAME PERIOD missing`.
+/// tenant, and a line tells each statement that is not kept: `statement NAME PERIOD missing`. Where an audit is wanted too, the
+/// receipts of all workers are written then; where they are not kept, a line tells it: `receipts missing`.
 ///
 /// `Memory` where memory was refused, also for the audit alone; `Device` where a thread could not be started, the lines or a statement not be
 /// written, or, unless the host stopped the service, a connection not be accepted; `Differs` where the books in the end are not what the workers have counted, which comes of no lock
@@ -481,8 +482,8 @@ fn serve_run<
         periods,
         failed,
     } = done;
-    let Last { statements, audit } = finish(&system, plan, &office, &mut shares, periods);
-    let last = followed_by(statements, audit.line.as_slice())?;
+    let Last { missing, audit } = finish(&system, plan, &office, &mut shares, periods);
+    let last = followed_by(missing, audit.line.as_slice())?;
     let was_stopped = office.door.is_closed();
     let Office {
         books,

@@ -2,12 +2,12 @@ use Rattle.std.proofs.Common.{◌≡◌, Some, slice_get, rules}
 use Rattle.std.proofs.lemmas.Option.{slice_get_read}
 use Rattle.ilpd.proofs.verifying.begin.Goals as goal
 
-pub returns-then-is_first-clause-begins : goal.returns-then-is_first-clause-begins
-returns-then-is_first-clause-begins g c = record {
+pub returns-in-Ok-clause-begins : goal.returns-in-Ok-clause-begins
+returns-in-Ok-clause-begins g c = record {
   setup = c.in_ok-setup.setup;
   good = c.in_ok-setup.ensures;
   place = c.place_in-place.result;
   tenant = c.in-Some.tenant.now;
   there = search (rules, slice_get_read);
-  begins = search (rules, c.in_ok-opening.ensures, c.in_ok-is_first.ensures);
+  chain = c.in-Ok.ensures.chain;
 }

@@ -5,16 +5,18 @@ use Rattle.floor_core.specs.FloorView.{FloorState, world_of}
 use Rattle.floor_core.specs.declared.step.Step.{Step}
 use Rattle.replay_text.specs.Replay.{WritesDone}
 use Rattle.replay_text.specs.Script.{lines_of, steps_in, NoneIsBad}
+use Rattle.replay_text.proofs.Takings.{AreTaken, all_taken, line_taken, none_taken}
 use Rattle.replay_text.proofs.Pieces.{Laws, Far, not_far, line_farther, same_far, written_farther, some_written, written_before, all_written, done_written, room_for_fewer}
 use Rattle.replay_text.proofs.replays.run_lines.Goals as goal
 
 pub loop-rest-init : goal.loop-rest-init
 loop-rest-init g c =
     let laws : Laws = record { outputs = c.one_after_the_other.ensures.outputs; left = c.one_after_the_other.ensures.left; replies = c.outputs_are_there.ensures.outputs; after = c.outputs_are_there.ensures.left } in
-    let steps : List Step = steps_in c.args.names.now c.args.workers (lines_of c.args.script.now) in
+    let steps : List Step = steps_in c.args.cast.now.names.now c.args.cast.now.workers (lines_of c.args.script.now) in
     record {
-      far = subst (λ t. Far c.args.names.now (world_of c.args.floor.now) (world_of c.args.floor.now) steps steps t (g.W.Write.contents c.args.writer.now) (g.W.Write.contents c.args.writer.now)) (sym c.new-text.ensures.items)
-          (not_far laws c.args.names.now (world_of c.args.floor.now) steps (g.W.Write.contents c.args.writer.now));
+      far = subst (λ t. Far c.args.cast.now.names.now (world_of c.args.floor.now) (world_of c.args.floor.now) steps steps t (g.W.Write.contents c.args.writer.now) (g.W.Write.contents c.args.writer.now)) (sym c.new-text.ensures.items)
+          (not_far laws c.args.cast.now.names.now (world_of c.args.floor.now) steps (g.W.Write.contents c.args.writer.now));
+      taken = none_taken laws g.K.PeriodKeeper.takes (world_of c.args.floor.now) steps c.args.keeper.now;
       good = c.requires.good;
       workers = c.requires.workers;
       tenants = c.requires.tenants;
@@ -23,7 +25,7 @@ loop-rest-init g c =
     }
 
 pub run_line-requires-clause-good : goal.run_line-requires-clause-good
-run_line-requires-clause-good g c = (subst (NoneIsBad c.args.names.now c.args.workers) c.first_line.ensures.value c.loop-rest.invariant.good).0
+run_line-requires-clause-good g c = (subst (NoneIsBad c.args.cast.now.names.now c.args.cast.now.workers) c.first_line.ensures.value c.loop-rest.invariant.good).0
 
 pub run_line-requires-clause-room : goal.run_line-requires-clause-room
 run_line-requires-clause-room g c = room_for_fewer c.loop-rest.floor 1 (length c.loop-rest.rest.now) (omega (arith, c.first_line.ensures.shorter)) c.loop-rest.invariant.room
@@ -32,7 +34,7 @@ pub returns-in_err-write_if_long-clause-front : goal.returns-in_err-write_if_lon
 returns-in_err-write_if_long-clause-front g c =
     let laws : Laws = record { outputs = c.one_after_the_other.ensures.outputs; left = c.one_after_the_other.ensures.left; replies = c.outputs_are_there.ensures.outputs; after = c.outputs_are_there.ensures.left } in
     some_written laws _ _ _ _ _ _ _ _ _
-    (line_farther laws _ c.args.workers _ c.loop-rest.rest.now _ c.first_line.result.1.now _ _ _ _ _ _ _ c.first_line.ensures.value c.loop-rest.invariant.far c.in-Ok.ensures.printed)
+    (line_farther laws _ c.args.cast.now.workers _ c.loop-rest.rest.now _ c.first_line.result.1.now _ _ _ _ _ _ _ c.first_line.ensures.value c.loop-rest.invariant.far c.in-Ok.ensures.printed)
     c.write_if_long.ensures.front
 
 pub loop-rest-preserved : goal.loop-rest-preserved
@@ -40,9 +42,10 @@ loop-rest-preserved g c =
     let laws : Laws = record { outputs = c.one_after_the_other.ensures.outputs; left = c.one_after_the_other.ensures.left; replies = c.outputs_are_there.ensures.outputs; after = c.outputs_are_there.ensures.left } in
     record {
       far = written_farther _ _ _ _ _ _ _ _ _ _
-          (line_farther laws _ c.args.workers _ c.loop-rest.rest.now _ c.first_line.result.1.now _ _ _ _ _ _ _ c.first_line.ensures.value c.loop-rest.invariant.far c.in-Ok.ensures.printed)
+          (line_farther laws _ c.args.cast.now.workers _ c.loop-rest.rest.now _ c.first_line.result.1.now _ _ _ _ _ _ _ c.first_line.ensures.value c.loop-rest.invariant.far c.in-Ok.ensures.printed)
           c.in_ok-write_if_long.ensures.written;
-      good = (subst (NoneIsBad c.args.names.now c.args.workers) c.first_line.ensures.value c.loop-rest.invariant.good).1;
+      taken = line_taken laws g.K.PeriodKeeper.takes _ c.args.cast.now.workers _ c.loop-rest.rest.now _ c.first_line.result.1.now _ _ _ _ _ _ c.first_line.ensures.value c.loop-rest.invariant.taken c.in-Ok.ensures.closed;
+      good = (subst (NoneIsBad c.args.cast.now.names.now c.args.cast.now.workers) c.first_line.ensures.value c.loop-rest.invariant.good).1;
       workers = c.run_line.ensures.workers ∙ c.loop-rest.invariant.workers;
       tenants = c.run_line.ensures.tenants ∙ c.loop-rest.invariant.tenants;
       room = c.run_line.ensures.room (length c.first_line.result.1.now) (room_for_fewer c.loop-rest.floor (1 + length c.first_line.result.1.now) (length c.loop-rest.rest.now) (omega (arith, c.first_line.ensures.shorter)) c.loop-rest.invariant.room);
@@ -72,7 +75,7 @@ returns-in-Err-Before-clause-done g c = λ e.
     done_written _ _ _ _ _ _ _ _ _
     (same_far _ _ _ _ _ _ _ _ _ (c.run_line.ensures.unprinted before) c.loop-rest.invariant.far)
     (rw c.as_slice.ensures.value at c.in_ok-write_text-in-Err-Before.ensures.whole) in
-    subst (λ (f : FloorState). WritesDone c.args.names.now (world_of c.args.floor.now) (steps_in c.args.names.now c.args.workers (lines_of c.args.script.now)) (world_of f) (g.W.Write.contents c.args.writer.now) (g.W.Write.contents c.write_text.new.writer))
+    subst (λ (f : FloorState). WritesDone c.args.cast.now.names.now (world_of c.args.floor.now) (steps_in c.args.cast.now.names.now c.args.cast.now.workers (lines_of c.args.script.now)) (world_of f) (g.W.Write.contents c.args.writer.now) (g.W.Write.contents c.write_text.new.writer))
     (sym (c.run_line.ensures.undone before)) done
 
 pub returns-in-Err-Behind-clause-front : goal.returns-in-Err-Behind-clause-front
@@ -82,11 +85,20 @@ returns-in-Err-Behind-clause-front g c =
 
 pub returns-clause-written : goal.returns-clause-written
 returns-clause-written g c = λ e.
-    let names = c.args.names.now in
+    let names = c.args.cast.now.names.now in
     let none : c.loop-rest.rest.now ≡ [] = nil_from_length _ (eqb-true _ _ (sym c.loop-rest-test.ensures)) in
-    let steps : List Step = steps_in names c.args.workers (lines_of c.args.script.now) in
-    let far = subst (λ t. Far names (world_of c.args.floor.now) (world_of c.loop-rest.floor) steps (steps_in names c.args.workers (lines_of t)) c.loop-rest.text.items (g.W.Write.contents c.args.writer.now) (g.W.Write.contents c.loop-rest.writer)) none c.loop-rest.invariant.far in
+    let steps : List Step = steps_in names c.args.cast.now.workers (lines_of c.args.script.now) in
+    let far = subst (λ t. Far names (world_of c.args.floor.now) (world_of c.loop-rest.floor) steps (steps_in names c.args.cast.now.workers (lines_of t)) c.loop-rest.text.items (g.W.Write.contents c.args.writer.now) (g.W.Write.contents c.loop-rest.writer)) none c.loop-rest.invariant.far in
     all_written _ _ _ _ _ _ _ _ far (rw c.as_slice-2.ensures.value at c.in_ok-write_text.ensures.whole)
+
+pub returns-clause-closed : goal.returns-clause-closed
+returns-clause-closed g c = λ e.
+    let names = c.args.cast.now.names.now in
+    let none : c.loop-rest.rest.now ≡ [] = nil_from_length _ (eqb-true _ _ (sym c.loop-rest-test.ensures)) in
+    let steps : List Step = steps_in names c.args.cast.now.workers (lines_of c.args.script.now) in
+    all_taken g.K.PeriodKeeper.takes _ _ steps _ _
+    (subst (λ t. AreTaken g.K.PeriodKeeper.takes (world_of c.args.floor.now) (world_of c.loop-rest.floor) steps (steps_in names c.args.cast.now.workers (lines_of t)) c.args.keeper.now c.loop-rest.keeper)
+    none c.loop-rest.invariant.taken)
 
 pub returns-in_err-write_text-clause-front : goal.returns-in_err-write_text-clause-front
 returns-in_err-write_text-clause-front g c =

@@ -1,15 +1,17 @@
 use Rattle.std.proofs.Common.{◌≡◌, ◌≤◌, length}
 use Rattle.floor_core.specs.FloorView.{HasRoom, world_of}
 use Rattle.replay_text.specs.Script.{lines_of, steps_in, NoneIsBad}
+use Rattle.replay_text.proofs.Takings.{AreTaken}
 use Rattle.replay_text.proofs.Pieces.{Far}
 use Rattle.replay_text.proofs.replays.run_lines.Given as goal
 
 abbrev pub invariant-loop-rest : goal.invariant-loop-rest
 invariant-loop-rest g l = record {
-  far : Far l.names (world_of l.fn.floor) (world_of l.floor) (steps_in l.names l.workers (lines_of l.script)) (steps_in l.names l.workers (lines_of l.rest)) l.text.items (g.W.Write.contents l.fn.writer) (g.W.Write.contents l.writer);
-  good : NoneIsBad l.names l.workers (lines_of l.rest);
-  workers : length l.floor.seats ≡ l.workers;
-  tenants : length l.floor.books ≡ length l.names;
+  far : Far l.cast.names.now (world_of l.fn.floor) (world_of l.floor) (steps_in l.cast.names.now l.cast.workers (lines_of l.script)) (steps_in l.cast.names.now l.cast.workers (lines_of l.rest)) l.text.items (g.W.Write.contents l.fn.writer) (g.W.Write.contents l.writer);
+  taken : AreTaken g.K.PeriodKeeper.takes (world_of l.fn.floor) (world_of l.floor) (steps_in l.cast.names.now l.cast.workers (lines_of l.script)) (steps_in l.cast.names.now l.cast.workers (lines_of l.rest)) l.fn.keeper l.keeper;
+  good : NoneIsBad l.cast.names.now l.cast.workers (lines_of l.rest);
+  workers : length l.floor.seats ≡ l.cast.workers;
+  tenants : length l.floor.books ≡ length l.cast.names.now;
   room : HasRoom l.floor (length l.rest);
   unfailed : g.W.Device.failure_count l.writer ≤ l.before;
 }

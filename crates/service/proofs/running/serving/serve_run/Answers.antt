@@ -19,7 +19,7 @@ returns-in-Ok g c =
     let names : length office.names.items ≡ length c.args.setup.now.tenants
     = ap length known.names ∙ length_map _ c.args.setup.now.tenants in
     let front : List ℕ = if c.args.plan.report.balances then balance_lines office.names.items c.in-Ok.gathered.items else [] in
-    let finish = c.finish-statements in
+    let finish = c.finish-missing in
     let found : List ℕ = finish.result.audit.line.items in
     let last : List ℕ = c.in_ok-last.last.text.items in
     let text_is : c.in_ok-text-in-Ok.text.items ≡ front = search rules in

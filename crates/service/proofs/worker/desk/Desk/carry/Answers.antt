@@ -17,6 +17,7 @@ returns-clause-carried g c = record {
   malformed = c.carry-reply.ensures.malformed;
   spent = search rules;
   memory = c.carry-reply.ensures.memory;
+  sure = c.carry-reply.ensures.lost;
   sent = search rules;
   carried = carried_so _ _ (λ sending so. tt) _ c.carry-reply.result _ _ _ c.carry-reply.ensures.carried;
   metered = c.carry-reply.ensures.seat;

@@ -1,0 +1,111 @@
+//! What `verify --receipts` says.
+
+use crate::auditing::{Statements, tell_audit};
+use crate::ending::{Ending, exit_status};
+use std::alloc::Global;
+use std::process::Abort;
+use std::test::Fail;
+
+const ACME: &str = "statement 1
+tenant 0 acme g.acme 1024 1000 30000
+period 0 1893456000000 0 0
+1893456000001 tick = 0
+1893456000002 roll
+ending
+tenant 0 acme g.acme 1024 1000 30000
+period 1 1893456000002 0 0
+";
+
+const ACME_NEXT: &str = "statement 1
+tenant 0 acme g.acme 1024 1000 30000
+period 1 1893456000002 0 0
+1893456000003 roll
+ending
+tenant 0 acme g.acme 1024 1000 30000
+period 2 1893456000003 0 0
+";
+
+const BETA: &str = "statement 1
+tenant 1 beta g.beta 1024 1000 30000
+period 0 1893456000000 0 0
+1893456000001 roll
+ending
+tenant 1 beta g.beta 1024 1000 30000
+period 1 1893456000001 0 0
+";
+
+const RECEIPTS: &str = "receipts 1
+worker 2
+0 0 0 1893456000001 tick = 0
+1 0 0 1893456000001 roll
+worker 2
+0 0 1 1893456000002 roll
+0 1 0 1893456000003 roll
+";
+
+const SETUP: &str = "version = 1
+start = 1893456000000
+[[tenant]]
+name = \"acme\"
+address = \"g.acme\"
+admin = \"root-a\"
+[[tenant]]
+name = \"beta\"
+address = \"g.beta\"
+admin = \"root-b\"
+";
+
+// The statements, in their order, the receipts, what is said of them, and the exit status.
+static AUDITED: [(&[&str], &str, &str, u8); 7] = [
+    (&[ACME, ACME_NEXT, BETA], RECEIPTS, "audit ok 4\n", 0),
+    (&[BETA, ACME, ACME_NEXT], RECEIPTS, "audit ok 4\n", 0),
+    (&[ACME, BETA], RECEIPTS, "audit no-period\n", 6),
+    (
+        &[ACME, BETA, ACME_NEXT],
+        "receipts 1\nworker 1\n0 0 0 1893456000001 tick = 0\nworker 2\n0 0 1 1893456000002 roll\n0 1 0 1893456000003 roll\n",
+        "audit missing\n",
+        6,
+    ),
+    (
+        &[ACME, BETA, ACME],
+        RECEIPTS,
+        "c: line 3: not what the statement before it ended with\nit says: period 0 1893456000000 0 0\nit has to say: period 1 1893456000002 0 0\n",
+        4,
+    ),
+    (&[ACME, "", BETA], RECEIPTS, "b: no opening\n", 4),
+    (
+        &[BETA],
+        "receipts 1\nworker 1\n1 0 0 1893456000001 rolled\n",
+        "receipts: line 3: tells no receipt and no worker\nit says: 1 0 0 1893456000001 rolled\n",
+        4,
+    ),
+];
+
+// The names of their files.
+static FILES: [&str; 3] = ["a", "b", "c"];
+
+fn audited(alloc: Global, texts: &[&str], receipts: &str, out: &mut Vec<u8>) -> Result<(), Ending> {
+    let mut statements = Statements::new(alloc).map_err(crate::verifying::memory_refused)?;
+    for (file, text) in FILES.iter().zip(texts.iter()) {
+        let setup = Some(SETUP.as_bytes());
+        statements.take(alloc, setup, file, text.as_bytes(), out)?;
+    }
+    tell_audit(
+        alloc,
+        statements.periods(),
+        "receipts",
+        receipts.as_bytes(),
+        out,
+    )
+}
+
+#[test]
+fn what_verify_says_of_receipts(rt: HostRuntime) -> Result<(), Fail> {
+    for (texts, receipts, said, status) in &AUDITED {
+        let mut out = Vec::new(rt.alloc());
+        let ended = audited(rt.alloc(), texts, receipts, &mut out);
+        assert!(rt; out.as_slice() == said.as_bytes(), "{said}");
+        assert!(rt; exit_status(&ended) == *status);
+    }
+    Ok(())
+}

@@ -1,0 +1,159 @@
+//! What `verify` says of receipts, and of the statements of all tenants that they are audited by.
+
+ghost use Rattle.std.specs.Prelude.{◌≡◌, IfOk, IsErr, OnOk};
+ghost use Rattle.ilpd.specs.Auditing.{TellsAudit};
+ghost use Rattle.statements.specs.Statement.{IsStatement};
+
+use crate::ending::Ending;
+use crate::verifying::{
+    begin, begun, fault_words, memory_refused, name_in, put_place, refuse, take, write,
+};
+use common_types::ReadError;
+use receipt_text::{ReceiptsFault, TextFault, check_receipts};
+use receipts::AuditFault;
+use replay_text::ReplayFault;
+use service::{audit_told, good_line, word_of};
+use statements::{Chain, ChainFault, check_statement};
+use std::alloc::{AllocError, Global};
+use std::io::Write;
+use tenant_core::Period;
+use tenant_core::limits::MAX_TENANTS;
+
+/// The statements of all tenants, as far as they were taken: a chain for each tenant, by its place, and the periods that they state.
+#[derive(Drop)]
+pub struct Statements {
+    chains: Vec<Chain>,
+    periods: Vec<Period>,
+}
+
+// The period that the text of a file states. Where it states none, it says why, and the run ends.
+fn stated<W: Write>(
+    alloc: Global,
+    file: &str,
+    text: &[u8],
+    writer: &mut W,
+) -> Result<Period, Ending>
+    ensures stated { IfOk result (IsStatement text.now) }
+    ensures silent { OnOk result (writer.new ≡ writer.old) }
+{
+    match check_statement(alloc, text) {
+        Ok(period) => Ok(period),
+        Err(ReadError::Memory) => Err(Ending::Fault(ReplayFault::Memory)),
+        Err(ReadError::Fault(fault)) => {
+            let chain = Chain::new(alloc);
+            let fault = ChainFault::Statement(fault);
+            let words = fault_words(alloc, &chain, file, text, fault).map_err(memory_refused)?;
+            Err(refusal(writer, words.as_slice()))
+        }
+    }
+}
+
+// Says what is wrong, and gives how the run ends.
+fn refusal<W: Write>(writer: &mut W, words: &[u8]) -> Ending {
+    match refuse(writer, words) {
+        Ok(()) => Ending::NotGood,
+        Err(ending) => ending,
+    }
+}
+
+impl Statements {
+    ghost use Rattle.std.specs.Prelude.{◌≡◌, IfOk, OnOk, []};
+    ghost use Rattle.ilpd.specs.Auditing.{IsOneMore};
+
+    /// None yet. The one error is that memory was refused.
+    pub fn new(alloc: Global) -> Result<Statements, AllocError>
+        ensures { IfOk result (λ none. none.periods.items ≡ []) }
+    {
+        let mut chains = Vec::with_capacity(alloc, MAX_TENANTS)?;
+        for _ in 0..MAX_TENANTS {
+            chains.push(Chain::new(alloc))?;
+        }
+        Ok(Statements {
+            chains,
+            periods: Vec::new(alloc),
+        })
+    }
+
+    /// The periods that they state.
+    pub fn periods(&self) -> &[Period]
+        ensures { result.now ≡ self.now.periods.items }
+    {
+        &self.periods
+    }
+
+    /// Takes the text of a file as the next statement of its tenant, the tenant's first one as `begin` does where there is a setup. Where
+    /// it is not good, or does not go on where the one before it ended, it says so as `take` does, and the run ends.
+    pub fn take<W: Write>(
+        &mut self,
+        alloc: Global,
+        setup: Option<&[u8]>,
+        file: &str,
+        text: &[u8],
+        writer: &mut W,
+    ) -> Result<(), Ending>
+        ensures more { OnOk result (IsOneMore text.now self.old.periods.items self.new.periods.items) }
+        ensures silent { OnOk result (writer.new ≡ writer.old) }
+    {
+        self.periods.reserve(1).map_err(memory_refused)?;
+        let period = stated(alloc, file, text, writer)?;
+        let Some(chain) = self.chains.get_mut(period.tenant()) else {
+            return Err(Ending::NotGood);
+        };
+        if let (None, Some(setup)) = (chain.opening_due(), setup) {
+            begin(alloc, chain, setup, name_in(text), file, writer)?;
+        }
+        take(alloc, chain, file, text, writer)?;
+        self.periods.push_reserved(period);
+        Ok(())
+    }
+}
+
+// What is said of a text that is no text of receipts.
+fn text_words(
+    alloc: Global,
+    file: &str,
+    text: &[u8],
+    fault: TextFault,
+) -> Result<Vec<u8>, AllocError> {
+    let (line, reason) = match fault {
+        TextFault::Line(line) => (line, "tells no receipt and no worker"),
+        TextFault::Differs(line) => (line, "not as receipts are written"),
+    };
+    let mut out = begun(alloc, file)?;
+    put_place(&mut out, alloc, text, Some(line), reason, None)?;
+    Ok(out)
+}
+
+// Tells what an audit found wrong, and gives how the run ends.
+fn fault_told<W: Write>(alloc: Global, fault: &AuditFault, writer: &mut W) -> Result<(), Ending>
+    ensures { IsErr result }
+{
+    let word = word_of(fault).map_err(memory_refused)?;
+    let line = audit_told(alloc, word).map_err(memory_refused)?;
+    write(writer, line.as_slice())?;
+    Err(Ending::Audit)
+}
+
+/// Audits the receipts in the text of a file by periods, and tells how many there are, which are complete; or what is wrong with them,
+/// or why it is no text of receipts, and the run ends.
+pub fn tell_audit<W: Write>(
+    alloc: Global,
+    periods: &[Period],
+    file: &str,
+    text: &[u8],
+    writer: &mut W,
+) -> Result<(), Ending>
+    ensures { OnOk result (TellsAudit periods.now text.now (W.contents writer.old) (W.contents writer.new)) }
+{
+    match check_receipts(alloc, periods, text) {
+        Ok(audited) => {
+            let line = good_line(alloc, audited.receipts).map_err(memory_refused)?;
+            write(writer, line.as_slice())
+        }
+        Err(ReceiptsFault::Audit(fault)) => fault_told(alloc, &fault, writer),
+        Err(ReceiptsFault::Text(fault)) => {
+            let words = text_words(alloc, file, text, fault).map_err(memory_refused)?;
+            refuse(writer, words.as_slice())
+        }
+    }
+}

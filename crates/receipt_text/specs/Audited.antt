@@ -1,0 +1,34 @@
+-- What an audit finds of receipts that stand in a text.
+use Rattle.std.specs.Prelude.{ℕ, ◌≡◌, List, length}
+use Rattle.tenant_core.specs.declared.period.PeriodParts.{PeriodParts}
+use Rattle.receipts.specs.Audits.{IsComplete, receipts_of, tenants_of}
+use Rattle.receipts.specs.Layout.{IsFault}
+use Rattle.receipts.specs.Runs.{AreOfRun}
+use Rattle.receipts.specs.declared.auditing.Audited.{Audited}
+use Rattle.receipts.specs.declared.fault.AuditFault.{AuditFault}
+use Rattle.receipts.specs.declared.fault.AuditFault.TheVariants.{Memory}
+use Rattle.receipts.specs.declared.receipt.Receipt.{Receipt}
+use Rattle.receipt_text.specs.ReceiptText.{receipts_text}
+use Rattle.receipt_text.specs.declared.fault.ReceiptsFault.{ReceiptsFault}
+use Rattle.receipt_text.specs.declared.fault.ReceiptsFault.TheVariants.{Text, Audit}
+
+-- there are receipts of which that is the text, word for word, and an audit of them by these periods says yes
+pub record IsAuditedText (periods : List PeriodParts) (text : List ℕ) (a : Audited) : Type 0 where
+  pub lists : List (List Receipt)
+  pub written : text ≡ receipts_text lists
+  pub complete : IsComplete periods lists a.order
+  pub run : AreOfRun periods lists a.order
+  pub tenants : a.tenants ≡ tenants_of periods
+  pub count : a.periods ≡ length periods
+  pub receipts : a.receipts ≡ receipts_of lists
+
+-- the fault is there in receipts of which that is the text; want of memory says nothing
+abbrev pub IsFound : List PeriodParts → List ℕ → AuditFault → Type 0
+IsFound periods text Memory = Unit {0}
+IsFound periods text fault =
+    (lists : List (List Receipt)) × (text ≡ receipts_text lists) × IsFault periods lists fault
+
+-- why an audit of a text does not say yes; of a text that is none nothing is said
+abbrev pub IsTextFault : List PeriodParts → List ℕ → ReceiptsFault → Type 0
+IsTextFault periods text (Text fault) = Unit {0}
+IsTextFault periods text (Audit fault) = IsFound periods text fault

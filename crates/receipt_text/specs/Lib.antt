@@ -1,0 +1,2 @@
+pub mod ReceiptText
+pub mod Audited

@@ -1,0 +1,115 @@
+//! Receipts, as they are written.
+
+ghost use Rattle.std.specs.Prelude.{◌≡◌, ◌++◌, IfOk, OnOk, map};
+ghost use Rattle.std.specs.Fmt.{decimal};
+ghost use Rattle.std.specs.List.{flat_map};
+ghost use Rattle.receipt_text.specs.ReceiptText.{receipt_line, receipts_text, version_line, worker_line, worker_text};
+ghost use Rattle.tenant_core.specs.Views.{decide_of, entry_of};
+
+use itoa::Buffer;
+use receipts::Receipt;
+use statements::{put_number, put_record};
+use std::alloc::{AllocError, Global};
+use tenant_core::{DecideEntry, DecideView, Entry, EntryView, RecordView};
+
+fn decide_view(decide: &DecideEntry) -> DecideView<'_>
+    ensures { decide_of result ≡ decide.entry.now }
+{
+    DecideView {
+        peer: decide.peer,
+        amount: decide.amount,
+        expiry: decide.expiry,
+        condition: &decide.condition,
+        destination: decide.destination.as_slice(),
+        now: decide.now,
+    }
+}
+
+// An entry, as a journal would lend it.
+fn view_of(entry: &Entry) -> EntryView<'_>
+    ensures { entry_of result ≡ entry.now }
+{
+    match entry {
+        Entry::Decide(decide) => EntryView::Decide(decide_view(decide)),
+        Entry::Answer(answer) => EntryView::Answer(answer),
+        Entry::Tick(tick) => EntryView::Tick(*tick),
+        Entry::Change(change) => EntryView::Change(change),
+        Entry::Roll(roll) => EntryView::Roll(*roll),
+    }
+}
+
+fn put_decimal(out: &mut Vec<u8>, value: u64) -> Result<(), AllocError>
+    ensures { OnOk result (out.new.items ≡ out.old.items ++ decimal value) }
+{
+    let mut digits = Buffer::new();
+    out.extend_from_slice(digits.format(value).as_bytes())
+}
+
+#[tactic(auto, unfolding(crate::specs::ReceiptText::receipt_line))]
+fn put_receipt(out: &mut Vec<u8>, receipt: &Receipt) -> Result<(), AllocError>
+    ensures { OnOk result (out.new.items ≡ out.old.items ++ receipt_line receipt.now) }
+{
+    let record = RecordView {
+        entry: view_of(&receipt.entry),
+        outcome: receipt.verdict,
+    };
+    put_decimal(out, receipt.tenant as u64)?;
+    put_number(out, receipt.period)?;
+    put_number(out, receipt.number)?;
+    out.push(b' ')?;
+    put_record(out, &record)
+}
+
+fn put_list(out: &mut Vec<u8>, list: &[Receipt]) -> Result<(), AllocError>
+    ensures { OnOk result (out.new.items ≡ out.old.items ++ flat_map receipt_line list.now) }
+{
+    for receipt in list {
+        put_receipt(out, receipt)?;
+    }
+    Ok(())
+}
+
+#[tactic(auto, unfolding(crate::specs::ReceiptText::worker_line))]
+fn put_worker_line(out: &mut Vec<u8>, list: &[Receipt]) -> Result<(), AllocError>
+    ensures { OnOk result (out.new.items ≡ out.old.items ++ worker_line list.now) }
+{
+    out.extend_from_slice(b"worker")?;
+    put_number(out, list.len() as u64)?;
+    Ok(out.push(b'\n')?)
+}
+
+#[tactic(auto, unfolding(crate::specs::ReceiptText::worker_text))]
+fn put_worker(out: &mut Vec<u8>, list: &[Receipt]) -> Result<(), AllocError>
+    ensures { OnOk result (out.new.items ≡ out.old.items ++ worker_text list.now) }
+{
+    put_worker_line(out, list)?;
+    put_list(out, list)
+}
+
+fn put_workers(out: &mut Vec<u8>, lists: &[&[Receipt]]) -> Result<(), AllocError>
+    ensures { OnOk result (out.new.items ≡ out.old.items ++ flat_map worker_text (map (λ list. list.now) lists.now)) }
+{
+    for list in lists {
+        put_worker(out, list)?;
+    }
+    Ok(())
+}
+
+#[tactic(auto, unfolding(crate::specs::ReceiptText::version_line))]
+fn put_version(out: &mut Vec<u8>) -> Result<(), AllocError>
+    ensures { OnOk result (out.new.items ≡ out.old.items ++ version_line) }
+{
+    out.extend_from_slice(b"receipts 1\n")
+}
+
+/// The text of the receipts of all workers, a list for each: a line for each worker, and behind it one for each of its receipts, with
+/// no token and no target of a peer. The one error is that memory was refused.
+#[tactic(auto, unfolding(crate::specs::ReceiptText::receipts_text))]
+pub fn write_receipts(alloc: Global, lists: &[&[Receipt]]) -> Result<Vec<u8>, AllocError>
+    ensures { IfOk result (λ text. text.items ≡ receipts_text (map (λ list. list.now) lists.now)) }
+{
+    let mut out = Vec::new(alloc);
+    put_version(&mut out)?;
+    put_workers(&mut out, lists)?;
+    Ok(out)
+}

@@ -1,0 +1,45 @@
+//! The receipts of all workers as a text that is kept.
+
+ghost use Rattle.std.specs.Prelude.{Bool, List, Option, ℕ};
+ghost use Rattle.service.specs.ReceiptFiling.{AreReceiptsFiled};
+
+use crate::running::auditing::lists_of;
+use books_shared::Share;
+use one_list::Run;
+use receipt_text::write_receipts;
+use std::alloc::Global;
+
+/// Where the receipts of all workers are kept.
+pub trait ReceiptStore {
+    /// What a question makes of it: before, the answer, and after.
+    ghost tells_receipts: { Self → Option Bool → Self → Type 0 };
+
+    /// What keeping makes of it: before, what was to be kept, whether it is kept now, and after.
+    ghost keeps_receipts: { Self → List ℕ → Bool → Self → Type 0 };
+
+    /// Whether there are receipts; `None` where that can't be told.
+    fn has_receipts(&mut self) -> Option<bool>
+        ensures { tells_receipts self.old result self.new };
+
+    /// Keeps a text of receipts for good, where there are none. Says whether it is kept now.
+    fn keep_receipts(&mut self, text: &[u8]) -> bool
+        ensures { keeps_receipts self.old text.now result self.new };
+}
+
+/// Writes the receipts of all workers, unless there are receipts already, and says whether they are kept now. They are not where
+/// memory was refused, or where a worker has kept none.
+pub fn file_receipts<S: ReceiptStore, J: Run>(
+    alloc: Global,
+    store: &mut S,
+    shares: &[Share<J>],
+) -> bool
+    ensures { AreReceiptsFiled S.tells_receipts S.keeps_receipts shares.now result store.old store.new }
+{
+    let Ok(lists) = lists_of(alloc, shares) else {
+        return false;
+    };
+    let Ok(text) = write_receipts(alloc, lists.as_slice()) else {
+        return false;
+    };
+    store.has_receipts() == Some(false) && store.keep_receipts(text.as_slice())
+}
