@@ -17,6 +17,8 @@ mod governed;
 #[cfg(test)]
 mod http;
 #[cfg(test)]
+mod kept;
+#[cfg(test)]
 mod replays;
 #[cfg(test)]
 mod rows;

@@ -1,7 +1,7 @@
 //! The examples: each script prints the lines of its file.
 
 use crate::fault::Fault;
-use crate::verified;
+use crate::{audited, verified};
 use replay_text::replay;
 use std::alloc::Global;
 use std::fs;
@@ -53,15 +53,25 @@ fn is_as_told(
     Ok(is_as_told)
 }
 
-// Whether the statements of the example come to its lines, which it says.
+// Whether the statements of the examples come to their lines, which it says.
 fn are_statements_as_told(rt: &(impl Files + Print + AllocGlobal)) -> Result<bool, Fault> {
-    let is_as_told = verified::is_as_told(rt)?;
+    let is_as_told = verified::are_as_told(rt)?;
     let verb = if is_as_told {
         "come to"
     } else {
         "do not come to"
     };
-    println!(rt; "the statements of verify.script {verb} verify.lines")?;
+    println!(rt;
+        "the statements of verify.script and again.script {verb} verify.lines and again.lines"
+    )?;
+    Ok(is_as_told)
+}
+
+// Whether the receipts of the example are complete, and are not with another digit, which it says.
+fn are_receipts_as_told(rt: &(impl Files + Print + AllocGlobal)) -> Result<bool, Fault> {
+    let is_as_told = audited::is_as_told(rt)?;
+    let verb = if is_as_told { "are" } else { "are not" };
+    println!(rt; "the receipts of audit.script {verb} complete, word for word")?;
     Ok(is_as_told)
 }
 
@@ -72,5 +82,6 @@ pub fn run(rt: &(impl Files + Print + AllocGlobal)) -> Result<(), Fault> {
         all_are = is_as_told(rt, name, setup)? && all_are;
     }
     all_are = are_statements_as_told(rt)? && all_are;
+    all_are = are_receipts_as_told(rt)? && all_are;
     if all_are { Ok(()) } else { Err(Fault::Example) }
 }

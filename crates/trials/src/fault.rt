@@ -11,7 +11,7 @@ pub enum Fault {
     #[error("out of memory")]
     Memory,
     /// The words ask for no trial.
-    #[error("words: steps SETUP SCRIPT, statements SETUP SCRIPT, crowd ROUNDS STEPS, audit ENTRIES (1 to 16385), or examples, one after another")]
+    #[error("words: steps SETUP SCRIPT, closed SETUP SCRIPT, write SETUP SCRIPT TIMES, check SETUP SCRIPT TIMES, crowd ROUNDS STEPS, statements ROUNDS PERIODS, audit ENTRIES (1 to 16385), or examples, one after another")]
     Words,
     /// A file can't be read, or a line not be printed.
     #[error("device")]
@@ -25,6 +25,12 @@ pub enum Fault {
     /// The round in which the calm tenant did not see what it sees alone.
     #[error("round {0}: the calm tenant sees other lines than alone")]
     Differs(u32),
+    /// A book that looks random can't be begun, or a period not be closed, or its statement is not good.
+    #[error("a statement is refused")]
+    Book,
+    /// The round whose statements do not come to what was counted.
+    #[error("round {0}: statements come to something else")]
+    Counted(u32),
     /// Hostile tenants did not come to each kind of line.
     #[error("the crowd is not hostile enough")]
     Unseen,

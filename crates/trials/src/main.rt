@@ -1,8 +1,11 @@
 //! Trials that go past what a contract can say: lists of steps in which memory may be refused, by tools/refusals, crowds
-//! of hostile tenants beside a calm one, audits of many receipts: of 64 tenants, whose entries as many workers made
-//! by turns, and the examples.
+//! of hostile tenants beside a calm one, statements of books that look random, audits of many receipts: of 64 tenants, whose
+//! entries as many workers made by turns, and the examples.
 #![tactic(auto)]
 
+mod audited;
+mod books;
+mod counted;
 mod crowd;
 mod examples;
 mod fault;
@@ -69,8 +72,24 @@ fn run_crowd(
     Ok(rt.println(line.as_str())?)
 }
 
-// Prints the statements of the periods that a script's steps close, one after another.
 fn run_statements(
+    rt: &(impl Print + AllocGlobal),
+    rounds: &str,
+    periods: &str,
+) -> Result<(), Fault> {
+    let (Ok(round_count), Ok(period_count)) = (rounds.parse::<u32>(), periods.parse::<u32>()) else {
+        return Err(Fault::Words);
+    };
+    let played = books::play(rt.alloc(), round_count, period_count)?;
+    let (periods, entries, begun) = (played.periods, played.entries, played.begun);
+    println!(rt;
+        "{rounds} rounds: {periods} statements with {entries} entries, over {begun} new beginnings, come to what was counted"
+    )?;
+    Ok(())
+}
+
+// Prints the statements of the periods that a script's steps close, one after another.
+fn run_closed(
     rt: &(impl Files + Print + AllocGlobal),
     setup: &str,
     script: &str,
@@ -85,6 +104,51 @@ fn run_statements(
         }
     }
     Ok(())
+}
+
+// Writes the statements of a script's periods so many times, or checks them, for bench/periods.
+fn run_again(
+    rt: &(impl Files + Print + AllocGlobal),
+    trial: &str,
+    (setup, script): (&str, &str),
+    times: &str,
+) -> Result<(), Fault> {
+    let Ok(times) = times.parse::<u32>() else {
+        return Err(Fault::Words);
+    };
+    let setup = fs::read(rt, setup)?;
+    let script = fs::read(rt, script)?;
+    let (setup, script) = (setup.as_slice(), script.as_slice());
+    if trial == "check" {
+        let records = verified::check_again(rt.alloc(), setup, script, times)?;
+        println!(rt; "{records} records checked")?;
+        return Ok(());
+    }
+    let Ok(script) = str::from_utf8(script) else {
+        return Err(Fault::Steps);
+    };
+    let bytes = verified::write_again(rt.alloc(), setup, script, times)?;
+    println!(rt; "{bytes} bytes written")?;
+    Ok(())
+}
+
+// Prints the receipts of the entries of the periods that a script's steps close, which two workers keep by turns.
+fn run_receipts(
+    rt: &(impl Files + Print + AllocGlobal),
+    setup: &str,
+    script: &str,
+) -> Result<(), Fault> {
+    let setup = fs::read(rt, setup)?;
+    let script = fs::read(rt, script)?;
+    let Ok(script) = str::from_utf8(script.as_slice()) else {
+        return Err(Fault::Steps);
+    };
+    let closed = steps::periods(rt.alloc(), setup.as_slice(), script)?;
+    let text = audited::receipts_of(rt.alloc(), closed.as_slice())?;
+    match str::from_utf8(text.as_slice()) {
+        Ok(lines) => Ok(rt.print(lines)?),
+        Err(_) => Err(Fault::Steps),
+    }
 }
 
 // The word is how many receipts each tenant has, its roll's included.
@@ -108,6 +172,7 @@ fn run_all(rt: &(impl Files + Print + Eprint + AllocGlobal)) -> Result<(), Fault
     run_steps(rt, "s2.toml", "two-tenants.script")?;
     run_steps(rt, "s2.toml", "roll.script")?;
     run_crowd(rt, "8", "600")?;
+    run_statements(rt, "12", "25")?;
     run_audit(rt, "20")?;
     examples::run(rt)
 }
@@ -122,6 +187,8 @@ fn run_trial(
         "steps" => run_steps(rt, first, second),
         "crowd" => run_crowd(rt, first, second),
         "statements" => run_statements(rt, first, second),
+        "closed" => run_closed(rt, first, second),
+        "receipts" => run_receipts(rt, first, second),
         _ => Err(Fault::Words),
     }
 }
@@ -146,6 +213,12 @@ fn run(rt: &(impl Env + Files + Print + Eprint + AllocGlobal)) -> Result<(), Fau
         let Some(second) = words.next() else {
             return Err(Fault::Words);
         };
+        if trial.as_str() == "write" || trial.as_str() == "check" {
+            let times = words.next().ok_or(Fault::Words)?;
+            let files = (first.as_str(), second.as_str());
+            run_again(rt, trial.as_str(), files, times.as_str())?;
+            continue;
+        }
         run_trial(rt, trial.as_str(), first.as_str(), second.as_str())?;
     }
     if !has_words {

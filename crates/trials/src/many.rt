@@ -68,7 +68,7 @@ fn receipt(alloc: Global, period: &Period, number: usize) -> Result<Receipt, Fau
 // Hands the receipts of a period to the workers by turns.
 fn hand_out(alloc: Global, lists: &mut Vec<Vec<Receipt>>, period: &Period) -> Result<(), Fault> {
     for number in 0..period.len() {
-        let worker = (number + period.tenant()) % WORKERS;
+        let worker = (number + period.tenant()) % lists.len().max(1);
         let receipt = receipt(alloc, period, number)?;
         if worker < lists.len() {
             lists[worker].push(receipt)?;
@@ -77,17 +77,30 @@ fn hand_out(alloc: Global, lists: &mut Vec<Vec<Receipt>>, period: &Period) -> Re
     Ok(())
 }
 
-fn no_receipts(alloc: Global) -> Result<Vec<Vec<Receipt>>, Fault> {
+fn no_receipts(alloc: Global, workers: usize) -> Result<Vec<Vec<Receipt>>, Fault> {
     let mut lists = Vec::new(alloc);
-    for _ in 0..WORKERS {
+    for _ in 0..workers {
         lists.push(Vec::new(alloc))?;
+    }
+    Ok(lists)
+}
+
+/// The receipts of the records of periods, which so many workers keep by turns.
+pub fn by_turns(
+    alloc: Global,
+    periods: &[Period],
+    workers: usize,
+) -> Result<Vec<Vec<Receipt>>, Fault> {
+    let mut lists = no_receipts(alloc, workers)?;
+    for period in periods {
+        hand_out(alloc, &mut lists, period)?;
     }
     Ok(lists)
 }
 
 /// What an audit says of so many receipts for each of 64 tenants: of how many tenants, and of how many receipts.
 pub fn audited(alloc: Global, entries: u32) -> Result<Result<(usize, usize), AuditFault>, Fault> {
-    let mut lists = no_receipts(alloc)?;
+    let mut lists = no_receipts(alloc, WORKERS)?;
     let mut periods = Vec::new(alloc);
     for tenant in 0..TENANTS {
         let period = period(alloc, tenant, entries.saturating_sub(1))?;

@@ -1,18 +1,41 @@
-//! The statements of a script's periods, and the example of them: three that `ilpd verify` takes.
+//! The statements of a script's periods, and the examples of them: statements that `ilpd verify` takes, with the setups that the
+//! service began with.
 
 use crate::fault::Fault;
 use crate::steps::periods;
+use admin_text::read_setup;
 use common_types::ReadError;
-use statements::{Chain, write_statement};
+use statements::{Chain, check_statement, write_statement};
 use std::alloc::Global;
 use std::rt::Files;
 use std::{fs, str};
 
-// The statements of the example, in their order.
-static FILES: [&str; 3] = [
-    "examples/acme.0.statement",
-    "examples/acme.1.statement",
-    "examples/acme.2.statement",
+// A setup that a service began with, the script of what it did, the statements of that, and what they come to with those of the
+// runs before.
+struct Run {
+    setup: &'static str,
+    script: &'static str,
+    statements: &'static [&'static str],
+    lines: &'static str,
+}
+
+static RUNS: [Run; 2] = [
+    Run {
+        setup: "examples/fees.toml",
+        script: "examples/verify.script",
+        statements: &[
+            "examples/acme.0.statement",
+            "examples/acme.1.statement",
+            "examples/acme.2.statement",
+        ],
+        lines: "examples/verify.lines",
+    },
+    Run {
+        setup: "examples/again.toml",
+        script: "examples/again.script",
+        statements: &["examples/again.0.statement", "examples/again.1.statement"],
+        lines: "examples/again.lines",
+    },
 ];
 
 /// The statements of the periods that the steps of a script close.
@@ -27,27 +50,80 @@ pub fn statements_of(alloc: Global, setup: &[u8], script: &[u8]) -> Result<Vec<V
     Ok(texts)
 }
 
-fn add(alloc: Global, chain: &mut Chain, text: &[u8]) -> Result<(), Fault> {
-    match chain.add(alloc, text) {
+/// Writes the statements of the periods that a script's steps close so many times over, and gives how many bytes they have.
+pub fn write_again(alloc: Global, setup: &[u8], script: &str, times: u32) -> Result<usize, Fault> {
+    let periods = periods(alloc, setup, script)?;
+    let mut bytes: usize = 0;
+    for _ in 0..times {
+        for period in &periods {
+            bytes = bytes.saturating_add(write_statement(alloc, period)?.len());
+        }
+    }
+    Ok(bytes)
+}
+
+/// Checks the statements of the periods that a script's steps close so many times over, and gives how many records they have.
+pub fn check_again(alloc: Global, setup: &[u8], script: &[u8], times: u32) -> Result<usize, Fault> {
+    let texts = statements_of(alloc, setup, script)?;
+    let mut records: usize = 0;
+    for _ in 0..times {
+        for text in &texts {
+            match check_statement(alloc, text.as_slice()) {
+                Ok(period) => records = records.saturating_add(period.len()),
+                Err(ReadError::Memory) => return Err(Fault::Memory),
+                Err(ReadError::Fault(_)) => return Err(Fault::Book),
+            }
+        }
+    }
+    Ok(records)
+}
+
+fn taken<F: Drop>(went: Result<(), ReadError<F>>) -> Result<(), Fault> {
+    match went {
         Ok(()) => Ok(()),
         Err(ReadError::Memory) => Err(Fault::Memory),
         Err(ReadError::Fault(_)) => Err(Fault::Example),
     }
 }
 
-/// Whether the steps of examples/verify.script lead to the statements of the example, and these come to examples/verify.lines.
-pub fn is_as_told(rt: &(impl Files + AllocGlobal)) -> Result<bool, Fault> {
+// Takes a setup for its one tenant.
+fn begin(alloc: Global, chain: &mut Chain, text: &[u8]) -> Result<(), Fault> {
+    let Ok(setup) = read_setup(alloc, text) else {
+        return Err(Fault::Example);
+    };
+    match setup.tenants.as_slice().first() {
+        Some(tenant) => taken(chain.begin(alloc, 0, tenant, setup.start)),
+        None => Err(Fault::Example),
+    }
+}
+
+// Whether the run's steps lead to its statements, which go on with the chain and come to its lines.
+fn goes_on(rt: &(impl Files + AllocGlobal), chain: &mut Chain, run: &Run) -> Result<bool, Fault> {
     let alloc = rt.alloc();
-    let setup = fs::read(rt, "examples/fees.toml")?;
-    let script = fs::read(rt, "examples/verify.script")?;
+    let setup = fs::read(rt, run.setup)?;
+    let script = fs::read(rt, run.script)?;
     let texts = statements_of(alloc, setup.as_slice(), script.as_slice())?;
-    let mut chain = Chain::new(alloc);
-    let mut are_same = texts.len() == FILES.len();
-    for (file, text) in FILES.iter().zip(texts.iter()) {
+    begin(alloc, chain, setup.as_slice())?;
+    let mut are_same = texts.len() == run.statements.len();
+    for (file, text) in run.statements.iter().zip(texts.iter()) {
         let stated = fs::read(rt, file)?;
         are_same = are_same && stated.as_slice() == text.as_slice();
-        add(alloc, &mut chain, stated.as_slice())?;
+        taken(chain.add(alloc, stated.as_slice()))?;
     }
-    let lines = fs::read(rt, "examples/verify.lines")?;
-    Ok(are_same && chain.summary(alloc)?.as_slice() == lines.as_slice())
+    let lines = fs::read(rt, run.lines)?;
+    match chain.summary(alloc) {
+        Ok(text) => Ok(are_same && text.as_slice() == lines.as_slice()),
+        Err(ReadError::Memory) => Err(Fault::Memory),
+        Err(ReadError::Fault(_)) => Ok(false),
+    }
+}
+
+/// Whether the steps of the examples' scripts lead to their statements, which are one chain and come to the examples' lines.
+pub fn are_as_told(rt: &(impl Files + AllocGlobal)) -> Result<bool, Fault> {
+    let mut chain = Chain::new(rt.alloc());
+    let mut all_are = true;
+    for run in &RUNS {
+        all_are = goes_on(rt, &mut chain, run)? && all_are;
+    }
+    Ok(all_are)
 }

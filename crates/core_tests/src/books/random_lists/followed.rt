@@ -2,6 +2,7 @@
 //! the same ending.
 
 use super::rolled;
+use crate::books::receipt_texts::expect_complete;
 use crate::books::stated::expect_good;
 use common_types::Spare;
 use ilp_addr::MAX_ADDRESS;
@@ -76,10 +77,12 @@ fn expect_end(
     Ok(())
 }
 
-/// The period is what a book closes that begins where it began and follows its entries, and its statement is good.
+/// The period is what a book closes that begins where it began and follows its entries, and its statement is good, as the text of its
+/// receipts is.
 pub fn expect_followed(rt: &impl Abort, alloc: Global, period: &Period) -> Result<(), Fail> {
     let mut book = begun_again(alloc, period)?;
     expect_steps(rt, alloc, &mut book, period)?;
     expect_end(rt, alloc, &mut book, period)?;
-    expect_good(rt, alloc, period)
+    expect_good(rt, alloc, period)?;
+    expect_complete(rt, alloc, period)
 }

@@ -1,0 +1,154 @@
+//! Chains of statements: what goes on, what does not, and what all come to.
+
+use super::owned::period_of_each;
+use super::periods::closed;
+use super::setups::{START, USUAL, answer, book, moment, send, tick};
+use admin_text::parse_command;
+use common_types::ReadError;
+use statements::{Chain, ChainFault, write_statement};
+use std::alloc::Global;
+use std::process::Abort;
+use std::test::Fail;
+use tenant_core::{AnswerKey, Book, Period, Verdict};
+
+fn order(alloc: Global, book: &mut Book, words: &str) -> Result<(), Fail> {
+    let command = match parse_command(alloc, words.as_bytes()) {
+        Ok(command) => command,
+        Err(_) => return Err("a command".into()),
+    };
+    let _ = book.command(alloc, &command, moment(START + 1)?)?;
+    Ok(())
+}
+
+// A packet of 1,000 goes on, and is fulfilled.
+fn fulfil(book: &mut Book, hold: u64) -> Result<(), Fail> {
+    send(book, START)?;
+    match answer(book, hold, START + 1, AnswerKey::Fulfilled([0; 32]))? {
+        Ok(Verdict::Relay) => Ok(()),
+        _ => Err("a fulfilled packet".into()),
+    }
+}
+
+// A packet without a fee; one with a fee, and money that was paid; a peer that comes and goes, and a packet that is rejected.
+fn periods(alloc: Global) -> Result<[Period; 3], Fail> {
+    let mut book = book(alloc, 64, USUAL, START)?;
+    fulfil(&mut book, 0)?;
+    let first = closed(alloc, &mut book)?;
+    order(alloc, &mut book, "route remove g.acme.bob")?;
+    order(alloc, &mut book, "route add g.acme.bob p1 500")?;
+    fulfil(&mut book, 1)?;
+    order(alloc, &mut book, "settle in p0 700")?;
+    order(alloc, &mut book, "settle out p1 2600")?;
+    let second = closed(alloc, &mut book)?;
+    order(
+        alloc,
+        &mut book,
+        "peer add p2 child token-2 http://127.0.0.1:7803/ilp out-2 EUR 9 1500 1000000 1000000 100 100",
+    )?;
+    order(alloc, &mut book, "peer remove p2")?;
+    send(&mut book, START)?;
+    answer(&mut book, 2, START + 1, AnswerKey::Rejected)?.ok();
+    tick(&mut book, START + 1)?.ok();
+    let third = closed(alloc, &mut book)?;
+    Ok([first, second, third])
+}
+
+// 1,000 of p0's units cost 1,500 of p1's. Fulfilled were 2,000 of p0's: 1,500 went on, and then 1,500 less the fee of 500.
+const SUMMARY: &str = "good 3 16
+peer 0 p0 began 0 ended 1300 packets-in 3 fulfilled-in 2000 settled-in 700 packets-out 0 fulfilled-out 0 settled-out 0 fees 0
+peer 1 p1 began 0 ended 100 packets-in 0 fulfilled-in 0 settled-in 0 packets-out 3 fulfilled-out 2500 settled-out 2600 fees 500
+peer 2 p2 began 0 ended 0 packets-in 0 fulfilled-in 0 settled-in 0 packets-out 0 fulfilled-out 0 settled-out 0 fees 0
+";
+
+// The statements of the three periods, and of another tenant's.
+fn texts(alloc: Global) -> Result<Vec<Vec<u8>>, Fail> {
+    let mut texts = Vec::new(alloc);
+    for period in &periods(alloc)? {
+        texts.push(write_statement(alloc, period)?)?;
+    }
+    texts.push(write_statement(alloc, &period_of_each(alloc)?)?)?;
+    Ok(texts)
+}
+
+// Why a text does not go on with a chain, if it does not.
+fn fault_of(alloc: Global, chain: &mut Chain, text: &[u8]) -> Result<Option<ChainFault>, Fail> {
+    match chain.add(alloc, text) {
+        Ok(()) => Ok(None),
+        Err(ReadError::Memory) => Err("memory".into()),
+        Err(ReadError::Fault(fault)) => Ok(Some(fault)),
+    }
+}
+
+// Takes the texts at these places, and tells the place of the first that does not go on among these, and why.
+fn first_fault(
+    alloc: Global,
+    chain: &mut Chain,
+    texts: &[Vec<u8>],
+    order: &[usize],
+) -> Result<Option<(usize, ChainFault)>, Fail> {
+    for place in 0..order.len() {
+        let text = texts.get(order[place]).ok_or("a text")?;
+        if let Some(fault) = fault_of(alloc, chain, text.as_slice())? {
+            return Ok(Some((place, fault)));
+        }
+    }
+    Ok(None)
+}
+
+#[test]
+fn a_chain_tells_what_its_periods_come_to(rt: HostRuntime) -> Result<(), Fail> {
+    let texts = texts(rt.alloc())?;
+    let mut chain = Chain::new(rt.alloc());
+    let fault = first_fault(rt.alloc(), &mut chain, texts.as_slice(), &[0, 1, 2])?;
+    assert!(rt; fault.is_none());
+    match chain.summary(rt.alloc()) {
+        Ok(summary) => assert!(rt; summary.as_slice() == SUMMARY.as_bytes()),
+        Err(_) => assert!(rt; false),
+    }
+    Ok(())
+}
+
+// The places of statements that are taken one after another, that of the first that does not go on among these, and the line.
+static APART: [(&[usize], usize, usize); 4] = [
+    (&[0, 2], 1, 3),
+    (&[1, 0], 1, 3),
+    (&[0, 1, 1], 2, 3),
+    (&[0, 3], 1, 2),
+];
+
+fn expect_apart(
+    rt: &impl Abort,
+    alloc: Global,
+    texts: &[Vec<u8>],
+    order: &[usize],
+    wanted: (usize, usize),
+) -> Result<(), Fail> {
+    let (place, line) = wanted;
+    let fault = first_fault(alloc, &mut Chain::new(alloc), texts, order)?;
+    assert!(rt; fault == Some((place, ChainFault::Apart(line))));
+    Ok(())
+}
+
+// A gap, a swapped order, and a period twice: the line of the period's number differs. Another tenant has other terms: its line
+// differs.
+#[test]
+fn what_does_not_go_on_is_told_by_its_first_line(rt: HostRuntime) -> Result<(), Fail> {
+    let texts = texts(rt.alloc())?;
+    for (order, place, line) in &APART {
+        expect_apart(&rt, rt.alloc(), texts.as_slice(), order, (*place, *line))?;
+    }
+    Ok(())
+}
+
+// A refused text leaves the chain as it was.
+#[test]
+fn a_chain_goes_on_after_a_refusal(rt: HostRuntime) -> Result<(), Fail> {
+    let alloc = rt.alloc();
+    let texts = texts(alloc)?;
+    let mut chain = Chain::new(alloc);
+    assert!(rt; fault_of(alloc, &mut chain, texts[0].as_slice())?.is_none());
+    assert!(rt; fault_of(alloc, &mut chain, texts[0].as_slice())?.is_some());
+    assert!(rt; fault_of(alloc, &mut chain, b"statement 1\n")?.is_some());
+    assert!(rt; fault_of(alloc, &mut chain, texts[1].as_slice())?.is_none());
+    Ok(())
+}
