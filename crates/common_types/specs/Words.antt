@@ -2,7 +2,7 @@
 use Rattle.std.specs.Prelude.{ℕ, List, [], ◌∷◌, ◌==◌, Option, Some, None}
 use Rattle.std.specs.List.{slice_split}
 
--- what stands between single spaces
+-- the words between single spaces
 abbrev pub words_of : List ℕ → List (List ℕ)
 words_of text = slice_split (λ b. b == 32) text
 
@@ -11,7 +11,7 @@ abbrev pub parts : (List ℕ → List (List ℕ)) → List ℕ → Option (List 
 parts split first None = first ∷ []
 parts split first (Some rest) = first ∷ split rest
 
--- the words that are left of a text, none where all of it was taken
+-- the words of the rest of a text; none if nothing is left
 abbrev pub words_left : Option (List ℕ) → List (List ℕ)
 words_left None = []
 words_left (Some rest) = words_of rest

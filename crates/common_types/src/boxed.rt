@@ -1,4 +1,4 @@
-//! Values behind a box that contracts see as the values.
+//! Values in a box. Contracts see the values.
 
 use std::alloc::{AllocError, Global};
 use std::marker::Model;
@@ -18,7 +18,7 @@ impl<T> Model for Boxed<T> {
 impl<T: Drop> Boxed<T> {
     ghost use Rattle.std.specs.Prelude.{◌≡◌, IfOk};
 
-    /// Puts a value on the heap. The one error is want of memory, and drops the value.
+    /// Puts a value on the heap. Fails only if it is out of memory, and drops the value then.
     pub fn new(alloc: Global, value: T) -> Result<Boxed<T>, AllocError>
         ensures { IfOk result (λ b. b ≡ value) }
     {

@@ -4,7 +4,7 @@ ghost use Rattle.std.specs.Prelude.{◌≡◌};
 
 use std::marker::Model;
 
-/// Bytes of any number, made from a `Vec` without memory.
+/// Any number of bytes, made from a `Vec` without an allocation.
 #[derive(Drop)]
 pub struct Bytes {
     bytes: Vec<u8>,
@@ -33,7 +33,7 @@ impl Bytes {
         self.bytes.as_slice()
     }
 
-    /// Gives back the room that the bytes do not need, where the allocator takes it.
+    /// Returns unused capacity to the allocator, if the allocator takes it.
     pub fn shrink(&mut self)
         ensures { self.new ≡ self.old }
     {

@@ -4,7 +4,7 @@ ghost use Rattle.std.specs.Prelude.{◌≡◌, length};
 
 use std::marker::Model;
 
-/// A list of values, made from a `Vec` and giving it back without memory.
+/// A list of values. It is made from a `Vec` and turned back into one without an allocation.
 #[derive(Drop)]
 pub struct Items<T> {
     list: Vec<T>,

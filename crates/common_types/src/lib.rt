@@ -1,6 +1,9 @@
-//! Small types that the connector's crates share: texts in fixed room, names, tokens and asset codes, numbers within
-//! limits, limits that hold in several crates, words and numerals of a text, values in a box, lists and bytes that
-//! contracts see as lists, room for bytes, and the errors of readers that take memory.
+//! Small types that the connector's crates share.
+//!
+//! - Texts of limited length, names, tokens, asset codes, and the words and numerals of a text.
+//! - Numbers within limits, and limits that several crates use.
+//! - Boxed values, lists and bytes that contracts see as plain values and lists, and buffers for bytes.
+//! - The errors of readers that allocate.
 #![tactic(auto)]
 
 mod between;

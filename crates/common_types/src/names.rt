@@ -1,4 +1,4 @@
-//! Texts by which peers and tenants are told apart.
+//! Texts that identify peers and tenants.
 
 ghost use Rattle.std.specs.Prelude.{◌≡◌, ◌≤◌, length, true, Some, None, if◌then◌else◌};
 ghost use Rattle.std.specs.List.{list_all};
@@ -71,7 +71,7 @@ impl Model for Name {
 }
 
 impl Name {
-    /// The name of these bytes, if they are one.
+    /// The name with these bytes, or `None` if they are not a name.
     pub fn new(bytes: &[u8]) -> Option<Name>
         ensures { result ≡ (if is_name bytes.now then Some bytes.now else None) }
     {
@@ -119,7 +119,7 @@ impl Model for Token {
 }
 
 impl Token {
-    /// The token of these bytes, if they are one.
+    /// The token with these bytes, or `None` if they are not a token.
     pub fn new(bytes: &[u8]) -> Option<Token>
         ensures { result ≡ (if is_token bytes.now then Some bytes.now else None) }
     {
@@ -167,7 +167,7 @@ impl Model for AssetCode {
 }
 
 impl AssetCode {
-    /// The code of these bytes, if they are one.
+    /// The code with these bytes, or `None` if they are not an asset code.
     pub fn new(bytes: &[u8]) -> Option<AssetCode>
         ensures { result ≡ (if is_asset_code bytes.now then Some bytes.now else None) }
     {

@@ -3,10 +3,10 @@
 use std::alloc::{AllocError, AllocFailed};
 use std::fmt;
 
-/// Why a reader that takes memory gave nothing: it found that fault, or memory was refused.
+/// Why a reader that allocates returned no value.
 #[derive(Clone, Copy, Debug, PartialEq, Eq, Drop)]
 pub enum ReadError<F> {
-    /// Memory was refused. Nothing is said of the text.
+    /// Out of memory. This says nothing about the text.
     Memory,
     /// The first fault of the text.
     Fault(F),

@@ -23,7 +23,7 @@ impl Model for Spare {
 impl Spare {
     ghost use Rattle.std.specs.Prelude.{◌≡◌, ◌≤◌, length, IfOk};
 
-    /// Room for so many bytes. The one error is want of memory.
+    /// An empty buffer for `room` bytes. Fails only if it is out of memory.
     pub fn new(alloc: Global, room: usize) -> Result<Spare, AllocError>
         ensures { IfOk result (λ spare. spare ≡ room) }
     {

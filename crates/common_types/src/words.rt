@@ -6,8 +6,8 @@ ghost use Rattle.common_types.specs.Words.{words_of, parts};
 
 use std::marker::Model;
 
-/// The words of a text that are left, taken off its front without memory. A text has at least one word; a word is empty
-/// where nothing stands before, behind or between spaces.
+/// The remaining words of a text, taken off its front without an allocation. A text has at least one word. A word is
+/// empty if nothing is before, after or between the spaces.
 #[derive(Drop)]
 pub struct Words<'a> {
     rest: Option<&'a [u8]>,
@@ -30,7 +30,7 @@ impl<'a> Words<'a> {
         Words { rest: Some(text) }
     }
 
-    /// The first word, and those behind it; `None` where no word is left.
+    /// The first word and the words after it, or `None` if no word is left.
     pub fn split_first(self) -> Option<(&'a [u8], Words<'a>)>
         ensures { MatchOption result (self.entry ≡ []) (λ w. self.entry ≡ w.0.now ∷ w.1) }
     {

@@ -1,4 +1,4 @@
--- What a child is told (RFC 0031).
+-- The configuration that a child gets (RFC 0031).
 use Rattle.std.specs.Prelude.{◌≡◌, ◌<◌, ℕ, List, ◌∷◌, ◌++◌, replicate}
 use Rattle.oer_core.specs.Length.{octet_string, IsOctetString}
 use Rattle.ilp_view.specs.Packet.{fulfill_frame}

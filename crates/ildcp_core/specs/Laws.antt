@@ -4,11 +4,11 @@ use Rattle.ilp_addr.specs.Address.{IsAddress}
 use Rattle.ildcp_core.specs.Client.{Client, IsClient, client_address}
 use Rattle.ildcp_core.specs.Answer.{IsConfiguration, configuration, max_configuration, config_answer, max_answer}
 
--- Configurations: what a child is told is one, and says its fields (RFC 0031).
+-- Configurations: the answer to a child is one, and has its fields (RFC 0031).
 pub record ConfigurationLaws : Type 0 where
   -- The address that a child is given is an address.
   pub address : (c : Client) → IsClient c → IsAddress (client_address c)
-  -- What a child is told is a configuration of its address and its asset.
+  -- The configuration of a child is one of its address and its asset.
   pub fields : (c : Client) → IsClient c → IsConfiguration (configuration c) (client_address c) c.scale c.code
   -- The bytes of a configuration are that of no other fields.
   pub only : (bytes address other : List ℕ) (scale step : ℕ) (code sign : List ℕ)

@@ -29,8 +29,8 @@ pub struct ChildParts<'a> {
     pub code: &'a AssetCode,
 }
 
-/// A peer that may ask for its configuration. Its client address is the tenant's address, a dot and its name, which is an
-/// address by the limits of both. (RFC 0031)
+/// A peer that may ask for its configuration. Its client address is the tenant's address, a dot and its name. The
+/// limits of both make it an address. (RFC 0031)
 #[derive(Drop)]
 pub struct Child<'a> {
     parts: ChildParts<'a>,

@@ -11,7 +11,7 @@ use ilp_view::write_fulfill;
 use oer_core::{put_bytes, put_length, put_octets};
 
 /// The most bytes of an answer: 954 of the configuration, 32 of the fulfillment, and 7 of the type and
-/// the lengths round them.
+/// the lengths around them.
 pub const MAX_ANSWER: usize = 993;
 
 const MAX_CONFIGURATION: usize = 954;
@@ -43,11 +43,12 @@ fn put_configuration(room: &mut [u8], child: &Child<'_>) -> usize
     put_octets(room, at + 1, parts.code.as_bytes())
 }
 
-/// Writes the answer to a child that asks for its configuration at the front of `out`, a Fulfill of 32
-/// zero bytes whose data is the client address, the scale and the code of the child's asset, and gives
-/// the length of its frame. Every other byte of `out` stays.
+/// Writes the answer to a child that asks for its configuration at the front of `out`, and returns the
+/// length of its frame. Every other byte of `out` stays.
 ///
-/// `out` has room for [`MAX_ANSWER`] bytes at least. (RFC 0031; RFC 0027, "ILP Fulfill")
+/// The answer is a Fulfill of 32 zero bytes. Its data is the client address, the scale and the code of
+/// the child's asset. `out` must have room for [`MAX_ANSWER`] bytes. (RFC 0031; RFC 0027, "ILP
+/// Fulfill")
 pub fn answer(child: &Child<'_>, out: &mut [u8]) -> usize
     requires { max_answer ≤ length out.old }
     ensures written { Writes out.old 0 (config_answer child.now) out.new result }

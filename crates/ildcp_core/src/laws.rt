@@ -3,9 +3,9 @@
 ghost use Rattle.ildcp_core.specs.Below.{LawsBelow};
 ghost use Rattle.ildcp_core.specs.Laws.{ConfigurationLaws};
 
-/// The client address of a child is an address; what a child is told is a configuration of that
-/// address and its asset, and of no other fields; a configuration has at most 954 bytes, and an answer
-/// at most 993. (RFC 0031)
+/// The client address of a child is an address. The child's configuration is one of that address and
+/// its asset, and of no other fields. A configuration has at most 954 bytes, an answer at most 993.
+/// (RFC 0031)
 pub fn configurations()
     ensures { ConfigurationLaws }
 {

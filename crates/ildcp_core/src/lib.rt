@@ -2,8 +2,8 @@
 //! Prepare to `peer.config` is answered with the child's own address and its asset.
 //!
 //! - [`is_config`] says whether a packet asks for it, and [`check`] whether it may.
-//! - [`answer`] writes the Fulfill that tells a [`Child`] its configuration.
-//! - [`IldcpFault`] says why a request is refused; [`laws`] what the answers have in common.
+//! - [`answer`] writes the Fulfill that gives a [`Child`] its configuration.
+//! - [`IldcpFault`] says why a request is refused. [`laws`] says what all answers have in common.
 #![tactic(auto)]
 
 mod child;

@@ -48,7 +48,7 @@ pub record IsAddress (bytes : List ℕ) : Type 0 where
   pub short : length bytes ≤ max_address
   pub parts : AreAddressParts (segments bytes)
 
--- the segments behind a scheme, checked
+-- the segments after a scheme, checked
 abbrev pub with_segments : List ℕ → List (List ℕ) → Result (List ℕ) AddrFault
 with_segments bytes parts = if list_all is_segment parts then Ok bytes else Err Segment
 
@@ -92,7 +92,7 @@ prefix_parts_at bytes [] = Ok bytes
 prefix_parts_at bytes (scheme ∷ others) =
     if is_scheme scheme then with_segments bytes others else Err Scheme
 
--- the prefix that the bytes are, no dot behind it, or the first fault
+-- the prefix that the bytes are, without a dot at the end, or the first fault
 unfoldable pub checked_prefix : List ℕ → Result (List ℕ) AddrFault
 checked_prefix bytes =
     if nat_lt max_address (length bytes) then Err Length else prefix_parts_at bytes (prefix_segments bytes)

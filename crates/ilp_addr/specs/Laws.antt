@@ -19,7 +19,7 @@ pub record PrefixLaws : Type 0 where
   -- What is read is a prefix: the bytes, less one dot at their end.
   pub read_is_prefix : (bytes prefix : List ℕ) → prefix_at bytes ≡ Ok prefix
       → IsPrefix prefix × (prefix ≡ without_last_dot bytes)
-  -- Each prefix is read, with or without a dot behind it; a dot alone is none.
+  -- Each prefix is read, with or without a dot at the end. A single dot is not a prefix.
   pub prefix_is_read : (bytes : List ℕ) → bytes ≢ 46 ∷ [] → IsPrefix (without_last_dot bytes)
       → prefix_at bytes ≡ Ok (without_last_dot bytes)
   -- The test of segments says whether the segments of a prefix come first.

@@ -50,7 +50,7 @@ host_len authority =
 abbrev pub host_text : List ℕ → List ℕ
 host_text authority = take (host_len authority) authority
 
--- what stands behind its host
+-- the text after the host
 abbrev pub port_text : List ℕ → List ℕ
 port_text authority = drop (host_len authority) authority
 
@@ -96,8 +96,8 @@ host_in text =
     if bytes_eq text (codes "localhost") then Some Localhost
     else host_or (v4_in text) (literal_in text >>= v6_in)
 
--- the port that stands behind a host with a colon: 1 to 65,535 in decimal with no zero in front, or 80 where nothing
--- stands there (RFC 9110, 4.2.1)
+-- the port after a host: a colon and 1 to 65,535 in decimal with no leading zero, or 80 if nothing follows the host
+-- (RFC 9110, 4.2.1)
 abbrev pub port_behind : List ℕ → Option ℕ
 port_behind [] = Some 80
 port_behind (first ∷ digits) = if first == 58 then result_ok (number_in 1 65_535 digits) else None

@@ -33,9 +33,11 @@ impl<'a> Address<'a> {
 
     /// The address that the bytes spell.
     ///
-    /// The errors are, in the order in which they are looked for: `Length` where there are more
-    /// than 1,023 bytes, `Scheme` where no allocation scheme and a dot come first, and `Segment`
-    /// where a segment is empty or has a byte that is not allowed.
+    /// Errors, in the order of the tests:
+    ///
+    /// - `Length` if there are more than 1,023 bytes.
+    /// - `Scheme` if the bytes do not begin with an allocation scheme and a dot.
+    /// - `Segment` if a segment is empty or has a byte that is not allowed.
     pub fn parse(bytes: &'a [u8]) -> Result<Address<'a>, AddrFault>
         // What is read is an address, and all of the bytes.
         ensures found { IfOk result (λ a. IsAddress a × (a ≡ bytes.now)) }

@@ -32,10 +32,13 @@ impl Prefix {
 
     /// The prefix that the bytes spell, with or without a dot at the end.
     ///
-    /// The errors are, in the order in which they are looked for: `Fault(Scheme)` for a dot alone,
-    /// `Fault(Length)` where there are more than 1,023 bytes, `Fault(Scheme)` where no allocation
-    /// scheme comes first, `Fault(Segment)` where a segment is empty or has a byte that is not
-    /// allowed, and `Memory` where there is no memory for the bytes.
+    /// Errors, in the order of the tests:
+    ///
+    /// - `Fault(Scheme)` for a single dot.
+    /// - `Fault(Length)` if there are more than 1,023 bytes.
+    /// - `Fault(Scheme)` if the bytes do not begin with an allocation scheme.
+    /// - `Fault(Segment)` if a segment is empty or has a byte that is not allowed.
+    /// - `Memory` if it is out of memory.
     pub fn parse(alloc: Global, bytes: &[u8]) -> Result<Prefix, ReadError<AddrFault>>
         // What is read is a prefix, and all of the bytes but a dot at the end.
         ensures found { IfOk result (λ p. IsPrefix p × (p ≡ without_last_dot bytes.now)) }
@@ -44,7 +47,7 @@ impl Prefix {
             → GivesUnlessMemory (λ p. p) result (Ok (without_last_dot bytes.now)) }
         // Which fault comes.
         ensures exact { GivesUnlessMemory (λ p. p) result (prefix_at bytes.now) }
-        // Memory is refused only for bytes that spell a prefix: a fault comes first.
+        // It runs out of memory only for bytes that spell a prefix: a fault comes first.
         ensures memory { OnMemory result (IsOk (prefix_at bytes.now)) }
     {
         read(alloc, bytes)

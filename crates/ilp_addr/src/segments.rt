@@ -65,7 +65,7 @@ fn begins_at_dot(bytes: &[u8], prefix: &[u8]) -> bool
     rest.is_empty() || rest[0] == b'.'
 }
 
-// What stands before the first dot, and what stands after it.
+// The bytes before the first dot, and the bytes after it.
 pub(crate) fn split_at_dot(bytes: &[u8]) -> Option<(&[u8], &[u8])>
     ensures { MatchOption result (segments bytes.now ≡ bytes.now ∷ [])
         (λ r. segments bytes.now ≡ r.0.now ∷ segments r.1.now) }

@@ -48,12 +48,12 @@ impl Model for Target {
 }
 
 impl Target {
-    /// The target of a URL and a token, or `None` where one of them is malformed.
+    /// The target of a URL and a token, or `None` if one of them is malformed.
     ///
-    /// The URL has at most 255 bytes, `http` and `localhost` in lower case. Its host is `localhost`, an IPv4 literal,
-    /// or an IPv6 literal in brackets and without a zone; its port is 1 to 65,535 without a zero in front, or left out
-    /// for 80; its path begins with a slash; all of it is visible ASCII. The token is 1 to 64 letters, digits and
-    /// `-._~+/=`.
+    /// The URL has at most 255 bytes of visible ASCII, with `http` and `localhost` in lower case. Its host is
+    /// `localhost`, an IPv4 literal, or an IPv6 literal in brackets and without a zone. Its port is 1 to 65,535
+    /// without a leading zero; without a port it is 80. Its path begins with a slash. The token is 1 to 64 letters,
+    /// digits and `-._~+/=`.
     #[tactic(auto, unfolding(crate::specs::Target::target_in))]
     pub fn new(url: &[u8], token: &[u8]) -> Option<Target>
         ensures target { MatchOption result ((t : Parts) → ¬ (IsTarget url.now token.now t))
@@ -148,7 +148,7 @@ impl Target {
     }
 }
 
-// The bytes behind the first seven.
+// The bytes after the first seven.
 fn behind_scheme(url: &[u8]) -> &[u8]
     ensures { result.now ≡ drop 7 url.now }
 {

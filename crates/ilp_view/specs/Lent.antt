@@ -32,15 +32,15 @@ cut_at frame = do
   p ← prepare_at frame
   Ok (cut_of p)
 
--- The ghost name of the frame's reference: what is behind one ends as what is behind another of this name.
+-- The ghost name of the frame's reference. Two references of one name end with the same bytes.
 abbrev pub name_of : PrepareMut → GName
 name_of m = m.frame.ghost_name
 
--- The frame as it stands.
+-- The frame as it is now.
 abbrev pub frame_of : PrepareMut → List ℕ
 frame_of m = m.frame.now
 
--- The frame as it stands, cut where the amount and the expiry lie.
+-- The frame as it is now, cut at the amount and the expiry.
 abbrev pub lent_of : PrepareMut → Cut
 lent_of m = record {
   front = take m.place m.frame.now;
@@ -53,7 +53,7 @@ lent_of m = record {
 abbrev pub HasFields : PrepareMut → Type 0
 HasFields m = m.place + 25 ≤ length m.frame.now
 
--- With other bytes for the amount and the expiry, and the same before and behind them.
+-- With other bytes for the amount and the expiry, and the same before and after them.
 abbrev pub with_fields : PrepareMut → List ℕ → List ℕ → PrepareMut
 with_fields m amount expiry = record m {
   frame = record m.frame { now = (lent_of m).front ++ (amount ++ (expiry ++ (lent_of m).back)) };

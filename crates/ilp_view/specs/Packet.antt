@@ -22,8 +22,8 @@ pub record IsFrame (frame : List ℕ) (kind : ℕ) (spelling contents : List ℕ
   pub spelled : IsLength spelling (length contents)
   pub size : length frame ≤ max_frame
 
--- The parts of a Prepare, each as it stands in the frame, with the spellings of the lengths and the
--- bytes after the last field (RFC 0027, "ILP Prepare").
+-- The parts of a Prepare, each as it is in the frame, with the spellings of the lengths and the bytes
+-- after the last field (RFC 0027, "ILP Prepare").
 pub record Prepare : Type 0 where
   pub contents_length : List ℕ
   pub amount : ℕ
@@ -67,14 +67,14 @@ with_amount_and_expiry p amount expiry = prepare_frame (record p { amount = amou
 abbrev pub before_amount : Prepare → List ℕ
 before_amount p = 12 ∷ p.contents_length
 
--- The bytes of a Prepare behind its expiry, the last fields and what stands after them (RFC 0027,
--- "ILP Prepare").
+-- The bytes of a Prepare after its expiry: the last fields and the bytes after them (RFC 0027, "ILP
+-- Prepare").
 abbrev pub behind_expiry : Prepare → List ℕ
 behind_expiry p =
     p.condition ++ (p.destination_length ++ (p.destination ++ (p.data_length ++ (p.payload ++ p.extra))))
 
--- The frame is these bytes: those before the amount, 8 of an amount, 17 of an expiry, and those behind
--- them (RFC 0027, "ILP Prepare").
+-- The frame is these bytes: the front, 8 of an amount, 17 of an expiry, and the back (RFC 0027, "ILP
+-- Prepare").
 pub record IsCutAt (frame front amount expiry back : List ℕ) : Type 0 where
   pub bytes : frame ≡ front ++ (amount ++ (expiry ++ back))
   pub amount_size : length amount ≡ 8
@@ -92,7 +92,7 @@ pub record IsForwardOf (came went : List ℕ) : Type 0 where
   pub came_cut : IsCutAt came (before_amount prepare) amount_came expiry_came (behind_expiry prepare)
   pub went_cut : IsCutAt went (before_amount prepare) amount_went expiry_went (behind_expiry prepare)
 
--- The parts of a Fulfill, each as it stands in the frame (RFC 0027, "ILP Fulfill").
+-- The parts of a Fulfill, each as it is in the frame (RFC 0027, "ILP Fulfill").
 pub record Fulfill : Type 0 where
   pub contents_length : List ℕ
   pub fulfillment : List ℕ
@@ -111,7 +111,7 @@ pub record IsFulfill (frame : List ℕ) (p : Fulfill) : Type 0 where
   pub data_length : IsLength p.data_length (length p.payload)
   pub payload : length p.payload ≤ max_data
 
--- The parts of a Reject, each as it stands in the frame (RFC 0027, "ILP Reject").
+-- The parts of a Reject, each as it is in the frame (RFC 0027, "ILP Reject").
 pub record Reject : Type 0 where
   pub contents_length : List ℕ
   pub code : List ℕ

@@ -58,7 +58,7 @@ whole_string bytes = do
   s ← string_at bytes
   if length s.2 == 0 then Ok (s.0, s.1) else Err AfterEnd
 
--- The length and the contents behind the type byte of that kind.
+-- The length and the contents after the type byte of that kind.
 unfoldable pub behind_type : ℕ → List ℕ → Result (List ℕ × List ℕ) ViewFault
 behind_type kind [] = Err Kind
 behind_type kind (b ∷ rest) = if b == kind then whole_string rest else Err Kind

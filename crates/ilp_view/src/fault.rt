@@ -25,7 +25,7 @@ pub enum ViewFault {
     /// The frame is over 34,000 bytes, or its data over 32,768.
     #[error("the packet or its data is too large")]
     Size,
-    /// What is to be written has no room.
+    /// The packet to write does not fit.
     #[error("the packet does not fit")]
     Short,
 }

@@ -66,11 +66,14 @@ fn parts_of(frame: &[u8]) -> Result<FulfillParts<'_>, ViewFault>
 impl<'a> FulfillView<'a> {
     /// The Fulfill that `frame` is, all of its bytes.
     ///
-    /// The errors are, in the order in which they are looked for: `Size` where the frame is over
-    /// 34,000 bytes; `Kind` where it is empty or of another type; `Oer` where the length of the
-    /// contents cannot be read or passes the end; `AfterEnd` where bytes stand after the contents;
-    /// then, field by field, `Oer` where a field passes the end of the contents, and `Size` where the
-    /// data is over 32,768 bytes. (RFC 0027, "ILP Fulfill")
+    /// Errors, in the order of the tests (RFC 0027, "ILP Fulfill"):
+    ///
+    /// - `Size` if the frame is over 34,000 bytes.
+    /// - `Kind` if the frame is empty or of another type.
+    /// - `Oer` if the length of the contents cannot be read or goes past the end.
+    /// - `AfterEnd` if bytes follow the contents.
+    /// - Then, field by field: `Oer` if a field goes past the end of the contents, `Size` if the data
+    ///   is over 32,768 bytes.
     pub fn read(frame: &'a [u8]) -> Result<FulfillView<'a>, ViewFault>
         // What is read is the frame's parts.
         ensures found { IfOk result (λ p. IsFulfill frame.now p) }
@@ -84,7 +87,7 @@ impl<'a> FulfillView<'a> {
         Ok(FulfillView { parts })
     }
 
-    /// The fulfillment: 32 bytes of the frame, whose SHA-256 hash the condition is to be.
+    /// The fulfillment: 32 bytes of the frame. Their SHA-256 hash must be the condition.
     pub fn fulfillment(&self) -> &'a [u8]
         ensures value { result.now ≡ self.now.fulfillment }
         ensures size { length result.now ≡ 32 }

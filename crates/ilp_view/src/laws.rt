@@ -19,7 +19,7 @@ pub fn no_frame_begins_another()
     laws_below();
 }
 
-/// A frame has one set of parts: whoever takes it apart gets the same. (RFC 0027)
+/// A frame has one set of parts: each way to take it apart gives the same. (RFC 0027)
 pub fn parts_are_the_only_ones()
     ensures prepares { (frame : List ℕ) (p q : Prepare) → IsPrepare frame p → IsPrepare frame q → p ≡ q }
     ensures fulfills { (frame : List ℕ) (p q : Fulfill) → IsFulfill frame p → IsFulfill frame q → p ≡ q }
@@ -42,9 +42,11 @@ pub fn each_prepare_is_read()
     laws_below();
 }
 
-/// A frame that goes on differs from the one that came in its amount and its expiry at most: so does
-/// a Prepare with any 8 and 17 other bytes in their places, and one with another amount and another
-/// date in their place is a Prepare of the same parts but for these. (RFC 0027, "ILP Prepare")
+/// A frame that is sent on differs from the one that came in its amount and its expiry at most.
+///
+/// - A Prepare with any other 8 and 17 bytes in their places is such a frame.
+/// - With another amount and another date in their places, it is a Prepare of the same parts but for
+///   these two. (RFC 0027, "ILP Prepare")
 pub fn forwards_change_two_fields()
     ensures bytes { (frame : List ℕ) (p : Prepare) (amount expiry : List ℕ)
         → IsPrepare frame p → length amount ≡ 8 → length expiry ≡ 17
@@ -71,8 +73,8 @@ pub fn written_is_read_back()
     laws_below();
 }
 
-/// How long written frames are. A Fulfill with as much data as a packet may have is within the limit
-/// of a frame, and a Reject is where its parts have at most 33,984 bytes: its type, its code and its
+/// How long written frames are. A Fulfill with as much data as a packet may have is within the limit of a
+/// frame. A Reject is within it if its parts have at most 33,984 bytes: its type, its code and its
 /// lengths take 16 at most. (RFC 0027)
 pub fn written_frames_are_short()
     ensures fulfills { (fulfillment payload : List ℕ) → length fulfillment ≡ 32 → length payload ≤ max_data

@@ -1,4 +1,5 @@
-//! A Prepare: what is to be paid to whom, until when, and against which fulfillment.
+//! A Prepare: an amount, its receiver, its expiry, and the condition that the fulfillment must
+//! match.
 
 ghost use Rattle.std.specs.Prelude.{◌≡◌, ◌≤◌, List, ℕ, length, IfOk, Ok};
 ghost use Rattle.ilp_addr.specs.Timestamp.{latest_expiry, moment_of};
@@ -86,12 +87,15 @@ fn parts_of(frame: &[u8]) -> Result<PrepareParts<'_>, ViewFault>
 impl<'a> PrepareView<'a> {
     /// The Prepare that `frame` is, all of its bytes.
     ///
-    /// The errors are, in the order in which they are looked for: `Size` where the frame is over
-    /// 34,000 bytes; `Kind` where it is empty or of another type; `Oer` where the length of the
-    /// contents cannot be read or passes the end; `AfterEnd` where bytes stand after the contents;
-    /// then, field by field, `Oer` where a field passes the end of the contents, `Field` where the
-    /// expiry is no date or the destination no address, and `Size` where the data is over 32,768
-    /// bytes. (RFC 0027, "ILP Prepare")
+    /// Errors, in the order of the tests (RFC 0027, "ILP Prepare"):
+    ///
+    /// - `Size` if the frame is over 34,000 bytes.
+    /// - `Kind` if the frame is empty or of another type.
+    /// - `Oer` if the length of the contents cannot be read or goes past the end.
+    /// - `AfterEnd` if bytes follow the contents.
+    /// - Then, field by field: `Oer` if a field goes past the end of the contents, `Field` if the
+    ///   expiry is not a date or the destination not an address, `Size` if the data is over 32,768
+    ///   bytes.
     pub fn read(frame: &'a [u8]) -> Result<PrepareView<'a>, ViewFault>
         // What is read is the frame's parts.
         ensures found { IfOk result (λ p. IsPrepare frame.now p) }

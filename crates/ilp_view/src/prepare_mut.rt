@@ -18,11 +18,11 @@ use std::slice::from_raw_parts_mut;
 #[derive(Debug, Drop)]
 pub struct PrepareMut<'a> {
     frame: &'a mut [u8],
-    // Where the amount stands, and behind it the expiry.
+    // The index of the amount. The expiry follows it.
     place: usize,
 }
 
-// Where the amount stands in the frame of a Prepare, and behind it the expiry.
+// The index of the amount in the frame of a Prepare. The expiry follows it.
 fn place_of_amount(frame: &[u8]) -> usize
     requires { IsOk (prepare_at frame.now) }
     ensures place { IfOk (prepare_at frame.now) (λ p. result ≡ 1 + length p.contents_length) }
@@ -72,7 +72,7 @@ impl<'a> PrepareMut<'a> {
     /// be written. (RFC 0027, "ILP Prepare")
     pub fn lend(&mut self) -> (&mut [u8], &mut [u8])
         requires { HasFields self.old }
-        // Whatever is written there, the frame is then the bytes before, these, and the bytes behind.
+        // Whatever is written there, the frame then is the bytes before, these, and the bytes after.
         ensures* writes_back { sem 𝓛 (LendsFields self.entry result) }
         ensures amount { result.0.now ≡ (lent_of self.old).amount }
         ensures expiry { result.1.now ≡ (lent_of self.old).expiry }

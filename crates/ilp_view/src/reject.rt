@@ -76,11 +76,14 @@ fn parts_of(frame: &[u8]) -> Result<RejectParts<'_>, ViewFault>
 impl<'a> RejectView<'a> {
     /// The Reject that `frame` is, all of its bytes.
     ///
-    /// The errors are, in the order in which they are looked for: `Size` where the frame is over
-    /// 34,000 bytes; `Kind` where it is empty or of another type; `Oer` where the length of the
-    /// contents cannot be read or passes the end; `AfterEnd` where bytes stand after the contents;
-    /// then, field by field, `Oer` where a field passes the end of the contents, and `Size` where the
-    /// data is over 32,768 bytes. (RFC 0027, "ILP Reject")
+    /// Errors, in the order of the tests (RFC 0027, "ILP Reject"):
+    ///
+    /// - `Size` if the frame is over 34,000 bytes.
+    /// - `Kind` if the frame is empty or of another type.
+    /// - `Oer` if the length of the contents cannot be read or goes past the end.
+    /// - `AfterEnd` if bytes follow the contents.
+    /// - Then, field by field: `Oer` if a field goes past the end of the contents, `Size` if the data
+    ///   is over 32,768 bytes.
     pub fn read(frame: &'a [u8]) -> Result<RejectView<'a>, ViewFault>
         // What is read is the frame's parts.
         ensures found { IfOk result (λ p. IsReject frame.now p) }
@@ -102,7 +105,7 @@ impl<'a> RejectView<'a> {
         self.parts.code
     }
 
-    /// The address of the node that rejected, or any other bytes that stand in its place.
+    /// The address of the node that rejected, or any other bytes in its place.
     pub fn triggered_by(&self) -> &'a [u8]
         ensures { result.now ≡ self.now.triggered_by }
     {

@@ -31,9 +31,9 @@ pub record NumberLaws : Type 0 where
   -- What is spelled so is read, whatever follows.
   pub spelled_is_read : (n : ℕ) (rest : List ℕ) → n < 2 ^ 64 → number_at (to_be_bytes w64 n ++ rest) ≡ Ok (n, rest)
 
--- Writing: pieces that are written one behind the other, and what is read from where they were written.
+-- Writing: two writes, one after the other, and reading back what was written.
 pub record WritingLaws : Type 0 where
-  -- Two writes, the second behind the first, are one write of both.
+  -- Two writes, the second right after the first, equal one write of both.
   pub two_are_one : (old : List ℕ) (at : ℕ) (first second : List ℕ) → at + length first ≤ length old
       → overwritten (overwritten old at first) (at + length first) second ≡ overwritten old at (first ++ second)
   -- A length that was written is read back.

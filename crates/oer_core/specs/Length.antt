@@ -43,7 +43,7 @@ octet_string text = shortest_length (length text) ++ text
 abbrev pub IsOctetString : List ℕ → List ℕ → Type 0
 IsOctetString bytes text = (spelling : List ℕ) × IsLength spelling (length text) × (bytes ≡ spelling ++ text)
 
--- An octet string that holds the text stands at the front of the bytes, and the rest follows it.
+-- The bytes begin with an octet string that holds the text, and end with the rest.
 abbrev pub BeginsWithString : List ℕ → List ℕ → List ℕ → Type 0
 BeginsWithString bytes text rest = (front : List ℕ) × IsOctetString front text × (bytes ≡ front ++ rest)
 

@@ -1,4 +1,4 @@
--- What stands in a buffer after bytes were written into it.
+-- The content of a buffer after a write.
 use Rattle.std.specs.Prelude.{◌≡◌, ◌+◌, ℕ, List, ◌++◌, length, take, drop}
 
 -- The old bytes with these in place of as many from the place on.

@@ -3,7 +3,7 @@ use thiserror::Error;
 /// Why bytes could not be read, or not be written.
 #[derive(Clone, Copy, Debug, PartialEq, Eq, Error)]
 pub enum OerFault {
-    /// The bytes end inside a value, or what is to be written has no room.
+    /// The bytes end inside a value, or a value to write does not fit.
     #[error("the bytes end too soon")]
     Short,
     /// The first byte begins no length: it is 128, or over 136.

@@ -13,8 +13,8 @@ pub fn numbers()
     ensures { NumberLaws }
 {}
 
-/// Pieces that are written one behind the other are one piece, and what a writer of this crate wrote
-/// at a place is read back from there, with the bytes after it.
+/// Two writes, one right after the other, equal one write of both. A value that this crate wrote at
+/// a place is read back from there, with the bytes after it.
 pub fn writings()
     ensures { WritingLaws }
 {}

@@ -46,12 +46,12 @@ fn length_of(bytes: &[u8], limit: usize) -> Result<(usize, usize), OerFault>
     Ok((value, count + 1))
 }
 
-/// Reads the length at the front of `bytes`, in any spelling, longer ones than needed too: the
-/// length, and how many bytes spell it.
+/// Reads the length at the front of `bytes`, in any spelling, also a longer one than needed.
+/// Returns the length, and how many bytes spell it.
 ///
-/// `limit` is the greatest length that is taken. Errors, in the order of the tests: `Short` where
-/// the bytes end inside the length, `BadLength` where the first byte begins none, `TooLong` where
-/// it is over `limit`. (RFC 0030)
+/// `limit` is the greatest length that is accepted. Errors, in the order of the tests: `Short` if
+/// the bytes end inside the length, `BadLength` if the first byte cannot begin a length, `TooLong`
+/// if the length is over `limit`. (RFC 0030)
 pub fn read_length(bytes: &[u8], limit: usize) -> Result<(usize, usize), OerFault>
     // What is read is spelled so, by that many bytes, and within the limit.
     ensures found { IfOk result (λ r.
@@ -77,16 +77,16 @@ fn octets_of(bytes: &[u8], limit: usize) -> Result<(&[u8], &[u8]), OerFault>
     Ok(rest.split_at(len))
 }
 
-/// Reads the octet string at the front of `bytes`: its text, and the bytes after it, both lent from
-/// `bytes`.
+/// Reads the octet string at the front of `bytes`. Returns its text and the bytes after it, both
+/// borrowed from `bytes`.
 ///
-/// `limit` is the greatest length of the text that is taken, in bytes. Errors: those of
-/// [`read_length`], and `Short` where the text passes the end. (RFC 0030)
+/// `limit` is the greatest length of the text in bytes. Errors: those of [`read_length`], and
+/// `Short` if the text goes past the end. (RFC 0030)
 pub fn read_octets(bytes: &[u8], limit: usize) -> Result<(&[u8], &[u8]), OerFault>
-    // What is read stands at the front, within the limit, and the rest after it.
+    // A text that is read is at the front, within the limit, and the rest follows it.
     ensures found { IfOk result (λ r.
         BeginsWithString bytes.now r.0.now r.1.now × (length r.0.now ≤ limit)) }
-    // What stands at the front is read, whatever follows.
+    // A text at the front is read, whatever follows it.
     ensures only { (front text rest : List ℕ) → IsOctetString front text → length text ≤ limit
         → bytes.now ≡ front ++ rest
         → IsOkAnd result (λ r. (r.0.now ≡ text) × (r.1.now ≡ rest)) }
@@ -110,10 +110,10 @@ fn u64_of(bytes: &[u8]) -> Result<(u64, &[u8]), OerFault>
     Ok((number, rest))
 }
 
-/// Reads the number that the first eight bytes spell, the highest byte first, and lends the bytes
-/// after them.
+/// Reads a number from the first eight bytes, the highest byte first. Returns it and the bytes
+/// after it.
 ///
-/// Errors: `Short` where there are fewer than eight bytes. (RFC 0030, UInt64)
+/// Errors: `Short` if there are fewer than eight bytes. (RFC 0030, UInt64)
 pub fn read_u64(bytes: &[u8]) -> Result<(u64, &[u8]), OerFault>
     // What is read is spelled so.
     ensures found { IfOk result (λ r. (r.0 < 2 ^ 64) × (bytes.now ≡ to_be_bytes w64 r.0 ++ r.1.now)) }

@@ -11,8 +11,8 @@ fn has_room(out: &[u8], at: usize, count: usize) -> bool
     at <= out.len() && count <= out.len() - at
 }
 
-/// Writes `bytes` into `out` from place `at` on, where they are known to fit. Every other byte of
-/// `out` stays.
+/// Writes `bytes` into `out` from index `at` on. The caller makes sure that they fit. Every other byte
+/// of `out` stays.
 pub fn put_bytes(out: &mut [u8], at: usize, bytes: &[u8])
     requires { at + length bytes.now ≤ length out.old }
     ensures { out.new ≡ overwritten out.old at bytes.now }
@@ -45,8 +45,8 @@ pub fn length_size(count: usize) -> usize
     digits_of(&bytes).len() + 1
 }
 
-/// Writes the shortest spelling of the length `count` into `out` from place `at` on, where it is known
-/// to fit, and gives the place after it. Every other byte of `out` stays. (RFC 0030)
+/// Writes the shortest spelling of the length `count` into `out` from index `at` on, and returns the
+/// index after it. The caller makes sure that it fits. Every other byte of `out` stays. (RFC 0030)
 #[tactic(auto, unfolding(crate::specs::Length::shortest_length))]
 pub fn put_length(out: &mut [u8], at: usize, count: usize) -> usize
     requires { at + length (shortest_length count) ≤ length out.old }
@@ -64,9 +64,9 @@ pub fn put_length(out: &mut [u8], at: usize, count: usize) -> usize
     at + 1 + digits.len()
 }
 
-/// Writes `bytes` as an octet string into `out` from place `at` on, its length in the shortest
-/// spelling, where it is known to fit, and gives the place after it. Every other byte of `out` stays.
-/// (RFC 0030)
+/// Writes `bytes` as an octet string into `out` from index `at` on, and returns the index after it.
+/// The length has the shortest spelling. The caller makes sure that the string fits. Every other byte
+/// of `out` stays. (RFC 0030)
 pub fn put_octets(out: &mut [u8], at: usize, bytes: &[u8]) -> usize
     requires { at + length (octet_string bytes.now) ≤ length out.old }
     ensures end { result ≡ at + length (octet_string bytes.now) }
@@ -77,11 +77,11 @@ pub fn put_octets(out: &mut [u8], at: usize, bytes: &[u8]) -> usize
     text_at + bytes.len()
 }
 
-/// Writes the shortest spelling of the length `count` into `out` from place `at` on, and gives the
-/// place after it. Every other byte of `out` stays.
+/// Writes the shortest spelling of the length `count` into `out` from index `at` on, and returns the
+/// index after it. Every other byte of `out` stays.
 ///
-/// Errors: `Short` where it does not fit, also where `at` is past the end; nothing is written then.
-/// (RFC 0030)
+/// Errors: `Short` if it does not fit, also if `at` is past the end. Nothing is written then. (RFC
+/// 0030)
 pub fn write_length(out: &mut [u8], at: usize, count: usize) -> Result<usize, OerFault>
     ensures fits { IsOk result ↔ (at + length (shortest_length count) ≤ length out.old) }
     ensures ok { IfOk result (λ end. Writes out.old at (shortest_length count) out.new end) }
@@ -93,10 +93,10 @@ pub fn write_length(out: &mut [u8], at: usize, count: usize) -> Result<usize, Oe
     Ok(put_length(out, at, count))
 }
 
-/// Writes `bytes` as an octet string into `out` from place `at` on, its length in the shortest
-/// spelling, and gives the place after it. Every other byte of `out` stays.
+/// Writes `bytes` as an octet string into `out` from index `at` on, and returns the index after it.
+/// The length has the shortest spelling. Every other byte of `out` stays.
 ///
-/// Errors: `Short` where it does not fit, also where `at` is past the end; nothing is written then.
+/// Errors: `Short` if the string does not fit, also if `at` is past the end. Nothing is written then.
 /// (RFC 0030)
 pub fn write_octets(out: &mut [u8], at: usize, bytes: &[u8]) -> Result<usize, OerFault>
     ensures fits { IsOk result ↔ (at + length (octet_string bytes.now) ≤ length out.old) }
@@ -109,11 +109,11 @@ pub fn write_octets(out: &mut [u8], at: usize, bytes: &[u8]) -> Result<usize, Oe
     Ok(put_octets(out, at, bytes))
 }
 
-/// Writes `value` as eight bytes, the highest first, into `out` from place `at` on, and gives the
-/// place after it. Every other byte of `out` stays.
+/// Writes `value` as eight bytes, the highest first, into `out` from index `at` on, and returns the
+/// index after them. Every other byte of `out` stays.
 ///
-/// Errors: `Short` where they do not fit, also where `at` is past the end; nothing is written then.
-/// (RFC 0030, UInt64)
+/// Errors: `Short` if they do not fit, also if `at` is past the end. Nothing is written then. (RFC
+/// 0030, UInt64)
 pub fn write_u64(out: &mut [u8], at: usize, value: u64) -> Result<usize, OerFault>
     ensures fits { IsOk result ↔ (at + 8 ≤ length out.old) }
     ensures ok { IfOk result (λ end. Writes out.old at (to_be_bytes w64 value) out.new end) }

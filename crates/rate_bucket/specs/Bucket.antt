@@ -22,8 +22,8 @@ pub record Stretch : Type 0 where
 abbrev pub gained : ℕ → ℕ → ℕ → ℕ
 gained per_second since now = per_second * (now - since)
 
--- each packet that was admitted begins a window: a bucket that was full just before it, what flowed in since, less that
--- packet and those after it; this is the least that one of these windows leaves, and no more than a full bucket
+-- each admitted packet begins a window: a bucket that was full just before it, plus what flowed in since, less that
+-- packet and those after it. This is the least that one of these windows leaves, and at most a full bucket
 abbrev pub windows_left : ℕ → ℕ → ℕ → List ℕ → ℕ
 windows_left burst per_second now [] = full_bucket burst
 windows_left burst per_second now (at ∷ ats) =
