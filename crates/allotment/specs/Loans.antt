@@ -11,8 +11,8 @@ max_tenants = MAX_TENANTS
 abbrev pub max_places : ℕ
 max_places = MAX_PLACES
 
--- Of how many places each of so many tenants is sure: half of an equal part, so that the rest is for whoever comes, but one at
--- least; and of none where there are fewer places than tenants.
+-- The share of each tenant: half of an equal part of the places, and one at least. The rest is for anyone. With fewer
+-- places than tenants the share is 0.
 abbrev pub share_of : (places tenants : ℕ) → ℕ
 share_of places tenants = if nat_lt places tenants then 0 else max 1 (places / (2 * tenants))
 

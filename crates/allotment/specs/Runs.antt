@@ -1,4 +1,4 @@
--- Calls of many tenants, one after another, and what one of them is told.
+-- Calls of many tenants, one after another, and the answers that one of them gets.
 use Rattle.std.specs.Prelude.{ℕ, ◌≡◌, ◌+◌, ◌-◌, ◌<◌, ◌==◌, Bool, true, ◌&&◌, List, [], ◌∷◌, ◌++◌, filter, length, nat_lt, if◌then◌else◌}
 use Rattle.allotment.specs.Loans.{Loans, asked_by, given_back_by, is_granted, used_by}
 
@@ -11,11 +11,11 @@ pub record Call : Type 0 where
 abbrev pub after : Call → Loans → Loans
 after call loans = if call.takes then asked_by call.tenant loans else given_back_by call.tenant loans
 
--- what a tenant is told at a call: whether it got a place, where it asked for one
+-- the answer to a tenant at a call: whether it got a place, if it asked for one
 abbrev pub told_at : ℕ → Call → Loans → List Bool
 told_at tenant call loans = if (call.tenant == tenant) && call.takes then is_granted call.tenant loans ∷ [] else []
 
--- what a tenant is told, call by call
+-- the answers to a tenant, call by call
 abbrev pub told_to : ℕ → List Call → Loans → List Bool
 told_to tenant [] loans = []
 told_to tenant (call ∷ calls) loans = told_at tenant call loans ++ told_to tenant calls (after call loans)

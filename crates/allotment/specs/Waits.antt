@@ -2,8 +2,9 @@
 use Rattle.std.specs.Prelude.{ℕ, ◌≡◌, ◌+◌, ◌-◌, ◌<◌, ◌≤◌, ◌==◌, true, false, List, length, Option, None, Some, if◌then◌else◌, nat_lt, slice_index, slice_set}
 use Rattle.allotment.specs.Loans.{Loans, given_back_by, is_granted, lent_to, used_by}
 
--- The places that are lent, how many of one tenant may wait, how many of each tenant do, how many places are kept for those
--- of a tenant that have waited, and whose turn it is to have a place that anyone may have.
+-- Loans of places, and the tenants that wait. `most_waiting` bounds how many of one tenant may wait, `waiting` counts
+-- those of each tenant that do, and `kept` the places kept for those that have waited. `turn` is the tenant whose turn
+-- is next.
 pub record Queued : Type 0 where
   pub loans : Loans
   pub most_waiting : ℕ
@@ -33,12 +34,12 @@ abbrev pub IsNextInTurn : ℕ → Queued → Type 0
 IsNextInTurn tenant queued =
     (other : ℕ) → 0 < waiting_of other queued → steps_to tenant queued ≤ steps_to other queued
 
--- the tenant behind this one of so many: behind the last comes the first
+-- the tenant after this one of so many: after the last comes the first
 abbrev pub tenant_behind : ℕ → (tenants : ℕ) → ℕ
 tenant_behind tenant tenants = if tenant + 1 == tenants then 0 else tenant + 1
 
--- Whose turn it is once what the tenant gives back is kept for the next one: that of whoever is behind the next one, where
--- the tenant used more than its share. What is a tenant's own takes nobody's turn.
+-- Whose turn it is after the tenant gave back a place that is kept for `next`: the tenant after `next` if the giver
+-- used more than its share. Otherwise the turn stays: a place of a tenant's own share takes nobody's turn.
 abbrev pub turn_after : (tenant next : ℕ) → Queued → ℕ
 turn_after tenant next queued =
     if nat_lt queued.loans.share (used_by tenant queued.loans) then tenant_behind next (length queued.loans.used)

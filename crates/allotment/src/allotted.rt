@@ -51,8 +51,8 @@ impl Allotment {
     ghost use Rattle.std.specs.Prelude.{◌≡◌, ◌+◌, ◌*◌, ◌/◌, ◌<◌, ◌≤◌, length, nat_lt, replicate, IfOk, IsTrue, if◌then◌else◌};
     ghost use Rattle.allotment.specs.Loans.{max_tenants, max_places, IsCovered, asked_by, free_of, given_back_by, is_granted, share_of, used_by};
 
-    /// Places that nobody uses. Each tenant is sure of half of an equal part of them, rounded down, and of one at least, unless
-    /// there are fewer places than tenants; what is left is for anyone. The one error is want of memory.
+    /// Places that nobody uses. Each tenant is sure of half of an equal part of them, rounded down, and of one at
+    /// least, unless there are fewer places than tenants. The rest is for anyone. Fails only if it is out of memory.
     pub fn new(alloc: Global, places: usize, tenants: usize) -> Result<Allotment, AllocError>
         requires tenants { (1 ≤ tenants) × (tenants ≤ max_tenants) }
         requires places { (1 ≤ places) × (places ≤ max_places) }

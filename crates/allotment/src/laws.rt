@@ -15,8 +15,8 @@ pub fn sure_within_its_share()
         → IsTrue (list_all (λ got. got) (told_to tenant calls loans)) }
 {}
 
-/// Such a tenant is told what it would be told alone: it sees nothing of the others, neither of their loans nor of their
-/// calls.
+/// Such a tenant gets the answers that it would get alone: it sees nothing of the others, neither of their loans nor
+/// of their calls.
 pub fn told_as_alone()
     ensures { (tenant : ℕ) (calls : List Call) (one other : Loans) → IsAlike tenant one other
         → IsTrue (asks_within tenant one.share (used_by tenant one) calls)

@@ -7,7 +7,7 @@ use crate::allotted::Allotment;
 use std::alloc::{AllocError, Global};
 use std::marker::Model;
 
-/// What a tenant is told that asks for a place.
+/// The answer to a tenant that asks for a place.
 #[derive(Clone, Copy, Debug, PartialEq, Eq)]
 pub enum Admission {
     /// It has one.
@@ -20,12 +20,12 @@ pub enum Admission {
 
 /// An allotment of places, and how many of each tenant wait for one. Contracts see it as `Queued`.
 ///
-/// Nobody waits who could have a place: a place that comes back is kept at once for one that waits and may have it. So a
-/// tenant that uses less than its share never waits, whatever the others use and however many of them wait.
+/// Nobody waits who could have a place: a place that comes back is kept at once for one that waits and may have it. So
+/// a tenant that uses less than its share never waits, whatever the others use and however many of them wait.
 ///
-/// What anyone may have is kept for those who wait in turn: for the first that is behind the tenant which got the last such
-/// place. What is a tenant's own takes nobody's turn. Otherwise one whose own place comes and goes could bring the turn back
-/// to those right behind it each time, and another would wait for ever.
+/// The places that anyone may have are kept for waiting tenants in turn. Next is the first tenant after the one that
+/// got the last such place. A place of a tenant's own share takes nobody's turn. Otherwise a tenant whose own place
+/// comes and goes could bring the turn back to the tenants right after it each time, and another would wait for ever.
 #[derive(Drop)]
 pub struct Lending {
     loans: Allotment,
@@ -54,8 +54,8 @@ impl Lending {
     ghost use Rattle.allotment.specs.WaitsKept.{IsQueue};
     ghost use Rattle.allotment.specs.Waits.{CameBack, IsNextInTurn, NobodyWaitsInVain, asked_for, given_up_by, kept_for, picked_up_by, waiting_of};
 
-    /// Places that nobody uses, for which so many of each tenant may wait. Each tenant is sure of its share
-    /// (`Allotment::new`). The one error is want of memory.
+    /// Places that nobody uses, and how many of each tenant may wait for one. Each tenant is sure of its share
+    /// (`Allotment::new`). Fails only if it is out of memory.
     pub fn new(
         alloc: Global,
         places: usize,
@@ -170,8 +170,8 @@ impl Lending {
         self.kept[tenant] < self.loans.used_by(tenant)
     }
 
-    // For whom a place is kept that the tenant gives back: for the tenant itself, where it uses no more than its share, and
-    // else for whoever is next in turn.
+    // The tenant that gets the place which the tenant gives back: the tenant itself if it uses no more than its share,
+    // otherwise the one whose turn is next.
     fn next_after(&self, tenant: usize) -> Option<usize>
         requires tenant { tenant < length self.now.loans.used }
         requires uses { 0 < used_by tenant self.now.loans }
@@ -231,9 +231,10 @@ impl Lending {
         None
     }
 
-    /// Takes back a place that the tenant uses. It is kept for one that waits, of whose tenant the number is the answer: of
-    /// the same tenant, where it used no more than its share, and else of whichever is next in turn. Only then does the turn
-    /// pass on, to the tenant behind that one (`laws::nearer_each_time`, `laws::last_from_then_on`).
+    /// Takes back a place that the tenant uses, and keeps it for a tenant that waits and may have it. Returns the
+    /// number of that tenant: the same tenant if it used no more than its share, otherwise the one whose turn is next.
+    /// Only in the second case the turn passes on, to the tenant after that one (`laws::nearer_each_time`,
+    /// `laws::last_from_then_on`).
     pub fn give_back(&mut self, tenant: usize) -> Option<usize>
         requires tenant { tenant < length self.old.loans.used }
         requires uses { kept_for tenant self.old < used_by tenant self.old.loans }
@@ -259,7 +260,7 @@ impl Lending {
     }
 }
 
-// The tenant behind this one of so many.
+// The tenant after this one of so many.
 fn behind(tenant: usize, tenants: usize) -> usize
     requires { tenant < tenants }
     ensures behind { result ≡ tenant_behind tenant tenants }

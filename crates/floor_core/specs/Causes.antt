@@ -55,7 +55,7 @@ HasCause s r = (cause : Cause) × BringsBytes cause × (made_from s cause ≡ So
 
 -- ---- records of many tenants
 
--- a record, and the tenant in whose book it stands
+-- a record, and the tenant whose book has it
 pub record Entered : Type 0 where
   pub tenant : ℕ
   pub made : Record
@@ -99,15 +99,15 @@ book_opened (Some o) = opened o
 abbrev pub world_opened : List Opening → World
 world_opened openings = record { tenants = λ t. new_tenant (book_opened (slice_get openings t)); hands = all_free }
 
--- each opening stands at its tenant's number
+-- each opening is at its tenant's number
 abbrev pub ArePlaced : List Opening → Type 0
 ArePlaced openings =
     (t : ℕ) → t < length openings → (book_opened (slice_get openings t)).opening.tenant ≡ t
 
--- There are workers and steps, each of a worker and a tenant that are there and each frame made of bytes, that, run from the
--- openings on, make just these records, in this order, and leave those books. Of this run holds what holds of each: every tenant
--- sees and keeps what the one-tenant connector makes of the tenant's own steps alone, and each frame that goes on is the one that
--- its worker took in last, with another amount and another expiry.
+-- Steps of workers, run from the openings on, make just these records in this order and leave those books. Each step
+-- is of a worker and a tenant of the run, and each frame is made of bytes. Every tenant sees and keeps what the
+-- one-tenant connector makes of the tenant's own steps alone. Each frame that goes on is the one that its worker took
+-- in last, with another amount and another expiry.
 pub record AreRun (openings : List Opening) (entries : List Entered) (left : ℕ → State) : Type 0 where
   pub workers : ℕ
   pub steps : List Step

@@ -51,7 +51,7 @@ abbrev pub stage_of_frame : List ℕ → Result Prepare ViewFault → Option Sta
 stage_of_frame token (Ok p) = Some (Stage.Ready token p)
 stage_of_frame token (Err f) = None
 
--- where the call of a slot stands
+-- the stage of a slot's call
 abbrev pub stage_in : Job → Option Stage
 stage_in Job.NoJob = None
 stage_in (Job.Carries tenant token frame) = stage_of_frame token (prepare_at frame)
@@ -76,7 +76,7 @@ abbrev pub is_call : ℕ → ℕ → Option (ℕ × ℕ) → Bool
 is_call t call None = false
 is_call t call (Some c) = (c.0 == t) && (c.1 == call)
 
--- the calls of tenant t that have not ended, by number: each stands as in the seat that carries it
+-- the calls of tenant t that have not ended, by number, each at the stage of the seat that carries it
 abbrev pub calls_of : ℕ → List Seat → ℕ → Option Stage
 calls_of t [] call = None
 calls_of t (s ∷ ss) call = if is_call t call (carried s) then stage_in s.slot.job else calls_of t ss call
@@ -126,7 +126,7 @@ pub record IsNew (setups : List TenantTerms) (start workers : ℕ) (f : FloorSta
 -- its parts fit each other
 pub record IsSound (f : FloorState) : Type 0 where
   pub as_many : length f.next_calls ≡ length f.books
-  -- a book stands at its tenant's number
+  -- each book is at its tenant's number
   pub placed : (t : ℕ) → t < length f.books → (book_at f t).opening.tenant ≡ t
   -- no two workers carry one call
   pub apart : (v w : ℕ) (c : ℕ × ℕ) → carried_at f.seats v ≡ Some c → carried_at f.seats w ≡ Some c → v ≡ w

@@ -33,7 +33,7 @@ message_of TimedOut = codes "transfer timed out"
 message_of InsufficientSource = codes "insufficient source amount"
 message_of InsufficientTimeout = codes "insufficient timeout"
 
--- the received and the greatest amount, where they are told
+-- the received and the greatest amount, if there are any
 abbrev pub amounts_data : Option (ℕ × ℕ) → List ℕ
 amounts_data None = []
 amounts_data (Some amounts) = to_be_bytes w64 amounts.0 ++ to_be_bytes w64 amounts.1
@@ -46,7 +46,7 @@ refusal_reply address code amounts = reject_frame (code_of code) address (messag
 abbrev pub busy_reply : List ℕ → List ℕ
 busy_reply address = refusal_reply address Busy None
 
--- what a child is told; who is none, nothing
+-- the answer to a child; no bytes for any other peer
 abbrev pub config_reply : Option Client → List ℕ
 config_reply None = []
 config_reply (Some c) = config_answer c
@@ -55,7 +55,8 @@ config_reply (Some c) = config_answer c
 abbrev pub client_with_token : State → List ℕ → Option Client
 client_with_token s token = option_map (child_of s.opening) (peer_with_token token (network_of s).peers)
 
--- what the sender of a packet that came with this token is told of a verdict; of one that tells it nothing, no byte
+-- the reply to the sender of a packet that came with this token, by the verdict; no bytes if the verdict has no
+-- reply
 abbrev pub decision_reply : State → List ℕ → Verdict → List ℕ
 decision_reply s token Unknown = []
 decision_reply s token NoRoom = busy_reply s.opening.address

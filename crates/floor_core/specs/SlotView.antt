@@ -36,7 +36,7 @@ work_of s =
       room = s.reply;
     }
 
--- nothing is told while a call is carried
+-- there is no reply while a call is carried
 abbrev pub IsQuiet : Stage → ℕ → Type 0
 IsQuiet Idle len = Unit {0}
 IsQuiet (Loaded tenant token) len = len ≡ 0

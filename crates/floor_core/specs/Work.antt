@@ -38,8 +38,8 @@ pub data Job : Type 0 where
   Carries : (tenant : ℕ) (token frame : List ℕ) → Job
   Waits : (tenant hold : ℕ) (frame : List ℕ) → Job
 
--- a slot: its call, whom the frame that was sent on goes to and when that frame expires, what the sender is told once the
--- call has ended, and the room that answers come into
+-- a slot: its call, the target and the expiry of the frame that was sent on, the reply to the sender once the call has
+-- ended, and the buffer that answers come into
 pub record Work : Type 0 where
   pub job : Job
   pub target : Option TargetParts
@@ -68,7 +68,7 @@ waiting_in _ = None
 abbrev pub carrying : Job → List ℕ → Work
 carrying job room = record { job = job; target = None; expiry = None; reply = []; room = room }
 
--- a slot with no call, that tells these bytes: they stand at the front of the room
+-- a slot with no call and this reply, at the front of the buffer
 abbrev pub telling : List ℕ → List ℕ → Work
 telling reply room = record { job = Job.NoJob; target = None; expiry = None; reply = reply; room = overwritten room 0 reply }
 
@@ -93,7 +93,7 @@ loaded_as w tenant token bytes (Err fault) = w
 abbrev pub loaded : Work → (tenant : ℕ) → (token bytes : List ℕ) → Work
 loaded w tenant token bytes = loaded_as w tenant token bytes (load_result w.job token bytes)
 
--- ---- what a call comes to
+-- ---- the results of calls
 
 -- what a call of a slot with a tenant's book is answered with, what it leaves of the slot, and the record that it makes in
 -- the book, if it makes one: nothing else of the book changes
@@ -106,11 +106,11 @@ pub record Called : Type 0 where
 abbrev pub only : Turn → Work → Called
 only turn w = record { turn = turn; work = w; made = None }
 
--- the sender is told these bytes, and the call has ended
+-- the sender gets this reply, and the call has ended
 abbrev pub replied : List ℕ → List ℕ → Option Record → Called
 replied reply room made = record { turn = Reply; work = telling reply room; made = made }
 
--- what it comes to where the book is that of the call's tenant
+-- the result if the book is that of the call's tenant, otherwise `Stray`
 abbrev pub if_own : ℕ → State → Work → Called → Called
 if_own tenant s w called = if s.opening.tenant == tenant then called else only Stray w
 
@@ -131,7 +131,7 @@ sent_on s tenant p hold peer amount expiry room =
       room = room;
     }
 
--- what a verdict on a packet comes to, which makes that record
+-- the result of a verdict on a packet, which makes that record
 abbrev pub verdict_call : State → ℕ → List ℕ → Prepare → List ℕ → Option Record → Verdict → Called
 verdict_call s tenant token p room made Unknown =
     record { turn = Stranger; work = carrying Job.NoJob room; made = made }
@@ -139,23 +139,23 @@ verdict_call s tenant token p room made (Forward hold peer amount expiry) =
     record { turn = Send peer hold; work = sent_on s tenant p hold peer amount expiry room; made = made }
 verdict_call s tenant token p room made v = replied (decision_reply s token v) room made
 
--- what a decide of a packet comes to
+-- the result of a decide of a packet
 abbrev pub packet_call : State → ℕ → List ℕ → Prepare → List ℕ → ℕ → Called
 packet_call s tenant token p room now =
     verdict_call s tenant token p room (decide_made s token (key_in p) now) (judge s token (key_in p) now)
 
--- what a decide of a frame comes to
+-- the result of a decide of a frame
 abbrev pub frame_call : Work → State → ℕ → List ℕ → Result Prepare ViewFault → ℕ → Called
 frame_call w s tenant token (Ok p) now = packet_call s tenant token p w.room now
 frame_call w s tenant token (Err fault) now = only Idle w
 
--- what a decide of a slot with that call comes to
+-- the result of a decide of a slot with that call
 abbrev pub job_decided : Job → Work → State → ℕ → Called
 job_decided (Job.Carries tenant token frame) w s now =
     if_own tenant s w (frame_call w s tenant token (prepare_at frame) now)
 job_decided _ w s now = only Idle w
 
--- what a decide comes to
+-- the result of a decide
 abbrev pub decide_call : Work → State → ℕ → Called
 decide_call w s now = job_decided w.job w s now
 
@@ -166,7 +166,7 @@ abbrev pub IsWaiting : Job → Type 0
 IsWaiting (Job.Waits tenant hold frame) = Unit {0}
 IsWaiting _ = ⊥
 
--- what comes of bytes that are to be an answer
+-- the bytes as an answer: a fault if there are too many of them
 abbrev pub filled_as : List ℕ → Got
 filled_as bytes = if nat_lt max_frame (length bytes) then got.Fault else got.Filled (length bytes)
 
@@ -179,19 +179,19 @@ abbrev pub given_by : (room : List ℕ) → Got → Given
 given_by room (got.Filled n) = if nat_lt max_frame n then given.Fault else given.Bytes (take n room)
 given_by room got.Fault = given.Fault
 
--- what an answer to a hold comes to, which makes that record
+-- the result of an answer to a hold, which makes that record
 abbrev pub settled_call : Work → State → Given → Option Record → Result Verdict HoldFault → Called
 settled_call w s given made (Ok v) = replied (settled_reply s.opening.address (bytes_given given) v) w.room made
 settled_call w s given made (Err fault) = only Stray w
 
--- what an answer to a slot with that call comes to
+-- the result of an answer to a slot with that call
 abbrev pub job_answered : Job → Work → State → ℕ → Given → Called
 job_answered (Job.Waits tenant hold frame) w s now given =
     if_own tenant s w
     (settled_call w s given (answer_made s hold now (answer_key given)) (answer_to s hold now (answer_key given)))
 job_answered _ w s now given = only Idle w
 
--- what an answer comes to
+-- the result of an answer
 abbrev pub answer_call : Work → State → ℕ → Got → Called
 answer_call w s now got = job_answered w.job w s now (given_by w.room got)
 
@@ -217,7 +217,7 @@ abbrev pub IsNamed : Job → Type 0
 IsNamed (Job.Carries tenant token frame) = is_token token ≡ true
 IsNamed _ = Unit {0}
 
--- what holds of a slot, whatever it was told
+-- what holds of every slot
 pub record IsWork (w : Work) : Type 0 where
   pub readable : IsReadable w.job
   pub octets : IsOfBytes w.job

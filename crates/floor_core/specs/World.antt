@@ -35,7 +35,7 @@ use Rattle.floor_core.specs.declared.step.Output.{Output}
 use Rattle.floor_core.specs.declared.step.Output.TheVariants.{Busy, Idle, Loaded, Bad, Stranger, Reply, Send, Ticked}
 use Rattle.floor_core.specs.declared.step.Output.TheVariants.{Governed}
 
--- where a call stands that has not ended: its packet may be decided, or went on and awaits its answer
+-- the stage of a call that has not ended: its packet may be decided, or was sent on and awaits its answer
 pub data Stage : Type 0 where
   Ready : (token : List ℕ) (packet : Prepare) → Stage
   Sent : (hold : ℕ) → Stage
@@ -121,13 +121,13 @@ abbrev pub heard : Given → Given
 heard (Bytes bytes) = if nat_lt max_frame (length bytes) then Fault else Bytes bytes
 heard Fault = Fault
 
--- what the sender of a packet is told once it is settled: the bytes that came back, or why it is refused
+-- the reply to the sender of a settled packet: the bytes that came back, or why it is refused
 abbrev pub settled_reply : List ℕ → List ℕ → Verdict → List ℕ
 settled_reply address bytes Relay = bytes
 settled_reply address bytes (Refuse code amounts) = refusal_reply address code amounts
 settled_reply address bytes _ = []
 
--- ---- what comes of an event
+-- ---- the effects of events
 
 -- what is said of an event, where it leaves the tenant, and the record that it makes in the book, if it makes one
 pub record Effect : Type 0 where
@@ -143,7 +143,7 @@ no_effect s = record { output = Idle; after = s; made = None }
 abbrev pub on_book : Tenant → Output → State → Option Record → Effect
 on_book s output book made = record { output = output; after = record s { book = book }; made = made }
 
--- this is said of a call, which comes to that stage or ends, and that record is made, if any
+-- an output about a call, with the call's next stage, or none once it has ended, and the record, if one is made
 abbrev pub on_call : Tenant → (call : ℕ) → Option Stage → Output → Option Record → Effect
 on_call s call stage output made =
     record {
@@ -176,7 +176,7 @@ call_judged s call token p made (Forward hold peer amount expiry) =
     (with_amount_and_expiry p amount (timestamp_of expiry))) made
 call_judged s call token p made v = on_call s call None (Reply (number_of s) (decision_reply s.book token v)) made
 
--- the decide of a call that stands there
+-- the decide of a call at that stage
 abbrev pub call_decided : Tenant → (call : ℕ) → Option Stage → (now : ℕ) → Effect
 call_decided s call (Some (Ready token p)) now =
     call_judged s call token p (decide_made s.book token (key_in p) now) (judge s.book token (key_in p) now)
@@ -188,14 +188,14 @@ call_settled s call given made (Ok v) =
     on_call s call None (Reply (number_of s) (settled_reply s.book.opening.address (bytes_given given) v)) made
 call_settled s call given made (Err f) = no_effect s
 
--- the answer to a call that stands there
+-- the answer to a call at that stage
 abbrev pub call_answered : Tenant → (call : ℕ) → Option Stage → (now : ℕ) → Given → Effect
 call_answered s call (Some (Sent hold)) now given =
     call_settled s call given (answer_made s.book hold now (answer_key given))
     (answer_to s.book hold now (answer_key given))
 call_answered s call _ now given = no_effect s
 
--- the one-tenant connector: what comes of an event
+-- the one-tenant connector: the effect of an event
 abbrev pub effect_of : Tenant → Event → Effect
 effect_of s (Arrives token bytes) = arrived s token (arrival token bytes)
 effect_of s (Decides call now) = call_decided s call (s.calls call) now
@@ -266,7 +266,7 @@ awaiting Free = Free
 awaiting (Has t call) = Awaits t call
 awaiting (Awaits t call) = Awaits t call
 
--- what a worker has in hand once it was told this: a good load, until its call has ended
+-- what a worker has in hand after this output: a good load, until its call has ended
 abbrev pub told : Hand → Output → Hand
 told hand Busy = hand
 told hand Idle = hand
@@ -286,7 +286,7 @@ worker_of (Answer worker now given) = Some worker
 worker_of (Tick tenant now) = None
 worker_of (Govern tenant now command) = None
 
--- what the workers have in hand once one of them was told this
+-- what the workers have in hand after one of them got this output
 abbrev pub hands_told : (ℕ → Hand) → Option ℕ → Output → ℕ → Hand
 hands_told hands (Some worker) output = put hands worker (told (hands worker) output)
 hands_told hands None output = hands
@@ -295,7 +295,7 @@ hands_told hands None output = hands
 abbrev pub hands_after : (ℕ → Hand) → Step → Output → ℕ → Hand
 hands_after hands step output = hands_told hands (worker_of step) output
 
--- whose each step is, as the workers were told
+-- the owner of each step, by the outputs of the steps before it
 abbrev pub owners : (ℕ → Hand) → List Step → List Output → List Owner
 owners hands [] outputs = []
 owners hands (s ∷ ss) [] = []
@@ -378,8 +378,8 @@ pub record AreOutputs (world : World) (steps : List Step) (outputs : List Output
       ≡ run_alone (world.tenants t) (own_steps t (owners world.hands steps outputs))
   pub nobodys : NobodysAreRight (owners world.hands steps outputs) outputs
 
--- The world that these steps lead to, whose outputs these are: each tenant stands where the one-tenant connector ends
--- on the tenant's own steps alone, and each worker has in hand what it was told last.
+-- The world that these steps with these outputs lead to. Each tenant is as the one-tenant connector leaves it after
+-- the tenant's own steps alone. Each worker has in hand what its own outputs leave it.
 pub record IsLeft (world : World) (steps : List Step) (outputs : List Output) (after : World) : Type 0 where
   pub alone : (t : ℕ) → left_alone (world.tenants t) (own_steps t (owners world.hands steps outputs)) ≡ after.tenants t
   pub hands : after.hands ≡ hands_left world.hands steps outputs

@@ -4,7 +4,7 @@ use Rattle.floor_core.specs.World.{Tenant, World, Owner, put, reply_alone, after
 use Rattle.floor_core.specs.declared.step.Output.{Output}
 use Rattle.floor_core.specs.declared.step.Step.{Step}
 
--- what the owner of a step is told
+-- the output of a step, from its owner
 abbrev pub says : World → Owner → Output
 says w (Owner.Own t e) = reply_alone (w.tenants t) e
 says w (Owner.Nobody output) = output

@@ -79,7 +79,7 @@ impl Model for Floor {
     ghost invariant = { IsSteady };
 }
 
-/// Memory was refused. Each step before stands, and nothing of the one that wanted it.
+/// Out of memory. Each step before this one is done whole, and nothing of the one that ran out of memory.
 #[derive(Drop)]
 pub struct RunFault {
     /// The outputs of the steps that were done.
@@ -242,7 +242,7 @@ fn tick_on(books: &mut [Book], tenant: usize, now: Moment) -> Output
     Output::Ticked { tenant, answer }
 }
 
-// What the book answers to a command. Where memory is refused, nothing has changed.
+// The book's answer to a command. If it is out of memory, nothing has changed.
 fn governed(
     alloc: Global,
     book: &mut Book,
@@ -287,7 +287,7 @@ impl Parts {
     ghost use Rattle.floor_core.specs.Moves.{output_of, moved, AsksSound};
     ghost use Rattle.floor_core.specs.Told.{shown};
 
-    // One step, or nothing where a command is refused memory.
+    // One step, or nothing if a command runs out of memory.
     fn step(&mut self, alloc: Global, step: &Step) -> Result<Told, AllocError>
         requires fits { Fits self.old step.now }
         requires met { (w : ℕ) → IsMet (seat_at self.old w).slot.job self.old.books }
@@ -347,11 +347,11 @@ impl Floor {
     ghost use Rattle.floor_core.specs.World.{AreOutputs, IsLeft};
     ghost use Rattle.floor_core.specs.Worlds.{reply, after};
 
-    /// Does a step, and tells what it puts out: to each tenant that is what the one-tenant connector says to the event, if
-    /// the step is the tenant's own, and there the tenant stands afterwards. A frame that is sent on is the one that the
-    /// worker had, with 8 other bytes for its amount and 17 others for its expiry.
+    /// Does a step and returns its output. For a tenant's own step, the output is what the one-tenant connector says
+    /// to the event, and the tenant ends as it does there. A frame that is sent on is the one that the worker had,
+    /// with 8 other bytes for its amount and 17 others for its expiry.
     ///
-    /// The one error is want of memory, for a command alone. Nothing has changed then.
+    /// Fails only if a command runs out of memory. Nothing has changed then.
     pub fn step(&mut self, alloc: Global, step: &Step) -> Result<Told, AllocError>
         requires fits { Fits self.old step.now }
         requires room { HasRoom self.old 1 }
@@ -380,7 +380,7 @@ impl Floor {
         let _ = &self.parts;
     }
 
-    /// What the sender is told of the last frame that the worker took in, if its call has ended.
+    /// The reply to the sender of the last frame that the worker took in, if its call has ended.
     pub fn reply(&self, worker: usize) -> &[u8]
         ensures value { result.now ≡ (seat_in self.now.seats worker).slot.reply }
         ensures short { length result.now ≤ max_frame }
@@ -428,13 +428,16 @@ impl Floor {
         }
     }
 
-    /// Does the steps in order, and gives their outputs. To each tenant they are those of the one-tenant connector on
-    /// the tenant's own steps alone, and so is where the tenant stands afterwards; nobody's steps put out that their
-    /// worker is busy or idle. Each frame that is sent on is the one that came at the last good load of its worker, or that
-    /// the worker had at first, with 8 other bytes for its amount and 17 others for its expiry. (RFC 0027, "ILP Prepare")
+    /// Does the steps in order and returns their outputs.
     ///
-    /// The one error is want of memory. It has the outputs of the steps that were done, of which the same holds: each
-    /// step stands whole or not at all.
+    /// - Each tenant gets the outputs of the one-tenant connector on the tenant's own steps alone, and ends as it does
+    ///   there.
+    /// - A step that is nobody's says that its worker is busy or idle.
+    /// - A frame that is sent on is the one that came at the last good load of its worker, or that the worker had at
+    ///   first. It has 8 other bytes for its amount and 17 others for its expiry. (RFC 0027, "ILP Prepare")
+    ///
+    /// Fails only if it is out of memory. The error has the outputs of the steps before, and the same holds of them:
+    /// each step is done whole or not at all.
     pub fn run(&mut self, alloc: Global, steps: &[Step]) -> Result<Vec<Output>, RunFault>
         requires fit { All (Fits self.old) steps.now }
         requires room { HasRoom self.old (length steps.now) }
@@ -476,8 +479,8 @@ impl Floor {
     ghost use Rattle.floor_core.specs.FloorView.{IsNew, max_seats};
     ghost use Rattle.tenant_core.specs.Limits.{max_tenants};
 
-    /// The floor of these tenants, whose first periods begin at `start`, and of so many workers, with nothing in hand:
-    /// 1 to 64 of each. The one error is want of memory.
+    /// The floor of these tenants, whose first periods begin at `start`, and of so many workers with nothing in hand:
+    /// 1 to 64 of each. Fails only if it is out of memory.
     pub fn new(
         alloc: Global,
         setups: &[TenantSetup],

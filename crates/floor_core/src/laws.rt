@@ -23,8 +23,8 @@ pub fn outputs_are_there()
         → IsLeft world steps (replies world steps) (after_all world steps) }
 {}
 
-/// Steps may be done in pieces: the outputs of a list, and behind them those of another in the world that the first one
-/// leaves, are those of both lists as one, and so is the world that they leave.
+/// Steps may be done in two parts. The outputs of the first list, and then those of the second in the world that the
+/// first leaves, are those of both lists as one. Both ways leave the same world.
 pub fn one_after_the_other()
     ensures outputs { (world between : World) (steps more : List Step) (xs ys : List Output)
         → AreOutputs world steps xs → IsLeft world steps xs between → AreOutputs between more ys
@@ -34,8 +34,9 @@ pub fn one_after_the_other()
         → IsLeft between more ys last → IsLeft world (steps ++ more) (xs ++ ys) last }
 {}
 
-/// In every world, each frame that steps send on is the one that came at the last good load of its worker, or that the worker
-/// had in hand at first, with 8 other bytes for its amount and 17 others for its expiry. (RFC 0027, "ILP Prepare")
+/// In every world, each frame that steps send on is the one that came at the last good load of its worker, or that the
+/// worker had in hand at first. It has 8 other bytes for its amount and 17 others for its expiry. (RFC 0027, "ILP
+/// Prepare")
 pub fn frames_that_go_on()
     ensures { (world : World) (frames : ℕ → List ℕ) (workers tenants : ℕ) (steps : List Step) (outputs : List Output)
         → AreTaken tenants world frames → All (FitsIn workers tenants) steps → All HasBytes steps
@@ -46,8 +47,8 @@ pub fn frames_that_go_on()
     ilp_view::laws::forwards_change_two_fields();
 }
 
-/// Two worlds, with any other tenants and any numbers of workers, in which a tenant stands alike, and two lists of
-/// steps of which the tenant's own are alike: the tenant sees the same, and stands alike afterwards.
+/// Two worlds have any other tenants and any numbers of workers, and one tenant is alike in both. Of two lists of
+/// steps, that tenant's own steps are alike. Then the tenant sees the same in both, and is alike afterwards.
 pub fn two_worlds()
     ensures seen { (t : ℕ) (v w : World) (xs ys : List Step) (os ps : List Output) → v.tenants t ≡ w.tenants t
         → AreOutputs v xs os → AreOutputs w ys ps
@@ -59,11 +60,13 @@ pub fn two_worlds()
         → x.tenants t ≡ y.tenants t }
 {}
 
-/// Records of many tenants in one order, each of which something made in its tenant's book as the records before it left
-/// the book, are those of a run: from the tenants' openings on, by at most as many workers as there are packets, its steps
-/// make just these records, in this order, and leave the books that the records leave. Each tenant sees of it what the
-/// one-tenant connector says to the tenant's own steps alone, and each frame that goes on is the one that came, with 8 other
-/// bytes for its amount and 17 others for its expiry, as of `Floor::run`.
+/// Take records of many tenants in one order, where a cause made each record in its tenant's book as the records
+/// before it left the book. They are the records of a run of at most as many workers as there are packets. Its steps
+/// start from the tenants' openings, make just these records in this order, and leave the books that the records
+/// leave.
+///
+/// Each tenant sees in this run what the one-tenant connector says to the tenant's own steps alone. Each frame that
+/// goes on is the one that came, with 8 other bytes for its amount and 17 others for its expiry, as in `Floor::run`.
 pub fn records_are_a_run()
     ensures { (openings : List Opening) (entries : List Entered) (left : ℕ → State)
         → ArePlaced openings → All (λ e. e.tenant < length openings) entries

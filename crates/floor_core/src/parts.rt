@@ -36,7 +36,7 @@ pub enum Turn {
     Stray,
     /// The token is no peer's of the tenant. The slot is idle.
     Stranger,
-    /// The sender of the frame is told what the slot's reply says. The slot is idle.
+    /// The slot's reply is the answer to the sender of the frame. The slot is idle.
     Reply,
     /// The slot's frame goes on to the peer of that number, under that hold. The slot awaits its answer.
     Send { peer: PeerNo, hold: u64 },

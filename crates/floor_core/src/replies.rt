@@ -73,8 +73,8 @@ fn put_refusal(
     }
 }
 
-/// Writes what the sender of a packet is told of the verdict at the front of `out`, and gives how many bytes it has:
-/// none where the verdict tells the sender nothing. The packet came with `token`.
+/// Writes the reply to the sender of a packet, by the verdict on it, at the front of `out`. Returns how many bytes
+/// it has: none if the verdict has no reply. The packet came with `token`.
 pub fn put_decision(out: &mut [u8], book: &Book, token: &[u8], verdict: Verdict) -> usize
     requires { length out.old ≡ max_frame }
     ensures written { Writes out.old 0 (decision_reply book.now token.now verdict) out.new result }
@@ -91,8 +91,8 @@ pub fn put_decision(out: &mut [u8], book: &Book, token: &[u8], verdict: Verdict)
     }
 }
 
-/// Writes what the sender of a packet is told of the verdict on its answer, the first `len` bytes of `out`, in their
-/// place, and gives how many bytes that has.
+/// Writes the reply to the sender of a packet, by the verdict on its answer. The answer is the first `len` bytes of
+/// `out`, and the reply takes their place. Returns how many bytes it has.
 pub fn put_settlement(out: &mut [u8], address: &[u8], len: usize, verdict: Verdict) -> usize
     requires room { length out.old ≡ max_frame }
     requires address { length address.now ≤ max_own_address }

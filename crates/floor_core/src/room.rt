@@ -31,7 +31,7 @@ impl Room {
     ghost use Rattle.floor_core.specs.Rooms.{refilled};
     ghost use Rattle.floor_core.specs.contracts.room.Room.{the_row};
 
-    /// Such room. The one error is want of memory.
+    /// Such a buffer. Fails only if it is out of memory.
     pub fn new(alloc: Global) -> Result<Room, AllocError>
         ensures { IfOk result (λ room. length room ≡ max_frame) }
     {

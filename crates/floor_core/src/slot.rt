@@ -41,8 +41,8 @@ enum Stage {
     },
 }
 
-/// What one worker carries: a frame, the one that came or the one that was sent on, and what the sender is told in the
-/// end. All its room is taken when it is made. Contracts see it as a `Work`.
+/// What one worker carries: a frame, the one that came or the one that was sent on, and at the end the reply to the
+/// sender. It allocates all its memory when it is made. Contracts see it as a `Work`.
 #[derive(Drop)]
 pub struct Slot {
     stage: Stage,
@@ -74,7 +74,7 @@ impl Slot {
     ghost use Rattle.std.specs.Borrow.{sem};
     ghost use Rattle.floor_core.specs.Lending.{LendsRoom};
 
-    /// A slot with nothing to carry and nothing to tell. The one error is want of memory.
+    /// A slot with no call and no reply. Fails only if it is out of memory.
     pub fn new(alloc: Global) -> Result<Slot, AllocError>
         ensures { IfOk result (λ slot. slot ≡ carrying Job.NoJob slot.room) }
     {
@@ -121,8 +121,8 @@ impl Slot {
         }
     }
 
-    /// What the sender of the last frame that was taken in is told; none before its call has ended. A `load` that is refused
-    /// leaves it.
+    /// The reply to the sender of the last frame that was taken in; empty before its call has ended. A `load` that is
+    /// refused leaves it.
     pub fn reply(&self) -> &[u8]
         ensures value { result.now ≡ self.now.reply }
         ensures short { length result.now ≤ max_frame }
@@ -142,7 +142,7 @@ impl Slot {
         }
     }
 
-    /// Drops the call that is carried, and what is told of the last one.
+    /// Drops the call that is carried, and the reply of the last one.
     pub fn clear(&mut self)
         ensures { self.new ≡ carrying Job.NoJob self.old.room }
     {
@@ -175,12 +175,15 @@ impl Slot {
         Ok(())
     }
 
-    /// Lets the tenant of the frame decide, by its book, what becomes of it at this moment.
+    /// Lets the tenant of the frame decide, by its book, what becomes of it at this moment. (RFC 0027; RFC 0031)
     ///
-    /// `Idle` where no frame came in that is still to be decided, and `Stray` where the book is another tenant's:
-    /// nothing has changed then. Else as the book decides by the token and the packet: `Stranger` where the token is no
-    /// peer's; `Send` where the packet goes on, with the amount and the expiry of the verdict in place of its own and
-    /// every other byte as it came; `Reply` for every other verdict. (RFC 0027; RFC 0031)
+    /// `Idle` if there is no frame to decide, and `Stray` if the book is another tenant's: nothing has changed then.
+    /// Otherwise the book decides by the token and the packet:
+    ///
+    /// - `Stranger` if no peer has the token.
+    /// - `Send` if the packet goes on, with the verdict's amount and expiry in place of its own, and every other byte
+    ///   as it came.
+    /// - `Reply` for every other verdict.
     pub fn decide(&mut self, book: &mut Book, now: Moment) -> Turn
         ensures turn { result ≡ (decide_call self.old book.old now).turn }
         ensures slot { self.new ≡ (decide_call self.old book.old now).work }
@@ -271,11 +274,10 @@ impl Slot {
         Got::Filled(bytes.len())
     }
 
-    /// Lets the tenant settle the packet that was sent on, by its book and what came back from the next peer.
+    /// Lets the tenant settle the packet that was sent on, by its book and the answer of the next peer. (RFC 0027)
     ///
-    /// `Idle` where the slot awaits no answer, and `Stray` where the book is another tenant's or knows of no such hold:
-    /// nothing has changed then. Else `Reply`: what came back, where the book relays it, or the refusal of its verdict.
-    /// (RFC 0027)
+    /// `Idle` if the slot awaits no answer, and `Stray` if the book is another tenant's or has no such hold: nothing
+    /// has changed then. Otherwise `Reply`: the answer if the book relays it, or the refusal of its verdict.
     pub fn answer(&mut self, book: &mut Book, now: Moment, got: Got) -> Turn
         ensures turn { result ≡ (answer_call self.old book.old now got).turn }
         ensures slot { self.new ≡ (answer_call self.old book.old now got).work }

@@ -30,7 +30,7 @@ pub enum Step<'a> {
         now: Moment,
         given: Given<'a>,
     },
-    /// A tenant is told the moment, and gives up what is overdue.
+    /// Gives a tenant the moment. The tenant gives up what is overdue.
     Tick {
         tenant: usize,
         now: Moment,

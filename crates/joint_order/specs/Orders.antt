@@ -58,7 +58,7 @@ pub record IsStuck (lists : List (List ListPoint)) (front : ℕ → ℕ) : Type 
   pub stands : (i group place : ℕ) → slice_get (list_at lists i) (front i) ≡ Some (point group place)
       → place ≢ done group
 
--- no point stands at two places
+-- no point occurs at two places
 abbrev pub AreDistinct : List (List ListPoint) → Type 0
 AreDistinct lists =
     (i k j l : ℕ) (p : ListPoint) → slice_get (list_at lists i) k ≡ Some p → slice_get (list_at lists j) l ≡ Some p

@@ -18,7 +18,7 @@ next_in list taken done = if_next done (slice_get list taken)
 abbrev pub next_at : List (List ListPoint) → (taken done : List ℕ) → ℕ → Option ListPoint
 next_at lists taken done i = next_in (list_at lists i) (slice_index taken i) done
 
--- what stands there, if anything does
+-- the inner value, if there is one
 abbrev pub joined : {A : Type 0} → Option (Option A) → Option A
 joined None = None
 joined (Some o) = o
@@ -55,8 +55,8 @@ pub record Progress : Type 0 where
   pub order : List ℕ
   pub waiting : List ℕ
 
--- after a look at the list of that number: where its next point is the next of its group, it is taken, and the list is
--- looked at again, and so is the one that holds the next point of the group
+-- after a look at the list of that number: a next point that is also the next of its group is taken. Then this list
+-- and the list that holds the next point of the group are looked at again
 abbrev pub looked : List (List (Option ℕ)) → (number : ℕ) → Option ListPoint → Progress → Progress
 looked holders i None g = g
 looked holders i (Some p) g =
@@ -80,7 +80,7 @@ left_of [] taken = 0
 left_of (l ∷ ls) [] = 0
 left_of (l ∷ ls) (n ∷ ns) = (length l - n) + left_of ls ns
 
--- where the search has come to
+-- how far the search has got
 pub record IsGoing (lists : List (List ListPoint)) (holders : List (List (Option ℕ))) (g : Progress) : Type 0 where
   pub wide : length g.taken ≡ length lists
   pub all : length g.done ≡ length holders

@@ -43,8 +43,8 @@ split_view v = record v { splits = v.splits + 1 }
 abbrev pub joined_view : View → View → View
 joined_view v w = record v { counts = both_rows v.counts w.counts; joins = v.joins + 1; parts = v.parts + w.parts }
 
--- what one view keeps: it stands for so many seats, and each of its counts is at most 2^40 for each of these; only the
--- first seat, at the place 0, is split, and it stands for more seats than it has joined
+-- what one view keeps: it counts for `parts` seats, and each of its counts is at most 2^40 for each of these seats.
+-- Only the first seat, at place 0, is split. It counts for more seats than it has joined
 pub record IsSound (id : ℕ) (v : View) : Type 0 where
   pub long : length v.counts ≡ 256
   pub bounded : (i : ℕ) → slice_index v.counts i ≤ v.parts * 2 ^ 40

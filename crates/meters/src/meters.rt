@@ -20,7 +20,7 @@ use thiserror::Error;
 /// A count of a seat that has come so far is raised no more, except by a join.
 const MOST: u64 = 1 << 40;
 
-/// A seat's count of that kind for that tenant has come to 2^40, and is raised no more, except by a join.
+/// A seat's count of that kind for that tenant has reached 2^40. Only a join raises it further.
 #[derive(Clone, Copy, Debug, PartialEq, Eq, Error)]
 #[error("this seat has counted 2^40 of them")]
 pub struct Spent;
@@ -67,7 +67,7 @@ impl Model for Meters {
 }
 
 impl Meters {
-    /// Meters for 1 to 64 tenants with all counts at zero, and their first seat. The one error is want of memory.
+    /// Meters for 1 to 64 tenants with all counts at zero, and their first seat. Fails only if it is out of memory.
     pub fn new(alloc: Global, tenants: usize) -> Result<(Meters, MeterSeat), AllocError>
         requires some { 1 ≤ tenants }
         requires few { tenants ≤ MAX_TENANTS }
@@ -94,7 +94,7 @@ impl Meters {
     ///
     /// # Errors
     ///
-    /// `Spent` where the seat's count of that kind for that tenant has come to 2^40. Then nothing is counted.
+    /// `Spent` if the seat's count of that kind for that tenant has reached 2^40. Nothing is counted then.
     pub fn count(&self, seat: &mut MeterSeat, tenant: usize, kind: Kind) -> Result<(), Spent>
         requires here { seat.old.meters ≡ self.now.id }
         requires tenant { tenant < self.now.tenants }
@@ -169,8 +169,8 @@ impl Meters {
         seat.own = sums;
     }
 
-    /// The totals, which end the counting. The seat is one of these meters. Where it came from `new` and has joined as
-    /// many as it was split into, the totals are its counts; else they are no less.
+    /// Ends the counting and returns the totals. The seat is one of these meters. If it came from `new` and has joined
+    /// as many seats as it was split into, the totals are its counts. Otherwise they are at least its counts.
     pub fn close(self, seat: MeterSeat) -> Totals
         requires { seat.meters ≡ self.id }
         ensures tenants { result.tenants ≡ self.tenants }

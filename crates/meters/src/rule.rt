@@ -3,7 +3,7 @@
 use atomic_table::{Join, Play, Split, TableRule};
 use std::collections::LinkedList;
 
-/// What a seat knows: its counts, how often it was split and has joined, how many seats it stands for, and whether it
+/// What a seat knows: its counts, how often it was split and has joined, how many seats it counts for, and whether it
 /// is the first one.
 pub struct View {
     pub counts: LinkedList<u64>,

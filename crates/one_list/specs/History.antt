@@ -19,7 +19,7 @@ after_entry _ s r = recorded s (Some r)
 abbrev pub after_record : State → Record → State
 after_record s r = after_entry r.entry s r
 
--- the record of the step is what its entry leads to in the state, and stands where the next record of it comes to stand
+-- the step's record is what its entry leads to in the state, and its place is that of the next record
 pub record IsStep (s : State) (e : Done) : Type 0 where
   pub made : IsMade s e.made
   pub period : e.period ≡ s.opening.period

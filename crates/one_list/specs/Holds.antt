@@ -34,8 +34,8 @@ IsAnswerTo n e = is_answer_to n e.made.entry ≡ true
 abbrev pub AreOwnAnswers : List Done → Type 0
 AreOwnAnswers steps = All (λ e. (n : ℕ) → IsAnswerTo n e → holder n steps ≡ Some e.worker) steps
 
--- The step stands in these steps, and was answered by another worker: all steps after it are by others than its own worker, and
--- one of them is an answer to the hold of that number.
+-- The step is one of these steps, and another worker answered it: all steps after it are by workers other than its
+-- own, and one of them answers the hold of that number.
 pub record IsAnsweredByAnother (own : Done) (hold : ℕ) (steps : List Done) : Type 0 where
   pub earlier : List Done
   pub later : List Done

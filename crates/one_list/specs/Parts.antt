@@ -11,7 +11,7 @@ use Rattle.one_list.specs.declared.rule.Claim.{Claim}
 use Rattle.one_list.specs.Steps.{PartView, WorkerView}
 use Rattle.one_list.specs.Rules.{claim, claims_of, first_view, new_claims, table_words}
 
--- a list of which no run has been picked: which table stands behind it, and how many tenants and workers there are
+-- a list of which no run has been picked: its table, and how many tenants and workers there are
 pub record OpenedView : Type 0 where
   pub table : TableId
   pub size : Size

@@ -90,7 +90,7 @@ abbrev pub steps_by : List Claim → (period : ℕ) → List Record → List Don
 steps_by (w ∷ t ∷ cs) period records = done_last w.number t.number period records
 steps_by _ period records = []
 
--- the claims after the last record of that period's journal was told
+-- the claims after the last record of that period's journal was added
 abbrev pub claims_after : (period : ℕ) → Option Recorded → List Claim → List Claim
 claims_after period none v = v
 claims_after period (some j) v = map (claim_after (steps_by v period j.records)) v
@@ -107,7 +107,7 @@ AreOnce v = (of_worker : Bool) (number : ℕ) → count_of of_worker number v �
 abbrev pub IsTold : Size → List Claim → Type 0
 IsTold size v = (log : List Done) × AllFit log v × AreBelow size log × AreOnce v
 
--- what a look tells: the claims are right, and it leaves them
+-- what a look shows: the claims are right, and stay as they are
 abbrev pub Looks : Size → Step Recorded → Me Recorded (List Claim) → ℕ → Me Recorded (List Claim) → Type 0
 Looks size st me n me' = IsTold size me.0 × (me' ≡ me)
 
@@ -117,7 +117,7 @@ met_claims (w ∷ t ∷ cs) =
     record w { met = w.met ++ record { tenant = t.number; steps = t.steps } ∷ [] } ∷ t ∷ cs
 met_claims v = v
 
--- what a meeting tells: the claims are right, and the worker's knows of the tenant's steps from now on
+-- what a meeting shows: the claims are right, and the worker's claim covers the tenant's steps from then on
 abbrev pub Meets : Size → Step Recorded → Me Recorded (List Claim) → ℕ → Me Recorded (List Claim) → Type 0
 Meets size st me n me' = IsTold size me.0 × (me' ≡ (met_claims me.0, me.1))
 

@@ -9,13 +9,13 @@ use Rattle.one_list.specs.declared.step.Size.{Size}
 
 -- ---- steps
 
--- where a record stands: in the journal of that tenant, in the period of that number, behind so many records of it
+-- the place of a record: in the journal of that tenant, in the period of that number, after that many records of it
 pub record Place : Type 0 where
   pub tenant : ℕ
   pub period : ℕ
   pub number : ℕ
 
--- where the next record of a state comes to stand
+-- the place of the next record of a state
 abbrev pub next_place : State → Place
 next_place s = record { tenant = s.opening.tenant; period = s.opening.period; number = length s.records }
 
@@ -28,7 +28,7 @@ abbrev pub done_by : ℕ → Place → Option Record → List Done
 done_by worker p None = []
 done_by worker p (Some r) = done worker p r ∷ []
 
--- where the last of a period's records stands
+-- the place of the last of a period's records
 abbrev pub last_place : (tenant period : ℕ) → List Record → Place
 last_place tenant period records = record { tenant = tenant; period = period; number = length records - 1 }
 
@@ -80,9 +80,9 @@ IsBeginning log b = (rest : List Done) × (of_tenant b.tenant log ≡ b.steps ++
 abbrev pub parts_numbered : ℕ → List PartView → ℕ
 parts_numbered number parts = count_by (λ p. p.number == number) parts
 
--- the list has of each tenant just the steps of its part, of each worker just those of its part, each in their order; what a
--- worker has met of a tenant are the first steps that the list has of the tenant; every step is of one of the tenants by one of
--- the workers; and no tenant has two of the parts
+-- The list has the steps of each tenant's part and of each worker's part, each in their order, and no others of them.
+-- What a worker has met of a tenant is how the tenant's steps in the list begin. Every step is of one of the tenants
+-- by one of the workers. No tenant has two parts.
 pub record IsOneList (size : Size) (of_tenants : List PartView) (of_workers : List WorkerView) (log : List Done) : Type 0 where
   pub tenants : All (λ p. of_tenant p.number log ≡ p.steps) of_tenants
   pub workers : All (λ p. of_worker p.number log ≡ p.steps) of_workers

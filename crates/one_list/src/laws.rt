@@ -14,8 +14,9 @@ pub fn histories()
     ensures { HistoryLaws }
 {}
 
-/// A packet that went on by a step of a history, and is awaited no longer where the history led to, was answered by a later
-/// step: by another worker's, where its own worker has done nothing since for the tenant. No other step begins its hold.
+/// A step of a history sent a packet on, and the state at the end of the history no longer awaits it. Then a later
+/// step answered it: another worker's if its own worker has done nothing since for the tenant. No other step begins
+/// its hold.
 pub fn answered_holds()
     ensures { HoldLaws }
 {}

@@ -1,4 +1,4 @@
-//! A list in which nothing stands yet.
+//! A list that has no steps yet.
 
 ghost use Rattle.std.specs.Prelude.{◌≡◌, ◌≤◌, IfOk};
 ghost use Rattle.tenant_core.specs.Limits.{max_tenants};
@@ -19,8 +19,8 @@ const TABLE_WORDS: usize = (MAX_TENANTS + 1) * LINE_WORDS;
 
 const WORDS: [u64; TABLE_WORDS] = [0; TABLE_WORDS];
 
-/// A list in which nothing stands yet, of which no run has been picked. Contracts see which table stands behind it, and how
-/// many tenants and workers there are.
+/// A list that has no steps yet, and of which no run has been picked. Contracts see its table, and how many tenants
+/// and workers there are.
 #[derive(Drop)]
 pub struct Opened {
     words: Words,
@@ -38,7 +38,7 @@ impl Model for Opened {
 }
 
 impl Opened {
-    /// A list of so many tenants and workers. The one error is want of memory.
+    /// A list of so many tenants and workers. Fails only if it is out of memory.
     pub fn new(alloc: Global, tenants: usize, workers: usize) -> Result<Opened, AllocError>
         requires few { tenants ≤ max_tenants }
         ensures size { IfOk result (λ o. o.size ≡ record { tenants = tenants; workers = workers }) }

@@ -1,5 +1,5 @@
-//! The rule of the table that stands behind the list, and the kinds of atomic step. No value of these types is made, but
-//! for the table and its passes.
+//! The rule of the list's table, and the kinds of atomic step. At run time only the table and its passes exist as
+//! values.
 
 use crate::run::Run;
 use crate::step::{Beginning, Done, Size};
@@ -38,8 +38,8 @@ impl TableRule<Journal, View, Size> for OneList {
     ghost first = { first_view };
 }
 
-/// The last record of a period's journal is told, as a step of the worker and the tenant that are claimed. The word is offered
-/// the number of the period.
+/// Adds the last record of a period's journal, as a step of the worker and the tenant that are claimed. The word is
+/// offered the number of the period.
 pub struct Add;
 
 impl Play<Journal, View> for Add {

@@ -3,12 +3,12 @@
 use std::collections::LinkedList;
 use tenant_core::Record;
 
-/// A step of the list: a record of a tenant's book, where it stands, and the worker that made it. No value of it is made at
+/// A step of the list: a record of a tenant's book, its place, and the worker that made it. No value of it is made at
 /// run time.
 pub struct Done {
     pub worker: u64,
     pub tenant: u64,
-    /// The number of the period in whose journal the record stands.
+    /// The number of the period whose journal has the record.
     pub period: u64,
     /// The number of the record in its period, from 0.
     pub number: u64,

@@ -4,7 +4,7 @@ use denote.Param.Weighed.{most}
 use Rattle.route_table.specs.declared.node.Child.{Child}
 use Rattle.route_table.specs.Nodes.{Children}
 
--- the segment of each child, and the branch behind it
+-- the segment of each child, and its branch
 abbrev pub children_of : List Child → Children
 children_of children = map (λ (child : Child). (child.segment.items, child.node.value)) children
 

@@ -7,17 +7,17 @@ use Rattle.route_table.specs.Nodes.{PathRow}
 use Rattle.route_table.specs.declared.hop.Hop.{Hop}
 use Rattle.route_table.specs.declared.route.Route.{Route}
 
--- the prefix of a path behind what leads to it, if anything does
+-- the prefix of a path, after the prefix that leads to it, if there is one
 abbrev pub prefix_behind : Option (List ℕ) → Path → List ℕ
 prefix_behind None path = join_with_byte 46 path
 prefix_behind (Some front) path = join_with_byte 46 (front ∷ path)
 
--- what leads to the paths behind one segment more
+-- the prefix that leads to the paths one segment further down
 abbrev pub front_with : Option (List ℕ) → List ℕ → List ℕ
 front_with None segment = segment
 front_with (Some front) segment = front ++ 46 ∷ segment
 
--- the routes of the rows, whose paths stand behind that
+-- the routes of the rows, with that prefix before each path
 abbrev pub spelled : Option (List ℕ) → List PathRow → List Route
 spelled front [] = []
 spelled front (row ∷ rows) = (record { prefix = prefix_behind front row.0; hop = row.1 }) ∷ spelled front rows

@@ -25,7 +25,7 @@ branch_code =
     code_by (PathMap × ℕ) (coded× (map.code (coded_list (coded_list coded_ℕ)) hop_code) coded_ℕ)
     (λ b. (b.routes, b.height)) (λ p. record { routes = p.0; height = p.1 }) (λ _. refl)
 
--- the branch behind each segment that follows
+-- the branch under each segment
 abbrev pub Children : Type 0
 Children = List (List ℕ × Branch)
 
@@ -50,7 +50,7 @@ apart s (([], hop) ∷ rows) = ([], hop) ∷ apart s rows
 apart s ((t ∷ path, hop) ∷ rows) =
     if is_same t s then apart s rows else (t ∷ path, hop) ∷ apart s rows
 
--- the rows of the children; of two behind one segment the first counts
+-- the rows of the children; of two children under one segment the first counts
 abbrev pub rows_of : Children → List PathRow
 rows_of [] = []
 rows_of (child ∷ children) =
@@ -60,7 +60,7 @@ rows_of (child ∷ children) =
 abbrev pub routes_from : Option Hop → Children → PathMap
 routes_from hop children = from_entries (own_row hop ++ rows_of children)
 
--- the child behind a segment
+-- the child under a segment
 abbrev pub child_of : List ℕ → Children → Option Branch
 child_of s children = lookup (is_same s) children
 

@@ -39,7 +39,7 @@ pub(crate) struct Node {
     children: Vec<Child>,
 }
 
-/// The node behind a segment. Copies of the routes share it until one of them changes it.
+/// The node under a segment. Copies of the routes share it until one of them changes it.
 #[derive(Debug, Drop)]
 #[cycle(node)]
 struct Child {
@@ -237,7 +237,7 @@ impl Child {
     }
 }
 
-// Where the child behind that segment stands, or would stand.
+// The index of the child under that segment, or the index at which to insert it.
 fn search(children: &[Child], segment: &[u8]) -> Result<usize, usize>
     ensures range { IsSearchInRange result (length children.now) }
     ensures position { IsBinarySearchResult (λ c. slice_cmp nat_cmp c.segment.items segment.now)

@@ -157,9 +157,8 @@ impl Routes {
         !self.root.names(PeerGroup::NotBelow(count))
     }
 
-    /// The same routes, in memory that the two share. What is added or removed later copies the
-    /// nodes on its way that are shared, so neither sees a change of the other. The one error is
-    /// want of memory.
+    /// The same routes, in memory that the two share. A later change to either copies the shared
+    /// nodes on its way, so neither sees a change of the other. Fails only if it is out of memory.
     pub fn copy(&self, alloc: Global) -> Result<Routes, AllocError>
         ensures { IfOk result (λ routes. routes ≡ self.now) }
     {

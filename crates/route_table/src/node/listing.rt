@@ -23,7 +23,7 @@ fn prefix_of(alloc: Global, bytes: &[u8]) -> Result<Prefix, AllocError>
     }
 }
 
-// What leads to the paths behind one segment more.
+// The prefix that leads to the paths one segment further down.
 fn front_with(alloc: Global, front: Option<&[u8]>, segment: &[u8]) -> Result<Vec<u8>, AllocError>
     ensures { IfOk result (λ more. more.items ≡ front_with (option_copied front.entry) segment.now) }
 {
@@ -36,7 +36,7 @@ fn front_with(alloc: Global, front: Option<&[u8]>, segment: &[u8]) -> Result<Vec
     Ok(more)
 }
 
-// A node's own route behind the others, if it has one.
+// Appends the node's own route, if it has one.
 fn put_own(
     alloc: Global,
     front: Option<&[u8]>,
@@ -55,8 +55,8 @@ fn put_own(
 }
 
 impl Node {
-    /// Puts the routes from the node on behind the others, in the order of their paths. `front` is the prefix that leads
-    /// to the node, none at the root.
+    /// Appends the routes from the node down, in the order of their paths. `front` is the prefix that leads to the
+    /// node, `None` at the root.
     pub(crate) fn list(
         &self,
         alloc: Global,

@@ -12,8 +12,8 @@ use crate::route::Route;
 use std::alloc::{AllocError, Global};
 
 impl Routes {
-    /// Each route once. They come in the order of their segments, so that a route comes right before those below its
-    /// prefix. The one error is want of memory.
+    /// Each route once, in the order of their segments: a route comes right before those below its prefix. Fails
+    /// only if it is out of memory.
     pub fn list(&self, alloc: Global) -> Result<Vec<Route>, AllocError>
         ensures all { IfOk result (λ routes. from_entries (map entry_of routes.items) ≡ self.now) }
         ensures once { IfOk result (λ routes. IsDistinct bytes_eq (map (λ r. r.prefix) routes.items)) }
