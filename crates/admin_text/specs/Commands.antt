@@ -20,7 +20,7 @@ use Rattle.admin_text.specs.declared.commands.Verb.TheVariants.{Balances, Roll, 
 use Rattle.admin_text.specs.declared.commands.Verb.TheVariants.{PeerBucket, RouteAdd, RouteRemove, RateSet}
 use Rattle.admin_text.specs.declared.commands.Verb.TheVariants.{SettleIn, SettleOut}
 
--- ---- each command: its first words, the fields behind them, and what they mean
+-- ---- each command: its first words, the fields after them, and its meaning
 
 -- the verbs of two words
 abbrev pub two_word_verbs : List Verb
@@ -46,7 +46,7 @@ verb_words RateSet = codes "rate" ∷ codes "set" ∷ []
 verb_words SettleIn = codes "settle" ∷ codes "in" ∷ []
 verb_words SettleOut = codes "settle" ∷ codes "out" ∷ []
 
--- the fields behind a verb
+-- the fields after a verb
 abbrev pub fields : Verb → List Field
 fields Balances = []
 fields Roll = []
@@ -91,7 +91,7 @@ said (command.Order (Settle name Out amount)) = (SettleOut, name & amount & tt)
 
 -- ---- what spells a command
 
--- the words of the verb, and behind them those that spell its fields
+-- the words of the verb, and after them those that spell its fields
 abbrev pub AreWordsOf : (v : Verb) × AllSaid (fields v) → List (List ℕ) → Type 0
 AreWordsOf s words =
     (others : List (List ℕ)) × (words ≡ verb_words s.0 ++ others) × AreSpelled (fields s.0) s.1 others
@@ -116,17 +116,17 @@ begin_with [] words = true
 begin_with (w ∷ ws) [] = false
 begin_with (w ∷ ws) (word ∷ words) = begin_with ws words && bytes_eq word w
 
--- the first of these verbs that words begin with, and the words behind it
+-- the first of these verbs that words begin with, and the words after it
 abbrev pub verb_among : List Verb → List (List ℕ) → Result (Verb × List (List ℕ)) TextFault
 verb_among [] words = Err fault.Verb
 verb_among (v ∷ others) words =
     if begin_with (verb_words v) words then Ok (v, drop (length (verb_words v)) words) else verb_among others words
 
--- the verb at the front of words, and the words behind it
+-- the verb at the front of words, and the words after it
 unfoldable pub verb_taken : List (List ℕ) → Result (Verb × List (List ℕ)) TextFault
 verb_taken words = verb_among verbs words
 
--- the command of a verb and the words behind it
+-- the command of a verb and the words after it
 unfoldable pub command_behind : Verb → List (List ℕ) → Result Command TextFault
 command_behind v words = do
   values ← all_taken (fields v) words
@@ -144,13 +144,13 @@ command_in text = command_among (words_of text)
 
 -- ---- what takes memory
 
--- the words behind the verb of a route begin with a prefix
+-- the words after the verb of a route begin with a prefix
 abbrev pub TakesMemory : Verb → List (List ℕ) → Type 0
 TakesMemory RouteAdd words = IsOk (taken PREFIX words)
 TakesMemory RouteRemove words = IsOk (taken PREFIX words)
 TakesMemory _ words = ⊥
 
--- words begin with the verb of a route, and a prefix behind it
+-- words begin with the verb of a route, and then a prefix
 abbrev pub BeginsWithPrefix : List (List ℕ) → Type 0
 BeginsWithPrefix words =
     (verb : Verb) × (behind : List (List ℕ)) × (words ≡ verb_words verb ++ behind) × TakesMemory verb behind

@@ -1,4 +1,4 @@
--- What stands in commands and in the tables of setups, field by field: how a value is spelled, and what is read.
+-- The fields of commands and of the tables of setups: how a value is spelled, and what is read.
 use Rattle.std.specs.Prelude.{◌≡◌, ℕ, Bool, true, false, List, [], ◌∷◌, ◌++◌, ◌&&◌, ◌⊎◌, ◌==◌, not, map, if◌then◌else◌, codes}
 use Rattle.std.specs.Prelude.{Option, Some, None, Result, Ok, Err}
 use Rattle.std.specs.Fmt.{decimal}
@@ -29,8 +29,8 @@ use Rattle.admin_text.specs.declared.commands.TextFault.TheVariants.{Argument, R
 -- ---- what a field is
 
 -- a word that passes a test; a number from low to high; the role of a peer; a prefix; the URL and the token of a
--- target; the names of two different peers; a number from 0, the last of a command, which is left out where it is 0; how
--- far a peer is trusted; how many of its packets pass
+-- target; the names of two different peers. Then a fee: a number from 0, the last of a command, which is left out if
+-- it is 0. Then how far a peer is trusted, and how many of its packets pass
 pub data Field : Type 0 where
   WORD : (test : List ℕ → Bool) → Field
   NUMBER : (low high : ℕ) → Field
@@ -126,7 +126,7 @@ IsSpelled (FEE high) n words others =
     ((n ≡ 0) × (words ≡ []) × (others ≡ [])) ⊎ ((words ≡ decimal n ∷ others) × (is_between 0 high n ≡ true))
 IsSpelled f value words others = (words ≡ field_words f value ++ others) × IsWithin f value
 
--- ---- several, one behind the other
+-- ---- several fields, one after the other
 
 -- what they say
 abbrev pub AllSaid : List Field → Type 0
@@ -134,7 +134,7 @@ AllSaid [] = Unit {0}
 AllSaid (f ∷ fields) = Said f × AllSaid fields
 
 infixr 20 ◌&◌
--- a value, and those behind it
+-- a value, and those after it
 abbrev pub ◌&◌ : {A B : Type 0} → A → B → A × B
 value & others = (value, others)
 
@@ -156,7 +156,7 @@ AreSpelled (f ∷ fields) values words =
 
 -- ---- what is written
 
--- its words stand behind those of a text, and it is within its limits
+-- its words follow those of a text, and it is within its limits
 abbrev pub IsPut : (f : Field) → Said f → List ℕ → List ℕ → Type 0
 IsPut f value before after = (words_of after ≡ words_of before ++ field_words f value) × IsWithin f value
 
@@ -189,7 +189,7 @@ abbrev pub pair_in : List ℕ → List ℕ → Result Ends TextFault
 pair_in from to =
     if is_name from && is_name to && not (bytes_eq from to) then Ok (record { from = from; to = to }) else Err Argument
 
--- what was read, and the words behind it
+-- the value that was read, and the words after it
 abbrev pub with_others : {A : Type 0} → List (List ℕ) → Result A TextFault → Result (A × List (List ℕ)) TextFault
 with_others others (Ok value) = Ok (value, others)
 with_others others (Err fault) = Err fault
@@ -212,7 +212,7 @@ abbrev pub of_any : {A : Type 0} → A → (List ℕ → Result A TextFault) →
 of_any default read [] = Ok (default, [])
 of_any default read (word ∷ words) = with_others words (read word)
 
--- the number at the front of words, and the words behind it
+-- the number at the front of words, and the words after it
 unfoldable pub number_taken : (low high : ℕ) → List (List ℕ) → Result (ℕ × List (List ℕ)) TextFault
 number_taken low high words = of_one (λ word. number_or_fault (number_in low high word)) words
 
@@ -231,7 +231,7 @@ bucket_taken words = do
   second ← number_taken 0 MAX_PER_SECOND first.1
   Ok (bucket_with first.0 second.0, second.1)
 
--- what a field says at the front of words, and the words behind it
+-- the value of a field at the front of words, and the words after it
 unfoldable pub taken : (f : Field) → List (List ℕ) → Result (Said f × List (List ℕ)) TextFault
 taken (WORD test) words = of_one (λ word. if test word then Ok word else Err Argument) words
 taken (NUMBER low high) words = number_taken low high words

@@ -21,7 +21,7 @@ use Rattle.admin_text.specs.declared.version.Version.{Version}
 
 -- ---- the keys that count
 
--- where the table of a spot stands
+-- the place of a spot's table
 abbrev pub place_of : Spot → TablePlace
 place_of spot.Top = place.Top
 place_of (spot.Tenant tenant) = place.Tenant tenant.number
@@ -39,7 +39,7 @@ is_key version at key = list_any (λ known. bytes_eq key known) (keys_at version
 
 -- ---- the others
 
--- a key, and where its table stands
+-- a key, and the place of its table
 abbrev pub KeyAt : Type 0
 KeyAt = TablePlace × List ℕ
 

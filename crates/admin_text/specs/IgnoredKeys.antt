@@ -3,7 +3,7 @@ use Rattle.std.specs.Prelude.{List, map, string_bytes}
 use Rattle.admin_text.specs.Ignored.{KeyAt}
 use Rattle.admin_text.specs.declared.ignored.IgnoredKey.{IgnoredKey}
 
--- such a key, and where its table stands
+-- such a key, and the place of its table
 abbrev pub key_at : IgnoredKey → KeyAt
 key_at k = (k.place, string_bytes k.name)
 

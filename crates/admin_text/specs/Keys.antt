@@ -1,4 +1,4 @@
--- What stands at the keys of a table.
+-- The values at the keys of a table.
 use Rattle.std.specs.Prelude.{ℕ, Bool, ◌^◌, ℤ, pos, negsuc, List, [], ◌∷◌, codes, nat_lt}
 use Rattle.std.specs.Prelude.{if◌then◌else◌, Option, Some, None}
 use Rattle.std.specs.Str.{bytes_eq}
@@ -52,16 +52,16 @@ within low high n = if is_between low high n then Some n else None
 unfoldable pub between_under : ℕ → ℕ → List ℕ → Members → Option ℕ
 between_under low high key members = number_under key members >>= within low high
 
--- what stands at a key, or the default where nothing does
+-- the value at a key, or the default if there is none
 abbrev pub or_default : {A : Type 0} → A → Option Data → Option A → Option A
 or_default default None found = Some default
 or_default default (Some there) found = found
 
--- the integer at a key, or the default where nothing stands there
+-- the integer at a key, or the default if there is none
 unfoldable pub integer_or : ℤ → List ℕ → Members → Option ℤ
 integer_or default key members = or_default default (get_member key members) (integer_under key members)
 
--- the number at a key, or the default where nothing stands there
+-- the number at a key, or the default if there is none
 unfoldable pub number_or : ℕ → List ℕ → Members → Option ℕ
 number_or default key members = or_default default (get_member key members) (number_under key members)
 
@@ -69,7 +69,7 @@ number_or default key members = or_default default (get_member key members) (num
 unfoldable pub array_under : List ℕ → Members → Option Items
 array_under key members = get_member key members >>= as_array
 
--- the items of the array at a key, none where nothing stands there
+-- the items of the array at a key; none without one
 unfoldable pub items_under : List ℕ → Members → Option Items
 items_under key members = or_default no_items (get_member key members) (array_under key members)
 

@@ -39,7 +39,7 @@ made pairs = fold with_pair no_members pairs
 abbrev pub number : ℕ → Data
 number n = integer (pos n)
 
--- what stands at the keys of a field
+-- the values at the keys of a field
 abbrev pub field_data : (f : Field) → Said f → List Data
 field_data (WORD test) word = string word ∷ []
 field_data (NUMBER low high) n = number n ∷ []
@@ -51,12 +51,12 @@ field_data (FEE high) n = number n ∷ []
 field_data LIMITS l = map number (limit_numbers l)
 field_data BUCKET b = map number (bucket_numbers b)
 
--- the keys of fields, and what stands there
+-- the keys of fields, and the values there
 abbrev pub all_pairs : (rows : List Row) → AllSaid (fields_of rows) → List Pair
 all_pairs [] values = []
 all_pairs (row ∷ rows) values = zip row.0 (field_data row.1 values.0) ++ all_pairs rows values.1
 
--- a field stands at its keys too, within its limits
+-- a field's values are at its keys too, within its limits
 abbrev pub IsSet : (f : Field) → List (List ℕ) → Said f → Members → Members → Type 0
 IsSet f keys value before after =
     (after ≡ fold with_pair before (zip keys (field_data f value))) × IsWithin f value

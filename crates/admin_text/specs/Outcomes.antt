@@ -3,7 +3,8 @@ use Rattle.std.specs.Prelude.{Option, Some, None, Result, Ok, Err}
 use Rattle.common_types.specs.declared.read_error.ReadError.{ReadError}
 use Rattle.common_types.specs.declared.read_error.ReadError.TheVariants.{Memory, Fault}
 
--- what was read, `None` in it where something is wrong; nothing is known where memory was refused
+-- the value that was read, or `None` in it if something is wrong; nothing is known if it is out of
+-- memory
 abbrev pub known : {X F : Type 0} → Result X (ReadError F) → Option (Option X)
 known (Ok x) = Some (Some x)
 known (Err Memory) = None

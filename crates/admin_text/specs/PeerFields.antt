@@ -3,7 +3,7 @@ use Rattle.std.specs.Prelude.{ℕ, List, [], ◌∷◌, map, codes}
 use Rattle.tenant_core.specs.declared.terms.PeerTerms.{PeerTerms}
 use Rattle.admin_text.specs.Fields.{Field, NAME, ROLE, TOKEN, TARGET, ASSET, SCALE, LIMITS, BUCKET, AllSaid, ◌&◌}
 
--- a field, and the keys at which it stands in a table
+-- a field, and its keys in a table
 abbrev pub Row : Type 0
 Row = List (List ℕ) × Field
 

@@ -1,4 +1,4 @@
--- Keys whose values are not shown, since a token stands there, or is meant to.
+-- Keys whose values are not shown, since they are tokens or may be meant as one.
 use Rattle.std.specs.Prelude.{ℕ, Bool, false, ◌||◌, List, [], ◌∷◌, codes, length, map, take}
 use Rattle.std.specs.Char.{to_ascii_lowercase}
 use Rattle.std.specs.Str.{bytes_eq}
@@ -7,11 +7,11 @@ use Rattle.std.specs.Str.{bytes_eq}
 abbrev pub begins_with : List ℕ → List ℕ → Bool
 begins_with text word = bytes_eq (map to_ascii_lowercase (take (length word) text)) (map to_ascii_lowercase word)
 
--- a word stands somewhere in a text, in letters of either case
+-- a word occurs somewhere in a text, in letters of either case
 unfoldable pub has_word : List ℕ → List ℕ → Bool
 has_word [] word = false
 has_word (b ∷ bs) word = begins_with (b ∷ bs) word || has_word bs word
 
--- a key that begins with `admin`, or in which `token` stands
+-- a key that begins with `admin` or contains `token`
 abbrev pub is_secret : List ℕ → Bool
 is_secret key = begins_with key (codes "admin") || has_word key (codes "token")

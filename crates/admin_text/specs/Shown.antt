@@ -1,4 +1,4 @@
--- What is shown of what stands at a key.
+-- The value that is shown for a key.
 use Rattle.std.specs.Prelude.{ℕ, List, if◌then◌else◌, Option, Some, None}
 use Rattle.toml.specs.Data.{Data}
 use Rattle.toml.specs.View.{view}
@@ -12,6 +12,6 @@ value_shown Nothing = None
 value_shown (Plain value) = Some (view value.now)
 value_shown (Hidden hidden) = None
 
--- of what stands at a key that is no secret the value, and of a secret nothing
+-- the value at a key, unless the key is a secret's
 abbrev pub value_to_show : List ℕ → Option Data → Option Data
 value_to_show key found = if is_secret key then None else found

@@ -20,7 +20,7 @@ is_there tenants name = list_any (λ t. bytes_eq t.name name) tenants
 abbrev pub unless_there : List TenantTerms → TenantTerms → Option TenantTerms
 unless_there tenants t = if is_there tenants t.name then None else Some t
 
--- the tenant of a value behind these, of which there are at most 64
+-- the tenant of a value that follows these tenants, which are at most 64
 abbrev pub next_tenant : Version → List TenantTerms → Data → Option TenantTerms
 next_tenant version tenants value =
     if nat_le max_tenants (length tenants) then None
@@ -31,7 +31,7 @@ abbrev pub with_one_more : List TenantTerms → Option TenantTerms → Result (L
 with_one_more tenants None = Err (Tenant (length tenants))
 with_one_more tenants (Some t) = Ok (tenants ++ t ∷ [])
 
--- the tenants of the items behind these, or the number of the first that breaks a rule
+-- the tenants of the items that follow these, or the number of the first that breaks a rule
 unfoldable pub tenants_of_items : Version → List TenantTerms → Items → Result (List TenantTerms) SetupFault
 tenants_of_items version tenants no_items = Ok tenants
 tenants_of_items version tenants (item first others) =

@@ -25,7 +25,7 @@ use Rattle.admin_text.specs.Fields.{AreWithin}
 use Rattle.admin_text.specs.Made.{peer_members, route_members, rate_members, tenant_members}
 use Rattle.admin_text.specs.PeerFields.{fields_of, peer_rows, peer_values}
 
--- each item tells what stands at its place in the list
+-- each item means the value at its place in the list
 abbrev pub AllTold : {A : Type 0} → (Data → A → Type 0) → Items → List A → Type 0
 AllTold tells no_items [] = Unit {0}
 AllTold tells no_items (x ∷ xs) = ⊥

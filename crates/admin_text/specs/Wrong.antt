@@ -7,7 +7,7 @@ use Rattle.admin_text.specs.declared.setup.SetupFault.TheVariants.{Version, Star
 use Rattle.admin_text.specs.declared.wrong.SetupWrong.{SetupWrong}
 use Rattle.admin_text.specs.declared.wrong.SetupWrong.TheVariants.{AtVersion, AtStart, NoTenants, OneTooMany, InTenant}
 
--- the fault that stands for it
+-- its fault
 abbrev pub setup_fault_of : SetupWrong → SetupFault
 setup_fault_of (AtVersion wrong) = Version
 setup_fault_of (AtStart wrong) = Start

@@ -437,7 +437,7 @@ pub fn parse_command(alloc: Global, text: &[u8]) -> Result<Command, ReadError<Te
     ensures only { (c : spec.Command) → IsCommandText text.now c → GivesUnlessMemory (λ c. c) result (Ok c) }
     // Which fault comes: that of the first word that fails.
     ensures exact { GivesUnlessMemory (λ c. c) result (command_in text.now) }
-    // Memory is refused only behind `route add` or `route remove` and a prefix.
+    // It runs out of memory only for `route add` or `route remove` and a prefix.
     ensures memory { OnMemory result (BeginsWithPrefix (words_of text.now)) }
 {
     crate::laws::commands();

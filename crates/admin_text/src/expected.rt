@@ -1,4 +1,4 @@
-//! What each key of a setup wants, and its words for people.
+//! The value that each key of a setup needs, and its words for people.
 
 use crate::places::TableKind;
 use crate::secrets::{Found, Hidden};
@@ -34,7 +34,7 @@ pub(crate) struct Right<'a> {
     pub(crate) found: Found<'a>,
 }
 
-// What would be right where a whole number from the first to the second is wanted.
+// The words for a key that needs a whole number from the first to the second.
 fn put_whole<W: fmt::Write>(
     f: &mut fmt::Formatter<W>,
     least: u64,
@@ -50,7 +50,7 @@ fn put_whole<W: fmt::Write>(
     }
 }
 
-// What would be right where a balance is wanted.
+// The words for a key that needs a balance.
 fn put_balance<W: fmt::Write>(f: &mut fmt::Formatter<W>, found: Found<'_>) -> fmt::Result {
     match found {
         Found::Plain(Value::Integer(number)) if *number < 0 => write!(f, "at least -{MAX_MONEY}"),
@@ -102,7 +102,7 @@ impl fmt::Display for Right<'_> {
 // The most bytes of a text that are shown.
 const MAX_SHOWN: usize = 100;
 
-/// What stands at a key, behind its name.
+/// The value at a key, as it is written after the key's name.
 #[derive(Clone, Copy)]
 pub(crate) struct Shown<'a>(pub(crate) &'a Value);
 

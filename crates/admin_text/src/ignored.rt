@@ -34,7 +34,7 @@ pub struct IgnoredKey {
     /// The table that has it.
     pub place: TablePlace,
     pub name: String,
-    /// A line that says where it stands, and what stands there.
+    /// A line that says where the key is, and its value.
     pub words: String,
 }
 
@@ -105,7 +105,7 @@ fn reason(place: TablePlace, name: &str) -> &'static str {
     }
 }
 
-// What stands at such a key, if it may be told.
+// The value at such a key, if it may be shown.
 #[derive(Clone, Copy)]
 struct Beside<'a>(Found<'a>);
 
@@ -137,7 +137,7 @@ fn ignored_key(
     })
 }
 
-// Puts a key behind those that were found, if it is ignored.
+// Appends a key to those that were found, if it is ignored.
 fn put_key(
     alloc: Global,
     version: Version,
@@ -187,7 +187,7 @@ fn put_value(
     }
 }
 
-// The values of the array of tables of a kind, which stands at that key.
+// The values of the array of tables of a kind, at that key.
 fn items_of<'a>(table: &'a Table, key: &'a str, kind: TableKind) -> &'a [Value]
     ensures { items_view result.now ≡ items_of key.now (table_view table.now) }
 {
@@ -296,10 +296,12 @@ fn ignored_in(alloc: Global, table: &Table) -> Result<Vec<IgnoredKey>, AllocErro
     }
 }
 
-/// The keys of a good setup that nobody reads, in the order in which people find them: those at the top, and then of each
-/// tenant those of its own table, of its peers, its routes and its rates; in one table by their names. The key `fee` of a
-/// route is one in a setup of version 1. A setup that is wrong has none: [`explain`](crate::explain) says what is wrong
-/// with it. The one error is want of memory.
+/// The keys of a good setup that nobody reads, in the order in which people find them. The keys at the top come first,
+/// then those of each tenant: of its own table, of its peers, its routes and its rates. Those of one table come by
+/// their names.
+///
+/// The key `fee` of a route is one of them in a setup of version 1. A setup that is wrong has none:
+/// [`explain`](crate::explain) says what is wrong with it. Fails only if it is out of memory.
 pub fn ignored_keys(alloc: Global, text: &[u8]) -> Result<Items<IgnoredKey>, AllocError>
     ensures exact { IfOk result (λ found. seen found ≡ ignored_in text.now) }
 {

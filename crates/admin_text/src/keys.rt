@@ -1,4 +1,4 @@
-//! What stands at the keys of a table.
+//! The values at the keys of a table.
 
 ghost use Rattle.std.specs.Prelude.{◌≡◌, [], ◌∷◌, option_and_then, option_copied, option_map};
 ghost use Rattle.std.specs.Result.{result_ok};
@@ -43,7 +43,7 @@ pub(crate) fn string_under<'a>(table: &'a Table, key: &str) -> Option<&'a str>
     }
 }
 
-// What was made of what stands at the key, which wants this.
+// The value that was made at a key. Without one, the key needs what is `expected`.
 fn made<'a, T: Drop>(
     value: Option<T>,
     table: &'a Table,
@@ -58,7 +58,7 @@ fn made<'a, T: Drop>(
     }
 }
 
-/// The text at a key, which wants this.
+/// The text at a key, which needs what is `expected`.
 pub(crate) fn text_under<'a>(
     table: &'a Table,
     key: &'a str,
@@ -72,7 +72,7 @@ pub(crate) fn text_under<'a>(
     }
 }
 
-/// The name at a key, which wants this.
+/// The name at a key, which needs what is `expected`.
 #[tactic(auto, unfolding(crate::specs::Keys::under))]
 pub(crate) fn name_under<'a>(
     table: &'a Table,
@@ -156,7 +156,7 @@ fn integer_under<'a>(table: &'a Table, key: &'a str, expected: Expected) -> Resu
     made(integer, table, key, expected)
 }
 
-/// The number at a key, which wants this.
+/// The number at a key, which needs what is `expected`.
 #[tactic(auto, unfolding(crate::specs::Keys::number_under))]
 pub(crate) fn u64_under<'a>(
     table: &'a Table,
@@ -196,7 +196,7 @@ fn u64_or<'a>(
     }
 }
 
-/// The number within limits at a key, or the default where nothing stands there.
+/// The number within limits at a key, or the default if the key is missing.
 pub(crate) fn between_or<'a, const LOW: u64, const HIGH: u64>(
     default: u64,
     table: &'a Table,
@@ -224,7 +224,7 @@ fn integer_or<'a>(
     }
 }
 
-/// The values of the array at a key, which wants this.
+/// The values of the array at a key, which needs what is `expected`.
 #[tactic(auto, unfolding(crate::specs::Keys::array_under))]
 pub(crate) fn array_under<'a>(
     table: &'a Table,
@@ -243,7 +243,7 @@ pub(crate) fn array_under<'a>(
     }
 }
 
-/// The values of the array of such tables at a key, none where nothing stands there.
+/// The values of the array of such tables at a key; none if the key is missing.
 #[tactic(auto, unfolding(crate::specs::Keys::items_under))]
 pub(crate) fn items_under<'a>(
     table: &'a Table,

@@ -84,7 +84,7 @@ fn taken<'a>(
     Some(Wrong::Taken(Key::of(table, key), kind, at.saturating_add(1)))
 }
 
-// Why what the table says is refused behind those before it, which may have the same text at one of the keys.
+// Why the table is refused after those before it, which may have the same text at one of the keys.
 fn refused<'a>(
     fault: CommandFault,
     before: &[Value],

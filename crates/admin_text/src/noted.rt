@@ -13,7 +13,7 @@ use money_core::Rate;
 use std::alloc::{AllocError, Global};
 use tenant_core::{Network, Peer, PeerNo, RateTerms, TenantTerms};
 
-/// What may be wrong with the money of a good setup. Tenants and peers are told by their names.
+/// A possible fault in the money of a good setup. Tenants and peers are shown by their names.
 #[derive(Drop)]
 pub enum Note {
     /// The start looks like seconds, and counts milliseconds.
@@ -28,7 +28,7 @@ pub enum Note {
     Gains(Name, Name, Name),
 }
 
-// Puts the parts behind the text.
+// Appends the parts to the text.
 fn put(text: &mut Vec<u8>, parts: &[&[u8]]) -> Result<(), AllocError>
     ensures { OnOk result (text.new.items ≡ text.old.items ++ flat_map (λ part. part.now) parts.now) }
 {
@@ -39,7 +39,7 @@ fn put(text: &mut Vec<u8>, parts: &[&[u8]]) -> Result<(), AllocError>
 }
 
 impl Note {
-    /// Puts its words for people behind the text.
+    /// Appends its words for people to the text.
     pub fn put_words(&self, text: &mut Vec<u8>) -> Result<(), AllocError>
         ensures { OnOk result (text.new.items ≡ text.old.items ++ note_words self.now) }
     {
@@ -209,9 +209,9 @@ fn notes_of(alloc: Global, setup: &Setup) -> Result<Vec<Note>, AllocError>
     Ok(found)
 }
 
-/// What may be wrong with the money of a good setup: of its start, and then tenant by tenant of its routes and rates as a
-/// whole, of each peer, and of each two peers between whom there is a rate in either direction. A setup that is wrong has none
-/// of these. The one error is want of memory.
+/// Possible faults in the money of a good setup. Those of its start come first. Then, tenant by tenant, come those of
+/// the routes and rates as a whole, of each peer, and of each two peers with a rate in either direction. A setup that
+/// is wrong has none of these. Fails only if it is out of memory.
 pub fn notes(alloc: Global, text: &[u8]) -> Result<Items<Note>, AllocError>
     ensures exact { IfOk result (λ found. found ≡ notes_in text.now) }
 {

@@ -54,7 +54,7 @@ impl TableKind {
     }
 }
 
-/// One of a kind, by its number and what stands there.
+/// One of a kind, by its number and its value.
 #[derive(Clone, Copy)]
 pub(crate) struct Place<'a> {
     pub(crate) kind: TableKind,

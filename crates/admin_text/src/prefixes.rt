@@ -11,7 +11,7 @@ use std::alloc::{AllocError, Global};
 #[tactic(auto, unfolding(crate::specs::Prefixes::written_prefix))]
 pub(crate) fn written_prefix(alloc: Global, text: &[u8]) -> Result<Option<Prefix>, AllocError>
     ensures exact { IfOk result (λ prefix. prefix ≡ written_prefix text.now) }
-    // Memory is refused only where the text spells one.
+    // It runs out of memory only if the text spells one.
     ensures memory { OnErr result (IsSome (written_prefix text.now)) }
 {
     if text.is_empty() {

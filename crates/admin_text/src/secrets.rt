@@ -1,4 +1,4 @@
-//! What is told of what stands at a key: of a token, and of what may be meant as one, nothing that it says.
+//! What is shown of the value at a key. A token, or what may be meant as one, is never shown.
 
 ghost use Rattle.std.specs.Prelude.{◌≡◌, codes, option_map};
 ghost use Rattle.toml.specs.View.{view};
@@ -17,7 +17,7 @@ fn begins_with(text: &[u8], word: &[u8]) -> bool
     text.len() >= word.len() && text[..word.len()].eq_ignore_ascii_case(word)
 }
 
-// Whether a word stands somewhere in a text, in letters of either case.
+// Whether a word occurs somewhere in a text, in letters of either case.
 fn has_word(text: &[u8], word: &[u8]) -> bool
     ensures { result ≡ has_word text.now word.now }
 {
@@ -29,14 +29,15 @@ fn has_word(text: &[u8], word: &[u8]) -> bool
     false
 }
 
-/// Whether a token stands at a key of that name, or is meant to: it begins with `admin`, or `token` stands in it.
+/// Whether the value of a key of that name is a token, or may be meant as one: the key begins with `admin` or
+/// contains `token`.
 pub(crate) fn is_secret(key: &str) -> bool
     ensures { result ≡ is_secret key.now }
 {
     begins_with(key.as_bytes(), b"admin") || has_word(key.as_bytes(), b"token")
 }
 
-/// What is told of a value in whose place a token belongs, which is nothing that it says.
+/// What is shown of a value in the place of a token: its type or length, never its content.
 #[derive(Clone, Copy)]
 pub(crate) enum Hidden {
     Integer,
@@ -64,7 +65,7 @@ impl Hidden {
         }
     }
 
-    // Writes it behind the name of the key.
+    // Writes it after the name of the key.
     fn write<W: fmt::Write>(self, f: &mut fmt::Formatter<W>) -> fmt::Result {
         match self {
             Hidden::Integer => f.write_str(" is an integer"),
@@ -92,7 +93,7 @@ impl Hidden {
     }
 }
 
-/// What is told of what stands at a key.
+/// What is shown of the value at a key.
 #[derive(Clone, Copy)]
 pub(crate) enum Found<'a> {
     Nothing,
@@ -101,7 +102,7 @@ pub(crate) enum Found<'a> {
 }
 
 impl<'a> Found<'a> {
-    /// What may be told of what stands at the key of that name.
+    /// What may be shown of the value at the key of that name.
     pub(crate) fn at(name: &str, value: Option<&'a Value>) -> Found<'a>
         ensures { value_shown result ≡ value_to_show name.now (option_map (λ v. view v.now) value.entry) }
     {
@@ -113,7 +114,7 @@ impl<'a> Found<'a> {
     }
 }
 
-/// Writes it behind the name of the key.
+/// Writes it after the name of the key.
 impl fmt::Display for Found<'_> {
     fn fmt<W: fmt::Write>(&self, f: &mut fmt::Formatter<W>) -> fmt::Result {
         match *self {

@@ -59,7 +59,7 @@ pub struct Setup {
 impl Setup {
     ghost use Rattle.std.specs.Prelude.{◌≡◌, map, IfOk};
 
-    /// The names of the tenants, in their order. The one error is want of memory.
+    /// The names of the tenants, in their order. Fails only if it is out of memory.
     pub fn names(&self, alloc: Global) -> Result<Vec<Name>, AllocError>
         ensures { IfOk result (λ names. names.items ≡ map (λ t. t.name) self.now.tenants) }
     {
@@ -135,7 +135,7 @@ fn number_of(tenants: &[TenantSetup], name: &Name) -> usize {
         .count()
 }
 
-// The tenant of a value behind these.
+// The tenant of a value that follows these tenants.
 #[tactic(auto, unfolding(crate::specs::TenantTable::tenant_of_table))]
 fn new_tenant<'a>(
     alloc: Global,
@@ -156,7 +156,7 @@ fn new_tenant<'a>(
     Ok(own.with(network))
 }
 
-// The tenant of a value behind these, which are at most 63.
+// The tenant of a value that follows these tenants, which are at most 63.
 fn next_tenant<'a>(
     alloc: Global,
     version: Version,

@@ -246,9 +246,9 @@ fn tenant_values(alloc: Global, tenants: &[TenantSetup]) -> Result<Vec<Value>, A
     Ok(values)
 }
 
-/// The text of a setup of version 2, which starts at that moment: where the tenants are 1 to 64 of different names,
-/// [`read_setup`](crate::read_setup) reads them back. Their peers are numbered anew then, from 0 in their order, and their
-/// buckets hold nothing before a period begins. The one error is want of memory.
+/// The text of a setup of version 2, which starts at that moment. If the tenants are 1 to 64 of different names,
+/// [`read_setup`](crate::read_setup) reads them back. Then their peers have new numbers, from 0 in their order, and
+/// their buckets hold nothing before a period begins. Fails only if it is out of memory.
 pub fn write_setup(
     alloc: Global,
     start: Moment,

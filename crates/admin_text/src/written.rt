@@ -19,7 +19,7 @@ use tenant_core::{
     Amount, BucketTerms, Command, Fee, Order, Pair, PeerLimits, PeerTerms, Role, Side,
 };
 
-// A word more, behind a space.
+// Appends a space and a word.
 fn put_word(out: &mut Vec<u8>, word: &[u8]) -> Result<(), AllocError>
     requires { is_spaceless word.now ≡ true }
     ensures { OnOk result (words_of out.new.items ≡ words_of out.old.items ++ word.now ∷ []) }

@@ -12,7 +12,7 @@ use tenant_core::CommandFault;
 use tenant_core::limits::{MAX_PEERS, MAX_RATES, MAX_TENANTS};
 use toml::Table;
 
-/// A key of a table, and what is told of what stands there.
+/// A key of a table, and what is shown of its value.
 #[derive(Clone, Copy)]
 pub(crate) struct Key<'a> {
     name: &'a str,
@@ -47,13 +47,13 @@ impl fmt::Display for Key<'_> {
 pub(crate) enum Wrong<'a> {
     /// It is no table.
     NoTable(TableKind),
-    /// The key wants something else.
+    /// The key needs another value.
     Key(Key<'a>, Expected),
     /// No peer of the tenant has the name at the key.
     NoPeer(Key<'a>),
     /// A rate goes to the peer that it comes from.
     SamePeer(Key<'a>),
-    /// The other of that kind and number has what stands at the key.
+    /// The other of that kind and number has the value at the key.
     Taken(Key<'a>, TableKind, usize),
     /// There are too many of that kind.
     TooMany(TableKind),
@@ -62,7 +62,7 @@ pub(crate) enum Wrong<'a> {
 }
 
 impl<'a> Wrong<'a> {
-    /// The key of the table wants something else than what stands there.
+    /// The key of the table needs another value than it has.
     pub(crate) fn at(table: &'a Table, key: &'a str, expected: Expected) -> Wrong<'a> {
         Wrong::Key(Key::of(table, key), expected)
     }
@@ -161,7 +161,7 @@ impl SetupWrong<'_> {
     ghost use Rattle.std.specs.Prelude.{◌≡◌};
     ghost use Rattle.admin_text.specs.Wrong.{setup_fault_of};
 
-    /// The fault that stands for it.
+    /// Its fault.
     pub(crate) fn fault(&self) -> SetupFault
         ensures { result ≡ setup_fault_of self.now }
     {

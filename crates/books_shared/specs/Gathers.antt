@@ -1,4 +1,4 @@
--- Books and shares that are compared in the end.
+-- Books and shares that `Books::gather` compares.
 use Rattle.std.specs.Prelude.{ℕ, ◌≡◌, ◌==◌, Bool, true, ◌&&◌, List, length, sum_by, count_by, slice_index, zero, suc}
 use Rattle.std.specs.List.{list_all}
 use Rattle.tenant_core.specs.State.{State}

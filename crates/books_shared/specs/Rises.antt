@@ -31,8 +31,8 @@ abbrev pub entries_of : Option Record → ℕ
 entries_of None = 0
 entries_of (Some r) = 1
 
--- the rise that a turn brings, with so many entries: a token that is no peer's, and a packet whose sender is told though no
--- entry was made of it, are counted where they come
+-- the rise of a turn with so many entries: an unknown token counts as a stranger, and a reply without an entry counts
+-- as a packet that found the journal full
 abbrev pub rise_of_turn : Turn → ℕ → Rise
 rise_of_turn Stranger entries = record { entries = entries; strangers = 1; full = 0 }
 rise_of_turn Reply entries = record { entries = entries; strangers = 0; full = if entries == 0 then 1 else 0 }

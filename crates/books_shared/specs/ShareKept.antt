@@ -25,7 +25,7 @@ abbrev pub IsLedgerOf : Option LedgerView → List Done → ℕ → Type 0
 IsLedgerOf None steps room = Unit {0}
 IsLedgerOf (Some ledger) steps room = (ledger.receipts ≡ receipts_told steps) × (room ≤ ledger.room)
 
--- room for two receipts was made, where they are kept; or memory was refused, and what is kept is the same
+-- room for two receipts was made, if receipts are kept; or it is out of memory, and the receipts are the same
 abbrev pub HasMadeRoom : {E : Type 0} → Result (Unit {0}) E → (before after : Option LedgerView) → Type 0
 HasMadeRoom r None after = (after ≡ None) × (r ≡ Ok tt)
 HasMadeRoom (Ok made) (Some before) (Some after) = (after.receipts ≡ before.receipts) × (after.room ≡ 2)

@@ -11,9 +11,9 @@ use Rattle.books_shared.specs.declared.share.RoomFault.TheVariants.{Spent, Memor
 use Rattle.receipts.specs.Ledgers.{receipt_of}
 use Rattle.receipts.specs.declared.receipt.Receipt.{Receipt}
 
--- a worker's number; of each tenant, how many entries it appended, how many tokens were no peer's, and how many packets
--- found the journal full; for how many calls there is room; the worker's steps in the one list; the tenants' steps that it has
--- met, each time as far as they had come then; and whether it keeps a receipt of each of its own
+-- a worker's number and its counts of each tenant: entries that it appended, tokens of no peer, packets that found the
+-- journal full. Then for how many calls there is room, and the worker's steps in the one list. Then the tenants' steps
+-- that it has met, each time as far as they had got, and its receipts, if it keeps them
 pub record ShareView : Type 0 where
   pub worker : ℕ
   pub counts : List ℕ

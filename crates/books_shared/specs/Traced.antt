@@ -1,4 +1,4 @@
--- What the one list says of a tenant's book, and of all books and shares in the end.
+-- What the one list says of a tenant's book, and of all books and shares once they are gathered.
 use Rattle.std.specs.Prelude.{ℕ, ◌≡◌, ◌<◌, ◌+◌, List, [], ◌∷◌, map, Option, Some, None, All, slice_get, slice_index_or}
 use Rattle.std.specs.List.{enumerate_from}
 use Rattle.tenant_core.specs.State.{State, opened, opening_of}
@@ -65,11 +65,13 @@ book_among books tenant = (slice_index_or books tenant (no_book, 0)).0
 abbrev pub entry_of : Done → Entered
 entry_of e = record { tenant = e.tenant; made = e.made }
 
--- It is the list of all that was done: of each tenant it has what led to the tenant's book, in the order of its journals, with
--- the outcomes of the replay; of each worker what its share knows that it did, in its order; and nothing else. What a worker has
--- met of a tenant, whenever it met it, are the first steps that the list has of the tenant. The books are
--- those of all tenants, in order. And the list is a run: there are steps of a floor that, from the openings on, make just its
--- records, in its order, and leave these books
+-- It is the list of all that was done. For each tenant it has the steps that led to the tenant's book, in the order of
+-- its journals, with the outcomes of the replay. For each worker it has the steps that its share knows, in their
+-- order. It has no other steps.
+--
+-- What a worker has met of a tenant is how the tenant's steps in the list begin. The books are those of all tenants,
+-- in order. The list is a run: steps of a floor, from the openings on, make just its records in its order and leave
+-- these books
 pub record IsListOf (size : Size) (openings : List Opening) (books : List (State × ℕ)) (shares : List ShareView) (log : List Done) : Type 0 where
   pub tenants : All (λ b. IsLedTo openings b.0 (of_tenant b.0.opening.tenant log)) books
   pub workers : All (λ s. of_worker s.worker log ≡ s.steps) shares

@@ -1,4 +1,4 @@
--- What the one list is told of a call, by what the call left.
+-- The steps that a call adds to the one list, by what the call left.
 use Rattle.std.specs.Prelude.{ℕ, zero, suc, ◌<◌, List, [], length, Result, Ok}
 use Rattle.tenant_core.specs.State.{State}
 use Rattle.tenant_core.specs.declared.command.Answered.{Answered}

@@ -1,4 +1,4 @@
--- What follows of a slot from a turn alone, for whoever does not know the book.
+-- What a turn alone says of a slot, without the book.
 use Rattle.std.specs.Prelude.{ℕ, ◌≡◌, List, Some}
 use Rattle.floor_core.specs.Work.{Job, Work, IsWaiting, tenant_in, waiting_in}
 use Rattle.one_list.specs.Holds.{holder}
@@ -6,12 +6,12 @@ use Rattle.one_list.specs.declared.step.Done.{Done}
 use Rattle.floor_core.specs.declared.parts.Turn.{Turn}
 use Rattle.floor_core.specs.declared.parts.Turn.TheVariants.{Idle, Stray, Stranger, Reply, Send}
 
--- a frame came that is to be decided
+-- a frame came in and awaits its decision
 abbrev pub IsLoaded : Job → Type 0
 IsLoaded (Job.Carries tenant token frame) = Unit {0}
 IsLoaded _ = ⊥
 
--- a call that was to be decided awaits its answer
+-- a call that awaited its decision now awaits its answer
 pub record IsSentOn (before after : Job) : Type 0 where
   pub loaded : IsLoaded before
   pub waits : IsWaiting after

@@ -18,15 +18,14 @@ use tenant_core::{Book, TenantSetup};
 /// The most workers.
 pub const MAX_WORKERS: usize = 4_096;
 
-/// The books of 1 to 64 tenants, each behind a lock of its own, for 1 to 4,096 workers. Contracts see how many there are of
+/// The books of 1 to 64 tenants, each behind its own lock, for 1 to 4,096 workers. Contracts see how many there are of
 /// each.
 ///
-/// A `Book` is the replay of its journal whatever is done with it, and nothing but the calls of a `Guard` changes one. So
-/// whenever a lock is free, the book behind it is the replay of its journal, and within its limits
-/// (`laws::guard_is_sound`).
+/// A `Book` is the replay of its journal whatever is done with it, and only the calls of a `Guard` change one. So
+/// whenever a lock is free, its book is the replay of its journal, and within its limits (`laws::guard_is_sound`).
 ///
-/// There is one list of all that is done to them (`Chronicle`), which the proofs alone know. `J` says which list it is: the
-/// program that makes the books picks it, once.
+/// There is one list of all that is done to the books (`Chronicle`), which only the proofs know. `J` says which list
+/// it is: the program that makes the books picks it, once.
 #[derive(Drop)]
 pub struct Books<J: Run> {
     pub(crate) chronicle: Chronicle<J>,
@@ -56,10 +55,15 @@ impl<J: Run> Books<J> {
     ghost use Rattle.books_shared.specs.Traced.{IsLedTo, openings_of};
     ghost use Rattle.one_list.specs.Holds.{AreOwnAnswers};
 
-    /// The books of these tenants, in which nothing has happened and whose first periods begin at `start`, and the shares
-    /// of so many workers, in order: their numbers are 0, 1 and so on, all counts are 0, and there is no room for a
-    /// call; they keep receipts where the run is audited. There are 1 to 64 tenants and 1 to 4,096 workers. The list of what is
-    /// done to them has just been opened, for so many tenants and workers. The one error is want of memory.
+    /// The books of these tenants, and the shares of so many workers. There are 1 to 64 tenants and 1 to 4,096
+    /// workers.
+    ///
+    /// - Nothing has happened in the books. Their first periods begin at `start`.
+    /// - The shares come in order, with the numbers 0, 1 and so on. All counts are 0, and there is no room for a call.
+    ///   They keep receipts if the run is audited.
+    /// - The list of all that is done to the books was just opened, for so many tenants and workers.
+    ///
+    /// Fails only if it is out of memory.
     pub fn new(
         alloc: Global,
         opened: Opened,
@@ -103,10 +107,10 @@ impl<J: Run> Books<J> {
         self.workers
     }
 
-    /// The book of that tenant, one of the books, once no other guard of it is held: until then the call waits. (If another
-    /// tenant's book lay behind the lock, it would wait for ever: books never move.) What is known of the book is what
-    /// holds whenever its lock is free. In a run in which each worker answers only packets that it sent on itself (`Run::own`),
-    /// each answer among the book's steps is such a one.
+    /// The book of that tenant, one of the books. The call waits until no other guard of it is held. (If the lock held
+    /// another tenant's book, it would wait for ever: books never move.) What is known of the book is what holds
+    /// whenever its lock is free. In a run with `Run::own`, each worker answers only packets that it sent on itself.
+    /// Then so does each answer among the book's steps.
     pub fn enter(&self, rt: &impl Wait, tenant: usize) -> Guard<'_, J>
         requires { tenant < self.now.tenants }
         ensures own { result.state.opening.tenant ≡ tenant }

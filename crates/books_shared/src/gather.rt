@@ -21,7 +21,7 @@ pub enum GatherFault<J: Run> {
     Missing(Books<J>, Vec<Share<J>>),
     /// Some book's number is not what the shares add up to for its tenant. Each book comes with its number.
     Differs(Vec<(Book, u64)>, Vec<Share<J>>),
-    /// Memory was refused.
+    /// Out of memory.
     Memory(Books<J>, Vec<Share<J>>),
 }
 
@@ -31,20 +31,28 @@ impl<J: Run> Books<J> {
     ghost use Rattle.books_shared.specs.Traced.{HaveListOf};
     ghost use Rattle.books_shared.specs.Faults.{IsFault};
 
-    /// Opens all locks, and gives the book of each tenant, in the order of their numbers, with its own number: how many entries
-    /// were appended to it since `Books::new`, which is the sum of what the shares count for its tenant.
+    /// Opens all locks and returns the book of each tenant, in the order of their numbers. Each comes with how many
+    /// entries were appended to it since `Books::new`, which is the sum of what the shares count for its tenant.
     ///
-    /// There is one list of all that was done, whatever the threads did: of each tenant it has what led to its book from the
-    /// opening of the tenant's setup, over all its periods, in the order of its journals and with the outcomes of the replay; of
-    /// each worker what it did, in its order; and nothing else. What a worker has met of a tenant (`Guard::meet`) are the first steps
-    /// that the list has of the tenant. And the list is a run (`AreRun`): there are steps of some workers
-    /// that, from those openings on, make just its records, in its order, and leave these books. Of this run holds what holds of
-    /// `Floor::run`: each tenant sees and keeps what the one-tenant connector makes of its own steps alone, and each frame that
-    /// goes on is the one that came, with 8 other bytes for its amount and 17 others for its expiry.
+    /// There is one list of all that was done, whatever the threads did.
     ///
-    /// The errors are, in the order in which they are looked for, with as many books as there were and the shares handed back: `Missing` exactly where the
-    /// shares' numbers are not those below the number of workers, each once, in any order; `Memory`; and `Differs`
-    /// exactly where some book's number is not that sum.
+    /// - For each tenant it has the steps that led to its book from the opening of the tenant's setup, over all its
+    ///   periods. They have the order of its journals and the outcomes of the replay.
+    /// - For each worker it has what the worker did, in its order.
+    /// - It has no other steps.
+    /// - What a worker has met of a tenant (`Guard::meet`) is how the tenant's steps in the list begin.
+    /// - The list is a run (`AreRun`): steps of some workers, from those openings on, make just its records, in its
+    ///   order, and leave these books.
+    ///
+    /// What holds of `Floor::run` holds of this run. Each tenant sees and keeps what the one-tenant connector makes of
+    /// its own steps alone. Each frame that goes on is the one that came, with 8 other bytes for its amount and 17
+    /// others for its expiry.
+    ///
+    /// Errors, in the order of the tests. Each hands back the shares and as many books as there were.
+    ///
+    /// - `Missing` exactly if the shares' numbers are not those below the number of workers, each once, in any order.
+    /// - `Memory` if it is out of memory.
+    /// - `Differs` exactly if some book's number is not that sum.
     pub fn gather(
         self,
         alloc: Global,
@@ -138,7 +146,7 @@ fn agree<J: Run>(books: &[(Book, u64)], shares: &[Share<J>]) -> bool
     true
 }
 
-// Each book with its number, and its part of the one list, in one order; or the locks, where memory is refused.
+// Each book with its number, and its part of the one list, in one order; or the locks, if it is out of memory.
 fn open_all<J: Run>(
     chronicle: &Chronicle<J>,
     alloc: Global,

@@ -10,9 +10,9 @@ use std::marker::Model;
 use std::sync::MutexGuard;
 use tenant_core::{Answered, Book, BookFault, Command, CommandFault};
 
-/// A tenant's book whose lock is held, until the guard is dropped. Contracts see it as a `Kept`: the book's state, how many
-/// entries its closed periods had, and all that was done to the book since `Books::new`, in order: the tenant's steps in the
-/// one list of what is done to all books.
+/// A tenant's book whose lock is held, until the guard is dropped. Contracts see it as a `Kept`: the book's state, how
+/// many entries its closed periods had, and all that was done to the book since `Books::new`. The latter are the
+/// tenant's steps in the one list of what is done to all books, in order.
 #[derive(Drop)]
 pub struct Guard<'a, J: Run> {
     kept: MutexGuard<'a, Kept<J>>,
@@ -88,9 +88,9 @@ impl<J: Run> Guard<'_, J> {
         self.kept.number()
     }
 
-    /// The book's steps by the worker of the share are all that this worker has done for the tenant until now, in its order, and
-    /// nothing more. The share keeps that it has met the steps which led to this book: in the end they are the first ones that
-    /// the one list has of the tenant (`Books::gather`). Nothing else changes, and it takes neither room nor memory.
+    /// The book's steps by the worker of the share are exactly what this worker has done for the tenant until now, in
+    /// its order. The share keeps that it has met the steps which led to this book. The one list's steps of the tenant
+    /// begin with them (`Books::gather`). Nothing else changes, and it takes neither room nor memory.
     pub fn meet(&mut self, share: &mut Share<J>)
         ensures book { self.new ≡ self.old }
         ensures share { share.new ≡ has_met self.old.state.opening.tenant self.old.steps share.old }
@@ -99,11 +99,15 @@ impl<J: Run> Guard<'_, J> {
         self.kept.meet(self.chronicle, share);
     }
 
-    /// Decides the frame of the slot by the book at this moment, as `Slot::decide` does, and counts what that adds: the
-    /// entry, of which a share of an audited run keeps a receipt; or the token that is no peer's (`Stranger`); or the packet for which the journal has no room (one of
-    /// `Reply`). After `Idle` and `Stray` nothing has changed but that the call was used up.
+    /// Decides the frame of the slot by the book at this moment, as `Slot::decide` does, and counts what that adds:
     ///
-    /// The share has room for a call, which this one uses up.
+    /// - the entry, of which a share of an audited run keeps a receipt;
+    /// - or the token that is no peer's (`Stranger`);
+    /// - or the packet for which the journal has no room (one case of `Reply`).
+    ///
+    /// After `Idle` and `Stray` only the room of a call was used up.
+    ///
+    /// The share must have room for a call, which this one uses up.
     pub fn decide(&mut self, share: &mut Share<J>, slot: &mut Slot, now: Moment) -> Turn
         requires room { 0 < share.old.room }
         ensures turn { result ≡ (decide_call slot.old self.old.state now).turn }

@@ -100,8 +100,8 @@ impl<J: Run> Kept<J> {
         self.closed + self.book.entries() as u64
     }
 
-    /// What a share's worker did to the book, and nothing more of this worker, stands in the tenant's steps; and the share keeps
-    /// that it has met these. Nothing else changes.
+    /// The tenant's steps have what the share's worker did to the book, and nothing more of this worker. The share
+    /// keeps that it has met these steps. Nothing else changes.
     pub fn meet(&mut self, chronicle: &Chronicle<J>, share: &mut Share<J>)
         ensures book { self.new ≡ self.old }
         ensures share { share.new ≡ has_met self.old.state.opening.tenant self.old.steps share.old }

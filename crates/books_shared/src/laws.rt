@@ -69,10 +69,12 @@ pub fn networks_cross()
     ensures { IsSend Network.the_row }
 {}
 
-/// The receipts that are handed out in the end are complete, where all books were rolled last, the periods are all that rolls
-/// closed, and of each worker there is a receipt of each of its steps: they fit the periods, and an order that takes them all is
-/// that of the workers in the one list of all that was done, as `Books::gather` has it (`complete`). So an audit of what is handed
-/// out says yes, want of memory aside. What audited shares keep, in the order of their workers, are such receipts (`kept`).
+/// The receipts that are handed out at the end are complete, if all books were rolled last, the periods are all that
+/// rolls closed, and each worker has a receipt of each of its steps (`complete`). They fit the periods. An order that
+/// takes them all is that of the workers in the one list of all that was done, as `Books::gather` has it. So an audit
+/// of them says yes, unless it is out of memory.
+///
+/// What audited shares keep, in the order of their workers, are such receipts (`kept`).
 pub fn gathered_receipts_are_complete()
     ensures complete { (size : Size) (setups : List TenantTerms) (start : ℕ) (books : List (State × ℕ)) (shares : List ShareView)
         (log : List Done) (periods : List PeriodParts) (lists : List (List Receipt))
@@ -83,9 +85,9 @@ pub fn gathered_receipts_are_complete()
         → AreReceiptsOf (length shares) shares (filter_map receipts_in shares) }
 {}
 
-/// Where receipts that match the periods are stuck at a front, no order completes them (`stuck`). Where an order completes them, and
-/// rolls closed the periods, they are in that order the records of a run: of steps from the openings of the first periods on, which
-/// leave each tenant's book as its last period ended (`run`).
+/// If receipts that match the periods are stuck at a front, no order completes them (`stuck`). If an order completes
+/// them, and rolls closed the periods, they are in that order the records of a run (`run`). Its steps start from the
+/// openings of the first periods, and leave each tenant's book as its last period ended.
 pub fn orders()
     ensures stuck { (periods : List PeriodParts) (lists : List (List Receipt)) (front : ℕ → ℕ) (order : List ℕ)
         → AreMatched periods lists → IsStuckAt periods lists front → IsComplete periods lists order → ⊥ }

@@ -41,11 +41,12 @@ impl From<AllocError> for RoomFault {
     }
 }
 
-/// What one worker has counted for each of 64 tenants: the entries that it appended to the tenant's book, the tokens that
-/// were no peer's, and the packets that found the journal full; for the proofs alone, its steps in the one list of all that is
-/// done to the books, and the tenants' steps that it has met; and, where the run is audited, a receipt of each of these steps. Contracts see it as a `ShareView`.
+/// What one worker has counted for each of 64 tenants: the entries that it appended to the tenant's book, the tokens
+/// that were no peer's, and the packets that found the journal full. In an audited run it also keeps a receipt of each
+/// of its steps. For the proofs alone, it has its steps in the one list of all that is done to the books, and the
+/// tenants' steps that it has met. Contracts see it as a `ShareView`.
 ///
-/// It has room for a number of calls of a `Guard`, each of which uses one up; `make_room` makes room for two. So no
+/// It has room for a number of calls of a `Guard`, each of which uses one up. `make_room` makes room for two. So no
 /// count passes 2^47 + 1. A share that keeps no receipts does not grow.
 #[derive(Drop)]
 pub struct Share<J: Run> {
@@ -160,11 +161,11 @@ impl<J: Run> Share<J> {
         }
     }
 
-    /// Makes room for two calls of a `Guard`, and for two receipts where they are kept, before the lock is taken. The command
-    /// is the one that is to be done under the lock, if there is one; nothing is kept of it.
+    /// Makes room for two calls of a `Guard`, and for two receipts if they are kept, before the lock is taken. The
+    /// command is the one that follows under the lock, if there is one. It is not kept.
     ///
-    /// `Spent` exactly where one of the counts is 2^47 or more. `Memory` where memory for receipts was refused, which a share
-    /// that keeps none does not answer. Nothing has changed then.
+    /// `Spent` exactly if one of the counts is 2^47 or more. `Memory` if it is out of memory for receipts, which never
+    /// happens to a share that keeps none. Nothing has changed then.
     pub fn make_room(&mut self, alloc: Global, _command: Option<&Command>) -> Result<(), RoomFault>
         ensures { IsRoomMade result self.old self.new }
     {
@@ -233,7 +234,7 @@ impl<J: Run> Share<J> {
     }
 }
 
-// A ledger without receipts, where they are to be kept.
+// A ledger without receipts, if receipts must be kept.
 fn new_ledger(alloc: Global, audited: bool) -> Option<Ledger>
     ensures there { is_some result ≡ audited }
     ensures none { IsLedgerOf result [] 0 }

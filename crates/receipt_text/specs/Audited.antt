@@ -1,4 +1,4 @@
--- What an audit finds of receipts that stand in a text.
+-- What an audit of receipts in a text finds.
 use Rattle.std.specs.Prelude.{ℕ, ◌≡◌, List, length}
 use Rattle.tenant_core.specs.declared.period.PeriodParts.{PeriodParts}
 use Rattle.receipts.specs.Audits.{IsComplete, receipts_of, tenants_of}
@@ -22,13 +22,13 @@ pub record IsAuditedText (periods : List PeriodParts) (text : List ℕ) (a : Aud
   pub count : a.periods ≡ length periods
   pub receipts : a.receipts ≡ receipts_of lists
 
--- the fault is there in receipts of which that is the text; want of memory says nothing
+-- the fault is there in receipts that have this text; running out of memory says nothing
 abbrev pub IsFound : List PeriodParts → List ℕ → AuditFault → Type 0
 IsFound periods text Memory = Unit {0}
 IsFound periods text fault =
     (lists : List (List Receipt)) × (text ≡ receipts_text lists) × IsFault periods lists fault
 
--- why an audit of a text does not say yes; of a text that is none nothing is said
+-- why an audit of a text does not say yes; nothing is said of a text that is malformed
 abbrev pub IsTextFault : List PeriodParts → List ℕ → ReceiptsFault → Type 0
 IsTextFault periods text (Text fault) = Unit {0}
 IsTextFault periods text (Audit fault) = IsFound periods text fault

@@ -1,6 +1,6 @@
--- The text of the receipts of all workers: a line for each worker, and behind it one for each of its receipts. No secret stands in
--- it: of a peer that was added the token and the target are left out, as in a statement, so a text is that of as many receipts as
--- there are of these.
+-- The text of the receipts of all workers: a line for each worker, and after it one for each of its receipts. It has
+-- no secret: as in a statement, the token and the target of an added peer are left out. So one text can be that of
+-- several receipts.
 use Rattle.std.specs.Prelude.{ℕ, List, [], ◌∷◌, ◌++◌, length, codes}
 use Rattle.std.specs.Fmt.{decimal}
 use Rattle.std.specs.List.{flat_map}

@@ -1,4 +1,4 @@
-//! Receipts that are audited as they stand in a text.
+//! Receipts that are audited from a text.
 
 ghost use Rattle.std.specs.Prelude.{◌≡◌, IfErr, IfOk, map};
 ghost use Rattle.receipt_text.specs.Audited.{IsAuditedText, IsTextFault};
@@ -12,7 +12,7 @@ use statements::first_difference;
 use std::alloc::Global;
 use tenant_core::Period;
 
-// Audits receipts of which that is to be the text.
+// Audits receipts that should have this text.
 fn audited(
     alloc: Global,
     periods: &[Period],
@@ -33,12 +33,12 @@ fn audited(
     }
 }
 
-/// Audits the receipts that a text tells, against closed periods: `Ok` says that there are lists of receipts of which it is the text,
-/// word for word, and that `receipts::audit` says yes to them.
+/// Audits the receipts in a text against closed periods. `Ok` says that there are lists of receipts that have exactly
+/// this text, and that `receipts::audit` says yes to them.
 ///
-/// Neither who wrote the text nor who kept the receipts is trusted. No text has a peer's token or target: a receipt of an added peer
-/// gets those that the period's own record has. `Audit` comes only where that fault is there in the receipts of the text, and
-/// where memory was refused.
+/// Neither the writer of the text nor the one who kept the receipts is trusted. No text has a peer's token or target:
+/// a receipt of an added peer gets those of the period's own record. `Audit` means that its fault is there in the
+/// receipts of the text, or that it is out of memory.
 pub fn check_receipts(
     alloc: Global,
     periods: &[Period],

@@ -7,10 +7,10 @@ use thiserror::Error;
 /// Why a text is no text of receipts. Lines are counted from 1.
 #[derive(Clone, Copy, Debug, PartialEq, Eq, Error)]
 pub enum TextFault {
-    /// That line tells no receipt and no worker.
+    /// That line is neither a receipt nor a worker.
     #[error("line {0} tells no receipt and no worker")]
     Line(usize),
-    /// It is not word for word the text of the receipts that it tells, from that line on.
+    /// From that line on, the text is not word for word that of the receipts in it.
     #[error("line {0} is not as receipts are written")]
     Differs(usize),
 }
@@ -21,7 +21,7 @@ pub enum ReceiptsFault {
     /// It is no text of receipts.
     #[error("{0}")]
     Text(TextFault),
-    /// What an audit of its receipts says, or that memory was refused.
+    /// The fault that the audit of its receipts found, or out of memory.
     #[error("{0}")]
     Audit(AuditFault),
 }

@@ -1,4 +1,5 @@
-//! The receipts of all workers as a text, which whoever has the statements audits without trust in who wrote it.
+//! The receipts of all workers as a text. Anyone who has the statements can audit it without trust in its
+//! writer.
 #![tactic(auto)]
 
 mod audited;

@@ -8,7 +8,7 @@ use statements::entry_in;
 use std::alloc::{AllocError, Global};
 use tenant_core::{Change, Entry, EntryView, PeerTerms, Period};
 
-// Where the entry of a receipt stands.
+// The place of a receipt's entry.
 #[derive(Clone, Copy)]
 struct Place {
     tenant: usize,
@@ -16,13 +16,13 @@ struct Place {
     number: u64,
 }
 
-// The number that a line begins with, and what stands behind it.
+// The number at the front of a line, and the text after it.
 fn number_before<const HIGH: u64>(line: &[u8]) -> Option<(u64, &[u8])> {
     let (word, rest) = first_word(line);
     Some((number_in::<0, HIGH>(word).ok()?.get(), rest?))
 }
 
-// The place that a line begins with, and the record behind it.
+// The place at the front of a line, and the record after it.
 fn place_in(line: &[u8]) -> Option<(Place, &[u8])> {
     let (tenant, line) = number_before::<65_535>(line)?;
     let (period, line) = number_before::<{ u64::MAX }>(line)?;
@@ -69,7 +69,7 @@ fn complete(periods: &[Period], place: Place, entry: &mut Entry) {
     }
 }
 
-// The receipt that a line tells.
+// The receipt on a line.
 fn receipt_in(
     alloc: Global,
     periods: &[Period],
@@ -94,7 +94,7 @@ fn receipt_in(
     }))
 }
 
-// Takes the receipt that a line tells into the last list.
+// Appends the receipt on a line to the last list.
 fn take_line(
     alloc: Global,
     periods: &[Period],
@@ -111,7 +111,7 @@ fn take_line(
     }
 }
 
-/// The lists of receipts that a text tells, behind its first line.
+/// The lists of receipts in a text, after its first line.
 pub fn lists_in(
     alloc: Global,
     periods: &[Period],

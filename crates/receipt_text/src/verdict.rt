@@ -65,7 +65,7 @@ fn verdict_in(words: &mut LineWords<'_>) -> Option<Verdict> {
     }
 }
 
-// The words behind `=`.
+// The words after `=`.
 fn words_told(line: &[u8]) -> Option<LineWords<'_>> {
     let told = line.split(|byte| *byte == b'=').nth(1)?;
     let mut words = LineWords::of(told);

@@ -35,7 +35,7 @@ NameOne r s = (r.tenant ≡ s.tenant) × (r.period ≡ s.period) × (r.number �
 abbrev pub NamesNothing : List PeriodParts → List (List Receipt) → Type 0
 NamesNothing periods lists = (r : Receipt) × IsAmong lists r × ((x : Record) → ¬ (Names periods r x))
 
--- a tenant's period stands twice, or is not its first, and no period ends in the state that it opens
+-- a tenant's period occurs twice, or a period is not its tenant's first and no period ends in the state that it opens
 abbrev pub HasGap : List PeriodParts → Type 0
 HasGap periods =
     ((j : ℕ) × (k : ℕ) × (p : PeriodParts) × (q : PeriodParts) × (j ≢ k) × (slice_get periods j ≡ Some p)
@@ -84,7 +84,7 @@ abbrev pub records_before : List PeriodParts → (tenant number : ℕ) → ℕ
 records_before periods tenant number =
     sum_by (λ p. if (p.opening.tenant == tenant) && nat_lt p.opening.period number then length p.records else 0) periods
 
--- where a receipt's entry stands in its tenant's journal, over all its periods
+-- the place of a receipt's entry in its tenant's journal, counted over all its periods
 abbrev pub place_of : List PeriodParts → Receipt → ℕ
 place_of periods r = records_before periods r.tenant r.period + r.number
 

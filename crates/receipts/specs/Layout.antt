@@ -41,7 +41,7 @@ IsLedAt periods k = (q : PeriodParts) → slice_get periods k ≡ Some q
 
 -- ---- faults
 
--- the fault is there; want of memory says nothing
+-- the fault is there; running out of memory says nothing
 abbrev pub IsFault : List PeriodParts → List (List Receipt) → AuditFault → Type 0
 IsFault periods lists NoPeriod = NamesNothing periods lists
 IsFault periods lists Gap = HasGap periods
@@ -51,15 +51,15 @@ IsFault periods lists Differs = ShowsAnother periods lists
 IsFault periods lists (Order front) = AreMatched periods lists × IsStuckAt periods lists (at front.items)
 IsFault periods lists Memory = ⊤
 
--- of the periods alone: a gap, or want of memory
+-- a fault of the periods alone: a gap, or out of memory
 abbrev pub IsGap : List PeriodParts → AuditFault → Type 0
 IsGap periods Gap = HasGap periods
 IsGap periods Memory = ⊤
 IsGap periods _ = ⊥
 
--- ---- where entries stand in their tenants' journals
+-- ---- the places of entries in their tenants' journals
 
--- the periods of a tenant before that number were laid out one behind another, up to that many entries
+-- the periods of a tenant before that number were laid out one after another, up to that many entries
 pub record IsLaidTo (index : Index) (periods : List PeriodParts) (offsets : List ℕ) (tenant number total : ℕ) : Type 0 where
   pub wide : length offsets ≡ length periods
   pub so_far : total ≡ records_before periods tenant number

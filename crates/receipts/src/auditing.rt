@@ -70,15 +70,19 @@ fn matched(
     Ok((points, holders))
 }
 
-/// Checks receipts, a list for each worker, against closed periods: that each tenant's periods are all there from the first
-/// on, and join; that each record of them has one receipt that shows just it; and that there is an order of all receipts which
-/// keeps each tenant's journal and each list. Then the receipts, in that order, are the records of a run from the tenants' first
-/// periods on, which ends as the last ones did. Periods and lists may stand in any order. Who kept the receipts is not trusted;
-/// a `Period` says what a roll closed, by its type. It takes time in proportion to the receipts, but for a search of the
-/// period of each.
+/// Checks receipts, a list for each worker, against closed periods:
 ///
-/// The errors come only where that fault is there, and `Order` only where none of the others is. Where several are there, any
-/// of them may be told. `Memory` where memory was refused.
+/// - Each tenant's periods are all there from the first on, and join.
+/// - Each record of them has one receipt, which shows just that record.
+/// - There is an order of all receipts that keeps each tenant's journal and each list.
+///
+/// Then the receipts, in that order, are the records of a run. It starts from the tenants' first periods and ends as
+/// the last ones did. Periods and lists may come in any order. The audit does not trust the one who kept the receipts.
+/// A `Period` says what a roll closed, by its type. The time grows in proportion to the receipts, plus a search for
+/// the period of each.
+///
+/// Each error says that its fault is there. `Order` comes only if none of the others is there. If there are several,
+/// any of them may be returned. `Memory` means out of memory.
 pub fn audit(alloc: Global, periods: &[Period], lists: &[&[Receipt]]) -> Result<Audited, AuditFault>
     ensures complete { IfOk result (λ audited. IsComplete periods.now (map (λ list. list.now) lists.now) audited.order) }
     ensures run { IfOk result (λ audited. AreOfRun periods.now (map (λ list. list.now) lists.now) audited.order) }

@@ -18,7 +18,7 @@ pub(crate) fn are_kept(periods: &[Period])
     }
 }
 
-// Notes where the period at that place stands, unless one of its tenant and number was noted.
+// Notes the place of the period at index `k`, unless one of its tenant and number was noted.
 fn note(index: &mut Index, periods: &[Period], k: usize) -> Result<(), AuditFault>
     requires inside { k < length periods.now }
     requires index { IsIndexUpTo index.old periods.now k }

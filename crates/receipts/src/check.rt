@@ -25,8 +25,8 @@ fn shows(stands: &RecordView<'_>, receipt: &Receipt) -> bool
     stands.entry.is_same(&receipt.entry) && stands.outcome.is_same(&receipt.verdict)
 }
 
-// Where the period stands in which the receipt names the record that it shows. `NoPeriod` where it names none, `Differs` where
-// it shows another.
+// The place of the period that has the record which the receipt names. `NoPeriod` if the receipt names no record,
+// `Differs` if it shows another record.
 fn named_by(laid: &Laid<'_>, receipt: &Receipt) -> Result<usize, AuditFault>
     requires index { IsIndexed laid.now }
     ensures named { IfOk result (λ k. (place_in laid.now.index.now receipt.now.tenant receipt.now.period ≡ Some k)
@@ -47,7 +47,7 @@ fn named_by(laid: &Laid<'_>, receipt: &Receipt) -> Result<usize, AuditFault>
     }
 }
 
-// Where the record that a receipt names, and shows, stands in its tenant's journal.
+// The place, in its tenant's journal, of the record that a receipt names and shows.
 fn place_of(laid: &Laid<'_>, holders: &Holders, receipt: &Receipt) -> Result<usize, AuditFault>
     requires index { IsIndexed laid.now }
     requires rows { AreRowsOf laid.now holders.now }

@@ -1,4 +1,4 @@
-//! Where each period stands.
+//! The place of each period.
 
 ghost use Rattle.std.specs.Prelude.{◌≡◌, ◌<◌, ℕ, None, Some, IfOk, OnOk};
 ghost use Rattle.tenant_core.specs.Limits.{max_tenants};
@@ -28,7 +28,7 @@ impl Index {
         Ok(Index { places })
     }
 
-    /// Where the period of that number of the tenant stands.
+    /// The place of the tenant's period of that number.
     pub(crate) fn place(&self, tenant: usize, number: u64) -> Option<usize>
         requires { IsIndex self.now }
         ensures { result ≡ place_in self.now tenant number }
@@ -36,7 +36,7 @@ impl Index {
         self.places.get(tenant)?.get(&number).copied()
     }
 
-    /// Notes where the period of that number of the tenant stands.
+    /// Notes the place of the tenant's period of that number.
     pub(crate) fn insert(
         &mut self,
         tenant: usize,

@@ -9,8 +9,8 @@ ghost use Rattle.receipts.specs.declared.fault.AuditFault.{AuditFault};
 ghost use Rattle.receipts.specs.declared.fault.AuditFault.TheVariants.{Memory};
 ghost use Rattle.receipts.specs.declared.receipt.Receipt.{Receipt};
 
-/// Where receipts that match the periods are stuck at a front, no order completes them. So an audit says yes exactly where some
-/// order does, want of memory aside.
+/// If receipts that match the periods are stuck at a front, no order completes them. So an audit says yes exactly if
+/// some order does, unless it is out of memory.
 pub fn no_order_where_stuck()
     ensures { (periods : List PeriodParts) (lists : List (List Receipt)) (front : ℕ → ℕ) (order : List ℕ)
         → AreMatched periods lists → IsStuckAt periods lists front → IsComplete periods lists order → ⊥ }
@@ -18,7 +18,7 @@ pub fn no_order_where_stuck()
     joint_order::laws::no_order_behind_a_stuck_front();
 }
 
-/// Where receipts are complete, want of memory is the only fault: an audit says yes, or was refused memory.
+/// If receipts are complete, their audit has one possible fault: it is out of memory. Otherwise it says yes.
 pub fn complete_receipts_have_no_fault()
     ensures { (periods : List PeriodParts) (lists : List (List Receipt)) (order : List ℕ) (fault : AuditFault)
         → IsComplete periods lists order → IsFault periods lists fault → fault ≡ Memory }
@@ -26,10 +26,10 @@ pub fn complete_receipts_have_no_fault()
     no_order_where_stuck();
 }
 
-/// Where receipts are complete, and rolls closed the periods, the receipts are the records of a run: there are steps that, run from
-/// the openings of the tenants' first periods on, make just the records that the receipts show, as the order takes them, and leave
-/// each tenant's book as its last period ended. In which frame a packet or an answer came no receipt tells: the run has some that
-/// say the same.
+/// If receipts are complete, and rolls closed the periods, the receipts are the records of a run. Its steps start from
+/// the openings of the tenants' first periods, and make just the records that the receipts show, in the order. They
+/// leave each tenant's book as its last period ended. No receipt has the frame of a packet or an answer: the run has
+/// some that say the same.
 pub fn complete_receipts_are_a_run()
     ensures { (periods : List PeriodParts) (lists : List (List Receipt)) (order : List ℕ)
         → AreKept periods → IsComplete periods lists order → AreOfRun periods lists order }

@@ -1,4 +1,4 @@
-//! Where the entries of all periods stand in their tenants' journals.
+//! The places of all periods' entries in their tenants' journals.
 
 ghost use Rattle.std.specs.Prelude.{◌≡◌, ◌<◌, ◌≤◌, length, vec_len, slice_index, IfOk, OnOk};
 ghost use Rattle.tenant_core.specs.Limits.{max_tenants};
@@ -11,7 +11,7 @@ use std::alloc::{AllocError, Global};
 use tenant_core::Period;
 use tenant_core::limits::{MAX_PERIOD, MAX_TENANTS};
 
-/// Periods, where each of them stands, and how many entries stand in its tenant's journal before each.
+/// Periods, the place of each, and how many entries its tenant's journal has before it.
 #[derive(Drop)]
 pub(crate) struct Laid<'a> {
     pub periods: &'a [Period],
@@ -19,8 +19,8 @@ pub(crate) struct Laid<'a> {
     pub offsets: &'a [usize],
 }
 
-// Lays out the tenant's period of that number, behind so many entries of those before it, and gives how many there are then;
-// nothing where there is no such period.
+// Lays out the tenant's period of that number, after so many entries of the periods before it. Returns how many
+// entries there are then, or `None` if there is no such period.
 fn lay_next(
     index: &Index,
     periods: &[Period],
@@ -70,7 +70,7 @@ fn lay_tenant(
     Ok(total)
 }
 
-/// How many entries stand in its tenant's journal before each period, and of each tenant a row for its entries.
+/// How many entries its tenant's journal has before each period, and for each tenant a row for its entries.
 pub(crate) fn lay_out(
     alloc: Global,
     index: &Index,

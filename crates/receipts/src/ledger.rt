@@ -58,8 +58,8 @@ impl Ledger {
         &self.receipts
     }
 
-    /// Makes room for two receipts, and gives back what the last two did not need of theirs. The one error is want of memory,
-    /// and the receipts are the same then too.
+    /// Makes room for two receipts, and gives back unused room of the last two. Fails only if it is out of memory, and
+    /// the receipts are the same then too.
     pub fn make_room(&mut self, alloc: Global) -> Result<(), AllocError>
         ensures receipts { self.new.receipts ≡ self.old.receipts }
         ensures ok { OnOk result (self.new.room ≡ 2) }

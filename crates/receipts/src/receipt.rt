@@ -2,7 +2,7 @@
 
 use tenant_core::{Entry, Outcome};
 
-/// What a worker keeps of an entry that it appended to a tenant's journal: where it stands, and what it says.
+/// What a worker keeps of an entry that it appended to a tenant's journal: its place, and its content.
 #[derive(Drop)]
 pub struct Receipt {
     /// The tenant's place among all tenants.

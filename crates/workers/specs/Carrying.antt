@@ -75,9 +75,9 @@ AreAlike one other = other ≡ record one { room = other.room }
 abbrev pub meeting : {under : Circumstances} → Found under → ShareView → ShareView
 meeting found s = has_met found.book.opening.tenant found.steps s
 
--- The share has grown by one call with the book: by what it has met, by that rise, and by that record where the book's next one
--- stands. What it has met is, in the end, what the one list begins with of the tenant. So no book is asked but those to which the
--- tenant's steps in the one list led.
+-- The share has grown by one call with the book: by the steps that it has met, by that rise, and by that record at the
+-- book's next place. The one list's steps of the tenant begin with those that it has met. So each book that is asked
+-- is one to which the tenant's steps in the one list led.
 abbrev pub HasGrown : {under : Circumstances} → Found under → Rise → Option Record → Growth → Type 0
 HasGrown found rise made g = AreAlike (counted rise (next_place found.book) made (meeting found g.before)) g.after
 
@@ -151,7 +151,7 @@ abbrev pub IsOwnCall : ShareView → ℕ → Job → Type 0
 IsOwnCall share tenant (Job.Waits owner hold frame) = HasSentOn share tenant hold
 IsOwnCall share tenant _ = Unit {0}
 
--- what an answer with what came back comes to
+-- the result of an answer with what came back
 abbrev pub answer_with : Work → Got → State → ℕ → Called
 answer_with before came book now = answer_call before book now came
 
@@ -182,8 +182,8 @@ pub record WasLost (under : Circumstances) (g : Growth) (before : Work) (came : 
   pub elsewhere : IsAnsweredByAnother went.forwarded.step went.forwarded.hold missed.found.steps
   pub left : after ≡ carrying Job.NoJob answered.room
 
--- What became of the packet of a slot, by the reply: before is the slot as the packet was taken in, after is the slot in
--- the end, whose reply the sender is told. Each book that was asked was found under these circumstances.
+-- What became of the packet of a slot, by the reply. `before` is the slot with the packet just taken in, `after` the
+-- slot at the end, whose reply goes to the sender. Each book that was asked was found under these circumstances.
 abbrev pub IsCarried : (under : Circumstances) → Reply → Growth → (before after : Work) → (So : Sending → Type 0) → Type 0
 IsCarried under reply.Malformed g before after So = (after ≡ before) × IsSame g
 IsCarried under reply.Nameless g before after So = (after ≡ before) × IsSame g
@@ -207,7 +207,7 @@ abbrev pub IsAnswered : (under : Circumstances) → Turn → Growth → Got → 
 IsAnswered under turn.Reply g came before after = WasCalled under g (answer_with before came) turn.Reply after
 IsAnswered under _ g came before after = WasMissed under g before came × (after ≡ before)
 
--- the slot in the end: where the answer is that nothing was to be had, the call is dropped
+-- the slot at the end: if the answer is unavailable (503), the call is dropped
 abbrev pub closed : Reply → Work → Work
 closed reply.Spent left = carrying Job.NoJob left.room
 closed reply.Memory left = carrying Job.NoJob left.room

@@ -69,7 +69,7 @@ IsSentSo (Settled got) tenant So Same = WasSent got tenant So
 IsSentSo (Lost got) tenant So Same = WasSent got tenant So
 IsSentSo _ tenant So Same = Same
 
--- unless the answer is that nothing was to be had, the call is over
+-- the call is over, unless the answer is unavailable (503)
 abbrev pub IsOver : Reply → Job → Type 0
 IsOver Spent job = Unit {0}
 IsOver Memory job = Unit {0}

@@ -21,7 +21,7 @@ impl Waiting {
         }
     }
 
-    // Makes room for one more. Where memory is refused, nothing changes.
+    // Makes room for one more. If it is out of memory, nothing changes.
     fn make_room(&mut self) -> Result<(), AllocError>
         ensures periods { self.new.periods.items ≡ self.old.periods.items }
         ensures refused { OnErr result (self.new.promised ≡ self.old.promised) }
@@ -91,7 +91,7 @@ impl BacklogRoom<'_> {
 }
 
 impl Backlog {
-    /// Nothing waits, of so many tenants. The one error is that memory was refused.
+    /// An empty backlog of so many tenants. Fails only if it is out of memory.
     pub fn new(alloc: Global, tenants: usize) -> Result<Backlog, AllocError> {
         let mut all = Vec::with_capacity(alloc, tenants)?;
         for _ in 0..tenants {
@@ -100,7 +100,7 @@ impl Backlog {
         Ok(Backlog { tenants: all })
     }
 
-    /// Makes room for one more period of the tenant. The error is that memory was refused, or that there is no such tenant.
+    /// Makes room for one more period of the tenant. Fails if it is out of memory, or if there is no such tenant.
     pub fn make_room<R: Wait>(&self, rt: &R, tenant: usize) -> Result<BacklogRoom<'_>, AllocError> {
         let waiting = self.tenants.get(tenant).ok_or(AllocError)?;
         waiting.lock(rt).make_room()?;

@@ -33,30 +33,34 @@ pub struct Job<'a> {
     pub frame: &'a [u8],
 }
 
-/// Carries one packet, in a slot that is idle, for a tenant of the books and of the meters, through a seat of these meters.
+/// Carries one packet, in a slot that is idle, for a tenant of the books and of the meters, through a seat of these
+/// meters.
 ///
-/// The slot takes the packet in; the share makes room; the tenant's book decides under its lock; where the packet goes on,
-/// the link sends it; and the book settles what came back, under its lock again. No lock is held while the gate is passed,
-/// after each of these steps, or while the link sends. The slot is idle in the end.
+/// The slot takes the packet in, and the share makes room. The tenant's book decides under its lock. If the packet
+/// goes on, the link sends it, and the book settles what came back, under its lock again. After each of these steps
+/// the worker passes the gate. No lock is held there or while the link sends. At the end the slot is idle.
 ///
-/// `Spent` is answered exactly where token and frame are good, and one of the share's counts is full or the link has sent
-/// 2^62 packets. `Memory` is answered where memory for the packet's receipts was refused: nothing was decided then, and a share
-/// that keeps no receipts never comes to it.
+/// `Spent` is returned exactly if token and frame are good, and one of the share's counts is full or the link has sent
+/// 2^62 packets. `Memory` means out of memory for the packet's receipts, which never happens to a share that keeps
+/// none. Nothing was decided after either.
 ///
-/// By the reply (`IsCarried`), the packet was judged by the tenant's book, sound at that moment, which the clock gave. Steps of
-/// the tenant led to each book that was asked, from the opening of its first period in this run. Of this worker they are all
-/// that it had done for the tenant until then, and no other (`HasOwnSteps`): no book is from before the worker's last step, and
-/// the packet's own step stands in the steps that led to the book which is asked for its answer. The share has met just these
-/// steps (`HasGrown`), so that in the end they are the first ones that the one list has of the tenant. Where
-/// the verdict was to send it on, what was sent is the packet with the verdict's amount and expiry, to the target of the
-/// verdict's peer; and the sender is told what the book made of it, or of what came back. `Lost` is answered only by a book to
-/// which, since that step, another worker's answer to the packet led (`elsewhere`); in a run in which each worker answers only
-/// packets that it sent on itself (`Run::own`), never. The share has grown by just these
-/// calls with the book: by what each of them counts for the tenant, and by the record that it made, if it made one, as the
-/// next step of the worker's part of the one list.
+/// The reply says what became of the packet (`IsCarried`):
 ///
-/// The reply's status is counted for the tenant, and a fault of the link too, unless the seat's count of it is full. What
-/// the sender is told is the slot's reply where the status is 200, and nothing where it is 503.
+/// - The tenant's book judged it, sound at that moment, which the clock gave. Steps of the tenant led to each book
+///   that was asked, from the opening of its first period in this run.
+/// - Of this worker, these steps are exactly what it had done for the tenant until then (`HasOwnSteps`). So no book is
+///   from before the worker's last step. The steps that led to the book which is asked for the answer include the
+///   packet's own.
+/// - The share has met just these steps (`HasGrown`). So the one list's steps of the tenant begin with them.
+/// - If the verdict was to send the packet on, it was sent with the verdict's amount and expiry, to the target of the
+///   verdict's peer. The sender gets what the book made of the packet, or of what came back.
+/// - `Lost` is returned only if another worker's answer to the packet led to the book since that step (`elsewhere`).
+///   It never comes in a run in which each worker answers only packets that it sent on itself (`Run::own`).
+/// - The share has grown by just these calls with the book: by what each of them counts for the tenant, and by the
+///   record that it made, if any. The record is the next step of the worker's part of the one list.
+///
+/// The reply's status is counted for the tenant, and so is a fault of the link, unless the seat's count of it is full.
+/// The sender gets the slot's reply if the status is 200, and nothing if it is 503.
 pub fn carry<J: Run, R: Wait, L: Link, G: Gate, C: Clock>(
     rt: &R,
     alloc: Global,
@@ -106,7 +110,7 @@ pub fn carry<J: Run, R: Wait, L: Link, G: Gate, C: Clock>(
     reply
 }
 
-// Drops the call of the slot where the answer is that nothing was to be had.
+// Drops the call of the slot if the answer is unavailable (503).
 fn close(slot: &mut Slot, reply: Reply)
     ensures { slot.new ≡ closed reply slot.old }
 {
@@ -125,7 +129,7 @@ pub(crate) fn tally(meters: &Meters, seat: &mut MeterSeat, tenant: usize, kind: 
     let _ = meters.count(seat, tenant, kind);
 }
 
-// Carries a packet, and leaves the call in the slot where the answer is that nothing was to be had.
+// Carries a packet, and leaves the call in the slot if the answer is unavailable (503).
 fn carried<J: Run, R: Wait, L: Link, G: Gate, C: Clock>(
     tools: &Tools<'_, J, R, C>,
     gate: &G,
@@ -233,7 +237,7 @@ fn decide<J: Run, R: Wait, C: Clock>(
     guard.decide(share, slot, tools.clock.now())
 }
 
-// Sends the packet on. What comes back stands in the slot's room.
+// Sends the packet on. The answer is then in the slot's buffer.
 fn send<L: Link>(slot: &mut Slot, link: &mut L, tenant: usize) -> Got
     requires waits { IsWaiting slot.old.job }
     requires few { L.sent link.old < 2 ^ 62 }

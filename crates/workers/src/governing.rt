@@ -29,25 +29,34 @@ pub enum GovernFault {
     /// The book under the lock is another tenant's. It is never answered: a lock is entered for its own tenant alone.
     #[error("the book is another tenant's")]
     Stray,
-    /// The book refuses it, or memory was refused.
+    /// The book refuses it, or it is out of memory.
     #[error("{0}")]
     Refused(CommandFault),
 }
 
-/// Does what the operator of a tenant of the books and of the meters commands, under the lock of the tenant's book, and
-/// counts it through a seat of these meters, unless the seat's count is full: as answered, also where the book refuses it;
-/// or as unavailable where the fault is `Spent` or want of memory, for the command or for its receipt.
+/// Does a command of a tenant's operator, under the lock of the tenant's book. The tenant is one of the books and of
+/// the meters.
 ///
-/// What is answered, or refused, is what the tenant's book, sound at that moment, which the clock gave, answers to this
-/// command (`IsDone`). Steps of the tenant led to that book, from the opening of its first period in this run; of this worker
-/// they are all that it had done for the tenant until then, and no other (`HasOwnSteps`). The share has met just these steps
-/// (`HasGrown`), so that in the end they are the first ones that the one list has of the tenant. So balances and refusals are
-/// told of no book from before the worker's last step, and of none that other steps led to. The share has grown by just that: by the entry for the tenant, if there is
-/// one, and by its record, as the next step of the worker's part of the one list.
+/// Counts the command through a seat of these meters, unless the seat's count is full. It counts as answered, also if
+/// the book refuses it. It counts as unavailable after `Spent`, or if it is out of memory for the command or for its
+/// receipt.
 ///
-/// The errors are, in the order in which they are looked for: `Spent`, exactly where one of the share's counts is full;
-/// `Memory`, where memory for the receipt was refused, to which a share that keeps none never comes; and what `Book::command`
-/// refuses. Nothing has changed then in the book and in the share's counts.
+/// The answer, or the refusal, says what the tenant's book answers to this command, sound at that moment, which the
+/// clock gave (`IsDone`):
+///
+/// - Steps of the tenant led to that book, from the opening of its first period in this run. Of this worker, they are
+///   exactly what it had done for the tenant until then (`HasOwnSteps`).
+/// - The share has met just these steps (`HasGrown`). So the one list's steps of the tenant begin with them.
+/// - So balances and refusals come from no book from before the worker's last step, and from none that other steps led
+///   to.
+/// - The share has grown by just that: by the entry for the tenant, if there is one, and by its record, as the next
+///   step of the worker's part of the one list.
+///
+/// Errors, in the order of the tests. Nothing has changed then in the book and in the share's counts.
+///
+/// - `Spent` exactly if one of the share's counts is full.
+/// - `Memory` if it is out of memory for the receipt, which never happens to a share that keeps none.
+/// - What `Book::command` refuses.
 pub fn govern<J: Run, R: Wait, C: Clock>(
     rt: &R,
     alloc: Global,

@@ -8,7 +8,7 @@ use std::alloc::{AllocError, Global};
 use std::sync::{Condvar, CondvarTimeouts, Mutex, MutexGuard, Wait};
 use std::time::{Clock, Duration, Instant};
 
-/// How a tenant stands with the places, at one moment.
+/// How many places a tenant uses and waits for, at one moment.
 #[derive(Clone, Copy, Debug, PartialEq, Eq)]
 pub struct PlaceUse {
     /// How many it is sure of.
@@ -39,8 +39,8 @@ pub struct Places {
 }
 
 impl Places {
-    /// So many places, 1 to 64, for so many tenants, 1 to 64, of each of which so many threads may wait at once. The one error
-    /// is want of memory.
+    /// So many places, 1 to 64, for so many tenants, 1 to 64. Of each tenant so many threads may wait at once. Fails
+    /// only if it is out of memory.
     pub fn new(
         alloc: Global,
         places: usize,
@@ -93,7 +93,7 @@ impl Places {
         None
     }
 
-    /// How the tenant stands with the places now; `None` where there is no such tenant.
+    /// The tenant's use of the places now; `None` if there is no such tenant.
     pub fn use_by<R: Wait>(&self, rt: &R, tenant: usize) -> Option<PlaceUse> {
         let lending = self.lending.lock(rt);
         if tenant >= lending.tenants() {

@@ -6,7 +6,7 @@ use meters::Kind;
 /// The status of an answer over HTTP (RFC 9110, 15).
 #[derive(Clone, Copy, Debug, PartialEq, Eq)]
 pub enum Status {
-    /// 200: the body is what the slot tells.
+    /// 200: the body is the slot's reply.
     Answered,
     /// 400
     Malformed,
@@ -44,7 +44,7 @@ impl Status {
     }
 }
 
-/// What became of a packet that was to be carried.
+/// What became of a packet that a worker had to carry.
 #[derive(Clone, Copy, Debug, PartialEq, Eq)]
 pub enum Reply {
     /// The frame is no Prepare (400).

@@ -1,4 +1,4 @@
-//! What a worker is given: where packets go, what stands between the steps of a job, and what time it is.
+//! What a worker is given: where packets go, what happens between the steps of a job, and what time it is.
 
 ghost use Rattle.std.specs.Prelude.{ℕ, ◌≡◌, ◌+◌, ◌<◌, ◌≤◌, ◌^◌, length};
 ghost use Rattle.ilp_view.specs.Packet.{max_frame};
@@ -63,7 +63,7 @@ pub enum Point {
     Answered,
 }
 
-/// What stands between the steps of a job. No lock is held while a worker passes.
+/// What happens between the steps of a job. No lock is held while a worker passes.
 pub trait Gate {
     /// Lets the worker of that number go on after a point of its job.
     fn pass(&self, worker: usize, point: Point);
