@@ -1,4 +1,5 @@
-//! Packets that come back, and packets that are overdue: the sender is told once, and each hold ends once.
+//! Packets that come back, and packets that are overdue: the sender gets one answer, and each hold ends
+//! once.
 
 use crate::rows::{expect_rows, expect_written};
 use std::alloc::Global;
@@ -100,13 +101,13 @@ fn answers_and_ticks(rt: HostRuntime) -> Result<(), Fail> {
     expect_rows(&rt, rt.alloc(), ANSWERS)
 }
 
-// A Fulfill of the packet that went on, with that first part and so many zeros behind it.
+// A Fulfill of the packet that went on: that first part, and so many zeros after it.
 fn fulfill_with_zeros(alloc: Global, head: &str, zeros: usize) -> Result<String, Fail> {
     let zeros = "00".repeat(alloc, zeros)?;
     Ok([head, zeros.as_str()].concat(alloc)?)
 }
 
-// What the sender is told where the packet that went on is answered so.
+// The reply to the sender, if that is the answer to the packet that went on.
 fn expect_reply(rt: &impl Abort, alloc: Global, answer: &str, reply: &str) -> Result<(), Fail> {
     let setup = setup_with(alloc, &[])?;
     let asked = "load 0 acme tok-alice {base}\ndecide 0 {T}\nanswer 0 {T} ";

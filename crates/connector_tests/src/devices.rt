@@ -10,7 +10,7 @@ use std::process::Abort;
 use std::test::Fail;
 use test_texts::{filled, setup_with};
 
-/// Gives one byte at a time, and fails once, after so many reads: the reads behind that go on.
+/// Gives one byte at a time, and fails once, after so many reads. The reads after that go on.
 #[derive(Drop)]
 struct Dripping<'a> {
     bytes: &'a [u8],
@@ -46,7 +46,7 @@ impl Read for Dripping<'_> {
     }
 }
 
-/// Takes one byte at a time, and fails once, after so many writes: the writes behind that go on.
+/// Takes one byte at a time, and fails once, after so many writes. The writes after that go on.
 #[derive(Drop)]
 struct Narrow {
     bytes: Vec<u8>,
@@ -94,7 +94,7 @@ const LINES: &str = "acme loaded 0\nacme send bob 0 {sent}\nacme reply {fulfill}
 // No read or write fails.
 const NEVER: usize = usize::MAX;
 
-/// What a replay comes to over such devices: its fault, what was written, and how often the devices were asked.
+/// The outcome of a replay over such devices: its fault, what was written, and how often the devices were asked.
 #[derive(Drop)]
 struct Come {
     fault: Option<ReplayFault>,
@@ -103,7 +103,7 @@ struct Come {
     writes: usize,
 }
 
-// The replay of a script of which one read and one write fail, if it comes to them.
+// The replay of a script of which one read and one write fail, if it gets that far.
 fn replayed(
     alloc: Global,
     setup: &str,
@@ -132,7 +132,7 @@ fn replayed(
     }
 }
 
-// The read of that number fails: nothing is written, and nothing is read or written behind it.
+// The read of that number fails: nothing is written, and nothing is read or written after it.
 fn expect_failed_read(rt: &impl Abort, alloc: Global, setup: &str, script: &str, number: usize) {
     let come = replayed(alloc, setup, script, number, NEVER);
     let is_told = come.fault == Some(ReplayFault::Device) && come.written.is_empty();
@@ -143,7 +143,7 @@ fn expect_failed_read(rt: &impl Abort, alloc: Global, setup: &str, script: &str,
     );
 }
 
-// The write of that number fails: what was taken before it stays, and nothing is written behind it.
+// The write of that number fails: what was taken before it stays, and nothing is written after it.
 fn expect_failed_write(
     rt: &impl Abort,
     alloc: Global,
@@ -226,7 +226,8 @@ impl Write for Wide {
     }
 }
 
-// As soon as 65,536 bytes of lines are there they are written, so that no more of them pile up than of one step behind that.
+// Lines are written once there are 65,536 bytes of them. So at most the lines of one step are added to these in
+// memory.
 #[test]
 fn lines_are_written_before_the_end(rt: HostRuntime) -> Result<(), Fail> {
     let alloc = rt.alloc();

@@ -1,10 +1,15 @@
-//! Rows of replays, which stand in texts. A row begins with `== ` and its title. Behind it come lines that change the
-//! usual setup, as `| bob|cap|1499` (whose line it is, its key and the value; `| beta` adds the second tenant), the lines of
-//! its script, as `> decide 0 {T}`, and the lines that the script prints. Frames, replies and moments are named in braces.
+//! Rows of replays, as texts. A row begins with `== ` and its title. These lines follow it:
 //!
-//! A packet that one worker loads and decides has a line of its own, as `>> alice|{base}|{T}|send bob 0 {sent}`: whose it
-//! is, its frame, the moment, and what is printed of its decision. It stands for `load` and `decide` and the two lines that
-//! these print.
+//! - lines that change the usual setup, as `| bob|cap|1499` (whose line it is, its key and the value; `| beta` adds
+//!   the second tenant);
+//! - the lines of its script, as `> decide 0 {T}`;
+//! - the lines that the script prints.
+//!
+//! Frames, replies and moments are named in braces.
+//!
+//! A packet that one worker loads and decides has a line of its own, as `>> alice|{base}|{T}|send bob 0 {sent}`: whose
+//! it is, its frame, the moment, and the printed decision. It means `load` and `decide` and the two lines that these
+//! print.
 
 ghost use Rattle.std.specs.Prelude.{◌≤◌};
 

@@ -1,6 +1,8 @@
-//! Books of tenants: the limits of their setups and networks, verdicts at the bounds of what was agreed, what comes back,
-//! closed periods, what an audit says of them, what their statements, chains of these and texts of receipts do, copies, entries of
-//! one's own, and random lists of all of these.
+//! Books of tenants:
+//!
+//! - the limits of their setups and networks, verdicts at the bounds of what was agreed, and what comes back;
+//! - closed periods, their audits, their statements, chains of statements and texts of receipts;
+//! - copies, owned entries, and random lists of all of these.
 
 mod audits;
 mod chained;

@@ -153,7 +153,7 @@ fn sent_text(alloc: Global, peer: &[u8], hold: u64, frame: &[u8]) -> Result<Stri
     Ok([" send ", peer, " ", hold.as_str(), " ", digits.as_str()].concat(alloc)?)
 }
 
-// The text of an output behind the number of its tenant.
+// The text of an output after the number of its tenant.
 fn rest_of(alloc: Global, output: &Output) -> Result<String, Fail> {
     match output {
         Output::Busy => Ok(String::from_str(alloc, "busy")?),

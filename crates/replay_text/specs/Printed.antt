@@ -35,7 +35,7 @@ abbrev pub tick_text : Result ℕ BookFault → List ℕ
 tick_text (Ok count) = codes " ticked " ++ decimal count
 tick_text (Err Full) = codes " refused full"
 
--- why a command is refused, in a word; for want of memory no command is answered
+-- why a command is refused, in a word; a command that runs out of memory has no answer
 abbrev pub refusal_word : CommandFault → List ℕ
 refusal_word refused.Full = codes "full"
 refusal_word refused.InUse = codes "in-use"
@@ -50,7 +50,7 @@ row_line name row =
     name ++ codes " balance " ++ row.name ++ codes " " ++ signed_decimal row.balance ++ codes " "
     ++ decimal row.held_in ++ codes " " ++ decimal row.held_out ++ 10 ∷ []
 
--- the words of a command's answer, behind the lines of what each peer owes where the answer tells them
+-- the words of a command's answer, after a line for what each peer owes if the answer is `Balances`
 abbrev pub command_text : List ℕ → Result Answered CommandFault → List ℕ
 command_text name (Ok Done) = name ++ codes " ok"
 command_text name (Ok (Balances rows)) = flat_map (row_line name) rows ++ name ++ codes " ok"
@@ -84,7 +84,8 @@ line_of names output = line_text names output ++ 10 ∷ []
 abbrev pub printed_lines : List (List ℕ) → List Output → List ℕ
 printed_lines names outputs = flat_map (line_of names) outputs
 
--- a text was put behind another, which has no less room then; or there was too little room for both
+-- a text was appended to another, which has no less capacity then; or there was too little room for
+-- both
 abbrev pub Puts : {A E : Type 0} → Result A E → (old new : Vec ℕ) → (text : List ℕ) → Type 0
 Puts (Ok done) old new text = (vec_items new ≡ vec_items old ++ text) × (vec_capacity old ≤ vec_capacity new)
 Puts (Err fault) old new text = vec_capacity old < length (vec_items old) + length text

@@ -58,7 +58,7 @@ IsRefusedBy (fault.Setup f) read workers known = read ≡ Err f
 IsRefusedBy (fault.Script f) read workers known =
     IsOk read × IfSome known (λ script. refusal_of read workers script ≡ Some (fault.Script f))
 
--- what is to be written was written whole
+-- the whole text was written
 abbrev pub WritesAll : List ℕ → ℕ → List ℕ → Option (List ℕ) → Option (List ℕ) → Type 0
 WritesAll setup_text workers script old new =
     (written : List ℕ) × IsReplayed setup_text workers script written × Appends old new written
@@ -84,7 +84,7 @@ ArePrinted names world steps text =
 abbrev pub IsAnswered : Setup → List Step → List ℕ → Type 0
 IsAnswered setup steps written = ArePrinted (names_in setup) (world_of_setup setup) steps written
 
--- the steps lead from one world to another, and the lines of their outputs are put behind a text
+-- the steps lead from one world to another, and the lines of their outputs are appended to a text
 abbrev pub Prints : List (List ℕ) → List Step → World → World → List ℕ → List ℕ → Type 0
 Prints names steps before after old new =
     (outputs : List Output) × AreOutputs before steps outputs × IsLeft before steps outputs after

@@ -67,7 +67,7 @@ moment_spelled word = number_below (last_moment + 1) word
 abbrev pub given_of : List ℕ → Option Given
 given_of word = if bytes_eq word (codes "fault") then Some Fault else option_map (λ bytes. Bytes bytes) (frame_of word)
 
--- the words behind `load`: W TENANT TOKEN HEX
+-- the words after `load`: W TENANT TOKEN HEX
 abbrev pub load_of : List (List ℕ) → ℕ → List ℕ × List ℕ × List ℕ × List ℕ → Option Step
 load_of names workers words = do
   worker ← number_below workers words.0
@@ -76,14 +76,14 @@ load_of names workers words = do
   bytes ← frame_of words.3
   Some (Load worker tenant token bytes)
 
--- the words behind `decide`: W NOW
+-- the words after `decide`: W NOW
 abbrev pub decide_of : ℕ → List ℕ × List ℕ → Option Step
 decide_of workers words = do
   worker ← number_below workers words.0
   now ← moment_spelled words.1
   Some (Decide worker now)
 
--- the words behind `answer`: W NOW HEX, or W NOW fault
+-- the words after `answer`: W NOW HEX, or W NOW fault
 abbrev pub answer_of : ℕ → List ℕ × List ℕ × List ℕ → Option Step
 answer_of workers words = do
   worker ← number_below workers words.0
@@ -91,14 +91,14 @@ answer_of workers words = do
   given ← given_of words.2
   Some (Answer worker now given)
 
--- the words behind `tick`: TENANT NOW
+-- the words after `tick`: TENANT NOW
 abbrev pub tick_of : List (List ℕ) → List ℕ × List ℕ → Option Step
 tick_of names words = do
   tenant ← tenant_named names words.0
   now ← moment_spelled words.1
   Some (Tick tenant now)
 
--- the words behind `do`: TENANT NOW, and those of a command
+-- the words after `do`: TENANT NOW, and those of a command
 abbrev pub govern_of : List (List ℕ) → List (List ℕ) → Option Step
 govern_of names (tenant_word ∷ now_word ∷ words) = do
   tenant ← tenant_named names tenant_word
@@ -107,7 +107,7 @@ govern_of names (tenant_word ∷ now_word ∷ words) = do
   Some (Govern tenant now command)
 govern_of names _ = None
 
--- the step that a verb and the words behind it spell
+-- the step that a verb and the words after it spell
 abbrev pub step_behind : List (List ℕ) → ℕ → List ℕ → List (List ℕ) → Option Step
 step_behind names workers verb words =
     if bytes_eq verb (codes "load") then four_of words >>= load_of names workers
@@ -164,7 +164,7 @@ steps_of_script names workers text =
     if nat_lt MAX_SCRIPT (length text) then Err Size
     else steps_from names workers 1 (lines_of text)
 
--- a text is a script, unless memory was refused; or this is its fault
+-- a text is a script, unless it is out of memory; or this is its fault
 abbrev pub IsCheckedAs : Result (Unit {0}) (ReadError ScriptFault) → Result (List Step) ScriptFault → Type 0
 IsCheckedAs (Ok done) read = (steps : List Step) × (read ≡ Ok steps)
 IsCheckedAs (Err error) read = Fails error read

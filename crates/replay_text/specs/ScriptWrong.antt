@@ -7,7 +7,7 @@ use Rattle.replay_text.specs.declared.script.ScriptFault.TheVariants as fault
 use Rattle.replay_text.specs.declared.script.ScriptWrong.{ScriptWrong}
 use Rattle.replay_text.specs.declared.script.ScriptWrong.TheVariants.{Size, Line}
 
--- the fault that stands for it
+-- its fault
 abbrev pub script_fault_of : ScriptWrong → ScriptFault
 script_fault_of Size = fault.Size
 script_fault_of (Line number cause) = fault.Line number

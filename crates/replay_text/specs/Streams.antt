@@ -10,10 +10,10 @@ ConsumesAtMost most old new = (taken : List ℕ) × (length taken ≤ most) × C
 abbrev pub AppendsFront : List ℕ → Option (List ℕ) → Option (List ℕ) → Type 0
 AppendsFront text old new = (n : ℕ) × Appends old new (take n text)
 
--- what was taken from the reader stands behind the old text
+-- the bytes from the reader are appended to the old text
 abbrev pub TakesBehind : Option (List ℕ) → Option (List ℕ) → List ℕ → List ℕ → Type 0
 TakesBehind old new text longer = (taken : List ℕ) × Consumes old new taken × (longer ≡ text ++ taken)
 
--- what stands before the rest of the text was written
+-- the text before the rest was written
 abbrev pub WritesUpTo : (text rest : List ℕ) → Option (List ℕ) → Option (List ℕ) → Type 0
 WritesUpTo text rest old new = (written : List ℕ) × (text ≡ written ++ rest) × Appends old new written

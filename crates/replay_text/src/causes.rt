@@ -14,7 +14,7 @@ pub enum Verb {
     Do,
 }
 
-/// What stands behind a verb.
+/// A word after a verb.
 #[derive(Clone, Copy, Debug, PartialEq, Eq)]
 pub enum Operand {
     /// The number of a worker.
@@ -34,7 +34,7 @@ pub enum Operand {
 }
 
 impl Verb {
-    /// What stands behind it, in order.
+    /// The words after it, in order.
     pub(crate) fn operands(self) -> &'static [Operand] {
         match self {
             Verb::Load => &[
@@ -87,7 +87,7 @@ impl Operand {
     }
 }
 
-/// Why a line says nothing that a script may say. A word is shown as it stands there, unless a token was to stand there.
+/// Why a line is not one of a script. A word is shown as it is in the line, unless it is in the place of a token.
 #[derive(Clone, Copy)]
 pub enum LineFault<'a> {
     /// Its last byte is a carriage return.
@@ -98,9 +98,9 @@ pub enum LineFault<'a> {
     NoAscii,
     /// Its first word is no verb.
     NoVerb(&'a [u8]),
-    /// That operand of the verb is missing, with those behind it.
+    /// That operand of the verb is missing, and so are those after it.
     Missing(Verb, Operand),
-    /// There are more words than the verb wants.
+    /// There are more words than the verb has.
     TooMany(Verb),
     /// The word for the operand is malformed.
     Malformed(Operand, &'a [u8]),
@@ -117,7 +117,7 @@ pub enum LineFault<'a> {
 /// The most bytes of a word that is shown.
 const MAX_SHOWN: usize = 100;
 
-/// A word as it stands in a line.
+/// A word, as it is in a line.
 #[derive(Clone, Copy)]
 struct Shown<'a>(&'a [u8]);
 

@@ -18,7 +18,7 @@ fn past_digits(byte: u8) -> u8
     decimal.min(capital).min(small)
 }
 
-/// Whether all bytes are digits. It goes on behind one that is none.
+/// Whether all bytes are digits. It goes on after one that is not a digit.
 pub(crate) fn are_digits(text: &[u8]) -> bool
     ensures { result ≡ list_all is_hex_digit text.now }
 {
@@ -108,7 +108,7 @@ fn encode_into(bytes: &[u8], out: &mut [u8])
     }
 }
 
-/// Puts the digits of some bytes, in lower case, behind a text.
+/// Appends the digits of some bytes to a text, in lower case.
 pub(crate) fn put_hex(out: &mut Vec<u8>, bytes: &[u8]) -> Result<(), AllocError>
     ensures { Puts result out.old out.new (encode_lower bytes.now) }
 {

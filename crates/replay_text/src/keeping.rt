@@ -14,12 +14,12 @@ pub trait PeriodKeeper {
     /// What taking makes of it: before, the period that it takes, and after.
     ghost takes: { Self → PeriodParts → Self → Type 0 };
 
-    /// Takes what it wants of a period that a roll closed.
+    /// Takes what it keeps of a period that a roll closed.
     fn take(&mut self, period: &Period)
         ensures { takes self.old period.now self.new };
 }
 
-/// A keeper that wants nothing of any period.
+/// A keeper that keeps nothing of any period.
 #[derive(Drop)]
 pub struct LetGo;
 

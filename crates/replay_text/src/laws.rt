@@ -5,7 +5,7 @@ ghost use Rattle.replay_text.specs.Replay.{IsReplayed};
 
 use floor_core::laws::one_list_of_outputs;
 
-/// A setup and a script leave no choice of what is to be written.
+/// A setup and a script have one text that is written for them.
 pub fn one_text()
     ensures { (setup : List ℕ) (workers : ℕ) (script a b : List ℕ)
         → IsReplayed setup workers script a → IsReplayed setup workers script b → a ≡ b }

@@ -53,7 +53,7 @@ pub(crate) enum Spelled<'a> {
     },
 }
 
-// ---- the words behind a verb
+// ---- the words after a verb
 
 // The operand that is missing where there are only these words.
 fn missing<'a>(verb: Verb, words: Option<&'a [u8]>) -> LineFault<'a> {
@@ -148,7 +148,7 @@ fn read_do<'a>(parties: Parties<'_>, words: Option<&'a [u8]>) -> Result<Spelled<
 
 // ---- lines
 
-// What a verb and the words behind it spell.
+// The step that a verb and the words after it spell.
 fn read_behind<'a>(
     parties: Parties<'_>,
     verb: &'a [u8],
@@ -239,7 +239,7 @@ fn last_fault<'a>(alloc: Global, spelled: &Spelled<'a>) -> Result<Option<LineFau
     }
 }
 
-// What is told of a line with that fault: that it ends in a carriage return, where it does.
+// The fault of a line that is reported: that the line ends in a carriage return, if it does.
 fn told<'a>(line: &[u8], fault: LineFault<'a>) -> LineFault<'a> {
     match fault {
         LineFault::Long(_) | LineFault::NoAscii => fault,

@@ -1,4 +1,4 @@
-//! The words behind a verb: what each says, or why it is none.
+//! The words after a verb: what each says, or why it is wrong.
 
 ghost use Rattle.std.specs.Prelude.{◌≡◌, is_ok, is_some, option_and_then, option_copied, IfOk};
 ghost use Rattle.std.specs.List.{position};
@@ -77,7 +77,7 @@ pub(crate) fn token_of(word: &[u8]) -> Result<&[u8], LineFault<'_>>
     }
 }
 
-// What is wrong with the last word of a verb, which is looked at with all that stands behind it.
+// What is wrong with the last word of a verb. The word is looked at with all that follows it.
 fn last_fault<'a>(verb: Verb, word: &'a [u8], fault: LineFault<'a>) -> LineFault<'a> {
     match place_of(b' ', word) {
         Some(_) => LineFault::TooMany(verb),

@@ -44,7 +44,7 @@ fn put_decimal(out: &mut Vec<u8>, number: u64) -> Result<(), AllocError>
     out.extend_from_slice(digits.format(number).as_bytes())
 }
 
-// What is said of a packet that goes on, behind the tenant's name.
+// The words for a packet that goes on, after the tenant's name.
 fn put_send(out: &mut Vec<u8>, peer: &[u8], hold: u64, frame: &[u8]) -> Result<(), AllocError>
     ensures { Puts result out.old out.new (codes " send " ++ peer.now ++ codes " " ++ decimal hold ++ codes " " ++ encode_lower frame.now) }
 {
@@ -56,7 +56,7 @@ fn put_send(out: &mut Vec<u8>, peer: &[u8], hold: u64, frame: &[u8]) -> Result<(
     put_hex(out, frame)
 }
 
-// What is said of a tick, behind the tenant's name.
+// The words for a tick, after the tenant's name.
 fn put_ticked(out: &mut Vec<u8>, answer: Result<u32, BookFault>) -> Result<(), AllocError>
     ensures { Puts result out.old out.new (tick_text answer) }
 {
@@ -150,8 +150,8 @@ fn put_governed(
     }
 }
 
-/// Puts the lines of a command's answer behind a text, each ended by a line feed, for the tenant of that number among these
-/// names. It fails only where memory does.
+/// Appends the lines of a command's answer to a text, each ended by a line feed, for the tenant of that number among
+/// these names. Fails only if it is out of memory.
 pub fn put_answer(
     names: &[Name],
     tenant: usize,
@@ -165,7 +165,7 @@ pub fn put_answer(
     Ok(())
 }
 
-// The tenant's name, and words behind it.
+// The tenant's name, and words after it.
 fn put_named(
     names: &[Name],
     tenant: usize,
@@ -178,7 +178,7 @@ fn put_named(
     out.extend_from_slice(words)
 }
 
-// What the sender of a packet is told.
+// The reply to the sender of a packet.
 fn put_reply(
     names: &[Name],
     tenant: usize,
@@ -259,8 +259,8 @@ fn put_told_text(
     }
 }
 
-/// Puts the lines of what a step of the floor told behind a text, for the tenants of these names. It fails only where
-/// memory does.
+/// Appends the lines for the output of a step of the floor to a text, for the tenants of these names. Fails only if it
+/// is out of memory.
 #[tactic(auto, unfolding(crate::specs::Printed::line_of))]
 pub(crate) fn put_told(
     names: &[Name],

@@ -35,23 +35,23 @@ const STEP_ROOM: usize = 70_000;
 enum Course {
     /// All steps were done.
     Whole,
-    /// Memory was refused before a step: those before it were done.
+    /// Out of memory before a step: the steps before it were done.
     Cut,
 }
 
-/// Where memory was refused in a step.
+/// When a step ran out of memory.
 #[derive(Clone, Copy, Debug, PartialEq, Eq)]
 enum Refusal {
     /// Before it: nothing of it has happened.
     Before,
-    /// Behind it, for its lines.
+    /// After the step, for its lines.
     Behind,
 }
 
 /// Why a replay ended early.
 #[derive(Clone, Copy, Debug, PartialEq, Eq, Error)]
 pub enum ReplayFault {
-    /// Memory was refused.
+    /// Out of memory.
     #[error("out of memory")]
     Memory,
     #[error("{0}")]
@@ -87,7 +87,7 @@ struct Cast<'a> {
     workers: usize,
 }
 
-// Does a step, puts the lines of its output behind a text, and hands the keeper what it closed.
+// Does a step, appends the lines of its output to a text, and hands the keeper the period that it closed.
 fn run_step<K: PeriodKeeper>(
     alloc: Global,
     floor: &mut Floor,
@@ -122,7 +122,8 @@ fn run_step<K: PeriodKeeper>(
     Ok(())
 }
 
-// Does what a line says that is not bad, puts the lines of its output behind a text, and hands the keeper what it closed.
+// Does what a good line says, appends the lines of its output to a text, and hands the keeper the period that it
+// closed.
 fn run_line<K: PeriodKeeper>(
     alloc: Global,
     floor: &mut Floor,
@@ -182,8 +183,9 @@ fn write_if_long<W: Write + Device>(
     Ok(())
 }
 
-// Does what the lines of a script say, none of which is bad, and writes the lines of the outputs, as soon as there are
-// many. Where memory is refused, the lines of the steps that were done are written. The keeper gets what the steps close.
+// Does what the lines of a script say, all of which are good, and writes the lines of the outputs whenever there are
+// many. If it runs out of memory, the lines of the steps that were done are written. The keeper gets the periods that
+// the steps close.
 fn run_lines<K: PeriodKeeper, W: Write + Device>(
     alloc: Global,
     floor: &mut Floor,

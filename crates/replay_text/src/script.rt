@@ -47,7 +47,7 @@ impl ScriptWrong<'_> {
     ghost use Rattle.std.specs.Prelude.{◌≡◌};
     ghost use Rattle.replay_text.specs.ScriptWrong.{script_fault_of};
 
-    /// The fault that stands for it.
+    /// Its fault.
     pub fn fault(&self) -> ScriptFault
         ensures { result ≡ script_fault_of self.now }
     {
@@ -142,11 +142,17 @@ fn lines_checked(
 
 /// Whether a text is a script, for the tenants of these names, numbered from 0, and so many workers.
 ///
-/// A script has at most [`MAX_SCRIPT`] bytes, else the fault is `Size`. Its lines end with a line
-/// feed each, which the last may lack, and are ASCII, of at most [`MAX_LINE`] bytes without it.
-/// Empty lines and those that begin with `#` are skipped. Any other is `load W TENANT TOKEN HEX`,
-/// `decide W NOW`, `answer W NOW HEX`, `answer W NOW fault`, `tick TENANT NOW` or `do TENANT NOW COMMAND`, with one space
-/// between two words; the fault `Line` has the number, from 1, of the first that is none of these.
+/// A script has at most [`MAX_SCRIPT`] bytes, otherwise the fault is `Size`. Its lines are ASCII, of at most
+/// [`MAX_LINE`] bytes without the line feed that ends each. The last line may lack it. Empty lines and those that
+/// begin with `#` are skipped. Any other line is one of these, with one space between two words:
+///
+/// - `load W TENANT TOKEN HEX`
+/// - `decide W NOW`
+/// - `answer W NOW HEX` or `answer W NOW fault`
+/// - `tick TENANT NOW`
+/// - `do TENANT NOW COMMAND`
+///
+/// The fault `Line` has the number, from 1, of the first line that is not valid.
 pub fn check_script(
     alloc: Global,
     names: &[Name],

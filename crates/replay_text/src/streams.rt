@@ -15,14 +15,14 @@ use std::io::{Read, Write};
 pub enum StreamFault {
     /// The device failed.
     Device,
-    /// Memory was refused.
+    /// Out of memory.
     Memory,
     /// The text goes on past the most bytes that it may have.
     Size,
 }
 
-// Reads once, and puts what came behind the text. At 0 the reader is at its end. Before the text was begun, the reader
-// had failed that often, and it has not failed since.
+// Reads once, and appends the bytes to the text. At 0 the reader is at its end. Before the text was begun, it had failed
+// `before` times. It has not failed since.
 fn take_some<R: Read + Device>(
     reader: &mut R,
     chunk: &mut [u8],

@@ -28,7 +28,7 @@ pub(crate) fn first_word(text: &[u8]) -> (&[u8], Option<&[u8]>)
     }
 }
 
-/// Two words: the second is all that stands behind the first.
+/// Two words: the second is all that follows the first.
 pub(crate) fn two_words(words: Option<&[u8]>) -> Option<(&[u8], &[u8])>
     ensures { MatchOption result (length (words_left (option_copied words.entry)) < 2)
         (λ w. words_left (option_copied words.entry) ≡ w.0.now ∷ words_of w.1.now) }
@@ -37,7 +37,7 @@ pub(crate) fn two_words(words: Option<&[u8]>) -> Option<(&[u8], &[u8])>
     Some((first, rest?))
 }
 
-/// Three words: the third is all that stands behind the second.
+/// Three words: the third is all that follows the second.
 pub(crate) fn three_words(words: Option<&[u8]>) -> Option<(&[u8], &[u8], &[u8])>
     ensures { MatchOption result (length (words_left (option_copied words.entry)) < 3)
         (λ w. words_left (option_copied words.entry) ≡ w.0.now ∷ w.1.now ∷ words_of w.2.now) }
@@ -47,7 +47,7 @@ pub(crate) fn three_words(words: Option<&[u8]>) -> Option<(&[u8], &[u8], &[u8])>
     Some((first, second, third))
 }
 
-/// Four words: the fourth is all that stands behind the third.
+/// Four words: the fourth is all that follows the third.
 pub(crate) fn four_words(words: Option<&[u8]>) -> Option<(&[u8], &[u8], &[u8], &[u8])>
     ensures { MatchOption result (length (words_left (option_copied words.entry)) < 4)
         (λ w. words_left (option_copied words.entry) ≡ w.0.now ∷ w.1.now ∷ w.2.now ∷ words_of w.3.now) }

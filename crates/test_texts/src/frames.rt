@@ -1,10 +1,10 @@
-//! Frames, replies and moments, in hexadecimal digits and digits, by names that stand in braces.
+//! Frames, replies and moments, in hexadecimal digits and digits, by names in braces.
 
 use std::alloc::{AllocError, Global};
 use std::test::Fail;
 
-// What stands for a name in braces: on each line a name, a colon and its value, which may have names of its own in it. The
-// values were worked out by hand from the formats of RFC 0027 and RFC 0030.
+// The values of names in braces: on each line a name, a colon and its value, which may contain other names. The values
+// were worked out by hand from the formats of RFC 0027 and RFC 0030.
 static NAMES: &str = "\
 T: 1893456000000
 T+999: 1893456000999

@@ -4,7 +4,7 @@ use std::alloc::{AllocError, Global};
 use std::test::Fail;
 
 /// A line of a setup: whose it is, by the names of `USUAL`, the key and the value. With no key the line is the header
-/// of the table. Texts stand in single quotes here, and in double quotes in the setup.
+/// of the table. Texts have single quotes here, and double quotes in the setup.
 pub type Line = (&'static str, &'static str, &'static str);
 
 /// The value of a line that the setup lacks. With the header all lines of the table are left out.

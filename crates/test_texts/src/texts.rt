@@ -2,7 +2,7 @@
 
 use std::alloc::{AllocError, Global};
 
-/// These texts, one behind the other, behind what is there.
+/// Appends these texts, one after the other.
 pub fn put(text: &mut String, parts: &[&str]) -> Result<(), AllocError> {
     for part in parts {
         text.push_str(part)?;

@@ -115,19 +115,19 @@ const NOTHING_MORE: Report = Report {
     audit: false,
 };
 
-// An audit behind them: of the entry of each packet and command, and of a roll of each tenant.
+// An audit after them: of the entry of each packet and command, and of a roll of each tenant.
 const AUDITED: Report = Report {
     balances: false,
     audit: true,
 };
 
-// Balances before them, and an audit behind.
+// Balances before them, and an audit after them.
 const ALL: Report = Report {
     balances: true,
     audit: true,
 };
 
-// What comes of questions to a service that serves the setup of that text, and what it prints in the end.
+// The outcome of requests to a service that serves the setup of that text, and what it prints at the end.
 fn served_while<R, T, F>(
     rt: &R,
     text: &str,
@@ -160,7 +160,7 @@ where
     Ok((came, lines))
 }
 
-// What one worker answers to some requests, each on a connection of its own, and what it prints in the end.
+// The answers of one worker to some requests, each on its own connection, and what the service prints at the end.
 fn served<R>(
     rt: &R,
     setup: &str,
@@ -224,7 +224,7 @@ fn next_request(
     Ok((stream, came))
 }
 
-// Takes one packet as such a peer, and says whether it was the one that is wanted.
+// Takes one packet as such a peer, and says whether it was the expected one.
 fn taken(
     rt: &(impl Clock + AllocGlobal),
     listener: &TcpListener,
@@ -252,8 +252,8 @@ fn packet_and_balances(alloc: Global, packet: &str) -> Result<Vec<Vec<u8>>, Fail
     Ok(requests)
 }
 
-// What comes back for a packet and for the balances, and what is printed in the end, where the peer behaves so, and packets
-// are held for so many milliseconds at most.
+// The answers to a packet and to `balances`, and what is printed at the end, with a peer that behaves like that.
+// Packets are held for so many milliseconds at most.
 fn with_peer<R>(
     rt: &R,
     peer: Peer,
@@ -286,7 +286,7 @@ where
 
 const NOTHING: &str = "acme balance alice 0 0 0\nacme balance bob 0 0 0\nacme ok\n";
 
-/// What comes of a packet of alice's: the reply to it, the balances afterwards, and what is printed in the end.
+/// The outcome of a packet of alice's: the reply to it, the balances after it, and what is printed at the end.
 #[derive(Clone, Copy)]
 struct Outcome {
     reply: &'static str,

@@ -87,7 +87,7 @@ fn team_of<J: Run>(
 
 /// What a test does with a team.
 trait Trial {
-    /// Does it, and tells whether all came of it that should.
+    /// Does it, and says whether the outcome is the expected one.
     fn act<J: Run, R: Wait + AllocGlobal>(&self, rt: &R, team: Team<J>) -> Result<bool, Fail>;
 }
 
@@ -119,7 +119,7 @@ fn on_books<J: Run, R: Wait + AllocGlobal, T: Trial>(
 
 // ---- what is found out
 
-/// A clock that stands.
+/// A clock that always gives the same moment.
 #[derive(Clone, Copy)]
 struct FixedClock(Moment);
 

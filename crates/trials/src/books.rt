@@ -1,5 +1,5 @@
-//! Books of one tenant that look random, over many periods, and services that begin again from the setup that the last one told.
-//! Each closed period is written, and the chain of all statements comes to what a plain count says.
+//! Random books of one tenant, over many periods, and services that begin again from the setup that the last one
+//! wrote. Each closed period is written. The chain of all statements must equal a plain count.
 
 use crate::counted::{Count, Led, lines_of};
 use crate::fault::Fault;
@@ -27,7 +27,7 @@ const CONDITION: [u8; 32] = [
 
 static JOURNALS: [u64; 6] = [4, 9, 30, 64, 120, 400];
 
-/// What a list has come to.
+/// The state of a random list.
 #[derive(Drop)]
 struct Course {
     book: Book,
@@ -38,7 +38,7 @@ struct Course {
     begun: u64,
 }
 
-/// What rounds came to.
+/// The counts of all rounds.
 #[derive(Clone, Copy)]
 pub struct Played {
     pub periods: u64,
@@ -87,7 +87,7 @@ fn moment_at(millis: u64) -> Result<Moment, Fault> {
     Moment::new(millis).ok_or(Fault::Book)
 }
 
-// How a packet's destination stands to the peers.
+// The destination of a packet: a peer's address, or another.
 fn destination_of(alloc: Global, draws: &mut Draws, to: u64) -> Result<String, Fault> {
     Ok(match draws.below(16) {
         0 => String::from_str(alloc, "peer.config")?,
@@ -381,7 +381,7 @@ impl Course {
         }
     }
 
-    // The chain comes to what was counted.
+    // Whether the chain equals the count.
     fn is_counted(&self, alloc: Global) -> Result<bool, Fault> {
         let lines = lines_of(alloc, &self.count)?;
         match self.chain.summary(alloc) {

@@ -1,5 +1,5 @@
-//! A plain count of what a book was handed and what it told, from its beginning on, and the lines that its statements are to come
-//! to. It knows no record, no period and no statement.
+//! A plain count of what went into a book and of its answers, from its beginning on, and the lines that its statements
+//! must give. It knows no record, no period and no statement.
 
 use std::alloc::{AllocError, Global};
 use tenant_core::{PeerNo, Side};
@@ -253,7 +253,7 @@ fn put_peer(alloc: Global, text: &mut String, peer: &Counted) -> Result<(), Allo
     text.push_str("\n")
 }
 
-/// What the statements are to come to, in lines.
+/// The lines that the statements must give.
 pub fn lines_of(alloc: Global, count: &Count) -> Result<String, AllocError> {
     let periods = count.periods.to_string(alloc)?;
     let entries = count.entries.to_string(alloc)?;

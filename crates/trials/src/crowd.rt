@@ -60,7 +60,7 @@ fn round(
     Ok(own.script.lines().count())
 }
 
-/// What rounds came to: how many steps were the calm tenant's own, and what the others were told.
+/// The outcome of rounds: how many steps were the calm tenant's own, and which lines the others saw.
 #[derive(Drop)]
 pub struct Played {
     pub own_steps: usize,

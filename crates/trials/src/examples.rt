@@ -53,7 +53,7 @@ fn is_as_told(
     Ok(is_as_told)
 }
 
-// Whether the statements of the examples come to their lines, which it says.
+// Whether the statements of the examples give their lines, which it prints.
 fn are_statements_as_told(rt: &(impl Files + Print + AllocGlobal)) -> Result<bool, Fault> {
     let is_as_told = verified::are_as_told(rt)?;
     let verb = if is_as_told {

@@ -16,7 +16,7 @@ pub enum Fault {
     /// A file can't be read, or a line not be printed.
     #[error("device")]
     Device,
-    /// A setup or a script that is none.
+    /// A setup or a script is wrong.
     #[error("{0}")]
     Replay(ReplayFault),
     /// A script whose steps make no list.
@@ -28,10 +28,10 @@ pub enum Fault {
     /// A book that looks random can't be begun, or a period not be closed, or its statement is not good.
     #[error("a statement is refused")]
     Book,
-    /// The round whose statements do not come to what was counted.
+    /// The round whose statements do not equal the count.
     #[error("round {0}: statements come to something else")]
     Counted(u32),
-    /// Hostile tenants did not come to each kind of line.
+    /// Hostile tenants did not get each kind of line.
     #[error("the crowd is not hostile enough")]
     Unseen,
     /// An example does not print its lines.

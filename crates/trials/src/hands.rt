@@ -1,4 +1,4 @@
-//! Whose step each step is, by what each worker was told last.
+//! The owner of each step, by the last output of each worker.
 
 use crate::scripts::CALM;
 use std::alloc::{AllocError, Global};

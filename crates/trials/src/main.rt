@@ -1,6 +1,10 @@
-//! Trials that go past what a contract can say: lists of steps in which memory may be refused, by tools/refusals, crowds
-//! of hostile tenants beside a calm one, statements of books that look random, audits of many receipts: of 64 tenants, whose
-//! entries as many workers made by turns, and the examples.
+//! Trials that go past what a contract can say:
+//!
+//! - lists of steps in which allocations may fail, by tools/refusals;
+//! - crowds of hostile tenants beside a calm one;
+//! - statements of random books;
+//! - audits of many receipts, of 64 tenants, whose entries as many workers made in turn;
+//! - the examples.
 #![tactic(auto)]
 
 mod audited;
@@ -25,7 +29,7 @@ use std::process::ExitCode;
 use std::rt::{Env, Files};
 use std::{env, fs, str};
 
-// Runs a script's steps, and says on standard error where memory was refused among them.
+// Runs a script's steps, and says on standard error after which of them an allocation failed.
 fn run_steps(
     rt: &(impl Files + Print + Eprint + AllocGlobal),
     setup: &str,

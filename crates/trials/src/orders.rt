@@ -3,7 +3,7 @@
 use std::alloc::{AllocError, Global};
 use test_texts::Draws;
 
-// In these a @ stands for the tenant's name.
+// In these a @ means the tenant's name.
 static COMMANDS: [&str; 31] = [
     "peer add carol child tok-carol http://127.0.0.1:7803/ilp out-carol EUR 2 1000 1000 1000 1 0",
     "peer add carol peer tok-carol http://[::1]/ out-carol EUR 2 0 0 0 1 0",

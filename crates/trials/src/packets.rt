@@ -79,7 +79,8 @@ pub fn frame_of(alloc: Global, prepare: &Prepare<'_>) -> Result<Vec<u8>, AllocEr
     Ok(frame)
 }
 
-/// What a hostile peer sends: a packet that is none, is too late, too large, for nobody, for its own configuration, or good.
+/// What a hostile peer sends: a frame that is not a packet, or a packet that is too late, too large, for nobody, for
+/// its own configuration, or good.
 pub fn hostile_frame(
     alloc: Global,
     draws: &mut Draws,

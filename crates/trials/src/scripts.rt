@@ -10,7 +10,7 @@ const START: u64 = 1_893_456_000_000;
 
 const LATEST: u64 = 253_400_000_000_000;
 
-/// The tenant whose lines are to be its own.
+/// The calm tenant: its lines must be those of its own steps alone.
 pub const CALM: &str = "calm";
 
 static HOSTILE: [&str; 9] = ["h0", "h1", "h2", "h3", "h4", "h5", "h6", "h7", "h8"];
@@ -94,7 +94,7 @@ pub fn setup_of_all(alloc: Global) -> Result<String, AllocError> {
     Ok(setup)
 }
 
-/// Where a script stands: what is drawn next, how many workers there are, and how many milliseconds have gone by.
+/// The state of a script: what is drawn next, how many workers there are, and how many milliseconds have passed.
 #[derive(Drop)]
 struct Course {
     draws: Draws,
@@ -169,7 +169,7 @@ fn calm_load(alloc: Global, course: &mut Course) -> Result<String, AllocError> {
     load_of(alloc, worker.as_str(), CALM, "tok-alice", frame.as_str())
 }
 
-// What no tenant is named in: whoever's packet the worker has.
+// A step without a tenant's name: the worker's packet decides whose it is.
 fn workers_step(alloc: Global, course: &mut Course) -> Result<String, AllocError> {
     let now = course.moment().to_string(alloc)?;
     let worker = course.worker().to_string(alloc)?;

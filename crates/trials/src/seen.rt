@@ -1,8 +1,9 @@
-//! What hostile tenants came to: each kind of line is to be seen.
+//! The lines of hostile tenants: each kind of line must be seen.
 
 use crate::scripts::CALM;
 
-// What lines say behind the tenant's name: of a Reject the digits of its code, of a tick that found something overdue `marked`.
+// The words of lines after the tenant's name: of a Reject the digits of its code, of a tick that found something
+// overdue `marked`.
 static KINDS: [&str; 30] = [
     "loaded",
     "bad kind",
@@ -39,7 +40,7 @@ static KINDS: [&str; 30] = [
 /// How many kinds there are.
 pub const COUNT: usize = 30;
 
-// What a line of a hostile tenant says, behind the tenant's name.
+// The words of a line of a hostile tenant, after the tenant's name.
 fn words_of(line: &str) -> Option<&str> {
     let (name, words) = line.split_once(' ')?;
     if name == CALM || name == "-" {
@@ -48,7 +49,7 @@ fn words_of(line: &str) -> Option<&str> {
     Some(words)
 }
 
-// The digits of a Reject's code, behind those of its kind and length, or what a reply is else.
+// The digits of a Reject's code, after those of its kind and length, or what else a reply is.
 fn reply_kind(digits: &str) -> &str {
     if digits.starts_with("0d") {
         return "fulfilled";
@@ -66,7 +67,7 @@ fn is_of_kind(words: &str, kind: &str) -> bool {
     }
 }
 
-/// Marks the kinds of the lines that hostile tenants were told.
+/// Marks the kinds of the lines that hostile tenants got.
 pub fn see(lines: &str, seen: &mut [bool; COUNT]) {
     for line in lines.lines() {
         let Some(words) = words_of(line) else {
@@ -80,7 +81,7 @@ pub fn see(lines: &str, seen: &mut [bool; COUNT]) {
     }
 }
 
-/// Whether hostile tenants came to each kind.
+/// Whether hostile tenants got each kind.
 pub fn are_all_seen(seen: &[bool; COUNT]) -> bool {
     seen.iter().all(|mark| *mark)
 }

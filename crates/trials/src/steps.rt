@@ -1,5 +1,5 @@
-//! The steps of a script as one list, by two workers. Where memory is refused in the list, the steps behind go on, on the same
-//! floor.
+//! The steps of a script as one list, by two workers. If an allocation fails in the list, the steps after it go on, on
+//! the same floor.
 
 ghost use Rattle.std.specs.Prelude.{All};
 ghost use Rattle.std.specs.Bool.{OnTrue};
@@ -42,7 +42,7 @@ fn all_fit(floor: &Floor, steps: &[Step]) -> bool
     true
 }
 
-/// What steps put out, and after how many of them memory was refused, if it was.
+/// The outputs of steps, and after how many of them an allocation failed, if one did.
 #[derive(Drop)]
 struct Ran {
     outputs: Vec<Output>,
@@ -69,7 +69,7 @@ fn run(alloc: Global, floor: &mut Floor, steps: &[Step]) -> Result<Ran, Fault> {
     })
 }
 
-// Runs the steps, and where memory was refused those behind, on the floor as it stands then.
+// Runs the steps. If an allocation fails, it runs those after it on the floor as it is then.
 fn run_on(alloc: Global, floor: &mut Floor, steps: &[Step]) -> Result<Ran, Fault> {
     let mut ran = run(alloc, floor, steps)?;
     if let Some(done) = ran.refused_after {
@@ -108,7 +108,7 @@ fn steps_of<'a>(
     Ok(steps)
 }
 
-/// The lines of a script's steps, and after how many of them memory was refused, if it was.
+/// The lines of a script's steps, and after how many of them an allocation failed, if one did.
 #[derive(Drop)]
 pub struct Told {
     pub lines: Vec<u8>,
@@ -131,7 +131,8 @@ fn told_of(alloc: Global, setup: &Setup, script: &str) -> Result<Told, Fault> {
     })
 }
 
-/// Runs the steps of a script as one list, and behind a refusal the rest of them, for the tenants of a setup.
+/// Runs the steps of a script as one list, for the tenants of a setup. If an allocation fails, it runs the steps after
+/// it.
 pub fn tell(alloc: Global, setup: &[u8], script: &str) -> Result<Told, Fault> {
     let setup = setup_of(alloc, setup)?;
     told_of(alloc, &setup, script)

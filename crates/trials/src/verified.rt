@@ -10,8 +10,8 @@ use std::alloc::Global;
 use std::rt::Files;
 use std::{fs, str};
 
-// A setup that a service began with, the script of what it did, the statements of that, and what they come to with those of the
-// runs before.
+// A setup that a service began with, the script of what it did, the statements of that, and their lines with those of
+// the runs before.
 struct Run {
     setup: &'static str,
     script: &'static str,
@@ -97,7 +97,7 @@ fn begin(alloc: Global, chain: &mut Chain, text: &[u8]) -> Result<(), Fault> {
     }
 }
 
-// Whether the run's steps lead to its statements, which go on with the chain and come to its lines.
+// Whether the run's steps lead to its statements, which go on with the chain and give its lines.
 fn goes_on(rt: &(impl Files + AllocGlobal), chain: &mut Chain, run: &Run) -> Result<bool, Fault> {
     let alloc = rt.alloc();
     let setup = fs::read(rt, run.setup)?;
@@ -118,7 +118,8 @@ fn goes_on(rt: &(impl Files + AllocGlobal), chain: &mut Chain, run: &Run) -> Res
     }
 }
 
-/// Whether the steps of the examples' scripts lead to their statements, which are one chain and come to the examples' lines.
+/// Whether the steps of the examples' scripts lead to their statements, which are one chain and give the examples'
+/// lines.
 pub fn are_as_told(rt: &(impl Files + AllocGlobal)) -> Result<bool, Fault> {
     let mut chain = Chain::new(rt.alloc());
     let mut all_are = true;

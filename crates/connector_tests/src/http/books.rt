@@ -156,7 +156,7 @@ struct Exchange {
     path: &'static str,
     token: &'static str,
     packet: &'static str,
-    // Where the reply is empty, the whole answer; else its head.
+    // If the reply is empty, the whole answer, otherwise its head.
     head: &'static str,
     reply: &'static str,
     entries: [usize; 2],
@@ -316,7 +316,7 @@ fn packets_are_posted(rt: HostRuntime) -> Result<(), Fail> {
     Ok(())
 }
 
-// Whether no front of a request is served, and the books have no entries in the end.
+// Whether no front of a request is served, and the books have no entries at the end.
 fn no_front_is_served(alloc: Global, exchange: &Exchange) -> Result<bool, Fail> {
     let request = request(alloc, exchange)?;
     let mut counter = Counter::new(alloc, &two_setups(alloc)?, "{fulfill}")?;
@@ -342,7 +342,7 @@ fn packets_that_do_not_come_whole(rt: HostRuntime) -> Result<(), Fail> {
     Ok(())
 }
 
-// What the next peer answers, and what the sender is told.
+// The answer of the next peer, and the reply to the sender.
 static ANSWERS: [(&str, &str); 4] = [
     ("{fulfill}", "{fulfill}"),
     ("0d21{31 zeros}00", "{T01}"),
@@ -350,7 +350,7 @@ static ANSWERS: [(&str, &str); 4] = [
     ("", "{T01}"),
 ];
 
-// Whether the sender of a request is told so where the next peer answers that.
+// Whether the sender of a request gets that reply, if the next peer gives that answer.
 fn is_told(alloc: Global, request: &[u8], given: &str, told: &str) -> Result<bool, Fail> {
     let mut counter = Counter::new(alloc, &two_setups(alloc)?, given)?;
     let outcome = serve(alloc, &mut counter, request, 0)?;

@@ -226,7 +226,7 @@ fn is_answered(alloc: Global, stream: &[u8], answer: &[u8]) -> Result<bool, Fail
     Ok(first.text.as_slice() == answer)
 }
 
-// Whether a client that waits before it sends that body is told to go on, and gets that answer then.
+// Whether a client that waits before it sends that body gets `100 Continue`, and then that answer.
 fn is_told_to_go_on(alloc: Global, body: &[u8], answer: &[u8]) -> Result<bool, Fail> {
     let (front, _) = HEAD.split_at(HEAD.len().saturating_sub(2));
     let stream = joined(alloc, &[front, b"Expect: 100-continue\r\n\r\n", body])?;
@@ -272,7 +272,7 @@ static LIMITS: [(&[u8], RequestKind, usize, usize, bool); 6] = [
     (COMMANDED, RequestKind::Admin, 683, 3, false),
 ];
 
-// What comes of a request of that kind.
+// The outcome of a request of that kind.
 fn commanded(alloc: Global, stream: &[u8], kind: RequestKind) -> Result<Outcome, Fail> {
     let mut reader = Pieces::cut_at(stream, 0);
     serve(alloc, &mut reader, Taken::whole(alloc), Desk::new(kind, 0))
@@ -356,7 +356,7 @@ fn lines_and_trailers_at_their_limits(rt: HostRuntime) -> Result<(), Fail> {
 
 const ANSWER: &[u8] = b"HTTP/1.1 200 OK\r\nTransfer-Encoding: chunked\r\n\r\n";
 
-// An answer's text behind its head, and what is given of it.
+// The text of an answer after its head, and the outcome.
 static ANSWERS: [(&[u8], &[u8], Result<usize, PostFault>); 9] = [
     (ANSWER, b"5\r\nframe\r\n0\r\n\r\n", Ok(5)),
     (

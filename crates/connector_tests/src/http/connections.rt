@@ -104,7 +104,7 @@ fn request_of(alloc: Global, head: usize, body: usize) -> Result<Vec<u8>, Fail> 
     Ok(stream)
 }
 
-// The largest body behind a head of so many bytes, and one more request.
+// The largest body after a head of so many bytes, and one more request.
 fn largest_of(alloc: Global, head: usize) -> Result<Vec<u8>, Fail> {
     let mut stream = request_of(alloc, head, 34_000)?;
     stream.extend_from_slice(POSTED)?;

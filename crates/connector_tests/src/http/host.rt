@@ -302,7 +302,7 @@ fn serve_stop(mut reader: Pieces, writer: Taken) -> Outcome {
     )
 }
 
-// Whether STOP is served, or a fault is told, where so many reads of a byte succeed.
+// Whether STOP is served, or a fault is returned, if so many reads of a byte succeed.
 fn is_read(alloc: Global, reads: usize) -> bool {
     let outcome = serve_stop(Pieces::failing_after(STOP, reads), Taken::whole(alloc));
     if reads < STOP.len() {
@@ -312,7 +312,8 @@ fn is_read(alloc: Global, reads: usize) -> bool {
     }
 }
 
-// Whether STOP is served, or a fault is told, where so many writes of a byte succeed, and those are written.
+// Whether STOP is served, or a fault is returned, if so many writes of a byte succeed, and those are
+// written.
 fn is_written(alloc: Global, writes: usize) -> bool {
     let outcome = serve_stop(Pieces::cut_at(STOP, 0), Taken::failing_after(alloc, writes));
     let wanted = if writes < TOML.len() {

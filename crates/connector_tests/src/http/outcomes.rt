@@ -1,4 +1,4 @@
-//! Requests that are served and packets that are posted over memory, and what comes of them.
+//! Requests that are served and packets that are posted over memory, and their outcomes.
 
 use super::devices::{Pieces, Taken};
 use super::served::Desk;

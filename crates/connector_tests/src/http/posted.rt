@@ -175,7 +175,7 @@ fn answers_that_end_early(rt: HostRuntime) -> Result<(), Fail> {
     Ok(())
 }
 
-// The head's front, its bytes, its lines behind the front, the bytes of the body, and what is given.
+// The head's front, its bytes, its lines after the front, the bytes of the body, and the outcome.
 static LIMITS: [(&[u8], usize, usize, usize, Result<usize, PostFault>); 7] = [
     (b"HTTP/1.1 200 OK\r\n", 8_192, 64, 35, Ok(35)),
     (b"HTTP/1.1 200 OK\r\n", 8_193, 64, 35, Err(PostFault::Head)),
@@ -198,7 +198,7 @@ static LIMITS: [(&[u8], usize, usize, usize, Result<usize, PostFault>); 7] = [
     ),
 ];
 
-// An answer whose head has so many bytes, and so many lines behind its front, and with a body of so many bytes.
+// An answer whose head has so many bytes, and so many lines after its front, and with a body of so many bytes.
 fn answer_with(
     alloc: Global,
     front: &[u8],
@@ -232,7 +232,7 @@ fn put_line(answer: &mut Vec<u8>) -> Result<(), Fail> {
     Ok(())
 }
 
-// A 103 head of 62 lines behind its first.
+// A 103 head of 62 lines after its first.
 fn put_early(answer: &mut Vec<u8>) -> Result<(), Fail> {
     answer.extend_from_slice(b"HTTP/1.1 103 Early Hints\r\n")?;
     for _ in 0..62 {
@@ -272,7 +272,7 @@ fn answers_that_take_too_many_reads(rt: HostRuntime) -> Result<(), Fail> {
     Ok(())
 }
 
-// Whether the packet is posted, or a fault is told, where the answer can be read so often, one byte at a time.
+// Whether the packet is posted, or a fault is returned, if the answer can be read so often, one byte at a time.
 fn is_read(alloc: Global, answer: &[u8], reads: usize) -> Result<bool, Fail> {
     let mut reader = Pieces::failing_after(answer, reads);
     let posted = post_to_bob(alloc, &mut reader, Taken::whole(alloc), SENT)?;
@@ -284,7 +284,7 @@ fn is_read(alloc: Global, answer: &[u8], reads: usize) -> Result<bool, Fail> {
     Ok(posted.found == wanted)
 }
 
-// Whether the packet is posted, or a fault is told, where so many bytes of it can be written, and they are.
+// Whether the packet is posted, or a fault is returned, if so many bytes of it can be written, and they are.
 fn is_written(alloc: Global, answer: &[u8], writes: usize) -> Result<bool, Fail> {
     let mut reader = Pieces::cut_at(answer, 0);
     let writer = Taken::failing_after(alloc, writes);

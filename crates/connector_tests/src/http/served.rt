@@ -491,7 +491,8 @@ static WAITING: [(&[u8], usize); 4] = [
     ),
 ];
 
-// Whether that is told to a client that waits, and then the answer; and the first also where the last byte never comes.
+// Whether a client that waits gets the interim answer, and then the answer. It gets the first even if the last byte
+// never comes.
 fn is_told(
     alloc: Global,
     stream: &[u8],
@@ -553,7 +554,7 @@ fn requests_in_one_stream(rt: HostRuntime) -> Result<(), Fail> {
     Ok(())
 }
 
-// Whether POSTED is served, or a fault is told, where so many reads of a byte succeed.
+// Whether POSTED is served, or a fault is returned, if so many reads of a byte succeed.
 fn is_read(alloc: Global, reads: usize) -> Result<bool, Fail> {
     let outcome = serve_packet(alloc, &mut Pieces::failing_after(POSTED, reads))?;
     Ok(if reads < POSTED.len() {
@@ -563,7 +564,7 @@ fn is_read(alloc: Global, reads: usize) -> Result<bool, Fail> {
     })
 }
 
-// Whether POSTED is served, or a fault is told, where so many writes of a byte succeed, and those are written.
+// Whether POSTED is served, or a fault is returned, if so many writes of a byte succeed, and those are written.
 fn is_written(alloc: Global, writes: usize) -> Result<bool, Fail> {
     let writer = Taken::failing_after(alloc, writes);
     let desk = Desk::new(RequestKind::Ilp, 0);

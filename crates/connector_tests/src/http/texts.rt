@@ -3,7 +3,7 @@
 use std::alloc::Global;
 use std::test::Fail;
 
-/// These parts, one behind the other.
+/// These parts, one after the other.
 pub(crate) fn joined(alloc: Global, parts: &[&[u8]]) -> Result<Vec<u8>, Fail> {
     let mut text = Vec::new(alloc);
     for part in parts {
@@ -12,13 +12,13 @@ pub(crate) fn joined(alloc: Global, parts: &[&[u8]]) -> Result<Vec<u8>, Fail> {
     Ok(text)
 }
 
-/// Whether a text is these two parts, one behind the other.
+/// Whether a text is these two parts, one after the other.
 pub(crate) fn is_joined(text: &[u8], front: &[u8], rest: &[u8]) -> bool {
     let (start, end) = text.split_at(front.len().min(text.len()));
     start == front && end == rest
 }
 
-/// Puts a part behind a text so often.
+/// Appends a part to a text so often.
 pub(crate) fn repeat(text: &mut Vec<u8>, part: &[u8], times: usize) -> Result<(), Fail> {
     for _ in 0..times {
         text.extend_from_slice(part)?;

@@ -188,7 +188,7 @@ fn a_verdict_that_was_not_given(rt: HostRuntime) -> Result<(), Fail> {
     expect_said_with_amount(&rt, rt.alloc(), 1_499, Said::Differs)
 }
 
-// Puts the receipt of the packet behind others, at another place, or of another entry.
+// Appends the receipt of the packet at another place, or of another entry.
 fn add_moved(
     alloc: Global,
     list: &mut Vec<Receipt>,

@@ -1,4 +1,4 @@
-//! Chains of statements: what goes on, what does not, and what all come to.
+//! Chains of statements: what goes on, what does not, and the sums of all.
 
 use super::owned::period_of_each;
 use super::periods::closed;
@@ -79,7 +79,7 @@ fn fault_of(alloc: Global, chain: &mut Chain, text: &[u8]) -> Result<Option<Chai
     }
 }
 
-// Takes the texts at these places, and tells the place of the first that does not go on among these, and why.
+// Takes the texts at these places. Returns the place of the first that does not go on among these, and why.
 fn first_fault(
     alloc: Global,
     chain: &mut Chain,

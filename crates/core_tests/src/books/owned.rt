@@ -1,4 +1,4 @@
-//! Entries of one's own, and what is told apart.
+//! Owned entries, and what makes entries differ.
 
 use super::periods::closed;
 use super::setups::{START, USUAL, answer, book, moment, send, tick};

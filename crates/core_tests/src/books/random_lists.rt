@@ -65,7 +65,7 @@ const AGREED: Agreed = Agreed {
     rate: (3, 2),
 };
 
-/// What a list has come to: what was told, and what is drawn next.
+/// The state of a list: its answers, and what is drawn next.
 #[derive(Drop)]
 struct Course {
     told: Told,

@@ -71,7 +71,7 @@ fn a_text_says_where_each_entry_stands_and_what_it_is(rt: HostRuntime) -> Result
     expect_complete(&rt, rt.alloc(), &period)
 }
 
-// What stands in the text, what is put in its place, and what is wrong then.
+// A part of the text, what replaces it, and what is wrong then.
 const FAULTS: &str = "receipts 1 | receipts 2 | line 1 is not as receipts are written
 worker 3 | worker 4 | line 2 is not as receipts are written
 worker 2 | walker 2 | line 6 tells no receipt and no worker

@@ -48,7 +48,7 @@ fn a_statement_says_what_began_what_happened_and_what_follows(rt: HostRuntime) -
     expect_good(&rt, rt.alloc(), &period)
 }
 
-// What stands in the statement, what is put in its place, and what is wrong then.
+// A part of the statement, what replaces it, and what is wrong then.
 const FAULTS: &str = "tenant 0 acme | tenant 64 acme | no period begins so: the tenant's place
 acme 8 1000 | acme 1 1000 | no period begins so: the journal's places
 8 1000 30000 | 8 60001 30000 | no period begins so: the margin
@@ -122,10 +122,10 @@ fn changeable(alloc: Global, text: &mut [u8]) -> usize {
     count
 }
 
-// Each byte becomes a `1`, or a `2` where it is one. What states another truth: a packet that is rejected may have had any
-// condition, 64 digits, and any destination behind the route, the letter after `g.acme.bob.`. And a moment may have gone back,
-// since the clock stays then: in each of 5 records, and where the period began, with full buckets, the digits 8, 9, 3, 4, 5 and
-// 6 of 1893456000000 become less.
+// Each byte becomes a `1`, or a `2` if it is one. Some changes state another truth. A packet that is rejected may have
+// had any condition, 64 digits, and any destination after the route, the letter after `g.acme.bob.`. And a moment may
+// have gone back, since the clock does not go back with it. Each of the digits 8, 9, 3, 4, 5 and 6 of 1893456000000 can
+// become less, in each of 5 records, and in the period's beginning with full buckets.
 #[test]
 fn a_changed_byte_is_refused_unless_it_states_another_truth(rt: HostRuntime) -> Result<(), Fail> {
     let mut text = Vec::from_slice(rt.alloc(), STATEMENT.as_bytes())?;

@@ -25,7 +25,7 @@ pub fn changed_setup(alloc: Global, changes: &'static str) -> Result<String, Fai
     setup_with(alloc, lines.as_slice())
 }
 
-/// A row's changes, and what is said of the setup with them, which stands behind ` > `.
+/// A row's changes, and after ` > ` what is said of the setup with them.
 pub fn changes_and_said(row: &'static str) -> Result<(&'static str, &'static str), Fail> {
     Ok(row.split_once(" > ").ok_or("what is said")?)
 }

@@ -7,7 +7,7 @@ use std::process::Abort;
 use std::str;
 use std::test::Fail;
 
-// Changes of the usual setup, and what is said of it then, each line behind a semicolon.
+// Changes of the usual setup, and what is said of it then, each line after a semicolon.
 static CHANGES: &str = "\
 acme|other|1 > nothing
 |start|0 > nothing

@@ -88,7 +88,7 @@ const HEAD: &str = "version = 1\nstart = 0\n";
 
 const TENANT: &str = "[[tenant]]\nname = \"acme\"\naddress = \"g.acme\"\nadmin = \"root-a\"\n";
 
-// What stands behind the version and the start, and the words for what is wrong.
+// The text after the version and the start, and the words for what is wrong.
 static TEXTS: [(&str, &str); 9] = [
     (TENANT, "good"),
     (
@@ -194,7 +194,7 @@ fn expect_words_of_name(
 fn long_texts_are_counted(rt: HostRuntime) -> Result<(), Fail> {
     let alloc = rt.alloc();
     let wanted = "\": a text of 1 to 32 of a-z 0-9 -";
-    // A name of 64 bytes is shown with its tenant, and one of 100 as what stands at its key.
+    // A name of 64 bytes is shown with its tenant, and one of 100 as the value at its key.
     expect_words_of_name(&rt, alloc, 64, &["tenant 0 ", ": name = \"", wanted])?;
     expect_words_of_name(&rt, alloc, 65, &["tenant 0: name = \"", wanted])?;
     expect_words_of_name(&rt, alloc, 100, &["tenant 0: name = \"", wanted])?;
@@ -250,7 +250,7 @@ fn setups_are_toml(rt: HostRuntime) -> Result<(), Fail> {
     expect_words_of(&rt, alloc, &["\u{feff}", HEAD, TENANT], "good")
 }
 
-// The text once for each of the numbers, which stands in the place of `#`.
+// The text once for each of the numbers, in the place of `#`.
 fn many(alloc: Global, first: usize, last: usize, what: &str) -> Result<String, Fail> {
     let mut text = String::new(alloc);
     for number in first..=last {
@@ -269,7 +269,7 @@ const MANY_PEERS: &str = "[[tenant.peer]]\nname = \"p#\"\nrole = \"peer\"\ntoken
 
 const MANY_ROUTES: &str = "[[tenant.route]]\nprefix = \"g.a#\"\npeer = \"p1\"\n";
 
-// From the peer whose number stands in the place of `%`.
+// From the peer whose number is in the place of `%`.
 const RATES_FROM: &str = "[[tenant.rate]]\nfrom = \"p%\"\nto = \"p#\"\nnum = 1\nden = 1\n";
 
 const ONE_RATE: &str = "[[tenant.rate]]\nfrom = \"p65\"\nto = \"p1\"\nnum = 1\nden = 1\n";

@@ -31,7 +31,7 @@ fn peer<'a>(role: Role, tenant: &'a OwnAddress, parts: &'a (Name, AssetCode)) ->
     })
 }
 
-// The answer is these parts behind one another, and every byte after it stays.
+// The answer is these parts one after another, and every byte after it stays.
 fn expect_answer(
     rt: &impl Abort,
     alloc: Global,

@@ -266,7 +266,7 @@ fn each_copy_as_it_was_told(rt: HostRuntime) -> Result<(), Fail> {
     Ok(())
 }
 
-// Where the prefixes of many routes stand in the trie.
+// The places of many routes' prefixes in the trie.
 #[derive(Clone, Copy)]
 enum Shape {
     BelowOneNode,

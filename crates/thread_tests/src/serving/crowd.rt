@@ -28,7 +28,7 @@ const EXTENT: Extent = Extent {
     rounds: Some(50),
 };
 
-/// What the clients of a tenant ask, and what they are to be told.
+/// The requests of a tenant's clients, and the answers that they must get.
 #[derive(Drop)]
 pub struct Exchange {
     pub packet: Vec<u8>,
@@ -55,7 +55,8 @@ fn exchange_of(alloc: Global, name: &str, packet: &str) -> Result<Exchange, Fail
     })
 }
 
-// What a roll after so many waves, counted from 0, tells: four clients have sent 500 packets and 20 commands in each.
+// The answer to a roll after so many waves, counted from 0: four clients have sent 500 packets and 20 commands in
+// each.
 fn rolled(alloc: Global, name: &str, wave: u32) -> Result<Vec<u8>, Fail> {
     let waves = (wave as usize).saturating_add(1);
     let alice = waves.saturating_mul(500_000).to_string(alloc)?;
@@ -87,7 +88,7 @@ fn rolled_in_all(alloc: Global, name: &str) -> Result<Vec<Vec<u8>>, Fail> {
     Ok(all)
 }
 
-/// A client, and what it was told: packets that were fulfilled, commands that were done, and anything else.
+/// A client, and the answers that it got: packets that were fulfilled, commands that were done, and anything else.
 #[derive(Clone, Copy, Debug, PartialEq, Eq)]
 struct Told {
     beta: bool,
@@ -104,7 +105,7 @@ pub fn connected(net: &impl Net<Stream = TcpStream>, addr: &SocketAddr) -> io::R
     Ok(stream)
 }
 
-/// Whether the answer to a request is the one that is wanted.
+/// Whether the answer to a request is the expected one.
 pub fn is_told(stream: &TcpStream, request: &[u8], wanted: &[u8]) -> io::Result<bool> {
     let mut room = [0u8; 512];
     let mut out = stream;
@@ -117,7 +118,7 @@ pub fn is_told(stream: &TcpStream, request: &[u8], wanted: &[u8]) -> io::Result<
     Ok(&*came == wanted)
 }
 
-// Counts one more thing that a client was told, as such or as something else.
+// Counts one more answer to a client, as the expected one or as something else.
 fn count(right: bool, wanted: &mut u32, other: &mut u32) {
     let counter = if right { wanted } else { other };
     *counter = counter.saturating_add(1);
@@ -171,7 +172,7 @@ fn fulfils_all(listener: &TcpListener, answer: &[u8], size: usize) -> io::Result
     Ok(count)
 }
 
-// Lets the operator of a tenant close its period, and says whether the answer is the one that is wanted.
+// Lets the operator of a tenant close its period, and says whether the answer is the expected one.
 fn rolls(
     net: &impl Net<Stream = TcpStream>,
     addr: &SocketAddr,
@@ -249,7 +250,7 @@ pub fn both_exchanges(alloc: Global) -> Result<(Exchange, Exchange), Fail> {
     ))
 }
 
-/// What comes of that beside a peer that fulfils all packets, and how many it fulfilled.
+/// The outcome of `run` beside a peer that fulfils all packets, and how many it fulfilled.
 pub fn beside_peer<R, T, F>(rt: &R, peer: &TcpListener, run: F) -> Result<(T, u32), Fail>
 where
     R: Threads + Wait + Clock + Disk + AllocGlobal + Sync,
@@ -274,8 +275,8 @@ where
     Ok((came, fulfilled?))
 }
 
-/// What came of a crowd: how many packets the next peer fulfilled, what the service printed in the end, how often both rolls
-/// were right, and what the clients were told.
+/// The outcome of a crowd: how many packets the next peer fulfilled, what the service printed at the end, how often
+/// both rolls were right, and the answers that the clients got.
 #[derive(Drop)]
 struct Crowd {
     fulfilled: u32,
@@ -304,7 +305,7 @@ where
     })
 }
 
-// What a tenant's four clients were told: packets, commands, anything else.
+// The answers to a tenant's four clients: packets, commands, anything else.
 fn in_all(told: &[Told], beta: bool) -> (u32, u32, u32) {
     let mut sums = (0u32, 0u32, 0u32);
     for client in told {
@@ -317,8 +318,8 @@ fn in_all(told: &[Told], beta: bool) -> (u32, u32, u32) {
     sums
 }
 
-// Each tenant has sent 5,000 packets of 1,000 units, for 1,500 each, and 200 commands, and its operator 10. Behind each packet
-// that went on there are two entries, behind each command one, and one behind the last roll of each tenant.
+// Each tenant has sent 5,000 packets of 1,000 units, for 1,500 each, and 200 commands, and its operator 10. For each
+// packet that went on there are two entries, for each command one, and one for the last roll of each tenant.
 const PRINTED: &str = "acme balance alice 5000000 0 0
 acme balance bob -7500000 0 0
 acme ok

@@ -1,4 +1,4 @@
-//! The door of whoever runs the process: what is told there, and a stop while clients send.
+//! The host's door: its answers, and a stop while clients send.
 
 use super::crowd::{Exchange, beside_peer, both_exchanges, connected, is_told, setup_text};
 use super::wire::{FixedClock, is_reply, packet_by, request};
@@ -140,7 +140,7 @@ pub struct Addresses {
     pub host: SocketAddr,
 }
 
-/// What comes of questions to a service with a host's door, for the setup of that text, and what it prints in the end.
+/// The outcome of requests to a service with a host's door, for the setup of that text, and what it prints at the end.
 pub fn served_with_host<R, T, F>(rt: &R, text: &str, ask: F) -> Result<(T, Vec<u8>), Fail>
 where
     R: Threads + Wait + Clock + Disk + AllocGlobal + Sync,
@@ -185,7 +185,7 @@ fn told_in_turn(
     Ok(answers)
 }
 
-// The same, and what the service prints in the end.
+// The same, and what the service prints at the end.
 fn served_in_turn<R>(rt: &R) -> Result<(Vec<Vec<u8>>, Vec<u8>), Fail>
 where
     R: Threads + Wait + Clock + Disk + AllocGlobal + Sync,
@@ -345,7 +345,7 @@ fn stopped<R: Wait + Net<Stream = TcpStream>>(
     asked(rt, alloc, host, STOP)
 }
 
-// What a host is told that stops a service once its clients had enough packets fulfilled.
+// The answer to a host that stops a service once its clients had enough packets fulfilled.
 fn stopped_under_load<R: Threads + Wait + Net<Listener = TcpListener, Stream = TcpStream> + Sync>(
     rt: &R,
     alloc: Global,
@@ -362,7 +362,7 @@ fn stopped_under_load<R: Threads + Wait + Net<Listener = TcpListener, Stream = T
     Ok(told?)
 }
 
-/// What came of a stop under load: how many packets the peer fulfilled, what the host was told, what the clients were told,
+/// The outcome of a stop under load: how many packets the peer fulfilled, the answers to the host and to the clients,
 /// and what the service printed.
 #[derive(Drop)]
 struct Stop {
@@ -418,8 +418,8 @@ fn lines_after(alloc: Global, acme: u64, beta: u64) -> Result<String, Fail> {
     Ok(replaced(alloc, lines, &values)?)
 }
 
-// What a stop leaves is what clients and peers were told: each packet that the peer fulfilled was told so, and stands in the
-// balances of the setup.
+// A stop leaves what clients and peers saw. Each packet that the peer fulfilled had that reply, and is in the balances
+// of the setup.
 #[test]
 fn a_stop_loses_nothing(rt: HostRuntime) -> Result<(), Fail> {
     let alloc = rt.alloc();

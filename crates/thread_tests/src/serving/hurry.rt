@@ -1,4 +1,4 @@
-//! What a connection is given where others wait, and where the service stops; and callers at the host's door who bring nothing.
+//! What a connection gets while others wait, and when the service stops; and idle callers at the host's door.
 
 use super::crowd::{connected, setup_text};
 use super::host::{Addresses, HEALTH, HEALTHY, METRICS, STOP, serve_with_host, served_with_host};
@@ -86,7 +86,7 @@ fn who_asks_without_end_gives_way(rt: HostRuntime) -> Result<(), Fail> {
     Ok(())
 }
 
-// Whether the host is told so within two seconds.
+// Whether the host gets that answer within two seconds.
 fn is_soon(
     rt: &(impl Net<Stream = TcpStream> + Clock),
     alloc: Global,
@@ -138,8 +138,7 @@ fn a_stop_is_clean_after_an_accept_that_failed(rt: HostRuntime) -> Result<(), Fa
     Ok(())
 }
 
-// How long the host's questions and a stop take beside connections that bring nothing, and what the questions' answers begin
-// with.
+// How long the host's questions and a stop take beside idle connections, and how the answers to the questions begin.
 fn asked_beside_callers(
     rt: &(impl Net<Stream = TcpStream> + Clock),
     alloc: Global,

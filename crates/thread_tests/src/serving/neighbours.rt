@@ -1,4 +1,4 @@
-//! Neighbours that bring nothing, and a tenant whose peer says nothing.
+//! Neighbours that are idle, and a tenant whose peer never answers.
 
 use super::wire::{is_reply, is_text, packet_by, request, two_tenants};
 use super::{ALL, NOTHING, NOTHING_MORE, answer_of, asked, lonely_port, sent, served_while, usual};
@@ -10,8 +10,8 @@ use std::test::Fail;
 use std::time::{Clock, Duration, Instant};
 use std::{io, thread};
 
-// The answers to a request that is asked three times beside two connections that bring nothing, and whether they came within
-// ten seconds.
+// The answers to a request that is sent three times beside two idle connections, and whether they came within ten
+// seconds.
 fn asked_beside_idle(
     rt: &(impl Net<Stream = TcpStream> + Clock),
     alloc: Global,
@@ -32,7 +32,7 @@ fn asked_beside_idle(
     Ok((answers, spent < Duration::from_secs(10)))
 }
 
-// There are two threads, and each has a connection that brings nothing.
+// There are two threads, and each has an idle connection.
 const TWO_THREADS: Extent = Extent {
     workers: 1,
     connections: 2,
@@ -92,7 +92,8 @@ fn asked_beside_silence(
     })
 }
 
-// What the service prints in the end. Of each of the five packets there are two receipts, and one of each tenant's roll.
+// What the service prints at the end. Of each of the five packets there are two receipts, and one of each tenant's
+// roll.
 const PRINTED: &str = "acme balance alice 0 0 0
 acme balance bob 0 0 0
 acme ok

@@ -1,4 +1,4 @@
-//! A client that waits until it is told to go on.
+//! A client that waits for `100 Continue`.
 
 use super::wire::good_reply;
 use super::{ALONE, NOTHING_MORE, answer_of, served_while, usual};

@@ -8,7 +8,7 @@ use std::alloc::Global;
 use std::test::Fail;
 use test_texts::{frame, replaced, setup_by};
 
-/// A clock that stands at the start.
+/// A clock that always gives the start.
 pub struct FixedClock;
 
 impl workers::Clock for FixedClock {

@@ -9,7 +9,7 @@ use std::test::Fail;
 use tenant_core::{Answered, Command, CommandFault, Order, Period};
 use workers::{GovernFault, govern};
 
-// What comes of a command of acme's operator, which the meters have counted as answered.
+// The outcome of a command of acme's operator, which the meters have counted as answered.
 fn governed<J: Run, R: Wait + AllocGlobal>(
     rt: &R,
     team: &mut Team<J>,

@@ -42,7 +42,7 @@ pub(super) struct Packet {
     entries: u64,
     strangers: u64,
     full_journals: u64,
-    // The balances and the number of acme's book in the end.
+    // The balances and the number of acme's book at the end.
     gathered: (i64, i64, u64, u64, u64),
 }
 
@@ -206,7 +206,7 @@ pub(super) fn is_carried<J: Run, R: Wait + AllocGlobal>(
     Ok(is_settled && is_sent && is_counted(&team.first, packet))
 }
 
-// The same, with its bytes and those of what the sender is told.
+// The same, with its bytes and those of the reply to the sender.
 fn is_settled<J: Run, R: Wait + AllocGlobal>(
     rt: &R,
     team: &mut Team<J>,
@@ -232,7 +232,7 @@ fn is_counted<J: Run>(share: &Share<J>, packet: &Packet) -> bool {
         && share.full_journals(0) == packet.full_journals
 }
 
-// The reply to a job, whether the sender is told what it should be, and what the meters have counted, by a clock that goes
+// The reply to a job, whether the sender gets what it should, and what the meters have counted, by a clock that goes
 // on by that step.
 fn carried<J: Run, R: Wait + AllocGlobal>(
     rt: &R,

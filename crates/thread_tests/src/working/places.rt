@@ -22,7 +22,7 @@ fn asked(lending: &mut Lending, tenant: usize) -> Admission {
     lending.ask(tenant)
 }
 
-// What comes of a place that the tenant gives back.
+// Gives back a place of the tenant. Returns the tenant that it is kept for.
 fn given_back(lending: &mut Lending, tenant: usize) -> Option<usize> {
     if tenant >= lending.tenants() || !lending.uses(tenant) {
         return None;
@@ -229,7 +229,7 @@ fn is_before(clock: &impl Clock, until: Instant) -> bool {
     }
 }
 
-// Whether the tenant comes to stand so with the places before that moment.
+// Whether the tenant's use of the places becomes that before that moment.
 fn comes_to<R: Wait + Clock>(
     rt: &R,
     places: &Places,

@@ -60,7 +60,7 @@ impl Meeting {
         self.given_up.store(1, Ordering::SeqCst);
     }
 
-    // Keeps worker 0 where it is to be kept.
+    // Keeps worker 0 at the meeting's place.
     fn come(&self, worker: usize, place: Place) {
         if worker == 0 && place == self.place {
             self.kept.store(1, Ordering::SeqCst);
@@ -80,7 +80,7 @@ impl Gate for Meeting {
     }
 }
 
-/// A clock of a worker, which stands.
+/// A worker's clock, which always gives the same moment.
 #[derive(Clone, Copy)]
 struct MetClock<'a> {
     meeting: &'a Meeting,
@@ -263,8 +263,8 @@ struct Together {
     gathered: (i64, i64, u64, u64, u64),
 }
 
-// Lets both carry, on the books of acme and beta, and tells whether all came of it that should. This is no `Trial`:
-// nothing is proved of a method that starts threads with what its own bounds give it.
+// Lets both carry, on the books of acme and beta, and says whether the outcome is the expected one. This is no
+// `Trial`: nothing is proved of a method that starts threads with what its own bounds give it.
 fn carry_together<R: Threads + Wait + Sync>(
     rt: &R,
     alloc: Global,

@@ -87,7 +87,7 @@ impl Told {
         Ok(())
     }
 
-    /// A tick was told.
+    /// A tick was made.
     pub fn ticked(&mut self, now: u64) {
         self.enter(now);
         let clock = self.clock;

@@ -55,7 +55,7 @@ pub struct Filled {
     pub credit: u64,
 }
 
-/// What a peer's bucket was told at a clock: that a packet passed, or what it is for from then on.
+/// A change of a peer's bucket at a clock: a packet passed, or the bucket has these terms from then on.
 #[derive(Clone, Copy)]
 pub struct Poured {
     pub peer: PeerNo,
@@ -211,7 +211,7 @@ impl Told {
         count
     }
 
-    // What packets of that fate brought from a peer, and what those for it came to.
+    // The sums of packets of that fate: of those that came from a peer, and of those that went to it.
     fn amounts(&self, peer: PeerNo, fate: Fate) -> (u64, u64) {
         let mut brought = 0u64;
         let mut cost = 0u64;
@@ -265,8 +265,9 @@ impl Told {
         found
     }
 
-    /// The credit of a peer's bucket: what it had when it was filled last, with what flowed in, less the packets since; or what
-    /// is left, after a packet and those behind it, of a bucket that was full before it, if that is less for some packet.
+    /// The credit of a peer's bucket: what it had when it was filled last, with what flowed in, less the packets
+    /// since. Each packet since also bounds it: by what is left of a bucket that was full before it, after it and
+    /// those that followed.
     pub fn credit(&self, peer: PeerNo, now: u64) -> u64 {
         let Some((since, filled)) = self.last_filled(peer) else {
             return 0;

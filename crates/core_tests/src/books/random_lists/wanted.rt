@@ -1,4 +1,4 @@
-//! What is to be told, by the list of what was told before.
+//! The answers that must come, by the list of those before.
 
 use super::told::{Fate, Peer, Told, full, is_awaited};
 use crate::books::setups::{Agreed, MOST, Wanted, verdict};

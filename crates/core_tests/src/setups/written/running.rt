@@ -36,7 +36,7 @@ enum Step {
     Roll,
 }
 
-/// Steps, behind those of the stages before; what is held after them from alice and for bob; and what is written then.
+/// Steps, after those of the stages before; what is held after them from alice and for bob; and what is written then.
 struct Stage {
     title: &'static str,
     steps: &'static [Step],
