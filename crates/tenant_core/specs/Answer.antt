@@ -61,7 +61,7 @@ abbrev pub settled : Option Hold → ℕ → AnswerKey → Result Verdict HoldFa
 settled None clock key = Err NoSuchHold
 settled (Some h) clock key = Ok (settle_answer h clock key)
 
--- what comes of an answer to the hold of that number at this moment
+-- the verdict on an answer to the hold of that number at this moment
 abbrev pub answer_to : State → ℕ → ℕ → AnswerKey → Result Verdict HoldFault
 answer_to s hold now key = settled (open_hold s hold) (max (clock_of s) now) key
 
@@ -89,7 +89,7 @@ has_no_place s = nat_lt s.opening.journal (length s.records + open_holds s + 1)
 abbrev pub tick_count : State → ℕ → ℕ
 tick_count s clock = count_by (is_overdue clock) (holds_of s)
 
--- what comes of a tick at this moment
+-- the result of a tick at this moment
 abbrev pub tick_result : State → ℕ → Result ℕ BookFault
 tick_result s now = if has_no_place s then Err Full else Ok (tick_count s (max (clock_of s) now))
 

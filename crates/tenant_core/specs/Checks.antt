@@ -2,7 +2,7 @@
 use Rattle.std.specs.Prelude.{Bool, Option, Some, None, if◌then◌else◌}
 
 infix 4 ◌⇒◌
--- where the check fails, that is the result; else the next line decides
+-- if the check fails, that is the result; otherwise the next line decides
 abbrev pub ◌⇒◌ : {V : Type 0} → Bool → V → V → V
 fails ⇒ v = λ next. if fails then v else next
 

@@ -1,4 +1,4 @@
--- What an operator tells a tenant's book.
+-- The commands of an operator to a tenant's book.
 use Rattle.std.specs.Prelude.{ℕ, List}
 
 -- the names of two peers, from the one to the other

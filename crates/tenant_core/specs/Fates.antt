@@ -1,4 +1,4 @@
--- Holds in plain words: each packet that went on, with what the records behind its own say of it.
+-- Holds in plain words: each packet that went on, and its fate by the records after its own.
 use Rattle.std.specs.Prelude.{ℕ, ◌≡◌, Bool, true, false, ◌&&◌, ◌||◌, ◌==◌, List, [], ◌∷◌, ◌++◌, find, Option, Some, None, nat_le}
 use Rattle.tenant_core.specs.Holds.{holds_of, hold_begun, is_fulfill, is_relayed, with_fate}
 use Rattle.tenant_core.specs.State.{State, later}
@@ -37,7 +37,7 @@ fate_by (Some r) ticked = Ended (fulfills r.entry r.outcome)
 fate_by None true = Marked
 fate_by None false = Held
 
--- what becomes of a hold by the records behind the one that began it, which follow that clock
+-- the fate of a hold by the records after the one that began it, which follow that clock
 abbrev pub fate_of : Hold → (clock : ℕ) → List Record → Fate
 fate_of h clock rs = fate_by (find (λ r. is_answer_to h.number r.entry) rs) (is_ticked_past h.expiry clock rs)
 

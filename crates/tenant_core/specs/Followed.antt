@@ -5,7 +5,7 @@ use Rattle.tenant_core.specs.declared.faults.CommandFault.TheVariants.{Memory}
 use Rattle.tenant_core.specs.declared.journal.Outcome.{Outcome}
 use Rattle.tenant_core.specs.declared.journal.Outcome.TheVariants.{Done}
 
--- what the entry of its change leads to; nothing is said of that where memory was refused
+-- what the entry of its change leads to; nothing is said of that if it is out of memory
 abbrev pub order_outcome : Result (Unit {0}) CommandFault → Option (Option Outcome)
 order_outcome (Ok done) = Some (Some Done)
 order_outcome (Err Memory) = None

@@ -34,7 +34,7 @@ new_bucket t clock =
       credit = full_bucket t.bucket.burst;
     }
 
--- a list without what stands at a place, if there is one
+-- a list without the element at a place, if there is one
 abbrev pub without : {X : Type 0} → List X → Option ℕ → List X
 without xs None = xs
 without xs (Some i) = remove xs i
@@ -53,7 +53,7 @@ abbrev pub is_past_bound : Side → ℕ → Account → Bool
 is_past_bound In amount a = is_past_least a amount
 is_past_bound Out amount a = is_past_most a amount
 
--- the purses after a change, whose peer stood at that place
+-- the purses after a change, whose peer was at that place
 abbrev pub purses_after : Changed → Option ℕ → List Account → List Account
 purses_after (PeerAdded t) place xs = xs ++ new_purse t ∷ []
 purses_after (PeerRemoved n) place xs = without xs place

@@ -62,12 +62,12 @@ command_made s (command.Order order) now = order_made (ordered s order) now
 command_made s command.Balances now = None
 command_made s command.Roll now = roll_made (roll_refusal s) now
 
--- the record that a command made which was answered so: none where it was refused, or for want of memory
+-- the record of a command with that answer: none if it was refused or out of memory
 abbrev pub made_by : Result Answered CommandFault → State → Command → ℕ → Option Record
 made_by (Ok answered) s c now = command_made s c now
 made_by (Err fault) s c now = None
 
--- a fault is what was to come, or want of memory where nothing is refused
+-- a fault is the one that had to come, or it is out of memory and the command is not refused
 abbrev pub IsRefusal : CommandFault → Result Answered CommandFault → Type 0
 IsRefusal fault (Ok answered) = fault ≡ Memory
 IsRefusal fault (Err named) = fault ≡ named

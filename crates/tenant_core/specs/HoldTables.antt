@@ -14,13 +14,13 @@ pub record Table : Type 0 where
 abbrev pub HoldAt : List Hold → ℕ → (Hold → Type 0) → Type 0
 HoldAt hs place P = (h : Hold) → slice_get hs place ≡ Some h → P h
 
--- a place stands in a list of places
+-- a place is in a list of places
 pub record IsListed (places : List ℕ) (place : ℕ) : Type 0 where
   pub at : ℕ
   pub inside : at < length places
   pub there : slice_get places at ≡ Some place
 
--- each hold that awaits its answer stands in the table
+-- each hold that awaits its answer is in the table
 abbrev pub IsComplete : Table → Type 0
 IsComplete t = (place : ℕ) (h : Hold) → slice_get t.holds place ≡ Some h → is_open h ≡ true → IsListed t.awaiting place
 
@@ -28,11 +28,11 @@ IsComplete t = (place : ℕ) (h : Hold) → slice_get t.holds place ≡ Some h �
 pub record IsIndexed (hs : List Hold) (awaiting slots : List ℕ) : Type 0 where
   -- each hold has a slot
   pub same : length slots ≡ length hs
-  -- the slot of a place in the table says where it stands, and the hold there is open
+  -- the slot of a place in the table is that place's index there, and the hold is open
   pub told : (k place : ℕ) → slice_get awaiting k ≡ Some place → slice_get slots place ≡ Some k
   pub held : (k place : ℕ) (h : Hold) → slice_get awaiting k ≡ Some place → slice_get hs place ≡ Some h
       → is_open h ≡ true
-  -- an open hold stands where its slot says
+  -- an open hold is in the table at the index in its slot
   pub listed : (place k : ℕ) (h : Hold) → slice_get hs place ≡ Some h → is_open h ≡ true
       → slice_get slots place ≡ Some k → slice_get awaiting k ≡ Some place
   pub count : length awaiting ≡ count_by is_open hs

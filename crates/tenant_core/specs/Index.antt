@@ -1,4 +1,4 @@
--- Indexes: the places of a list in the order of what stands there.
+-- Indexes: the places of a list in the order of its elements.
 use Rattle.std.specs.Prelude.{ℕ, ◌≢◌, List}
 use Rattle.std.specs.List.{range_with_len, slice_get, AllPairs}
 use Rattle.std.specs.List.Sorted.{IsPermutation, IsSortedBy}

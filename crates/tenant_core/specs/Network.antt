@@ -143,7 +143,7 @@ rate_refusal net r =
     if has_pair r net.rates then None
     else (if nat_le max_rates (length net.rates) then Some Limit else None)
 
--- what became of a change: refused, or not for want of memory, and then nothing changed; or made
+-- the result of a change: refused, or out of memory without being refused, and then nothing changed; or made
 abbrev pub IsChanged : Result (Unit {0}) CommandFault → Option CommandFault → Net → Net → Net → Type 0
 IsChanged (Ok done) refusal before after changed = (refusal ≡ None) × (after ≡ changed)
 IsChanged (Err Memory) refusal before after changed = (refusal ≡ None) × (after ≡ before)
@@ -151,7 +151,7 @@ IsChanged (Err fault) refusal before after changed = (refusal ≡ Some fault) ×
 
 -- whom a network names, and by what
 pub record IsNetwork (net : Net) : Type 0 where
-  -- peers are told apart by number, by token and by name
+  -- peers differ by number, by token and by name
   pub peers : length net.peers ≤ max_peers
   pub numbers : All (λ p. peer_numbered p.number net.peers ≡ Some p) net.peers
   pub tokens : All (λ p. peer_with_token p.terms.token net.peers ≡ Some p) net.peers

@@ -98,7 +98,7 @@ abbrev pub unless_refused : Changed → Option CommandFault → Result Changed C
 unless_refused c None = Ok c
 unless_refused c (Some fault) = Err fault
 
--- what comes of an order: the change that it makes, or what it is refused for
+-- the result of an order: the change that it makes, or why it is refused
 abbrev pub ordered : State → Order → Result Changed CommandFault
 ordered s order =
     if has_no_place s then Err Full

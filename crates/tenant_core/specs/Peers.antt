@@ -1,4 +1,4 @@
--- Peers in plain words: those of the opening and those that records added, each as the records behind leave it.
+-- Peers in plain words: those of the opening and those that records added, each as the later records leave it.
 use Rattle.std.specs.Prelude.{ℕ, ◌≡◌, ◌+◌, ◌==◌, Bool, false, List, [], ◌∷◌, ◌++◌, map, fold, if◌then◌else◌}
 use Rattle.std.specs.List.{flat_map, list_any}
 use Rattle.tenant_core.specs.Present.{network_of}
@@ -79,7 +79,7 @@ abbrev pub left_by : List Record → Agreed → List Agreed
 left_by records p =
     if list_any (λ r. takes_away p.number r.entry) records then [] else agreed_after records p ∷ []
 
--- the peer that the change adds under that number, if it does, after the records behind
+-- the peer that the change adds under that number, if it does, after the later records
 abbrev pub added_in : ℕ → Changed → List Record → List Agreed
 added_in next (PeerAdded t) behind = left_by behind (record { number = next; terms = t })
 added_in next _ behind = []
@@ -99,13 +99,14 @@ abbrev pub next_by : ℕ → Entry → ℕ
 next_by next (Change c) = next_in next c.change
 next_by next _ = next
 
--- the peers that records add, the first of them under that number, each after the records behind the one that adds it
+-- the peers that records add, the first of them under that number, each after the records that follow its own
 abbrev pub peers_added : ℕ → List Record → List Agreed
 peers_added next [] = []
 peers_added next (r ∷ rs) = added_by next r.entry rs ++ peers_added (next_by next r.entry) rs
 
--- the peers of a state are those of its opening and those that its records added, in this order, less those that a record behind
--- took away; and each has the limits and the bucket of the last record that set them, else those that it came with
+-- The peers of a state are those of its opening and those that its records added, in this order, less those that a
+-- later record took away. Each has the limits and the bucket of the last record that set them, or those that it came
+-- with
 abbrev pub PeerLaw : Type 0
 PeerLaw =
     (s : State) → map agreed_with (network_of s).peers

@@ -1,4 +1,4 @@
--- A tenant as it stands, told as a setup.
+-- A tenant as it is now, as a setup.
 use Rattle.std.specs.Prelude.{ℕ, ◌≡◌, List}
 use Rattle.tenant_core.specs.Network.{begun}
 use Rattle.tenant_core.specs.Periods.{carried_net, next_opening}

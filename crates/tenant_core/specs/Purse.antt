@@ -27,7 +27,7 @@ abbrev pub amount_on : Side → Hold → ℕ
 amount_on In h = h.amount
 amount_on Out h = h.price
 
--- what a hold comes to on that side for the peer of that number, where such a fate counts
+-- the amount of a hold on that side for the peer of that number, if such a fate counts
 abbrev pub comes_to : Side → (Fate → Bool) → ℕ → Hold → ℕ
 comes_to side counts n h = if counts h.fate && (peer_on side h == n) then amount_on side h else 0
 
@@ -56,7 +56,7 @@ held_out_of s n = sum_by (held_for n) (holds_of s)
 abbrev pub taken_in_of : State → ℕ → ℕ
 taken_in_of s n = sum_by (taken_from n) (holds_of s)
 
--- what fulfilled packets for the peer of that number came to, in its units
+-- the amounts of fulfilled packets for the peer of that number, in its units
 abbrev pub taken_out_of : State → ℕ → ℕ
 taken_out_of s n = sum_by (taken_for n) (holds_of s)
 

@@ -1,4 +1,4 @@
--- What a book keeps of its state, whatever it was told.
+-- What a book always keeps of its state.
 use Rattle.std.specs.Prelude.{ℕ, ◌<◌, ◌≤◌, ◌+◌, ◌*◌, length}
 use Rattle.ilp_addr.specs.Timestamp.{last_moment}
 use Rattle.tenant_core.specs.Called.{AreCalled}

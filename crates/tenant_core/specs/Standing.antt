@@ -49,7 +49,7 @@ CanGoTo s from to amount (Forward hold peer price expiry) =
     × (is_past_credit (purse_of s to) price ≡ false) × (open_holds s < max_holds)
 CanGoTo s from to amount _ = Unit {0}
 
--- the same of the peer that it goes on to, whoever that is
+-- the same of the peer that it goes on to
 abbrev pub CanGoOn : State → Peer → ℕ → Verdict → Type 0
 CanGoOn s from amount (Forward hold peer price expiry) =
     (to : Peer) × ((peer_numbered peer (network_of s).peers ≡ Some to) × (is_past_ceiling (purse_of s from) amount ≡ false)

@@ -148,7 +148,7 @@ impl Journal {
     ghost use Rattle.tenant_core.specs.declared.journal.Entry.TheVariants.{Decide, Answer, Tick, Change, Roll};
     ghost use Rattle.tenant_core.specs.declared.journal.Outcome.TheVariants.{Packet, Ticked, Done, Rolled};
 
-    /// No record, and room for so many. The one error is want of memory.
+    /// No record, and room for so many. Fails only if it is out of memory.
     pub(crate) fn new(alloc: Global, places: usize) -> Result<Journal, AllocError>
         requires { places ≤ max_records }
         ensures { IfOk result (λ journal. journal ≡ no_records places) }
@@ -173,7 +173,7 @@ impl Journal {
         }
     }
 
-    /// The same records once more, with as much room. The one error is want of memory.
+    /// A copy of the records, with as much room. Fails only if it is out of memory.
     pub(crate) fn copy(&self, alloc: Global) -> Result<Journal, AllocError>
         ensures { IfOk result (λ copy. copy ≡ self.now) }
     {

@@ -110,7 +110,7 @@ impl Book {
         })
     }
 
-    /// The same book once more, with as much room. The one error is want of memory.
+    /// A copy of the book, with as much room. Fails only if it is out of memory.
     pub fn copy(&self, alloc: Global) -> Result<Book, AllocError>
         ensures { IfOk result (λ book. book ≡ self.now) }
     {
@@ -257,7 +257,7 @@ impl Book {
         self.journal.len() as u64 + self.holds.awaited() as u64 + 1 > self.opening.journal
     }
 
-    // What the type keeps, for whoever holds a book.
+    // The invariant of the type, for any holder of a book.
     pub(crate) fn is_sound(&self)
         ensures { IsSound self.now }
     {
@@ -346,8 +346,10 @@ impl Book {
     /// - after all of them it is `Relay`.
     ///
     /// A Fulfill that is relayed is taken on both sides: the sender owes the incoming amount more, and the receiver
-    /// the outgoing amount less. Else what was held is released on both sides. No such packet awaits an answer:
-    /// `NoSuchHold`, and nothing has changed, the clock included. The clock is the greatest moment so far.
+    /// the outgoing amount less. Otherwise what was held is released on both sides. The clock is the greatest moment
+    /// so far.
+    ///
+    /// `NoSuchHold` if no such packet awaits an answer. Nothing has changed then, the clock included.
     pub fn answer(&mut self, hold: u64, now: Moment, key: AnswerKey) -> Result<Verdict, HoldFault>
         ensures verdict { result ≡ answer_to self.old hold now key }
         ensures records { self.new ≡ answered self.old hold now key }
@@ -465,7 +467,7 @@ impl Book {
         Ok(Period::new(closed))
     }
 
-    // What each peer owes, and what is held from it and for it. The one error is want of memory.
+    // What each peer owes, and what is held from it and for it. Fails only if it is out of memory.
     fn balances(&self, alloc: Global) -> Result<Vec<Row>, AllocError>
         ensures { IfOk result (λ rows. rows.items ≡ map (row_of self.now) (network_of self.now).peers) }
     {

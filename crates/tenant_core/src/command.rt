@@ -1,4 +1,4 @@
-//! What an operator tells a tenant's book.
+//! The commands of an operator to a tenant's book.
 
 ghost use Rattle.std.specs.Prelude.{◌≡◌, not, Some, None, if◌then◌else◌};
 ghost use Rattle.std.specs.Str.{bytes_eq};

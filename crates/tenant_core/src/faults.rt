@@ -45,7 +45,7 @@ pub enum CommandFault {
     /// There would be too many, or too much.
     #[error("it would exceed a limit")]
     Limit,
-    /// Memory was refused.
+    /// Out of memory.
     #[error("out of memory")]
     Memory,
 }

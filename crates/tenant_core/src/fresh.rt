@@ -27,7 +27,8 @@ pub struct Fresh {
     pub buckets: Vec<Bucket>,
 }
 
-/// That of a period which begins with this network, and whose journal has so many places. The one error is want of memory.
+/// That of a period which begins with this network, and whose journal has so many places. Fails only if it is out of
+/// memory.
 pub fn begin_period(alloc: Global, network: &Network, places: u64) -> Result<Fresh, AllocError>
     requires { places ≤ max_journal }
     ensures { IfOk result (IsFresh network.now places) }
@@ -55,7 +56,7 @@ pub struct Next {
     pub fresh: Fresh,
 }
 
-/// The next period, which begins at that clock. The one error is want of memory.
+/// The next period, which begins at that clock. Fails only if it is out of memory.
 pub fn next_period(alloc: Global, standing: &Standing<'_>, clock: u64) -> Result<Next, AllocError>
     requires shown { IsShown standing.now }
     requires later { clock_of (state_shown standing.now) ≤ clock }

@@ -37,7 +37,7 @@ pub struct Hold {
     pub fate: Fate,
 }
 
-/// The holds once more, with room for so many. The one error is want of memory.
+/// A copy of the holds, with room for so many. Fails only if it is out of memory.
 pub fn copied_holds(alloc: Global, holds: &[Hold], room: usize) -> Result<Vec<Hold>, AllocError>
     requires { length holds.now ≤ room }
     ensures items { IfOk result (λ copy. copy.items ≡ holds.now) }

@@ -16,7 +16,7 @@ pub struct HoldTable {
     room: usize,
     // The places of those that await their answers, in no particular order.
     awaiting: Vec<u16>,
-    // For each hold, where its place stands among these while it awaits its answer.
+    // For each hold that awaits its answer, the index of its place in `awaiting`.
     slots: Vec<u16>,
 }
 
@@ -54,7 +54,7 @@ impl HoldTable {
     ghost use Rattle.tenant_core.specs.Limits.{max_holds, max_journal};
     ghost use Rattle.tenant_core.specs.declared.hold.Fate.TheVariants.{Marked, Ended};
 
-    /// No hold, and room for so many. The one error is want of memory.
+    /// No hold, and room for so many. Fails only if it is out of memory.
     pub fn new(alloc: Global, room: usize) -> Result<HoldTable, AllocError>
         requires { room ≤ max_journal }
         ensures { IfOk result (λ table. table ≡ record { holds = []; room = room; awaiting = [] }) }
@@ -70,7 +70,7 @@ impl HoldTable {
         })
     }
 
-    /// The same holds once more, with as much room. The one error is want of memory.
+    /// A copy of the holds, with as much room. Fails only if it is out of memory.
     pub fn copy(&self, alloc: Global) -> Result<HoldTable, AllocError>
         ensures { IfOk result (λ table. table ≡ self.now) }
     {
@@ -117,7 +117,7 @@ impl HoldTable {
         self.holds.get(place)
     }
 
-    /// Where one of those stands that await their answers: the k-th, in no particular order.
+    /// The place of the k-th hold that awaits its answer. They have no particular order.
     pub fn awaiting_at(&self, k: usize) -> usize
         requires { k < length self.now.awaiting }
         ensures value { slice_get self.now.awaiting k ≡ Some result }
@@ -126,7 +126,7 @@ impl HoldTable {
         self.awaiting[k] as usize
     }
 
-    /// Each hold that awaits its answer stands in the table.
+    /// Each hold that awaits its answer is in the table.
     pub fn is_complete(&self)
         ensures { IsComplete self.now }
     {

@@ -164,7 +164,7 @@ impl ChangeEntry {
     ghost use Rattle.std.specs.Prelude.{◌≡◌, ◌≤◌, IfOk};
     ghost use Rattle.ilp_addr.specs.Address.{max_address};
 
-    /// The same entry once more. The one error is want of memory.
+    /// A copy of the entry. Fails only if it is out of memory.
     pub fn copy(&self, alloc: Global) -> Result<ChangeEntry, AllocError>
         ensures { IfOk result (λ copy. copy ≡ self.entry.now) }
     {
@@ -190,7 +190,7 @@ impl Change {
     ghost use Rattle.std.specs.Prelude.{◌≡◌, ◌≤◌, IfOk};
     ghost use Rattle.ilp_addr.specs.Address.{max_address};
 
-    /// The same change once more. The one error is want of memory.
+    /// A copy of the change. Fails only if it is out of memory.
     pub fn copy(&self, alloc: Global) -> Result<Change, AllocError>
         ensures { IfOk result (λ copy. copy ≡ self.now) }
     {

@@ -33,15 +33,16 @@ pub fn open_holds()
     ensures { OpenHoldLaws }
 {}
 
-/// The holds of a state are the packets that its records say went on, in their order. What became of each the records behind
-/// its own say: an answer that names it ends it, the first one; else the first tick after its expiry marks it; else its
-/// amounts are held.
+/// The holds of a state are the packets that its records say went on, in their order. The records after its own decide
+/// the fate of each. The first answer that names it ends it. Otherwise the first tick after its expiry marks it.
+/// Otherwise its amounts are held.
 pub fn fates()
     ensures { FateLaw }
 {}
 
-/// The peers of a state are those of its opening and those that its records added, in this order, less those that a record
-/// behind took away. Each has the limits and the bucket of the last record that set them, else those that it came with.
+/// The peers of a state are those of its opening and those that its records added, in this order, less those that a
+/// later record took away. Each has the limits and the bucket of the last record that set them, or those that it came
+/// with.
 pub fn peers()
     ensures { PeerLaw }
 {}

@@ -94,7 +94,7 @@ pub fn mark_overdue(
     count
 }
 
-// Where the hold of that number stands, if it awaits its answer. Holds are numbered from `first` on.
+// The place of the hold of that number, if it awaits its answer. Holds are numbered from `first` on.
 fn place_of(holds: &[Hold], first: u64, number: u64) -> Option<usize>
     requires numbers { AreNumbered first holds.now }
     ensures value { option_and_then (λ place. slice_get holds.now place) result ≡ find (is_open_under number) holds.now }

@@ -19,9 +19,9 @@ use route_table::{Hop, MAX_ROUTES, PeerNo, RouteFault, Routes};
 use std::alloc::{AllocError, Global};
 use std::marker::Model;
 
-/// Whom a tenant deals with, and how. Its type keeps that peers are told apart by number, name and token, that routes and
-/// rates name peers that are there, and that an ordered pair of two peers has one rate. Numbers, tokens and pairs are looked up
-/// without a walk over the list.
+/// Whom a tenant deals with, and how. By its type, peers differ by number, name and token, routes and rates name peers
+/// that are there, and an ordered pair of two peers has one rate. Numbers, tokens and pairs are looked up without a
+/// walk over the list.
 #[derive(Drop)]
 pub struct Network {
     next_peer: PeerNo,
@@ -208,7 +208,7 @@ impl Network {
         self.rates.as_slice()
     }
 
-    /// Where the peer stands that shows this token, in the order in which peers were added.
+    /// The place of the peer with this token, in the order in which peers were added.
     pub fn place_with_token(&self, token: &[u8]) -> Option<usize>
         ensures inside { IfSome result (λ at. at < length self.now.peers) }
         ensures value { option_and_then (λ at. slice_get self.now.peers at) result
@@ -220,7 +220,7 @@ impl Network {
         }
     }
 
-    /// Where the peer of that number stands.
+    /// The place of the peer of that number.
     pub fn place_numbered(&self, number: PeerNo) -> Option<usize>
         ensures inside { IfSome result (λ at. at < length self.now.peers) }
         ensures value { option_and_then (λ at. slice_get self.now.peers at) result

@@ -31,8 +31,8 @@ impl Opening {
     ghost use Rattle.std.specs.Prelude.{◌≡◌, IfOk};
     ghost use Rattle.tenant_core.specs.State.{opening_of};
 
-    /// What the first period of a tenant begins with, which is at that place among all tenants and starts at that moment. The
-    /// one error is want of memory.
+    /// The opening of a tenant's first period, which starts at that moment. The tenant is at that place among all
+    /// tenants. Fails only if it is out of memory.
     pub fn first(
         alloc: Global,
         tenant: usize,
@@ -59,7 +59,7 @@ impl Opening {
         })
     }
 
-    /// The same opening once more. The one error is want of memory.
+    /// A copy of the opening. Fails only if it is out of memory.
     pub fn copy(&self, alloc: Global) -> Result<Opening, AllocError>
         ensures { IfOk result (λ copy. copy ≡ self.now) }
     {

@@ -57,7 +57,7 @@ pub fn rate_named(network: &Network, pair: &Pair, rate: Rate) -> Option<RateTerm
     Some(RateTerms { from, to, rate })
 }
 
-/// What an order changes, if the peers are there that it names. The one error is want of memory.
+/// The change of an order, if the peers that it names are there. Fails only if it is out of memory.
 pub fn change_of(
     alloc: Global,
     network: &Network,
@@ -115,7 +115,7 @@ pub fn peer_changed(change: &Change) -> Option<PeerNo>
     }
 }
 
-/// Where that peer stands.
+/// The place of that peer.
 pub fn place_changed(network: &Network, change: &Change) -> Option<usize>
     ensures inside { IfSome result (λ at. at < length network.now.peers) }
     ensures value { option_and_then (λ at. slice_get network.now.peers at) result
@@ -163,7 +163,8 @@ fn pair_of(network: &Network, rate: &RateTerms) -> Option<Pair>
     Pair::new(from, to)
 }
 
-/// An order that makes a change, if the peers are there that it names. The one error is want of memory.
+/// An order that makes a change, if the peers that it names are there. Fails only if it is out of
+/// memory.
 pub fn order_for(
     alloc: Global,
     network: &Network,

@@ -82,8 +82,8 @@ pub struct PeriodParts {
 impl PeriodParts {
     ghost use Rattle.std.specs.Prelude.{◌≡◌, [], IfOk};
 
-    /// The place of what a roll is to close, with what each peer owed: the next opening is its ending, and stands where the old
-    /// one is to come. The one error is want of memory.
+    /// The boxed parts of the period that a roll will close, with what each peer owed. `next` is its ending, and fills
+    /// the place of its opening until the roll. Fails only if it is out of memory.
     pub(crate) fn begun(
         alloc: Global,
         next: Opening,
@@ -192,7 +192,7 @@ impl Period {
         self.parts.get().rows.as_slice()
     }
 
-    // What the type keeps, for whoever holds a period.
+    // The invariant of the type, for any holder of a period.
     pub(crate) fn is_kept(&self)
         ensures { IsPeriod self.now }
     {

@@ -35,7 +35,7 @@ fn balance_of(purse: &Purse) -> Balance
     Balance::new(purse.balance()).unwrap()
 }
 
-// The row of the peer that stands at that place.
+// The row of the peer at that place.
 fn row_at(standing: &Standing<'_>, place: usize) -> Row
     requires shown { IsShown standing.now }
     requires inside { place < length standing.now.network.now.peers }
@@ -46,7 +46,7 @@ fn row_at(standing: &Standing<'_>, place: usize) -> Row
     row_of(party.peer, party.purse)
 }
 
-/// What each peer owes. The one error is want of memory.
+/// What each peer owes. Fails only if it is out of memory.
 pub fn rows_of(alloc: Global, standing: &Standing<'_>) -> Result<Vec<Row>, AllocError>
     requires { IsShown standing.now }
     ensures { IfOk result (λ rows. rows.items
@@ -60,8 +60,8 @@ pub fn rows_of(alloc: Global, standing: &Standing<'_>) -> Result<Vec<Row>, Alloc
     Ok(rows)
 }
 
-// The peer that stands at that place, as the next period finds it: with the balance of its purse, and the credit of its
-// bucket at that clock.
+// The peer at that place, as the next period finds it: with the balance of its purse, and the credit of its bucket at
+// that clock.
 fn carried_at(standing: &Standing<'_>, clock: u64, place: usize) -> Peer
     requires shown { IsShown standing.now }
     requires later { clock_of (state_shown standing.now) ≤ clock }
@@ -82,7 +82,7 @@ fn carried_at(standing: &Standing<'_>, clock: u64, place: usize) -> Peer
     }
 }
 
-/// Peers as the next period finds them, which begins at that clock. The one error is want of memory.
+/// Peers as the next period finds them, which begins at that clock. Fails only if it is out of memory.
 pub fn carried_peers(
     alloc: Global,
     standing: &Standing<'_>,

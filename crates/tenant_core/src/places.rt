@@ -16,7 +16,7 @@ use common_types::Name;
 use route_table::PeerNo;
 use std::cmp::Ordering;
 
-/// Where the peer of that number stands, or would stand. Numbers rise along the list.
+/// The place of the peer of that number, or the place at which to insert it. Numbers rise along the list.
 pub fn search_number(peers: &[Peer], number: PeerNo) -> Result<usize, usize>
     ensures range { IsSearchInRange result (length peers.now) }
     ensures position { IsBinarySearchResult (λ p. nat_cmp p.number number) peers.now result }
@@ -34,7 +34,7 @@ fn token_at(peers: &[Peer], place: u16) -> &[u8]
     }
 }
 
-/// Where the place of the peer with that token stands in their order, or would stand.
+/// The index, in the order of tokens, of the peer with that token, or the index at which to insert it.
 pub fn search_token(peers: &[Peer], order: &[u16], token: &[u8]) -> Result<usize, usize>
     ensures range { IsSearchInRange result (length order.now) }
     ensures position { IsBinarySearchResult (λ p. slice_cmp nat_cmp (token_at peers.now p) token.now) order.now result }
@@ -50,7 +50,7 @@ fn has_name(peers: &[Peer], name: &Name) -> bool
         .any(|peer| peer.terms.name.as_bytes() == name.as_bytes())
 }
 
-/// Where the place of one peer more would stand in the order of tokens, unless a peer has the name or the token.
+/// The index in the order of tokens at which to insert these terms, unless a peer has their name or token.
 pub fn free_place(peers: &[Peer], order: &[u16], terms: &PeerTerms) -> Option<usize>
     requires { IsByToken peers.now order.now }
     ensures free { is_some result ≡ not (is_present peers.now terms.now) }
@@ -92,7 +92,7 @@ fn pair_at(rates: &[RateTerms], place: u16) -> (PeerNo, PeerNo)
     }
 }
 
-/// Where the place of the rate for that pair stands in their order, or would stand.
+/// The index, in the order of pairs, of the rate for that pair, or the index at which to insert it.
 pub fn search_pair(
     rates: &[RateTerms],
     order: &[u16],

@@ -93,7 +93,7 @@ pub fn hold_amounts(ground: &Ground<'_>, purses: &mut Vec<Purse>, holds: &[Hold]
     hold_out(purses, ground.network.place_numbered(hold.to), hold.price);
 }
 
-// Takes or releases the amounts of that hold, which stands at that place.
+// Takes or releases the amounts of that hold, which is at that place.
 fn move_hold(
     ground: &Ground<'_>,
     purses: &mut Vec<Purse>,

@@ -27,7 +27,7 @@ fn opened_purse(peer: &Peer) -> Purse
     )
 }
 
-/// The purses of the peers as a period finds them. The one error is want of memory.
+/// The purses of the peers as a period finds them. Fails only if it is out of memory.
 pub fn opened_purses(alloc: Global, peers: &[Peer]) -> Result<Vec<Purse>, AllocError>
     ensures { IfOk result (λ purses. purses.items ≡ map opened_purse peers.now) }
 {
@@ -50,7 +50,7 @@ fn opened_bucket(peer: &Peer) -> Bucket
     )
 }
 
-/// The buckets of the peers as a period finds them. The one error is want of memory.
+/// The buckets of the peers as a period finds them. Fails only if it is out of memory.
 pub fn opened_buckets(alloc: Global, peers: &[Peer]) -> Result<Vec<Bucket>, AllocError>
     ensures { IfOk result (λ buckets. buckets.items ≡ map opened_level peers.now) }
 {
@@ -61,7 +61,7 @@ pub fn opened_buckets(alloc: Global, peers: &[Peer]) -> Result<Vec<Bucket>, Allo
     Ok(buckets)
 }
 
-/// The purses once more. The one error is want of memory.
+/// A copy of the purses. Fails only if it is out of memory.
 pub fn copied_purses(alloc: Global, purses: &[Purse]) -> Result<Vec<Purse>, AllocError>
     ensures { IfOk result (λ copy. copy.items ≡ purses.now) }
 {
@@ -113,7 +113,7 @@ fn settle(purse: &mut Purse, side: Side, amount: u64)
     }
 }
 
-/// The purses after a change, whose peer stood at that place. There is room for one more.
+/// The purses after a change, whose peer was at that place. There is room for one more.
 pub fn follow_purses(purses: &mut Vec<Purse>, change: &Change, place: Option<usize>)
     requires room { vec_len purses.old < vec_capacity purses.old }
     requires inside { ForSome place (λ i. i < length purses.old.items) }
@@ -137,7 +137,7 @@ pub fn follow_purses(purses: &mut Vec<Purse>, change: &Change, place: Option<usi
     }
 }
 
-/// The buckets after a change at that clock, whose peer stood at that place. There is room for one more.
+/// The buckets after a change at that clock, whose peer was at that place. There is room for one more.
 pub fn follow_buckets(buckets: &mut Vec<Bucket>, change: &Change, place: Option<usize>, clock: u64)
     requires room { vec_len buckets.old < vec_capacity buckets.old }
     requires inside { ForSome place (λ i. i < length buckets.old.items) }

@@ -114,8 +114,8 @@ impl Book {
         order_outcome(self.order(alloc, &order, now))
     }
 
-    /// Does once more what an entry says that happened, and gives what it leads to now; `None` where it would not be recorded,
-    /// and then nothing has changed. The one error is want of memory, and then nothing has changed either.
+    /// Does again what an entry records, and returns its outcome now. `None` if it would not be recorded: nothing has
+    /// changed then. Fails only if it is out of memory, and nothing has changed then either.
     pub fn follow(&mut self, alloc: Global, entry: &Entry) -> Result<Option<Outcome>, AllocError>
         requires { is_roll entry.now ≡ false }
         ensures followed { IfOk result (IsFollowed self.old self.new entry.now) }

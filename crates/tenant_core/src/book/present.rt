@@ -1,4 +1,4 @@
-//! A book's tenant as it stands.
+//! A book's tenant as it is now.
 
 ghost use Rattle.std.specs.Prelude.{◌≡◌, IfOk};
 ghost use Rattle.tenant_core.specs.PresentSetup.{present_setup};
@@ -11,8 +11,8 @@ use common_types::Token;
 use std::alloc::{AllocError, Global};
 
 impl Book {
-    /// The tenant as it stands, with the token that its operator shows: its own terms, and its peers with what they owe now,
-    /// the routes and the rates. Of what is held nothing is taken or released. The one error is want of memory.
+    /// The tenant as it is now, with this token of its operator: its own terms, its peers with what they owe now, the
+    /// routes and the rates. Amounts that are held are neither taken nor released. Fails only if it is out of memory.
     pub fn present_setup(&self, alloc: Global, admin: Token) -> Result<TenantSetup, AllocError>
         ensures { IfOk result (λ setup. setup ≡ present_setup self.now admin) }
     {
