@@ -47,7 +47,7 @@ head_with own status size closes =
 abbrev pub answer_head : RequestKind → ℕ → ℕ → Bool → List ℕ
 answer_head kind status size closes = head_with (status_line kind status) status size closes
 
--- a service's status as it is told: any other than these is 503 (RFC 9110, 15.6.4)
+-- a service's status as the sender gets it: any other than these is 503 (RFC 9110, 15.6.4)
 abbrev pub status_told : ℕ → ℕ
 status_told status = if (status == 200) || (status == 400) || (status == 401) then status else 503
 

@@ -53,7 +53,7 @@ pub record BeginsChunk (bytes : List ℕ) (size : ℕ) (rest : List ℕ) : Type 
   pub short : length (print_chunk_line line) ≤ max_chunk_line
   pub states : size ≡ chunk_size line
 
--- trailers begin the bytes, and an empty line behind them
+-- the bytes begin with trailers and an empty line after them
 pub record BeginsTrailers (bytes rest : List ℕ) : Type 0 where
   pub fields : List Field
   pub last : LineEnd
@@ -61,7 +61,7 @@ pub record BeginsTrailers (bytes rest : List ℕ) : Type 0 where
   pub short : length (print_section fields last) ≤ max_head
   pub few : length fields ≤ max_lines
 
--- ---- texts that are none
+-- ---- texts that are malformed
 
 -- a line feed ends the text
 abbrev pub ends_line : List ℕ → Bool
@@ -80,7 +80,7 @@ pub record EndsFirst (ends : List ℕ → Bool) (text : List ℕ) : Type 0 where
   pub ended : ends text ≡ true
   pub first : (n : ℕ) → n < length text → ends (take n text) ≡ false
 
--- the first text that ends so at the front of the bytes is none of these, or has more bytes than may be
+-- the first text at the front of the bytes that ends like this is malformed, or it has more bytes than allowed
 abbrev pub BeginsWrong : (List ℕ → Bool) → ℕ → (List ℕ → Type 0) → List ℕ → Type 0
 BeginsWrong ends most Is bytes =
     ((text : List ℕ) × (rest : List ℕ) × (bytes ≡ text ++ rest) × EndsFirst ends text × (Is text → ⊥))
@@ -94,7 +94,7 @@ BeginsNothing ends most bytes = (length bytes < most) × NoneEnds ends bytes
 abbrev pub IsSizeLine : List ℕ → Type 0
 IsSizeLine text = (line : ChunkLine) × ReadsChunkLine text line []
 
--- trailers, and an empty line behind them
+-- trailers, and an empty line after them
 abbrev pub IsTrailerText : List ℕ → Type 0
 IsTrailerText text = (fields : List Field) × (last : LineEnd) × ReadsSection text fields last [] × (length fields ≤ max_lines)
 
@@ -106,7 +106,7 @@ pub record BeginsFitting (room : ℕ) (bytes : List ℕ) (size : ℕ) (rest : Li
   pub some : 0 < size
   pub fits : size ≤ room
 
--- another line than a chunk's stands where one is to stand; no line end stands behind a chunk; or the trailers are none
+-- a line that is not a chunk's is in a chunk line's place; no line end follows a chunk; or the trailers are malformed
 abbrev pub IsMalformed : ℕ → List ℕ → Type 0
 IsMalformed room bytes =
     BeginsWrong ends_line max_chunk_line IsSizeLine bytes
@@ -114,15 +114,15 @@ IsMalformed room bytes =
     × (take 2 (drop size rest) ≢ crlf_bytes))
     ⊎ ((rest : List ℕ) × BeginsChunk bytes 0 rest × BeginsWrong ends_section max_head IsTrailerText rest))
 
--- the bytes end inside a chunk's line, inside a chunk or the line end behind it, or inside the trailers
+-- the bytes end inside a chunk's line, inside a chunk or the line end after it, or inside the trailers
 abbrev pub IsCutShort : ℕ → List ℕ → Type 0
 IsCutShort room bytes =
     BeginsNothing ends_line max_chunk_line bytes
     ⊎ (((size : ℕ) × (rest : List ℕ) × BeginsFitting room bytes size rest × (length rest < size + 2))
     ⊎ ((rest : List ℕ) × BeginsChunk bytes 0 rest × BeginsNothing ends_section max_head rest))
 
--- What stands behind the chunks of a body, of which that is the content: the last chunk, which is empty, and the trailers; an
--- end; something malformed; or a chunk with more bytes than there is room for.
+-- What follows the chunks of a body with this content: the last chunk, which is empty, and the trailers; an end that
+-- cuts the body short; something malformed; or a chunk with more bytes than there is room for.
 abbrev pub EndsBody : (room : ℕ) → (content bytes : List ℕ) → Body → Type 0
 EndsBody room content bytes (whole body after) =
     (body ≡ content) × ((rest : List ℕ) × BeginsChunk bytes 0 rest × BeginsTrailers rest after)

@@ -24,13 +24,13 @@ use Rattle.http_link.specs.declared.intake.Sought.TheVariants.{Line, Section}
 use Rattle.http_link.specs.declared.intake.Text.{Text}
 use Rattle.http_link.specs.declared.intake.Text.TheVariants.{Found, TooLong, Ended}
 
--- held bytes lie in the room, behind the first of it
+-- held bytes are in the buffer, after the first `done` bytes of it
 pub record LiesBehind (done : ℕ) (room : List ℕ) (held : Held) : Type 0 where
   pub behind : done ≤ held.from
   pub ordered : held.from ≤ held.to
   pub within : held.to ≤ length room
 
--- bytes came behind those that there were; these were taken of all of them, and those are left
+-- bytes came after those that were held; these bytes were taken from the front of both, and those are left
 pub record Takes (had : List ℕ) (old new : Option (List ℕ)) (taken has : List ℕ) : Type 0 where
   pub came : List ℕ
   pub parts : had ++ came ≡ taken ++ has
@@ -97,14 +97,14 @@ pub record MakesAll (had : List ℕ) (old new : Option (List ℕ)) (has : List �
   pub none : has ≡ []
   pub ended : IsAtEnd new
 
--- a chunk's line was taken, no line of one stands there, or the bytes end inside it
+-- a chunk's line was taken, no chunk's line begins the bytes, or they end inside it
 abbrev pub TakesSize : List ℕ → Option (List ℕ) → Option (List ℕ) → List ℕ → Stated → Type 0
 TakesSize had old new has (stated.Size size) =
     (text : List ℕ) × IsSizeOf text size × (length text ≤ max_chunk_line) × Takes had old new text has
 TakesSize had old new has stated.Malformed = Makes had old new (BeginsWrong ends_line max_chunk_line IsSizeLine)
 TakesSize had old new has stated.Short = MakesAll had old new has (BeginsNothing ends_line max_chunk_line)
 
--- so many bytes were taken, and stand in the room behind the first; or there are fewer
+-- so many bytes were taken, and are in the buffer after the first; or there are fewer
 abbrev pub TakesBytes : List ℕ → Option (List ℕ) → Option (List ℕ) → List ℕ → (size done : ℕ) → (before after : List ℕ) → Bool → Type 0
 TakesBytes had old new has size done before after true =
     (bytes : List ℕ) × (length bytes ≡ size) × (take (done + size) after ≡ take done before ++ bytes)
@@ -118,7 +118,7 @@ TakesEnd had old new has Right = Takes had old new crlf_bytes has
 TakesEnd had old new has Wrong = (two : List ℕ) × (length two ≡ 2) × (two ≢ crlf_bytes) × Takes had old new two has
 TakesEnd had old new has Short = (taken : List ℕ) × (length taken < 2) × TakesAll had old new taken has
 
--- what was read, as a body: it stands at the front of the room, and those bytes are left
+-- what was read, as a body: it is at the front of the buffer, and those bytes are left
 abbrev pub body_read : (room has : List ℕ) → BodyRead → Body
 body_read room has (Whole n) = whole (take n room) has
 body_read room has Cut = cut
@@ -152,8 +152,8 @@ abbrev pub StepsTo : ℕ → Step → Type 0
 StepsTo done (More size) = Unit {0}
 StepsTo done (Over read) = ReadsAtMost done read
 
--- Behind a chunk's line that states that size: its bytes were taken, and stand in the room behind those before it; they or
--- the line end behind them are cut; or no line end stands behind them.
+-- After a chunk's line with that size: the chunk's bytes were taken, and are in the buffer after those before it; the
+-- bytes end inside the chunk or its line end; or no line end follows it.
 abbrev pub TakesChunk : List ℕ → Option (List ℕ) → Option (List ℕ) → List ℕ → (size done : ℕ) → (before after : List ℕ) → Step → Type 0
 TakesChunk had old new has size done before after (More n) =
     (n ≡ size) × ((bytes : List ℕ) × (length bytes ≡ size) × (take (done + size) after ≡ take done before ++ bytes)
@@ -164,7 +164,7 @@ TakesChunk had old new has size done before after (Over (Bad Malformed)) =
 TakesChunk had old new has size done before after (Over (Bad TooLarge)) = ⊥
 TakesChunk had old new has size done before after (Over (Whole n)) = ⊥
 
--- Behind the line of the last chunk: the trailers were taken, they are cut, or there are none.
+-- After the line of the last chunk: the trailers were taken, they are cut short, or they are malformed.
 abbrev pub TakesLast : List ℕ → Option (List ℕ) → Option (List ℕ) → List ℕ → (done : ℕ) → (before after : List ℕ) → Step → Type 0
 TakesLast had old new has done before after (More n) = ⊥
 TakesLast had old new has done before after (Over (Whole n)) =
@@ -175,7 +175,7 @@ TakesLast had old new has done before after (Over (Bad Malformed)) =
     Makes had old new (BeginsWrong ends_section max_head IsTrailerText)
 TakesLast had old new has done before after (Over (Bad TooLarge)) = ⊥
 
--- a chunk was taken, and stands in the room behind those before it; or what there was and came ends a body
+-- a chunk was taken, and is in the buffer after those before it; or the held bytes and those that came end a body
 abbrev pub TakesStep : List ℕ → Option (List ℕ) → Option (List ℕ) → List ℕ → (most done : ℕ) → (before after : List ℕ) → Step → Type 0
 TakesStep had old new has most done before after (More size) =
     (chunk : Chunk) × IsChunk chunk × (length chunk.content ≡ size) × (size ≤ most - done)

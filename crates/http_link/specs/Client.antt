@@ -54,7 +54,7 @@ framing_by minor (once coding) (once text) = Err Unframed
 framing_by minor (once coding) repeated = Err Unframed
 framing_by minor repeated length = Err Unframed
 
--- how the body behind the last head of an answer is framed, by its status (RFC 9110, 15.3.1)
+-- how the body after the last head of an answer is framed, by its status (RFC 9110, 15.3.1)
 abbrev pub framing_in : Reply → Result AnswerFraming PostFault
 framing_in reply =
     if reply.status == 200
@@ -82,7 +82,7 @@ abbrev pub MeansAs : Result AnswerFraming PostFault → List ℕ → Result (Lis
 MeansAs (Ok framing) rest meaning = MeansFramed framing rest meaning
 MeansAs (Err fault) rest meaning = meaning ≡ Err fault
 
--- what the last head of an answer and the bytes behind it mean
+-- the meaning of the last head of an answer and the bytes after it
 abbrev pub IsMeaning : Reply → List ℕ → Result (List ℕ) PostFault → Type 0
 IsMeaning reply rest meaning = MeansAs (framing_in reply) rest meaning
 
@@ -90,7 +90,7 @@ IsMeaning reply rest meaning = MeansAs (framing_in reply) rest meaning
 abbrev pub is_interim : Reply → Bool
 is_interim reply = is_between 100 199 reply.status
 
--- what the first head of a stream means; next is what the bytes behind an interim one mean
+-- the meaning of the first head of a stream; `next` is that of the bytes after an interim head
 pub record FirstMeans (next : List ℕ → Result (List ℕ) PostFault → Type 0) (stream : List ℕ)
     (meaning : Result (List ℕ) PostFault) : Type 0 where
   pub head : ResponseHead
@@ -120,8 +120,8 @@ post_fault_of links.Read = Read
 post_fault_of links.Write = Write
 post_fault_of links.Turns = Turns
 
--- what is given is what bytes that had come and the known bytes behind them mean as a body that is framed so, unless the device
--- failed or too many reads were made
+-- the outcome is the meaning, as a body with this framing, of the bytes that had come and the known bytes after them,
+-- unless the device failed or too many reads were made
 abbrev pub GivesAs : AnswerFraming → (had : List ℕ) → Option (List ℕ) → Result ℕ PostFault → List ℕ → Type 0
 GivesAs framing had known result out =
     (rest : List ℕ) → known ≡ Some rest → result ≢ Err Read → result ≢ Err Turns → MeansFramed framing (had ++ rest) (given result out)

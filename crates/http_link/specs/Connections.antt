@@ -25,8 +25,8 @@ pub record TurnedAway (bytes : List ℕ) (traces : Traces) (served : Served) : T
   pub unasked : traces.Unasked
   pub written : WritesNothingOr400 traces.Writes served
 
--- More bytes came on a connection behind those that there were, and the request that all of them begin with was served; where
--- it isn't whole, no more are left.
+-- More bytes came on a connection after those that were held, and the request at the front of all of them was served.
+-- If that request isn't whole, no more bytes are left.
 pub record ServesNext (tenant_of : List ℕ → Option ℕ) (had : List ℕ) (old new : Option (List ℕ)) (traces : Traces) (served : Served) : Type 0 where
   pub came : List ℕ
   pub taken : Consumes old new came
@@ -35,7 +35,7 @@ pub record ServesNext (tenant_of : List ℕ → Option ℕ) (had : List ℕ) (ol
 
 -- ---- what there is before anything is read
 
--- nothing refuses a head, and the body behind it is cut
+-- the head is accepted, and the body after it is cut short
 abbrev pub IsCutBehind : Result Wanted ℕ → List ℕ → Type 0
 IsCutBehind (Err status) rest = ⊥
 IsCutBehind (Ok wanted) rest = IsBody wanted.framing rest cut
@@ -49,7 +49,7 @@ AreTooFew tenant_of bytes =
 
 -- ---- questions
 
--- Bytes begin with a request that nothing refuses, whole: it asks this, and that is left behind it. It may be the last one of
+-- Bytes begin with a whole request that is accepted: it asks this, and `left` follows it. It may be the last one of
 -- its connection.
 pub record IsAskedBy (tenant_of : List ℕ → Option ℕ) (bytes : List ℕ) (asked : Asked) (left : List ℕ) (last : Bool) : Type 0 where
   pub head : RequestHead
@@ -76,8 +76,8 @@ pub record AsksIt (tenant_of : List ℕ → Option ℕ) (had : List ℕ) (old ne
 abbrev pub AsksNext : (tenant_of : List ℕ → Option ℕ) → (had : List ℕ) → (old new : Option (List ℕ)) → Type 0 → (Asked → Type 0) → Type 0
 AsksNext tenant_of had old new Unasked Asks = Unasked ⊎ AsksIt tenant_of had old new Asks
 
--- The questions, the latest first, are those of the requests that the bytes of a connection begin with: each by the bytes
--- behind the one before it, none passed over, and none behind the last one. That is left behind the latest.
+-- The questions, the latest first, are those of the requests at the front of a connection's bytes. Each request
+-- follows the one before it, none is passed over, and none follows the last one. `left` follows the latest.
 abbrev pub AreAskedBy : (tenant_of : List ℕ → Option ℕ) → (bytes : List ℕ) → List Asked → (left : List ℕ) → (last : Bool) → Type 0
 AreAskedBy tenant_of bytes [] left last = (left ≡ bytes) × (last ≡ false)
 AreAskedBy tenant_of bytes (asked ∷ earlier) left last =
@@ -85,7 +85,7 @@ AreAskedBy tenant_of bytes (asked ∷ earlier) left last =
 
 -- ---- the end
 
--- a head is refused, or the body behind it is
+-- a head is refused, or the body after it is
 abbrev pub IsRefusedBy : Result Wanted ℕ → List ℕ → Type 0
 IsRefusedBy (Err status) rest = Unit {0}
 IsRefusedBy (Ok wanted) rest = (fault : BodyFault) × IsBody wanted.framing rest (bad fault)
@@ -97,7 +97,7 @@ IsTurnedAway tenant_of bytes =
     ⊎ ((head : RequestHead) × (rest : List ℕ) × BeginsWith bytes head rest
     × IsRefusedBy (wanted_of tenant_of (head_of head)) rest)
 
--- How a connection came to its end, on which that is left: no more bytes came; or its last request closed it, or the next one was
+-- How a connection with these bytes left ended: no more bytes came; or its last request closed it, or the next one was
 -- turned away.
 abbrev pub IsOver : (List ℕ → Option ℕ) → Served → (left : List ℕ) → (last : Bool) → Option (List ℕ) → Type 0
 IsOver tenant_of Ended left last known = IsAtEnd known
@@ -106,7 +106,7 @@ IsOver tenant_of Kept left last known = ⊥
 
 -- ---- waiting
 
--- Something waits, or nothing does and no more is left; what has come stands behind what there was.
+-- Bytes wait, or none do and no more are left; what has come follows what was held.
 pub record Awaits (had : List ℕ) (old new : Option (List ℕ)) (has : List ℕ) (more : Bool) : Type 0 where
   pub came : List ℕ
   pub grew : has ≡ had ++ came

@@ -14,18 +14,18 @@ Line = List ℕ × List ℕ
 abbrev pub values_of : List ℕ → List Line → List (List ℕ)
 values_of name lines = map (λ line. line.1) (filter (λ line. str_eq_ignore_ascii_case line.0 name) lines)
 
--- a name stands in no line, in one, or in more
+-- a name is in no line, in one, or in more
 pub data Occurrence : Type 0 where
   missing repeated : Occurrence
   once : List ℕ → Occurrence
 
--- how the name of these values stands
+-- the occurrence of a name with these values
 abbrev pub occurrence_in : List (List ℕ) → Occurrence
 occurrence_in [] = missing
 occurrence_in (value ∷ []) = once value
 occurrence_in (first ∷ second ∷ more) = repeated
 
--- how a name stands in some lines
+-- the occurrence of a name in some lines
 abbrev pub occurrence : List ℕ → List Line → Occurrence
 occurrence name lines = occurrence_in (values_of name lines)
 
@@ -51,7 +51,7 @@ value_of digits = fold (λ n d. n * 10 + (d - 48)) 0 digits
 abbrev pub is_length : List ℕ → Bool
 is_length text = is_between 1 10 (length text) && list_all (is_between 48 57) text
 
--- the bytes behind the spaces in front
+-- the bytes after the leading spaces
 abbrev pub skip_spaces : List ℕ → List ℕ
 skip_spaces [] = []
 skip_spaces (b ∷ bytes) = if b == 32 then skip_spaces bytes else b ∷ bytes

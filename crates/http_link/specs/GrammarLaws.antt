@@ -14,7 +14,7 @@ use Rattle.http_link.specs.Grammars.{IsGrammar, IsReply, IsRequest, ends_empty_l
 
 -- ---- what ends with an empty line
 
--- a line feed stands at the end
+-- the text ends in a line feed
 abbrev EndsLine : List ℕ → Type 0
 EndsLine text = (front : List ℕ) × (text ≡ front ++ 10 ∷ [])
 
@@ -25,7 +25,7 @@ print_end_ends : (e : LineEnd) → EndsLine (print_end e)
 print_end_ends crlf = (13 ∷ [], refl)
 print_end_ends lf = ([], refl)
 
--- a list ends with what stands at its end
+-- a list ends with its own back
 ends_so : (front back : List ℕ) → ends_with eqb (front ++ back) back ≡ true
 ends_so front back = (ends_is Decides-eqb (front ++ back) back (ends_with eqb (front ++ back) back) refl).1 front refl
 
@@ -33,7 +33,7 @@ or_true : (b : Bool) → b || true ≡ true
 or_true true = refl
 or_true false = refl
 
--- a line, and behind it an empty one
+-- a line, and after it an empty one
 line_then_end : (text : List ℕ) (last : LineEnd) → EndsLine text → ends_empty_line (text ++ print_end last) ≡ true
 line_then_end text lf ends =
     let empty : List ℕ = 10 ∷ 10 ∷ [] in
@@ -48,7 +48,7 @@ line_then_end text crlf ends =
 field_ends : (f : Field) → EndsLine (print_field f)
 field_ends f = ends_behind (f.name ++ 58 ∷ f.raw) (print_end f.end) (print_end_ends f.end)
 
--- field lines behind a line
+-- field lines after a line
 fields_end : (line : List ℕ) (fields : List Field) → EndsLine line → EndsLine (line ++ flat_map print_field fields)
 fields_end line [] ends = (ends.0, append-nil line ∙ ends.1)
 fields_end line (f ∷ fields) ends =
@@ -63,7 +63,7 @@ section_ended start end fields last =
     ap ends_empty_line (sym (append_assoc line (flat_map print_field fields) (print_end last)))
     ∙ line_then_end (line ++ flat_map print_field fields) last (fields_end line fields (ends_behind start (print_end end) (print_end_ends end)))
 
--- ---- what stands at the front
+-- ---- the front of a text
 
 -- a front of so many bytes
 front_is : (text front back : List ℕ) (n : ℕ) → n ≡ length front → text ≡ front ++ back → take n text ≡ front

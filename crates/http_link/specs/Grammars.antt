@@ -7,7 +7,7 @@ use Rattle.httparse.specs.declared.spans.ResponseSpans.{ResponseSpans}
 use Rattle.httparse.specs.Grammar.{RequestHead, IsRequestHead, print_request, ResponseHead, IsResponseHead, print_response}
 use Rattle.httparse.specs.Spans.{IsRequestAt, IsRequestWithin, IsResponseAt, IsResponseWithin}
 
--- an empty line stands behind another line, and ends the text
+-- the text ends in an empty line that follows another line
 abbrev pub ends_empty_line : List ℕ → Bool
 ends_empty_line text =
     ends_with (λ a b. a == b) text (10 ∷ 10 ∷ []) || ends_with (λ a b. a == b) text (10 ∷ 13 ∷ 10 ∷ [])
@@ -19,7 +19,7 @@ pub record Grammar (Spans : Type 0) : Type 1 where
   pub Covers : List ℕ → List HeaderSpan → Spans → Type 0
   pub len : Spans → ℕ
 
--- each head ends with an empty line, and where spans are those of a head, that head stands at the front of the text
+-- each head ends with an empty line; and if spans are those of a head, that head is at the front of the text
 pub record IsGrammar {Spans : Type 0} (grammar : Grammar Spans) : Type 0 where
   pub ended : (head : List ℕ) (lines : ℕ) → grammar.IsHead head lines → ends_empty_line head ≡ true
   pub within : (text : List ℕ) (lines : List HeaderSpan) (spans : Spans) → grammar.Covers text lines spans

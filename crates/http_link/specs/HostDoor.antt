@@ -80,7 +80,7 @@ media_line request = line (codes "Content-Type: " ++ media_of request)
 abbrev pub allow_line : HostRequest → List ℕ
 allow_line request = line (codes "Allow: " ++ method_of request)
 
--- an answer with a line of its own, behind which the connection is closed (RFC 9112, 9.6)
+-- an answer with a line of its own, after which the connection is closed (RFC 9112, 9.6)
 abbrev pub closing_text : List ℕ → ℕ → List ℕ → List ℕ
 closing_text own status body = head_with own status (length body) true ++ body
 
@@ -104,7 +104,7 @@ pub record HostAsked : Type 0 where
   pub token : List ℕ
   pub status : ℕ
 
--- what a head wants, asked and given a status
+-- the question of a head, with the status of its answer
 abbrev pub host_asking : HostWanted → ℕ → HostAsked
 host_asking wanted status = record { request = wanted.request; token = wanted.token; status = status }
 
@@ -116,7 +116,7 @@ pub record HostTraces : Type 1 where
   pub answer : List ℕ
   pub Writes : List ℕ → Type 0
 
--- exactly what is wanted is asked, once, and the answer is written
+-- the wanted question is asked, exactly once, and the answer is written
 pub record IsHostAsked (wanted : HostWanted) (traces : HostTraces) : Type 0 where
   pub status : ℕ
   pub asked : traces.Asks (host_asking wanted status)
@@ -127,20 +127,20 @@ pub record IsHostRefused (refusal : HostRefusal) (traces : HostTraces) : Type 0 
   pub unasked : traces.Unasked
   pub written : traces.Writes (host_refusal_text refusal)
 
--- what is done, by what the head wants
+-- what is done, by the request in the head
 abbrev pub AnswersHost : Result HostWanted HostRefusal → HostTraces → Type 0
 AnswersHost (Ok wanted) traces = IsHostAsked wanted traces
 AnswersHost (Err refusal) traces = IsHostRefused refusal traces
 
--- What serving a stream does that begins with a head, by what it wants, and goes on with rest: exactly the head is taken, it is
--- answered, and the connection is closed (RFC 9112, 9.6).
+-- What serving a stream does that begins with a head of that request and goes on with `rest`: exactly the head is
+-- taken, it is answered, and the connection is closed (RFC 9112, 9.6).
 pub record IsHostServed (want : Result HostWanted HostRefusal) (rest : List ℕ) (left : Option (List ℕ)) (traces : HostTraces)
     (served : Served) : Type 0 where
   pub taken : left ≡ Some rest
   pub answered : AnswersHost want traces
   pub closed : served ≡ Closed
 
--- nothing is asked, or only what the head wants
+-- nothing is asked, or only the question of the head
 abbrev pub IsHostAskedOnly : Result HostWanted HostRefusal → Type 0 → (HostAsked → Type 0) → Type 0
 IsHostAskedOnly (Ok wanted) Unasked Asks = Unasked ⊎ ((status : ℕ) × Asks (host_asking wanted status))
 IsHostAskedOnly (Err refusal) Unasked Asks = Unasked

@@ -8,7 +8,7 @@ use Rattle.http_link.specs.declared.inbox.Inbox.TheInside.{Inside}
 abbrev pub waiting_in : Inside → List ℕ
 waiting_in i = held_in i.room i.held
 
--- they stand in the room
+-- they are in the buffer
 pub record InboxInvariant (i : Inside) : Type 0 where
   pub ordered : i.held.from ≤ i.held.to
   pub within : i.held.to ≤ max_request

@@ -38,7 +38,7 @@ Sees grammar text seen room lines (Whole spans) =
 Sees grammar text seen room lines Partial = GoesOn grammar (take seen text) room × (seen ≡ length text)
 Sees grammar text seen room lines Malformed = BeginsNone grammar (take seen text) room
 
--- a head was seen behind what had been looked at
+-- a head was seen that ends after the bytes that had been looked at
 abbrev pub SeesFurther : {S : Type 0} → (before now : ℕ) → Offered S → Type 0
 SeesFurther before now (Whole spans) = before < now
 SeesFurther before now Partial = Unit {0}
@@ -50,7 +50,7 @@ EndsAt grammar there (Whole spans) = grammar.len spans ≡ there
 EndsAt grammar there Partial = Unit {0}
 EndsAt grammar there Malformed = Unit {0}
 
--- what stands at the front of bytes, behind which no more are left where they are not enough
+-- what the bytes begin with: a head, too little of one with no more bytes left, or none
 abbrev pub StandsIn : {S : Type 0} → Grammar S → List ℕ → List HeaderSpan → Option (List ℕ) → Offered S → Type 0
 StandsIn grammar bytes lines left (Whole spans) =
     (grammar.len spans ≤ length bytes) × (grammar.len spans ≤ max_head)
@@ -58,7 +58,7 @@ StandsIn grammar bytes lines left (Whole spans) =
 StandsIn grammar bytes lines left Partial = BeginsNot grammar bytes (length lines) × IsAtEnd left
 StandsIn grammar bytes lines left Malformed = BeginsNever grammar bytes (length lines)
 
--- bytes came behind those that there were, and that stands at the front of all of them
+-- bytes came after those that were held, and all of them begin with that
 pub record HeadIsFound {S : Type 0} (grammar : Grammar S) (had : List ℕ) (old new : Option (List ℕ)) (has : List ℕ)
     (lines : List HeaderSpan) (offered : Offered S) : Type 0 where
   pub came : List ℕ

@@ -82,7 +82,7 @@ token_in missing = None
 token_in (once value) = bearer_token value
 token_in repeated = None
 
--- how the coding of a body stands (RFC 9112, 6.1)
+-- how often the coding of a body is given (RFC 9112, 6.1)
 abbrev pub coding_of : List Line → Occurrence
 coding_of lines = occurrence (codes "Transfer-Encoding") lines
 
@@ -101,6 +101,6 @@ waits head =
     (head.minor == 1)
     && list_any (λ value. str_eq_ignore_ascii_case value (codes "100-continue")) (values_of (codes "Expect") head.lines)
 
--- the connection is closed behind the answer (RFC 9112, 9.3 and 9.6)
+-- the connection is closed after the answer (RFC 9112, 9.3 and 9.6)
 abbrev pub closes : Head → Bool
 closes head = (head.minor == 0) || list_any (has_element (codes "close")) (values_of (codes "Connection") head.lines)

@@ -1,4 +1,4 @@
--- What is done with a head that was read, on the bytes behind it: some had come with it, and more may come.
+-- What is done with a head that was read, by the bytes after it: some had come with it, and more may come.
 use Rattle.std.specs.Prelude.{◌≡◌, ◌⊎◌, ℕ, List, ◌++◌, take, drop, Option, Result}
 use Rattle.std.specs.Io.KnownBytes.{Consumes, IsAtEnd}
 use Rattle.http_link.specs.declared.held.Held.{Held}
@@ -21,7 +21,7 @@ pub record Runs (want : Result Wanted ℕ) (head : Head) (had : List ℕ) (old n
   pub so : IsServed want head (had ++ came) traces served
   pub ended : served ≡ Ended → IsAtEnd new
 
--- nothing is asked, or only what is wanted, with a whole body
+-- nothing is asked, or only the request of the head, with a whole body
 abbrev pub AsksWanted : Result Wanted ℕ → (had : List ℕ) → Option (List ℕ) → Option (List ℕ) → Type 0 → (Asked → Type 0) → Type 0
 AsksWanted want had old new Unasked Asks =
     Unasked ⊎ ((came : List ℕ) × Consumes old new came × IsAskedOnly want (had ++ came) ⊥ Asks)

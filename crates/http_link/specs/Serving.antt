@@ -18,7 +18,7 @@ pub record Asked : Type 0 where
   pub body : List ℕ
   pub status : ℕ
 
--- what a head wants, asked with a body and given a status
+-- the question of a head, with a body and the status of its answer
 abbrev pub asking : Wanted → List ℕ → ℕ → Asked
 asking wanted body status =
     record { kind = wanted.kind; tenant = wanted.tenant; token = wanted.token; body = body; status = status }
@@ -71,7 +71,7 @@ ServesBody wanted head traces served (whole body after) = IsAsked wanted head bo
 ServesBody wanted head traces served cut = IsCut head traces served
 ServesBody wanted head traces served (bad fault) = IsBodyRefused fault head traces served
 
--- what serving a stream does that begins with a head and goes on with rest, by what the head wants
+-- what serving does with a stream that begins with a head and goes on with `rest`, by the request in the head
 abbrev pub IsServed : Result Wanted ℕ → Head → List ℕ → Traces → Served → Type 0
 IsServed (Err status) head rest traces served = IsRefused status rest traces served
 IsServed (Ok wanted) head rest traces served =
@@ -92,7 +92,7 @@ AsksWhole wanted rest Asks =
     (body : List ℕ) × (after : List ℕ) × IsBody wanted.framing rest (whole body after)
     × ((status : ℕ) × Asks (asking wanted body status))
 
--- nothing is asked, or only what the head wants, with a whole body
+-- nothing is asked, or only the request of the head, with a whole body
 abbrev pub IsAskedOnly : Result Wanted ℕ → List ℕ → Type 0 → (Asked → Type 0) → Type 0
 IsAskedOnly (Err status) rest Unasked Asks = Unasked
 IsAskedOnly (Ok wanted) rest Unasked Asks = Unasked ⊎ AsksWhole wanted rest Asks

@@ -46,7 +46,7 @@ fn close_line(closes: bool) -> &'static [u8]
     }
 }
 
-/// A service's status as it is told. (RFC 9110, 15.6.4)
+/// A service's status as the sender gets it. (RFC 9110, 15.6.4)
 pub(crate) fn status_told(status: u16) -> u16
     ensures { result ≡ status_told status }
 {

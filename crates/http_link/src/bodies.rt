@@ -33,7 +33,7 @@ pub(crate) enum BodyFault {
 /// What came of the reading of a body.
 #[derive(Clone, Copy, Debug, PartialEq, Eq)]
 pub(crate) enum BodyRead {
-    /// It stands at the front of the room, with so many bytes.
+    /// It is at the front of the buffer, with so many bytes.
     Whole(usize),
     /// The stream ended inside it.
     Cut,
@@ -41,8 +41,8 @@ pub(crate) enum BodyRead {
     Bad(BodyFault),
 }
 
-/// Reads a body into the front of the room, in which some bytes of it are held already. Those that follow it are held in the
-/// end.
+/// Reads a body into the front of the buffer, which holds some bytes of it already. At the end it holds the bytes that
+/// follow the body.
 pub(crate) fn read_body<R: Source>(
     r: &mut R,
     room: &mut [u8],

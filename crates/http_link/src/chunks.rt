@@ -83,7 +83,7 @@ pub(crate) fn read_chunks<R: Source>(
     }
 }
 
-// Reads a chunk behind those that are done, or what ends a body.
+// Reads a chunk after those that are done, or what ends a body.
 fn read_step<R: Source>(
     r: &mut R,
     room: &mut [u8],
@@ -167,7 +167,7 @@ fn size_in(text: &[u8]) -> Option<u64>
     }
 }
 
-// Reads a chunk of that size and the line end behind it.
+// Reads a chunk of that size and the line end after it.
 fn read_chunk<R: Source>(
     r: &mut R,
     room: &mut [u8],
@@ -200,8 +200,8 @@ fn read_chunk<R: Source>(
     }
 }
 
-// Puts the bytes of a chunk behind those that are done: those that are held, and behind them those of the reader. Whether
-// there are as many.
+// Puts the bytes of a chunk after those that are done: first those that are held, then those of the reader. Returns
+// whether there are as many.
 fn read_bytes<R: Source>(
     r: &mut R,
     room: &mut [u8],
@@ -239,7 +239,7 @@ fn read_bytes<R: Source>(
     Ok(true)
 }
 
-// Moves so many of the bytes that are held, or all, behind those that are done, and says how many.
+// Moves so many of the bytes that are held, or all, to follow those that are done. Returns how many.
 fn move_bytes(room: &mut [u8], held: &mut Held, done: usize, size: usize) -> usize
     requires lies { LiesBehind done room.old held.old }
     ensures len { length room.new ≡ length room.old }
@@ -255,7 +255,7 @@ fn move_bytes(room: &mut [u8], held: &mut Held, done: usize, size: usize) -> usi
     moved
 }
 
-// Reads the line end behind a chunk.
+// Reads the line end after a chunk.
 fn read_line_end<R: Source>(
     r: &mut R,
     room: &mut [u8],
@@ -293,7 +293,7 @@ fn is_line_end(first: u8, second: u8) -> bool
     first == b'\r' && second == b'\n'
 }
 
-// Reads what stands behind the last chunk: the trailers, which are dropped.
+// Reads the trailers after the last chunk, and drops them.
 fn read_end<R: Source>(
     r: &mut R,
     room: &mut [u8],
@@ -328,7 +328,7 @@ fn read_end<R: Source>(
     }
 }
 
-// Whether a text is trailers and the empty line behind them.
+// Whether a text is trailers and the empty line after them.
 fn are_trailers(text: &[u8]) -> bool
     ensures { AreTrailersIn text.now result }
 {

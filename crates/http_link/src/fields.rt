@@ -12,7 +12,7 @@ ghost use Rattle.http_link.specs.Lines.{lines_at, occurrence_at};
 
 use httparse::spans::{HeaderSpan, Span};
 
-/// How often a name stands among the lines of a head.
+/// How often a name occurs among the lines of a head.
 #[derive(Clone, Copy)]
 pub(crate) enum Found<'b> {
     /// No line has it.
@@ -49,7 +49,7 @@ pub(crate) fn is_same(a: &[u8], b: &[u8]) -> bool
 }
 
 impl<'b> Lines<'b> {
-    /// How a name stands among the lines. (RFC 9110, 5.1)
+    /// How often a name occurs among the lines. (RFC 9110, 5.1)
     pub(crate) fn find(&self, name: &[u8]) -> Found<'b>
         ensures { occurrence_at result ≡ occurrence name.now (lines_at self.now) }
     {
@@ -125,7 +125,7 @@ fn is_white_space(bytes: &[u8]) -> bool
     bytes.iter().all(|b| *b == b' ' || *b == b'\t')
 }
 
-/// The bytes behind the spaces in front.
+/// The bytes after the leading spaces.
 pub(crate) fn without_spaces(bytes: &[u8]) -> &[u8]
     ensures { result.now ≡ skip_spaces bytes.now }
 {

@@ -25,8 +25,8 @@ pub(crate) fn ends_empty_line(text: &[u8]) -> bool
     text.ends_with(b"\n\n") || text.ends_with(b"\n\r\n")
 }
 
-// Whether a text is parsed of which so many bytes were parsed before: where a head can end, and, so that a malformed one
-// is told soon, where a line ends and the text has doubled.
+// Whether to parse a text of which so many bytes were parsed before: if a head can end here, and if a line ends here
+// and the text has doubled. The second finds a malformed head soon.
 fn is_due(text: &[u8], parsed: usize) -> bool
     ensures { result ≡ false → ends_empty_line text.now ≡ false }
 {
@@ -72,8 +72,8 @@ fn scan<H: HeadSpans>(
     Offered::Partial
 }
 
-/// Reads on until a head stands at the front of the room, where some bytes are held already, or none can. Where the stream has
-/// ended, the answer is `Partial`.
+/// Reads until a head is at the front of the buffer, which may hold some bytes already, or until none can be. If the
+/// stream has ended, the answer is `Partial`.
 pub(crate) fn find_head<H: HeadSpans, R: Source>(
     r: &mut R,
     room: &mut [u8],

@@ -3,7 +3,7 @@
 ghost use Rattle.std.specs.Prelude.{◌≡◌, ◌≤◌, ◌-◌, length, take};
 ghost use Rattle.http_link.specs.Running.{held_in};
 
-/// From where to where they stand in a room.
+/// From where to where they are in a buffer.
 #[derive(Clone, Copy)]
 pub(crate) struct Held {
     pub(crate) from: usize,

@@ -92,9 +92,9 @@ impl Inbox {
     }
 }
 
-/// Serves the next request of a connection, of which some bytes may be in the inbox: it is read, the service is asked where
-/// nothing refuses it, and the answer is written, as by [`serve_one`](crate::serve_one), whose limits and errors are these
-/// too. What came behind it stays in the inbox.
+/// Serves the next request of a connection, of which the inbox may hold some bytes. Reads the request, asks the
+/// service if nothing refuses it, and writes the answer. The limits and errors are those of
+/// [`serve_one`](crate::serve_one). Bytes that came after the request stay in the inbox.
 pub fn serve_next<R: Source, W: Sink, S: Service>(
     r: &mut R,
     w: &mut W,
@@ -117,10 +117,10 @@ pub fn serve_next<R: Source, W: Sink, S: Service>(
     // Where the inbox holds a whole request already, nothing is read.
     ensures at_once { (r.new ≡ r.old) ⊎ AreTooFew (S.tenant_of service.old) inbox.old }
 
-    // A device's fault is told exactly where the device failed.
+    // A device's fault is reported exactly if the device failed.
     ensures read { (result ≡ Err LinkFault.Read) ↔ (R.failure_count r.old < R.failure_count r.new) }
     ensures write { (result ≡ Err LinkFault.Write) ↔ (W.failure_count w.old < W.failure_count w.new) }
-    // The limit is told only where it was reached.
+    // The limit is reported only if it was reached.
     ensures turns { result ≡ Err LinkFault.Turns
         → MadeAll R.was_read r.old r.new ⊎ MadeAll W.was_written w.old w.new }
 {
@@ -243,7 +243,7 @@ fn serve_from_front<R: Source, W: Sink, S: Service>(
     }
 }
 
-// A head that stands at the front of a room: its field lines, and where its parts lie.
+// A head at the front of a buffer: its field lines, and the places of its parts.
 #[derive(Clone, Copy)]
 struct Parsed<'b> {
     lines: &'b [HeaderSpan],

@@ -61,7 +61,7 @@ pub(crate) const NOTHING: Intake = Intake {
 pub(crate) enum Sought {
     /// A line.
     Line,
-    /// Field lines and the empty line behind them.
+    /// Field lines and the empty line after them.
     Section,
 }
 
@@ -76,8 +76,8 @@ pub(crate) enum Text {
     Ended,
 }
 
-/// Takes the next byte: of those that are held in the room, else of the reader. What comes with it is held in the room from
-/// behind those bytes on that are done.
+/// Takes the next byte: from those that are held in the buffer, or else from the reader. Bytes that come with it are
+/// held in the buffer, after the bytes that are done.
 pub(crate) fn next_byte<R: Source>(
     r: &mut R,
     room: &mut [u8],

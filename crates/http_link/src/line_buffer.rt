@@ -94,7 +94,8 @@ impl LineBuffer {
     }
 }
 
-/// Writes a head and the body behind it, in one text where both fit into 1,024 bytes, else one after the other.
+/// Writes a head and the body after it: in one text if both fit into 1,024 bytes, otherwise one after the
+/// other.
 pub(crate) fn write_message<W: Sink>(
     w: &mut W,
     mut head: LineBuffer,

@@ -77,14 +77,21 @@ impl From<LinkFault> for PostFault {
     }
 }
 
-/// Sends a frame to a peer, and reads its answer into `out`, which has 34,000 bytes or more. Gives how many bytes the
-/// answer's body has; they stand at the front of `out`. (RFC 0035; RFC 9112, 3 and 6)
+/// Sends a frame to a peer, and reads its answer into `out`, which has 34,000 bytes or more. Returns how many bytes
+/// the answer's body has. They are at the front of `out`. (RFC 0035; RFC 9112, 3 and 6)
 ///
-/// Errors: `Read` and `Write` where the device failed in this call; `Turns` where 50,000 reads or writes did not
-/// suffice; of what the peer answers, `Head` for a malformed head, one of more than 8,192 bytes or 64 lines, or the
-/// fifth of status 1xx, `Status` for a status other than 200, `Unframed` for a body of another coding than `chunked`, for
-/// malformed chunks, and for a bad or repeated length, `Size` for a body of more than 34,000 bytes, and `Cut` where the stream
-/// ends inside a head or a body.
+/// Errors of this call:
+///
+/// - `Read` and `Write` if the device failed.
+/// - `Turns` if 50,000 reads or writes did not suffice.
+///
+/// Errors of the peer's answer:
+///
+/// - `Head` for a malformed head, one of more than 8,192 bytes or 64 lines, or the fifth of status 1xx.
+/// - `Status` for a status other than 200.
+/// - `Unframed` for a body of another coding than `chunked`, for malformed chunks, and for a bad or repeated length.
+/// - `Size` for a body of more than 34,000 bytes.
+/// - `Cut` if the stream ends inside a head or a body.
 pub fn post<R: Source, W: Sink>(
     r: &mut R,
     w: &mut W,
@@ -104,10 +111,10 @@ pub fn post<R: Source, W: Sink>(
     ensures bound { IfOk result (λ n. n ≤ max_peer_answer) }
     ensures len { length out.new ≡ length out.old }
 
-    // A device's fault is told exactly where the device failed.
+    // A device's fault is reported exactly if the device failed.
     ensures read { (result ≡ Err PostFault.Read) ↔ (R.failure_count r.old < R.failure_count r.new) }
     ensures write { (result ≡ Err PostFault.Write) ↔ (W.failure_count w.old < W.failure_count w.new) }
-    // The limit is told only where it was reached.
+    // The limit is reported only if it was reached.
     ensures turns { result ≡ Err PostFault.Turns
         → MadeAll R.was_read r.old r.new ⊎ MadeAll W.was_written w.old w.new }
 {
@@ -206,7 +213,7 @@ fn lines_in<'b>(text: &'b [u8], lines: &'b [HeaderSpan], spans: ResponseSpans) -
     }
 }
 
-// How the body behind the last head of an answer is framed.
+// How the body after the last head of an answer is framed.
 fn framing_in(status: u16, minor: u8, fields: Lines<'_>) -> Result<AnswerFraming, PostFault>
     ensures value { result ≡ framing_in (record { status = status; minor = minor; lines = lines_at fields.entry }) }
     ensures bound { IfOk result FitsAnswer }

@@ -185,7 +185,7 @@ pub(crate) fn waits(head: &RequestHead) -> bool
     head.minor == 1 && head.lines.says(b"Expect", b"100-continue")
 }
 
-/// Whether the connection is closed behind the answer. (RFC 9112, 9.3 and 9.6)
+/// Whether the connection is closed after the answer. (RFC 9112, 9.3 and 9.6)
 pub(crate) fn closes(head: &RequestHead) -> bool
     ensures { result ≡ closes (head_at head.now) }
 {

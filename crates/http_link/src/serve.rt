@@ -36,7 +36,7 @@ use httparse::spans::{EMPTY_HEADER_SPAN, HeaderSpan, RequestSpans};
 pub enum Served {
     /// It stays open: an answer was written, and another request may follow.
     Kept,
-    /// It is to be closed: an answer was written.
+    /// It must be closed: an answer was written.
     Closed,
     /// The stream ended before a whole request, and no answer was written.
     Ended,
@@ -73,17 +73,19 @@ struct Request<'b> {
     wanted: Wanted<'b>,
 }
 
-/// Reads one request, asks the service where nothing refuses it, and writes the answer. (RFC 9112, 2 and 9.3)
+/// Reads one request, asks the service if nothing refuses it, and writes the answer. (RFC 9112, 2 and 9.3)
 ///
-/// It takes no byte more than that request has. Where a connection is served on, as the service does, call
+/// It takes no more bytes than that request has. To serve a connection on, as the service does, call
 /// [`serve_next`](crate::serve_next): it reads as much at once as there is room for.
 ///
-/// The room is for bodies, and has 34,000 bytes or more. A request has at most 8,192 bytes and 64 field lines in its
-/// head. Nothing behind its body is taken from the reader.
+/// `room` is for bodies, and has 34,000 bytes or more. A request has at most 8,192 bytes and 64 field lines in its
+/// head. No byte after its body is taken from the reader.
 ///
-/// Errors: `Read` and `Write` where the device failed in this call, and `Turns` where 50,000 reads or writes did not
-/// suffice. Each ends the connection. Before a `Write` or a `Turns` the service may have been asked, before a `Read`
-/// not.
+/// Errors, each of which ends the connection:
+///
+/// - `Read` and `Write` if the device failed in this call. Before a `Read` the service was not asked, before a `Write`
+///   it may have been.
+/// - `Turns` if 50,000 reads or writes did not suffice. The service may have been asked before.
 pub fn serve_one<R: Source, W: Sink, S: Service>(
     r: &mut R,
     w: &mut W,
@@ -92,7 +94,8 @@ pub fn serve_one<R: Source, W: Sink, S: Service>(
 ) -> Result<Served, LinkFault>
     requires { max_body ≤ length room.old }
 
-    // A stream that begins with a head within the limits is served by what the head wants, however it is cut.
+    // A stream that begins with a head within the limits is served by the request in the head, however it is cut into
+    // reads.
     ensures exact { (stream : List ℕ) (head : grammar.RequestHead) (rest : List ℕ)
         → R.remaining r.old ≡ Some stream → BeginsWith stream head rest
         → IfOk result (IsServed (wanted_of (S.tenant_of service.old) (head_of head)) (head_of head) rest
@@ -103,7 +106,7 @@ pub fn serve_one<R: Source, W: Sink, S: Service>(
           left = R.remaining r.new;
           Writes = λ text. Appends (W.contents w.old) (W.contents w.new) text;
         })) }
-    // Whatever comes of it, only what the head wants is asked.
+    // Whatever the outcome, only the request of the head is asked.
     ensures asked_only { (stream : List ℕ) (head : grammar.RequestHead) (rest : List ℕ)
         → R.remaining r.old ≡ Some stream → BeginsWith stream head rest
         → IsAskedOnly (wanted_of (S.tenant_of service.old) (head_of head)) rest (service.new ≡ service.old)
@@ -117,10 +120,10 @@ pub fn serve_one<R: Source, W: Sink, S: Service>(
         (λ question. S.asks service.old question service.new) }
     ensures unread { result ≡ Err LinkFault.Read → service.new ≡ service.old }
 
-    // A device's fault is told exactly where the device failed.
+    // A device's fault is reported exactly if the device failed.
     ensures read { (result ≡ Err LinkFault.Read) ↔ (R.failure_count r.old < R.failure_count r.new) }
     ensures write { (result ≡ Err LinkFault.Write) ↔ (W.failure_count w.old < W.failure_count w.new) }
-    // The limit is told only where it was reached.
+    // The limit is reported only if it was reached.
     ensures turns { result ≡ Err LinkFault.Turns
         → MadeAll R.was_read r.old r.new ⊎ MadeAll W.was_written w.old w.new }
 {
@@ -171,8 +174,8 @@ pub(crate) fn refuse<W: Sink>(w: &mut W, status: u16, before: u64) -> Result<Ser
     Ok(Served::Closed)
 }
 
-/// Serves a request after its head. The bytes that came with the head are held in the room; in the end those are that follow
-/// the request.
+/// Serves a request after its head. The bytes that came with the head are held in the buffer. At the end those are
+/// held that follow the request.
 pub(crate) fn serve_head<R: Source, W: Sink, S: Service>(
     r: &mut R,
     w: &mut W,
@@ -262,7 +265,7 @@ fn serve_wanted<R: Source, W: Sink, S: Service>(
     }
 }
 
-// Asks the service what a head wants with its body, and writes the answer.
+// Asks the service the request of a head with its body, and writes the answer.
 fn answer<W: Sink, S: Service>(
     w: &mut W,
     service: &mut S,
@@ -311,7 +314,7 @@ fn kept_unless(closed: bool) -> Served
     if closed { Served::Closed } else { Served::Kept }
 }
 
-// Asks the service what a head wants.
+// Asks the service the request of a head.
 fn ask<S: Service>(service: &mut S, wanted: &Wanted, body: &[u8]) -> u16
     ensures { S.asks service.old (asking (wanted_at wanted.now) body.now result) service.new }
 {
