@@ -60,12 +60,14 @@ pub record IsUntouched {J : Type 0} {r : Ghosts J} (before after : Desk J r) : T
 
 -- ---- a packet
 
--- A packet was carried, by the book of its tenant, counted at the meters, and answered with the status of its reply. The
--- books' share has grown by each call of the book: it counts what the book did, and each record that the book made is the next
--- step of the worker's part of the one list; no other step came to that part. A token that is none and a frame that is no Prepare get no further, and nothing does where
--- no more may be counted or sent, nor, in an audited run, where memory for receipts was refused. Books were asked at moments
--- that the clock gave, and steps led to them from the run's openings. Where workers answer only packets that they sent on
--- themselves, none is lost: what came back for it is settled.
+-- A packet was carried by the book of its tenant, counted at the meters, and answered with the status of its reply.
+-- The books' share has grown by each call of the book. It counts what the book did. Each record that the book made is
+-- the next step of the worker's part of the one list, and that part has no other new step.
+--
+-- A malformed token and a frame that is not a Prepare get no further. Nothing does if no more may be counted or sent,
+-- or if an audited run is out of memory for receipts. Books were asked at moments that the clock gave, and steps led
+-- to them from the run's openings. If workers answer only packets that they sent on themselves, none is lost: its
+-- answer is settled.
 pub record WasCarried {J : Type 0} {r : Ghosts J} (Gives : ℕ → Type 0) (before : Desk J r) (tenant : ℕ) (token frame : List ℕ) (told : Status)
     (after : Desk J r) : Type 0 where
   pub reply : Reply
@@ -102,10 +104,12 @@ IsTold office tenant (Err Stray) told printed = told ≡ status.Unavailable
 IsTold office tenant (Err (Refused Memory)) told printed = told ≡ status.Unavailable
 IsTold office tenant (Err (Refused fault)) told printed = IsPrinted office tenant (Err fault) told printed
 
--- A command was done, or refused, by the book of the tenant, counted at the meters, and told. The books' share has grown by
--- it: the record that the book made is the next step of the worker's part of the one list, and no other step came to it. No
--- book was asked where no more may be counted, nor, in an audited run, where memory for the receipt was refused; and else one
--- was, at a moment that the clock gave, to which steps led from the run's openings.
+-- A command was done or refused by the book of the tenant, counted at the meters, and answered. The books' share has
+-- grown by it: the record that the book made is the next step of the worker's part of the one list, and that part has
+-- no other new step.
+--
+-- No book was asked if no more may be counted, or if an audited run is out of memory for the receipt. Otherwise one
+-- was asked, at a moment that the clock gave, and steps led to it from the run's openings.
 pub record WasGoverned {J : Type 0} {r : Ghosts J} (Gives : ℕ → Type 0) (office : Office J r) (before : Desk J r) (tenant : ℕ) (given : Command) (told : Status)
     (after : Desk J r) : Type 0 where
   pub answer : Result Answered GovernFault
@@ -154,7 +158,7 @@ WasAsked Gives Ilp office asked before told after =
 WasAsked Gives Admin office asked before told after =
     WasOrdered Gives (nat_lt asked.tenant office.books.tenants) office asked before told after
 
--- a question was answered with that status, and what is told at 200 is of its kind
+-- a question was answered with that status, and the text of a 200 is of the question's kind
 pub record HasAnswered {J : Type 0} {r : Ghosts J} (Gives : ℕ → Type 0) (office : Office J r) (before : Desk J r) (asked : Asked) (after : Desk J r) : Type 0 where
   pub told : Status
   pub code : asked.status ≡ code_of told
@@ -187,8 +191,8 @@ HasEnded tenant_of Ended left last known = IsOver tenant_of served.Ended left la
 HasEnded tenant_of Closed left last known = IsOver tenant_of served.Closed left last known
 HasEnded tenant_of Yielded left last known = left ≡ []
 
--- What was heard on a connection: its requests were answered in their order, none passed over and none behind the last one.
--- Where no device failed all that came was taken, up to its end.
+-- What was heard on a connection: its requests were answered in their order, none passed over and none after the last
+-- one. If no device failed, all that came was taken, up to its end.
 pub record HasHeard {J : Type 0} {r : Ghosts J} (Gives : ℕ → Type 0) (office : Office J r) (before : Desk J r) (old new : Option (List ℕ))
     (result : Result Over LinkFault) (after : Desk J r) : Type 0 where
   pub connection : Connection
@@ -199,7 +203,8 @@ pub record HasHeard {J : Type 0} {r : Ghosts J} (Gives : ℕ → Type 0) (office
   pub taken : IfOk result (λ over. Consumes old new connection.came)
   pub over : IfOk result (λ over. HasEnded (tenants_of office) over left last new)
 
--- the questions of a connection are those of its requests, in their order, none passed over and none behind the last one
+-- the questions of a connection are those of its requests, in their order, none passed over and none after the last
+-- one
 abbrev pub IsAsked : {J : Type 0} {r : Ghosts J} → Office J r → Connection → Type 0
 IsAsked office connection =
     (left : List ℕ) × (last : Bool) × AreAskedBy (tenants_of office) connection.came connection.questions left last
@@ -245,11 +250,13 @@ pub record IsOfficeOf {J : Type 0} {r : Ghosts J} (setup : Setup) (office : Offi
   pub holds : map (λ terms. terms.hold) office.terms.items ≡ map (λ t. t.hold) setup.tenants
   pub books : office.books.tenants ≡ length setup.tenants
 
--- A service of a setup, of which that is the run, has written the balances of the books in the end, where they are wanted, a
--- line for each tenant, of what so many workers have counted, as the connections that each served left it, at moments that the
--- clock gave, and what an audit found, where one is wanted. Where the last periods are closed, one worker has rolled each tenant. And of all that
--- was done to the tenants' books there is one list, of which each worker's share has its part, and which is a run of a floor
--- from the openings of the setup to the books in the end.
+-- A service of a setup, whose run this is, has written its last lines. If the report has balances, they come first.
+-- Then comes a line for each tenant, of what so many workers have counted. If the report has an audit, what it found
+-- comes last. The counts are as the connections that each worker served left them, at moments that the clock gave.
+--
+-- If the last periods are closed, one worker has rolled each tenant. There is one list of all that was done to the
+-- tenants' books. Each worker's share has its part of it. It is a run of a floor from the openings of the setup to the
+-- books at the end.
 pub record HasToldCountsIn {J : Type 0} (run : Ghosts J) (Gives : ℕ → Type 0) (setup : Setup) (workers : ℕ) (report : Report) (closed : Bool) (old new : Option (List ℕ)) : Type 0 where
   pub office : Office J run
   pub known : IsOfficeOf setup office
@@ -265,7 +272,7 @@ pub record HasToldCountsIn {J : Type 0} (run : Ghosts J) (Gives : ℕ → Type 0
       ++ lines_upto (length setup.tenants) office.names.items totals ++ audit)
   pub one_list : HaveListOf run.size run.openings books shares
 
--- the run of a service of a setup, whose list stands behind that table: each worker answers only packets that it sent on itself
+-- the run of a service of a setup, whose list has that table: each worker answers only packets that it sent on itself
 abbrev pub run_of : TableId → Setup → (workers : ℕ) → Ghosts Brand
 run_of table setup workers = record {
   table = table;
@@ -274,9 +281,9 @@ run_of table setup workers = record {
   own = true;
 }
 
--- A service of a setup has written the balances in the end, where they are wanted, a line for each tenant, of what so many
--- workers have counted, as the connections that each served left it, and what an audit found, where one is wanted; and all that
--- they did is one list, a run of a floor from the setup to the books in the end.
+-- A service of a setup has written its last lines, as HasToldCountsIn says, by some run of that setup: the balances, a
+-- line of counts for each tenant, and what an audit found. All that the workers did is one list, a run of a floor from
+-- the setup to the books at the end.
 abbrev pub HasToldCounts : (Gives : ℕ → Type 0) → Setup → (workers : ℕ) → Report → (closed : Bool) → (old new : Option (List ℕ)) → Type 0
 HasToldCounts Gives setup workers report closed old new =
     (table : TableId) × HasToldCountsIn (run_of table setup workers) Gives setup workers report closed old new

@@ -1,4 +1,4 @@
--- What a service audits in the end.
+-- What a service audits at the end.
 use Rattle.std.specs.Prelude.{ℕ, zero, suc, ◌≡◌, ◌⊎◌, ◌↔◌, Bool, true, false, List, [], ◌∷◌, ◌++◌, All, Contains, map, codes, Result, Ok, Err}
 use Rattle.std.specs.Fmt.{decimal}
 use Rattle.tenant_core.specs.declared.command.Answered.{Answered}
@@ -29,7 +29,7 @@ pub record Rolling : Type 0 where
   pub share : ShareView
   pub closed : List PeriodParts
 
--- the answer is no want of memory
+-- the answer is not out of memory
 abbrev pub HadMemory : Result Answered GovernFault → Type 0
 HadMemory (Err govern.Memory) = ⊥
 HadMemory (Err (Refused Memory)) = ⊥
@@ -40,7 +40,7 @@ abbrev pub closed_also : Result Answered GovernFault → List PeriodParts → Li
 closed_also (Ok (Rolled period)) closed = closed ++ period ∷ []
 closed_also _ closed = closed
 
--- that tenant's book was told to roll, and what it closed was kept; none was told where the share counts no more
+-- that tenant's book got the command to roll, and what it closed was kept; it got none if the share counts no more
 pub record WasRolled (under : Circumstances) (tenant : ℕ) (before after : Rolling) : Type 0 where
   pub answer : Result Answered GovernFault
   pub done : IsDone under answer (growth tenant before.share after.share) Roll
@@ -48,13 +48,13 @@ pub record WasRolled (under : Circumstances) (tenant : ℕ) (before after : Roll
   pub memory : HadMemory answer
   pub kept : after.closed ≡ closed_also answer before.closed
 
--- the books of the tenants below a number were told to roll, one after another
+-- the books of the tenants below a number got the command to roll, one after another
 abbrev pub HaveRolled : (under : Circumstances) → (tenants : ℕ) → (before after : Rolling) → Type 0
 HaveRolled under zero before after = after ≡ before
 HaveRolled under (suc n) before after = (between : Rolling) × HaveRolled under n before between × WasRolled under n between after
 
--- the shares in the end, and the closed periods: where that is wanted, one worker has rolled all tenants, and else nothing more
--- was done
+-- the shares at the end, and the closed periods: if `wanted`, one worker has rolled all tenants; otherwise nothing
+-- more was done
 abbrev pub HaveClosed : (under : Circumstances) → (wanted : Bool) → (tenants : ℕ) → (before after : List ShareView)
     → (closed closed_after : List PeriodParts) → Type 0
 HaveClosed under false tenants before after closed closed_after = (after ≡ before) × (closed_after ≡ closed)
@@ -62,7 +62,7 @@ HaveClosed under true tenants before after closed closed_after =
     (rest : List ShareView) × (first : ShareView) × (last : ShareView) × (before ≡ rest ++ first ∷ []) × (after ≡ rest ++ last ∷ [])
     × HaveRolled under tenants (record { share = first; closed = closed }) (record { share = last; closed = closed_after })
 
--- the shares in the end, whatever periods were closed
+-- the shares at the end, whatever periods were closed
 abbrev pub HaveEnded : (under : Circumstances) → (wanted : Bool) → (tenants : ℕ) → (before after : List ShareView) → Type 0
 HaveEnded under wanted tenants before after =
     (closed : List PeriodParts) × (closed_after : List PeriodParts)
@@ -74,11 +74,11 @@ HaveEnded under wanted tenants before after =
 abbrev pub lists_of : List ShareView → List (List Receipt)
 lists_of shares = map (λ s. receipts_told s.steps) shares
 
--- what an audit that says yes tells of that many receipts
+-- the line of an audit that says yes to that many receipts
 abbrev pub audit_line : ℕ → List ℕ
 audit_line receipts = codes "audit ok " ++ decimal receipts ++ 10 ∷ []
 
--- the word for a fault; want of memory has none
+-- the word for a fault; out of memory has none
 abbrev pub fault_word : AuditFault → List ℕ
 fault_word NoPeriod = codes "no-period"
 fault_word Gap = codes "gap"
@@ -88,21 +88,22 @@ fault_word Differs = codes "differs"
 fault_word (Order front) = codes "order"
 fault_word audit.Memory = []
 
--- each worker has kept its receipts; they are so many, and complete: those of all entries of these periods, which join, each of which
--- shows its entry and verdict; some order keeps each journal and each worker's list; and in that order they are the records of a run
+-- Each worker has kept its receipts. There are that many, and they are complete: those of all entries of these
+-- periods, which join, each with its entry and verdict. Some order keeps each journal and each worker's list, and in
+-- that order they are the records of a run
 abbrev pub IsCount : List PeriodParts → List ShareView → ℕ → Type 0
 IsCount periods shares receipts =
     All (λ s. s.audited ≡ true) shares
     × (order : List ℕ) × IsComplete periods (lists_of shares) order × AreOfRun periods (lists_of shares) order
     × (receipts ≡ receipts_of (lists_of shares))
 
--- where an audit is wanted, its line tells how many receipts there are, which are complete; else nothing is told
+-- with an audit, its line says how many receipts there are, which are complete; without one there is no text
 abbrev pub IsAudited : (audited : Bool) → List ShareView → List ℕ → Type 0
 IsAudited false shares text = text ≡ []
 IsAudited true shares text =
     (periods : List PeriodParts) × (receipts : ℕ) × IsCount periods shares receipts × (text ≡ audit_line receipts)
 
--- receipts can't be looked at: a worker has kept none, which are missing, or memory was refused
+-- receipts can't be looked at: a worker has kept none, so they are missing, or it is out of memory
 abbrev pub AreLacking : List ShareView → AuditFault → Type 0
 AreLacking shares fault =
     ((fault ≡ Missing) × ((s : ShareView) × Contains shares s × (s.audited ≡ false))) ⊎ (fault ≡ audit.Memory)
@@ -112,7 +113,7 @@ abbrev pub IsWrong : List PeriodParts → List ShareView → AuditFault → Type
 IsWrong periods shares fault =
     (All (λ s. s.audited ≡ true) shares × IsFault periods (lists_of shares) fault) ⊎ AreLacking shares fault
 
--- what is told of an audit, by what it came to: nothing where none is wanted or memory was refused; else what it found
+-- the text of an audit, by how it ended: none without an audit or if it ran out of memory; otherwise what it found
 abbrev pub IsFound : (wanted : Bool) → List PeriodParts → List ShareView → AuditEnd → List ℕ → Type 0
 IsFound wanted periods shares Lacked text = text ≡ []
 IsFound false periods shares Good text = text ≡ []

@@ -1,4 +1,4 @@
--- What a service tells of its books in the end.
+-- What a service prints of its books at the end.
 use Rattle.std.specs.Prelude.{ℕ, List}
 use Rattle.std.specs.List.{flat_map}
 use Rattle.tenant_core.specs.State.{State}
@@ -8,7 +8,7 @@ use Rattle.floor_core.specs.declared.step.Output.{Output}
 use Rattle.floor_core.specs.declared.step.Output.TheVariants.{Governed}
 use Rattle.replay_text.specs.Printed.{line_of}
 
--- what the command `balances` tells of a book
+-- the answer of a book to the command `balances`
 abbrev pub balances_told : State → Output
 balances_told book = Governed book.opening.tenant (command_answer book Balances 0)
 

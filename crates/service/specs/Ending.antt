@@ -17,7 +17,8 @@ end_of has_failed was_stopped false audit = Err Device
 end_of has_failed was_stopped true Good = Ok tt
 end_of has_failed was_stopped true Bad = Err Audit
 
--- Where the books were not gathered: for want of memory, or since they differ, which is what an audit finds where there is one.
+-- The fault if the books were not gathered: out of memory, or they differ. An audit, if there is one, reports that
+-- they differ.
 abbrev pub ungathered_end : {J : Type 0} → GatherFault J → (audited : Bool) → ServeFault
 ungathered_end (gather.Memory books shares) audited = Memory
 ungathered_end (gather.Missing books shares) true = Audit
@@ -25,13 +26,13 @@ ungathered_end (gather.Missing books shares) false = Differs
 ungathered_end (gather.Differs gathered shares) true = Audit
 ungathered_end (gather.Differs gathered shares) false = Differs
 
--- what is told last then: the line of the audit, if there is one
+-- the last line then: that of the audit, if there is one
 abbrev pub ungathered_line : ServeFault → List ℕ
 ungathered_line Audit = audit_told (codes "differs")
 ungathered_line Memory = []
 ungathered_line Device = []
 ungathered_line Differs = []
 
--- the service ends with that fault, of which that was told; or memory was refused, or the writer failed, before
+-- the service ends with that fault, after that text; or it ran out of memory, or the writer failed, before that
 abbrev pub EndsTold : Result (Unit {0}) ServeFault → ServeFault → (Told : Type 0) → Type 0
 EndsTold result fault Told = ((result ≡ Err fault) × Told) ⊎ ((result ≡ Err Memory) ⊎ (result ≡ Err Device))

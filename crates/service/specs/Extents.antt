@@ -2,7 +2,7 @@
 use Rattle.std.specs.Prelude.{ℕ, ◌-◌, ◌*◌, ◌/◌, ◌^◌, ◌||◌, Bool, Option, Some, None, is_some}
 use Rattle.service.specs.declared.running.plan.Plan.{Plan}
 
--- whether each tenant's running period is closed in the end: for an audit, or for its statement
+-- whether each tenant's running period is closed at the end: for an audit, or for its statement
 abbrev pub closes : Plan → Bool
 closes plan = plan.report.audit || is_some plan.statements
 

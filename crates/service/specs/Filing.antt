@@ -1,10 +1,10 @@
--- The statements of closed periods: what was to be kept, and what is told of those that are not.
+-- The statements of closed periods: which must be kept, and the lines for those that are not.
 use Rattle.std.specs.Prelude.{ℕ, ◌≡◌, ◌≢◌, ◌⊎◌, Bool, true, false, List, [], ◌∷◌, ◌++◌, Option, Some, codes}
 use Rattle.std.specs.Fmt.{decimal}
 use Rattle.tenant_core.specs.declared.period.PeriodParts.{PeriodParts}
 use Rattle.statements.specs.Statement.{IsStatement}
 
--- a statement that is to be kept: whose, of which period, and its text
+-- a statement to keep: whose, of which period, and its text
 pub record Stated : Type 0 where
   pub name : List ℕ
   pub period : ℕ
@@ -38,8 +38,8 @@ pub record WasAsked {S : Type 0} (Tells : Telling S) (p : PeriodParts) (before a
   pub is_known : answer ≢ Some false
   pub told : Tells before p.opening.name p.opening.period answer after
 
--- A statement that is kept is new, and was handed to the store, which keeps it. Another one was not kept by the store, or not
--- handed to it: since it is not known to be new, or since memory was refused.
+-- A statement that is kept is new, and was handed to the store, which keeps it. Another one was not kept by the store,
+-- or not handed to it: because it is not known to be new, or because memory ran out.
 abbrev pub IsFiled : {S : Type 0} → Telling S → Keeping S → PeriodParts → (kept : Bool) → (before after : S) → Type 0
 IsFiled Tells Keeps p true before after = WasHanded Tells Keeps p true before after
 IsFiled Tells Keeps p false before after =
@@ -49,7 +49,7 @@ IsFiled Tells Keeps p false before after =
 unfoldable pub missing_line : PeriodParts → List ℕ
 missing_line p = codes "statement " ++ p.opening.name ++ codes " " ++ decimal p.opening.period ++ codes " missing\n"
 
--- what is told of a period: nothing where its statement is kept
+-- the line for a period: none if its statement is kept
 abbrev pub line_unless : (kept : Bool) → PeriodParts → List ℕ
 line_unless true p = []
 line_unless false p = missing_line p

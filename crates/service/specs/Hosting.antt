@@ -1,4 +1,4 @@
--- What is told at the door of whoever runs the process, and the seat at which its thread reads the meters.
+-- The answers at the host's door, and the seat at which its thread reads the meters.
 use Rattle.std.specs.Prelude.{ℕ, ◌≡◌, ◌↔◌, Bool, true, false, List, Option, Some, None, codes}
 use Rattle.std.specs.Str.{bytes_eq}
 use Rattle.http_link.specs.HostDoor.{HostAsked}
@@ -13,21 +13,22 @@ use Rattle.service.specs.Metrics.{IsMetricsOf}
 use Rattle.service.specs.Presence.{IsPresentText}
 use Rattle.service.specs.declared.office.Office.{Office}
 
--- whether a token is to be shown for it
+-- whether the request needs a token
 abbrev pub wants_token : HostRequest → Bool
 wants_token Health = false
 wants_token Metrics = true
 wants_token Setup = true
 wants_token Stop = true
 
--- what is told: a word; the metrics; the tenants as their books stood
+-- the text of an answer: a word; the metrics; the tenants as their books were
 abbrev pub IsToldOf : {J : Type 0} {r : Ghosts J} → List Opening → Office J r → HostRequest → List ℕ → Type 0
 IsToldOf openings office Health text = text ≡ codes "ok\n"
 IsToldOf openings office Metrics text = IsMetricsOf office.names.items text
 IsToldOf openings office Setup text = IsPresentText openings office text
 IsToldOf openings office Stop text = IsPresentText openings office text
 
--- a request was refused exactly where it wants a token and another one was shown (401), and what is told with 200 is of its kind
+-- a request was refused exactly if it needs a token and another one was shown (401), and the text of a 200 is of its
+-- kind
 pub record HasTold {J : Type 0} {r : Ghosts J} (openings : List Opening) (office : Office J r) (token : List ℕ) (asked : HostAsked) (text : List ℕ) : Type 0 where
   pub refused : asked.status ≡ 401 ↔ (wants_token asked.request ≡ true) × (bytes_eq asked.token token ≡ false)
   pub told : asked.status ≡ 200 → IsToldOf openings office asked.request text

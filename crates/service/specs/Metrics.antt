@@ -120,18 +120,18 @@ abbrev pub bit : Bool → ℕ
 bit true = 1
 bit false = 0
 
--- what is told of the whole service
+-- the metrics of the whole service
 unfoldable pub service_text : ServiceCounts → List ℕ
 service_text service =
     single_text Accepts (bit service.accepts) ++ single_text Open service.open ++ single_text Waiting service.waiting
 
--- what is told of the tenants, by family
+-- the metrics of the tenants, by family
 unfoldable pub tenants_text : List TenantCounts → List ℕ
 tenants_text all =
     all_answers all ++ each_text LinkFaults all ++ each_text RefusedTokens all ++ each_text PlacesShare all ++ each_text PlacesUsed all
     ++ each_text PlacesAwaited all ++ each_text Period all ++ each_text Entries all ++ each_text JournalPlaces all ++ each_text OpenHolds all
 
--- what is told of the statements of closed periods, where some are kept
+-- the metrics of the statements of closed periods, if some are kept
 abbrev pub statements_text : Bool → List TenantCounts → List ℕ
 statements_text false all = []
 statements_text true all = each_text StatementsWaiting all
@@ -142,7 +142,7 @@ metrics_text service all = service_text service ++ tenants_text all ++ statement
 
 -- ---- what was read
 
--- what is told of a book
+-- the figures of a book
 abbrev pub figures_of : State → BookFigures
 figures_of book = record {
   period = book.opening.period;
@@ -151,12 +151,12 @@ figures_of book = record {
   open_holds = open_holds book;
 }
 
--- that is told of a book of the tenant
+-- these are the figures of a book of the tenant
 abbrev pub IsBookOf : ℕ → BookFigures → Type 0
 IsBookOf tenant figures = (book : State) × (book.opening.tenant ≡ tenant) × (figures ≡ figures_of book)
 
--- these counts of a tenant are what was told of it: so often each kind, so many refused tokens, these places, this book, and so
--- many statements that wait
+-- these counts of a tenant are what was read: so often each kind, so many refused tokens, these places, this book, and
+-- so many statements that wait
 pub record AreRead (Answered : Kind → ℕ → Type 0) (Tokens : ℕ → Type 0) (Places : PlaceUse → Type 0) (Book : BookFigures → Type 0)
     (Statements : ℕ → Type 0)
     (counts : TenantCounts) : Type 0 where
@@ -169,7 +169,7 @@ pub record AreRead (Answered : Kind → ℕ → Type 0) (Tokens : ℕ → Type 0
   pub book : Book counts.book
   pub statements : Statements counts.statements
 
--- the text tells the metrics of the tenants of these names, each of its own book
+-- the text is the metrics of the tenants of these names, each of its own book
 abbrev pub IsMetricsOf : List (List ℕ) → List ℕ → Type 0
 IsMetricsOf names text =
     (service : ServiceCounts) × (all : List TenantCounts) × (length all ≡ length names)

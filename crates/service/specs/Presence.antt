@@ -1,4 +1,4 @@
--- The setup of a service as it stands.
+-- The setup of a service as it is now.
 use Rattle.std.specs.Prelude.{ℕ, ◌≡◌, List, length, map, Some, Ok}
 use Rattle.std.specs.List.{slice_get}
 use Rattle.admin_text.specs.Anew.{anew, AreTenants}
@@ -13,8 +13,8 @@ use Rattle.tenant_core.specs.declared.terms.TenantTerms.{TenantTerms}
 use Rattle.service.specs.Answering.{operator_token}
 use Rattle.service.specs.declared.office.Office.{Office}
 
--- The setup of a tenant as its book stood at some moment, with the token of its operator: all that was done to the book until
--- then leads to it from the opening that the service's setup gives.
+-- The setup of a tenant as its book was at some moment, with the token of its operator. All that was done to the book
+-- until then leads to it from the opening that the service's setup gives.
 pub record IsPresent {J : Type 0} {r : Ghosts J} (openings : List Opening) (office : Office J r) (tenant : ℕ) (setup : TenantTerms) : Type 0 where
   pub book : State
   pub steps : List Done
@@ -22,7 +22,7 @@ pub record IsPresent {J : Type 0} {r : Ghosts J} (openings : List Opening) (offi
   pub led : IsLedTo openings book steps
   pub told : setup ≡ present_setup book (operator_token office tenant)
 
--- the setups of all tenants, in their order, each as its book stood at some moment
+-- the setups of all tenants, in their order, each as its book was at some moment
 pub record ArePresent {J : Type 0} {r : Ghosts J} (openings : List Opening) (office : Office J r) (setups : List TenantTerms) : Type 0 where
   pub all : length setups ≡ office.books.tenants
   pub each : (tenant : ℕ) (setup : TenantTerms) → slice_get setups tenant ≡ Some setup → IsPresent openings office tenant setup

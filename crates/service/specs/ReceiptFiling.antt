@@ -25,8 +25,8 @@ pub record WasAsked {S : Type 0} (Tells : TellingReceipts S) (before after : S) 
   pub is_known : answer ≢ Some false
   pub told : Tells before answer after
 
--- Receipts that are kept are new, and their text was handed to the store, which keeps it. Others were not kept by the store, or not
--- handed to it: since they are not known to be new, since a worker has kept none, or since memory was refused.
+-- Receipts that are kept are new, and their text was handed to the store, which keeps it. Others were not kept by the
+-- store, or not handed to it: because they are not known to be new, a worker has kept none, or memory ran out.
 abbrev pub AreReceiptsFiled : {S : Type 0} → TellingReceipts S → KeepingReceipts S → List ShareView → (kept : Bool) → (before after : S) → Type 0
 AreReceiptsFiled Tells Keeps shares true before after = WereHanded Tells Keeps shares true before after
 AreReceiptsFiled Tells Keeps shares false before after =

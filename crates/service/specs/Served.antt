@@ -1,4 +1,4 @@
--- What a service answers, and what it prints in the end.
+-- What a service answers, and what it prints at the end.
 use Rattle.std.specs.Prelude.{ℕ, zero, suc, List, [], ◌∷◌, ◌++◌, codes, slice_index_or, Option}
 use Rattle.std.specs.Fmt.{decimal}
 use Rattle.std.specs.List.{position}
@@ -12,7 +12,7 @@ use Rattle.http_link.specs.declared.request.RequestKind.TheVariants.{Ilp, Admin}
 abbrev pub tenant_named : List (List ℕ) → List ℕ → Option ℕ
 tenant_named names name = position (λ known. bytes_eq known name) names
 
--- the text of the last answer: what the slot tells of a packet, or what was printed of a command
+-- the text of the last answer: the slot's reply to a packet, or what was printed of a command
 abbrev pub told_text : RequestKind → List ℕ → List ℕ → List ℕ
 told_text Ilp reply printed = reply
 told_text Admin reply printed = printed

@@ -27,7 +27,7 @@ pub trait StatementStore {
     /// What a question makes of it: before, of whose period it was asked, the answer, and after.
     ghost tells: { Self → List ℕ → ℕ → Option Bool → Self → Type 0 };
 
-    /// What keeping makes of it: before, what was to be kept, whether it is kept now, and after.
+    /// What keeping does: the store before, the statement, whether it is kept now, and the store after.
     ghost keeps: { Self → Stated → Bool → Self → Type 0 };
 
     /// Whether there is a statement of a tenant's period; `None` where that can't be told.
@@ -39,8 +39,8 @@ pub trait StatementStore {
         ensures { keeps self.old (record { name = name.now; period = period; text = text.now }) result self.new };
 }
 
-/// Writes the statement of a closed period, unless there is one of that period, and says whether it is kept now. It is not where
-/// memory was refused.
+/// Writes the statement of a closed period, unless there is one of that period. Returns whether it is kept now. It is
+/// not if it is out of memory.
 pub fn file<S: StatementStore>(alloc: Global, store: &mut S, period: &Period) -> bool
     ensures { IsFiled S.tells S.keeps period.now result store.old store.new }
 {
@@ -51,8 +51,8 @@ pub fn file<S: StatementStore>(alloc: Global, store: &mut S, period: &Period) ->
     store.has(name, number) == Some(false) && store.keep(name, number, text.as_slice())
 }
 
-/// Writes the statements of closed periods, one after another, and a line for each that is not kept now. The one error is that
-/// memory was refused for a line.
+/// Writes the statements of closed periods, one after another, and a line for each that is not kept now. Fails only if
+/// it is out of memory for a line.
 pub fn file_each<S: StatementStore>(
     alloc: Global,
     store: &mut S,

@@ -1,4 +1,4 @@
-//! The host's door: who waits there, and what the host is told.
+//! The host's door: who waits there, and the answers that the host gets.
 
 pub mod asking;
 pub mod callers;

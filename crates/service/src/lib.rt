@@ -1,10 +1,11 @@
 //! The service that answers packets of peers and commands of operators over HTTP, and the door of its host.
 //!
-//! - `connection`: what a connection is: how many may come, how long each may do what, and when it gives way to others.
+//! - `connection`: what a connection is: how many may come, how long each may do what, and when it gives way to
+//!   others.
 //! - `worker`: what one worker does on its thread: it serves connections, carries packets and obeys commands.
 //! - `link`: the way out to the next peers.
 //! - `filing`: the statements of closed periods: where they are kept, and which could not be written.
-//! - `host`: the host's door: who waits there, and what the host is told.
+//! - `host`: the host's door: who waits there, and the answers that the host gets.
 //! - `running`: how a service begins, runs and ends.
 //! - `office`: what all of them share.
 //! - `system`: what all of them run on.

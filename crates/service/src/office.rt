@@ -22,8 +22,8 @@ pub struct Terms {
     pub hold: u64,
 }
 
-/// What all workers share: the tenants by their numbers, their books, the meters, and the ways in and out. `J` says which list it is that tells,
-/// to the proofs alone, what is done to the books.
+/// What all workers share: the tenants by their numbers, their books, the meters, and the ways in and out. `J` names,
+/// for the proofs alone, the list of all that is done to the books.
 #[derive(Drop)]
 pub struct Office<J: Run> {
     pub names: Vec<Name>,

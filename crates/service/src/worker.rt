@@ -168,8 +168,8 @@ impl<H: Wait + Net<Stream = TcpStream> + std::time::Clock + Disk, C: Clock, J: R
         self.desk.obey(&system, office, tenant, body)
     }
 
-    // Accepts a connection, and says whether one came. A try that fails is made again after a pause, and is reported in the end,
-    // but for one that fails since the service stops.
+    // Accepts a connection, and says whether one came. A try that fails is made again after a pause. It is reported at
+    // the end, unless it fails because the service stops.
     fn accepted(&mut self) -> Option<TcpStream>
         ensures office { self.new.office ≡ self.old.office }
         ensures clock { self.new.clock ≡ self.old.clock }

@@ -17,7 +17,7 @@ pub struct Door {
     deserted: AtomicBool,
 }
 
-/// That no thread serves connections any more. A door alone gives it, once it was told so.
+/// Evidence that no thread serves connections any more. Only a door gives it, after `desert` was called.
 #[derive(Drop)]
 pub struct Deserted(());
 
@@ -51,7 +51,7 @@ impl Door {
         unreachable!()
     }
 
-    /// Another connection may be served in place of one that brought nothing, or did not come.
+    /// Another connection may be served in place of one that was idle or did not come.
     pub fn give_back(&self) {
         self.left.fetch_add(1, Ordering::SeqCst);
     }

@@ -196,8 +196,8 @@ impl<H: Wait + Clock> Side<'_, H> {
 
 /// A side of a connection that has only so long for what it does.
 pub trait Paced: Source + Sink {
-    /// It does that from now on, and has done it for no time yet. Where it is to be sparing, it reads a byte at a time, so that
-    /// nothing is taken that comes after what is read.
+    /// It does that from now on, and has spent no time on it yet. If `is_sparing`, it reads a byte at a time, so that
+    /// it takes no byte that comes after what is read.
     fn begin(&mut self, activity: Activity, is_sparing: bool)
         ensures reads { Self.remaining self.new ≡ Self.remaining self.old }
         ensures writes { Self.contents self.new ≡ Self.contents self.old }

@@ -30,7 +30,7 @@ impl<'a, D> Folder<'a, D> {
 }
 
 impl<D: Disk> Folder<'_, D> {
-    // The path of a file, and what is put behind it.
+    // The path of a file, with that ending.
     fn path_of(&self, file: &[u8], ending: &[u8]) -> io::Result<String> {
         let mut path = Vec::new(self.alloc);
         path.extend_from_slice(self.path.as_bytes())?;

@@ -14,7 +14,7 @@ pub trait ReceiptStore {
     /// What a question makes of it: before, the answer, and after.
     ghost tells_receipts: { Self → Option Bool → Self → Type 0 };
 
-    /// What keeping makes of it: before, what was to be kept, whether it is kept now, and after.
+    /// What keeping does: the store before, the text of the receipts, whether it is kept now, and the store after.
     ghost keeps_receipts: { Self → List ℕ → Bool → Self → Type 0 };
 
     /// Whether there are receipts; `None` where that can't be told.
@@ -26,8 +26,8 @@ pub trait ReceiptStore {
         ensures { keeps_receipts self.old text.now result self.new };
 }
 
-/// Writes the receipts of all workers, unless there are receipts already, and says whether they are kept now. They are not where
-/// memory was refused, or where a worker has kept none.
+/// Writes the receipts of all workers, unless there are receipts already. Returns whether they are kept now. They are
+/// not if it is out of memory, or if a worker has kept none.
 pub fn file_receipts<S: ReceiptStore, J: Run>(
     alloc: Global,
     store: &mut S,

@@ -1,4 +1,4 @@
-//! What a service audits in the end.
+//! What a service audits at the end.
 
 ghost use Rattle.std.specs.Prelude.{◌≡◌, ◌<◌, [], List, map, vec_len, true, false, All, IfErr, IfOk, OnOk};
 ghost use Rattle.books_shared.specs.Shares.{receipts_told};
@@ -21,7 +21,8 @@ use std::sync::Wait;
 use tenant_core::{Answered, Command, CommandFault, Period};
 use workers::{Clock, GovernFault, govern};
 
-// Rolls a tenant, and keeps the period that it closes. A roll that is refused, but for want of memory, is left to the audit.
+// Rolls a tenant, and keeps the period that it closes. A roll that is refused is left to the audit, unless it is out
+// of memory.
 fn roll<J: Run, H: Wait, C: Clock>(
     system: &System<'_, H, C>,
     office: &Office<J>,
@@ -103,8 +104,8 @@ fn roll_each<J: Run, H: Wait, C: Clock>(
     roll_below(system, office, &meters, &mut seat, share, periods)
 }
 
-/// Closes the running period of each tenant by one of the shares, where that is wanted, and keeps what was closed. The one error
-/// is that memory was refused.
+/// Closes the running period of each tenant by one of the shares, if `wanted`, and keeps what was closed. Fails only
+/// if it is out of memory.
 pub fn roll_all<J: Run, H: Wait, C: Clock>(
     system: &System<'_, H, C>,
     wanted: bool,
@@ -169,12 +170,12 @@ fn count_audited<J: Run>(
 /// What an audit found.
 #[derive(Drop)]
 pub struct Found {
-    /// The line that tells it: nothing where no audit is wanted, or memory was refused for it.
+    /// The line that reports it: empty without an audit, or if it was out of memory for it.
     pub line: Vec<u8>,
     pub end: AuditEnd,
 }
 
-/// Nothing, since memory was refused.
+/// Nothing, since it was out of memory.
 pub fn lacked(alloc: Global) -> Found
     ensures end { result.end ≡ AuditEnd.Lacked }
     ensures line { result.line.items ≡ [] }
@@ -185,7 +186,7 @@ pub fn lacked(alloc: Global) -> Found
     }
 }
 
-/// Audits what the workers did, where that is wanted, by all periods that were closed. The one error is that memory was refused.
+/// Audits what the workers did, if `wanted`, by all periods that were closed. Fails only if it is out of memory.
 pub fn audited<J: Run>(
     alloc: Global,
     wanted: bool,
@@ -225,7 +226,7 @@ pub fn good_line(alloc: Global, receipts: usize) -> Result<Vec<u8>, AllocError>
     Ok(line)
 }
 
-/// The line of an audit that came to that.
+/// The line of an audit with that outcome.
 pub fn audit_told(alloc: Global, words: &[u8]) -> Result<Vec<u8>, AllocError>
     ensures { IfOk result (λ line. line.items ≡ audit_told words.now) }
 {
@@ -236,7 +237,7 @@ pub fn audit_told(alloc: Global, words: &[u8]) -> Result<Vec<u8>, AllocError>
     Ok(line)
 }
 
-/// The word for a fault, but for want of memory.
+/// The word for a fault. `Memory` has none: it is the error.
 pub fn word_of(fault: &AuditFault) -> Result<&'static [u8], AllocError>
     ensures { IfOk result (λ word. word.now ≡ fault_word fault.now) }
 {

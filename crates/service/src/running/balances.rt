@@ -1,4 +1,4 @@
-//! What a service tells of its books in the end.
+//! What a service prints of its books at the end.
 
 ghost use Rattle.std.specs.Prelude.{◌≡◌, [], ◌++◌, if◌then◌else◌, IfOk, OnOk};
 ghost use Rattle.std.specs.List.{flat_map};
@@ -11,8 +11,8 @@ use replay_text::put_answer;
 use std::alloc::{AllocError, Global};
 use tenant_core::{Book, Command};
 
-/// What the command `balances` tells of each of these books, for tenants of these names, where that is wanted. The one error
-/// is want of memory.
+/// The answer of each of these books to the command `balances`, for tenants of these names, if `wanted`. Fails only if
+/// it is out of memory.
 pub fn balance_lines(
     alloc: Global,
     wanted: bool,

@@ -13,17 +13,18 @@ use thiserror::Error;
 /// Why a service ended otherwise than after its rounds, or where its host stopped it.
 #[derive(Clone, Copy, Debug, PartialEq, Eq, Error)]
 pub enum ServeFault {
-    /// Memory was refused.
+    /// Out of memory.
     #[error("out of memory")]
     Memory,
     /// A thread could not be started, the lines or a statement not be written, or, unless its host stopped the service, a
     /// connection not be accepted.
     #[error("device")]
     Device,
-    /// The books in the end are not what the workers have counted. No lock that hands out what was left in it comes to this.
+    /// The books at the end are not what the workers have counted. This cannot happen if each lock returns what was
+    /// left in it.
     #[error("books differ")]
     Differs,
-    /// An audit found a fault, which its line tells.
+    /// An audit found a fault. Its line says which.
     #[error("audit")]
     Audit,
 }
@@ -61,12 +62,12 @@ pub enum AuditEnd {
     Good,
     /// It found a fault.
     Bad,
-    /// Memory was refused for it.
+    /// Out of memory for it.
     Lacked,
 }
 
-/// How a service ends whose books were gathered and whose lines were written: of which an accept has failed, or none, which its
-/// host stopped, or not, whose statements are all kept, or not, and whose audit came to that.
+/// How a service ends after its books were gathered and its lines written. It depends on whether an accept has failed,
+/// whether the host stopped it, whether its statements are all kept, and how its audit ended.
 pub fn end_of(
     has_failed: bool,
     was_stopped: bool,

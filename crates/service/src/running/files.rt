@@ -16,8 +16,8 @@ const OTHERS: usize = 8;
 /// How many of them are open before a service begins.
 const BEFORE: usize = 6;
 
-/// How many files a process has open at once at most that serves so much: one for each connection, one for each exchange with a
-/// peer, one for each caller at the host's door, if there is one, and eight more.
+/// The most files that a process with this extent has open at once: one for each connection, each exchange with a
+/// peer, and each caller at the host's door, if there is one, and eight more.
 pub fn files_of(extent: Extent, has_host: bool) -> usize
     requires workers { extent.workers ≤ max_places }
     requires connections { extent.connections ≤ max_workers }
@@ -27,9 +27,10 @@ pub fn files_of(extent: Extent, has_host: bool) -> usize
     extent.connections + extent.workers + callers + OTHERS
 }
 
-/// Whether the process may have so many files open at once: as a probe, as many as are lacking are opened and closed again.
+/// Whether the process may have so many files open at once. As a probe, it opens as many as are lacking, and closes
+/// them again.
 ///
-/// The one error is that memory was refused.
+/// Fails only if it is out of memory.
 pub fn can_open(alloc: Global, listener: &TcpListener, files: usize) -> Result<bool, AllocError> {
     let lacking = files.saturating_sub(BEFORE);
     let mut opened = Vec::with_capacity(alloc, lacking)?;

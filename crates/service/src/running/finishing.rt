@@ -22,8 +22,8 @@ use std::sync::Wait;
 use tenant_core::Period;
 use workers::Clock;
 
-/// What a service tells last: a line for each period whose statement is not kept, one where the receipts are not, and what an
-/// audit found.
+/// What a service prints last: a line for each period whose statement is not kept, one if the receipts are not, and
+/// what an audit found.
 #[derive(Drop)]
 pub struct Last {
     pub missing: Vec<u8>,
@@ -39,7 +39,7 @@ pub fn with_more(periods: Option<Vec<Period>>, more: Vec<Period>) -> Option<Vec<
     Some(all)
 }
 
-// The periods whose statements are still to be written, taken out of the backlog. The one error is that memory was refused.
+// The periods whose statements are not written yet, taken out of the backlog. Fails only if it is out of memory.
 fn waiting_periods<J: Run, H: Wait, C>(
     system: &System<'_, H, C>,
     office: &Office<J>,
@@ -61,8 +61,8 @@ fn waiting_periods<J: Run, H: Wait, C>(
     Ok(all)
 }
 
-// Has the statements of these periods written, where statements are kept, and gives a line for each that is not kept now. The
-// one error is that memory was refused.
+// Writes the statements of these periods, if statements are kept. Returns a line for each that is not kept now. Fails
+// only if it is out of memory.
 fn file_late<J: Run, H: Disk, C>(
     system: &System<'_, H, C>,
     office: &Office<J>,
@@ -78,8 +78,8 @@ fn file_late<J: Run, H: Disk, C>(
     }
 }
 
-// Has the receipts of all workers written, where they are kept and statements are, and puts a line behind a text where they are
-// not kept now. The one error is that memory was refused.
+// Writes the receipts of all workers, if they are kept and statements are. Appends a line to a text if they are not
+// kept now. Fails only if it is out of memory.
 fn file_receipts_late<J: Run, H: Disk, C>(
     system: &System<'_, H, C>,
     plan: Plan<'_>,
@@ -100,7 +100,8 @@ fn file_receipts_late<J: Run, H: Disk, C>(
     lines.extend_from_slice(b"receipts missing\n")
 }
 
-// Closes what is to be closed, has statements and receipts written, and receipts audited. The one error is that memory was refused.
+// Closes the periods that the plan closes, writes statements and receipts, and audits receipts. Fails only if it is
+// out of memory.
 fn finished<J: Run, H: Wait + Disk, C: Clock>(
     system: &System<'_, H, C>,
     plan: Plan<'_>,
@@ -126,9 +127,9 @@ fn finished<J: Run, H: Wait + Disk, C: Clock>(
     Ok(Last { missing, audit })
 }
 
-/// Closes the running periods, where an audit or statements want it; has the statements written that are not yet, and the receipts,
-/// where both are kept; and audits what the workers did, where that is wanted, by the periods that were closed before, if there was memory to put them together. One
-/// of the workers closes the last ones.
+/// Closes the running periods, if the plan has an audit or statements, by one of the workers. Then writes the
+/// statements that are not written yet, and the receipts, if both are kept. Then audits what the workers did, if the
+/// plan has an audit. The audit uses the periods that were closed before, if there was memory to put them together.
 pub fn finish<J: Run, H: Wait + Disk, C: Clock>(
     system: &System<'_, H, C>,
     plan: Plan<'_>,
@@ -152,7 +153,7 @@ pub fn finish<J: Run, H: Wait + Disk, C: Clock>(
     }
 }
 
-/// What a service tells last, as a text.
+/// What a service prints last, as a text.
 #[derive(Drop)]
 pub struct LastText {
     pub text: Vec<u8>,

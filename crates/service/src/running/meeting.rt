@@ -19,7 +19,7 @@ const MISSED: u8 = 3;
 /// For how many milliseconds one waits for the other.
 const PATIENCE: u64 = 3_000;
 
-/// That one did not come to a meeting. Neither begins then.
+/// One of two missed a meeting. Neither begins then.
 #[derive(Drop)]
 pub struct Missed(());
 
@@ -43,7 +43,7 @@ impl Meeting {
             .is_ok()
     }
 
-    /// Comes to the meeting, and waits for the other one. It is called once by each: both are told the same.
+    /// Attends the meeting, and waits for the other one. Each calls it once, and both get the same result.
     pub fn attend(&self, clock: &impl Clock) -> Result<(), Missed> {
         if self.have_met(clock) {
             Ok(())

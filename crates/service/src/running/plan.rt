@@ -15,7 +15,7 @@ pub struct Extent {
     pub rounds: Option<u32>,
 }
 
-/// What a service tells in the end beside the lines of its tenants.
+/// What a service prints at the end beside the lines of its tenants.
 #[derive(Clone, Copy, Debug, PartialEq, Eq)]
 pub struct Report {
     /// What the command `balances` would tell of each tenant, before these lines.
@@ -24,8 +24,8 @@ pub struct Report {
     pub audit: bool,
 }
 
-/// What a service is to do: how much it serves, what it tells in the end, and in which folder it keeps the statements of closed
-/// periods, if in any.
+/// What a service does: how much it serves, what it prints at the end, and in which folder it keeps the statements of
+/// closed periods, if in any.
 #[derive(Clone, Copy)]
 pub struct Plan<'a> {
     pub extent: Extent,
@@ -34,7 +34,7 @@ pub struct Plan<'a> {
 }
 
 impl Plan<'_> {
-    /// Whether each tenant's running period is closed in the end: for an audit, or for its statement.
+    /// Whether each tenant's running period is closed at the end: for an audit, or for its statement.
     pub fn closes(&self) -> bool
         ensures { result ≡ closes self.now }
     {
@@ -53,7 +53,7 @@ pub fn total_of(extent: Extent) -> u64
     }
 }
 
-/// How many packets of each tenant may wait for a place: what half of the connections beyond the places come to for each.
+/// How many packets of each tenant may wait for a place: an equal part of half of the connections beyond the places.
 pub fn most_waiting_of(extent: Extent, tenants: usize) -> usize
     requires { 1 ≤ tenants }
     ensures { result ≡ most_waiting_of extent.connections extent.workers tenants }

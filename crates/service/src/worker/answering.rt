@@ -21,7 +21,7 @@ use std::sync::Wait;
 use tenant_core::{Answered, Command, CommandFault, Period};
 use workers::{BacklogRoom, Clock, Gate, GovernFault, Job, Link, Point, Status, carry, govern};
 
-/// A gate that stands open.
+/// A gate that is always open.
 struct NoGate;
 
 impl Gate for NoGate {
@@ -63,7 +63,7 @@ impl<J: Run> Desk<J> {
         reply.status()
     }
 
-    // Makes room for the period that a command may close, where the run is audited. The one error is want of memory.
+    // Makes room for the period that a command may close, if the run is audited. Fails only if it is out of memory.
     fn make_room(&mut self) -> Result<(), AllocError>
         ensures untouched { IsUntouched self.old self.new }
         ensures told { self.new.told ≡ self.old.told }
@@ -144,7 +144,7 @@ impl<J: Run> Desk<J> {
         }
     }
 
-    /// Does what stands in a body, where it is a command, for a tenant of the office, and gives the status of the answer.
+    /// Does the command in a body, if it is one, for a tenant of the office, and returns the status of the answer.
     pub fn obey<H: Wait + Disk, C: Clock>(
         &mut self,
         system: &System<'_, H, C>,
@@ -203,7 +203,7 @@ impl<J: Run> Desk<J> {
     }
 }
 
-// Room for the period that a roll may close, where statements are kept. The error is that memory was refused.
+// Room for the period that a roll may close, if statements are kept. Fails only if it is out of memory.
 fn backlog_room<'a, H: Wait, J: Run>(
     handle: &H,
     office: &'a Office<J>,
