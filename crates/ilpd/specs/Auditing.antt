@@ -7,7 +7,7 @@ use Rattle.service.specs.Auditing.{audit_line}
 use Rattle.statements.specs.Statement.{IsStatement}
 use Rattle.tenant_core.specs.declared.period.PeriodParts.{PeriodParts}
 
--- an audit of the receipts in the text says yes, by these periods, and the line was written that tells how many there are
+-- an audit of the receipts in the text says yes, by these periods, and a line with their number was written
 abbrev pub TellsAudit : List PeriodParts → (text : List ℕ) → (old new : Option (List ℕ)) → Type 0
 TellsAudit periods text old new =
     (audited : Audited) × IsAuditedText periods text audited × Appends old new (audit_line audited.receipts)

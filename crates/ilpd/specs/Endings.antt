@@ -5,8 +5,8 @@ use Rattle.service.specs.declared.running.ending.ServeFault.TheVariants as servi
 use Rattle.ilpd.specs.declared.ending.Ending.{Ending}
 use Rattle.ilpd.specs.declared.ending.Ending.TheVariants.{Usage, Fault, Served, NoToken, NotGood, Audit}
 
--- 0 where nothing went wrong, 2 for a bad command line or token, 4 for a bad statement or text of receipts, 6 for an audit that found
--- a fault, and else by what went wrong: a replay, a file, or a service
+-- 0 if nothing went wrong, 2 for a bad command line or token, 4 for a bad statement or text of receipts, 6 for an
+-- audit that found a fault. Otherwise it depends on what went wrong: a replay, a file, or a service
 abbrev pub exit_status : Result (Unit {0}) Ending → ℕ
 exit_status (Ok done) = 0
 exit_status (Err (Usage error)) = 2

@@ -6,7 +6,7 @@ use Rattle.replay_text.specs.Replay.{IsReplayed}
 use Rattle.service.specs.Filing.{IsFiled, Keeping, Telling}
 use Rattle.ilpd.specs.declared.filing.Filer.{Filer}
 
--- the statement of the period was to be kept, and it is known whether all are kept so far
+-- the statement of the period had to be kept, and it is known whether all are kept so far
 abbrev pub Files : {S : Type 0} → Telling S → Keeping S → Filer S → PeriodParts → Filer S → Type 0
 Files Tells Keeps before p after =
     (kept : Bool) × IsFiled Tells Keeps p kept before.store after.store × (after.are_kept ≡ (before.are_kept && kept))

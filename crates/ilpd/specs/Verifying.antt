@@ -20,7 +20,7 @@ pub record GoesOnBy (read : Result Setup SetupFault) (before after : Chain) : Ty
   pub there : slice_get setup.tenants place ≡ Some tenant
   pub chain : (links : List Link) → IsChain links before → IsChain (links ++ Begun (start_at place tenant setup.start) ∷ []) after
 
--- the text tells what the statements of the chain come to, whichever statements of it they are
+-- the text is the summary of the chain's statements, whichever statements of it they are
 abbrev pub IsSummaryOf : Chain → List ℕ → Type 0
 IsSummaryOf chain text = (links : List Link) (is : IsChain links chain) → text ≡ summary_text is.done is.periods
 

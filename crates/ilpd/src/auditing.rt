@@ -60,7 +60,7 @@ impl Statements {
     ghost use Rattle.std.specs.Prelude.{◌≡◌, IfOk, OnOk, []};
     ghost use Rattle.ilpd.specs.Auditing.{IsOneMore};
 
-    /// None yet. The one error is that memory was refused.
+    /// No periods yet. Fails only if it is out of memory.
     pub fn new(alloc: Global) -> Result<Statements, AllocError>
         ensures { IfOk result (λ none. none.periods.items ≡ []) }
     {
@@ -124,7 +124,7 @@ fn text_words(
     Ok(out)
 }
 
-// Tells what an audit found wrong, and gives how the run ends.
+// Prints what an audit found wrong, and returns how the run ends.
 fn fault_told<W: Write>(alloc: Global, fault: &AuditFault, writer: &mut W) -> Result<(), Ending>
     ensures { IsErr result }
 {
@@ -134,8 +134,8 @@ fn fault_told<W: Write>(alloc: Global, fault: &AuditFault, writer: &mut W) -> Re
     Err(Ending::Audit)
 }
 
-/// Audits the receipts in the text of a file by periods, and tells how many there are, which are complete; or what is wrong with them,
-/// or why it is no text of receipts, and the run ends.
+/// Audits the receipts in the text of a file by periods, and prints how many there are, which are complete. Otherwise
+/// it prints what is wrong with them, or why the text is not one of receipts, and the run ends.
 pub fn tell_audit<W: Write>(
     alloc: Global,
     periods: &[Period],

@@ -120,9 +120,9 @@ fn check_script<W: Write>(
     }
 }
 
-/// Says whether a setup is good, and a script for its tenants where there is one: `good`, a line for each key of the setup
-/// that is ignored, and one for each thing that may be wrong with its money. Else it says in a line what is wrong, and ends with the fault that a replay has for it. It is
-/// well only where both are good.
+/// Says whether a setup is good, and a script for its tenants, if there is one. Prints `good`, a line for each key of
+/// the setup that is ignored, and one for each thing that may be wrong with its money. If one of the two is bad, it
+/// says in a line what is wrong, and ends with the fault that a replay has for it.
 pub fn check<W: Write>(
     alloc: Global,
     setup: &[u8],

@@ -20,7 +20,7 @@ impl<'a, H: Clock> SystemClock<'a, H> {
 }
 
 impl<H: Clock> workers::Clock for SystemClock<'_, H> {
-    // Nothing is known of what the system tells.
+    // Nothing is known of what the system says.
     ghost gives = { λ clock moment. Unit {0} };
 
     fn now(&self) -> Moment {

@@ -25,8 +25,8 @@ pub enum Ending {
     Audit,
 }
 
-/// How a run ends whose words were not taken: for want of memory where they were refused it, and else with the text for
-/// people.
+/// How a run ends whose words were not accepted: out of memory if that is the error's kind, otherwise with the text
+/// for people.
 pub fn words_refused(error: clap::Error) -> Ending
     ensures memory { kind_of error ≡ OutOfMemory → result ≡ Ending.Fault ReplayFault.Memory }
     ensures text { kind_of error ≢ OutOfMemory → result ≡ Ending.Usage error }

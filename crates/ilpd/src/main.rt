@@ -48,7 +48,7 @@ use std::time::Clock;
 use std::{env, fs, io};
 use verifying::{begin, memory_refused, name_in, take, tell};
 
-// Says on standard error that there are only so many of something for so many others, and what comes of it.
+// Says on standard error that there are only so many of something for so many others, and the effect.
 fn complain(
     rt: &(impl Eprint + AllocGlobal),
     few: usize,
@@ -97,7 +97,7 @@ fn say_cannot(rt: &impl Print, doing: &str, what: &str, why: &str) {
     let _ = println!(rt; "ilpd: cannot {doing} {what}: {why}");
 }
 
-// Says so, unless memory was refused, and gives how the run ends.
+// Says so, unless it is out of memory, and returns how the run ends.
 fn cannot(rt: &impl Print, doing: &str, what: &str, error: &io::Error) -> Ending {
     let kind = error.kind();
     if kind != ErrorKind::OutOfMemory {
@@ -155,8 +155,8 @@ fn is_setup(file: &str) -> bool {
     file.ends_with(".toml")
 }
 
-// Takes the first statement, and before it the setups that came before it, for its tenant. What is wrong with the statement alone
-// is said first.
+// Takes the first statement, and before it the setups that came before it, for its tenant. Faults of the statement
+// itself come first.
 fn take_first<W: Write>(
     alloc: Global,
     chain: &mut Chain,
@@ -190,8 +190,8 @@ fn tenant_of(chain: &Chain) -> Option<Name> {
     Some(chain.opening_due()?.name.copy())
 }
 
-// Says whether the statements in these files are good and go on, also over the setups between them, the first one from a setup
-// where one is named, and what they come to. One statement is in memory at a time.
+// Says whether the statements in these files are good and go on, also over the setups between them. The first one goes
+// on from a setup, if one is named. Then prints the sums of all. One statement is in memory at a time.
 fn verify_at(
     rt: &(impl Files + Print + AllocGlobal),
     setup: Option<&str>,
@@ -304,7 +304,7 @@ fn expect_files(
 // Why nothing is kept in a folder.
 #[derive(Drop)]
 enum FolderFault {
-    /// It can't be looked at, or memory was refused.
+    /// It can't be looked at, or it is out of memory.
     Unseen(io::Error),
     /// What is wrong with it.
     Wrong(&'static str),

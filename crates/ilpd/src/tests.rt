@@ -20,9 +20,9 @@ address = \"g.acme\"
 admin = \"root-a\"
 ";
 
-// The words after the program's name, and what they ask for: the file of the setup, the number of workers, and the task, of
-// a service with its connections, its rounds, what it reports, and the host's address and token file. Or the words, and what
-// the text begins with that they are refused with.
+// The words after the program's name, and what they ask for: the file of the setup, the number of workers, and the
+// task. For a service come its connections, its rounds, what it reports, and the host's address and token file. Or the
+// words, and how the text begins that refuses them.
 static LINES: &str = "\
 replay s1.toml -> s1.toml 1 replay
 replay s1.toml --workers 2 -> s1.toml 2 replay

@@ -17,12 +17,12 @@ use std::alloc::{AllocError, Global};
 use std::io::Write;
 use tenant_core::TenantSetup;
 
-/// How a run ends that was refused memory.
+/// How a run ends that is out of memory.
 pub fn memory_refused(_: AllocError) -> Ending {
     Ending::Fault(ReplayFault::Memory)
 }
 
-// A line of a text behind these words; the text may have ended before it.
+// A line of a text after these words; the text may have ended before it.
 fn put_line(out: &mut Vec<u8>, words: &str, text: &[u8], line: usize) -> Result<(), AllocError> {
     out.extend_from_slice(words.as_bytes())?;
     match line_at(text, line) {
@@ -32,7 +32,7 @@ fn put_line(out: &mut Vec<u8>, words: &str, text: &[u8], line: usize) -> Result<
     out.extend_from_slice(b"\n")
 }
 
-/// `FILE: line N: REASON`, what stands there, and what has to stand there, where that is known.
+/// `FILE: line N: REASON`, the line as it is, and the line that it has to be, if that is known.
 pub fn put_place(
     out: &mut Vec<u8>,
     alloc: Global,
@@ -87,7 +87,7 @@ fn reason_of(alloc: Global, fault: ChainFault) -> Result<String, AllocError> {
     }
 }
 
-// The text that has to stand in place of one that is wrong, where that is known.
+// The right text for one that is wrong, if that is known.
 fn right_text(
     alloc: Global,
     chain: &Chain,
@@ -148,7 +148,7 @@ pub fn take<W: Write>(
     }
 }
 
-// What the statements of a chain come to.
+// The summary of a chain's statements.
 fn summary_of(alloc: Global, chain: &Chain) -> Result<Vec<u8>, ReadError<Long>>
     ensures { IfOk result (λ text. IsSummaryOf chain.now text.items) }
 {
@@ -162,7 +162,7 @@ pub fn write<W: Write>(writer: &mut W, text: &[u8]) -> Result<(), Ending>
     writer.write_all(text).map_err(printing)
 }
 
-/// Says what the statements of a chain come to.
+/// Prints the summary of a chain's statements.
 pub fn tell<W: Write>(alloc: Global, chain: &Chain, writer: &mut W) -> Result<(), Ending>
     ensures { OnOk result (TellsSummary chain.now (W.contents writer.old) (W.contents writer.new)) }
 {
@@ -225,8 +225,8 @@ fn stranger_words(alloc: Global, file: &str) -> Result<Vec<u8>, AllocError> {
     Ok(out)
 }
 
-/// Takes a setup that the service began with as what a chain goes on with, for the tenant of that name. Where it does not go on, or
-/// has no such tenant, what stands there is said of that file, and the run ends.
+/// Takes a setup that the service began with as what a chain goes on with, for the tenant of that name. If it does not
+/// go on, or has no such tenant, the run ends with words that say what is wrong with that file.
 pub fn begin<W: Write>(
     alloc: Global,
     chain: &mut Chain,

@@ -90,8 +90,8 @@ abbrev pub lines_behind : List Line → Due → List Done → List Line
 lines_behind ls due [] = ls
 lines_behind ls due (d ∷ ds) = lines_behind (lines_done ls due d) (due_by d.next) ds
 
--- The chain took these: statements of runs of the service, each run but the last with the setup that came after it; and the
--- chain tells what is due, and what all come to.
+-- The chain took these: statements of runs of the service, each run but the last with the setup that came after it.
+-- The chain has what is due, and the sums of all.
 pub record IsChain (links : List Link) (c : Chain) : Type 0 where
   pub done : List Done
   pub texts : List (List ℕ)

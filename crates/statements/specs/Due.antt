@@ -21,7 +21,7 @@ start_at place setup clock = record { place = place; setup = setup; clock = cloc
 abbrev pub due_by : Start → Due
 due_by s = Setup (opening_of s.place s.setup s.clock)
 
--- what is due after these periods; that, where there is none of them
+-- what is due after these periods; the same as before if there are none
 abbrev pub due_after : Due → List PeriodParts → Due
 due_after due ps = fold (λ before p. Ending p.ending) due ps
 

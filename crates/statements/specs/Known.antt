@@ -1,5 +1,6 @@
--- What two tellings of a tenant have in common: all but the tokens and the targets of its peers, which no statement has; and,
--- where one of them is a setup, but the numbers of its peers and what their buckets hold, which no setup has.
+-- What two descriptions of a tenant have in common: all but the tokens and the targets of its peers, which no
+-- statement has. If one of them is a setup, the numbers of its peers and what their buckets hold do not count either,
+-- since no setup has them.
 use Rattle.std.specs.Prelude.{ℕ, ℤ, ◌≡◌, ◌==◌, List, ◌∷◌, map, Option, Some, None, unwrap_or, if◌then◌else◌}
 use Rattle.ildcp_core.specs.declared.child.Role.{Role}
 use Rattle.route_table.specs.Routes.{RouteMap}

@@ -1,4 +1,4 @@
--- What is told of each peer that was there, over all runs of the service.
+-- The sums of each peer that was there, over all runs of the service.
 use Rattle.std.specs.Prelude.{ℕ, ℤ, pos, ◌+◌, List, [], ◌∷◌, ◌++◌, map, sum_by, Option, Some, None, option_and_then}
 use Rattle.std.specs.List.{flat_map}
 use Rattle.statements.specs.Due.{due_after, opening_due}
@@ -20,7 +20,7 @@ abbrev pub balance_in : Option Opening → ℕ → ℤ
 balance_in None n = pos 0
 balance_in (Some ending) n = opening_balance (peer_numbered n ending.network.peers)
 
--- what periods come to for a peer, after which that is due
+-- the sums of periods for a peer, if that is due after them
 abbrev pub told_of : Due → List PeriodParts → ℕ → Told
 told_of due ps n =
     record {
@@ -34,7 +34,7 @@ told_of due ps n =
       fees = sum_by (fees_from n) ps;
     }
 
--- what is told before and after, together: the sums of both, and what is owed in the end
+-- the sums before and after, together: of both, with what is owed after both
 abbrev pub told_both : Told → Told → Told
 told_both before after =
     record {
@@ -48,7 +48,7 @@ told_both before after =
       fees = before.fees + after.fees;
     }
 
--- the line of a peer that a run of the service has for the first time, of which that is told
+-- the line of a peer that a run of the service has for the first time, with these sums
 abbrev pub line_of : (ℕ → Told) → PeerSeen → Line
 line_of told s = record { seen = s; here = Some s.number; told = told s.number }
 
@@ -65,7 +65,7 @@ abbrev pub newcomers : List Line → (first added : List PeerSeen) → List Peer
 newcomers [] first added = first ++ added
 newcomers (l ∷ ls) first added = added
 
--- the lines after a run of which that is told
+-- the lines after a run with these sums
 abbrev pub lines_with : (ℕ → Told) → List Line → (first added : List PeerSeen) → List Line
 lines_with told ls first added = map (line_with told) ls ++ map (line_of told) (newcomers ls first added)
 

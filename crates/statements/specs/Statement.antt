@@ -1,5 +1,5 @@
--- The text of a closed period: what it began with, a line for each record, and what the next period begins with. No secret
--- stands in it: the tokens of peers and their targets are left out, so a text states as many periods as there are of these.
+-- The text of a closed period: its opening, a line for each record, and the opening of the next period. It has no
+-- secret: the tokens of peers and their targets are left out, so one text can state several periods.
 use Rattle.std.specs.Prelude.{ℕ, ◌≡◌, List, [], ◌∷◌, ◌++◌, map, codes, Some, None}
 use Rattle.std.specs.FinMap.{from_entries}
 use Rattle.std.specs.Fmt.{decimal, signed_decimal}
@@ -44,7 +44,7 @@ number n = word (decimal n)
 
 -- ---- what a period begins with
 
--- a child, or a peer that is none (RFC 0031)
+-- the role of a peer: a child, or any other peer (RFC 0031)
 abbrev pub role_word : Role → List ℕ
 role_word Child = codes "child"
 role_word Equal = codes "peer"
@@ -185,11 +185,11 @@ record_line r = decimal (entered_at r.entry) ++ entry_words r.entry ++ outcome_w
 unfoldable pub version_line : List ℕ
 version_line = codes "statement 1\n"
 
--- what stands before the records: the version, and what the period begins with
+-- the text before the records: the version, and the period's opening
 unfoldable pub head_text : List Route → Opening → List ℕ
 head_text routes o = version_line ++ opening_text routes o
 
--- what stands after them: what the next period begins with
+-- the text after them: the next period's opening
 unfoldable pub ending_text : List Route → Opening → List ℕ
 ending_text routes o = codes "ending\n" ++ opening_text routes o
 
@@ -209,7 +209,7 @@ pub record IsStatement (text : List ℕ) (p : PeriodParts) : Type 0 where
   pub listed_next : AreRoutesOf p.ending.network.routes next
   pub written : text ≡ statement_text routes next p
 
--- the text is all that stands before the records where a period begins with that, in any order of its routes
+-- the text is all that comes before the records of a period with that opening, with its routes in any order
 pub record IsHead (text : List ℕ) (o : Opening) : Type 0 where
   pub routes : List Route
   pub listed : AreRoutesOf o.network.routes routes

@@ -1,4 +1,4 @@
--- What statements come to, in lines.
+-- The summary of statements, in lines.
 use Rattle.std.specs.Prelude.{ℕ, ℤ, ◌+◌, List, [], ◌∷◌, ◌++◌, codes, length}
 use Rattle.std.specs.Fmt.{signed_decimal}
 use Rattle.std.specs.List.{flat_map}
@@ -14,7 +14,7 @@ use Rattle.statements.specs.declared.line.Told.{Told}
 use Rattle.statements.specs.declared.seen.PeerSeen.{PeerSeen}
 use Rattle.tenant_core.specs.declared.period.PeriodParts.{PeriodParts}
 
--- what a chain tells of a peer since the service began last
+-- the sums of a chain for a peer since the service began last
 abbrev pub told_by : Chain → ℕ → Told
 told_by c n =
     record {
@@ -52,13 +52,13 @@ out_words t =
     keyed (codes "packets-out") t.went ++ keyed (codes "fulfilled-out") t.fulfilled_out
     ++ keyed (codes "settled-out") t.settled_out
 
--- who it is, what it owed at first and in the end
+-- who the peer is, and what it owed at first and at the end
 unfoldable pub seen_words : PeerSeen → Told → List ℕ
 seen_words s t =
     codes "peer" ++ number s.number ++ word s.name ++ keyed_signed (codes "began") s.began
     ++ keyed_signed (codes "ended") t.ended
 
--- the line of a peer: what it owed at first and in the end, and what is told of it
+-- the line of a peer: what it owed at first and at the end, and its sums
 unfoldable pub told_line : PeerSeen → Told → List ℕ
 told_line s t = seen_words s t ++ in_words t ++ out_words t ++ keyed (codes "fees") t.fees ++ 10 ∷ []
 
@@ -69,12 +69,12 @@ line_text l = told_line l.seen l.told
 unfoldable pub good_line : ℕ → ℕ → List ℕ
 good_line periods entries = codes "good" ++ number periods ++ number entries ++ 10 ∷ []
 
--- what statements come to: how many there are, and a line for each peer that was there
+-- the summary of statements: how many there are, and a line for each peer that was there
 abbrev pub summary_text : List Done → List PeriodParts → List ℕ
 summary_text ds ps =
     good_line (periods_in ds + length ps) (records_in ds + records_of ps)
     ++ flat_map line_text (lines_after (lines_behind [] Anything ds) (due_behind Anything ds) ps)
 
--- the same, as a chain tells it
+-- the same, from the sums of a chain
 abbrev pub chain_text : Chain → List ℕ
 chain_text c = good_line (c.past.periods + c.totals.periods) (c.past.entries + c.totals.entries) ++ flat_map line_text (lines_of c)

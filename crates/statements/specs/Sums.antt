@@ -50,7 +50,8 @@ by_record of_record.Came n r = came_by n r
 by_record of_record.Paid n r = settled_in n r
 by_record of_record.WasPaid n r = settled_out n r
 
--- what a packet that went on counts for a peer: that it went to it, or what it brought from it or came to for it, fulfilled
+-- what a packet that went on counts for a peer: one that went to it, or, once fulfilled, the amount from it or the
+-- price for it
 abbrev pub by_hold : OfHold → ℕ → Hold → ℕ
 by_hold of_hold.Went n h = went_by n h
 by_hold of_hold.Brought n h = taken_from n h

@@ -1,4 +1,4 @@
--- What closed periods come to for each peer, in its units.
+-- The sums of closed periods for each peer, in its units.
 use Rattle.std.specs.Prelude.{ℕ, ◌≡◌, List, length, sum_by}
 use Rattle.std.specs.List.{flat_map, zip}
 use Rattle.statements.specs.Fees.{fees_of}
@@ -23,7 +23,7 @@ went_to n p = sum_by (went_by n) (holds_of (state_before_roll p))
 abbrev pub fulfilled_from : ℕ → PeriodParts → ℕ
 fulfilled_from n p = taken_in_of (state_before_roll p) n
 
--- what fulfilled packets came to that went on to it
+-- the prices of the fulfilled packets that went on to it
 abbrev pub fulfilled_to : ℕ → PeriodParts → ℕ
 fulfilled_to n p = taken_out_of (state_before_roll p) n
 
@@ -43,7 +43,7 @@ fees_from n p = sum_by (fee_by n) (zip (holds_of (state_before_roll p)) (fees_of
 abbrev pub IsSum : Tally → (ℕ → PeriodParts → ℕ) → List PeriodParts → Type 0
 IsSum t part ps = (n : ℕ) → sum_at t n ≡ sum_by (part n) ps
 
--- what is told of the periods is what they come to
+-- the totals are the sums of the periods
 pub record AreTotals (ps : List PeriodParts) (t : Totals) : Type 0 where
   pub periods : t.periods ≡ length ps
   pub entries : t.entries ≡ sum_by (λ p. length p.records) ps

@@ -48,7 +48,8 @@ pub enum ChainFault {
     Long,
 }
 
-/// What the runs of the service came to that ended: how many periods they had and how many records, and a line for each peer.
+/// The sums of the service's runs that ended: how many periods they had and how many records, and a line for each
+/// peer.
 #[derive(Drop)]
 struct Past {
     periods: u64,
@@ -56,8 +57,8 @@ struct Past {
     lines: Vec<Line>,
 }
 
-/// Statements one after another, and setups that the service began with between them, as far as they were checked: what the next
-/// one is to begin with, and what all come to. It needs no more memory than one period, and sums for each peer.
+/// Statements one after another, and setups that the service began with between them, as far as they were checked: how
+/// the next one must begin, and the sums of all. It needs no more memory than one period, and sums for each peer.
 #[derive(Drop)]
 pub struct Chain {
     due: Due,
@@ -151,7 +152,7 @@ impl Chain {
         }
     }
 
-    // What all runs came to, where the service begins again, with the numbers that peers have by that setup.
+    // The sums of all runs when the service begins again, with the numbers that peers have by that setup.
     fn past_anew(&self, alloc: Global, setup: &TenantSetup) -> Summed<Past>
         ensures { IfOk result (λ past. (past.periods ≡ self.now.past.periods + self.now.totals.periods)
             × (past.entries ≡ self.now.past.entries + self.now.totals.entries)
@@ -193,14 +194,14 @@ impl Chain {
         self.due.opening()
     }
 
-    /// What the statements since the last setup come to.
+    /// The totals of the statements since the last setup.
     pub fn totals(&self) -> &Totals
         ensures { result.now ≡ self.now.totals }
     {
         &self.totals
     }
 
-    /// What is told of the peers of the runs that ended.
+    /// The lines of the peers of the runs that ended.
     pub fn past_lines(&self) -> &[Line]
         ensures { result.now ≡ self.now.past.lines.items }
     {
@@ -217,12 +218,12 @@ impl Chain {
         Ok((periods, entries))
     }
 
-    /// Takes the next statement of the tenant: a good one, which begins with what the one before it ended with, or as the first
-    /// period of the setup before it does.
+    /// Takes the next statement of the tenant. It must be good, and begin with what the one before it ended with, or
+    /// as the first period of the setup before it does.
     ///
-    /// So there are closed periods, one for each text so far, each of which is what the rules lead to from its opening on, and
-    /// each goes on where the one before it ended, or where the setup between them begins, which has what the one before it
-    /// ended with: all are one tenant's. Where it is refused, nothing has changed.
+    /// So there are closed periods of one tenant, one for each text so far. Each of them is what the rules lead to
+    /// from its opening on. Each goes on where the one before it ended, or begins as the setup between them, which has
+    /// what the one before it ended with. If the text is refused, nothing has changed.
     pub fn add(&mut self, alloc: Global, text: &[u8]) -> Result<(), ReadError<ChainFault>>
         ensures chain { OnOk result ((links : List Link) → IsChain links self.old → IsChain (links ++ Stated text.now ∷ []) self.new) }
         ensures apart { (line : ℕ) → result ≡ Err (read_error.Fault (fault.Apart line)) → IsApart text.now self.old.due }

@@ -31,7 +31,7 @@ pub enum StatementFault {
     /// No period begins with its opening, for what is named.
     #[error("no period begins so: {0}")]
     Limit(OpeningFault),
-    /// The line of the record at that place tells no entry.
+    /// The line of the record at that place is not an entry.
     #[error("record {0} tells no entry")]
     Entry(usize),
     /// The entry at that place would not have been recorded.
@@ -72,7 +72,7 @@ struct Course {
     next_peer: PeerNo,
 }
 
-// The course of the period whose opening stands on these lines.
+// The course of the period whose opening is on these lines.
 #[tactic(auto, unfolding(crate::specs::Fees::fees_of))]
 fn begun(alloc: Global, lines: &mut Lines<'_>) -> Checked<Course>
     ensures { IfOk result IsCharged }
@@ -212,14 +212,14 @@ pub fn checked(alloc: Global, text: &[u8]) -> Checked<Gone>
     }
 }
 
-/// The closed period that a text states word for word, but for tokens and targets, which no statement has: each peer gets a
-/// token of its own by its number, and no target.
+/// The closed period that a text states word for word, but for tokens and targets, which no statement has: each peer
+/// gets a token of its own by its number, and no target.
 ///
-/// The type of a period keeps that its records are what their entries lead to from its opening on, and its ending what the
-/// next period begins with; and no limit of an opening is broken. So `Ok` says that every verdict and balance of the text is
-/// as the rules have it. It does not say that the entries happened, or that none is missing.
+/// By the type of a period, its records are what their entries lead to from its opening on, and its ending is the
+/// opening of the next period. No limit of an opening is broken. So `Ok` says that every verdict and balance of the
+/// text is as the rules have it. It does not say that the entries happened, or that none is missing.
 ///
-/// The fault is the first one that is met; `Memory` where memory was refused.
+/// The fault is the first one that is met. `Memory` means out of memory.
 pub fn check_statement(alloc: Global, text: &[u8]) -> Result<Period, ReadError<StatementFault>>
     ensures stated { IfOk result (λ period. IsStatement text.now period) }
     ensures begins { IfOk result (λ period. opening_fault period.opening ≡ None) }

@@ -30,7 +30,7 @@ pub enum OfHold {
     Went,
     /// What it brought from the peer, fulfilled.
     Brought,
-    /// What it came to for the peer, fulfilled.
+    /// The price of it for the peer, once fulfilled.
     CameTo,
 }
 

@@ -176,8 +176,8 @@ fn agree_the_same(terms: &TenantTerms, other: &TenantTerms) -> bool
         && terms.hold == other.hold
 }
 
-/// Whether one setup of a tenant says what the other one does, but for the tokens, the targets and the numbers of peers, and
-/// what their buckets hold. The one error is that memory was refused.
+/// Whether one setup of a tenant says what the other one does, but for the tokens, the targets and the numbers of
+/// peers, and what their buckets hold. Fails only if it is out of memory.
 pub fn goes_on(alloc: Global, terms: &TenantTerms, other: &TenantTerms) -> Result<bool, AllocError>
     ensures { IfOk result (λ same. IsTrue same → GoesOn terms.now other.now) }
 {

@@ -1,4 +1,5 @@
-//! Statements: closed periods as texts, which whoever has one checks without trust in who wrote it.
+//! Statements: closed periods as texts. Anyone who has one can check it without trust in its
+//! writer.
 #![tactic(auto)]
 
 mod chain;

@@ -1,4 +1,4 @@
-//! What is told of each peer that was there.
+//! The sums of each peer that was there.
 
 ghost use Rattle.std.specs.Prelude.{◌≡◌, ◌+◌, ◌++◌, ◌∷◌, [], IfOk, OnOk, map, option_copied};
 ghost use Rattle.statements.specs.Line.{balance_in, line_anew, line_of, line_with, told_both};
@@ -11,7 +11,7 @@ use crate::tally::{LONG, Summed};
 use std::alloc::Global;
 use tenant_core::{Opening, Peer, PeerNo};
 
-/// What is told of a peer, in its units: what it owes in the end, what came in from it and went out to it, and the fees.
+/// The sums of a peer, in its units: what it owes at the end, what came in from it and went out to it, and the fees.
 #[derive(Clone, Copy, Debug, PartialEq, Eq)]
 pub struct Told {
     pub ended: i64,
@@ -24,7 +24,7 @@ pub struct Told {
     pub fees: u128,
 }
 
-/// A peer that was there, its number since the service began last, unless it was taken away before, and what is told of it.
+/// A peer that was there, its number since the service began last, unless it was taken away before, and its sums.
 #[derive(Drop)]
 pub struct Line {
     pub seen: PeerSeen,
@@ -45,7 +45,7 @@ fn balance_in(ending: Option<&Opening>, peer: PeerNo) -> i64
     }
 }
 
-// What a chain tells of a peer since the service began last.
+// The sums of a chain for a peer since the service began last.
 fn told_by(chain: &Chain, peer: PeerNo) -> Told
     ensures { result ≡ told_by chain.now peer }
 {
@@ -131,7 +131,7 @@ fn put_lines_of(out: &mut Vec<Line>, chain: &Chain, peers: &[PeerSeen]) -> Summe
     Ok(())
 }
 
-/// The lines of a chain: what it tells of each peer that was there. `Long` where a sum has no room.
+/// The lines of a chain: the sums of each peer that was there. `Long` if a sum has no room.
 pub fn lines_of(alloc: Global, chain: &Chain) -> Summed<Vec<Line>>
     ensures { IfOk result (λ lines. lines.items ≡ lines_of chain.now) }
 {
@@ -160,8 +160,8 @@ fn put_line_anew(out: &mut Vec<Line>, peers: &[Peer], others: &[Peer], line: &Li
     })?)
 }
 
-/// The lines where the service begins again, and these peers have the numbers of the others from then on. The one error is that
-/// memory was refused.
+/// The lines when the service begins again, and these peers have the numbers of the others from then on. Fails only if
+/// it is out of memory.
 pub fn lines_anew(
     alloc: Global,
     peers: &[Peer],

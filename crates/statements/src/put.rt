@@ -21,7 +21,7 @@ pub fn put_word(out: &mut Vec<u8>, text: &[u8]) -> Result<(), AllocError>
     out.extend_from_slice(text)
 }
 
-/// Puts a number behind a text, after a space. The one error is that memory was refused.
+/// Appends a space and a number to a text. Fails only if it is out of memory.
 pub fn put_number(out: &mut Vec<u8>, value: u64) -> Result<(), AllocError>
     ensures { OnOk result (out.new.items ≡ out.old.items ++ number value) }
 {

@@ -125,8 +125,8 @@ fn line_in(alloc: Global, text: &[u8], line: usize) -> Result<Vec<u8>, AllocErro
 }
 
 impl Chain {
-    /// What the next statement is to begin with: all that stands before its records; nothing where nothing came before. The one
-    /// error is that memory was refused.
+    /// How the next statement must begin: all that comes before its records; empty if nothing came before it. Fails
+    /// only if it is out of memory.
     pub fn next_head(&self, alloc: Global) -> Result<Vec<u8>, AllocError> {
         match self.opening_due() {
             Some(opening) => write_head(alloc, opening),
@@ -134,7 +134,8 @@ impl Chain {
         }
     }
 
-    /// Where a setup does not have what is due of the tenant; `None` where nothing is due. The one error is that memory was refused.
+    /// The lines in which a setup differs from what is due of the tenant. `None` if nothing is due, or if what is due
+    /// cannot be made into a setup. It fails only if it is out of memory for the lines.
     pub fn differing_lines(
         &self,
         alloc: Global,

@@ -1,4 +1,4 @@
-//! What statements come to, in lines.
+//! The summary of statements, in lines.
 
 ghost use Rattle.std.specs.Prelude.{◌≡◌, ◌++◌, IfOk, List, OnOk};
 ghost use Rattle.std.specs.List.{flat_map};
@@ -103,9 +103,9 @@ fn chain_text(alloc: Global, chain: &Chain) -> Summed<Vec<u8>>
 }
 
 impl Chain {
-    /// What the statements come to: `good`, how many there are and how many records they have; and for each peer that was there
-    /// a line of what it owed at first and in the end, what came in from it and went out to it, and the fees. The fault is that a
-    /// sum has no room.
+    /// The summary of the statements: `good`, how many there are and how many records they have. Then, for each peer
+    /// that was there, a line of what it owed at first and at the end, what came in from it and went out to it, and
+    /// the fees. Fails if a sum has no room, or if it is out of memory.
     #[tactic(auto, using(crate::proofs::SummarySteps::chain_text_is))]
     pub fn summary(&self, alloc: Global) -> Summed<Vec<u8>>
         ensures { IfOk result (λ text. (links : List Link) (chain : IsChain links self.now) → text.items ≡ summary_text chain.done chain.periods) }

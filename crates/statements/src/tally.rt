@@ -11,7 +11,7 @@ use tenant_core::PeerNo;
 #[derive(Clone, Copy, Debug, PartialEq, Eq)]
 pub struct Long;
 
-/// What is summed up, unless memory was refused or a sum has no room.
+/// A sum, unless it is out of memory or has no room.
 pub type Summed<T> = Result<T, ReadError<Long>>;
 
 pub const LONG: ReadError<Long> = ReadError::Fault(Long);
@@ -43,7 +43,7 @@ impl Tally {
     }
 
     #[tactic(auto, using(crate::proofs::ZeroSums::zero_more))]
-    /// The same sums, with room for those of so many peers. The one error is want of memory.
+    /// A copy of the sums, with room for those of so many peers. Fails only if it is out of memory.
     pub fn copy(&self, alloc: Global, peers: usize) -> Result<Tally, AllocError>
         ensures { IfOk result (λ copy. (n : ℕ) → sum_at copy n ≡ sum_at self.now n) }
     {

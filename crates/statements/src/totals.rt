@@ -1,4 +1,4 @@
-//! What closed periods come to, for each peer.
+//! The sums of closed periods, for each peer.
 
 ghost use Rattle.std.specs.Prelude.{◌≡◌, ◌+◌, ◌++◌, ◌∷◌, [], IfOk, List};
 ghost use Rattle.statements.specs.Gone.{IsGone};
@@ -11,7 +11,7 @@ use crate::seen::{PeerSeen, added_with, first_with};
 use crate::tally::{LONG, Summed, Tally};
 use std::alloc::Global;
 
-/// What closed periods come to: how many there are, how many records they have, who was there, and sums for each peer.
+/// The sums of closed periods: how many there are, how many records they have, who was there, and sums for each peer.
 #[derive(Drop)]
 pub struct Totals {
     pub periods: u64,

@@ -61,7 +61,7 @@ fn put_moment(out: &mut Vec<u8>, moment: u64) -> Result<(), AllocError>
     out.extend_from_slice(digits.format(moment).as_bytes())
 }
 
-/// Puts the line of a record behind a text. The one error is that memory was refused.
+/// Appends the line of a record to a text. Fails only if it is out of memory.
 #[tactic(auto, unfolding(crate::specs::Statement::record_line))]
 pub fn put_record(out: &mut Vec<u8>, view: &RecordView<'_>) -> Result<(), AllocError>
     ensures { OnOk result (out.new.items ≡ out.old.items ++ record_line (record_of view.now)) }
@@ -221,8 +221,8 @@ fn put_statement(
     put_ending(out, next, period.ending())
 }
 
-/// What a statement of a period begins with that has that opening: all that stands before its records. The one error is that
-/// memory was refused.
+/// How a statement of a period with that opening begins: all that comes before its records. Fails only if it is out of
+/// memory.
 pub fn write_head(alloc: Global, opening: &Opening) -> Result<Vec<u8>, AllocError>
     ensures { IfOk result (λ text. IsHead text.items opening.now) }
 {
@@ -232,7 +232,7 @@ pub fn write_head(alloc: Global, opening: &Opening) -> Result<Vec<u8>, AllocErro
     Ok(out)
 }
 
-/// The text of a closed period. The one error is want of memory.
+/// The text of a closed period. Fails only if it is out of memory.
 pub fn write_statement(alloc: Global, period: &Period) -> Result<Vec<u8>, AllocError>
     ensures { IfOk result (λ text. IsStatement text.items period.now) }
 {
