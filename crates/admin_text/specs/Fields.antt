@@ -206,7 +206,7 @@ abbrev pub of_two : {A : Type 0} → (List ℕ → List ℕ → Result A TextFau
 of_two read (first ∷ second ∷ words) = with_others words (read first second)
 of_two read _ = Err Argument
 
--- what the first word says, or the default where there is none
+-- what the first word says, or the default if there is none
 abbrev pub of_any : {A : Type 0} → A → (List ℕ → Result A TextFault) → List (List ℕ)
     → Result (A × List (List ℕ)) TextFault
 of_any default read [] = Ok (default, [])

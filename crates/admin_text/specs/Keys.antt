@@ -132,6 +132,6 @@ peer_terms_of t = all_under peer_rows peer_with t
 abbrev pub balance_within : ℤ → Option ℤ
 balance_within owed = if is_balance_within owed then Some owed else None
 
--- what a peer owes at the start, 0 where nothing is said
+-- what a peer owes at the start, 0 if nothing is said
 unfoldable pub balance_of : Members → Option ℤ
 balance_of t = integer_or (pos 0) (codes "balance") t >>= balance_within

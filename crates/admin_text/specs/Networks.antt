@@ -46,7 +46,7 @@ with_peers_of net (item first others) = do
 unfoldable pub peer_under : Net → List ℕ → Members → Option ℕ
 peer_under net key t = name_under key t >>= number_named net
 
--- the fee of a route's table, 0 where nothing is said or the key doesn't count
+-- the fee of a route's table, 0 if nothing is said or the key doesn't count
 unfoldable pub fee_of : Version → Members → Option ℕ
 fee_of version t = if has_fees version then number_or 0 (codes "fee") t >>= within 0 max_money else Some 0
 

@@ -296,7 +296,7 @@ fn given<T>(read: Result<T, TextFault>) -> Result<T, ReadError<TextFault>>
     }
 }
 
-// The fee at the end of the words, 0 where none is left.
+// The fee at the end of the words, 0 if none is left.
 #[tactic(auto, unfolding(crate::specs::Fields::taken, crate::specs::Fields::ended))]
 fn last_fee(words: Words<'_>) -> Result<Fee, TextFault>
     ensures { only_one result ≡ all_taken (FEE MAX_MONEY ∷ []) words.entry }

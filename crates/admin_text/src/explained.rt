@@ -21,9 +21,9 @@ fn one_line(alloc: Global, error: &toml::de::Error) -> Result<String, AllocError
     lines.trim_end().replace(alloc, "\n", ": ")
 }
 
-/// What is wrong with a setup, `None` where it is good: the first fault that [`read_setup`](crate::read_setup) finds, and
-/// in words where it lies and what would be right. A tenant is named by its number from 0, its peers, routes and rates by
-/// theirs from 1.
+/// What is wrong with a setup, `None` if it is good: the first fault that [`read_setup`](crate::read_setup) finds, and
+/// in words where it lies and what would be right. A tenant is named by its number from 0, its peers, routes and rates
+/// by theirs from 1.
 pub fn explain(alloc: Global, text: &[u8]) -> Result<Option<Explained>, AllocError>
     ensures exact { IfOk result (λ found. option_map (λ e. e.fault) found ≡ result_err (setup_of text.now)) }
 {

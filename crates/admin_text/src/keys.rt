@@ -331,7 +331,7 @@ pub(crate) fn peer_terms_of(table: &Table) -> Result<PeerTerms, Wrong<'_>>
     })
 }
 
-/// What a peer owes at the start, 0 where nothing is said.
+/// What a peer owes at the start, 0 if nothing is said.
 #[tactic(auto, unfolding(crate::specs::Keys::balance_of))]
 pub(crate) fn balance_of(table: &Table) -> Result<Balance, Wrong<'_>>
     ensures { result_ok result ≡ balance_of (table_view table.now) }

@@ -159,7 +159,7 @@ fn prefix_of(alloc: Global, table: &Table) -> Result<Prefix, ReadError<Wrong<'_>
     }
 }
 
-// The fee of a route's table, 0 where nothing is said or the key doesn't count.
+// The fee of a route's table, 0 if nothing is said or the key doesn't count.
 #[tactic(auto, unfolding(crate::specs::Networks::fee_of))]
 fn fee_of(version: Version, table: &Table) -> Result<Fee, Wrong<'_>>
     ensures { result_ok result ≡ fee_of version (table_view table.now) }

@@ -7,7 +7,7 @@ use common_types::ReadError;
 use ilp_addr::Prefix;
 use std::alloc::{AllocError, Global};
 
-/// The prefix that a text spells, `None` where it spells none: `*` is the empty one.
+/// The prefix that a text spells, `None` if it spells none: `*` is the empty one.
 #[tactic(auto, unfolding(crate::specs::Prefixes::written_prefix))]
 pub(crate) fn written_prefix(alloc: Global, text: &[u8]) -> Result<Option<Prefix>, AllocError>
     ensures exact { IfOk result (λ prefix. prefix ≡ written_prefix text.now) }

@@ -268,18 +268,18 @@ pub(crate) fn document_of(alloc: Global, text: &[u8]) -> Result<Table, ReadError
 
 /// Reads a setup, a TOML document in UTF-8. Keys that are not named here are ignored.
 ///
-/// - At the top: `version`, which is 1 or 2; `start`, in milliseconds since 1970-01-01; and `tenant`, an
-///   array of 1 to 64 tables.
-/// - A tenant: `name`, `address` and `admin`; `journal` (1024 where it is left out), `margin` (1000)
-///   and `hold` (30000); arrays of tables `peer`, `route` and `rate`, each empty where it is left out.
+/// - At the top: `version`, which is 1 or 2; `start`, in milliseconds since 1970-01-01; and `tenant`, an array
+///   of 1 to 64 tables.
+/// - A tenant: `name`, `address` and `admin`; `journal` (1024 where it is left out), `margin` (1000) and `hold`
+///   (30000); arrays of tables `peer`, `route` and `rate`, each empty if it is left out.
 /// - A peer: `name`, `role` (`child` or `peer`), `token`, `url`, `out_token`, `asset`, `scale`, `cap`,
-///   `ceiling`, `credit`, `burst`, `per_second`, and `balance` (0 where it is left out).
+///   `ceiling`, `credit`, `burst`, `per_second`, and `balance` (0 if it is left out).
 /// - A route: `prefix`, whose dot at the end is dropped and which is `*` for the empty one, and `peer`, a
-///   peer's name; in version 2 `fee` too, from 0 to 2^62 (0 where it is left out). No two have the same prefix.
+///   peer's name; in version 2 `fee` too, from 0 to 2^62 (0 if it is left out). No two have the same prefix.
 /// - A rate: `from` and `to`, peers' names, `num` and `den`. Of two for the same ordered pair the later counts.
 ///
-/// The faults are looked for in the order of [`SetupFault`]; a key that lacks or is of another kind
-/// than expected, and a limit of [`TenantSetup::new`] that is broken, is a fault of its tenant.
+/// The faults are looked for in the order of [`SetupFault`]; a key that lacks or is of another kind than
+/// expected, and a limit of [`TenantSetup::new`] that is broken, is a fault of its tenant.
 pub fn read_setup(alloc: Global, text: &[u8]) -> Result<Setup, ReadError<SetupFault>>
     ensures exact { GivesUnlessMemory (λ s. s) result (setup_of text.now) }
 {

@@ -253,7 +253,7 @@ fn command_text(alloc: Global, command: &Command) -> Result<Vec<u8>, AllocError>
 /// The text of a command, which [`parse_command`](crate::parse_command) reads as the same command: its prefix is
 /// written without a dot at the end.
 ///
-/// It fails only where memory does.
+/// Fails only if it is out of memory.
 pub fn write_command(alloc: Global, command: &Command) -> Result<Vec<u8>, AllocError>
     // Its words are the command's.
     ensures written { IfOk result (λ text. words_of text.items ≡ command_words command.now) }

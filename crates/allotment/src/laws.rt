@@ -7,7 +7,7 @@ ghost use Rattle.allotment.specs.Runs.{Call, IsAlike, asks_within, calls_by, tol
 ghost use Rattle.allotment.specs.Waits.{CameBack, IsNextInTurn, Queued, steps_to, waiting_of};
 ghost use Rattle.allotment.specs.WaitsKept.{IsQueue};
 
-/// A tenant that asks for a place only where it uses less than its share gets one each time, whatever calls of others
+/// A tenant that asks for a place only if it uses less than its share gets one each time, whatever calls of others
 /// come between.
 pub fn sure_within_its_share()
     ensures { (tenant : ℕ) (calls : List Call) (loans : Loans) → tenant < length loans.used

@@ -128,7 +128,7 @@ impl<J: Run> Books<J> {
         unreachable!()
     }
 
-    /// The same, or `None` where another guard may be held, or the book is another tenant's. It waits for nobody.
+    /// The same, or `None` if another guard may be held, or the book is another tenant's. It waits for nobody.
     pub fn try_enter(&self, tenant: usize) -> Option<Guard<'_, J>>
         requires { tenant < self.now.tenants }
         ensures own { IfSome result (λ guard. guard.state.opening.tenant ≡ tenant) }

@@ -14,7 +14,7 @@ use std::alloc::Global;
 use std::sync::Mutex;
 use tenant_core::Book;
 
-/// Why books were not gathered, in the order in which it is looked for. Books and shares are handed back.
+/// Why books were not gathered, in the order of the tests. Books and shares are handed back.
 #[derive(Drop)]
 pub enum GatherFault<J: Run> {
     /// The shares are not those of all workers, each once.

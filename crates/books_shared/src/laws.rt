@@ -34,7 +34,7 @@ pub fn guard_is_sound<J: Run>(guard: &Guard<'_, J>)
     guard.is_kept();
 }
 
-/// The shares are all there exactly where there are as many as workers, and each worker has one.
+/// The shares are all there exactly if there are as many as workers, and each worker has one.
 pub fn all_there()
     ensures { (workers : ℕ) (shares : List ShareView) → IsTrue (are_all_there workers shares)
         ↔ ((length shares ≡ workers) × ((worker : ℕ) → worker < workers → shares_of worker shares ≡ 1)) }

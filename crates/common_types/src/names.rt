@@ -91,7 +91,7 @@ impl Name {
         self.text.as_bytes()
     }
 
-    /// The same name once more.
+    /// A copy of the name.
     pub fn copy(&self) -> Name
         ensures { result ≡ self.now }
     {
@@ -139,7 +139,7 @@ impl Token {
         self.text.as_bytes()
     }
 
-    /// The same token once more.
+    /// A copy of the token.
     pub fn copy(&self) -> Token
         ensures { result ≡ self.now }
     {
@@ -187,7 +187,7 @@ impl AssetCode {
         self.text.as_bytes()
     }
 
-    /// The same code once more.
+    /// A copy of the code.
     pub fn copy(&self) -> AssetCode
         ensures { result ≡ self.now }
     {

@@ -3,7 +3,8 @@
 use std::alloc::{AllocError, Global};
 use std::marker::Model;
 
-/// Room for so many bytes, taken before they are known: to fill it takes no memory. Contracts see how many.
+/// Room for so many bytes, allocated before they are known: filling it allocates nothing. Contracts see how
+/// many.
 #[derive(Drop)]
 pub struct Spare {
     room: usize,

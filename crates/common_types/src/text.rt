@@ -40,7 +40,7 @@ impl<const N: usize> Text<N> {
         self.bytes.as_slice()
     }
 
-    /// The same text once more.
+    /// A copy of the text.
     pub fn copy(&self) -> Text<N>
         ensures { result ≡ self.now }
     {

@@ -13,7 +13,7 @@ fn acme(alloc: Global) -> Result<Vec<Name>, Fail> {
     Ok(names)
 }
 
-// A script, how many workers it has, and the number of its first bad line, 0 where none is bad.
+// A script, how many workers it has, and the number of its first bad line, 0 if none is bad.
 static SCRIPTS: [(&str, usize, usize); 43] = [
     ("", 2, 0),
     ("decide 1 0", 2, 0),

@@ -4,7 +4,7 @@ use ilp_view::ViewFault;
 use route_table::PeerNo;
 use thiserror::Error;
 
-/// Why a slot takes no frame, in the order in which it is looked for. Nothing has changed then.
+/// Why a slot takes no frame, in the order of the tests. Nothing has changed then.
 #[derive(Clone, Copy, Debug, PartialEq, Eq, Error)]
 pub enum LoadFault {
     /// The slot carries a call already.

@@ -108,7 +108,7 @@ impl Slot {
         }
     }
 
-    /// The frame that is carried: the one that came, or the one that was sent on; none where the slot is idle.
+    /// The frame that is carried: the one that came, or the one that was sent on; none if the slot is idle.
     pub fn frame(&self) -> &[u8]
         ensures value { result.now ≡ frame_of self.now.job }
         ensures short { length result.now ≤ max_frame }
@@ -152,9 +152,8 @@ impl Slot {
 
     /// Takes in a frame that came for a tenant, with the token that the sender showed.
     ///
-    /// The errors are, in the order in which they are looked for: `Busy` where the slot carries a call; `Token` where
-    /// the token is none; and `Bad` with what is wrong with the frame, where it is no Prepare. Nothing has changed
-    /// then.
+    /// Errors, in the order of the tests: `Busy` if the slot carries a call; `Token` if the token is none; and `Bad`
+    /// with what is wrong with the frame, where it is no Prepare. Nothing has changed then.
     pub fn load(&mut self, tenant: usize, token: &[u8], bytes: &[u8]) -> Result<(), LoadFault>
         ensures result { result ≡ load_result self.old.job token.now bytes.now }
         ensures slot { self.new ≡ loaded self.old tenant token.now bytes.now }

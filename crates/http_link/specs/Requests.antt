@@ -27,7 +27,7 @@ pub record Wanted : Type 0 where
   pub token : List ℕ
   pub framing : Framing
 
--- a value, or what refuses where there is none
+-- a value, or what refuses if there is none
 abbrev pub or_refused : {A E : Type 0} → E → Option A → Result A E
 or_refused refusal (Some value) = Ok value
 or_refused refusal None = Err refusal

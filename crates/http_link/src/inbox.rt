@@ -76,7 +76,7 @@ impl Inbox {
 
     /// Waits until something has come, unless something is there already; `false` where the stream has ended.
     ///
-    /// Errors: `Read` where the device failed in this call, and `Turns` where 50,000 reads did not suffice.
+    /// Errors: `Read` if the device failed in this call, and `Turns` if 50,000 reads did not suffice.
     pub fn await_more<R: Source>(&mut self, r: &mut R) -> Result<bool, LinkFault>
         ensures awaited { IfOk result (Awaits self.old (R.remaining r.old) (R.remaining r.new) self.new) }
         // Where something is there already, nothing is read.

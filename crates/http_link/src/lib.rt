@@ -1,6 +1,6 @@
 //! Packets and commands over HTTP (RFC 0035; RFC 9110 and 9112), without memory.
 //!
-//! - [`serve_one`] reads one request from a stream, asks a [`Service`] where nothing refuses it, and writes the answer;
+//! - [`serve_one`] reads one request from a stream, asks a [`Service`] if nothing refuses it, and writes the answer;
 //!   [`serve_next`] does so for the requests of a connection, whose bytes an [`Inbox`] takes as they come.
 //! - [`serve_host`] does so for one request of the host, which a [`HostService`] answers.
 //! - [`post`] sends a frame to a peer and reads its answer.

@@ -1,6 +1,6 @@
 use thiserror::Error;
 
-/// Why a request for the configuration is refused, in the order in which it is looked for.
+/// Why a request for the configuration is refused, in the order of the tests.
 #[derive(Clone, Copy, Debug, PartialEq, Eq, Error)]
 pub enum IldcpFault {
     /// The peer that asks is no child.

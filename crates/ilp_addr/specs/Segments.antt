@@ -10,6 +10,6 @@ use Rattle.ilp_addr.specs.Address.{segments}
 abbrev pub segments_left : Segments → List (List ℕ)
 segments_left it = option_map_or (λ rest. segments rest.now) it.rest []
 
--- a call gave the first part that was left, or `None` where none was left
+-- a call gave the first part that was left, or `None` if none was left
 abbrev pub GivesFirstSegment : Segments → Option (Bor (List ℕ)) → Segments → Type 0
 GivesFirstSegment = YieldsFirstRef segments_left

@@ -5,8 +5,8 @@ ghost use Rattle.jiff_core.specs.Calendar.{days_from_civil, IsDate, IsCivilDate}
 
 use jiff::civil::Date;
 
-/// The days from 1970-01-01 to the date, negative before it, or `None` where the calendar has no
-/// such date.
+/// The days from 1970-01-01 to the date, negative before it, or `None` if the calendar has no such
+/// date.
 pub(crate) fn day_number(year: u16, month: u8, day: u8) -> Option<i32>
     requires year { year ≤ 9999 }
     requires month { month < 100 }

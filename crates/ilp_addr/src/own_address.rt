@@ -69,7 +69,7 @@ impl OwnAddress {
         Address::parse(self.as_bytes()).unwrap()
     }
 
-    /// The same address once more.
+    /// A copy of the address.
     pub fn copy(&self) -> OwnAddress
         ensures { result ≡ self.now }
     {

@@ -77,7 +77,7 @@ impl Prefix {
         Ok(Prefix { bytes })
     }
 
-    /// The same prefix in that room. It takes no memory.
+    /// The same prefix in that room. It allocates nothing.
     pub fn copy_into(&self, spare: Spare) -> Prefix
         requires { max_address ≤ spare }
         ensures { result ≡ self.now }
@@ -87,7 +87,7 @@ impl Prefix {
         }
     }
 
-    /// Gives back the room that the prefix does not need, where the allocator takes it.
+    /// Gives back the room that the prefix does not need, if the allocator takes it.
     pub fn shrink(&mut self)
         ensures { self.new ≡ self.old }
     {

@@ -22,9 +22,9 @@ pub struct Stamp;
 impl Stamp {
     /// The moment that the text names, in milliseconds since 1970-01-01T00:00:00 UTC.
     ///
-    /// A moment before 1970 is read as 0, and one after 9999-12-30T00:00 as that moment. The
-    /// error is `NotADate` where the text is not 17 digits, the calendar has no such date, or the
-    /// day has no such time.
+    /// A moment before 1970 is read as 0, and one after 9999-12-30T00:00 as that moment. The error
+    /// is `NotADate` if the text is not 17 digits, the calendar has no such date, or the day has no
+    /// such time.
     pub fn parse(text: &[u8; 17]) -> Result<u64, AddrFault>
         // What is read is a timestamp, and its moment.
         ensures found { IfOk result

@@ -76,7 +76,7 @@ impl Target {
         })
     }
 
-    /// The same target once more.
+    /// A copy of the target.
     pub fn copy(&self) -> Target
         ensures { result ≡ self.now }
     {

@@ -21,7 +21,7 @@ fn octets_size(text: &[u8]) -> usize
 /// Writes the Fulfill of these parts at the front of `out`, each length in the fewest bytes, and gives
 /// the length of its frame, at most 34,000 bytes. Every other byte of `out` stays.
 ///
-/// `payload` has at most 32,768 bytes. The error is `Short` where the frame does not fit; nothing is
+/// `payload` has at most 32,768 bytes. The error is `Short` if the frame does not fit; nothing is
 /// written then. (RFC 0027, "ILP Fulfill")
 pub fn write_fulfill(
     out: &mut [u8],
@@ -50,8 +50,8 @@ pub fn write_fulfill(
 /// the length of its frame. Every other byte of `out` stays.
 ///
 /// `payload` has at most 32,768 bytes, and the whole frame at most 34,000, as it has where the parts
-/// have at most 33,984 together. The error is `Short` where the frame does not fit into `out`; nothing
-/// is written then. (RFC 0027, "ILP Reject")
+/// have at most 33,984 together. The error is `Short` if the frame does not fit into `out`; nothing is
+/// written then. (RFC 0027, "ILP Reject")
 pub fn write_reject(
     out: &mut [u8],
     code: &[u8; 3],

@@ -92,7 +92,7 @@ fn refuse<W: Write>(writer: &mut W, words: &str, fault: ReplayFault) -> Result<(
     Err(Ending::Fault(fault))
 }
 
-// Says what is wrong with a script for the tenants of a setup, and nothing where it is good.
+// Says what is wrong with a script for the tenants of a setup, and nothing if it is good.
 fn check_script<W: Write>(
     alloc: Global,
     setup: &[u8],

@@ -44,7 +44,7 @@ pub fn asks_version(error: &clap::Error) -> bool
     error.kind() == ErrorKind::DisplayVersion
 }
 
-/// The exit status of a run that ended so: 0 only where nothing went wrong.
+/// The exit status of a run that ended so: 0 only if nothing went wrong.
 pub fn exit_status(ended: &Result<(), Ending>) -> u8
     ensures { result ≡ exit_status ended.now }
 {

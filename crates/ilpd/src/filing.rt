@@ -46,8 +46,8 @@ impl<S: StatementStore> PeriodKeeper for Filer<S> {
     }
 }
 
-/// Replays the script that the reader has left, as `replay` does, and has the statement of each period kept that a roll of it closes.
-/// All steps are done first: then it gives `Device` where a statement is not kept.
+/// Replays the script that the reader has left, as `replay` does, and has the statement of each period kept that a
+/// roll of it closes. All steps are done first: then it gives `Device` if a statement is not kept.
 pub fn replay_filing<S: StatementStore, R: Read + Device, W: Write + Device>(
     alloc: Global,
     setup: &[u8],

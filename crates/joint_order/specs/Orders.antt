@@ -8,7 +8,7 @@ use Rattle.joint_order.specs.declared.joining.Joined.TheVariants.{Order, Stuck}
 abbrev pub point : (group place : ℕ) → ListPoint
 point group place = record { group = group; place = place }
 
--- the list of that number, and an empty one where there is none
+-- the list of that number, and an empty one if there is none
 abbrev pub list_at : {A : Type 0} → List (List A) → ℕ → List A
 list_at lists i = unwrap_or (slice_get lists i) []
 

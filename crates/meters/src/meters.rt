@@ -131,7 +131,7 @@ impl Meters {
     }
 
     /// A seat for another thread, with all counts at zero, from the seat of these meters that came from `new` and was
-    /// split fewer than 4,097 times. It takes no memory.
+    /// split fewer than 4,097 times. It allocates nothing.
     pub fn split(&self, seat: &mut MeterSeat) -> MeterSeat
         requires here { seat.old.meters ≡ self.now.id }
         requires first { IsTrue seat.old.first }

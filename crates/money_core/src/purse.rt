@@ -66,7 +66,7 @@ impl Purse {
         }
     }
 
-    /// What the peer owes, below 0 where it is owed.
+    /// What the peer owes, below 0 if it is owed.
     pub fn balance(&self) -> i64
         ensures value { result ≡ self.now.balance }
         ensures within { unsigned_abs result ≤ max_money }
@@ -88,7 +88,7 @@ impl Purse {
         self.held_out
     }
 
-    /// The same purse once more.
+    /// A copy of the purse.
     pub fn copy(&self) -> Purse
         ensures { result ≡ self.now }
     {
@@ -147,7 +147,7 @@ impl Purse {
         amount > self.level - self.held_out
     }
 
-    /// Holds an amount from the peer. `Ceiling` where it would owe more than its ceiling.
+    /// Holds an amount from the peer. `Ceiling` if it would owe more than its ceiling.
     pub fn hold_in(&mut self, amount: u64) -> Result<(), PurseFault>
         ensures exact { result ≡ (if is_past_ceiling self.old amount then Err fault.Ceiling else Ok tt) }
         ensures ok { OnOk result (self.new ≡ record self.old { held_in = self.old.held_in + amount }) }
@@ -160,7 +160,7 @@ impl Purse {
         Ok(())
     }
 
-    /// Holds an amount for the peer. `Credit` where more would be owed to it than its credit.
+    /// Holds an amount for the peer. `Credit` if more would be owed to it than its credit.
     pub fn hold_out(&mut self, amount: u64) -> Result<(), PurseFault>
         ensures exact { result ≡ (if is_past_credit self.old amount then Err fault.Credit else Ok tt) }
         ensures ok { OnOk result (self.new ≡ record self.old { held_out = self.old.held_out + amount }) }
@@ -213,8 +213,8 @@ impl Purse {
         self.level -= amount;
     }
 
-    /// The peer has paid an amount: it owes that much less. `Limit` where the balance, less what is held for the peer, would
-    /// be below -2^62.
+    /// The peer has paid an amount: it owes that much less. `Limit` if the balance, less what is held for the peer,
+    /// would be below -2^62.
     pub fn settle_in(&mut self, amount: u64) -> Result<(), PurseFault>
         ensures exact { result ≡ (if is_past_least self.old amount then Err fault.Limit else Ok tt) }
         ensures ok { OnOk result (self.new ≡ record self.old { balance = self.old.balance -ℤ pos amount }) }
@@ -227,8 +227,8 @@ impl Purse {
         Ok(())
     }
 
-    /// The peer was paid an amount: it owes that much more. `Limit` where the balance, with what is held from the peer, would
-    /// be above 2^62.
+    /// The peer was paid an amount: it owes that much more. `Limit` if the balance, with what is held from the peer,
+    /// would be above 2^62.
     pub fn settle_out(&mut self, amount: u64) -> Result<(), PurseFault>
         ensures exact { result ≡ (if is_past_most self.old amount then Err fault.Limit else Ok tt) }
         ensures ok { OnOk result (self.new ≡ record self.old { balance = self.old.balance +ℤ pos amount }) }

@@ -131,8 +131,8 @@ impl<J: Run> Chronicle<J> {
         worker.pass = theirs.into_badge();
     }
 
-    /// A tenant's part and a worker's part meet. The tenant's steps by the worker are the worker's steps of the tenant, in one
-    /// order; and the worker's part keeps which steps of the tenant it has met. It takes no memory.
+    /// A tenant's part and a worker's part meet. The tenant's steps by the worker are the worker's steps of the
+    /// tenant, in one order; and the worker's part keeps which steps of the tenant it has met. It allocates nothing.
     pub fn meet(&self, tenant: &mut TenantPart<J>, worker: &mut WorkerPart<J>)
         ensures tenant { tenant.new ≡ tenant.old }
         ensures worker { worker.new ≡ has_met worker.old tenant.old }

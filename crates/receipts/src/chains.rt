@@ -33,7 +33,7 @@ fn note(index: &mut Index, periods: &[Period], k: usize) -> Result<(), AuditFaul
     Ok(())
 }
 
-/// Where the periods stand, by tenant and number. `Gap` where two have the same.
+/// Where the periods stand, by tenant and number. `Gap` if two have the same.
 pub(crate) fn index_of(alloc: Global, periods: &[Period]) -> Result<Index, AuditFault>
     ensures index { IfOk result (λ index. IsIndexUpTo index periods.now (length periods.now)) }
     ensures gap { IfErr result (IsGap periods.now) }
@@ -64,7 +64,7 @@ fn is_led(index: &Index, periods: &[Period], k: usize) -> bool
     }
 }
 
-/// Whether each tenant's periods join. `Gap` where they don't.
+/// Whether each tenant's periods join. `Gap` if they don't.
 pub(crate) fn check_joined(index: &Index, periods: &[Period]) -> Result<(), AuditFault>
     requires index { IsIndexUpTo index.now periods.now (length periods.now) }
     requires kept { AreKept periods.now }

@@ -40,7 +40,7 @@ impl Ledger {
     ghost use Rattle.tenant_core.specs.Limits.{max_tenants};
     ghost use Rattle.receipts.specs.Ledgers.{last_receipt};
 
-    /// No receipt, and room for none. It takes no memory.
+    /// No receipt, and room for none. It allocates nothing.
     pub fn new(alloc: Global) -> Ledger
         ensures { result ≡ record { receipts = []; room = 0 } }
     {

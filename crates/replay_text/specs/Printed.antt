@@ -17,7 +17,7 @@ use Rattle.floor_core.specs.declared.step.Malformed.TheVariants.{Token, Kind, Oe
 use Rattle.floor_core.specs.declared.step.Output.{Output}
 use Rattle.floor_core.specs.declared.step.Output.TheVariants.{Busy, Idle, Loaded, Bad, Stranger, Reply, Send, Ticked, Governed}
 
--- the name of a tenant, or nothing where no tenant has that number
+-- the name of a tenant, or nothing if no tenant has that number
 abbrev pub name_of : List (List ℕ) → ℕ → List ℕ
 name_of names tenant = slice_index_or names tenant []
 

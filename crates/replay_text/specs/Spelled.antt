@@ -14,7 +14,7 @@ use Rattle.replay_text.specs.declared.lines.Spelled.TheVariants.{Load, Decide, A
 use Rattle.replay_text.specs.declared.script.Meaning.{Meaning}
 use Rattle.replay_text.specs.declared.script.Meaning.TheVariants.{Skipped, Bad}
 
--- what came back: the bytes that a word spells, or a fault where there is none
+-- what came back: the bytes that a word spells, or a fault if there is none
 abbrev pub given_spelled : Option (List ℕ) → Option Given
 given_spelled None = Some Fault
 given_spelled (Some word) = option_map (λ bytes. Bytes bytes) (frame_of word)

@@ -181,7 +181,7 @@ fn is_skipped(line: &[u8]) -> bool
     }
 }
 
-/// What a line spells, `None` where it is skipped; or why it is bad, its last word apart where that takes room. The first
+/// What a line spells, `None` if it is skipped; or why it is bad, its last word apart where that takes room. The first
 /// word that is wrong decides, unless one is missing.
 #[tactic(auto, unfolding(crate::specs::Script::meaning_of))]
 pub(crate) fn read_line<'a>(
@@ -248,9 +248,9 @@ fn told<'a>(line: &[u8], fault: LineFault<'a>) -> LineFault<'a> {
     }
 }
 
-/// Why a line says nothing that a script may say, for the tenants of these names and so many workers; `None` where it does
-/// say something, or is skipped. The first word that is wrong decides, unless one is missing or the line ends in a carriage
-/// return. It fails only where memory does.
+/// Why a line says nothing that a script may say, for the tenants of these names and so many workers; `None` if it
+/// does say something, or is skipped. The first word that is wrong decides, unless one is missing or the line ends in
+/// a carriage return. Fails only if it is out of memory.
 pub fn line_fault<'a>(
     alloc: Global,
     names: &[Name],
@@ -267,7 +267,8 @@ pub fn line_fault<'a>(
     Ok(fault.map(|fault| told(line, fault)))
 }
 
-/// The step that was spelled, a frame's bytes in the room; `None` where the last word is bad. It fails only where memory does.
+/// The step that was spelled, a frame's bytes in the room; `None` if the last word is bad. Fails only if it is out of
+/// memory.
 pub(crate) fn step_of<'a>(
     alloc: Global,
     spelled: &Spelled<'a>,

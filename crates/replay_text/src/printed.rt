@@ -285,8 +285,8 @@ fn put_lines(names: &[Name], out: &mut Vec<u8>, outputs: &[Output]) -> Result<()
     Ok(())
 }
 
-/// The lines of some outputs, one or more for each, each ended by a line feed, for the tenants of these names, numbered
-/// from 0. It fails only where memory does.
+/// The lines of some outputs, one or more for each, each ended by a line feed, for the tenants of these names,
+/// numbered from 0. Fails only if it is out of memory.
 pub fn print_lines(alloc: Global, names: &[Name], outputs: &[Output]) -> Result<Vec<u8>, AllocError>
     ensures { IfOk result (λ text. text.items ≡ printed_lines names.now outputs.now) }
 {

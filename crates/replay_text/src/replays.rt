@@ -390,8 +390,8 @@ pub fn replay_keeping<K: PeriodKeeper, R: Read + Device, W: Write + Device>(
 /// `setup` are the bytes of a setup, and `workers` is from 1 to 64. The whole script is read before the first step; at
 /// most 16,777,217 bytes are taken from the reader. The faults are looked for in this order: those of the setup, a
 /// read that failed, a script that is too long, its first bad line. After them nothing was written. Memory may be
-/// refused at any point, and a write may fail: then a front of the text was written, or nothing. `Device` comes exactly
-/// where one of the two devices failed in this call; what failed is not tried again.
+/// refused at any point, and a write may fail: then a front of the text was written, or nothing. `Device` comes
+/// exactly if one of the two devices failed in this call; what failed is not tried again.
 pub fn replay<R: Read + Device, W: Write + Device>(
     alloc: Global,
     setup: &[u8],

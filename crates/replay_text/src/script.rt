@@ -79,8 +79,8 @@ pub enum Meaning<'a> {
     Bad,
 }
 
-/// What a line of a script says, for the tenants of these names, numbered from 0, and so many workers. A frame's bytes are
-/// put into the room. It fails only where memory does.
+/// What a line of a script says, for the tenants of these names, numbered from 0, and so many workers. A frame's bytes
+/// are put into the room. Fails only if it is out of memory.
 pub fn meaning_of<'a>(
     alloc: Global,
     names: &[Name],
@@ -177,7 +177,7 @@ pub fn check_script(
     lines_checked(alloc, names, workers, text)
 }
 
-/// What is wrong with a script and why, `None` where it is good: the fault that [`check_script`] finds, and what would be
+/// What is wrong with a script and why, `None` if it is good: the fault that [`check_script`] finds, and what would be
 /// right in that line.
 #[tactic(auto, unfolding(crate::specs::Script::steps_of_script))]
 pub fn explain_script<'a>(

@@ -30,7 +30,7 @@ pub trait StatementStore {
     /// What keeping does: the store before, the statement, whether it is kept now, and the store after.
     ghost keeps: { Self → Stated → Bool → Self → Type 0 };
 
-    /// Whether there is a statement of a tenant's period; `None` where that can't be told.
+    /// Whether there is a statement of a tenant's period; `None` if that can't be told.
     fn has(&mut self, name: &Name, period: u64) -> Option<bool>
         ensures { tells self.old name.now period result self.new };
 

@@ -141,7 +141,8 @@ impl<H: Wait + Net<Stream = TcpStream> + Clock> Peers for Sockets<'_, H> {
 }
 
 impl<H: Wait + Clock, C: workers::Clock, P: Peers> PeerLink<'_, H, C, P> {
-    // For how many milliseconds an exchange of that packet may last that begins now; `None` where there is no such tenant.
+    // For how many milliseconds an exchange of that packet may last that begins now; `None` if there is no such
+    // tenant.
     fn time_for(&self, packet: Outgoing<'_>) -> Option<u64>
         ensures known { IsSome result ↔ (packet.entry.tenant < length self.now.terms.now) }
         ensures time { IfSome result (λ time. IsTimeFor (C.gives self.now.clock.now) self.now.terms.now

@@ -68,7 +68,7 @@ abbrev pub anew : List Peer → List Peer → ℕ → Option ℕ
 anew (p ∷ ps) (q ∷ qs) n = if p.number == n then Some q.number else anew ps qs n
 anew ps qs n = None
 
--- the same; 0 where none of these has that number
+-- the same; 0 if none of these has that number
 abbrev pub anew_or : List Peer → List Peer → ℕ → ℕ
 anew_or ps qs n = unwrap_or (anew ps qs n) 0
 

@@ -15,7 +15,7 @@ use Rattle.tenant_core.specs.declared.opening.Opening.{Opening}
 use Rattle.tenant_core.specs.declared.peer.Peer.{Peer}
 use Rattle.tenant_core.specs.declared.period.PeriodParts.{PeriodParts}
 
--- what the peer of that number owes where that is the ending; 0 where it was taken away
+-- what the peer of that number owes where that is the ending; 0 if it was taken away
 abbrev pub balance_in : Option Opening → ℕ → ℤ
 balance_in None n = pos 0
 balance_in (Some ending) n = opening_balance (peer_numbered n ending.network.peers)

@@ -90,7 +90,7 @@ fn begun(alloc: Global, lines: &mut Lines<'_>) -> Checked<Course>
     }
 }
 
-// The fee of the best route of a packet's destination, 0 of another entry; `None` where the destination is no address.
+// The fee of the best route of a packet's destination, 0 of another entry; `None` if the destination is no address.
 fn route_fee(book: &Book, entry: &Entry) -> Option<u64>
     ensures { IfSome result (λ fee. fee ≡ route_fee book.now entry.now) }
 {

@@ -12,7 +12,7 @@ use common_types::Name;
 use std::alloc::{AllocError, Global};
 use tenant_core::{Change, EntryView, Peer, PeerNo, Period, Records};
 
-/// A peer that was there, and what it owed as the first period began, in its units; 0 where it was added since.
+/// A peer that was there, and what it owed as the first period began, in its units; 0 if it was added since.
 #[derive(Drop)]
 pub struct PeerSeen {
     pub number: PeerNo,

@@ -13,7 +13,7 @@ use tenant_core::{Network, Peer, PeerNo, RateTerms, TenantSetup, TenantTerms};
 /// The lines that may stand before the records.
 const HEAD_LINES: usize = 3 + 256 + 4_096 + 4_096;
 
-/// The line of that number, counted from 1, without its line feed; `None` where there are not so many.
+/// The line of that number, counted from 1, without its line feed; `None` if there are not so many.
 pub fn line_at(text: &[u8], line: usize) -> Option<&[u8]> {
     text.split(|byte| *byte == b'\n').nth(line.checked_sub(1)?)
 }

@@ -16,7 +16,7 @@ pub type Summed<T> = Result<T, ReadError<Long>>;
 
 pub const LONG: ReadError<Long> = ReadError::Fault(Long);
 
-/// A sum for each number of a peer, which is 0 where nothing was added.
+/// A sum for each number of a peer, which is 0 if nothing was added.
 #[derive(Drop)]
 pub struct Tally {
     sums: Vec<u128>,

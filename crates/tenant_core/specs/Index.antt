@@ -7,7 +7,7 @@ use Rattle.std.specs.Ordering.{is_lt}
 use Rattle.std.specs.declared.cmp.Ordering.{Ordering}
 use Rattle.std.specs.declared.cmp.Ordering.TheVariants.{Equal}
 
--- the key of the item at a place, or another one where there is none
+-- the key of the item at a place, or another one if there is none
 abbrev pub key_at : {X K : Type 0} → (X → K) → K → List X → ℕ → K
 key_at key none xs place = option_map_or key (slice_get xs place) none
 

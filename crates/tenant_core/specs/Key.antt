@@ -9,6 +9,6 @@ pub record Key : Type 0 where
   pub condition : List ℕ
   pub destination : List ℕ
 
--- a key without where its parts lie in memory
+-- a key without the address of its parts in memory
 abbrev pub key_of : PrepareKey → Key
 key_of k = record { amount = k.amount; expiry = k.expiry; condition = k.condition.now; destination = k.destination.now }

@@ -24,7 +24,7 @@ max_journal = MAX_JOURNAL
 abbrev pub max_holds : ℕ
 max_holds = MAX_HOLDS
 
--- milliseconds by which an expiry is brought forward
+-- milliseconds by which an expiry is moved earlier
 abbrev pub max_margin : ℕ
 max_margin = MAX_MARGIN
 

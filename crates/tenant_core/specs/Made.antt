@@ -14,5 +14,5 @@ IsMade s r = outcome_of s r.entry ≡ Some r.outcome
 pub record MadeLaws : Type 0 where
   -- the last one of a replay, in the state before it
   pub last : (s : State) (r : Record) → IsReplay (recorded s (Some r)) → IsMade s r
-  -- a roll's, where nothing refuses the roll
+  -- a roll's, if nothing refuses the roll
   pub roll : (s : State) (now : ℕ) → roll_refusal s ≡ None → now ≤ last_moment → IsMade s (roll_record now)

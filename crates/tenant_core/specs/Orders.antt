@@ -1,4 +1,4 @@
--- Orders of an operator: what each changes, and what it is refused for, in the order in which that is looked for.
+-- Orders of an operator: what each changes, and what it is refused for, in the order of the tests.
 use Rattle.std.specs.Prelude.{ℕ, ◌≡◌, ◌+◌, pos, ◌+ℤ◌, ◌-ℤ◌, neg_ℤ, int_lt, unsigned_abs, Bool, true, not, ◌&&◌, ◌||◌, ◌==◌, List}
 use Rattle.std.specs.Prelude.{Option, Some, None, is_some, option_map, Result, Ok, Err, if◌then◌else◌}
 use Rattle.std.specs.FinMap.{values}
@@ -89,7 +89,7 @@ net_refusal net _ = None
 abbrev pub change_refusal : State → Net → Changed → Option CommandFault
 change_refusal s net c = option_or (state_refusal s net c) (net_refusal net c)
 
--- what an order is refused for, where the journal has room for it
+-- what an order is refused for, if the journal has room for it
 abbrev pub order_refusal : State → Net → Order → Option CommandFault
 order_refusal s net order = (change_of net order otherwise Some Absent) (λ c. change_refusal s net c)
 

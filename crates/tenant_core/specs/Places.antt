@@ -14,7 +14,7 @@ use Rattle.tenant_core.specs.declared.terms.RateTerms.{RateTerms}
 abbrev pub token : Peer → List ℕ
 token p = p.terms.token
 
--- the token of the peer at that place, or no byte where there is none
+-- the token of the peer at that place, or no byte if there is none
 abbrev pub token_at : List Peer → ℕ → List ℕ
 token_at = key_at token []
 
@@ -41,7 +41,7 @@ pair_cmp a b = ordering_then (nat_cmp a.0 b.0) (nat_cmp a.1 b.1)
 abbrev pub pair : RateTerms → ℕ × ℕ
 pair r = (r.from, r.to)
 
--- the pair of the rate at that place, or zeros where there is none
+-- the pair of the rate at that place, or zeros if there is none
 abbrev pub pair_at : List RateTerms → ℕ → ℕ × ℕ
 pair_at = key_at pair (0, 0)
 

@@ -92,7 +92,7 @@ base_of s n =
     (opening_balance (peer_numbered n s.opening.network.peers) -ℤ pos (sum_by (settled_in n) s.records))
     +ℤ pos (sum_by (settled_out n) s.records)
 
--- what the peer of that number owes the tenant, in its units, below 0 where it is owed
+-- what the peer of that number owes the tenant, in its units, below 0 if it is owed
 abbrev pub balance_of : State → ℕ → ℤ
 balance_of s n = (base_of s n +ℤ pos (taken_in_of s n)) -ℤ pos (taken_out_of s n)
 

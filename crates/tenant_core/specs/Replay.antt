@@ -32,7 +32,7 @@ is_sayable key =
     nat_lt key.amount (2 ^ 64) && nat_le key.expiry latest_expiry && length key.condition == 32
     && is_ok (address_at key.destination)
 
--- what the Prepare of the entry's peer leads to, where the journal has room for it
+-- what the Prepare of the entry's peer leads to, if the journal has room for it
 abbrev pub decide_outcome : State → DecideEntry → Option Outcome
 decide_outcome s d =
     if is_full s || not (is_sayable (key_entered d)) then None
@@ -45,18 +45,18 @@ abbrev pub answer_outcome : State → AnswerEntry → Option Outcome
 answer_outcome s a =
     option_map (λ h. Packet (settle_answer h (max (clock_of s) a.now) a.key)) (open_hold s a.hold)
 
--- what a tick leads to, where the journal has room for it
+-- what a tick leads to, if the journal has room for it
 abbrev pub tick_outcome : State → TickEntry → Option Outcome
 tick_outcome s t = if has_no_place s then None else Some (Ticked (tick_count s (max (clock_of s) t.now)))
 
--- what the change of the entry leads to, where the journal has room for it, its peers are there and nothing refuses it
+-- what the change of the entry leads to, if the journal has room for it, its peers are there and nothing refuses it
 abbrev pub change_outcome : State → ChangeEntry → Option Outcome
 change_outcome s c =
     if has_no_place s || not (names_present (network_of s) c.change)
     || is_some (change_refusal s (network_of s) c.change)
     then None else Some Done
 
--- what a roll leads to, where nothing refuses it
+-- what a roll leads to, if nothing refuses it
 abbrev pub roll_outcome : State → Option Outcome
 roll_outcome s = if is_some (roll_refusal s) then None else Some Rolled
 
@@ -68,7 +68,7 @@ entry_outcome s (Tick t) = tick_outcome s t
 entry_outcome s (Change c) = change_outcome s c
 entry_outcome s (Roll r) = roll_outcome s
 
--- what an entry leads to in a state; nothing where it would not be appended, or is of no moment that is handed in
+-- what an entry leads to in a state; nothing if it would not be appended, or is of no moment that is handed in
 abbrev pub outcome_of : State → Entry → Option Outcome
 outcome_of s e = if nat_le (entered_at e) last_moment then entry_outcome s e else None
 

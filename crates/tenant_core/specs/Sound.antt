@@ -31,7 +31,7 @@ pub record IsSound (s : State) : Type 0 where
   -- a packet is held for ten minutes at most
   pub hold : s.opening.hold ≤ max_hold
   pub some_hold : 1 ≤ s.opening.hold
-  -- an expiry is brought forward by a minute at most
+  -- an expiry is moved earlier by a minute at most
   pub margin : s.opening.margin ≤ max_margin
   -- no period had more holds than a journal has places
   pub first_hold : s.opening.next_hold ≤ max_journal * s.opening.period

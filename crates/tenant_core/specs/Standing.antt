@@ -33,7 +33,7 @@ pub record IsShown (t : Standing) : Type 0 where
 abbrev pub peer_of : Party → Peer
 peer_of t = t.peer.now
 
--- how a packet goes on, without where its peer lies in memory
+-- how a packet goes on, without the address of its peer in memory
 abbrev pub way_of : Onward → Way
 way_of o = record { peer = peer_of o.to; fee = o.fee }
 

@@ -125,7 +125,7 @@ fn lent<'a>(small: &'a Small, text: &'a [u8]) -> RecordView<'a>
     }
 }
 
-// The records once more, with room for so many.
+// A copy of the records, with room for so many.
 fn copied_records(alloc: Global, records: &[Small], room: usize) -> Result<Vec<Small>, AllocError>
     requires { length records.now ≤ room }
     ensures items { IfOk result (λ copy. copy.items ≡ records.now) }
@@ -162,7 +162,7 @@ impl Journal {
         })
     }
 
-    /// No record, and no room. It takes no memory.
+    /// No record, and no room. It allocates nothing.
     pub(crate) fn without_room(alloc: Global) -> Journal
         ensures { result ≡ no_records 0 }
     {

@@ -383,7 +383,7 @@ impl Book {
 
     // Does what an operator orders: one entry more, and the network changed by it.
     //
-    // The errors are, in the order in which they are looked for: `Full`, what the order says, and `Memory`.
+    // Errors, in the order of the tests: `Full`, what the order says, and `Memory`.
     fn order(&mut self, alloc: Global, order: &Order, now: Moment) -> Result<(), CommandFault>
         ensures { IsOrdered result (ordered self.old order.now) self.old self.new now }
     {
@@ -476,21 +476,22 @@ impl Book {
 
     /// Does what an operator commands at that moment.
     ///
-    /// An order changes whom the tenant deals with, and is recorded. Its errors are, in the order in which they are looked
-    /// for: `Full` where entries, packets that await their answers and 1 more exceed the journal; then
+    /// An order changes whom the tenant deals with, and is recorded. Its errors, in the order of the tests: `Full` if
+    /// entries, packets that await their answers and 1 more exceed the journal; then
     ///
     /// - a peer is added: `Present` (its name or its token is), `Limit` (256 peers, or 65,535 numbers were given);
-    /// - a peer is removed: `Absent`, `InUse` (a route, a packet that awaits its answer or a balance names it); the rates that
-    ///   name it go with it;
+    /// - a peer is removed: `Absent`, `InUse` (a route, a packet that awaits its answer or a balance names it); the
+    ///   rates that name it go with it;
     /// - limits or a bucket are set: `Absent`;
     /// - a route is added: `Absent` (its peer is), `Present` (its prefix is), `Limit` (4,096 routes);
     /// - a route is removed: `Absent`;
     /// - a rate is set: `Absent` (a peer is), `Limit` (4,096 rates);
     /// - money is settled: `Absent`, `Limit` (the balance and what is held would pass 2^62 on either side of 0).
     ///
-    /// The balances change nothing. A roll records its entry in a place of its own, gives the period that it closes, and begins
-    /// the next one with what the book is at present. Its errors are `InUse` (a packet awaits its answer) and `Limit` (the last
-    /// period). `Memory` comes after each of these. An error leaves the book as it was, the clock included.
+    /// The balances change nothing. A roll records its entry in a place of its own, gives the period that it closes,
+    /// and begins the next one with what the book is at present. Its errors are `InUse` (a packet awaits its answer)
+    /// and `Limit` (the last period). `Memory` comes after each of these. An error leaves the book as it was, the
+    /// clock included.
     #[tactic(auto, using(crate::proofs::Governs::order_done, crate::proofs::Governs::order_refused))]
     pub fn command(
         &mut self,

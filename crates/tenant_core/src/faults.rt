@@ -72,7 +72,7 @@ impl<T: Drop> From<AllocFailed<T>> for CommandFault {
     }
 }
 
-/// What a period cannot begin with, in the order in which it is looked for.
+/// What a period cannot begin with, in the order of the tests.
 #[derive(Clone, Copy, Debug, PartialEq, Eq, Error)]
 pub enum OpeningFault {
     /// The tenant's place is below 64.

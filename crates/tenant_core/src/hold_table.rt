@@ -35,7 +35,7 @@ impl Model for HoldTable {
     ghost invariant = { IsHoldTable };
 }
 
-// The places once more, with room for so many.
+// A copy of the places, with room for so many.
 fn copied_places(alloc: Global, places: &[u16], room: usize) -> Result<Vec<u16>, AllocError>
     ensures items { IfOk result (λ copy. copy.items ≡ places.now) }
     ensures room { IfOk result (λ copy. room ≤ vec_capacity copy) }

@@ -174,7 +174,7 @@ impl ChangeEntry {
         })
     }
 
-    /// The same entry once more, a prefix in that room. It takes no memory.
+    /// A copy of the entry, a prefix in that room. It allocates nothing.
     pub fn copy_into(&self, spare: Spare) -> ChangeEntry
         requires { max_address ≤ spare }
         ensures { result ≡ self.entry.now }
@@ -219,7 +219,7 @@ impl Change {
         })
     }
 
-    /// The same change once more, a prefix in that room. It takes no memory.
+    /// A copy of the change, a prefix in that room. It allocates nothing.
     pub fn copy_into(&self, spare: Spare) -> Change
         requires { max_address ≤ spare }
         ensures { result ≡ self.now }
@@ -249,7 +249,7 @@ impl Change {
         }
     }
 
-    /// Gives back the room that a prefix does not need, where the allocator takes it.
+    /// Gives back the room that a prefix does not need, if the allocator takes it.
     pub fn shrink(&mut self)
         ensures { self.new ≡ self.old }
     {
@@ -264,7 +264,7 @@ impl Change {
 impl Entry {
     ghost use Rattle.std.specs.Prelude.{◌≡◌};
 
-    /// Gives back the room that an address or a prefix does not need, where the allocator takes it.
+    /// Gives back the room that an address or a prefix does not need, if the allocator takes it.
     pub fn shrink(&mut self)
         ensures { self.new ≡ self.old }
     {

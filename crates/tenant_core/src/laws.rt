@@ -53,7 +53,7 @@ pub fn what_stays()
     ensures { StayingLaws }
 {}
 
-/// No call makes a book another tenant's, and an answer settles a packet exactly where one is awaited.
+/// No call makes a book another tenant's, and an answer settles a packet exactly if one is awaited.
 pub fn calls()
     ensures { CallLaws }
 {}

@@ -18,7 +18,7 @@ pub const MAX_JOURNAL: u64 = 16_384;
 /// The most packets that a tenant holds at once.
 pub const MAX_HOLDS: u64 = 1_024;
 
-/// The most milliseconds by which an expiry is brought forward.
+/// The most milliseconds by which an expiry is moved earlier.
 pub const MAX_MARGIN: u64 = 60_000;
 
 /// The most milliseconds for which a packet may be held.

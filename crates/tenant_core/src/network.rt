@@ -143,7 +143,7 @@ impl Network {
         }
     }
 
-    /// The same network once more.
+    /// A copy of the network.
     pub fn copy(&self, alloc: Global) -> Result<Network, AllocError>
         ensures { IfOk result (λ copy. copy ≡ self.now) }
     {
@@ -303,8 +303,8 @@ impl Network {
 
     /// A peer more, under the next number, which owes that balance and whose bucket has that level.
     ///
-    /// The errors are, in the order in which they are looked for: `Present` where a peer has the name or the token, `Limit`
-    /// where there are 256 peers or all numbers were given, and `Memory`. An error leaves the network as it was.
+    /// Errors, in the order of the tests: `Present` if a peer has the name or the token, `Limit` if there are 256
+    /// peers or all numbers were given, and `Memory`. An error leaves the network as it was.
     pub fn add_peer(
         &mut self,
         terms: PeerTerms,
@@ -366,8 +366,8 @@ impl Network {
 
     /// Sends packets for the prefix on by the hop, whose peer is there.
     ///
-    /// The errors are, in the order in which they are looked for: `Present` where the prefix has a route, `Limit` where
-    /// there are 4,096 routes, and `Memory`. An error leaves the network as it was.
+    /// Errors, in the order of the tests: `Present` if the prefix has a route, `Limit` if there are 4,096 routes, and
+    /// `Memory`. An error leaves the network as it was.
     pub fn add_route(&mut self, prefix: Prefix, hop: Hop) -> Result<(), CommandFault>
         requires { IsSome (peer_numbered hop.peer self.old.peers) }
         ensures { IsChanged result (route_refusal self.old prefix) self.old self.new (with_route self.old prefix hop) }
@@ -382,8 +382,8 @@ impl Network {
 
     /// Takes away the route of the prefix.
     ///
-    /// The errors are, in the order in which they are looked for: `Absent` where it has none, and `Memory`. An error leaves
-    /// the network as it was.
+    /// Errors, in the order of the tests: `Absent` if it has none, and `Memory`. An error leaves the network as it
+    /// was.
     pub fn remove_route(&mut self, prefix: &Prefix) -> Result<(), CommandFault>
         ensures { IsChanged result (no_route_refusal self.old prefix.now) self.old self.new
             (without_route self.old prefix.now) }
@@ -397,8 +397,8 @@ impl Network {
 
     /// What packets of one peer for another cost, in the place of what they did. Both peers are there, and are two.
     ///
-    /// The errors are, in the order in which they are looked for: `Limit` where the pair has no rate and there are 4,096,
-    /// and `Memory`. An error leaves the network as it was.
+    /// Errors, in the order of the tests: `Limit` if the pair has no rate and there are 4,096, and `Memory`. An error
+    /// leaves the network as it was.
     pub fn set_rate(&mut self, rate: &RateTerms) -> Result<(), CommandFault>
         requires from { IsSome (peer_numbered rate.now.from self.old.peers) }
         requires to { IsSome (peer_numbered rate.now.to self.old.peers) }

@@ -29,7 +29,7 @@ pub struct Peer {
 }
 
 impl Peer {
-    /// The same peer once more.
+    /// A copy of the peer.
     pub fn copy(&self) -> Peer
         ensures { result ≡ self.now }
     {

@@ -28,7 +28,7 @@ impl Records {
     ghost use Rattle.std.specs.List.{slice_get};
     ghost use Rattle.tenant_core.specs.Views.{record_of};
 
-    /// No records. It takes no memory.
+    /// No records. It allocates nothing.
     pub(crate) fn none(alloc: Global) -> Records
         ensures { result ≡ [] }
     {

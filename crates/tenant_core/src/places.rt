@@ -24,7 +24,7 @@ pub fn search_number(peers: &[Peer], number: PeerNo) -> Result<usize, usize>
     peers.binary_search_by(|peer| peer.number.cmp(&number))
 }
 
-// The token of the peer at that place, or no byte where there is none.
+// The token of the peer at that place, or no byte if there is none.
 fn token_at(peers: &[Peer], place: u16) -> &[u8]
     ensures { result.now ≡ token_at peers.now place }
 {
@@ -82,7 +82,7 @@ fn compare(a: (PeerNo, PeerNo), b: (PeerNo, PeerNo)) -> Ordering
     a.0.cmp(&b.0).then(a.1.cmp(&b.1))
 }
 
-// The pair of the rate at that place, or zeros where there is none.
+// The pair of the rate at that place, or zeros if there is none.
 fn pair_at(rates: &[RateTerms], place: u16) -> (PeerNo, PeerNo)
     ensures { result ≡ pair_at rates.now place }
 {

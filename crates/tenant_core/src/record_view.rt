@@ -74,7 +74,8 @@ impl EntryView<'_> {
     ghost use Rattle.ilp_addr.specs.Address.{max_address};
     ghost use Rattle.tenant_core.specs.Views.{entry_of, IsShort};
 
-    /// The same entry in memory of its own, the address or the prefix in it in that room. It takes no memory.
+    /// The same entry in memory of its own, the address or the prefix in it in that room. It allocates
+    /// nothing.
     pub fn to_entry(&self, spare: Spare) -> Entry
         requires room { max_address ≤ spare }
         requires short { IsShort self.now }

@@ -6,7 +6,7 @@ use common_types::Name;
 #[derive(Drop)]
 pub struct Row {
     pub name: Name,
-    /// What the peer owes, below 0 where it is owed.
+    /// What the peer owes, below 0 if it is owed.
     pub balance: i64,
     /// What packets from it hold until their answers.
     pub held_in: u64,

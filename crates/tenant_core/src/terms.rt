@@ -54,7 +54,7 @@ impl BucketTerms {
     }
 }
 
-/// A balance, from -2^62 to 2^62 in a peer's units: what the peer owes, below 0 where it is owed.
+/// A balance, from -2^62 to 2^62 in a peer's units: what the peer owes, below 0 if it is owed.
 #[derive(Clone, Copy, Debug, PartialEq, Eq)]
 pub struct Balance {
     owed: i64,
@@ -133,7 +133,7 @@ impl PeerTerms {
         self.token.as_bytes();
     }
 
-    /// The same terms once more.
+    /// A copy of the terms.
     pub fn copy(&self) -> PeerTerms
         ensures { result ≡ self.now }
     {
@@ -168,7 +168,7 @@ pub struct TenantTerms {
     pub admin: Token,
     /// How many places the journal of a period has.
     pub journal: u64,
-    /// By how many milliseconds a packet's expiry is brought forward.
+    /// By how many milliseconds a packet's expiry is moved earlier.
     pub margin: u64,
     /// For how many milliseconds a packet may be held at most.
     pub hold: u64,

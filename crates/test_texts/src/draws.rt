@@ -22,7 +22,7 @@ impl Draws {
         drawn
     }
 
-    /// A number below `end`, and 0 where there is none.
+    /// A number below `end`, and 0 if there is none.
     pub fn below(&mut self, end: u64) -> u64 {
         self.next().checked_rem(end).unwrap_or(0)
     }
@@ -49,7 +49,7 @@ impl Draws {
         self.below(times) == 0
     }
 
-    /// One of these texts, and the empty one where there is none.
+    /// One of these texts, and the empty one if there is none.
     pub fn one_of(&mut self, texts: &[&'static str]) -> &'static str {
         let place = usize::try_from(self.below(texts.len() as u64)).unwrap_or(0);
         texts.get(place).copied().unwrap_or("")

@@ -107,7 +107,7 @@ impl Backlog {
         Ok(BacklogRoom { waiting })
     }
 
-    /// Takes the tenant's oldest period out, with the room that it had; `None` where none waits.
+    /// Takes the tenant's oldest period out, with the room that it had; `None` if none waits.
     pub fn take<R: Wait>(&self, rt: &R, tenant: usize) -> Option<(Period, BacklogRoom<'_>)> {
         let waiting = self.tenants.get(tenant)?;
         let period = waiting.lock(rt).take()?;

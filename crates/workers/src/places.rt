@@ -63,8 +63,8 @@ impl Places {
 
     /// Takes a place for the tenant, and waits for one until that moment of the clock.
     ///
-    /// `None` where it got none by then, where as many of its threads wait already as may, where the clock can't be read, and
-    /// where there is no such tenant.
+    /// `None` if it got none by then, where as many of its threads wait already as may, where the clock can't be read,
+    /// and where there is no such tenant.
     pub fn take<R: Wait + Clock>(&self, rt: &R, tenant: usize, until: Instant) -> Option<Place>
         ensures { IfSome result (λ place. place.tenant ≡ tenant) }
     {
@@ -120,7 +120,7 @@ impl Places {
     }
 }
 
-// How much time is left until that moment; none where the clock can't be read.
+// How much time is left until that moment; none if the clock can't be read.
 fn left_until(clock: &impl Clock, until: Instant) -> Duration {
     match Instant::now(clock) {
         Ok(now) => until.saturating_duration_since(now),

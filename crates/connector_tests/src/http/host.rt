@@ -130,7 +130,7 @@ GET /metrics HTTP/1.1\r\nAuthorization: Bearer\ttok-Ann\r\n\r\n|UNAUTHORIZED
 GET /setup HTTP/1.1\r\nAuthorization: Bearer tok Ann\r\n\r\n|UNAUTHORIZED
 POST /stop HTTP/1.1\r\nAuthorization: tok-Ann\r\n\r\n|UNAUTHORIZED";
 
-// A stream that begins with no head, and the text; none where the stream ends before a line does.
+// A stream that begins with no head, and the text; none if the stream ends before a line does.
 static TURNED_AWAY: &str = r"|
 \r\n|
 GET /health HT|

@@ -324,7 +324,7 @@ fn statuses(rt: HostRuntime) -> Result<(), Fail> {
     Ok(())
 }
 
-// A stream that begins with no head, and the text that is written; none where the stream ends before a line does.
+// A stream that begins with no head, and the text that is written; none if the stream ends before a line does.
 static TURNED_AWAY: &str = r"|
 \r\n|
 POST /ilp/acme HT|

@@ -12,7 +12,7 @@ fn fee_of(peer: PeerNo) -> u64 {
     u64::from(peer).saturating_mul(10)
 }
 
-// What adding a route gives, and `None` where the bytes are no prefix.
+// What adding a route gives, and `None` if the bytes are no prefix.
 fn add(
     alloc: Global,
     routes: &mut Routes,
@@ -24,7 +24,7 @@ fn add(
     Some(routes.add(prefix, Hop { peer, fee }))
 }
 
-// What removing a route gives, and `None` where the bytes are no prefix.
+// What removing a route gives, and `None` if the bytes are no prefix.
 fn remove(alloc: Global, routes: &mut Routes, bytes: &[u8]) -> Option<Result<(), RouteFault>> {
     let prefix = Prefix::parse(alloc, bytes).ok()?;
     Some(routes.remove(&prefix))

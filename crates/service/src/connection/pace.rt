@@ -64,8 +64,8 @@ pub fn left_of(activity: Activity, rush: Rush, spent: u64, stopping: u64) -> u64
     time_for(activity, rush).saturating_sub(gone)
 }
 
-/// Whether a connection ends after an answer of that status, `served` milliseconds after it came, and gives its thread to
-/// another: only where others wait, and then at once after 400 and 401, and after a second in all.
+/// Whether a connection ends after an answer of that status, `served` milliseconds after it came, and gives its thread
+/// to another: only if others wait, and then at once after 400 and 401, and after a second in all.
 pub fn yields(rush: Rush, status: u16, served: u64) -> bool
     ensures { result ≡ yields rush status served }
 {

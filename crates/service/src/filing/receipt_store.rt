@@ -17,7 +17,7 @@ pub trait ReceiptStore {
     /// What keeping does: the store before, the text of the receipts, whether it is kept now, and the store after.
     ghost keeps_receipts: { Self → List ℕ → Bool → Self → Type 0 };
 
-    /// Whether there are receipts; `None` where that can't be told.
+    /// Whether there are receipts; `None` if that can't be told.
     fn has_receipts(&mut self) -> Option<bool>
         ensures { tells_receipts self.old result self.new };
 

@@ -20,7 +20,7 @@ impl Draws {
         }
     }
 
-    /// A number below `end`, and 0 where there is none.
+    /// A number below `end`, and 0 if there is none.
     pub fn below(&mut self, end: u64) -> u64 {
         self.numbers.below(end)
     }

@@ -4,7 +4,7 @@ use super::told::{Fate, Peer, Told, full, is_awaited};
 use crate::books::setups::{Agreed, MOST, Wanted, verdict};
 use tenant_core::{AnswerKey, CommandFault, HoldFault, RejectCode, Side, Verdict};
 
-/// By how many milliseconds an expiry is brought forward, and for how many a packet is held at most.
+/// By how many milliseconds an expiry is moved earlier, and for how many a packet is held at most.
 pub const MARGIN: u64 = 1_000;
 
 pub const HOLD: u64 = 2_000;
