@@ -42,7 +42,7 @@ owed_of loans = sum_by (λ used. loans.share - used) loans.used
 abbrev pub IsCovered : Loans → Type 0
 IsCovered loans = lent_of loans + owed_of loans ≤ loans.places
 
--- a tenant gets a place up to its share, and beyond it where what is left free covers what is owed
+-- a tenant gets a place up to its share, and beyond it if the other free places cover what is owed
 abbrev pub is_granted : ℕ → Loans → Bool
 is_granted tenant loans =
     nat_lt (used_by tenant loans) loans.share || nat_lt (owed_of loans) (free_of loans)

@@ -24,7 +24,7 @@ told_to tenant (call ∷ calls) loans = told_at tenant call loans ++ told_to ten
 abbrev pub calls_by : ℕ → List Call → List Call
 calls_by tenant calls = filter (λ call. call.tenant == tenant) calls
 
--- a tenant that uses so many places asks for one only if it uses less than its share
+-- a tenant that uses so many places asks for one only while it uses less than its share
 abbrev pub asks_within : ℕ → ℕ → ℕ → List Call → Bool
 asks_within tenant share used [] = true
 asks_within tenant share used (call ∷ calls) =

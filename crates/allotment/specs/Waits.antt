@@ -54,7 +54,7 @@ abbrev pub given_up_by : ℕ → Queued → Queued
 given_up_by tenant queued =
     record queued { waiting = slice_set queued.waiting tenant (waiting_of tenant queued - 1) }
 
--- the tenant has asked: it has a place where it is granted one, and else one more of it waits where so many may wait
+-- the tenant has asked: it has a place if it is granted one; otherwise one more of it waits, if so many may wait
 abbrev pub asked_for : ℕ → Queued → Queued
 asked_for tenant queued =
     if is_granted tenant queued.loans then record queued { loans = lent_to tenant queued.loans }

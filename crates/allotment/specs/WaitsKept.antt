@@ -14,8 +14,8 @@ queued_of l = record {
   turn = l.turn;
 }
 
--- Each tenant has its two numbers. No more wait than may, and nobody in vain; what is kept for a tenant is among what it uses;
--- and it is a tenant's turn.
+-- Each tenant has its two numbers. No more wait than may, and nobody waits who could have a place. The places kept for
+-- a tenant are among those that it uses. The turn is a tenant's.
 pub record IsQueue (queued : Queued) : Type 0 where
   pub all_wait : length queued.waiting ≡ length queued.loans.used
   pub all_kept : length queued.kept ≡ length queued.loans.used

@@ -129,8 +129,8 @@ impl Allotment {
         }
     }
 
-    /// Takes back a place that the tenant uses, and says whether anyone may have it. Otherwise it is for the tenant alone
-    /// (`laws::given_to_itself`).
+    /// Takes back a place that the tenant uses, and says whether anyone may have it. Otherwise it is only for the
+    /// tenant (`laws::given_to_itself`).
     pub fn give_back(&mut self, tenant: usize) -> bool
         requires tenant { tenant < length self.old.used }
         requires uses { 0 < used_by tenant self.old }

@@ -7,7 +7,7 @@ ghost use Rattle.allotment.specs.Runs.{Call, IsAlike, asks_within, calls_by, tol
 ghost use Rattle.allotment.specs.Waits.{CameBack, IsNextInTurn, Queued, steps_to, waiting_of};
 ghost use Rattle.allotment.specs.WaitsKept.{IsQueue};
 
-/// A tenant that asks for a place only if it uses less than its share gets one each time, whatever calls of others
+/// A tenant that asks for a place only while it uses less than its share gets one each time, whatever calls of others
 /// come between.
 pub fn sure_within_its_share()
     ensures { (tenant : ℕ) (calls : List Call) (loans : Loans) → tenant < length loans.used
@@ -23,9 +23,8 @@ pub fn told_as_alone()
         → told_to tenant calls one ≡ told_to tenant (calls_by tenant calls) other }
 {}
 
-/// What a tenant gives back that used no more than its share is for itself: nobody else gets a place that got none
-/// before. So who wakes the tenant's own threads alone forgets no other. Each lending's loans are covered
-/// (`Lending::is_queue`).
+/// A place of a tenant that used no more than its share is for that tenant: no other tenant gets one that got none
+/// before. So it is enough to wake the tenant's own threads. Each lending's loans are covered (`Lending::is_queue`).
 pub fn given_to_itself()
     ensures { (tenant other : ℕ) (loans : Loans) → tenant < length loans.used → 0 < used_by tenant loans
         → used_by tenant loans ≤ loans.share → IsCovered loans → other ≢ tenant

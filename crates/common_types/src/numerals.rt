@@ -33,7 +33,7 @@ pub fn is_numeral(word: &[u8]) -> bool
     }
 }
 
-/// The value of digits, or 2^64 where it is no less.
+/// The value of digits, or 2^64 if it is at least that.
 pub fn value_of(digits: &[u8]) -> u128
     ensures { result ≡ min (value_of digits.now) (2 ^ 64) }
 {

@@ -24,7 +24,7 @@ fn all_token_bytes(bytes: &[u8]) -> bool
 }
 
 /// Whether the bytes are a token: 1 to 64 letters, digits and `-._~+/=` (RFC 6750, "Authorization Request Header
-/// Field", where `=` may stand anywhere).
+/// Field"; here `=` may come anywhere).
 pub fn is_token(bytes: &[u8]) -> bool
     ensures { result ≡ is_token bytes.now }
 {

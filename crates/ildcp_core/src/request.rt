@@ -31,10 +31,10 @@ fn is_config_condition(condition: &[u8; 32]) -> bool
 }
 
 /// Whether a Prepare of that amount, in the peer's units, and that condition may ask for the
-/// configuration.
+/// configuration. (RFC 0031)
 ///
-/// Errors, in the order of the tests: `NotChild` if the peer is no child, `Amount` if the amount is
-/// not 0, and `Condition` if the condition is not the SHA-256 of 32 zero bytes. (RFC 0031)
+/// Errors, in the order of the tests: `NotChild` if the peer is not a child, `Amount` if the amount
+/// is not 0, `Condition` if the condition is not the SHA-256 of 32 zero bytes.
 pub fn check(child: &Child<'_>, amount: u64, condition: &[u8; 32]) -> Result<(), IldcpFault>
     ensures exact { result ≡ checked_request child.now.role amount condition.now }
     ensures good { IsOk result

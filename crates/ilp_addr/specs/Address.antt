@@ -71,12 +71,12 @@ abbrev pub prefix_segments : List ℕ → List (List ℕ)
 prefix_segments [] = []
 prefix_segments (b ∷ bytes) = segments (b ∷ bytes)
 
--- nothing, a scheme alone, or a scheme and segments
+-- nothing, only a scheme, or a scheme and segments
 abbrev pub ArePrefixParts : List (List ℕ) → Type 0
 ArePrefixParts [] = Unit {0}
 ArePrefixParts (scheme ∷ others) = IsTrue (is_scheme scheme) × IsTrue (list_all is_segment others)
 
--- at most 1,023 bytes: nothing, a scheme alone, or an address
+-- at most 1,023 bytes: nothing, only a scheme, or an address
 pub record IsPrefix (bytes : List ℕ) : Type 0 where
   pub short : length bytes ≤ max_address
   pub parts : ArePrefixParts (prefix_segments bytes)

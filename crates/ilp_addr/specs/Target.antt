@@ -1,5 +1,5 @@
--- Where a peer listens and the token that it is shown: an `http` URL (RFC 9110, 4.2.1) and a bearer token (RFC 6750,
--- 2.1).
+-- The URL at which a peer listens and the token for it: an `http` URL (RFC 9110, 4.2.1) and a bearer token (RFC
+-- 6750, 2.1).
 use Rattle.std.specs.Prelude.{◌≡◌, ◌≤◌, ℕ, ◌+◌, List, [], ◌∷◌, ◌++◌, length, take, drop, slice_index, codes}
 use Rattle.std.specs.Prelude.{Bool, ◌==◌, if◌then◌else◌, IsTrue, Option, Some, None, option_map, ◌&&◌, ◌-◌, nat_le}
 use Rattle.std.specs.List.{list_all, position_or_len}
@@ -130,7 +130,7 @@ pub record IsTarget (url token : List ℕ) (target : Parts) : Type 0 where
   pub names : Names url target.host target.port
   pub is_token : IsTrue (is_token token)
 
--- the target of a URL and a token, where they have one
+-- the target of a URL and a token, if they have one
 unfoldable pub target_in : List ℕ → List ℕ → Option Parts
 target_in url token =
     if is_token token && nat_le (length url) 255

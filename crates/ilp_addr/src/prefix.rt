@@ -87,7 +87,7 @@ impl Prefix {
         }
     }
 
-    /// Gives back the room that the prefix does not need, if the allocator takes it.
+    /// Returns unused capacity to the allocator, if the allocator takes it.
     pub fn shrink(&mut self)
         ensures { self.new ≡ self.old }
     {

@@ -1,4 +1,4 @@
-//! Where a peer listens for packets, and the token that it is shown (RFC 0035).
+//! The URL at which a peer listens for packets, and the token for it (RFC 0035).
 
 ghost use Rattle.std.specs.Prelude.{◌≡◌, ◌≢◌, ◌≤◌, ◌+◌, ◌∷◌, ◌++◌, ◌==◌, ℕ, List, [], length, slice_index, take, drop};
 ghost use Rattle.std.specs.Prelude.{codes, IsTrue, ◌↔◌, MatchOption, option_copied};
@@ -28,8 +28,8 @@ pub enum Host {
     V6(Ipv6Addr),
 }
 
-/// Where a peer listens for packets, and the token that it is shown: a URL `http://HOST/PATH` or
-/// `http://HOST:PORT/PATH` (RFC 9110, 4.2.1) and a bearer token (RFC 6750, 2.1). It keeps both in fixed room.
+/// The URL at which a peer listens for packets, and the token for it: a URL `http://HOST/PATH` or
+/// `http://HOST:PORT/PATH` (RFC 9110, 4.2.1) and a bearer token (RFC 6750, 2.1). Both are stored inline.
 #[derive(Drop)]
 pub struct Target {
     url: Text<MAX_URL>,
@@ -96,7 +96,7 @@ impl Target {
         self.url.as_bytes()
     }
 
-    /// What the URL says between `http://` and the next slash: the host, and the port where the URL has one. At most
+    /// The text of the URL between `http://` and the next slash: the host, and the port if the URL has one. At most
     /// 255 bytes.
     pub fn host(&self) -> &[u8]
         ensures value { result.now ≡ authority_of self.now.url }

@@ -18,10 +18,10 @@ fn octets_size(text: &[u8]) -> usize
     length_size(text.len()) + text.len()
 }
 
-/// Writes the Fulfill of these parts at the front of `out`, each length in the fewest bytes, and gives
+/// Writes the Fulfill of these parts at the front of `out`, each length in the fewest bytes. Returns
 /// the length of its frame, at most 34,000 bytes. Every other byte of `out` stays.
 ///
-/// `payload` has at most 32,768 bytes. The error is `Short` if the frame does not fit; nothing is
+/// `payload` has at most 32,768 bytes. Fails with `Short` if the frame does not fit. Nothing is
 /// written then. (RFC 0027, "ILP Fulfill")
 pub fn write_fulfill(
     out: &mut [u8],
@@ -46,12 +46,12 @@ pub fn write_fulfill(
     Ok(put_octets(out, at + 32, payload))
 }
 
-/// Writes the Reject of these parts at the front of `out`, each length in the fewest bytes, and gives
+/// Writes the Reject of these parts at the front of `out`, each length in the fewest bytes. Returns
 /// the length of its frame. Every other byte of `out` stays.
 ///
-/// `payload` has at most 32,768 bytes, and the whole frame at most 34,000, as it has where the parts
-/// have at most 33,984 together. The error is `Short` if the frame does not fit into `out`; nothing is
-/// written then. (RFC 0027, "ILP Reject")
+/// `payload` has at most 32,768 bytes, and the whole frame at most 34,000. The frame is short enough
+/// if the parts have at most 33,984 bytes together. Fails with `Short` if the frame does not fit into
+/// `out`. Nothing is written then. (RFC 0027, "ILP Reject")
 pub fn write_reject(
     out: &mut [u8],
     code: &[u8; 3],

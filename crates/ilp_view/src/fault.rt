@@ -19,7 +19,7 @@ pub enum ViewFault {
     /// A field is no date, or no address.
     #[error("a field is not a date or not an address")]
     Field,
-    /// Bytes stand after the contents.
+    /// Bytes follow the contents.
     #[error("bytes stand after the end of the packet")]
     AfterEnd,
     /// The frame is over 34,000 bytes, or its data over 32,768.

@@ -1,12 +1,13 @@
 //! The packets of the Interledger (RFC 0027) as views of the bytes that they came in: each part is
-//! lent from the frame, and no reader allocates.
+//! borrowed from the frame, and no reader allocates.
 //!
 //! - [`PrepareView`], [`FulfillView`] and [`RejectView`] read a frame of at most [`MAX_FRAME`] bytes
 //!   with at most [`MAX_DATA`] bytes of data.
-//! - [`PrepareMut`] reads a Prepare in place, and lends its amount and its expiry to be written: so a
+//! - [`PrepareMut`] reads a Prepare in place, and lends its amount and its expiry to be written. So a
 //!   frame is sent on in the bytes that it came in.
 //! - [`write_fulfill`] and [`write_reject`] write the two answers.
-//! - [`ViewFault`] says why a frame could not be read or written; [`laws`] what frames have in common.
+//! - [`ViewFault`] says why a frame could not be read or written. [`laws`] says what all frames have
+//!   in common.
 #![tactic(auto)]
 
 mod answers;

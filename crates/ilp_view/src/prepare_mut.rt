@@ -38,7 +38,7 @@ impl<'a> PrepareMut<'a> {
     ///
     /// The errors are those of [`PrepareView::read`], in the same order. (RFC 0027, "ILP Prepare")
     pub fn read(frame: &'a mut [u8]) -> Result<PrepareMut<'a>, ViewFault>
-        // What is read is the frame, cut where the amount and the expiry of a Prepare lie.
+        // A PrepareMut that is read is the frame, cut at the amount and the expiry of a Prepare.
         ensures found { IfOk result (λ m. (p : Prepare) × IsPrepare frame.old p × (lent_of m ≡ cut_of p)) }
         // Each Prepare is read.
         ensures only { (p : Prepare) → IsPrepare frame.old p → IsOkAnd result (λ m. lent_of m ≡ cut_of p) }
@@ -54,10 +54,10 @@ impl<'a> PrepareMut<'a> {
         Ok(PrepareMut::of_known(frame))
     }
 
-    /// The Prepare that `frame` is, where it is known to be one. (RFC 0027, "ILP Prepare")
+    /// The Prepare that `frame` is. The caller knows that it is one. (RFC 0027, "ILP Prepare")
     pub fn of_known(frame: &'a mut [u8]) -> PrepareMut<'a>
         requires { IsOk (prepare_at frame.old) }
-        // It is cut where the amount and the expiry lie.
+        // It is cut at the amount and the expiry.
         ensures cut { IfOk (prepare_at frame.old) (λ p. lent_of result ≡ cut_of p) }
         // The frame is lent as it is, and ends as what the PrepareMut ends with.
         ensures same_frame { name_of result ≡ frame.entry.ghost_name }

@@ -30,8 +30,8 @@ at xs i = slice_index xs i
 abbrev pub none : ℕ → ℕ
 none i = 0
 
--- Where so many points of each list were taken, and so many of each group: each number of the order takes the next point of
--- that list, which is the next one of its group, and then none is left.
+-- So many points of each list were taken, and so many of each group. Each number of the order takes the next point of
+-- that list, which is the next one of its group. At the end none is left.
 abbrev pub TakesOn : List (List ListPoint) → (taken done : ℕ → ℕ) → (order : List ℕ) → Type 0
 TakesOn lists taken done [] = (i : ℕ) → taken i ≡ length (list_at lists i)
 TakesOn lists taken done (i ∷ order) =

@@ -27,7 +27,7 @@ joined (Some o) = o
 abbrev pub holder_at : List (List (Option ℕ)) → (group place : ℕ) → Option ℕ
 holder_at holders group place = joined (slice_get (list_at holders group) place)
 
--- no list has too many elements to be counted
+-- each list has fewer than 2^63 elements
 abbrev pub AreShort : {A : Type 0} → List (List A) → Type 0
 AreShort lists = (i : ℕ) → length (list_at lists i) < 2 ^ 63
 
@@ -48,7 +48,7 @@ listed (Some x) = x ∷ []
 abbrev pub raised : List ℕ → ℕ → List ℕ
 raised counts i = slice_set counts i (slice_index counts i + 1)
 
--- how many points were taken of each list and each group, in which order, and which lists are still to be looked at
+-- how many points were taken of each list and each group, in which order, and which lists remain to be looked at
 pub record Progress : Type 0 where
   pub taken : List ℕ
   pub done : List ℕ
@@ -90,5 +90,5 @@ pub record IsGoing (lists : List (List ListPoint)) (holders : List (List (Option
   pub no_more : (group place : ℕ) → IsTaken lists (at g.taken) (point group place) → place < at g.done group
   -- what is left and what was taken are all points
   pub counted : length g.order + left_of lists g.taken ≡ points_count lists
-  -- a list that goes on is still to be looked at
+  -- a list that goes on remains to be looked at
   pub waits : (i : ℕ) → IsSome (next_at lists g.taken g.done i) → Contains g.waiting i

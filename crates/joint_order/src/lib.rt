@@ -1,5 +1,5 @@
-//! One order of the points of many lists, which keeps each list's own order and that of each group of points; or a
-//! front at which no list goes on, if there is none.
+//! One order of the points of many lists, which keeps each list's own order and that of each group of points. If
+//! there is none: a front at which no list goes on.
 #![tactic(auto)]
 
 mod joining;

@@ -53,7 +53,7 @@ pub record IsSound (id : ℕ) (v : View) : Type 0 where
   pub joined : v.first ≡ true → v.joins < v.parts
 
 -- the rule: for each tenant and kind the word is the sum of that count over the views of all seats. No seat is lost:
--- the views stand for one seat and one more for each split, of which there are no more than may be
+-- the views count for one seat and one more for each split, and there are at most as many splits as allowed
 pub record Kept (tenants : ℕ) (s : State (Unit {0}) View) : Type 0 where
   pub long : length s.words ≡ 4 * tenants
   pub sums : (tenant : ℕ) (kind : Kind) → tenant < tenants → count_in tenant kind s.words ≡ word_total tenant kind s.views

@@ -1,8 +1,8 @@
-//! Meters: what a connector answered, counted for each tenant and each kind, by threads of which none waits.
+//! Meters: what a connector answered, counted for each tenant and each kind. No thread waits for another to count.
 //!
-//! Each thread counts through a seat of its own, and each count is one word that all threads add to in single atomic
-//! steps. So a word is the sum of what the seats have counted, and where the first seat has joined all others, its
-//! counts are the totals.
+//! Each thread counts through its own seat. Each count is one word that all threads add to in single atomic steps.
+//! So a word is the sum of what the seats have counted. Once the first seat has joined all others, its counts are
+//! the totals.
 #![tactic(auto)]
 
 mod kind;

@@ -45,7 +45,7 @@ impl Rate {
 
     /// The rate of `numerator` outgoing units for `denominator` incoming ones.
     ///
-    /// `Zero` if one of them is 0, else `Limit` if one is over 10^12.
+    /// Errors: `Zero` if one of them is 0, otherwise `Limit` if one is over 10^12.
     pub fn new(numerator: u64, denominator: u64) -> Result<Rate, RateFault>
         ensures { result ≡ rate_at numerator denominator }
     {
@@ -95,7 +95,8 @@ impl Rate {
         amount as u128 * self.numerator as u128 / self.denominator as u128
     }
 
-    /// What `amount` incoming units cost in outgoing ones, less a fee in these; `None` if the price is below the fee.
+    /// The price of `amount` incoming units in outgoing units, less a fee in outgoing units. `None` if the price is
+    /// below the fee.
     pub fn price_less(self, amount: u64, fee: u64) -> Option<u128>
         ensures left { IfSome result (λ left. left + fee ≡ price_of self amount) }
         ensures below { IfNone result (price_of self amount < fee) }

@@ -14,8 +14,8 @@ big_endian bytes = fold (λ n b. n * 256 + b) 0 bytes
 abbrev pub AreBytes : List ℕ → Type 0
 AreBytes bytes = (i : ℕ) → slice_index bytes i < 256
 
--- The bytes spell the length n: one byte below 128, or 128 + k and then n in k bytes, of which more may
--- stand than n needs (RFC 0030, "Variable-Length Octet Strings"; X.696, 8.6).
+-- The bytes spell the length n: one byte below 128, or 128 + k and then n in k bytes, which may be more than n
+-- needs (RFC 0030, "Variable-Length Octet Strings"; X.696, 8.6).
 abbrev pub IsLength : List ℕ → ℕ → Type 0
 IsLength [] n = ⊥
 IsLength (b ∷ bytes) n =

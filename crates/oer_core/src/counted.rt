@@ -49,7 +49,7 @@ impl<D: Read> Read for Counted<D> {
     fn read(&mut self, buf: &mut [u8]) -> io::Result<usize>
         ensures bound { ReadsAtMost result buf.new }
         ensures bytes { ReadConsumes (D.remaining self.old.inner) (D.remaining self.new.inner) result buf.new }
-        // An error is counted, and nothing else.
+        // Only an error is counted.
         ensures counted { self.new.failures ≡ count_after (is_err result) self.old.failures }
     {
         let result = self.inner.read(buf);
@@ -64,7 +64,8 @@ impl<D: Write> Write for Counted<D> {
     fn write(&mut self, buf: &[u8]) -> io::Result<usize>
         ensures bound { WritesAtMost result buf.now }
         ensures bytes { WriteAppends (D.contents self.old.inner) (D.contents self.new.inner) result buf.now }
-        // An error is counted, and a write of some bytes that takes none, and nothing else.
+        // An error is counted, and so is a write of some bytes that takes none. Nothing else is
+        // counted.
         ensures counted { self.new.failures ≡ count_after (takes_nothing result buf.now) self.old.failures }
     {
         let result = self.inner.write(buf);

@@ -6,8 +6,8 @@ pub trait Device {
     ghost failure_count: { Self → ℕ };
 
     /// How many reads and writes of this device have failed. The count rises by one with each fault
-    /// that a read or a write gives, a write of one byte or more that takes none being one, and with
-    /// nothing else. An implementor keeps it below 2^62.
+    /// of a read or a write, and only then. A write of one byte or more that takes none is a fault.
+    /// An implementor keeps the count below 2^62.
     fn failures(&self) -> u64
         ensures { result ≡ failure_count self.now };
 }

@@ -2,13 +2,13 @@
 
 ghost use Rattle.oer_core.specs.Laws.{LengthLaws, NumberLaws, WritingLaws};
 
-/// What is read as a length is spelled so and the other way round, no spelling of a length begins
-/// another, and the shortest is one. (RFC 0030)
+/// A length is read exactly as it is spelled. No spelling of a length begins another, and the
+/// shortest is one. (RFC 0030)
 pub fn lengths()
     ensures { LengthLaws }
 {}
 
-/// What is read as a number of eight bytes is spelled so, and the other way round. (RFC 0030)
+/// A number of eight bytes is read exactly as it is spelled. (RFC 0030)
 pub fn numbers()
     ensures { NumberLaws }
 {}

@@ -43,12 +43,12 @@ pub record IsAnsweredByAnother (own : Done) (hold : ℕ) (steps : List Done) : T
   pub others : All (λ e. e.worker ≢ own.worker) later
   pub answered : Any (IsAnswerTo hold) later
 
--- what became of a hold that a step began, and that is awaited no longer where the steps led to
+-- the fate of a hold that a step began, and that the last state does not await any longer
 pub record HoldLaws : Type 0 where
   -- a later step was an answer to it
   pub answered : (o : Opening) (earlier later : List Done) (e : Done) (s : State) (n : ℕ)
       → IsHistory o (earlier ++ e ∷ later) s → BeginsHold n e → is_awaited s n ≡ false → Any (IsAnswerTo n) later
-  -- where its worker has done nothing since, that was another worker's
+  -- if its worker has done nothing since, another worker answered it
   pub by_another : (o : Opening) (steps before : List Done) (e : Done) (s : State) (n : ℕ)
       → IsHistory o steps s → of_worker e.worker steps ≡ before ++ e ∷ [] → BeginsHold n e → is_awaited s n ≡ false
       → IsAnsweredByAnother e n steps
@@ -56,7 +56,7 @@ pub record HoldLaws : Type 0 where
   pub held : (o : Opening) (steps before : List Done) (e : Done) (s : State) (n : ℕ)
       → IsHistory o steps s → of_worker e.worker steps ≡ before ++ e ∷ [] → BeginsHold n e → holder n steps ≡ Some e.worker
 
--- where workers answer only packets that they sent on themselves
+-- if workers answer only packets that they sent on themselves
 pub record OwnAnswerLaws : Type 0 where
   -- one step more leaves that so, unless it answers another's packet
   pub goes_on : (steps : List Done) (e : Done)

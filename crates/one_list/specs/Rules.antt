@@ -44,7 +44,7 @@ abbrev pub AllFit : List Done → List Claim → Type 0
 AllFit log [] = Unit {0}
 AllFit log (c ∷ cs) = Fits log c × AllFit log cs
 
--- the claim speaks of a worker, or else of a tenant, as is asked
+-- the claim is of a worker, or of a tenant, as asked
 abbrev pub is_kind : Bool → Claim → Bool
 is_kind of_worker c = cond of_worker c.of_worker (not c.of_worker)
 

@@ -1,4 +1,4 @@
-//! The list of a run, and the parts of it that are still to be handed out.
+//! The list of a run, and the parts of it that are not handed out yet.
 
 ghost use Rattle.std.specs.Prelude.{◌≡◌, ◌+◌, ◌^◌, ◌<◌, ◌≤◌, ℕ, true, false, List, [], ◌∷◌, ◌++◌};
 ghost use Rattle.one_list.specs.declared.step.Beginning.{Beginning};
@@ -112,8 +112,8 @@ impl<J: Run> Chronicle<J> {
         WorkerPart::new(number, pass)
     }
 
-    /// Adds the last record of the journal of that period to the list, as a step of this tenant by this worker. It can't fail
-    /// and takes no memory.
+    /// Adds the last record of the journal of that period to the list, as a step of this tenant by this worker. It
+    /// can't fail and allocates nothing.
     pub fn record(
         &self,
         tenant: &mut TenantPart<J>,
@@ -131,8 +131,8 @@ impl<J: Run> Chronicle<J> {
         worker.pass = theirs.into_badge();
     }
 
-    /// A tenant's part and a worker's part meet. The tenant's steps by the worker are the worker's steps of the
-    /// tenant, in one order; and the worker's part keeps which steps of the tenant it has met. It allocates nothing.
+    /// A tenant's part and a worker's part meet. The tenant's steps by the worker are the worker's steps for the
+    /// tenant, in one order. The worker's part keeps which steps of the tenant it has met. It allocates nothing.
     pub fn meet(&self, tenant: &mut TenantPart<J>, worker: &mut WorkerPart<J>)
         ensures tenant { tenant.new ≡ tenant.old }
         ensures worker { worker.new ≡ has_met worker.old tenant.old }

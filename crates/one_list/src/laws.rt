@@ -21,7 +21,7 @@ pub fn answered_holds()
     ensures { HoldLaws }
 {}
 
-/// Where each worker answers only packets that it sent on itself, a packet is awaited until its worker answers it.
+/// If each worker answers only packets that it sent on itself, a packet is awaited until its worker answers it.
 pub fn own_answers()
     ensures { OwnAnswerLaws }
 {}

@@ -1,8 +1,8 @@
-//! One list of all that happened in the books of many tenants, whichever thread did it. It is known to the proofs alone: a
-//! step takes no memory, and nothing of the list is kept.
+//! One list of all that happened in the books of many tenants, whichever thread did it. Only the proofs know it: at
+//! run time a step allocates nothing, and nothing of the list is kept.
 //!
-//! Each tenant and each worker has a part of the list. A step is added through a tenant's part and a worker's part at once,
-//! in the order in which they are handed about; what a part has at the end is what the one list has of it.
+//! Each tenant and each worker has a part of the list. A step is added through a tenant's part and a worker's part at
+//! once, in the order in which the parts are passed around. What a part has at the end is what the one list has of it.
 #![tactic(auto)]
 
 mod chronicle;

@@ -37,7 +37,7 @@ credit_at b now =
     min (b.credit + gained b.per_second b.start now - packet * length b.admitted)
     (windows_left b.burst b.per_second now b.admitted)
 
--- a packet is admitted where the credit is a whole packet
+-- a packet is admitted if the credit is at least a whole packet
 abbrev pub is_admitted : Stretch → ℕ → Bool
 is_admitted b now = nat_le packet (credit_at b now)
 

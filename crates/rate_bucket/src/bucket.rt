@@ -99,7 +99,7 @@ impl Bucket {
         (self.credit as u128 + gained).min(full as u128) as u64
     }
 
-    /// Admits a packet at a clock that is not before the last one, where there is credit for it, and takes its cost. A
+    /// Admits a packet at a clock that is not before the last one, if there is credit for it, and takes its cost. A
     /// refused packet changes nothing.
     pub fn admit(&mut self, now: u64) -> bool
         requires { self.old.clock ≤ now }

@@ -12,7 +12,7 @@ use Rattle.receipt_text.specs.ReceiptText.{receipts_text}
 use Rattle.receipt_text.specs.declared.fault.ReceiptsFault.{ReceiptsFault}
 use Rattle.receipt_text.specs.declared.fault.ReceiptsFault.TheVariants.{Text, Audit}
 
--- there are receipts of which that is the text, word for word, and an audit of them by these periods says yes
+-- there are receipts with exactly this text, and an audit of them by these periods says yes
 pub record IsAuditedText (periods : List PeriodParts) (text : List ℕ) (a : Audited) : Type 0 where
   pub lists : List (List Receipt)
   pub written : text ≡ receipts_text lists

@@ -27,7 +27,7 @@ fn code_in(word: &[u8]) -> Option<RejectCode> {
     None
 }
 
-// Both amounts of a refusal, where it names them.
+// Both amounts of a refusal, if it names them.
 fn refusal_in(words: &mut LineWords<'_>) -> Option<Verdict> {
     let code = code_in(words.next()?)?;
     let amounts = match words.number() {

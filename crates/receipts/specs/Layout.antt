@@ -51,7 +51,7 @@ IsFault periods lists Differs = ShowsAnother periods lists
 IsFault periods lists (Order front) = AreMatched periods lists × IsStuckAt periods lists (at front.items)
 IsFault periods lists Memory = ⊤
 
--- a fault of the periods alone: a gap, or out of memory
+-- a fault of the periods: a gap, or out of memory
 abbrev pub IsGap : List PeriodParts → AuditFault → Type 0
 IsGap periods Gap = HasGap periods
 IsGap periods Memory = ⊤

@@ -13,7 +13,7 @@ abbrev pub led_by : Option Receipt → List Receipt → List Receipt
 led_by None rs = rs
 led_by (Some r) rs = r ∷ rs
 
--- the receipts in an order, where so many of each list were taken before: each number takes the next one of that list
+-- the receipts in an order, after so many of each list were taken: each number takes the next one of that list
 abbrev pub taken_in : List (List Receipt) → (taken : ℕ → ℕ) → (order : List ℕ) → List Receipt
 taken_in lists taken [] = []
 taken_in lists taken (i ∷ order) = led_by (slice_get (list_at lists i) (taken i)) (taken_in lists (one_more taken i) order)

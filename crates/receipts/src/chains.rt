@@ -33,7 +33,7 @@ fn note(index: &mut Index, periods: &[Period], k: usize) -> Result<(), AuditFaul
     Ok(())
 }
 
-/// Where the periods stand, by tenant and number. `Gap` if two have the same.
+/// The places of the periods, by tenant and number. `Gap` if two have the same.
 pub(crate) fn index_of(alloc: Global, periods: &[Period]) -> Result<Index, AuditFault>
     ensures index { IfOk result (λ index. IsIndexUpTo index periods.now (length periods.now)) }
     ensures gap { IfErr result (IsGap periods.now) }

@@ -43,7 +43,7 @@ impl Holders {
         Ok(())
     }
 
-    /// The list that holds the receipt of the entry at that place, if it is known; nothing if there is no such place.
+    /// The list that holds the receipt of the entry at that place, if it is known; `None` if there is no such place.
     pub(crate) fn get(&self, tenant: usize, place: usize) -> Option<Option<usize>>
         ensures { result ≡ slice_get (list_at self.now tenant) place }
     {

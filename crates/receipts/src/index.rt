@@ -7,7 +7,7 @@ use std::alloc::{AllocError, Global};
 use std::collections::BTreeMap;
 use tenant_core::limits::MAX_TENANTS;
 
-/// Of each tenant's periods, by their numbers, the places at which they stand.
+/// The places of each tenant's periods, by their numbers.
 #[derive(Drop)]
 pub(crate) struct Index {
     places: Vec<BTreeMap<u64, usize>>,

@@ -76,8 +76,8 @@ impl Ledger {
         Ok(())
     }
 
-    /// Keeps the receipt of the last record of that period's journal, in the room that was made for it. Nothing is kept where
-    /// there is no record.
+    /// Keeps the receipt of the last record of that period's journal, in the room that was made for it. Keeps nothing
+    /// if there is no record.
     pub fn keep(&mut self, tenant: usize, period: u64, journal: &Journal)
         requires room { 0 < self.old.room }
         ensures receipts { self.new.receipts ≡ self.old.receipts ++ last_receipt tenant period journal.now.records }

@@ -1,10 +1,11 @@
-//! The routes of one operator: where packets for a prefix go, and the best route of an address
-//! (RFC 0015, "Address Prefixes").
+//! The routes of one operator: where packets for a prefix go, and the best route of an address (RFC
+//! 0015, "Address Prefixes").
 //!
-//! - [`Routes`] maps at most [`MAX_ROUTES`] prefixes to a [`Hop`], a peer's number and a fee;
-//!   [`Routes::find`] gives the hop of the longest prefix that begins an address.
-//! - [`Routes::list`] gives each [`Route`] once.
-//! - [`RouteFault`] says why a route was not added or not removed; [`laws`] what the best route is.
+//! - [`Routes`] maps at most [`MAX_ROUTES`] prefixes to a [`Hop`], a peer's number and a fee.
+//! - [`Routes::find`] returns the hop of the longest prefix that begins an address.
+//! - [`Routes::list`] returns each [`Route`] once.
+//! - [`RouteFault`] says why a route was not added or not removed. [`laws`] says what the best
+//!   route is.
 #![tactic(auto)]
 
 mod fault;

@@ -83,8 +83,7 @@ impl Routes {
     /// Sends packets for the prefix on by the hop.
     ///
     /// Errors, in the order of the tests: `Present` if the prefix has a route, `Full` if there are
-    /// 4,096 routes, and `Memory` if there is no memory for one more. An error leaves the routes as
-    /// they were.
+    /// 4,096 routes, `Memory` if it is out of memory. An error leaves the routes as they were.
     pub fn add(&mut self, prefix: Prefix, hop: Hop) -> Result<(), RouteFault>
         ensures added { OnOk result (self.new ≡ insert self.old prefix hop) }
         ensures unchanged { OnErr result (self.new ≡ self.old) }
@@ -107,11 +106,11 @@ impl Routes {
         Ok(())
     }
 
-    /// Takes away the route of the prefix.
+    /// Removes the route of the prefix.
     ///
-    /// Errors, in the order of the tests: `Absent` if the prefix has no route, and `Memory` if
-    /// nodes are shared with a copy and there is no memory for nodes of one's own. An error leaves
-    /// the routes as they were.
+    /// Errors, in the order of the tests: `Absent` if the prefix has no route, `Memory` if nodes
+    /// are shared with a copy and it is out of memory for its own. An error leaves the routes as
+    /// they were.
     pub fn remove(&mut self, prefix: &Prefix) -> Result<(), RouteFault>
         ensures removed { OnOk result (self.new ≡ remove self.old prefix.now) }
         ensures unchanged { OnErr result (self.new ≡ self.old) }
@@ -130,8 +129,8 @@ impl Routes {
         Ok(())
     }
 
-    /// The hop of the best route: of the prefixes that begin the destination the one with the most
-    /// segments (RFC 0015, "Address Prefixes"). `None` if no prefix begins it.
+    /// The hop of the best route: among the prefixes that begin the destination, the one with the
+    /// most segments (RFC 0015, "Address Prefixes"). `None` if no prefix begins it.
     pub fn find(&self, destination: &Address<'_>) -> Option<Hop>
         ensures exact { result ≡ best_route self.now destination.now }
         ensures found { IfSome result (λ hop.
