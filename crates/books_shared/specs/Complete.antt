@@ -26,7 +26,7 @@ abbrev pub closed_by : State → List Done → List PeriodParts
 closed_by s [] = []
 closed_by s (e ∷ es) = closed_at e.made.entry s ++ closed_by (after_record s e.made) es
 
--- those of the tenants from that number on, one tenant's after the other's, where these are the tenants' first openings
+-- those of the tenants from that number on, one tenant's after the other's; these are the tenants' first openings
 abbrev pub closed_from : (tenant : ℕ) → List Opening → List Done → List PeriodParts
 closed_from tenant [] log = []
 closed_from tenant (o ∷ os) log = closed_by (opened o) (of_tenant tenant log) ++ closed_from (tenant + 1) os log

@@ -49,15 +49,15 @@ abbrev pub tick_rise : Result ℕ BookFault → Rise
 tick_rise (Ok count) = an_entry
 tick_rise (Err fault) = nothing
 
--- the rise that a command brings: an entry where it was done, a roll's too
+-- the rise of a command: an entry if it was done, also for a roll
 abbrev pub command_rise : Result Answered CommandFault → Rise
 command_rise (Ok Done) = an_entry
 command_rise (Ok (Balances rows)) = nothing
 command_rise (Ok (Rolled period)) = an_entry
 command_rise (Err fault) = nothing
 
--- how many entries of a closed period there are after a command, where the period had so many: after a roll, the roll's
--- own is among them
+-- how many entries a command closed, if the period had so many before it: a roll closes these and its own, others
+-- close none
 abbrev pub entries_closed : Result Answered CommandFault → ℕ → ℕ
 entries_closed (Ok (Rolled period)) entries = entries + 1
 entries_closed _ entries = 0

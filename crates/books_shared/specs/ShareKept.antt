@@ -20,7 +20,8 @@ pub record IsRoomy (entries unknown refused : List ℕ) (room : ℕ) : Type 0 wh
 abbrev pub AreTallied : List ℕ → List Done → Type 0
 AreTallied counts steps = (t : ℕ) → t < max_tenants → slice_index counts t ≡ count_by (λ e. e.tenant == t) steps
 
--- the receipts, where they are kept, are those of the steps, and there is room for those of the calls to come
+-- the receipts, if they are kept, are those of the steps, and there is room for those of the calls that
+-- follow
 abbrev pub IsLedgerOf : Option LedgerView → List Done → ℕ → Type 0
 IsLedgerOf None steps room = Unit {0}
 IsLedgerOf (Some ledger) steps room = (ledger.receipts ≡ receipts_told steps) × (room ≤ ledger.room)
@@ -32,7 +33,7 @@ HasMadeRoom (Ok made) (Some before) (Some after) = (after.receipts ≡ before.re
 HasMadeRoom (Err refused) (Some before) (Some after) = (after.receipts ≡ before.receipts) × (before.room ≤ after.room)
 HasMadeRoom r (Some before) None = ⊥
 
--- these receipts more were kept, in room that was made for one, where receipts are kept
+-- these receipts more were kept, in the room that was made for one, if receipts are kept
 abbrev pub HasKept : (before after : Option LedgerView) → List Receipt → Type 0
 HasKept None after more = after ≡ None
 HasKept (Some before) (Some after) more = (after.receipts ≡ before.receipts ++ more) × (before.room ≤ after.room + 1)

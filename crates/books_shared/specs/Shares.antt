@@ -87,8 +87,8 @@ has_full counts = list_any (nat_le max_count) counts
 abbrev pub is_spent : ShareView → Bool
 is_spent s = has_full s.counts || has_full s.strangers || has_full s.full
 
--- what came of asking for room: there is room for two calls; or nothing has changed, since a count is full, or since memory
--- for receipts was refused
+-- the result of asking for room: there is room for two calls; or nothing has changed, because a count is full or
+-- because it is out of memory for receipts
 abbrev pub IsRoomMade : Result (Unit {0}) RoomFault → (before after : ShareView) → Type 0
 IsRoomMade (Ok made) before after = (is_spent before ≡ false) × (after ≡ record before { room = 2 })
 IsRoomMade (Err Spent) before after = (is_spent before ≡ true) × (after ≡ before)
@@ -104,6 +104,6 @@ receipt_told e = receipt_of e.tenant e.period e.number e.made
 abbrev pub receipts_told : List Done → List Receipt
 receipts_told steps = map receipt_told steps
 
--- the receipts that a worker has, where it keeps them: of each of its steps, in their order
+-- the receipts that a worker has, if it keeps them: of each of its steps, in their order
 abbrev pub receipts_in : ShareView → Option (List Receipt)
 receipts_in s = if s.audited then Some (receipts_told s.steps) else None

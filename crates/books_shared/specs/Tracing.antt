@@ -8,18 +8,20 @@ use Rattle.tenant_core.specs.declared.journal.Record.{Record}
 use Rattle.one_list.specs.Steps.{done_last}
 use Rattle.one_list.specs.declared.step.Done.{Done as Step}
 
--- of a call that appended so many entries, where these are the period's records after it: the last of them, if it appended any
+-- the steps of a call that appended so many entries, by the period's records after it: of the last one, if it appended
+-- any
 abbrev pub told_by : ℕ → (worker tenant period : ℕ) → List Record → List Step
 told_by zero worker tenant period records = []
 told_by (suc n) worker tenant period records = done_last worker tenant period records
 
--- of a command with that answer, where this is the state after it: the change's record, or the closed period's last one
+-- the steps of a command with that answer, by the state after it: of the change's record, or of the closed period's
+-- last one
 abbrev pub told_of : Result Answered CommandFault → (worker tenant : ℕ) → State → List Step
 told_of (Ok Done) worker tenant s = done_last worker tenant s.opening.period s.records
 told_of (Ok (Rolled period)) worker tenant s = done_last worker tenant period.opening.period period.records
 told_of _ worker tenant s = []
 
--- of which there is one, where an entry was appended
+-- there is such a record, if an entry was appended
 abbrev pub HasAppended : Result Answered CommandFault → State → Type 0
 HasAppended (Ok Done) s = 0 < length s.records
 HasAppended (Ok (Rolled period)) s = 0 < length period.records

@@ -120,7 +120,7 @@ impl<J: Run> Guard<'_, J> {
             (decide_call slot.old self.old.state now).made share.old }
         ensures number { number_of self.new
             ≡ number_of self.old + (rise_of (decide_call slot.old self.old.state now)).entries }
-        // What is known of the slot from the turn alone.
+        // The slot, as the turn says it.
         ensures left { IsLeft result slot.old slot.new }
     {
         self.kept.decide(self.chronicle, share, slot, now)
@@ -144,7 +144,7 @@ impl<J: Run> Guard<'_, J> {
             (answer_call slot.old self.old.state now got).made share.old }
         ensures number { number_of self.new
             ≡ number_of self.old + (rise_of (answer_call slot.old self.old.state now got)).entries }
-        // What is known of the slot from the turn alone.
+        // The slot, as the turn says it.
         ensures left { IsEnded result slot.old slot.new }
     {
         self.kept.answer(self.chronicle, share, slot, now, got)

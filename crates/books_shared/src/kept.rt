@@ -236,7 +236,7 @@ impl<J: Run> Kept<J> {
     }
 }
 
-// Counts what a call added that left the book so: where it appended an entry, the book's last record is a step of the one list.
+// Counts what a call added to a book. If it appended an entry, the book's last record is a step of the one list.
 fn trace<J: Run>(
     chronicle: &Chronicle<J>,
     part: &mut TenantPart<J>,

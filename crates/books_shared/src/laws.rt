@@ -52,7 +52,7 @@ pub fn events_make_records()
     ensures { (s : Tenant) (event : Event) → (after_alone s event).book ≡ after_made s.book (made_alone s event) }
 {}
 
-/// The openings of the tenants are where a floor of theirs begins.
+/// A floor of the tenants begins with their openings.
 pub fn floors_begin_so()
     ensures { (setups : List TenantTerms) (start : ℕ)
         → world_opened (openings_of setups start) ≡ world_at_start setups start }

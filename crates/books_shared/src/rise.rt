@@ -72,7 +72,8 @@ pub fn command_rise(answer: &Result<Answered, CommandFault>) -> Rise
     }
 }
 
-/// How many entries of a closed period there are after a command with that answer, where the period had so many.
+/// How many entries a command with that answer closed, if the period had so many before it: a roll closes these
+/// and its own, others close none.
 pub fn entries_closed(answer: &Result<Answered, CommandFault>, entries: u64) -> u64
     requires { entries < 2 ^ 47 }
     ensures { result ≡ entries_closed answer.now entries }

@@ -25,7 +25,7 @@ pub enum RoomFault {
     /// One of the worker's counts is full: 2^47 or more.
     #[error("a worker's count is full")]
     Spent,
-    /// Memory for receipts was refused. It is answered where they are kept alone.
+    /// Out of memory for receipts. Only a share that keeps receipts returns it.
     #[error("out of memory")]
     Memory,
 }
@@ -91,7 +91,7 @@ impl<J: Run> Share<J> {
     ghost use Rattle.books_shared.specs.Tracing.{told_by};
     ghost use Rattle.one_list.specs.Steps.{grown, of_tenant, of_worker};
 
-    // The share of a worker that has counted nothing. It keeps receipts where that is asked.
+    // The share of a worker that has counted nothing. It keeps receipts if `audited`.
     pub(crate) fn fresh(alloc: Global, part: WorkerPart<J>, audited: bool) -> Share<J>
         requires { part ≡ record { number = part.number; steps = []; met = [] } }
         ensures { result ≡ fresh audited part.number }
@@ -150,8 +150,8 @@ impl<J: Run> Share<J> {
         self.ledger.is_some()
     }
 
-    /// The receipts of all that the worker did to the books, in its order, where the run is audited: of each of its steps in the
-    /// one list, and nothing else.
+    /// The receipts of all that the worker did to the books, in its order, if the run is audited: one for each of its
+    /// steps in the one list, and no others.
     pub fn receipts(&self) -> Option<&[Receipt]>
         ensures { option_map (λ list. list.now) result ≡ receipts_in self.now }
     {
@@ -177,8 +177,8 @@ impl<J: Run> Share<J> {
         Ok(())
     }
 
-    // Counts what a call adds for a tenant. Where it appended an entry, the last record of that period's journal is added to
-    // the one list, and its receipt is kept where receipts are.
+    // Counts what a call adds for a tenant. If it appended an entry, the last record of that period's journal is added
+    // to the one list, and its receipt is kept if receipts are.
     pub(crate) fn add(
         &mut self,
         chronicle: &Chronicle<J>,
@@ -246,7 +246,7 @@ fn new_ledger(alloc: Global, audited: bool) -> Option<Ledger>
     }
 }
 
-// Makes room for two receipts, where they are kept.
+// Makes room for two receipts, if they are kept.
 fn make_room(ledger: &mut Option<Ledger>, alloc: Global) -> Result<(), AllocError>
     ensures { HasMadeRoom result ledger.old ledger.new }
 {
@@ -256,7 +256,7 @@ fn make_room(ledger: &mut Option<Ledger>, alloc: Global) -> Result<(), AllocErro
     }
 }
 
-// Keeps the receipt of the last record of that period's journal, where receipts are kept.
+// Keeps the receipt of the last record of that period's journal, if receipts are kept.
 fn keep(ledger: &mut Option<Ledger>, tenant: usize, period: u64, journal: &Journal)
     requires { IfSome ledger.old (λ kept. 0 < kept.room) }
     ensures { HasKept ledger.old ledger.new (last_receipt tenant period journal.now.records) }
@@ -266,8 +266,8 @@ fn keep(ledger: &mut Option<Ledger>, tenant: usize, period: u64, journal: &Journ
     }
 }
 
-// Adds the last record of that period's journal to the one list, where a call appended an entry, and keeps its receipt, where
-// receipts are kept.
+// If a call appended an entry, adds the last record of that period's journal to the one list, and keeps its receipt,
+// if receipts are kept.
 fn tell<J: Run>(
     chronicle: &Chronicle<J>,
     tenant: &mut TenantPart<J>,

@@ -143,7 +143,7 @@ pub record IsWhole (f : FloorState) : Type 0 where
   pub sound : IsSound f
   pub tenants : (t : ℕ) → CallsMatchHolds (tenant_of f t)
 
--- what a slot carries is of a tenant that is there, and where it waits the book awaits the answer
+-- the tenant of a slot's call is there, and if the slot waits, the tenant's book awaits the answer
 abbrev pub IsMet : Job → List State → Type 0
 IsMet Job.NoJob books = Unit {0}
 IsMet (Job.Carries t token frame) books =

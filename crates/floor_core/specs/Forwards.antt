@@ -35,8 +35,8 @@ abbrev pub SendsForward : (ℕ → List ℕ) → Step → Output → Type 0
 SendsForward frames step (Send tenant peer hold frame) = IsForwardBy frames step frame
 SendsForward frames step output = Unit {0}
 
--- each frame that these steps send on is the one that its worker took in last, with another amount and another expiry, where
--- these frames are those that workers took in before the first step
+-- each frame that these steps send on is the one that its worker took in last, with another amount and another expiry;
+-- `frames` are those that the workers took in before the first step
 abbrev pub AreForwards : (frames : ℕ → List ℕ) → List Step → List Output → Type 0
 AreForwards frames [] outputs = Unit {0}
 AreForwards frames (s ∷ ss) [] = Unit {0}
@@ -50,7 +50,7 @@ no_frames worker = []
 abbrev pub frames_on : FloorState → ℕ → List ℕ
 frames_on f worker = frame_of (seat_at f worker).slot.job
 
--- a worker took this frame in as that call: the tenant is there and has loaded the call, and where it may be decided, the
+-- a worker took this frame in as that call: the tenant is there and has loaded the call, and if it may be decided, the
 -- frame is its packet
 pub record HasTaken (tenants : ℕ) (world : World) (frame : List ℕ) (t call : ℕ) : Type 0 where
   pub there : t < tenants
@@ -58,7 +58,8 @@ pub record HasTaken (tenants : ℕ) (world : World) (frame : List ℕ) (t call :
   pub packet : (token : List ℕ) (p : Prepare) → (world.tenants t).calls call ≡ Some (Stage.Ready token p)
       → IsPrepare frame p
 
--- these are the frames that the workers took in, each as the call that it has in hand; and tenants stand at their numbers
+-- these are the frames that the workers took in, each as the call that it has in hand; and each tenant has its own
+-- number
 pub record AreTaken (tenants : ℕ) (world : World) (frames : ℕ → List ℕ) : Type 0 where
   pub numbered : (t : ℕ) → t < tenants → number_of (world.tenants t) ≡ t
   pub each : (worker t call : ℕ) → world.hands worker ≡ Hand.Has t call

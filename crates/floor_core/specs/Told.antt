@@ -1,4 +1,4 @@
--- What a step of a floor told, whose bytes are still its worker's.
+-- The output of a step of a floor, whose bytes are still its worker's.
 use Rattle.std.specs.Prelude.{List}
 use Rattle.floor_core.specs.FloorView.{seat_in}
 use Rattle.floor_core.specs.Work.{frame_of}

@@ -95,8 +95,8 @@ loaded w tenant token bytes = loaded_as w tenant token bytes (load_result w.job 
 
 -- ---- the results of calls
 
--- what a call of a slot with a tenant's book is answered with, what it leaves of the slot, and the record that it makes in
--- the book, if it makes one: nothing else of the book changes
+-- the result of a call of a slot with a tenant's book: its turn, the slot after it, and the record that it makes in
+-- the book, if any; nothing else of the book changes
 pub record Called : Type 0 where
   pub turn : Turn
   pub work : Work

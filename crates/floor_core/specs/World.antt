@@ -129,7 +129,7 @@ settled_reply address bytes _ = []
 
 -- ---- the effects of events
 
--- what is said of an event, where it leaves the tenant, and the record that it makes in the book, if it makes one
+-- the result of an event: its output, the tenant after it, and the record that it makes in the book, if any
 pub record Effect : Type 0 where
   pub output : Output
   pub after : Tenant
@@ -210,7 +210,7 @@ effect_of s (Governs now command) =
 abbrev pub reply_alone : Tenant → Event → Output
 reply_alone s e = (effect_of s e).output
 
--- where an event leaves it
+-- the tenant after an event
 abbrev pub after_alone : Tenant → Event → Tenant
 after_alone s e = (effect_of s e).after
 
@@ -219,7 +219,7 @@ abbrev pub run_alone : Tenant → List Event → List Output
 run_alone s [] = []
 run_alone s (e ∷ es) = reply_alone s e ∷ run_alone (after_alone s e) es
 
--- where events leave it
+-- the tenant after events
 abbrev pub left_alone : Tenant → List Event → Tenant
 left_alone s [] = s
 left_alone s (e ∷ es) = left_alone (after_alone s e) es
@@ -241,13 +241,13 @@ load_owner Free tenant token bytes = Own tenant (Arrives token bytes)
 load_owner (Has t call) tenant token bytes = Nobody Busy
 load_owner (Awaits t call) tenant token bytes = Nobody Busy
 
--- a decide is of the call in hand, where that is ready
+-- a decide is of the call in hand, if that is ready
 abbrev pub decide_owner : Hand → ℕ → Owner
 decide_owner Free now = Nobody Idle
 decide_owner (Has t call) now = Own t (Decides call now)
 decide_owner (Awaits t call) now = Nobody Idle
 
--- an answer is to the call in hand, where that awaits one
+-- an answer is to the call in hand, if that awaits one
 abbrev pub answer_owner : Hand → ℕ → Given → Owner
 answer_owner (Awaits t call) now given = Own t (Answers call now given)
 answer_owner _ now given = Nobody Idle
@@ -370,8 +370,8 @@ tenant_at_start start t (Some terms) = new_tenant (opened (opening_of t terms st
 abbrev pub world_at_start : List TenantTerms → ℕ → World
 world_at_start setups start = record { tenants = λ t. tenant_at_start start t (slice_get setups t); hands = all_free }
 
--- The outputs of these steps in that world: there is one for each step, each tenant sees what the one-tenant connector
--- says to the tenant's own steps alone, and nobody's steps have nobody's outputs.
+-- The outputs of these steps in that world: there is one for each step. Each tenant sees what the one-tenant connector
+-- says to the tenant's own steps alone. A step that is nobody's has nobody's output.
 pub record AreOutputs (world : World) (steps : List Step) (outputs : List Output) : Type 0 where
   pub each_step : length outputs ≡ length steps
   pub alone : (t : ℕ) → seen_by t (owners world.hands steps outputs) outputs

@@ -402,7 +402,7 @@ impl Floor {
         }
     }
 
-    // The output that a step told, whose bytes are copied into room that was taken for them.
+    // The output of a step, with its bytes copied into a buffer that was allocated for them.
     fn output(&self, told: Told, room: Vec<u8>) -> Output
         requires empty { room.items ≡ [] }
         requires fits { max_frame ≤ vec_capacity room }

@@ -10,7 +10,7 @@ pub enum LoadFault {
     /// The slot carries a call already.
     #[error("a call is carried already")]
     Busy,
-    /// The token is none: it has no byte or over 64, or one that no token has.
+    /// The token is malformed: it has no byte or over 64, or a byte that no token may have.
     #[error("the token is malformed")]
     Token,
     /// The frame is no Prepare.

@@ -1,4 +1,4 @@
-//! What the connector itself answers to a Prepare, written where it is sent from.
+//! What the connector itself answers to a Prepare, written into the buffer that it is sent from.
 
 ghost use Rattle.std.specs.Prelude.{◌≡◌, ◌≤◌, List, ℕ, length, take};
 ghost use Rattle.oer_core.specs.Writing.{Writes};

@@ -152,8 +152,11 @@ impl Slot {
 
     /// Takes in a frame that came for a tenant, with the token that the sender showed.
     ///
-    /// Errors, in the order of the tests: `Busy` if the slot carries a call; `Token` if the token is none; and `Bad`
-    /// with what is wrong with the frame, where it is no Prepare. Nothing has changed then.
+    /// Errors, in the order of the tests. Nothing has changed then.
+    ///
+    /// - `Busy` if the slot carries a call.
+    /// - `Token` if the token is malformed.
+    /// - `Bad` with what is wrong with the frame, if it is not a Prepare.
     pub fn load(&mut self, tenant: usize, token: &[u8], bytes: &[u8]) -> Result<(), LoadFault>
         ensures result { result ≡ load_result self.old.job token.now bytes.now }
         ensures slot { self.new ≡ loaded self.old tenant token.now bytes.now }
@@ -246,7 +249,7 @@ impl Slot {
         }
     }
 
-    /// Whom the frame goes to, the frame, and the room for the answer to it, to be written.
+    /// The target of the frame, the frame, and the buffer to write the answer into.
     pub fn exchange(&mut self) -> (&Target, &[u8], &mut [u8])
         requires { IsWaiting self.old.job }
         ensures* writes_back { sem 𝓛 (LendsRoom self.entry result.2) }
@@ -260,7 +263,7 @@ impl Slot {
         (target_in(&self.stage), frame, self.reply.as_mut_slice())
     }
 
-    /// Puts what came back from the next peer into the room for it, where it has no more bytes than a frame may have.
+    /// Puts the answer of the next peer into the buffer for it, if it has no more bytes than a frame may have.
     pub fn fill(&mut self, bytes: &[u8]) -> Got
         requires { IsWaiting self.old.job }
         ensures got { result ≡ filled_as bytes.now }

@@ -5,7 +5,7 @@ use common_types::{Boxed, Bytes, Text};
 use ilp_addr::Moment;
 use tenant_core::{Answered, BookFault, Command, CommandFault};
 
-/// What a worker is to do. Frames and tokens lie where they came in.
+/// A task for a worker. Frames and tokens are borrowed from where they came in.
 #[derive(Drop)]
 pub enum Step<'a> {
     /// A worker with nothing in hand takes a frame that came for a tenant, with the token that the sender showed.
@@ -60,7 +60,7 @@ pub enum Given<'a> {
 /// `Oer`, `AfterEnd`); then its fields, one after another (`Oer`, `Field`, and `Size` for the data).
 #[derive(Clone, Copy, Debug, PartialEq, Eq)]
 pub enum Malformed {
-    /// The token is none: it has no byte or over 64, or one that no token has.
+    /// The token is malformed: it has no byte or over 64, or a byte that no token may have.
     Token,
     /// The frame is over 34,000 bytes, or its data over 32,768.
     Size,
@@ -122,7 +122,7 @@ pub enum Output {
 
 const _: () = prove!(size_of::<Output>() == 88);
 
-/// What a step put out, where the bytes of a reply or of a frame are still the worker's, until its next step.
+/// The output of a step. The bytes of a reply or of a frame are still the worker's, until its next step.
 #[derive(Drop)]
 pub enum Told {
     /// All of it.

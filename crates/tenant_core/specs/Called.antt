@@ -52,7 +52,7 @@ pub record IsCalled (s : State) (r : Record) : Type 0 where
   pub given : IsGiven call
   pub made : called s call ≡ Some r
 
--- the state with its first records alone
+-- the state with only its first records
 abbrev pub first_of : ℕ → State → State
 first_of n s = record s { records = take n s.records }
 

@@ -7,7 +7,7 @@ changed_at f [] i = []
 changed_at f (x ∷ xs) zero = f x ∷ xs
 changed_at f (x ∷ xs) (suc i) = x ∷ changed_at f xs i
 
--- the same, where there is a place
+-- the same, if there is a place
 abbrev pub changed_where : {X : Type 0} → (X → X) → List X → Option ℕ → List X
 changed_where f xs None = xs
 changed_where f xs (Some i) = changed_at f xs i

@@ -7,7 +7,7 @@ abbrev pub ◌⇒◌ : {V : Type 0} → Bool → V → V → V
 fails ⇒ v = λ next. if fails then v else next
 
 infix 4 ◌otherwise◌
--- what was found is for the next line; where nothing was, that is the result
+-- a value that was found is for the next line; without one, that is the result
 abbrev pub ◌otherwise◌ : {A V : Type 0} → Option A → V → (A → V) → V
 (Some x) otherwise v = λ next. next x
 None otherwise v = λ next. v

@@ -24,7 +24,7 @@ pub record IsListed (places : List ℕ) (place : ℕ) : Type 0 where
 abbrev pub IsComplete : Table → Type 0
 IsComplete t = (place : ℕ) (h : Hold) → slice_get t.holds place ≡ Some h → is_open h ≡ true → IsListed t.awaiting place
 
--- the table has the places of the open holds, each once, and the slots say where in it they stand
+-- the table has the places of the open holds, each once, and each slot is the index of its place in it
 pub record IsIndexed (hs : List Hold) (awaiting slots : List ℕ) : Type 0 where
   -- each hold has a slot
   pub same : length slots ≡ length hs

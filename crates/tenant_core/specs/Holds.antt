@@ -97,7 +97,7 @@ hold_ended n fulfilled h = with_fate h (if is_open_under n h then Ended fulfille
 abbrev pub hold_ticked : ℕ → Hold → Hold
 hold_ticked clock h = with_fate h (if is_overdue clock h then Marked else h.fate)
 
--- what an entry makes of a hold, at the clock after it: it is fulfilled where a Fulfill goes back as it came
+-- what an entry makes of a hold, at the clock after it: it is fulfilled if a Fulfill goes back as it came
 abbrev pub hold_after : ℕ → Entry → Outcome → Hold → Hold
 hold_after clock (Decide d) o h = h
 hold_after clock (Answer a) o h = hold_ended a.hold (is_fulfill a.key && is_relayed o) h

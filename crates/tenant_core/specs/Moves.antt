@@ -1,4 +1,4 @@
--- What becomes of a purse where an amount moves.
+-- The purse after an amount moves.
 use Rattle.std.specs.Prelude.{ℕ, ◌+◌, ◌-◌, pos, ◌+ℤ◌, ◌-ℤ◌, Bool, if◌then◌else◌}
 use Rattle.money_core.specs.Account.{Account}
 

@@ -133,7 +133,7 @@ route_refusal net prefix =
     if contains_key net.routes prefix then Some Present
     else (if len net.routes == max_routes then Some Limit else None)
 
--- a route can't be taken away: there is none
+-- a route can't be removed if it is not there
 abbrev pub no_route_refusal : Net → List ℕ → Option CommandFault
 no_route_refusal net prefix = if contains_key net.routes prefix then None else Some Absent
 

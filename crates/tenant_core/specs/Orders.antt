@@ -1,4 +1,4 @@
--- Orders of an operator: what each changes, and what it is refused for, in the order of the tests.
+-- Orders of an operator: what each changes, and why it is refused, in the order of the tests.
 use Rattle.std.specs.Prelude.{ℕ, ◌≡◌, ◌+◌, pos, ◌+ℤ◌, ◌-ℤ◌, neg_ℤ, int_lt, unsigned_abs, Bool, true, not, ◌&&◌, ◌||◌, ◌==◌, List}
 use Rattle.std.specs.Prelude.{Option, Some, None, is_some, option_map, Result, Ok, Err, if◌then◌else◌}
 use Rattle.std.specs.FinMap.{values}
@@ -85,11 +85,12 @@ net_refusal net (RouteRemoved prefix) = no_route_refusal net prefix
 net_refusal net (RateSet r) = rate_refusal net r
 net_refusal net _ = None
 
--- what it is refused for, where the peers are there that it names: each is refused for one of these alone
+-- why a change is refused, if the peers that it names are there; each is refused for one of these two
+-- reasons only
 abbrev pub change_refusal : State → Net → Changed → Option CommandFault
 change_refusal s net c = option_or (state_refusal s net c) (net_refusal net c)
 
--- what an order is refused for, if the journal has room for it
+-- why an order is refused, if the journal has room for it
 abbrev pub order_refusal : State → Net → Order → Option CommandFault
 order_refusal s net order = (change_of net order otherwise Some Absent) (λ c. change_refusal s net c)
 
@@ -109,7 +110,7 @@ ordered s order =
 abbrev pub change_record : Changed → ℕ → Record
 change_record c now = record { entry = Change (record { change = c; now = now }); outcome = Done }
 
--- what became of an order, beside what is to come of it: the state after it, and its fault
+-- an order was done, or refused, as it had to be: the state after it, and its fault
 abbrev pub IsOrdered : Result (Unit {0}) CommandFault → Result Changed CommandFault → State → State → ℕ → Type 0
 IsOrdered (Ok done) (Ok c) before after now = after ≡ recorded before (Some (change_record c now))
 IsOrdered (Ok done) (Err fault) before after now = ⊥

@@ -34,33 +34,33 @@ abbrev pub takes_away : ℕ → Entry → Bool
 takes_away n (Change c) = is_removal n c.change
 takes_away n _ = false
 
--- the limits that the change sets for it, if it does, else those
+-- the limits that the change sets for it, or those if it sets none
 abbrev pub limits_set : ℕ → PeerLimits → Changed → PeerLimits
 limits_set n was (LimitsSet m limits) = if n == m then limits else was
 limits_set n was _ = was
 
--- the limits that the entry sets for it, if it does, else those
+-- the limits that the entry sets for it, or those if it sets none
 abbrev pub limits_by : ℕ → PeerLimits → Entry → PeerLimits
 limits_by n was (Change c) = limits_set n was c.change
 limits_by n was _ = was
 
--- the bucket that the change sets for it, if it does, else that
+-- the bucket that the change sets for it, or that one if it sets none
 abbrev pub bucket_set : ℕ → BucketTerms → Changed → BucketTerms
 bucket_set n was (BucketSet m bucket) = if n == m then bucket else was
 bucket_set n was _ = was
 
--- the bucket that the entry sets for it, if it does, else that
+-- the bucket that the entry sets for it, or that one if it sets none
 abbrev pub bucket_by : ℕ → BucketTerms → Entry → BucketTerms
 bucket_by n was (Change c) = bucket_set n was c.change
 bucket_by n was _ = was
 
 -- ---- what records leave
 
--- the limits of the last of the records that sets them for the peer of that number, if one does, else those
+-- the limits of the last record that sets them for the peer of that number, or those if none does
 abbrev pub last_limits : ℕ → PeerLimits → List Record → PeerLimits
 last_limits n was records = fold (λ l r. limits_by n l r.entry) was records
 
--- the bucket of the last of the records that sets it for the peer of that number, if one does, else that
+-- the bucket of the last record that sets it for the peer of that number, or that one if none does
 abbrev pub last_bucket : ℕ → BucketTerms → List Record → BucketTerms
 last_bucket n was records = fold (λ b r. bucket_by n b r.entry) was records
 

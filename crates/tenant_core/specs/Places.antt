@@ -1,4 +1,4 @@
--- Where peers and rates stand: what orders them, and what finds them.
+-- The places of peers and rates: in which order they are, and how they are found.
 use Rattle.std.specs.Prelude.{ℕ, ◌≡◌, ◌≤◌, List, [], ◌∷◌, ◌++◌, length}
 use Rattle.std.specs.Cmp.Lexicographic.{slice_cmp}
 use Rattle.std.specs.List.{insert}

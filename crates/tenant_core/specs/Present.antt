@@ -32,7 +32,7 @@ abbrev pub level_left : State → Net → ℕ → Changed → Level
 level_left s net clock c =
     record { credit = credit_left s net clock c; clock = clock; entries = length s.records + 1 }
 
--- what a change makes of a network, where the bucket that it fills or changes has that level
+-- a network after a change; the bucket that the change fills or changes has that level
 abbrev pub changed : Net → Changed → Level → Net
 changed net (PeerAdded t) level = with_peer net t (pos 0) level
 changed net (PeerRemoved n) level = without_peer net n

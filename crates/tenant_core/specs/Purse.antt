@@ -52,7 +52,7 @@ held_in_of s n = sum_by (held_from n) (holds_of s)
 abbrev pub held_out_of : State → ℕ → ℕ
 held_out_of s n = sum_by (held_for n) (holds_of s)
 
--- what fulfilled packets of the peer of that number brought, in its units
+-- the amounts of fulfilled packets from the peer of that number, in its units
 abbrev pub taken_in_of : State → ℕ → ℕ
 taken_in_of s n = sum_by (taken_from n) (holds_of s)
 

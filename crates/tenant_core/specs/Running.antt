@@ -18,7 +18,7 @@ use Rattle.tenant_core.specs.declared.peer.Peer.{Peer}
 
 -- ---- purses
 
--- the purse of a peer of a state, where these are its holds
+-- the purse of a peer of a state with these holds
 abbrev pub purse_by : State → List Hold → Peer → Account
 purse_by s hs p =
     record {
@@ -57,7 +57,7 @@ opened_level p =
       credit = min p.bucket.credit (full_bucket p.terms.bucket.burst);
     }
 
--- a bucket has come from what the records of a state say of a peer's, and its clock is none to come
+-- a bucket follows from what a state's records say of a peer's, and its clock is not later than the state's
 pub record IsLevel (s : State) (p : Peer) (l : Level) : Type 0 where
   pub stretch : IsLevelOf (stretch_of s p) l
   pub clock : l.clock ≤ clock_of s

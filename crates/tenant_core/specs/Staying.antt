@@ -10,7 +10,7 @@ use Rattle.tenant_core.specs.declared.command.Command.{Command}
 use Rattle.tenant_core.specs.declared.faults.CommandFault.{CommandFault}
 use Rattle.tenant_core.specs.declared.journal.AnswerKey.{AnswerKey}
 
--- whom the tenant deals with, and how, is changed by commands alone; its number by none
+-- only commands change whom the tenant deals with, and how; none changes its number
 pub record StayingLaws : Type 0 where
   pub net_decided : (s : State) (token : List ℕ) (key : Key) (now : ℕ) → network_of (decided s token key now) ≡ network_of s
   pub net_answered : (s : State) (hold now : ℕ) (key : AnswerKey) → network_of (answered s hold now key) ≡ network_of s

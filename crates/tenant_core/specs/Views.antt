@@ -1,4 +1,4 @@
--- What a journal lends, without where it lies in memory.
+-- What a journal lends, without its address in memory.
 use Rattle.std.specs.Prelude.{◌≤◌, length}
 use Rattle.ilp_addr.specs.Address.{max_address}
 use Rattle.tenant_core.specs.declared.journal.DecideEntry.{DecideEntry}

@@ -22,7 +22,7 @@ struct SmallDecide {
     expiry: u64,
     now: u64,
     condition: [u8; 32],
-    // Where the destination begins, and how long it is.
+    // The index at which the destination begins, and its length.
     from: u32,
     length: u16,
     peer: PeerNo,
@@ -69,9 +69,9 @@ impl Small {
     }
 }
 
-/// The records of a period, and room for so many, which is taken when the journal is made: a record more takes no memory.
-/// Each has 120 bytes, and beside it the bytes of a Prepare's destination in one text, or an accepted order in a place
-/// of its own.
+/// The records of a period, and room for so many. The room is allocated when the journal is made: one more record
+/// allocates nothing. Each has 120 bytes. A Prepare's destination is in one text with the others, and an accepted
+/// order has a place of its own.
 #[derive(Drop)]
 pub struct Journal {
     places: usize,

@@ -81,9 +81,9 @@ impl Book {
     ghost use Rattle.tenant_core.specs.Sound.{IsSound};
     ghost use Rattle.tenant_core.specs.Standing.{state_shown, IsShown};
 
-    /// The book of a tenant's first period, in which nothing has happened. `tenant` is the tenant's place among
-    /// all, below 64, and `start` its first clock. All the room that the period needs is taken now: the calls that
-    /// change the book take no memory. The one error is want of it.
+    /// The book of a tenant's first period, in which nothing has happened. `tenant` is the tenant's place among all,
+    /// below 64, and `start` its first clock. It allocates all that the period needs: the calls that change the book
+    /// allocate nothing. Fails only if it is out of memory.
     pub fn new(
         alloc: Global,
         tenant: usize,
@@ -157,7 +157,7 @@ impl Book {
         }
     }
 
-    /// Where the peer of that number takes packets, and what is shown there.
+    /// The URL at which the peer of that number takes packets, and the token for it.
     pub fn target(&self, peer: PeerNo) -> Option<&Target>
         ensures { option_copied result
             ≡ option_map (λ p. p.terms.target) (peer_numbered peer (network_of self.now).peers) }
@@ -212,7 +212,7 @@ impl Book {
         self.holds.as_slice()
     }
 
-    /// Where the best route of a destination leads, and the fee that is kept of what goes there.
+    /// The peer to which the best route of a destination leads, and the fee that is kept of its packets.
     pub fn hop(&self, destination: &Address<'_>) -> Option<Hop>
         ensures { result ≡ best_route (network_of self.now).routes destination.now }
     {
@@ -381,9 +381,9 @@ impl Book {
         Ok(verdict)
     }
 
-    // Does what an operator orders: one entry more, and the network changed by it.
+    // Does an order of an operator: adds an entry, and changes the network by it.
     //
-    // Errors, in the order of the tests: `Full`, what the order says, and `Memory`.
+    // Errors, in the order of the tests: `Full`, those of the order, and `Memory`.
     fn order(&mut self, alloc: Global, order: &Order, now: Moment) -> Result<(), CommandFault>
         ensures { IsOrdered result (ordered self.old order.now) self.old self.new now }
     {
@@ -414,11 +414,11 @@ impl Book {
         Ok(())
     }
 
-    /// Records that moment. What is held and expired by the clock after it is marked overdue: its amounts are
-    /// released on both sides, and its answer is still to come. The result is how many were marked.
+    /// Records that moment. Holds that have expired by the clock after it are marked overdue. Their amounts are
+    /// released on both sides, and their answers may still come. Returns how many were marked. The clock is the
+    /// greatest moment so far.
     ///
-    /// Where the journal has room for the answers that are still to come and for nothing else, `Full`, and nothing
-    /// has changed. The clock is the greatest moment so far.
+    /// `Full` if the journal only has room for the answers of packets that await them. Nothing has changed then.
     pub fn tick(&mut self, now: Moment) -> Result<u32, BookFault>
         ensures count { result ≡ tick_result self.old now }
         ensures records { self.new ≡ ticked self.old now }
@@ -474,24 +474,23 @@ impl Book {
         rows_of(alloc, &self.standing())
     }
 
-    /// Does what an operator commands at that moment.
+    /// Does a command of an operator at that moment. An error leaves the book as it was, the clock included.
     ///
     /// An order changes whom the tenant deals with, and is recorded. Its errors, in the order of the tests: `Full` if
     /// entries, packets that await their answers and 1 more exceed the journal; then
     ///
-    /// - a peer is added: `Present` (its name or its token is), `Limit` (256 peers, or 65,535 numbers were given);
-    /// - a peer is removed: `Absent`, `InUse` (a route, a packet that awaits its answer or a balance names it); the
+    /// - to add a peer: `Present` (its name or its token is there), `Limit` (256 peers, or 65,535 numbers were given);
+    /// - to remove a peer: `Absent`, `InUse` (a route, a packet that awaits its answer or a balance names it); the
     ///   rates that name it go with it;
-    /// - limits or a bucket are set: `Absent`;
-    /// - a route is added: `Absent` (its peer is), `Present` (its prefix is), `Limit` (4,096 routes);
-    /// - a route is removed: `Absent`;
-    /// - a rate is set: `Absent` (a peer is), `Limit` (4,096 rates);
-    /// - money is settled: `Absent`, `Limit` (the balance and what is held would pass 2^62 on either side of 0).
+    /// - to set limits or a bucket: `Absent`;
+    /// - to add a route: `Absent` (its peer), `Present` (its prefix), `Limit` (4,096 routes);
+    /// - to remove a route: `Absent`;
+    /// - to set a rate: `Absent` (a peer), `Limit` (4,096 rates);
+    /// - to settle money: `Absent`, `Limit` (the balance and what is held would pass 2^62 on either side of 0).
     ///
-    /// The balances change nothing. A roll records its entry in a place of its own, gives the period that it closes,
+    /// `balances` changes nothing. A roll records its entry in a place of its own, returns the period that it closes,
     /// and begins the next one with what the book is at present. Its errors are `InUse` (a packet awaits its answer)
-    /// and `Limit` (the last period). `Memory` comes after each of these. An error leaves the book as it was, the
-    /// clock included.
+    /// and `Limit` (the last period). `Memory` comes after each of these.
     #[tactic(auto, using(crate::proofs::Governs::order_done, crate::proofs::Governs::order_refused))]
     pub fn command(
         &mut self,

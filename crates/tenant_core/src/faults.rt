@@ -14,23 +14,24 @@ pub enum HoldFault {
 /// Why a book takes no further entry. Nothing has changed then.
 #[derive(Clone, Copy, Debug, PartialEq, Eq, Error)]
 pub enum BookFault {
-    /// The journal has room for the answers that are still to come and for nothing else.
+    /// The journal only has room for the answers of packets that await them.
     #[error("the journal is full")]
     Full,
 }
 
 /// Why a command is refused. Nothing has changed then.
 ///
-/// `Full` is looked for first, by every command but `balances` and `roll`; `Memory` last. Between them each command has an
+/// Every command but `balances` and `roll` tests `Full` first. `Memory` comes last. Between them each command has an
 /// order of its own:
 ///
-/// - a peer added: `Present`, `Limit`; a peer removed: `Absent`, `InUse`; a peer's limits or bucket: `Absent`;
-/// - a route added: `Absent` (its peer), `Present` (its prefix), `Limit`; a route removed: `Absent`;
-/// - a rate set: `Absent`, `Limit`; a settlement: `Absent`, `Limit`;
+/// - to add a peer: `Present`, `Limit`; to remove a peer: `Absent`, `InUse`; to set its limits or its bucket:
+///   `Absent`;
+/// - to add a route: `Absent` (its peer), `Present` (its prefix), `Limit`; to remove a route: `Absent`;
+/// - to set a rate: `Absent`, `Limit`; a settlement: `Absent`, `Limit`;
 /// - a roll: `InUse`, `Limit`.
 #[derive(Clone, Copy, Debug, PartialEq, Eq, Error)]
 pub enum CommandFault {
-    /// The journal has room for the answers that are still to come and for nothing else.
+    /// The journal only has room for the answers of packets that await them.
     #[error("the journal is full")]
     Full,
     /// A packet awaits its answer; or a route, a packet that awaits its answer or a balance names the peer.
@@ -72,7 +73,7 @@ impl<T: Drop> From<AllocFailed<T>> for CommandFault {
     }
 }
 
-/// What a period cannot begin with, in the order of the tests.
+/// Why a period cannot begin with an opening, in the order of the tests.
 #[derive(Clone, Copy, Debug, PartialEq, Eq, Error)]
 pub enum OpeningFault {
     /// The tenant's place is below 64.

@@ -7,8 +7,8 @@ use crate::limits::MAX_HOLDS;
 use std::alloc::{AllocError, Global};
 use std::marker::Model;
 
-/// The holds of a period in the order of their numbers, and the places of those that await their answers. All room is
-/// taken when it is made: the calls that change it take no memory.
+/// The holds of a period in the order of their numbers, and the places of those that await their answers. It
+/// allocates all its room when it is made: the calls that change it allocate nothing.
 #[derive(Drop)]
 pub struct HoldTable {
     holds: Vec<Hold>,

@@ -24,8 +24,8 @@ pub struct PrepareKey<'a> {
     pub destination: &'a Address<'a>,
 }
 
-/// A Prepare that a peer brought, and the moment. Contracts speak of it; a journal keeps it in less room, and lends it as a
-/// [`DecideView`](crate::DecideView).
+/// A Prepare that a peer sent, and the moment. Contracts speak of it. A journal keeps it in less room, and lends it as
+/// a [`DecideView`](crate::DecideView).
 #[derive(Drop)]
 pub struct DecideEntry {
     pub peer: PeerNo,
@@ -174,7 +174,7 @@ impl ChangeEntry {
         })
     }
 
-    /// A copy of the entry, a prefix in that room. It allocates nothing.
+    /// A copy of the entry, with a prefix in that room. It allocates nothing.
     pub fn copy_into(&self, spare: Spare) -> ChangeEntry
         requires { max_address ≤ spare }
         ensures { result ≡ self.entry.now }
@@ -219,7 +219,7 @@ impl Change {
         })
     }
 
-    /// A copy of the change, a prefix in that room. It allocates nothing.
+    /// A copy of the change, with a prefix in that room. It allocates nothing.
     pub fn copy_into(&self, spare: Spare) -> Change
         requires { max_address ≤ spare }
         ensures { result ≡ self.now }
@@ -249,7 +249,7 @@ impl Change {
         }
     }
 
-    /// Gives back the room that a prefix does not need, if the allocator takes it.
+    /// Returns the unused capacity of a prefix to the allocator, if the allocator takes it.
     pub fn shrink(&mut self)
         ensures { self.new ≡ self.old }
     {
@@ -264,7 +264,7 @@ impl Change {
 impl Entry {
     ghost use Rattle.std.specs.Prelude.{◌≡◌};
 
-    /// Gives back the room that an address or a prefix does not need, if the allocator takes it.
+    /// Returns the unused capacity of an address or a prefix to the allocator, if the allocator takes it.
     pub fn shrink(&mut self)
         ensures { self.new ≡ self.old }
     {

@@ -27,8 +27,8 @@ pub fn period_is_kept(period: &Period)
     period.is_kept();
 }
 
-/// A packet that goes on awaits its answer from then on, under the next number, under which none awaits one; its answer
-/// ends that, and nothing else does.
+/// A packet that goes on awaits its answer from then on, under the next number. No other awaits one under it. Only its
+/// answer ends that.
 pub fn open_holds()
     ensures { OpenHoldLaws }
 {}
@@ -47,8 +47,8 @@ pub fn peers()
     ensures { PeerLaw }
 {}
 
-/// Packets, answers and ticks leave whom a tenant deals with, and how; commands leave the tenant's number, and
-/// all of it where they are refused.
+/// Packets, answers and ticks leave whom a tenant deals with, and how. Commands leave the tenant's number. A command
+/// that is refused leaves all of it.
 pub fn what_stays()
     ensures { StayingLaws }
 {}

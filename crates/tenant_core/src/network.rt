@@ -301,10 +301,10 @@ impl Network {
         (self.rates.len() >= MAX_RATES).then_some(CommandFault::Limit)
     }
 
-    /// A peer more, under the next number, which owes that balance and whose bucket has that level.
+    /// Adds a peer under the next number, which owes that balance and whose bucket has that level.
     ///
     /// Errors, in the order of the tests: `Present` if a peer has the name or the token, `Limit` if there are 256
-    /// peers or all numbers were given, and `Memory`. An error leaves the network as it was.
+    /// peers or all numbers were given, `Memory`. An error leaves the network as it was.
     pub fn add_peer(
         &mut self,
         terms: PeerTerms,
@@ -380,10 +380,9 @@ impl Network {
         }
     }
 
-    /// Takes away the route of the prefix.
+    /// Removes the route of the prefix.
     ///
-    /// Errors, in the order of the tests: `Absent` if it has none, and `Memory`. An error leaves the network as it
-    /// was.
+    /// Errors, in the order of the tests: `Absent` if it has none, `Memory`. An error leaves the network as it was.
     pub fn remove_route(&mut self, prefix: &Prefix) -> Result<(), CommandFault>
         ensures { IsChanged result (no_route_refusal self.old prefix.now) self.old self.new
             (without_route self.old prefix.now) }
@@ -395,9 +394,9 @@ impl Network {
         }
     }
 
-    /// What packets of one peer for another cost, in the place of what they did. Both peers are there, and are two.
+    /// Sets what packets of one peer for another cost, in place of what they did. Both peers are there, and differ.
     ///
-    /// Errors, in the order of the tests: `Limit` if the pair has no rate and there are 4,096, and `Memory`. An error
+    /// Errors, in the order of the tests: `Limit` if the pair has no rate and there are 4,096, `Memory`. An error
     /// leaves the network as it was.
     pub fn set_rate(&mut self, rate: &RateTerms) -> Result<(), CommandFault>
         requires from { IsSome (peer_numbered rate.now.from self.old.peers) }

@@ -16,7 +16,7 @@ pub struct Opening {
     pub address: OwnAddress,
     /// How many places the journal has.
     pub journal: u64,
-    /// Milliseconds by which an expiry is moved earlier, and that a packet may be held at most.
+    /// The milliseconds by which an expiry is moved earlier, and for which a packet may be held at most.
     pub margin: u64,
     pub hold: u64,
     pub period: u64,

@@ -1,4 +1,4 @@
-//! Where peers and rates stand: places in the order of tokens and of pairs, so that a look-up walks no list.
+//! The places of peers and rates, in the order of tokens and of pairs, so that a look-up walks no list.
 
 ghost use Rattle.std.specs.Prelude.{◌≡◌, ◌≤◌, length, not, is_some, IfSome};
 ghost use Rattle.std.specs.Cmp.Lexicographic.{slice_cmp};

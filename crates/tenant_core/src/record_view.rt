@@ -16,7 +16,7 @@ use common_types::{Bytes, Spare};
 use ilp_addr::{Address, Moment};
 use route_table::PeerNo;
 
-/// A Prepare that a peer brought, and the moment; its bytes lie elsewhere.
+/// A Prepare that a peer sent, and the moment. Its bytes are borrowed.
 #[derive(Clone, Copy)]
 pub struct DecideView<'a> {
     pub peer: PeerNo,
@@ -74,8 +74,7 @@ impl EntryView<'_> {
     ghost use Rattle.ilp_addr.specs.Address.{max_address};
     ghost use Rattle.tenant_core.specs.Views.{entry_of, IsShort};
 
-    /// The same entry in memory of its own, the address or the prefix in it in that room. It allocates
-    /// nothing.
+    /// The same entry, owned: the address or the prefix in it is in that room. It allocates nothing.
     pub fn to_entry(&self, spare: Spare) -> Entry
         requires room { max_address ≤ spare }
         requires short { IsShort self.now }

@@ -65,7 +65,7 @@ impl Standing<'_> {
             .then_some(CommandFault::Limit)
     }
 
-    /// What an order is refused for, if the journal has room for it.
+    /// Why an order is refused, if the journal has room for it.
     pub fn refusal(&self, order: &Order) -> Option<CommandFault>
         requires { IsShown self.now }
         ensures exact { result ≡ order_refusal (state_shown self.now) self.now.network.now order.now }

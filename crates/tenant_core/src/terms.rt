@@ -111,7 +111,7 @@ pub struct PeerTerms {
     pub role: Role,
     /// What the peer shows with the packets that it sends.
     pub token: Token,
-    /// Where the peer takes packets, and what is shown there.
+    /// The URL at which the peer takes packets, and the token for it.
     pub target: Target,
     /// The code of the peer's asset, and how many decimal places a unit of it has.
     pub asset: AssetCode,

@@ -66,8 +66,8 @@ pub enum Verdict {
     Unknown,
     /// The journal has no room for the packet and its answer. Nothing was recorded.
     NoRoom,
-    /// The packet is refused. For `AmountTooLarge` with the amount that came and the greatest that the caps allow, even
-    /// where another check would refuse that amount.
+    /// The packet is refused. `AmountTooLarge` comes with the amount that came and the greatest that the caps allow,
+    /// even if another check would refuse that amount.
     Refuse {
         code: RejectCode,
         amounts: Option<(u64, u64)>,

@@ -58,8 +58,8 @@ pub record Growth : Type 0 where
   pub before : ShareView
   pub after : ShareView
 
--- The steps that led to the book have of this worker all that it had done for the tenant before the call, in its order, and no
--- other. So the book is none from before the worker's last step for the tenant.
+-- Of this worker, the steps that led to the book are exactly what it had done for the tenant before the call, in its
+-- order. So the book is not from before the worker's last step for the tenant.
 abbrev pub HasOwnSteps : {under : Circumstances} → Growth → Found under → Type 0
 HasOwnSteps g found = of_worker g.before.worker found.steps ≡ of_tenant g.owner g.before.steps
 
@@ -155,7 +155,7 @@ IsOwnCall share tenant _ = Unit {0}
 abbrev pub answer_with : Work → Got → State → ℕ → Called
 answer_with before came book now = answer_call before book now came
 
--- the tenant's book has no such hold, and the share has met its steps alone
+-- the tenant's book has no such hold, and the share has only met its steps
 pub record WasMissed (under : Circumstances) (g : Growth) (before : Work) (came : Got) : Type 0 where
   pub found : Found under
   pub own : IsOf g.owner found

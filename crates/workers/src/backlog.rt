@@ -1,4 +1,4 @@
-//! Closed periods whose statements are still to be written.
+//! Closed periods whose statements are not written yet.
 
 ghost use Rattle.std.specs.Prelude.{◌≡◌, ◌<◌, ◌++◌, ◌∷◌, [], IfNone, IfSome, OnErr, OnOk};
 
@@ -62,9 +62,9 @@ impl Waiting {
     }
 }
 
-/// Closed periods whose statements are still to be written, those of each tenant behind a lock of its own.
+/// Closed periods whose statements are not written yet, those of each tenant behind its own lock.
 ///
-/// Room for a period is made before it is closed, so that none is lost for lack of memory.
+/// Room for a period is made before it is closed, so that no period is lost when memory runs out.
 #[derive(Drop)]
 pub struct Backlog {
     tenants: Vec<Mutex<Waiting>>,

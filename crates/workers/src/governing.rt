@@ -23,10 +23,11 @@ pub enum GovernFault {
     /// One of the worker's counts is full.
     #[error("a worker's count is full")]
     Spent,
-    /// Memory for the receipt was refused. It is answered where receipts are kept alone.
+    /// Out of memory for the receipt. Only a share that keeps receipts returns it.
     #[error("out of memory")]
     Memory,
-    /// The book under the lock is another tenant's. It is never answered: a lock is entered for its own tenant alone.
+    /// The book under the lock is another tenant's. It is never returned: each lock is entered only for its own
+    /// tenant.
     #[error("the book is another tenant's")]
     Stray,
     /// The book refuses it, or it is out of memory.

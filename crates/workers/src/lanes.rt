@@ -46,8 +46,8 @@ fn can_start<R: Threads + Wait + Sync>(rt: &R, count: usize) -> bool {
 
 /// Lets each lane work once, and waits for all of them. As a probe, a thread for each lane is started and ended first.
 ///
-/// `StartFault` if the probe could not start them all, and no lane has worked then. Where one can't be started after
-/// the probe, lanes share a thread and work one after another.
+/// `StartFault` if the probe could not start them all. No lane has worked then. If a thread can't be started after the
+/// probe, lanes share a thread and work one after another.
 pub fn run_workers<R: Threads + Wait + Sync, W: Lane>(
     rt: &R,
     lanes: &mut [W],

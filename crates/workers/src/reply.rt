@@ -49,13 +49,13 @@ impl Status {
 pub enum Reply {
     /// The frame is no Prepare (400).
     Malformed,
-    /// The token is none (401).
+    /// The token is malformed (401).
     Nameless,
     /// The token is no peer's of the tenant (401).
     Stranger,
     /// One of the worker's counts is full, or its link has sent 2^62 packets (503). Nothing was decided.
     Spent,
-    /// Memory for receipts was refused (503). Nothing was decided. It is answered where they are kept alone.
+    /// Out of memory for receipts (503). Nothing was decided. Only a share that keeps receipts leads to it.
     Memory,
     /// The tenant has decided, and its book has the answer (200).
     Decided,
