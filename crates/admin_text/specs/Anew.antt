@@ -17,7 +17,7 @@ abbrev pub peers_from : ℕ → List Peer → List Peer
 peers_from first [] = []
 peers_from first (p ∷ peers) = (record p { number = first; bucket = no_level }) ∷ peers_from (first + 1) peers
 
--- how many peers stand before the one of that number, which is its number anew
+-- the new number of a peer: how many peers come before the one of that number
 abbrev pub number_anew : List Peer → ℕ → ℕ
 number_anew peers n = position_or_len (λ p. p.number == n) peers
 

@@ -87,7 +87,7 @@ abbrev pub ignored_by : Version → Members → List KeyAt
 ignored_by version t =
     ignored_at version place.Top t ++ ignored_in_tenants version 0 (items_of (codes "tenant") t)
 
--- those of a document that says that, or else nothing
+-- those of a document with that setup and version, otherwise none
 abbrev pub ignored_if : Result Setup SetupFault → Option Version → Members → List KeyAt
 ignored_if (Ok setup) (Some version) t = ignored_by version t
 ignored_if (Ok setup) None t = []

@@ -1,4 +1,4 @@
--- Keys that were found to be ignored.
+-- The keys that were found to be ignored.
 use Rattle.std.specs.Prelude.{List, map, string_bytes}
 use Rattle.admin_text.specs.Ignored.{KeyAt}
 use Rattle.admin_text.specs.declared.ignored.IgnoredKey.{IgnoredKey}

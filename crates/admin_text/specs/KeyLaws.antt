@@ -14,7 +14,7 @@ abbrev pub AgreeAt : List (List ℕ) → Members → Members → Type 0
 AgreeAt [] t u = Unit {0}
 AgreeAt (key ∷ keys) t u = (get_member key t ≡ get_member key u) × AgreeAt keys t u
 
--- Tables that have the same at the keys that count say the same, whatever else they have.
+-- Tables that agree at the keys that count have the same meaning, whatever else they have.
 pub record KeyLaws : Type 0 where
   pub top : (t u : Members) → AgreeAt top_keys t u → setup_of_table t ≡ setup_of_table u
   pub tenant : (version : Version) (t u : Members)

@@ -19,7 +19,7 @@ use Rattle.admin_text.specs.Fields.{Field, WORD, NUMBER, NAME, ROLE, TOKEN, TARG
 use Rattle.admin_text.specs.Fields.{Said, AllSaid, limits_with, bucket_with}
 use Rattle.admin_text.specs.PeerFields.{Row, fields_of, peer_rows, peer_with}
 
--- the number, if it is none below 0 and has at most 64 bits
+-- the number, if it is not below 0 and has at most 64 bits
 abbrev pub natural : ℤ → Option ℕ
 natural (pos n) = if nat_lt n (2 ^ 64) then Some n else None
 natural (negsuc n) = None

@@ -7,7 +7,7 @@ use Rattle.admin_text.specs.Fields.{Field, NAME, ROLE, TOKEN, TARGET, ASSET, SCA
 abbrev pub Row : Type 0
 Row = List (List ℕ) × Field
 
--- the fields alone
+-- the fields, without their keys
 abbrev pub fields_of : List Row → List Field
 fields_of rows = map (λ row. row.1) rows
 

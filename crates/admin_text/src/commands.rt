@@ -285,7 +285,7 @@ fn roll(words: Words<'_>) -> Result<Command, TextFault>
     Ok(Command::Roll)
 }
 
-// A reading that takes no memory, beside those that do.
+// A reading that allocates nothing, with the errors of those that do.
 fn given<T>(read: Result<T, TextFault>) -> Result<T, ReadError<TextFault>>
     ensures exact { GivesUnlessMemory (λ t. t) result read }
     ensures memory { OnMemory result ⊥ }

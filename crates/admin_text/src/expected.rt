@@ -7,7 +7,7 @@ use std::fmt;
 use tenant_core::limits::{MAX_MONEY, MAX_TENANTS};
 use toml::Value;
 
-/// What may stand at a key.
+/// What a key may have as its value.
 #[derive(Clone, Copy)]
 pub(crate) enum Expected {
     Version,
@@ -27,7 +27,7 @@ pub(crate) enum Expected {
     Balance,
 }
 
-/// What would be right at a key, where this is found, which is wrong.
+/// What a key should have, given the wrong value that it has.
 #[derive(Clone, Copy)]
 pub(crate) struct Right<'a> {
     pub(crate) expected: Expected,

@@ -8,7 +8,7 @@ use crate::setup::{SetupFault, document_of, setup_of_table};
 use common_types::ReadError;
 use std::alloc::{AllocError, Global};
 
-/// What is wrong with a setup: the fault, and a line that says where it lies and what would be right.
+/// What is wrong with a setup: the fault, and a line that says where it is and what would be right.
 #[derive(Drop)]
 pub struct Explained {
     pub fault: SetupFault,
@@ -22,8 +22,8 @@ fn one_line(alloc: Global, error: &toml::de::Error) -> Result<String, AllocError
 }
 
 /// What is wrong with a setup, `None` if it is good: the first fault that [`read_setup`](crate::read_setup) finds, and
-/// in words where it lies and what would be right. A tenant is named by its number from 0, its peers, routes and rates
-/// by theirs from 1.
+/// words that say where it is and what would be right. They name a tenant by its number from 0, and its peers, routes
+/// and rates by theirs from 1.
 pub fn explain(alloc: Global, text: &[u8]) -> Result<Option<Explained>, AllocError>
     ensures exact { IfOk result (λ found. option_map (λ e. e.fault) found ≡ result_err (setup_of text.now)) }
 {

@@ -75,7 +75,7 @@ fn is_key(version: Version, place: TablePlace, key: &str) -> bool
 // The most bytes of a key that is shown.
 const MAX_SHOWN: usize = 64;
 
-// A key in one word, quoted where it is none.
+// A key in one word, quoted if it is not one word.
 #[derive(Clone, Copy)]
 struct Named<'a>(&'a str);
 

@@ -28,8 +28,8 @@ pub fn setups_again()
     ensures { SetupAgainLaw }
 {}
 
-/// No key of a setup counts but those that [`ignored_keys`](crate::ignored_keys) passes over: tables that have the same at
-/// these say the same, whatever else they have.
+/// Only the keys that [`ignored_keys`](crate::ignored_keys) passes over count: tables that agree at these have the
+/// same meaning, whatever else they have.
 pub fn keys_that_count()
     ensures { KeyLaws }
 {}

@@ -78,7 +78,7 @@ impl<'a> Place<'a> {
 // The most bytes of a name that is shown with a place.
 const MAX_SHOWN: usize = 64;
 
-// The text at a key, where it is short and a word.
+// The text at a key, if it is short and one word.
 fn word_under<'a>(table: &'a Table, key: &str) -> Option<&'a str> {
     let text = string_under(table, key)?;
     let is_shown = text.len() <= MAX_SHOWN && text.bytes().all(|b| b.is_ascii_graphic());

@@ -127,7 +127,7 @@ fn is_there(tenants: &[TenantSetup], name: &Name) -> bool
     tenants.iter().any(|tenant| has_name(tenant, name))
 }
 
-// How many tenants stand before the first that has that name.
+// How many tenants come before the first that has that name.
 fn number_of(tenants: &[TenantSetup], name: &Name) -> usize {
     tenants
         .iter()
@@ -270,16 +270,16 @@ pub(crate) fn document_of(alloc: Global, text: &[u8]) -> Result<Table, ReadError
 ///
 /// - At the top: `version`, which is 1 or 2; `start`, in milliseconds since 1970-01-01; and `tenant`, an array
 ///   of 1 to 64 tables.
-/// - A tenant: `name`, `address` and `admin`; `journal` (1024 where it is left out), `margin` (1000) and `hold`
-///   (30000); arrays of tables `peer`, `route` and `rate`, each empty if it is left out.
+/// - A tenant: `name`, `address` and `admin`; `journal` (default 1024), `margin` (default 1000) and `hold`
+///   (default 30000); arrays of tables `peer`, `route` and `rate`, each empty by default.
 /// - A peer: `name`, `role` (`child` or `peer`), `token`, `url`, `out_token`, `asset`, `scale`, `cap`,
-///   `ceiling`, `credit`, `burst`, `per_second`, and `balance` (0 if it is left out).
+///   `ceiling`, `credit`, `burst`, `per_second`, and `balance` (default 0).
 /// - A route: `prefix`, whose dot at the end is dropped and which is `*` for the empty one, and `peer`, a
-///   peer's name; in version 2 `fee` too, from 0 to 2^62 (0 if it is left out). No two have the same prefix.
+///   peer's name; in version 2 `fee` too, from 0 to 2^62 (default 0). No two have the same prefix.
 /// - A rate: `from` and `to`, peers' names, `num` and `den`. Of two for the same ordered pair the later counts.
 ///
-/// The faults are looked for in the order of [`SetupFault`]; a key that lacks or is of another kind than
-/// expected, and a limit of [`TenantSetup::new`] that is broken, is a fault of its tenant.
+/// The faults are tested in the order of [`SetupFault`]. A key that is missing or of another kind than expected
+/// is a fault of its tenant, and so is a broken limit of [`TenantSetup::new`].
 pub fn read_setup(alloc: Global, text: &[u8]) -> Result<Setup, ReadError<SetupFault>>
     ensures exact { GivesUnlessMemory (λ s. s) result (setup_of text.now) }
 {

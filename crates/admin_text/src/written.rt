@@ -99,7 +99,7 @@ fn put_between<const LOW: u64, const HIGH: u64>(
     put_number(alloc, out, number.get())
 }
 
-// A fee, which is left out where it is 0.
+// A fee, which is left out if it is 0.
 fn put_fee(alloc: Global, out: &mut Vec<u8>, fee: Fee) -> Result<(), AllocError>
     ensures { OnOk result (IsPut (FEE MAX_MONEY) fee out.old.items out.new.items) }
 {

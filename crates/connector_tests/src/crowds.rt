@@ -271,7 +271,7 @@ fn put_round(
     Ok(())
 }
 
-// Twice round: in the second round each worker takes a packet of the next tenant.
+// Two rounds: in the second round each worker takes a packet of the next tenant.
 fn put_rounds(alloc: Global, script: &mut String, lines: &mut String) -> Result<(), Fail> {
     put_round(alloc, script, lines, 0)?;
     put_round(alloc, script, lines, 1)

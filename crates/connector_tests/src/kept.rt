@@ -24,7 +24,7 @@ impl PeriodKeeper for Notes {
     }
 }
 
-// Two tenants roll by turns, one of them at first in vain, since a packet awaits its answer.
+// Two tenants roll in turn. At first one of them is refused, since a packet awaits its answer.
 const SCRIPT: &str = "load 0 acme tok-alice {base}
 decide 0 {T}
 do acme {T} roll

@@ -1,5 +1,5 @@
-//! Tests of scripts and replays, and of HTTP, through public functions, as tables of cases. The crate has nothing else: a crate
-//! with tests is proved twice, so the crates below have none of their own.
+//! Tests of scripts and replays, and of HTTP, through public functions, as tables of cases. The crate has only tests:
+//! a crate with tests is proved twice, so the crates below have none of their own.
 #![tactic(auto)]
 
 #[cfg(test)]

@@ -86,7 +86,7 @@ fn first_unlike<'a>(found: &'a str, wanted: &'a str) -> (&'a str, &'a str) {
     ("nothing", lines.next().unwrap_or("nothing"))
 }
 
-// That a row printed these lines, and else where it did not.
+// Checks that a row printed these lines, and otherwise says where it did not.
 fn expect_lines(
     rt: &impl Abort,
     alloc: Global,

@@ -55,7 +55,7 @@ status_told status = if (status == 200) || (status == 400) || (status == 401) th
 abbrev pub told_body : ℕ → List ℕ → List ℕ
 told_body status body = if status == 200 then body else []
 
--- the answer with a service's status, and its bytes where that is 200
+-- the answer with a service's status, and its bytes if that is 200
 abbrev pub answer_text : RequestKind → ℕ → List ℕ → Bool → List ℕ
 answer_text kind status body closes =
     answer_head kind (status_told status) (length (told_body status body)) closes ++ told_body status body

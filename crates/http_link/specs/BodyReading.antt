@@ -55,11 +55,11 @@ abbrev pub TakesNext : List ℕ → Option (List ℕ) → Option (List ℕ) → 
 TakesNext had old new has (Some b) = Takes had old new (b ∷ []) has
 TakesNext had old new has None = TakesAll had old new [] has
 
--- where no more is taken than is needed, nothing is left where nothing was there
+-- if no more is taken than is needed, and nothing was held, then nothing is held
 abbrev pub ReadsNoFurther : Reach → Held → Held → Type 0
 ReadsNoFurther reach old new = reach ≡ Needed → old.to ≤ old.from → new.to ≤ new.from
 
--- how the text ends that is looked for
+-- how the text ends that the reader looks for
 abbrev pub ends_sought : Sought → List ℕ → Bool
 ends_sought Line text = ends_line text
 ends_sought Section text = ends_section text
@@ -124,7 +124,7 @@ body_read room has (Whole n) = whole (take n room) has
 body_read room has Cut = cut
 body_read room has (Bad fault) = bad fault
 
--- bytes came, and what there was and they are such a body; where it is cut nothing is left, and no more comes
+-- bytes came, and with the held ones they are such a body; if it is cut short, nothing is left and no more comes
 pub record ReadsAs (had : List ℕ) (old new : Option (List ℕ)) (has room : List ℕ) (Is : List ℕ → Body → Type 0) (read : BodyRead) : Type 0 where
   pub came : List ℕ
   pub consumed : Consumes old new came

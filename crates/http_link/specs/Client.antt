@@ -77,7 +77,7 @@ abbrev pub MeansFramed : AnswerFraming → List ℕ → Result (List ℕ) PostFa
 MeansFramed (Framed framing) rest meaning = (body : Body) × IsBody framing rest body × (meaning ≡ told_of body)
 MeansFramed ToEnd rest meaning = meaning ≡ body_to_end rest
 
--- or that there is none
+-- the same, or why the head is refused
 abbrev pub MeansAs : Result AnswerFraming PostFault → List ℕ → Result (List ℕ) PostFault → Type 0
 MeansAs (Ok framing) rest meaning = MeansFramed framing rest meaning
 MeansAs (Err fault) rest meaning = meaning ≡ Err fault
@@ -104,7 +104,7 @@ pub record HasNone (stream : List ℕ) (meaning : Result (List ℕ) PostFault) :
   pub none : (head : ResponseHead) (rest : List ℕ) → BeginsAnswer stream head rest → ⊥
   pub fault : (meaning ≡ Err Head) ⊎ (meaning ≡ Err Cut)
 
--- what a stream means as an answer, where at most so many heads may come, all but the last interim ones
+-- the meaning of a stream as an answer, if at most so many heads may come, all but the last of them interim
 abbrev pub Means : ℕ → List ℕ → Result (List ℕ) PostFault → Type 0
 Means zero stream meaning = meaning ≡ Err Head
 Means (suc heads) stream meaning = FirstMeans (Means heads) stream meaning ⊎ HasNone stream meaning

@@ -62,7 +62,7 @@ pub record IsAskedBy (tenant_of : List ℕ → Option ℕ) (bytes : List ℕ) (a
   pub asks : asked ≡ asking wanted body asked.status
   pub is_last : last ≡ closes (head_of head)
 
--- the request was asked that the bytes begin with, once more of them had come
+-- the request at the front of the bytes was asked, after more of them had come
 pub record AsksIt (tenant_of : List ℕ → Option ℕ) (had : List ℕ) (old new : Option (List ℕ)) (Asks : Asked → Type 0) : Type 0 where
   pub came : List ℕ
   pub taken : Consumes old new came

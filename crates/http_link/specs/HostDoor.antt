@@ -51,7 +51,7 @@ pub record HostWanted : Type 0 where
   pub request : HostRequest
   pub token : List ℕ
 
--- what a head asks for, without where its token lies
+-- what a head asks for, without the place of its token
 abbrev pub host_wanted_at : HostWantedAt → HostWanted
 host_wanted_at wanted = record { request = wanted.request; token = wanted.token.now }
 

@@ -16,13 +16,13 @@ use Rattle.http_link.specs.Requests.{Wanted}
 abbrev pub lines_at : Lines → List Line
 lines_at lines = map (header_bytes lines.text.now) lines.spans.now
 
--- what was found, without where it lies
+-- what was found, without its place
 abbrev pub occurrence_at : Found → Occurrence
 occurrence_at Missing = missing
 occurrence_at (Once value) = once value.now
 occurrence_at Repeated = repeated
 
--- what a head says, without where it lies
+-- what a head says, without the places of its parts
 abbrev pub head_at : RequestHead → Head
 head_at head =
     record { method = head.method.now; target = head.target.now; minor = head.minor; lines = lines_at head.lines }
@@ -36,7 +36,7 @@ head_in text lines spans = record {
   lines = map (header_bytes text) (take spans.headers lines);
 }
 
--- what a head asks for, without where its token lies
+-- what a head asks for, without the place of its token
 abbrev pub wanted_at : WantedAt → Wanted
 wanted_at wanted =
     record { kind = wanted.kind; tenant = wanted.tenant; token = wanted.token.now; framing = wanted.framing }

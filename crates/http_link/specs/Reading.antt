@@ -7,7 +7,7 @@ use Rattle.http_link.specs.Limits.{max_head}
 use Rattle.http_link.specs.declared.grammar.Offered.{Offered}
 use Rattle.http_link.specs.declared.grammar.Offered.TheVariants.{Whole, Partial, Malformed}
 
--- more is to come of each head with so many lines at most that the text and what follows begin with
+-- each head with at most so many lines that begins with this text is longer than it
 abbrev pub GoesOn : {S : Type 0} → Grammar S → List ℕ → ℕ → Type 0
 GoesOn grammar text room =
     (head more rest : List ℕ) → grammar.IsHead head room → text ++ more ≡ head ++ rest → length text < length head

@@ -12,8 +12,8 @@ use Rattle.http_link.specs.Serving.{Asked, Traces, IsServed, IsAskedOnly}
 abbrev pub held_in : List ℕ → Held → List ℕ
 held_in room held = drop held.from (take held.to room)
 
--- what is done with a head that asks for that: more bytes came, it was served on all that there were, and where they did not
--- suffice no more are left
+-- what is done with a head that asks for that: more bytes came, and it was served by all that there were; if they did
+-- not suffice, no more are left
 pub record Runs (want : Result Wanted ℕ) (head : Head) (had : List ℕ) (old new : Option (List ℕ)) (traces : Traces)
     (served : Served) : Type 0 where
   pub came : List ℕ

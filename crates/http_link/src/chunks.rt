@@ -33,7 +33,7 @@ enum Stated {
     Short,
 }
 
-/// What came of the reading of bytes that only have to be right.
+/// The result of reading bytes that have to be certain ones.
 #[derive(Clone, Copy)]
 enum Checked {
     /// They are.
@@ -53,8 +53,8 @@ enum Step {
     Over(BodyRead),
 }
 
-/// Reads a body in chunks, which have so many bytes together at most, into the front of the room, where some bytes of it are
-/// held already. A chunk that passes that limit is refused by its line, before it is read.
+/// Reads a body in chunks, of so many bytes at most in all, into the front of the buffer, which holds some bytes of it
+/// already. A chunk that passes that limit is refused by its line, before it is read.
 pub(crate) fn read_chunks<R: Source>(
     r: &mut R,
     room: &mut [u8],

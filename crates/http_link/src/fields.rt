@@ -156,7 +156,7 @@ pub(crate) fn is_chunked(coding: &[u8]) -> bool
     is_same(coding, b"chunked")
 }
 
-/// The value of a length, or the bound where it is no less.
+/// The value of a length, or the bound if it is at least that.
 pub(crate) fn value_up_to(digits: &[u8], bound: u64) -> u64
     ensures { result ≡ min (value_of digits.now) bound }
 {

@@ -19,7 +19,7 @@ pub(crate) enum Offered<S> {
     Malformed,
 }
 
-/// Where the parts of a head lie in a text that begins with it.
+/// The places of a head's parts in a text that begins with it.
 pub(crate) trait HeadSpans: Copy {
     /// Which texts are heads, and what these spans are of one.
     ghost grammar: { Grammar Self };

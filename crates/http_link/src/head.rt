@@ -33,7 +33,7 @@ fn is_due(text: &[u8], parsed: usize) -> bool
     text.ends_with(b"\n") && (text.len() / 2 >= parsed || ends_empty_line(text))
 }
 
-// Parses a text whose last byte has just come, of which so many were parsed before, where it is due.
+// Parses a text whose last byte has just come, if that is due. So many of its bytes were parsed before.
 fn examine<H: HeadSpans>(text: &[u8], parsed: &mut usize, lines: &mut [HeaderSpan]) -> Offered<H>
     requires some { 0 < length text.now }
     requires inside { GoesOn H.grammar (take (length text.now - 1) text.now) (length lines.old) }

@@ -74,12 +74,12 @@ impl Inbox {
         self.room[self.held.from..self.held.to].is_empty()
     }
 
-    /// Waits until something has come, unless something is there already; `false` where the stream has ended.
+    /// Waits until some bytes have come, unless some are there already. `false` if the stream has ended.
     ///
     /// Errors: `Read` if the device failed in this call, and `Turns` if 50,000 reads did not suffice.
     pub fn await_more<R: Source>(&mut self, r: &mut R) -> Result<bool, LinkFault>
         ensures awaited { IfOk result (Awaits self.old (R.remaining r.old) (R.remaining r.new) self.new) }
-        // Where something is there already, nothing is read.
+        // If bytes are there already, nothing is read.
         ensures at_once { (r.new ≡ r.old) ⊎ (self.old ≡ []) }
         ensures read { (result ≡ Err LinkFault.Read) ↔ (R.failure_count r.old < R.failure_count r.new) }
         ensures only { result ≢ Err LinkFault.Write }
@@ -109,12 +109,12 @@ pub fn serve_next<R: Source, W: Sink, S: Service>(
       left = Some inbox.new;
       Writes = λ text. Appends (W.contents w.old) (W.contents w.new) text;
     })) }
-    // Whatever comes of it, only that request is asked.
+    // Whatever the outcome, only that request is asked.
     ensures asks { AsksNext (S.tenant_of service.old) inbox.old (R.remaining r.old) (R.remaining r.new)
         (service.new ≡ service.old) (λ question. S.asks service.old question service.new) }
     ensures unread { result ≡ Err LinkFault.Read → service.new ≡ service.old }
 
-    // Where the inbox holds a whole request already, nothing is read.
+    // If the inbox holds a whole request already, nothing is read.
     ensures at_once { (r.new ≡ r.old) ⊎ AreTooFew (S.tenant_of service.old) inbox.old }
 
     // A device's fault is reported exactly if the device failed.

@@ -22,7 +22,7 @@ pub(crate) enum Reach {
 }
 
 impl Reach {
-    /// Up to where a read may fill a room of that size from a place on.
+    /// The end of the bytes that a read may fill, in a buffer of that size, from an index on.
     pub(crate) fn limit(self, at: usize, size: usize) -> usize
         requires { at < size }
         ensures some { at < result }

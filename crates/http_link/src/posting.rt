@@ -54,7 +54,7 @@ pub enum PostFault {
     /// The status is not 200.
     #[error("the answer's status is not 200")]
     Status,
-    /// The answer's length is bad or repeated, its coding is not `chunked` alone, or its chunks are malformed.
+    /// The answer's length is bad or repeated, its coding is not exactly `chunked`, or its chunks are malformed.
     #[error("the answer's body is not framed as it should be")]
     Unframed,
     /// The answer's body has more than 34,000 bytes.

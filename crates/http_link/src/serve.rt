@@ -50,7 +50,7 @@ pub(crate) struct Before {
 }
 
 impl Before {
-    /// For one request alone: nothing that follows it is taken from the reader.
+    /// For one request only: nothing that follows it is taken from the reader.
     pub(crate) fn one<R: Source, W: Sink>(r: &R, w: &W) -> Before
         ensures reach { result.manner.reach ≡ Reach.Needed }
         ensures reads { result.manner.before ≡ R.failure_count r.now }

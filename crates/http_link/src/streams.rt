@@ -97,8 +97,8 @@ pub(crate) fn fetch_one<R: Source>(
     Ok(Some(one[0]))
 }
 
-/// Reads until so many bytes stand at the front of the buffer, where some stand already, or the stream has ended, and gives
-/// how many stand there.
+/// Reads until so many bytes are at the front of the buffer, which has some already, or until the stream has ended.
+/// Returns how many are there.
 pub(crate) fn read_on<R: Source>(
     r: &mut R,
     out: &mut [u8],

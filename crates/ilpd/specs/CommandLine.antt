@@ -7,7 +7,8 @@ use Rattle.ilpd.specs.declared.command_line.Task.{Task}
 use Rattle.ilpd.specs.declared.command_line.TheConstants.{MAX_ROUNDS}
 use Rattle.ilpd.specs.declared.command_line.Task.TheVariants.{Replay, Check, Verify, Serve}
 
--- a service has 1 to 4,096 connections at once, and where it ends it has served 1 to 1,000,000 for each worker
+-- a service has 1 to 4,096 connections at once; if it ends by itself, it has served 1 to 1,000,000 for each
+-- worker
 abbrev pub IsBounded : Task → Type 0
 IsBounded Replay = Unit {0}
 IsBounded Check = Unit {0}

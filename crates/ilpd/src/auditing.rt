@@ -26,7 +26,7 @@ pub struct Statements {
     periods: Vec<Period>,
 }
 
-// The period that the text of a file states. Where it states none, it says why, and the run ends.
+// The period that the text of a file states. If it states none, it says why, and the run ends.
 fn stated<W: Write>(
     alloc: Global,
     file: &str,
@@ -81,8 +81,9 @@ impl Statements {
         &self.periods
     }
 
-    /// Takes the text of a file as the next statement of its tenant, the tenant's first one as `begin` does where there is a setup. Where
-    /// it is not good, or does not go on where the one before it ended, it says so as `take` does, and the run ends.
+    /// Takes the text of a file as the next statement of its tenant. The tenant's first one is taken as by `begin` if
+    /// there is a setup. If it is not good, or does not go on from the one before it, it says so as `take` does, and
+    /// the run ends.
     pub fn take<W: Write>(
         &mut self,
         alloc: Global,

@@ -19,7 +19,8 @@ pub enum Ending {
     Served(ServeFault),
     /// The file of the host's token holds none, as a line has said.
     NoToken,
-    /// A statement is not good, or does not go on where the one before it ended, or a text of receipts is none, as lines have said.
+    /// A statement is not good, or does not go on from the one before it, or a text is not one of receipts. Lines have
+    /// said so.
     NotGood,
     /// An audit of receipts found a fault, as a line has said.
     Audit,
@@ -37,7 +38,7 @@ pub fn words_refused(error: clap::Error) -> Ending
     Ending::Usage(error)
 }
 
-/// Whether the words asked for the version, which the error's text has, and for nothing else.
+/// Whether the words asked for the version, which the error's text has, and only for that.
 pub fn asks_version(error: &clap::Error) -> bool
     ensures { IsTrue result ↔ (kind_of error.now ≡ DisplayVersion) }
 {

@@ -75,7 +75,7 @@ fn complain(
     Ok(())
 }
 
-// Says on standard error where a service is too small for what it promises its tenants, if there is memory for the words.
+// Says on standard error if a service is too small for what it promises its tenants, if there is memory for the words.
 fn warn(rt: &(impl Eprint + AllocGlobal), extent: Extent, tenants: usize) {
     let Extent {
         workers,
@@ -106,7 +106,7 @@ fn cannot(rt: &impl Print, doing: &str, what: &str, error: &io::Error) -> Ending
     ending_of(kind)
 }
 
-// All that is in a file, or else a line that says why it can't be read.
+// All that is in a file, or a line that says why it can't be read.
 fn read_file(rt: &(impl Files + Print + AllocGlobal), file: &str) -> Result<Vec<u8>, Ending> {
     fs::read(rt, file).map_err(|error| cannot(rt, "read", file, &error))
 }
@@ -123,7 +123,7 @@ fn read_setup_file(
     }
 }
 
-// Says whether the setup is good, and the script of that file for it, where one is named.
+// Says whether the setup is good, and the script of that file for it, if one is named.
 fn check_at(
     rt: &(impl Files + Print + AllocGlobal),
     setup: &[u8],
@@ -219,8 +219,8 @@ fn verify_at(
     tell(alloc, &chain, &mut writer)
 }
 
-// Audits the receipts in a file by the statements in others, of all tenants, each tenant's one period after another, and the first
-// ones from a setup where one is named. All periods are in memory then.
+// Audits the receipts in a file by the statements in others, of all tenants, each tenant's one period after another.
+// The first ones go on from a setup, if one is named. All periods are in memory then.
 fn audit_at(
     rt: &(impl Files + Print + AllocGlobal),
     setup: Option<&str>,
@@ -283,7 +283,7 @@ fn token_of(text: &[u8]) -> Option<Token>
     Token::new(without_line_feed(text))
 }
 
-// Says in a line on standard output what to do where so many files can't be open at once.
+// Says in a line on standard output what to do if so many files can't be open at once.
 fn expect_files(
     rt: &(impl Print + AllocGlobal),
     listener: &TcpListener,
@@ -316,7 +316,8 @@ impl From<io::Error> for FolderFault {
     }
 }
 
-// That the folder of the statements is one, and has none of these tenants yet; and no receipts, where they are kept there too.
+// Checks that the folder of the statements is a folder, and has no statement of these tenants yet; and no receipts, if
+// they are kept there too.
 fn check_folder(
     rt: &(impl Files + AllocGlobal),
     path: &str,
@@ -370,7 +371,7 @@ fn setup_in(alloc: Global, text: &[u8]) -> Result<Setup, Ending>
     }
 }
 
-// That a replay can keep statements in that folder. A replay prints its lines alone, so it does not say why not.
+// Checks that a replay can keep statements in that folder. A replay prints only its lines, so it does not say why not.
 fn expect_free_folder(
     rt: &(impl Files + AllocGlobal),
     path: &str,
@@ -403,7 +404,7 @@ fn replay_into(
     )
 }
 
-// Replays the script on standard input, and keeps statements where a folder for them is named.
+// Replays the script on standard input, and keeps statements if a folder for them is named.
 fn replay_at(
     rt: &(impl Files + Disk + Input + Print + AllocGlobal),
     setup: &[u8],

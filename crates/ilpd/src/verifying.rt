@@ -126,8 +126,8 @@ pub fn fault_words(
     Ok(out)
 }
 
-/// Takes the text of a file as the next statement of a chain. Where it is not good, or does not go on, it says so, with the line
-/// as it is written and as it has to be, and the run ends.
+/// Takes the text of a file as the next statement of a chain. If it is not good, or does not go on, it says so, with
+/// the line as it is written and as it has to be, and the run ends.
 pub fn take<W: Write>(
     alloc: Global,
     chain: &mut Chain,
@@ -179,7 +179,7 @@ pub fn name_in(text: &[u8]) -> &[u8] {
     line.split(|byte| *byte == b' ').nth(2).unwrap_or(&[])
 }
 
-// The place of the tenant of that name; past all of them where none has it.
+// The place of the tenant of that name, or the number of tenants if none has it.
 fn place_in(setup: &Setup, name: &[u8]) -> usize {
     let tenants = setup.tenants.as_slice();
     for place in 0..tenants.len() {

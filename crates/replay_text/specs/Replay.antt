@@ -49,8 +49,8 @@ refusal_of (Ok setup) workers script =
     option_map (λ f. fault.Script f) (result_err (steps_of_script (names_in setup) workers script))
 refusal_of (Err f) workers script = Some (fault.Setup f)
 
--- A setup is refused by its first fault, and a script by its own where the setup is good. Of memory and devices nothing is
--- said here.
+-- A setup is refused by its first fault, and a script by its own if the setup is good. This says nothing of memory and
+-- devices.
 abbrev pub IsRefusedBy : ReplayFault → Result Setup SetupFault → ℕ → Option (List ℕ) → Type 0
 IsRefusedBy fault.Memory read workers known = Unit {0}
 IsRefusedBy fault.Device read workers known = Unit {0}

@@ -1,4 +1,4 @@
--- What was read of a line, its last word still text where that takes room.
+-- What was read of a line. Its last word is still text, if it takes room to read it.
 use Rattle.std.specs.Prelude.{ℕ, List, Option, Some, None, option_copied, option_map, Result, Ok, Err}
 use Rattle.std.specs.Result.{result_ok}
 use Rattle.common_types.specs.OptionChain.{◌>>=◌}

@@ -110,7 +110,7 @@ pub enum LineFault<'a> {
     NoTenant(&'a [u8]),
     /// It is an odd count of hexadecimal digits.
     Odd(Operand, &'a [u8]),
-    /// The command is none.
+    /// The words are not a command.
     Command(TextFault),
 }
 

@@ -69,8 +69,8 @@ fn decode_into(text: &[u8], out: &mut [u8])
     }
 }
 
-/// The bytes that digits in either case spell, in a room of their own; `None` if the digits are odd in number or some
-/// are none.
+/// The bytes that digits in either case spell, in a buffer of their own. `None` if the number of digits is odd, or if
+/// a character is not a digit.
 pub(crate) fn decode<'a>(text: &[u8], room: &'a mut Vec<u8>) -> Result<Option<&'a [u8]>, AllocError>
     ensures { IfOk result (λ bytes. option_map (λ b. b.now) bytes ≡ result_ok (decode_of text.now)) }
 {

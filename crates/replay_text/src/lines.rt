@@ -23,7 +23,7 @@ use ilp_addr::Moment;
 use std::alloc::{AllocError, Global};
 use tenant_core::Command;
 
-/// What a line spells. Its last word is still text where that takes room: the digits of a frame, and a command.
+/// What a line spells. Its last word is still text if it takes room to read it: the digits of a frame, and a command.
 #[derive(Clone, Copy)]
 pub(crate) enum Spelled<'a> {
     Load {
@@ -55,7 +55,7 @@ pub(crate) enum Spelled<'a> {
 
 // ---- the words after a verb
 
-// The operand that is missing where there are only these words.
+// The operand that is missing if there are only these words.
 fn missing<'a>(verb: Verb, words: Option<&'a [u8]>) -> LineFault<'a> {
     let given = words.map_or(0, |words| words.split(|b| *b == b' ').count());
     match verb.operands().get(given) {
@@ -181,8 +181,8 @@ fn is_skipped(line: &[u8]) -> bool
     }
 }
 
-/// What a line spells, `None` if it is skipped; or why it is bad, its last word apart where that takes room. The first
-/// word that is wrong decides, unless one is missing.
+/// What a line spells, `None` if it is skipped; or why it is bad. A last word that takes room is not read yet. The
+/// first wrong word decides, unless one is missing.
 #[tactic(auto, unfolding(crate::specs::Script::meaning_of))]
 pub(crate) fn read_line<'a>(
     parties: Parties<'_>,
@@ -219,7 +219,7 @@ fn command_in(alloc: Global, text: &[u8]) -> Result<Result<Command, TextFault>, 
     }
 }
 
-// What is wrong with the last word, where it was left as text. Frames are not taken down.
+// What is wrong with the last word, if it was left as text. Frames are not stored.
 fn last_fault<'a>(alloc: Global, spelled: &Spelled<'a>) -> Result<Option<LineFault<'a>>, AllocError>
     ensures { IfOk result (λ fault. is_none fault ≡ is_some (step_of_spelled spelled.now)) }
 {

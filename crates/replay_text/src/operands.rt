@@ -147,7 +147,7 @@ pub(crate) fn frame_of<'a>(
     Ok(decode(digits, room)?.map(Octets::of))
 }
 
-/// What came back: the bytes that a word spells, in the room, or a fault where there is no word.
+/// What came back: the bytes that a word spells, in the buffer, or a fault if there is no word.
 pub(crate) fn given_of<'a>(
     word: Option<&[u8]>,
     room: &'a mut Vec<u8>,

@@ -235,7 +235,7 @@ fn put_line(names: &[Name], out: &mut Vec<u8>, output: &Output) -> Result<(), Al
     Ok(())
 }
 
-// What a step told, in words.
+// The output of a step, in words.
 fn put_told_text(
     names: &[Name],
     out: &mut Vec<u8>,

@@ -343,10 +343,11 @@ fn replay_for<K: PeriodKeeper, R: Read + Device, W: Write + Device>(
     )
 }
 
-/// Replays the script that the reader has left, as `replay` does, and shows the keeper each period that a roll of the script closes.
+/// Replays the script that the reader has left, as `replay` does, and shows the keeper each period that a roll of the
+/// script closes.
 ///
-/// It sees them in the order of the script's steps, each once, before the next step. No period is copied. Where the replay ends early,
-/// it has seen those of some first steps.
+/// The keeper sees the periods in the order of the script's steps, each once, before the next step. No period is
+/// copied. If the replay ends early, it has seen those of the steps that were done.
 pub fn replay_keeping<K: PeriodKeeper, R: Read + Device, W: Write + Device>(
     alloc: Global,
     setup: &[u8],
@@ -387,11 +388,13 @@ pub fn replay_keeping<K: PeriodKeeper, R: Read + Device, W: Write + Device>(
 
 /// Replays the script that the reader has left, for the setup, and writes a line or more for each of its steps.
 ///
-/// `setup` are the bytes of a setup, and `workers` is from 1 to 64. The whole script is read before the first step; at
-/// most 16,777,217 bytes are taken from the reader. The faults are looked for in this order: those of the setup, a
-/// read that failed, a script that is too long, its first bad line. After them nothing was written. Memory may be
-/// refused at any point, and a write may fail: then a front of the text was written, or nothing. `Device` comes
-/// exactly if one of the two devices failed in this call; what failed is not tried again.
+/// `setup` has the bytes of a setup, and `workers` is from 1 to 64. The whole script is read before the first step. At
+/// most 16,777,217 bytes are taken from the reader.
+///
+/// Errors, in the order of the tests: a fault of the setup, a read that failed, a script that is too long, its first
+/// bad line. Nothing was written then. Memory may run out at any point, and a write may fail: then a part of the text
+/// from its start on was written, or nothing. `Device` comes exactly if one of the two devices failed in this call.
+/// What failed is not tried again.
 pub fn replay<R: Read + Device, W: Write + Device>(
     alloc: Global,
     setup: &[u8],

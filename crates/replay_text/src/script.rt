@@ -167,7 +167,7 @@ pub fn check_script(
     // A line that is named is the first bad one.
     ensures first_bad { (number : ℕ) → result ≡ Err (ReadError.Fault (ScriptFault.Line number))
         → IsFirstBad names.now workers (lines_of text.now) number }
-    // A text is too long for a script before anything else is wrong with it.
+    // A text that is too long for a script has no other fault.
     ensures size { (result ≡ Err (ReadError.Fault ScriptFault.Size)) ↔ (MAX_SCRIPT < length text.now) }
     ensures exact { IsCheckedAs result (steps_of_script names.now workers text.now) }
 {

@@ -57,7 +57,7 @@ fn take_some<R: Read + Device>(
     }
 }
 
-/// All that the reader has left, where that is at most 16,777,216 bytes. At most one byte more is taken from it. A read
+/// All that the reader has left, if that is at most 16,777,216 bytes. At most one byte more is taken from it. A read
 /// that failed ends the reading.
 pub fn read_script<R: Read + Device>(alloc: Global, reader: &mut R) -> Result<Vec<u8>, StreamFault>
     ensures whole { IfOk result (λ text. IfSome (R.remaining reader.old) (λ bytes. text.items ≡ bytes)) }
@@ -102,8 +102,8 @@ fn write_some<W: Write + Device>(
     }
 }
 
-/// Writes the text, all of it where no fault comes and a front of it in any case. A write that failed ends the writing.
-/// Before, the writer had failed that often at most.
+/// Writes the text: all of it if no fault comes, otherwise a part from its start on. A write that failed ends the
+/// writing. Before the call, the writer had failed `before` times at most.
 pub fn write_text<W: Write + Device>(
     writer: &mut W,
     text: &[u8],

@@ -89,13 +89,13 @@ pub record WasCarried {J : Type 0} {r : Ghosts J} (Gives : ℕ → Type 0) (befo
 abbrev pub command_line : List ℕ → List ℕ
 command_line body = if slice_index_or body (length body - 1) 0 == 10 then take (length body - 1) body else body
 
--- a command's answer is printed in its lines (200), unless there is no memory for them (503)
+-- a command's answer is printed in its lines (200), unless it is out of memory for them (503)
 abbrev pub IsPrinted : {J : Type 0} {r : Ghosts J} → Office J r → ℕ → Result Answered CommandFault → Status → List ℕ → Type 0
 IsPrinted office tenant answer told printed =
     ((told ≡ status.Answered) × (printed ≡ answer_lines (name_of office.names.items tenant) answer))
     ⊎ (told ≡ status.Unavailable)
 
--- what the tenant's book answers or refuses is printed; for want of anything else nothing is (503)
+-- what the tenant's book answers or refuses is printed; any other fault is a 503
 abbrev pub IsTold : {J : Type 0} {r : Ghosts J} → Office J r → ℕ → Result Answered GovernFault → Status → List ℕ → Type 0
 IsTold office tenant (Ok answered) told printed = IsPrinted office tenant (Ok answered) told printed
 IsTold office tenant (Err Spent) told printed = told ≡ status.Unavailable
@@ -121,7 +121,8 @@ pub record WasGoverned {J : Type 0} {r : Ghosts J} (Gives : ℕ → Type 0) (off
   pub sent : after.sent ≡ before.sent
   pub told_so : IsTold office tenant answer told after.printed.items
 
--- A text that spells a command is done; one that spells none is malformed (400). Where there is no memory to read it nothing happens (503).
+-- A text that spells a command is done, and any other is malformed (400). If it is out of memory to read it, nothing
+-- happens (503).
 abbrev pub WasObeyed : {J : Type 0} {r : Ghosts J} → (Gives : ℕ → Type 0) → Result Command TextFault → Office J r → Desk J r → ℕ → Status → Desk J r → Type 0
 WasObeyed Gives (Ok given) office before tenant told after =
     WasGoverned Gives office before tenant given told after ⊎ ((told ≡ status.Unavailable) × IsUntouched before after)

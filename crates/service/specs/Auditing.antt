@@ -70,7 +70,7 @@ HaveEnded under wanted tenants before after =
 
 -- ---- the audit
 
--- the receipts of each worker: of each of its steps, and of nothing else
+-- the receipts of each worker: one of each of its steps, and no others
 abbrev pub lists_of : List ShareView → List (List Receipt)
 lists_of shares = map (λ s. receipts_told s.steps) shares
 

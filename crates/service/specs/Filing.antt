@@ -24,7 +24,7 @@ Telling S = S → List ℕ → ℕ → Option Bool → S → Type 0
 abbrev pub Keeping : Type 0 → Type 1
 Keeping S = S → Stated → Bool → S → Type 0
 
--- the store told that it has no statement of the period; then that was handed to it
+-- the store said that it has no statement of the period; then that was handed to it
 pub record WasHanded {S : Type 0} (Tells : Telling S) (Keeps : Keeping S) (p : PeriodParts) (kept : Bool) (before after : S) : Type 0 where
   pub statement : Stated
   pub is_of : IsStatedOf p statement
@@ -54,7 +54,7 @@ abbrev pub line_unless : (kept : Bool) → PeriodParts → List ℕ
 line_unless true p = []
 line_unless false p = missing_line p
 
--- the statements of all were to be kept, one after another, and these lines tell which are not
+-- the statements of all were written, one after another, and these lines say which are not kept
 abbrev pub AreFiled : {S : Type 0} → Telling S → Keeping S → List PeriodParts → (before after : S) → List ℕ → Type 0
 AreFiled Tells Keeps [] before after lines = (after ≡ before) × (lines ≡ [])
 AreFiled {S} Tells Keeps (p ∷ ps) before after lines =

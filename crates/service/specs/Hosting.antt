@@ -33,7 +33,7 @@ pub record HasTold {J : Type 0} {r : Ghosts J} (openings : List Opening) (office
   pub refused : asked.status ≡ 401 ↔ (wants_token asked.request ≡ true) × (bytes_eq asked.token token ≡ false)
   pub told : asked.status ≡ 200 → IsToldOf openings office asked.request text
 
--- a plain seat of these meters at which nothing is counted, where there is one
+-- a plain seat of these meters at which nothing is counted, if there is one
 abbrev pub IsIdle : TableId → Option SeatState → Type 0
 IsIdle id None = Unit {0}
 IsIdle id (Some seat) = (seat ≡ empty_seat id false) × ((tenant : ℕ) (kind : Kind) → count_of tenant kind seat ≡ 0)
@@ -43,7 +43,7 @@ abbrev pub seats_in : Option SeatState → ℕ
 seats_in None = 0
 seats_in (Some seat) = 1
 
--- what is done beside the workers' threads, where anything is: one call of `stay`
+-- what is done beside the workers' threads, if there is anything: one call of `stay`
 abbrev pub HasStayed : {A : Type 0} → (A → A → Type 0) → Option A → Option A → Type 0
 HasStayed stays None after = after ≡ None
 HasStayed {A} stays (Some before) after = (left : A) × (after ≡ Some left) × stays before left

@@ -11,7 +11,7 @@ rush_of true waiting is_refused = Stopping
 rush_of false waiting true = Crowded
 rush_of false waiting false = if waiting == 0 then Crowded else Calm
 
--- for how many milliseconds in all: 30 seconds, and less where others wait or the service stops
+-- for how many milliseconds in all: 30 seconds, and less if others wait or the service stops
 abbrev pub time_for : Activity → Rush → ℕ
 time_for Idle Calm = 30000
 time_for Busy Calm = 30000
@@ -20,7 +20,7 @@ time_for Busy Crowded = 1000
 time_for Idle Stopping = 1
 time_for Busy Stopping = 5000
 
--- what is left of that; in a service that stops, after the milliseconds since the stop alone
+-- what is left of that; in a service that stops, only the milliseconds since the stop count
 abbrev pub left_of : Activity → Rush → (spent stopping : ℕ) → ℕ
 left_of activity Calm spent stopping = time_for activity Calm - spent
 left_of activity Crowded spent stopping = time_for activity Crowded - spent
@@ -32,7 +32,7 @@ yields Calm status served = false
 yields Crowded status served = status == 400 || status == 401 || nat_le 1000 served
 yields Stopping status served = false
 
--- for how many milliseconds a request at the host's door may be read now: 500 once it has come whole, and 20 where it has not
+-- for how many milliseconds a request at the host's door may be read now: 500 once it has come whole; 20 if it has not
 -- come after 500
 abbrev pub reading_time : (has_come : Bool) → (waited : ℕ) → Option ℕ
 reading_time true waited = Some 500

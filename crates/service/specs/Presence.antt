@@ -27,7 +27,7 @@ pub record ArePresent {J : Type 0} {r : Ghosts J} (openings : List Opening) (off
   pub all : length setups ≡ office.books.tenants
   pub each : (tenant : ℕ) (setup : TenantTerms) → slice_get setups tenant ≡ Some setup → IsPresent openings office tenant setup
 
--- the text of such setups, where the clocks begin as they did before: it is read as these tenants
+-- the text of such setups, in which the clocks begin as they did before: it is read as these tenants
 pub record IsPresentText {J : Type 0} {r : Ghosts J} (openings : List Opening) (office : Office J r) (text : List ℕ) : Type 0 where
   pub setups : List TenantTerms
   pub present : ArePresent openings office setups

@@ -12,7 +12,8 @@ TellingReceipts S = S → Option Bool → S → Type 0
 abbrev pub KeepingReceipts : Type 0 → Type 1
 KeepingReceipts S = S → List ℕ → Bool → S → Type 0
 
--- Each worker has kept its receipts. The store told that it has none; then the text of those of all workers was handed to it.
+-- Each worker has kept its receipts. The store said that it has none. Then the text of those of all workers was handed
+-- to it.
 pub record WereHanded {S : Type 0} (Tells : TellingReceipts S) (Keeps : KeepingReceipts S) (shares : List ShareView) (kept : Bool) (before after : S) : Type 0 where
   pub audited : All (λ s. s.audited ≡ true) shares
   pub between : S

@@ -14,15 +14,14 @@ use std::alloc::{AllocError, Global};
 use tenant_core::Period;
 use workers::Backlog;
 
-/// What a service knows of its statements: the folder where they are kept, and the periods whose statements are still to be
-/// written.
+/// What a service knows of its statements: their folder, and the periods whose statements are not written yet.
 #[derive(Drop)]
 pub struct Filing {
     pub folder: String,
     pub backlog: Backlog,
 }
 
-/// Where statements are kept.
+/// A store of statements.
 pub trait StatementStore {
     /// What a question makes of it: before, of whose period it was asked, the answer, and after.
     ghost tells: { Self → List ℕ → ℕ → Option Bool → Self → Type 0 };
@@ -30,11 +29,11 @@ pub trait StatementStore {
     /// What keeping does: the store before, the statement, whether it is kept now, and the store after.
     ghost keeps: { Self → Stated → Bool → Self → Type 0 };
 
-    /// Whether there is a statement of a tenant's period; `None` if that can't be told.
+    /// Whether there is a statement of a tenant's period; `None` if that is not known.
     fn has(&mut self, name: &Name, period: u64) -> Option<bool>
         ensures { tells self.old name.now period result self.new };
 
-    /// Keeps the statement of a tenant's period for good, of which there is none. Says whether it is kept now.
+    /// Keeps the statement of a tenant's period for good. There is none yet. Returns whether it is kept now.
     fn keep(&mut self, name: &Name, period: u64, text: &[u8]) -> bool
         ensures { keeps self.old (record { name = name.now; period = period; text = text.now }) result self.new };
 }
@@ -67,7 +66,7 @@ pub fn file_each<S: StatementStore>(
     Ok(lines)
 }
 
-// Writes the statement of a closed period, or a line where it is not kept now.
+// Writes the statement of a closed period, or a line if it is not kept now.
 fn file_or_tell<S: StatementStore>(
     alloc: Global,
     store: &mut S,

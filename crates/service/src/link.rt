@@ -54,9 +54,9 @@ pub struct Sockets<'a, H> {
     pub handle: &'a H,
 }
 
-/// A link that makes one exchange for each packet, in one of the places that the tenants share. The waiting for a place, the
-/// connecting, and all reads and writes have in all the tenant's longest hold, or the time until the packet expires where
-/// that is less. None is begun after it, and the exchange ends a little later.
+/// A link that makes one exchange for each packet, in one of the places that the tenants share. An exchange waits for
+/// a place, connects, reads and writes within the tenant's longest hold, or within the time until the packet expires
+/// if that is less. None of these begins after that time, and the exchange ends a little later.
 #[derive(Drop)]
 pub struct PeerLink<'a, H, C, P> {
     handle: &'a H,

@@ -34,11 +34,11 @@ pub struct Office<J: Run> {
     pub places: Places,
     /// Where connections come in.
     pub door: Door,
-    /// Where the statements of closed periods are kept, if anywhere.
+    /// Where the statements of closed periods are kept, if they are.
     pub filing: Option<Filing>,
     /// How many commands came for each tenant under a token that is not its operator's.
     pub refused_tokens: Vec<AtomicU64>,
-    /// Where the tenants' clocks began.
+    /// The moment at which the tenants' clocks began.
     pub start: Moment,
     ghost known: { vec_len terms ≡ books.tenants },
     ghost named: { vec_len names ≡ books.tenants },

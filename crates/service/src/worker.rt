@@ -36,8 +36,9 @@ pub enum Over {
     Yielded,
 }
 
-/// A worker that serves connections, one after another, as long as more may come, and ends early where none can be accepted
-/// for a minute. It carries packets to the next peers, and does the commands of those who show the tenant's token for them.
+/// A worker that serves connections, one after another, as long as more may come. It ends early if none can be
+/// accepted for a minute. It carries packets to the next peers, and does the commands of those who show the tenant's
+/// token for them.
 #[derive(Drop)]
 pub struct Worker<'a, H, C, J: Run> {
     handle: &'a H,
@@ -212,7 +213,7 @@ impl<H: Wait + Net<Stream = TcpStream> + std::time::Clock + Disk, C: Clock, J: R
         stream
     }
 
-    // For how many milliseconds a connection was served that came then; for ever where the clock can't be read.
+    // For how many milliseconds a connection was served that came at that time; `u64::MAX` if the clock can't be read.
     fn served_since(&self, came: Option<Instant>) -> u64 {
         match (came, Instant::now(self.handle)) {
             (Some(came), Ok(now)) => {
@@ -268,7 +269,7 @@ impl<H: Wait + Net<Stream = TcpStream> + std::time::Clock + Disk, C: Clock, J: R
         unreachable!()
     }
 
-    // Serves a connection until it ends, and says whether it brought any byte.
+    // Serves a connection until it ends, and says whether it sent any byte.
     fn serve_connection(&mut self, stream: &TcpStream, inbox: &mut Inbox) -> bool
         ensures office { self.new.office ≡ self.old.office }
         ensures clock { self.new.clock ≡ self.old.clock }

@@ -1,5 +1,5 @@
--- Chains of closed periods, each of which opens with what the one before it ended with. Where the service began again, the next one
--- opens as the first period of a setup does, which has what the one before it ended with.
+-- Chains of closed periods, each of which opens with what the one before it ended with. If the service began again,
+-- the next one opens as the first period of a setup does, which has what the one before it ended with.
 use Rattle.std.specs.Prelude.{ℕ, ◌≡◌, List, [], ◌∷◌, ◌++◌, All, fold, map, length, sum_by}
 use Rattle.std.specs.List.{AllZip, flat_map}
 use Rattle.statements.specs.Known.{GoesOn, IsStatedAs}
@@ -85,7 +85,7 @@ abbrev pub lines_done : List Line → Due → Done → List Line
 lines_done ls due d =
     map (line_anew (peers_of (opening_due (due_after due d.periods))) d.next.setup.network.peers) (lines_after ls due d.periods)
 
--- the lines after runs, with the numbers that peers have from the last setup on; those, where there is no run
+-- the lines after runs, with the numbers that peers have from the last setup on; the same lines if there is no run
 abbrev pub lines_behind : List Line → Due → List Done → List Line
 lines_behind ls due [] = ls
 lines_behind ls due (d ∷ ds) = lines_behind (lines_done ls due d) (due_by d.next) ds

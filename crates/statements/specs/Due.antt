@@ -17,7 +17,7 @@ pub record Start : Type 0 where
 abbrev pub start_at : ℕ → TenantTerms → ℕ → Start
 start_at place setup clock = record { place = place; setup = setup; clock = clock }
 
--- what is due where the service begins so: the opening of the tenant's first period
+-- what is due if the service begins with this start: the opening of the tenant's first period
 abbrev pub due_by : Start → Due
 due_by s = Setup (opening_of s.place s.setup s.clock)
 

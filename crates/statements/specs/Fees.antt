@@ -26,11 +26,11 @@ abbrev pub goes_on : Outcome → Bool
 goes_on (Packet (Forward hold peer amount expiry)) = true
 goes_on _ = false
 
--- the fee that is kept where an entry led to that in a state: of a packet that goes on
+-- the fee that is kept if an entry led to that in a state: of a packet that goes on
 abbrev pub fee_kept : State → Record → List ℕ
 fee_kept s r = if goes_on r.outcome then route_fee s r.entry ∷ [] else []
 
--- the fees of the packets that records say to have gone on, where the records follow that state
+-- the fees of the packets that went on by records that follow that state
 abbrev pub fees_kept : State → List Record → List ℕ
 fees_kept s [] = []
 fees_kept s (r ∷ rs) = fee_kept s r ++ fees_kept (recorded s (Some r)) rs

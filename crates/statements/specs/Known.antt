@@ -63,7 +63,7 @@ pub record IsStatedAs (o other : Opening) : Type 0 where
 
 -- ---- numbered anew
 
--- the number that a peer has among others, where these have it under that number
+-- the number of the other peer that is at the place of the peer of that number, if there is one
 abbrev pub anew : List Peer → List Peer → ℕ → Option ℕ
 anew (p ∷ ps) (q ∷ qs) n = if p.number == n then Some q.number else anew ps qs n
 anew ps qs n = None

@@ -15,7 +15,7 @@ use Rattle.tenant_core.specs.declared.opening.Opening.{Opening}
 use Rattle.tenant_core.specs.declared.peer.Peer.{Peer}
 use Rattle.tenant_core.specs.declared.period.PeriodParts.{PeriodParts}
 
--- what the peer of that number owes where that is the ending; 0 if it was taken away
+-- what the peer of that number owes at that ending; 0 if it was taken away
 abbrev pub balance_in : Option Opening → ℕ → ℤ
 balance_in None n = pos 0
 balance_in (Some ending) n = opening_balance (peer_numbered n ending.network.peers)
@@ -52,7 +52,8 @@ told_both before after =
 abbrev pub line_of : (ℕ → Told) → PeerSeen → Line
 line_of told s = record { seen = s; here = Some s.number; told = told s.number }
 
--- the line of a peer that was there before, after a run in which it has that number; none, where it was taken away before
+-- the line of a peer that was there before, after a run in which it has that number, or in which it is not there any
+-- more
 abbrev pub line_under : (ℕ → Told) → Line → Option ℕ → Line
 line_under told l None = l
 line_under told l (Some n) = record l { told = told_both l.told (told n) }
@@ -60,7 +61,7 @@ line_under told l (Some n) = record l { told = told_both l.told (told n) }
 abbrev pub line_with : (ℕ → Told) → Line → Line
 line_with told l = line_under told l l.here
 
--- the peers that have no line yet: those that a run added, and, where nobody had one, those that it began with
+-- the peers that have no line yet: those that a run added, and, if nobody had one, those that it began with
 abbrev pub newcomers : List Line → (first added : List PeerSeen) → List PeerSeen
 newcomers [] first added = first ++ added
 newcomers (l ∷ ls) first added = added
@@ -73,6 +74,7 @@ lines_with told ls first added = map (line_with told) ls ++ map (line_of told) (
 abbrev pub lines_after : List Line → Due → List PeriodParts → List Line
 lines_after ls due ps = lines_with (told_of (due_after due ps) ps) ls (seen_before ps) (flat_map seen_during ps)
 
--- a line where the service began again, whose peers have the numbers of the others from then on: none, where its peer is gone
+-- a line once the service began again, whose peers have the numbers of the others from then on; no number if its peer
+-- is gone
 abbrev pub line_anew : List Peer → List Peer → Line → Line
 line_anew peers others l = record l { here = option_and_then (anew peers others) l.here }

@@ -161,7 +161,7 @@ change_parts (Settled n side amount) = number n ++ number amount
 abbrev pub change_words : Changed → List ℕ
 change_words c = change_verb c ++ change_parts c
 
--- a Prepare: who brought it, its amount, its expiry, its condition and its destination
+-- a Prepare: who sent it, its amount, its expiry, its condition and its destination
 unfoldable pub decide_words : DecideEntry → List ℕ
 decide_words d =
     codes " prepare" ++ number d.peer ++ number d.amount ++ number d.expiry ++ word (encode_lower d.condition)

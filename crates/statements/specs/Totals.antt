@@ -19,7 +19,7 @@ came_from n p = sum_by (came_by n) p.records
 abbrev pub went_to : ℕ → PeriodParts → ℕ
 went_to n p = sum_by (went_by n) (holds_of (state_before_roll p))
 
--- what its fulfilled packets brought
+-- the amounts of its fulfilled packets
 abbrev pub fulfilled_from : ℕ → PeriodParts → ℕ
 fulfilled_from n p = taken_in_of (state_before_roll p) n
 

@@ -246,9 +246,10 @@ impl Chain {
         }
     }
 
-    /// Takes a setup that the service began with, which has the tenant at that place and starts at that moment. Where anything came
-    /// before, it is to have what was due of the tenant, as a running service writes it: the same terms, peers with the same
-    /// balances, routes and rates. Tokens and targets are not compared. Where it is refused, nothing has changed.
+    /// Takes a setup that the service began with, which has the tenant at that place and starts at that moment. If
+    /// anything came before, the setup must have what was due of the tenant, as a running service writes it: the same
+    /// terms, peers with the same balances, routes and rates. Tokens and targets are not compared. If it is refused,
+    /// nothing has changed.
     pub fn begin(
         &mut self,
         alloc: Global,

@@ -122,7 +122,7 @@ fn next_peer(entry: &Entry, next: PeerNo) -> PeerNo {
 }
 
 impl Course {
-    // Follows an entry; `false` where it would not have been recorded.
+    // Follows an entry; `false` if it would not have been recorded.
     fn follow(&mut self, alloc: Global, entry: &Entry) -> Checked<bool>
         requires { is_roll entry.now ≡ false }
         ensures { IfOk result (λ is_followed. IsTrue is_followed → IsCharged self.old → IsCharged self.new) }

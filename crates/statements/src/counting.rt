@@ -28,7 +28,7 @@ pub enum OfRecord {
 pub enum OfHold {
     /// That it went on to the peer.
     Went,
-    /// What it brought from the peer, fulfilled.
+    /// Its amount from the peer, once fulfilled.
     Brought,
     /// The price of it for the peer, once fulfilled.
     CameTo,

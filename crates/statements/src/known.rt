@@ -87,7 +87,7 @@ pub fn opens_as(opening: &Opening, other: &Opening) -> bool
         && are_same_rates(opening.network.rates(), other.network.rates())
 }
 
-/// The number that a peer has among others, at the place where these have it under that number.
+/// The number of the other peer that is at the place of the peer of that number. `None` if there is none.
 pub fn anew(peers: &[Peer], others: &[Peer], number: PeerNo) -> Option<PeerNo>
     ensures { result ≡ anew peers.now others.now number }
 {

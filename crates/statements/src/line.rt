@@ -32,7 +32,7 @@ pub struct Line {
     pub told: Told,
 }
 
-// What the peer of that number owes where that is the ending.
+// What the peer of that number owes at that ending.
 fn balance_in(ending: Option<&Opening>, peer: PeerNo) -> i64
     ensures { result ≡ balance_in (option_copied ending.entry) peer }
 {

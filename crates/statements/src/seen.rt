@@ -20,7 +20,7 @@ pub struct PeerSeen {
     pub began: i64,
 }
 
-/// The same once more.
+/// A copy.
 pub fn copy_of(seen: &PeerSeen) -> PeerSeen
     ensures { result ≡ seen.now }
 {

@@ -1,4 +1,5 @@
-//! Where a text is not good, for people: which line, and what the rules lead to there. No clause says which line is shown.
+//! Where a text is not good, for people: which line, and what the rules lead to there. No clause says which line is
+//! shown.
 
 use crate::chain::{Chain, ChainFault, present};
 use crate::checked::{StatementFault, first_difference, gone_over};
@@ -10,7 +11,7 @@ use route_table::Route;
 use std::alloc::{AllocError, Global};
 use tenant_core::{Network, Peer, PeerNo, RateTerms, TenantSetup, TenantTerms};
 
-/// The lines that may stand before the records.
+/// The most lines before the records.
 const HEAD_LINES: usize = 3 + 256 + 4_096 + 4_096;
 
 /// The line of that number, counted from 1, without its line feed; `None` if there are not so many.
@@ -23,7 +24,8 @@ fn is_of_head(line: &[u8]) -> bool {
     verb == b"peer".as_slice() || verb == b"route".as_slice() || verb == b"rate".as_slice()
 }
 
-// How many lines stand before the records: those of the version, the tenant and the period, and what they deal with.
+// How many lines come before the records: those of the version, the tenant and the period, and its peers, routes and
+// rates.
 fn head_lines(text: &[u8]) -> usize {
     let mut lines = Lines::of(text);
     let mut count: usize = 0;
@@ -36,7 +38,7 @@ fn head_lines(text: &[u8]) -> usize {
     count
 }
 
-/// The line that a fault of a text is about, counted from 1, where it is about one.
+/// The line that a fault of a text is about, counted from 1, if it is about one.
 pub fn line_of(text: &[u8], fault: ChainFault) -> Option<usize> {
     match fault {
         ChainFault::Apart(line)
@@ -49,8 +51,8 @@ pub fn line_of(text: &[u8], fault: ChainFault) -> Option<usize> {
     }
 }
 
-/// The text that the rules lead to, from the opening and the entries of a text on. The fault is that of the text where they
-/// lead to none.
+/// The text that the rules lead to, from the opening and the entries of a text on. If they lead to none, the fault is
+/// that of the text.
 pub fn ruled(alloc: Global, text: &[u8]) -> Result<Vec<u8>, ReadError<StatementFault>> {
     Ok(write_statement(alloc, &gone_over(alloc, text)?.period)?)
 }
@@ -112,8 +114,8 @@ fn setup_text(alloc: Global, terms: &TenantTerms) -> Result<Vec<u8>, AllocError>
     Ok(out)
 }
 
-/// The first line in which a setup does not say of a tenant what was due, in the words of a statement: as it is, and as it has
-/// to be. Empty, where nothing is left to be said there.
+/// The first line in which a setup differs from what was due of a tenant, in the words of a statement: as it is, and
+/// as it has to be. Empty if there is no such line on one side.
 #[derive(Drop)]
 pub struct SetupLines {
     pub said: Vec<u8>,

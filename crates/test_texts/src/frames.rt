@@ -133,7 +133,8 @@ fn with_values(alloc: Global, names: &'static str, row: &str, text: &str) -> Res
     Ok(filled)
 }
 
-/// The text with the values of the names in braces. Where one has none, the failure has the row's title and the name.
+/// The text with the values of the names in braces. If a name has no value, the failure has the row's title and the
+/// name.
 pub fn filled_in(alloc: Global, row: &str, text: &str) -> Result<String, Fail> {
     let once = with_values(alloc, NAMES, row, text)?;
     with_values(alloc, NAMES, row, once.as_str())
@@ -144,7 +145,7 @@ pub fn filled(alloc: Global, text: &str) -> Result<String, Fail> {
     filled_in(alloc, text, text)
 }
 
-/// The bytes that hexadecimal digits and names in braces stand for.
+/// The bytes of hexadecimal digits and names in braces.
 pub fn frame(alloc: Global, text: &str) -> Result<Vec<u8>, Fail> {
     let digits = filled(alloc, text)?;
     Ok(hex::decode(alloc, digits.as_str())?)

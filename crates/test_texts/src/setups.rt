@@ -7,7 +7,7 @@ use std::test::Fail;
 /// of the table. Texts have single quotes here, and double quotes in the setup.
 pub type Line = (&'static str, &'static str, &'static str);
 
-/// The value of a line that the setup lacks. With the header all lines of the table are left out.
+/// The value of a line that the setup does not have. With the header, all lines of the table are left out.
 pub const ABSENT: &str = "-";
 
 pub const PEER: &str = "[[tenant.peer]]";
@@ -215,8 +215,8 @@ fn changed_text(alloc: Global, lines: &[Line], changes: &[Line]) -> Result<Strin
     Ok(text)
 }
 
-/// The usual setup with the values of these lines in place of its own. Each names a line of `USUAL`; where one does not, the
-/// failure has the row's title and the line's name.
+/// The usual setup with the values of these lines in place of its own. Each names a line of `USUAL`. If one does not,
+/// the failure has the row's title and the line's name.
 pub fn setup_in(alloc: Global, row: &str, changes: &[Line]) -> Result<String, Fail> {
     let lines = lines_of(alloc, USUAL)?;
     if let Some((whose, key, _)) = unknown_of(&lines, changes) {

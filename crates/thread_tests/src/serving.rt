@@ -27,7 +27,7 @@ use wire::{
     posted, request,
 };
 
-// A setup of one tenant, where nothing is sent on.
+// A setup of one tenant that sends nothing on.
 fn usual(alloc: Global) -> Result<String, Fail> {
     one_tenant(alloc, 7802, 400)
 }
@@ -109,7 +109,7 @@ const ALONE: Extent = Extent {
     rounds: Some(1),
 };
 
-// Lines of the tenants alone.
+// Only the lines of the tenants.
 const NOTHING_MORE: Report = Report {
     balances: false,
     audit: false,
@@ -378,7 +378,7 @@ fn a_peer_drips_a_fulfill_past_the_expiry(rt: HostRuntime) -> Result<(), Fail> {
     expect(&rt, came, &CUT)
 }
 
-// A port where nobody listens.
+// A port at which nobody listens.
 fn lonely_port(rt: &impl Net<Listener = TcpListener, Stream = TcpStream>) -> Result<u16, Fail> {
     let listener = TcpListener::bind(rt, "127.0.0.1:0")?;
     Ok(listener.local_addr()?.port())

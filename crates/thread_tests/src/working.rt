@@ -186,7 +186,7 @@ fn owed(book: &Book) -> Option<(i64, i64, u64, u64)> {
     Some((alice.balance, bob.balance, alice.held_in, bob.held_out))
 }
 
-// The books and their numbers, where the shares are all there and add up.
+// The books and their numbers, if the shares are all there and add up.
 fn gathered<J: Run>(
     alloc: Global,
     books: Books<J>,

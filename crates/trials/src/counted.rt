@@ -130,7 +130,7 @@ impl Count {
         }
     }
 
-    // The fee of the route for the slot's address: its own, or else that of the empty prefix.
+    // The fee of the route for the slot's address: its own route, or that of the empty prefix.
     fn fee(&self, slot: u64) -> u64 {
         let mut fee = 0;
         for route in &self.routes {

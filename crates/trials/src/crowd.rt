@@ -1,5 +1,5 @@
-//! Crowds: nine hostile tenants beside a calm one, by the same workers. The calm one's lines are those of its own steps alone,
-//! for a setup that has no other tenant.
+//! Crowds: nine hostile tenants beside a calm one, by the same workers. The calm one's lines must be those of its own
+//! steps for a setup that has no other tenant.
 
 use crate::fault::Fault;
 use crate::hands::{Own, own_of};
@@ -10,7 +10,7 @@ use std::alloc::Global;
 use std::str;
 use test_texts::Draws;
 
-// The numbers of a round.
+// The random numbers of a round.
 fn draws_of(round: u32) -> Draws {
     Draws::new(u64::from(round).wrapping_mul(0xbf58_476d_1ce4_e5b9) ^ 0x9e37_79b9_7f4a_7c15)
 }
@@ -33,14 +33,14 @@ fn printed(alloc: Global, setup: &str, workers: usize, script: &str) -> Result<V
     Ok(text)
 }
 
-// The calm tenant's lines are those of its own steps alone.
+// Whether the calm tenant's lines are those of its own steps without the others.
 fn is_alone(alloc: Global, workers: usize, own: &Own) -> Result<bool, Fault> {
     let setup = setup_alone(alloc)?;
     let lines = printed(alloc, setup.as_str(), workers, own.script.as_str())?;
     Ok(lines.as_slice() == own.lines.as_bytes())
 }
 
-/// A round: whether the calm tenant sees what it sees alone, and of how many steps.
+/// A round: whether the calm tenant sees what it sees without the others, and of how many steps.
 fn round(
     alloc: Global,
     setup: &str,

@@ -22,7 +22,7 @@ pub enum Fault {
     /// A script whose steps make no list.
     #[error("no such steps")]
     Steps,
-    /// The round in which the calm tenant did not see what it sees alone.
+    /// The round in which the calm tenant did not see what it sees without the others.
     #[error("round {0}: the calm tenant sees other lines than alone")]
     Differs(u32),
     /// A book that looks random can't be begun, or a period not be closed, or its statement is not good.

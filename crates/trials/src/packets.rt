@@ -14,8 +14,8 @@ const CONDITION: [u8; 32] = [
 
 const ZEROS: &str = "00000000000000000000000000000000000000000000000000000000000000";
 
-/// A Prepare: what it is worth, how many milliseconds after 2030-01-01T00:00Z it expires, where it goes, and how many bytes of
-/// data it has.
+/// A Prepare: its amount, how many milliseconds after 2030-01-01T00:00Z it expires, its destination, and how many
+/// bytes of data it has.
 #[derive(Clone, Copy)]
 pub struct Prepare<'a> {
     pub amount: u64,

@@ -10,7 +10,7 @@ const START: u64 = 1_893_456_000_000;
 
 const LATEST: u64 = 253_400_000_000_000;
 
-/// The calm tenant: its lines must be those of its own steps alone.
+/// The calm tenant, which sees only what its own steps give.
 pub const CALM: &str = "calm";
 
 static HOSTILE: [&str; 9] = ["h0", "h1", "h2", "h3", "h4", "h5", "h6", "h7", "h8"];
@@ -77,7 +77,7 @@ fn begun(alloc: Global) -> Result<String, AllocError> {
     String::from_str(alloc, "version = 1\nstart = 1893456000000\n")
 }
 
-/// The setup of the calm tenant alone.
+/// The setup of the calm tenant without the others.
 pub fn setup_alone(alloc: Global) -> Result<String, AllocError> {
     let mut setup = begun(alloc)?;
     put_tenant(alloc, &mut setup, CALM, CALM_JOURNAL)?;

@@ -63,7 +63,7 @@ fn two_books(alloc: Global, setups: &[Setup; 2]) -> Result<[Book; 2], Fail> {
     Ok([book_of(alloc, 0, acme)?, book_of(alloc, 1, beta)?])
 }
 
-// Takes in a packet; a status where that is refused.
+// Takes in a packet. Returns the status if that is refused.
 fn load(slot: &mut Slot, tenant: usize, token: &[u8], body: &[u8]) -> Option<u16> {
     match slot.load(tenant, token, body) {
         Ok(()) => None,

@@ -385,7 +385,7 @@ static ANSWERS: [(&[u8], &[u8], Result<usize, PostFault>); 9] = [
     ),
 ];
 
-// Whether that is found in an answer that is cut there, and the five bytes `frame` where it is five.
+// Whether that is found in an answer that is cut there, and the five bytes `frame` if it is five.
 fn is_found(
     alloc: Global,
     answer: &[u8],

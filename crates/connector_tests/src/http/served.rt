@@ -422,7 +422,7 @@ fn heads_at_their_limits(rt: HostRuntime) -> Result<(), Fail> {
     Ok(())
 }
 
-// The line with the version, the length, and the answer where the body is whole.
+// The line with the version, the length, and the answer if the body is whole.
 static BODIES: [(&[u8], &[u8], usize, &[u8]); 3] = [
     (b"POST /ilp/acme HTTP/1.1\r\n", b"34000", 34_000, KEPT),
     (b"POST /admin/acme HTTP/1.1\r\n", b"2048", 2_048, LINES),
@@ -447,7 +447,7 @@ fn is_cut(alloc: Global, stream: &[u8], text: &[u8]) -> Result<bool, Fail> {
     Ok(outcome.is_unasked(Ok(Served::Ended), text))
 }
 
-// Whether a request is served, and is not where it has a body whose last byte is gone.
+// Whether a request is served, and is not if the last byte of its body is missing.
 fn is_body_served(
     alloc: Global,
     stream: &[u8],
@@ -528,7 +528,7 @@ fn clients_that_wait(rt: HostRuntime) -> Result<(), Fail> {
         assert!(rt; is_told_in_old(rt.alloc(), fields, *size > 0)?, "{i}");
         assert!(rt; is_told_in_new(rt.alloc(), fields, *size > 0)?, "{i}");
     }
-    // Who is refused is not told to go on.
+    // A client that is refused does not get `100 Continue`.
     assert!(rt; is_unknown(rt.alloc(), b"Expect: 100-continue\r\n")?);
     Ok(())
 }

@@ -1,5 +1,5 @@
-//! Random lists of packets, answers, ticks and commands: what a book keeps running, and what it answers, against plain sums
-//! over all that it was handed and that it told.
+//! Random lists of packets, answers, ticks and commands: what a book keeps, and what it answers, against plain sums
+//! over all that went into it and over its answers.
 
 mod draws;
 mod entered;

@@ -48,7 +48,8 @@ fn text_of(alloc: Global, period: &Period) -> Result<Vec<u8>, Fail> {
     Ok(write_receipts(alloc, &[first.as_slice(), second.as_slice()])?)
 }
 
-/// The text of a period's receipts is one, and they are complete where it is a first period. A later one alone does not join.
+/// The text of a period's receipts is valid, and they are complete if it is a first period. A later one without it
+/// does not join.
 pub fn expect_complete(rt: &impl Abort, alloc: Global, period: &Period) -> Result<(), Fail> {
     let text = text_of(alloc, period)?;
     match check_receipts(alloc, slice::from_ref(period), text.as_slice()) {

@@ -1,4 +1,4 @@
-//! Statements of closed periods: what is written is good, and what was changed is not, but where it states another truth.
+//! Statements of closed periods: what is written is good, and what was changed is not, unless it states another truth.
 
 use super::owned::period_of_each;
 use common_types::ReadError;
@@ -111,7 +111,7 @@ fn is_good_changed(alloc: Global, text: &mut [u8], place: usize) -> bool {
     is_good
 }
 
-// How many bytes of the text can be changed, each alone.
+// How many bytes of the text can be changed, one at a time.
 fn changeable(alloc: Global, text: &mut [u8]) -> usize {
     let mut count: usize = 0;
     for place in 0..text.len() {

@@ -181,7 +181,7 @@ static PACKETS: [Packets; 9] = [
     },
 ];
 
-// The rate, the amount and the verdict on it, where what was agreed is otherwise the greatest.
+// The rate, the amount and the verdict on it. Everything else that was agreed is the greatest possible.
 static RATES: [((u64, u64), u64, Wanted); 5] = [
     ((1, 1), MOST, Wanted::Forwarded(0, MOST, 29_000)),
     ((1, 1_000_000_000_000), 1, Wanted::Forwarded(0, 0, 29_000)),

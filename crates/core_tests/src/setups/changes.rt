@@ -4,7 +4,7 @@ use std::alloc::Global;
 use std::test::Fail;
 use test_texts::{Line, setup_with};
 
-// A line of a setup whose three parts stand between bars.
+// A line of a setup: three parts between bars.
 fn line_of(text: &'static str) -> Option<Line> {
     let (whose, rest) = text.split_once('|')?;
     let (key, value) = rest.split_once('|')?;

@@ -1,4 +1,4 @@
-//! Commands: texts that are written back as they stand or in their shortest form, and texts with a fault.
+//! Commands: texts that are written back as they are or in their shortest form, and texts with a fault.
 
 use admin_text::{TextFault, parse_command, write_command};
 use common_types::ReadError;
@@ -6,7 +6,7 @@ use std::alloc::Global;
 use std::process::Abort;
 use std::test::Fail;
 
-// Commands that are written as they stand.
+// Commands that are written back as they are.
 static GOOD: &str = "\
 peer add alice child tok-a http://127.0.0.1:7801/ilp out-a USD 2 1500 1000000 0 100 50
 peer add b peer t http://[::1]/ o mBTC9 255 0 4611686018427387904 4611686018427387904 1000000 0

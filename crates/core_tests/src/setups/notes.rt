@@ -1,4 +1,4 @@
-//! What may be wrong with the money of a good setup, in words for people: a row for each kind, and for what is none.
+//! Possible faults in the money of a good setup, in words for people: a row for each kind, and for good ones.
 
 use super::changes::{changed_setup, changes_and_said};
 use admin_text::notes;

@@ -72,7 +72,7 @@ static TEXTS: [(&str, &[u8], SetupFault); 3] = [
     ("no UTF-8", b"\xff", SetupFault::Toml),
 ];
 
-// A second route's prefix and peer, and the fault that it brings.
+// A second route's prefix and peer, and its fault.
 static SECOND_ROUTES: &str = "\
 'g.acme.bo' to 'bob' > good
 'g.acme.bob' to 'bob' > tenant 0

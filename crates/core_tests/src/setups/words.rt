@@ -208,7 +208,7 @@ fn setups_are_utf_8(rt: HostRuntime) -> Result<(), Fail> {
     expect_words(&rt, rt.alloc(), b"version = 1 # \xff", words)
 }
 
-// What may stand at a key that nobody reads, and whether it is TOML: what version 1.1 added to 1.0 is.
+// Values of a key that nobody reads, and whether each is TOML. What version 1.1 added to 1.0 is.
 static FORMS: [(&str, bool); 7] = [
     ("x = [1, 2.5, 2030-01-01]", true),
     ("x = { a = 1,\n b = 2, }", true),

@@ -172,7 +172,7 @@ fn expect_rejects(rt: &impl Abort, alloc: Global, rows: &[Reject]) -> Result<(),
     Ok(())
 }
 
-// What is given where the last of the Rejects is written.
+// The result of writing the last of the Rejects.
 fn write_last(out: &mut [u8]) -> Result<usize, ViewFault> {
     ilp_view::laws::written_frames_are_short();
     write_reject(out, b"F08", b"g.acme", b"amount too large", AMOUNTS)

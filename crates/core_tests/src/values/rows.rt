@@ -1,4 +1,4 @@
-//! Assertions on the rows of tables. Where one fails, it names the row.
+//! Assertions on the rows of tables. If one fails, it names the row.
 
 use std::process::Abort;
 

@@ -9,7 +9,7 @@ use std::test::Fail;
 
 type Taken = (&'static [u8], &'static [u8], u16, &'static [u8]);
 
-// A URL, and what it says: its host and port as they stand there, the port, and the path.
+// A URL, and its parts: its host and port as written, the port, and the path.
 static TAKEN: [Taken; 7] = [
     (b"http://localhost/", b"localhost", 80, b"/"),
     (

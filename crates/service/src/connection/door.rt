@@ -94,7 +94,7 @@ impl Door {
         self.deserted.load(Ordering::SeqCst)
     }
 
-    /// That no thread serves connections any more, where that was said.
+    /// Evidence that no thread serves connections any more, after `desert` was called.
     pub fn deserted(&self) -> Option<Deserted> {
         if self.is_deserted() {
             Some(Deserted(()))
@@ -123,7 +123,7 @@ impl Door {
         self.waiting.fetch_sub(1, Ordering::SeqCst);
     }
 
-    /// Says whether the system has just refused to accept a connection, as it does where too many files are open.
+    /// Says whether the system has just refused to accept a connection, as it does if too many files are open.
     pub fn set_refused(&self, refused: bool) {
         self.refused.store(refused, Ordering::SeqCst);
     }

@@ -23,7 +23,7 @@ pub enum Activity {
     Busy,
 }
 
-/// What to hurry for: the end of a service that is closed comes first, then others, where no thread waits for a connection or
+/// What to hurry for: first the end of a service that is closed, then others, if no thread waits for a connection or
 /// the system has just refused one.
 pub fn rush_of(is_closed: bool, waiting: u64, is_refused: bool) -> Rush
     ensures { result ≡ rush_of is_closed waiting is_refused }
@@ -37,8 +37,8 @@ pub fn rush_of(is_closed: bool, waiting: u64, is_refused: bool) -> Rush
     }
 }
 
-/// For how many milliseconds in all a connection may do that. Where the service stops these count from the stop on: what an
-/// idle connection has brought by then is read, and a request that has begun has five seconds.
+/// For how many milliseconds in all a connection may do that. If the service stops, these count from the stop on. Then
+/// bytes that an idle connection has sent by the stop are read, and a request that has begun has five seconds.
 pub fn time_for(activity: Activity, rush: Rush) -> u64
     ensures { result ≡ time_for activity rush }
 {

@@ -47,7 +47,7 @@ struct Side<'a, H> {
     stream: &'a TcpStream,
     clock: &'a H,
     limit: Limit<'a>,
-    // How long a read and a write wait, as it was last set; zero where it was not.
+    // How long a read and a write wait, as it was last set; zero if it was not.
     read_wait: Duration,
     write_wait: Duration,
 }
@@ -281,7 +281,7 @@ impl<H: Wait + Clock> Read for Timed<'_, H> {
     fn read(&mut self, buf: &mut [u8]) -> io::Result<usize>
         ensures bound { ReadsAtMost result buf.new }
         ensures bytes { ReadConsumes None None result buf.new }
-        // An error is counted, and nothing else.
+        // Only an error is counted.
         ensures counted { self.new.failures ≡ count_after (is_err result) self.old.failures }
     {
         let most = if self.is_sparing {
@@ -300,7 +300,7 @@ impl<H: Wait + Clock> Write for Timed<'_, H> {
     fn write(&mut self, buf: &[u8]) -> io::Result<usize>
         ensures bound { WritesAtMost result buf.now }
         ensures bytes { WriteAppends None None result buf.now }
-        // An error is counted, and a write of some bytes that takes none, and nothing else.
+        // An error is counted, and so is a write of some bytes that takes none. Nothing else is counted.
         ensures counted { self.new.failures ≡ count_after (takes_nothing result buf.now) self.old.failures }
     {
         let result = self.side.send(buf);

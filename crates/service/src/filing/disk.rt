@@ -1,4 +1,4 @@
-//! A file system, as far as statements want it.
+//! What statements need of a file system.
 
 use std::fs::{File, Files, OpenFile, OpenOptions};
 use std::io::{ErrorKind, Write};
@@ -10,14 +10,15 @@ pub trait Disk {
     /// Whether there is a file at that path.
     fn has(&self, path: &str) -> io::Result<bool>;
 
-    /// Writes a text to a new file at that path, for its owner alone, and on to the disk. What was left there before is removed.
+    /// Writes a text to a new file at that path, which only its owner may read, and on to the disk. A file that was
+    /// left there before is removed.
     fn write_anew(&self, path: &str, text: &[u8]) -> io::Result<()>;
 
     /// Gives a file of a folder another path in it, and writes the folder on to the disk.
     fn rename(&self, folder: &str, from: &str, to: &str) -> io::Result<()>;
 }
 
-/// The mode of a file that its owner alone may read and write.
+/// The mode of a file that only its owner may read and write.
 const MODE: u32 = 0o600;
 
 // Removes the file at that path, if there is one.

@@ -11,10 +11,10 @@ use std::io::ErrorKind;
 /// The name of the file of the receipts.
 const RECEIPTS: &[u8] = b"receipts";
 
-/// A folder in which each statement is a file, NAME.PERIOD.statement, and the receipts of all workers are one, receipts. Their
-/// owner alone may read them.
+/// A folder in which each statement is a file, NAME.PERIOD.statement, and the receipts of all workers are one,
+/// receipts. Only their owner may read them.
 ///
-/// A file comes under its name once it is whole and on the disk.
+/// A file gets its name once it is whole and on the disk.
 #[derive(Drop)]
 pub struct Folder<'a, D> {
     disk: &'a D,

@@ -9,7 +9,7 @@ use one_list::Run;
 use receipt_text::write_receipts;
 use std::alloc::Global;
 
-/// Where the receipts of all workers are kept.
+/// A store of the receipts of all workers.
 pub trait ReceiptStore {
     /// What a question makes of it: before, the answer, and after.
     ghost tells_receipts: { Self → Option Bool → Self → Type 0 };
@@ -17,11 +17,11 @@ pub trait ReceiptStore {
     /// What keeping does: the store before, the text of the receipts, whether it is kept now, and the store after.
     ghost keeps_receipts: { Self → List ℕ → Bool → Self → Type 0 };
 
-    /// Whether there are receipts; `None` if that can't be told.
+    /// Whether there are receipts; `None` if that is not known.
     fn has_receipts(&mut self) -> Option<bool>
         ensures { tells_receipts self.old result self.new };
 
-    /// Keeps a text of receipts for good, where there are none. Says whether it is kept now.
+    /// Keeps a text of receipts for good. There are none yet. Returns whether it is kept now.
     fn keep_receipts(&mut self, text: &[u8]) -> bool
         ensures { keeps_receipts self.old text.now result self.new };
 }

@@ -128,7 +128,7 @@ pub fn roll_all<J: Run, H: Wait, C: Clock>(
     rolled
 }
 
-/// The receipts of each worker, where all have kept them.
+/// The receipts of each worker, if all have kept them.
 pub fn lists_of<J: Run>(alloc: Global, shares: &[Share<J>]) -> Result<Vec<&[Receipt]>, AuditFault>
     ensures lists { IfOk result (λ lists. map (λ list. list.now) lists.items ≡ lists_of shares.now) }
     ensures kept { IfOk result (λ lists. All (λ s. s.audited ≡ true) shares.now) }
@@ -153,7 +153,7 @@ fn list_of<J: Run>(share: &Share<J>) -> Result<&[Receipt], AuditFault>
     }
 }
 
-// How many receipts the workers have, where they are complete.
+// How many receipts the workers have, if they are complete.
 fn count_audited<J: Run>(
     alloc: Global,
     periods: &[Period],

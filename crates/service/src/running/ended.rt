@@ -7,7 +7,8 @@ use std::sync::Wait;
 use std::thread::Threads;
 use workers::{Lane, StartFault, run_workers};
 
-/// That no worker works any more: all have ended, or none begins. Nothing else gives it.
+/// Evidence that no worker works any more: all have ended, or none begins. Only this module gives
+/// it.
 #[derive(Drop)]
 pub struct Ended(());
 
@@ -18,7 +19,7 @@ impl Ended {
     }
 }
 
-/// Lets each lane work on a thread of its own, where both have met, and waits until all have ended.
+/// Lets each lane work on its own thread, if both have met, and waits until all have ended.
 pub fn work_to_the_end<R: Threads + Wait + Sync, W: Lane>(
     rt: &R,
     lanes: &mut [W],

@@ -10,7 +10,7 @@ use std::io;
 use std::io::ErrorKind;
 use thiserror::Error;
 
-/// Why a service ended otherwise than after its rounds, or where its host stopped it.
+/// Why a service ended, other than after its rounds or because its host stopped it.
 #[derive(Clone, Copy, Debug, PartialEq, Eq, Error)]
 pub enum ServeFault {
     /// Out of memory.
@@ -58,7 +58,7 @@ impl From<io::Error> for ServeFault {
 /// What became of the audit of a service.
 #[derive(Clone, Copy, Debug, PartialEq, Eq)]
 pub enum AuditEnd {
-    /// It found no fault, or none was wanted.
+    /// It found no fault, or there was no audit.
     Good,
     /// It found a fault.
     Bad,
@@ -86,7 +86,7 @@ pub fn end_of(
     }
 }
 
-/// How a service ends whose books were not gathered: where it is audited, that they differ is what the audit found.
+/// How a service ends whose books were not gathered. If it is audited, the audit has found that they differ.
 pub fn ungathered_end<J: Run>(fault: &GatherFault<J>, audited: bool) -> ServeFault
     ensures { result ≡ ungathered_end fault.now audited }
 {

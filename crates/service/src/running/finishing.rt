@@ -30,7 +30,7 @@ pub struct Last {
     pub audit: Found,
 }
 
-/// Periods and more of them, where there is memory to put them together.
+/// Periods and more of them, if there is memory to put them together.
 pub fn with_more(periods: Option<Vec<Period>>, more: Vec<Period>) -> Option<Vec<Period>> {
     let mut all = periods?;
     for period in more {
@@ -157,7 +157,7 @@ pub fn finish<J: Run, H: Wait + Disk, C: Clock>(
 #[derive(Drop)]
 pub struct LastText {
     pub text: Vec<u8>,
-    /// Whether all statements and receipts are kept: the text is what the audit found, and nothing else.
+    /// Whether all statements and receipts are kept: then the text is only what the audit found.
     pub is_stated: bool,
 }
 

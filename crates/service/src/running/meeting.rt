@@ -1,4 +1,4 @@
-//! Where two threads learn that both are there.
+//! A meeting at which two threads learn that both are there.
 
 use std::sync::atomic::{AtomicU8, Ordering};
 use std::thread;
@@ -23,7 +23,7 @@ const PATIENCE: u64 = 3_000;
 #[derive(Drop)]
 pub struct Missed(());
 
-/// Where two threads meet before they begin, since one may never have been started.
+/// A meeting of two threads before they begin, since one may never have been started.
 #[derive(Drop)]
 pub struct Meeting {
     stage: AtomicU8,

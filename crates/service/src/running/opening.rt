@@ -32,9 +32,9 @@ pub struct Begun<J: Run> {
     pub shares: Vec<Share<J>>,
 }
 
-/// The office of the tenants of a setup, to whom nothing has happened, for what is planned: with a worker for each connection,
-/// who keeps receipts where the run is audited. The list of what is done to their books has just been opened, for so many
-/// tenants and workers.
+/// The office of the tenants of a setup, to whom nothing has happened, for this plan. It has a worker for each
+/// connection, which keeps receipts if the run is audited. The list of what is done to their books was just opened,
+/// for so many tenants and workers.
 pub fn open_office<J: Run>(
     alloc: Global,
     opened: Opened,
@@ -88,7 +88,7 @@ fn places_of(alloc: Global, extent: Extent, tenants: usize) -> Result<Places, Al
     Places::new(alloc, extent.workers, tenants, waiting)
 }
 
-// What a service of so many tenants knows of its statements, where it keeps them in that folder.
+// What a service of so many tenants knows of its statements, if it keeps them in that folder.
 fn filing_of(
     alloc: Global,
     folder: Option<&str>,
@@ -103,7 +103,7 @@ fn filing_of(
     }))
 }
 
-// So many counters, which stand at nothing.
+// So many counters, all at zero.
 fn counters(alloc: Global, many: usize) -> Result<Vec<AtomicU64>, AllocError> {
     let mut all = Vec::new(alloc);
     for _ in 0..many {

@@ -75,7 +75,7 @@ impl<J: Run> Desk<J> {
         Ok(())
     }
 
-    // Keeps a closed period for the audit, where the run is audited: in the room that was made for it.
+    // Keeps a closed period for the audit, if the run is audited: in the room that was made for it.
     fn keep(&mut self, period: Period)
         ensures untouched { IsUntouched self.old self.new }
         ensures told { self.new.told ≡ self.old.told }
@@ -86,8 +86,8 @@ impl<J: Run> Desk<J> {
         }
     }
 
-    // Has the statement written of a period that a command closed, where statements are kept, and of those that wait; then
-    // keeps it.
+    // Writes the statement of a period that a command closed, if statements are kept, and those that wait. Then keeps
+    // the period.
     fn close<H: Wait + Disk, C: Clock>(
         &mut self,
         system: &System<'_, H, C>,
@@ -111,8 +111,8 @@ impl<J: Run> Desk<J> {
         }
     }
 
-    // Tries to write each statement of the tenant that waits, once. What is written is kept for the audit, where the run is
-    // audited.
+    // Tries once to write each statement of the tenant that waits. The periods of those that are written are kept for
+    // the audit, if the run is audited.
     fn file_waiting<H: Wait + Disk, C: Clock>(
         &mut self,
         system: &System<'_, H, C>,

@@ -24,7 +24,7 @@ pub struct Desk<J: Run> {
     pub printed: Vec<u8>,
     /// Whether it was a packet or a command that was answered last.
     pub told: RequestKind,
-    /// The periods that its commands closed, where the run is audited.
+    /// The periods that its commands closed, if the run is audited.
     pub periods: Vec<Period>,
     ghost plain: { seat.first ≡ false },
     ghost idle: { slot.job ≡ NoJob },

@@ -205,7 +205,7 @@ fn wave_of<R: Threads + Net<Listener = TcpListener, Stream = TcpStream> + Sync>(
     );
 }
 
-// All waves, and how often both rolls after a wave told what was wanted.
+// All waves, and how often both rolls after a wave had the expected answers.
 fn all_waves<R: Threads + Net<Listener = TcpListener, Stream = TcpStream> + Sync>(
     rt: &R,
     addr: &SocketAddr,

@@ -133,7 +133,7 @@ fn told_setup(alloc: Global, text: &str) -> Result<Vec<u8>, Fail> {
     Ok(whole.into_bytes())
 }
 
-/// Where packets come, and where the host asks.
+/// The addresses for packets and for the host.
 #[derive(Clone, Copy)]
 pub struct Addresses {
     pub packets: SocketAddr,

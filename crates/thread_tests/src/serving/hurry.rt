@@ -66,7 +66,7 @@ fn asked_without_end(
     Ok((strangers, operators))
 }
 
-// Where no other thread waits, a stranger's connection ends after its first answer, and an operator's after a second.
+// If no other thread waits, a stranger's connection ends after its first answer, and an operator's after a second.
 #[test]
 fn who_asks_without_end_gives_way(rt: HostRuntime) -> Result<(), Fail> {
     let alloc = rt.alloc();
@@ -184,8 +184,8 @@ fn fulfils_late(
     Ok(came.as_slice() == wanted)
 }
 
-// What comes on a connection for two requests, of which the second one comes while the first one is under way, where the
-// service is stopped then.
+// The answers on a connection to two requests. The second one comes while the first one is served, and then the
+// service is stopped.
 fn stopped_between(
     rt: &(impl Net<Stream = TcpStream> + Clock),
     alloc: Global,

@@ -26,7 +26,7 @@ fn entries<J: Run, R: Wait>(rt: &R, books: &Books<J>) -> Option<usize> {
     Some(books.enter(rt, 0).book().entries())
 }
 
-// The same, where the lock is free.
+// The same, if the lock is free.
 fn entries_at_once<J: Run>(books: &Books<J>) -> Option<usize> {
     if books.tenants() == 0 {
         return None;

@@ -18,7 +18,7 @@ use tenant_core::Book;
 use test_texts::frame;
 use workers::{Clock, Gate, Job, Link, Outgoing, Point, Reply, carry};
 
-// Where bob's packets go.
+// The URL for bob's packets.
 const BOB_URL: &[u8] = b"http://127.0.0.1:7802/ilp";
 
 // When what goes on expires: nine seconds after the start.
@@ -320,7 +320,7 @@ impl Trial for MissingShare {
     }
 }
 
-// What is handed back where the books are gathered with one share alone.
+// What is handed back if the books are gathered with one share only.
 fn refused<J: Run>(
     alloc: Global,
     books: Books<J>,

@@ -34,7 +34,7 @@ fn picked_up(lending: &mut Lending, tenant: usize) -> bool {
     tenant < lending.tenants() && lending.pick_up(tenant)
 }
 
-// Whether each of these tenants, one after another, gets that where it asks for a place.
+// Whether each of these tenants, one after another, gets that answer when it asks for a place.
 fn are_asked(lending: &mut Lending, asks: &[(usize, Admission)]) -> bool {
     for (tenant, turn) in asks {
         if asked(lending, *tenant) != *turn {
@@ -87,7 +87,7 @@ fn who_gets_what_came_back(rt: HostRuntime) -> Result<(), Fail> {
     Ok(())
 }
 
-// With fewer places than tenants none is sure of one; where there is one for each, each has its own.
+// With fewer places than tenants none is sure of one. With one for each, each has its own.
 static TWO_FOR_THREE: [(usize, Admission); 3] = [
     (2, Admission::Taken),
     (2, Admission::Taken),

@@ -23,7 +23,7 @@ use workers::{
     Clock, Gate, Job, Lane, Link, Outgoing, Point, Reply, StartFault, carry, run_workers,
 };
 
-/// Where worker 0 is kept until worker 1 has its answer settled.
+/// The point at which worker 0 is kept until worker 1 has its answer settled.
 #[derive(Clone, Copy, Debug, PartialEq, Eq)]
 enum Place {
     /// At its gate, once it has sent.
@@ -34,7 +34,8 @@ enum Place {
     Lock,
 }
 
-/// Where two workers meet, the packets that they carry, and the answer to each. Worker 1 begins once worker 0 is there.
+/// A meeting of two workers, the packets that they carry, and the answer to each. Worker 1 begins once worker 0 is
+/// there.
 #[derive(Drop)]
 struct Meeting {
     acme: Vec<u8>,
@@ -45,7 +46,7 @@ struct Meeting {
     kept: AtomicU64,
     // 1 once worker 1 has its answer settled.
     settled: AtomicU64,
-    // 1 once a worker has waited for the other in vain.
+    // 1 once a worker has given up its wait for the other.
     given_up: AtomicU64,
 }
 

@@ -1,4 +1,4 @@
-//! The list goes on: what was handed in and told is noted.
+//! The list goes on: each call and its answer are noted.
 
 use super::told::{Fate, Filled, Paid, Peer, Poured, Priced, Sent, Told, full, is_overdue};
 use super::wanted::{Ask, Packet, slot_named};
@@ -120,7 +120,7 @@ impl Told {
         self.set_bucket(number, agreed, full(agreed.burst))
     }
 
-    // A bucket that has so much is for something else, and keeps what fits.
+    // A bucket with so much gets other terms, and keeps what fits.
     fn set_bucket(&mut self, peer: PeerNo, agreed: Agreed, credit: u64) -> Result<(), Fail> {
         let filled = Filled {
             burst: agreed.burst,

@@ -77,8 +77,8 @@ fn expect_end(
     Ok(())
 }
 
-/// The period is what a book closes that begins where it began and follows its entries, and its statement is good, as the text of its
-/// receipts is.
+/// A book that begins where the period began and follows its entries closes the same period. The period's statement is
+/// good, and so is the text of its receipts.
 pub fn expect_followed(rt: &impl Abort, alloc: Global, period: &Period) -> Result<(), Fail> {
     let mut book = begun_again(alloc, period)?;
     expect_steps(rt, alloc, &mut book, period)?;

@@ -1,4 +1,4 @@
-//! What was handed in to a book and what it told, as one list since the book was made, and the sums over it.
+//! The calls of a book and its answers, as one list since the book was made, and the sums over it.
 
 use std::alloc::Global;
 use tenant_core::{CommandFault, PeerNo, RejectCode, Side};

@@ -141,7 +141,7 @@ fn push_terms(alloc: Global, text: &mut String, tenant: &TenantLines) -> Result<
     push_text(text, "name", tenant.name)
 }
 
-// The lines of the arrays without tables, which stand among the tenant's own.
+// The lines of the arrays without tables, which are among the tenant's own.
 fn push_none(text: &mut String, dealings: &Dealings) -> Result<(), AllocError> {
     if dealings.rates.is_empty() {
         text.push_str("rate = []\n")?;
