@@ -35,13 +35,13 @@ use toml::{Table, Value};
 /// What is wrong with a setup.
 #[derive(Clone, Copy, Debug, PartialEq, Eq, Error)]
 pub enum SetupFault {
-    /// It is no TOML document.
+    /// It is not a TOML document.
     #[error("setup: toml")]
     Toml,
     /// Its version is neither 1 nor 2.
     #[error("setup: version")]
     Version,
-    /// Its start is no moment from 0 to 253,400,000,000,000 milliseconds.
+    /// Its start is not a moment from 0 to 253,400,000,000,000 milliseconds.
     #[error("setup: start")]
     Start,
     /// The tenant of that number, from 0, is not described by the rules.

@@ -45,7 +45,7 @@ impl fmt::Display for Key<'_> {
 /// What is wrong with what should be a table of a setup.
 #[derive(Clone, Copy)]
 pub(crate) enum Wrong<'a> {
-    /// It is no table.
+    /// It is not a table.
     NoTable(TableKind),
     /// The key needs another value.
     Key(Key<'a>, Expected),

@@ -6,7 +6,7 @@ ghost use Rattle.allotment.specs.Loans.{max_tenants, max_places, IsCovered, aske
 use std::alloc::{AllocError, Global};
 use std::marker::Model;
 
-/// At most as many places.
+/// The most places.
 pub const MAX_PLACES: usize = 64;
 
 /// How many of the places each tenant uses. Contracts see it as `Loans`.

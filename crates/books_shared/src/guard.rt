@@ -126,11 +126,11 @@ impl<J: Run> Guard<'_, J> {
         self.kept.decide(self.chronicle, share, slot, now)
     }
 
-    /// Settles the packet of the slot by the book and what came back, as `Slot::answer` does, and counts the entry that
-    /// `Reply` appends. After `Idle` and `Stray` nothing has changed but that the call was used up.
+    /// Settles the packet of the slot by the book and the answer, as `Slot::answer` does, and counts the entry that
+    /// `Reply` appends. After `Idle` and `Stray` only the room of a call was used up.
     ///
-    /// The share has room for a call, which this one uses up. In a run in which each worker answers only packets that it sent on
-    /// itself (`Run::own`), the share's worker has sent this one on.
+    /// The share must have room for a call, which this one uses up. In a run in which each worker answers only packets
+    /// that it sent on itself (`Run::own`), the share's worker must have sent this one on.
     pub fn answer(&mut self, share: &mut Share<J>, slot: &mut Slot, now: Moment, got: Got) -> Turn
         requires room { 0 < share.old.room }
         requires sent { J.own ≡ true → IsSentBy share.old.worker slot.old.job self.old.steps }
@@ -150,10 +150,10 @@ impl<J: Run> Guard<'_, J> {
         self.kept.answer(self.chronicle, share, slot, now, got)
     }
 
-    /// Records this moment in the book, as `Book::tick` does, and counts the entry. After `Full` nothing has changed but
-    /// that the call was used up.
+    /// Records this moment in the book, as `Book::tick` does, and counts the entry. After `Full` only the room of a
+    /// call was used up.
     ///
-    /// The share has room for a call, which this one uses up.
+    /// The share must have room for a call, which this one uses up.
     pub fn tick(&mut self, share: &mut Share<J>, now: Moment) -> Result<u32, BookFault>
         requires room { 0 < share.old.room }
         ensures count { result ≡ tick_result self.old.state now }
@@ -168,11 +168,13 @@ impl<J: Run> Guard<'_, J> {
         self.kept.tick(self.chronicle, share, now)
     }
 
-    /// Does what an operator commands at this moment, as `Book::command` does, and counts the entry of an order or a roll.
-    /// After a roll the entries of the period that it closed, and its own, are among those of the closed periods. The
-    /// errors are those of `Book::command`, in its order; nothing has changed then but that the call was used up.
+    /// Does a command of an operator at this moment, as `Book::command` does, and counts the entry of an order or a
+    /// roll. After a roll, the entries of the period that it closed, and its own, are among those of the closed
+    /// periods.
     ///
-    /// The share has room for a call, which this one uses up.
+    /// The errors are those of `Book::command`, in its order. Then only the room of a call was used up.
+    ///
+    /// The share must have room for a call, which this one uses up.
     pub fn command(
         &mut self,
         alloc: Global,

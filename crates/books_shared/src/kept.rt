@@ -81,7 +81,7 @@ impl<J: Run> Kept<J> {
         &self.book
     }
 
-    /// What the type keeps.
+    /// The invariant of the type.
     pub fn is_kept(&self)
         ensures kept { LockInvariant self.now }
         ensures led { IsLedTo J.openings self.now.state self.now.steps }

@@ -46,8 +46,8 @@ pub fn fresh_shares_are_all_there()
     ensures same { (rise : Rise) (tenant : ℕ) (share : ShareView) → (raised rise tenant share).worker ≡ share.worker }
 {}
 
-/// The record that an event makes is what the book of the one-tenant connector grows by: after a roll's, the next period
-/// begins.
+/// The record that an event makes is what the book of the one-tenant connector grows by. After the record of a roll,
+/// the next period begins.
 pub fn events_make_records()
     ensures { (s : Tenant) (event : Event) → (after_alone s event).book ≡ after_made s.book (made_alone s event) }
 {}

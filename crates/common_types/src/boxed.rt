@@ -33,14 +33,14 @@ impl<T> Boxed<T> {
     ghost use Rattle.std.specs.Borrow.{Lends, sem};
     ghost use Rattle.common_types.specs.contracts.boxed.Boxed.{the_row};
 
-    /// The value, lent.
+    /// A reference to the value.
     pub fn get(&self) -> &T
         ensures { result.now ≡ self.now }
     {
         self.place.as_ref()
     }
 
-    /// The value, lent to be changed.
+    /// A mutable reference to the value.
     pub fn get_mut(&mut self) -> &mut T
         ensures* writes_back { sem 𝓛 (Lends (the_row T.row) T.row self.entry result (λ w. w)) }
         ensures value { result.now ≡ self.old }
@@ -48,7 +48,7 @@ impl<T> Boxed<T> {
         self.place.as_mut()
     }
 
-    /// The value, moved out. Its place on the heap is given back.
+    /// The value, moved out. Its memory is freed.
     pub fn into_inner(self) -> T
         ensures { result ≡ self }
     {

@@ -39,7 +39,7 @@ fn all_asset_bytes(bytes: &[u8]) -> bool
     bytes.iter().all(|b| is_asset_byte(*b))
 }
 
-/// Whether the bytes are a name: 1 to 32 small letters, digits and `-`.
+/// Whether the bytes are a name: 1 to 32 lower-case letters, digits and `-`.
 pub fn is_name(bytes: &[u8]) -> bool
     ensures { result ≡ is_name bytes.now }
 {
@@ -53,7 +53,7 @@ pub fn is_asset_code(bytes: &[u8]) -> bool
     !bytes.is_empty() && bytes.len() <= MAX_ASSET_CODE && all_asset_bytes(bytes)
 }
 
-/// The name of a tenant or a peer, in fixed room.
+/// The name of a tenant or a peer, stored inline.
 #[derive(Drop)]
 pub struct Name {
     text: Text<MAX_NAME>,
@@ -101,7 +101,8 @@ impl Name {
     }
 }
 
-/// What peers and operators show, in fixed room (RFC 6750, "Authorization Request Header Field").
+/// The token of a peer or an operator, stored inline (RFC 6750, "Authorization Request Header
+/// Field").
 #[derive(Drop)]
 pub struct Token {
     text: Text<MAX_TOKEN>,
@@ -149,7 +150,7 @@ impl Token {
     }
 }
 
-/// The code of an asset, in fixed room.
+/// The code of an asset, stored inline.
 #[derive(Drop)]
 pub struct AssetCode {
     text: Text<MAX_ASSET_CODE>,

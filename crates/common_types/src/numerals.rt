@@ -9,7 +9,7 @@ use crate::between::Between;
 /// Why a word spells no number within its limits.
 #[derive(Clone, Copy, Debug, PartialEq, Eq, Drop)]
 pub enum NumberFault {
-    /// It is neither `0` nor digits without a zero in front.
+    /// It is neither `0` nor digits without a leading zero.
     Malformed,
     /// It is such a number, but less than the least or more than the greatest.
     Outside,

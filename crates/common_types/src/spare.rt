@@ -32,7 +32,7 @@ impl Spare {
         Ok(Spare { room, bytes })
     }
 
-    /// The bytes, in this room.
+    /// A vector of these bytes, in this room.
     pub fn fill(self, bytes: &[u8]) -> Vec<u8>
         requires { length bytes.now ≤ self }
         ensures { result.items ≡ bytes.now }

@@ -1,4 +1,4 @@
-//! Short texts in fixed room.
+//! Short texts, stored inline.
 
 ghost use Rattle.std.specs.Prelude.{◌≡◌, ◌≤◌, length};
 ghost use Rattle.common_types.specs.Text.{text_within};
@@ -6,7 +6,7 @@ ghost use Rattle.common_types.specs.Text.{text_within};
 use arrayvec::ArrayVec;
 use std::marker::Model;
 
-/// At most `N` bytes, kept in place: no call of it takes memory.
+/// At most `N` bytes, stored inline: no call of it allocates.
 #[derive(Drop)]
 pub struct Text<const N: usize> {
     bytes: ArrayVec<u8, N>,

@@ -1,4 +1,4 @@
-//! Steps of workers for tenants, and what each of them puts out.
+//! Steps of workers for tenants, and the output of each.
 #![tactic(auto)]
 
 mod floor;

@@ -4,7 +4,7 @@ ghost use Rattle.std.specs.Prelude.{◌≡◌};
 
 use std::marker::Model;
 
-/// Bytes of any number, which lie elsewhere.
+/// Any number of bytes, borrowed from elsewhere.
 #[derive(Drop)]
 pub struct Octets<'a> {
     bytes: &'a [u8],

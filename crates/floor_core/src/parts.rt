@@ -1,4 +1,4 @@
-//! What calls of a slot are answered with.
+//! The results of a slot's calls.
 
 use ilp_view::ViewFault;
 use route_table::PeerNo;
@@ -13,21 +13,21 @@ pub enum LoadFault {
     /// The token is malformed: it has no byte or over 64, or a byte that no token may have.
     #[error("the token is malformed")]
     Token,
-    /// The frame is no Prepare.
+    /// The frame is not a Prepare.
     #[error("{0}")]
     Bad(ViewFault),
 }
 
-/// What came back from the next peer, into a slot's room for it.
+/// The answer of the next peer, in a slot's buffer for it.
 #[derive(Clone, Copy, Debug, PartialEq, Eq)]
 pub enum Got {
-    /// That many bytes, at the front of the room. More than 34,000 count as a fault.
+    /// That many bytes, at the front of the buffer. More than 34,000 count as a fault.
     Filled(usize),
     /// No answer.
     Fault,
 }
 
-/// What a call of a slot with a book led to.
+/// The result of a call of a slot with a book.
 #[derive(Clone, Copy, Debug, PartialEq, Eq)]
 pub enum Turn {
     /// The slot carries nothing that the call is for. Nothing has changed.

@@ -1,4 +1,4 @@
-//! Another amount and another expiry in the Prepare that a room holds, every other byte as it came.
+//! Another amount and another expiry in the Prepare in a buffer. Every other byte stays.
 
 ghost use Rattle.std.specs.Prelude.{◌≡◌, ◌≤◌, IfOk, IsOk, length, take};
 ghost use Rattle.std.specs.Int.{w64, to_be_bytes};

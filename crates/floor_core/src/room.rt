@@ -1,4 +1,4 @@
-//! Room for a frame.
+//! Buffers for frames.
 
 ghost use Rattle.std.specs.Prelude.{◌≡◌, ◌≤◌, length, IfOk};
 ghost use Rattle.std.specs.Borrow.{Lends, Array, sem, u8 as byte};
@@ -10,7 +10,7 @@ use oer_core::put_bytes;
 use std::alloc::{AllocError, Global};
 use std::marker::Model;
 
-/// As many bytes as a frame may have, in memory that is taken once. Contracts see them all.
+/// As many bytes as a frame may have, allocated once. Contracts see them all.
 #[derive(Drop)]
 pub struct Room {
     bytes: Vec<u8>,

@@ -1,4 +1,4 @@
-//! Slots: what a worker carries, in room that is used again and again.
+//! Slots: what a worker carries, in buffers that are used again and again.
 
 ghost use Rattle.std.specs.Prelude.{◌≡◌, ◌≤◌, IfOk, IsOk, IsSome, Some, take, List, ℕ, length};
 ghost use Rattle.oer_core.specs.Length.{AreBytes};

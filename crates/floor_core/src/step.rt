@@ -1,11 +1,11 @@
-//! Steps, and what each of them puts out.
+//! Steps, and the output of each.
 
 use crate::octets::Octets;
 use common_types::{Boxed, Bytes, Text};
 use ilp_addr::Moment;
 use tenant_core::{Answered, BookFault, Command, CommandFault};
 
-/// A task for a worker. Frames and tokens are borrowed from where they came in.
+/// A step of the floor. Frames and tokens are borrowed from where they came in.
 #[derive(Drop)]
 pub enum Step<'a> {
     /// A worker with nothing in hand takes a frame that came for a tenant, with the token that the sender showed.
@@ -75,7 +75,7 @@ pub enum Malformed {
     Field,
 }
 
-/// What a step puts out.
+/// The output of a step.
 #[derive(Drop)]
 pub enum Output {
     /// The worker has a packet in hand already.
@@ -113,7 +113,7 @@ pub enum Output {
         tenant: usize,
         answer: Result<u32, BookFault>,
     },
-    /// What the command was answered with, or why it is refused.
+    /// The command's answer, or why it is refused.
     Governed {
         tenant: usize,
         answer: Result<Answered, CommandFault>,

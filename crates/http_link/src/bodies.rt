@@ -30,7 +30,7 @@ pub(crate) enum BodyFault {
     TooLarge,
 }
 
-/// What came of the reading of a body.
+/// The result of reading a body.
 #[derive(Clone, Copy, Debug, PartialEq, Eq)]
 pub(crate) enum BodyRead {
     /// It is at the front of the buffer, with so many bytes.

@@ -27,7 +27,7 @@ const MAX_CHUNK_LINE: usize = 256;
 enum Stated {
     /// The chunk has so many bytes.
     Size(u64),
-    /// It is no chunk's line.
+    /// It is not a chunk's line.
     Malformed,
     /// The stream ended inside it.
     Short,
@@ -44,7 +44,7 @@ enum Checked {
     Short,
 }
 
-/// What a chunk made of a body.
+/// What a chunk means for a body.
 #[derive(Clone, Copy)]
 enum Step {
     /// It has so many bytes more, and goes on.

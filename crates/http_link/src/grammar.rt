@@ -15,7 +15,7 @@ pub(crate) enum Offered<S> {
     Whole(S),
     /// It may go on.
     Partial,
-    /// It is no head, or goes over the limits.
+    /// It is not a head, or goes over the limits.
     Malformed,
 }
 

@@ -65,7 +65,7 @@ pub(crate) enum Sought {
     Section,
 }
 
-/// What came of the search for a text.
+/// The result of the search for a text.
 #[derive(Clone, Copy, Debug, PartialEq, Eq)]
 pub(crate) enum Text {
     /// It has so many bytes.

@@ -1,8 +1,8 @@
-//! Packets and commands over HTTP (RFC 0035; RFC 9110 and 9112), without memory.
+//! Packets and commands over HTTP (RFC 0035; RFC 9110 and 9112), without allocation.
 //!
-//! - [`serve_one`] reads one request from a stream, asks a [`Service`] if nothing refuses it, and writes the answer;
-//!   [`serve_next`] does so for the requests of a connection, whose bytes an [`Inbox`] takes as they come.
-//! - [`serve_host`] does so for one request of the host, which a [`HostService`] answers.
+//! - [`serve_one`] reads one request from a stream, asks a [`Service`] if nothing refuses it, and writes the answer.
+//!   [`serve_next`] does this for the requests of a connection, whose bytes an [`Inbox`] takes as they come.
+//! - [`serve_host`] does this for one request of the host, which a [`HostService`] answers.
 //! - [`post`] sends a frame to a peer and reads its answer.
 //! - [`LinkFault`] and [`PostFault`] say why a connection ended.
 #![tactic(auto)]

@@ -1,4 +1,4 @@
-//! Lines of a head that is written, in fixed room.
+//! Lines of a head to write, stored inline.
 
 ghost use Rattle.std.specs.Prelude.{◌≡◌, ◌≢◌, ◌↔◌, ◌+◌, ◌<◌, ◌≤◌, ◌++◌, [], length, decimal, Err, OnOk};
 ghost use Rattle.std.specs.Io.KnownBytes.{Appends};

@@ -7,8 +7,8 @@ use crate::request::RequestKind;
 
 /// What answers the requests of a connection: tenants by name, packets and commands.
 pub trait Service {
-    /// What one question makes of a service: the service before, the question with the status that it was given, and
-    /// the service after.
+    /// What one question does: the service before, the question with the status of its answer, and the service
+    /// after.
     ghost asks: { Self → Asked → Self → Type 0 };
 
     /// The tenant of a name.
@@ -21,14 +21,14 @@ pub trait Service {
     fn tenant(&self, name: &[u8]) -> Option<usize>
         ensures { result ≡ tenant_of self.now name.now };
 
-    /// Takes a packet that came with a token for a tenant, and gives the status of its answer: 200, 400, 401 or 503.
-    /// Any other is written as 503.
+    /// Takes a packet that came with a token for a tenant, and returns the status of its answer: 200, 400, 401 or
+    /// 503. Any other is written as 503.
     fn ilp(&mut self, tenant: usize, token: &[u8], body: &[u8]) -> u16
         ensures { asks self.old
             (record { kind = RequestKind.Ilp; tenant = tenant; token = token.now; body = body.now; status = result })
             self.new };
 
-    /// Takes a command that came with a token for a tenant, and gives the status of its answer, as `ilp` does.
+    /// Takes a command that came with a token for a tenant, and returns the status of its answer, as `ilp` does.
     fn admin(&mut self, tenant: usize, token: &[u8], body: &[u8]) -> u16
         ensures { asks self.old
             (record { kind = RequestKind.Admin; tenant = tenant; token = token.now; body = body.now; status = result })

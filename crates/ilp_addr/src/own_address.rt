@@ -24,7 +24,7 @@ fn is_own_address(bytes: &[u8]) -> bool
 }
 
 /// The address of a tenant: at most 900 bytes, of another scheme than `peer`, whose addresses are for direct neighbors
-/// (RFC 0015, "Allocation Schemes"). It keeps its bytes in fixed room.
+/// (RFC 0015, "Allocation Schemes"). Its bytes are stored inline.
 #[derive(Drop)]
 pub struct OwnAddress {
     bytes: Text<MAX_OWN_ADDRESS>,

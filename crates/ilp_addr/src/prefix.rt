@@ -69,7 +69,7 @@ impl Prefix {
         Segments::of_prefix(&self.bytes)
     }
 
-    /// The same prefix in memory of its own.
+    /// A copy of the prefix. Fails only if it is out of memory.
     pub fn copy(&self, alloc: Global) -> Result<Prefix, AllocError>
         ensures { IfOk result (λ p. p ≡ self.now) }
     {
@@ -77,7 +77,7 @@ impl Prefix {
         Ok(Prefix { bytes })
     }
 
-    /// The same prefix in that room. It allocates nothing.
+    /// A copy of the prefix in that room. It allocates nothing.
     pub fn copy_into(&self, spare: Spare) -> Prefix
         requires { max_address ≤ spare }
         ensures { result ≡ self.now }

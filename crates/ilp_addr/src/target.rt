@@ -106,7 +106,7 @@ impl Target {
         authority
     }
 
-    /// What the URL says from that slash on. At most 255 bytes.
+    /// The text of the URL from that slash on. At most 255 bytes.
     pub fn path(&self) -> &[u8]
         ensures value { result.now ≡ path_of self.now.url }
         ensures short { length result.now ≤ 255 }
@@ -115,7 +115,7 @@ impl Target {
         path
     }
 
-    /// The token that the peer is shown. At most 64 bytes.
+    /// The token for the peer. At most 64 bytes.
     pub fn token(&self) -> &[u8]
         ensures value { result.now ≡ self.now.token }
         ensures short { length result.now ≤ 64 }

@@ -16,7 +16,7 @@ pub enum ViewFault {
     /// A length cannot be read, or a field passes the end.
     #[error("a length cannot be read or a field passes the end")]
     Oer,
-    /// A field is no date, or no address.
+    /// A field is not a date, or not an address.
     #[error("a field is not a date or not an address")]
     Field,
     /// Bytes follow the contents.

@@ -22,7 +22,7 @@ struct FulfillParts<'a> {
     extra: &'a [u8],
 }
 
-/// A Fulfill that was read, its parts lent from the frame (RFC 0027, "ILP Fulfill").
+/// A Fulfill that was read. Its parts are borrowed from the frame (RFC 0027, "ILP Fulfill").
 #[derive(Debug, Drop)]
 pub struct FulfillView<'a> {
     parts: FulfillParts<'a>,

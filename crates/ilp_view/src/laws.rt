@@ -28,7 +28,8 @@ pub fn parts_are_the_only_ones()
     laws_below();
 }
 
-/// What is read of bytes as a Prepare are the parts of one: they are its frame. (RFC 0027, "ILP Prepare")
+/// The parts that are read from bytes as a Prepare are those of a Prepare with that frame. (RFC 0027,
+/// "ILP Prepare")
 pub fn what_is_read_is_a_prepare()
     ensures { (frame : List ℕ) (p : Prepare) → AreBytes frame → prepare_at frame ≡ Ok p → IsPrepare frame p }
 {
@@ -61,7 +62,7 @@ pub fn forwards_change_two_fields()
     laws_below();
 }
 
-/// What a writer of this crate wrote is read as the packet of the same parts. (RFC 0027)
+/// A packet that a writer of this crate wrote is read as the packet of the same parts. (RFC 0027)
 pub fn written_is_read_back()
     ensures fulfills { (fulfillment payload : List ℕ) → length fulfillment ≡ 32 → length payload ≤ max_data
         → fulfill_at (fulfill_frame fulfillment payload) ≡ Ok (written_fulfill fulfillment payload) }

@@ -31,7 +31,7 @@ struct PrepareParts<'a> {
     extra: &'a [u8],
 }
 
-/// A Prepare that was read, its parts lent from the frame (RFC 0027, "ILP Prepare").
+/// A Prepare that was read. Its parts are borrowed from the frame (RFC 0027, "ILP Prepare").
 #[derive(Debug, Drop)]
 pub struct PrepareView<'a> {
     parts: PrepareParts<'a>,

@@ -1,5 +1,4 @@
-//! A Prepare in the frame that it came in: its amount and its expiry are lent to be written, and no
-//! other byte.
+//! A Prepare in the frame that it came in. Only its amount and its expiry can be written.
 
 ghost use Rattle.std.specs.Prelude.{◌≡◌, ◌+◌, length, IsOk, IsOkAnd, IfOk};
 ghost use Rattle.std.specs.Borrow.{sem};
@@ -13,8 +12,8 @@ use crate::fields;
 use crate::prepare::{PREPARE, PrepareView};
 use std::slice::from_raw_parts_mut;
 
-/// A Prepare that was read in place: its amount and its expiry may be written, and no other byte of
-/// its frame (RFC 0027, "ILP Prepare").
+/// A Prepare that was read in place. Only its amount and its expiry can be written, and no other byte
+/// of its frame (RFC 0027, "ILP Prepare").
 #[derive(Debug, Drop)]
 pub struct PrepareMut<'a> {
     frame: &'a mut [u8],

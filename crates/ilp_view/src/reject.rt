@@ -26,7 +26,7 @@ struct RejectParts<'a> {
     extra: &'a [u8],
 }
 
-/// A Reject that was read, its parts lent from the frame (RFC 0027, "ILP Reject").
+/// A Reject that was read. Its parts are borrowed from the frame (RFC 0027, "ILP Reject").
 #[derive(Debug, Drop)]
 pub struct RejectView<'a> {
     parts: RejectParts<'a>,

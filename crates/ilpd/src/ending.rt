@@ -12,12 +12,12 @@ use service::ServeFault;
 /// Why the program ended early.
 #[derive(Drop)]
 pub enum Ending {
-    /// The command line asks for nothing that is there, or for help.
+    /// The command line is not valid, or asks for help.
     Usage(clap::Error),
     Fault(ReplayFault),
     /// A service ended so.
     Served(ServeFault),
-    /// The file of the host's token holds none, as a line has said.
+    /// The file of the host's token has no token, as a line has said.
     NoToken,
     /// A statement is not good, or does not go on from the one before it, or a text is not one of receipts. Lines have
     /// said so.

@@ -11,7 +11,7 @@ use std::alloc::Global;
 use std::io::{Read, Write};
 use tenant_core::Period;
 
-/// Has the statement of each period kept that it takes, and knows whether all are kept.
+/// Keeps the statement of each period that it takes, and knows whether all are kept.
 #[derive(Drop)]
 pub struct Filer<S> {
     alloc: Global,
@@ -22,7 +22,7 @@ pub struct Filer<S> {
 impl<S> Filer<S> {
     ghost use Rattle.std.specs.Prelude.{◌≡◌, true};
 
-    /// Of no period yet, with that store.
+    /// No statements yet, with that store.
     pub fn new(alloc: Global, store: S) -> Filer<S>
         ensures kept { result.are_kept ≡ true }
         ensures store { result.store ≡ store }
@@ -46,8 +46,8 @@ impl<S: StatementStore> PeriodKeeper for Filer<S> {
     }
 }
 
-/// Replays the script that the reader has left, as `replay` does, and has the statement of each period kept that a
-/// roll of it closes. All steps are done first: then it gives `Device` if a statement is not kept.
+/// Replays the script that the reader has left, as `replay` does, and keeps the statement of each period that a
+/// roll of it closes. All steps are done first. Then it returns `Device` if a statement is not kept.
 pub fn replay_filing<S: StatementStore, R: Read + Device, W: Write + Device>(
     alloc: Global,
     setup: &[u8],

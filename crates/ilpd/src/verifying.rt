@@ -65,7 +65,7 @@ pub fn begun(alloc: Global, file: &str) -> Result<Vec<u8>, AllocError> {
     Ok(out)
 }
 
-/// Says what is wrong, and gives how the run ends.
+/// Says what is wrong, and returns how the run ends.
 pub fn refuse<W: Write>(writer: &mut W, words: &[u8]) -> Result<(), Ending>
     ensures { IsErr result }
 {

@@ -17,7 +17,7 @@ use std::alloc::{AllocError, Global};
 use std::marker::Model;
 use thiserror::Error;
 
-/// A count of a seat that has come so far is raised no more, except by a join.
+/// The most of a seat's count. Only a join raises a count further.
 const MOST: u64 = 1 << 40;
 
 /// A seat's count of that kind for that tenant has reached 2^40. Only a join raises it further.

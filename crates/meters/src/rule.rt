@@ -1,4 +1,4 @@
-//! The rule of the table of words, and the four kinds of atomic step. No value of these types is made.
+//! The rule of the table of words, and the four kinds of atomic step. These types have no values at run time.
 
 use atomic_table::{Join, Play, Split, TableRule};
 use std::collections::LinkedList;

@@ -101,8 +101,8 @@ impl Purse {
         }
     }
 
-    /// What holds of each purse: what the peer owes and what is held from it are at most 2^62 together, so are what it is owed
-    /// and what is held for it, and so is each limit.
+    /// What holds of each purse. Each of these is at most 2^62: what the peer owes with what is held from it, what it
+    /// is owed with what is held for it, and each limit.
     pub fn is_account(&self)
         ensures { IsAccount self.now }
     {

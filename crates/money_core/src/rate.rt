@@ -3,7 +3,7 @@
 use std::marker::Model;
 use thiserror::Error;
 
-/// Why two numbers are no rate.
+/// Why two numbers are not a rate.
 #[derive(Clone, Copy, Debug, PartialEq, Eq, Error)]
 pub enum RateFault {
     /// One of the two numbers is 0.

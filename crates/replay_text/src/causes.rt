@@ -21,7 +21,7 @@ pub enum Operand {
     Worker,
     /// The name of a tenant.
     Tenant,
-    /// What a peer showed.
+    /// The token that a peer showed.
     Token,
     /// The bytes of a frame.
     Frame,
@@ -92,11 +92,11 @@ impl Operand {
 pub enum LineFault<'a> {
     /// Its last byte is a carriage return.
     EndsInReturn,
-    /// It has more bytes than a line may have, which are so many.
+    /// It has more bytes than a line may have. This is the most.
     Long(usize),
-    /// Some byte is no ASCII character.
+    /// Some byte is not an ASCII character.
     NoAscii,
-    /// Its first word is no verb.
+    /// Its first word is not a verb.
     NoVerb(&'a [u8]),
     /// That operand of the verb is missing, and so are those after it.
     Missing(Verb, Operand),

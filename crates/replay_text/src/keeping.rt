@@ -11,7 +11,7 @@ use tenant_core::{Answered, Period};
 
 /// Who gets closed periods.
 pub trait PeriodKeeper {
-    /// What taking makes of it: before, the period that it takes, and after.
+    /// What taking a period does: the keeper before, the period, and the keeper after.
     ghost takes: { Self → PeriodParts → Self → Type 0 };
 
     /// Takes what it keeps of a period that a roll closed.

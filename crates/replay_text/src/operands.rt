@@ -124,7 +124,7 @@ fn digits_of(word: &[u8]) -> Option<&[u8]>
     (!word.is_empty()).then_some(word)
 }
 
-/// Whether a word spells bytes, which are not taken down.
+/// Whether a word spells bytes, which are not stored.
 pub(crate) fn check_frame(verb: Verb, operand: Operand, word: &[u8]) -> Result<(), LineFault<'_>>
     ensures { is_ok result ≡ is_some (frame_of word.now) }
 {

@@ -29,7 +29,7 @@ pub enum ScriptFault {
     /// It has too many bytes.
     #[error("script: size")]
     Size,
-    /// The line of that number, from 1, is the first that says nothing.
+    /// The line of that number, from 1, is the first that is not valid.
     #[error("script: line {0}")]
     Line(usize),
 }
@@ -39,7 +39,7 @@ pub enum ScriptFault {
 pub enum ScriptWrong<'a> {
     /// It has too many bytes.
     Size,
-    /// The line of that number, from 1, is the first that says nothing.
+    /// The line of that number, from 1, is the first that is not valid.
     Line(usize, LineFault<'a>),
 }
 
@@ -68,14 +68,14 @@ impl fmt::Display for ScriptWrong<'_> {
     }
 }
 
-/// What a line of a script says.
+/// The meaning of a script's line.
 #[derive(Drop)]
 pub enum Meaning<'a> {
     /// It is empty or a comment.
     Skipped,
     /// A step.
     Runs(Step<'a>),
-    /// Nothing that a script may say.
+    /// It is not valid.
     Bad,
 }
 

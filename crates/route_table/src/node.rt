@@ -112,7 +112,7 @@ impl Node {
         node.hop()
     }
 
-    /// Gives the path the hop. An error leaves the routes as they were.
+    /// Sets the hop of the path. An error leaves the routes as they were.
     pub(crate) fn add(
         &mut self,
         alloc: Global,
@@ -142,7 +142,7 @@ impl Node {
         insert_child(&mut self.children, at, Child { segment, node })
     }
 
-    /// Takes away the peer of the path, and each child that has no routes left. An error leaves the
+    /// Removes the hop of the path, and each child that has no routes left. An error leaves the
     /// routes as they were.
     pub(crate) fn remove(&mut self, path: Segments<'_>) -> Result<(), AllocError>
         ensures removed { OnOk result

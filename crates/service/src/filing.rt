@@ -23,7 +23,7 @@ pub struct Filing {
 
 /// A store of statements.
 pub trait StatementStore {
-    /// What a question makes of it: before, of whose period it was asked, the answer, and after.
+    /// What a question does: the store before, whose period was asked for, the answer, and the store after.
     ghost tells: { Self → List ℕ → ℕ → Option Bool → Self → Type 0 };
 
     /// What keeping does: the store before, the statement, whether it is kept now, and the store after.

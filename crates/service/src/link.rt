@@ -21,7 +21,7 @@ pub trait Peers {
     /// A connection to a peer, for one frame.
     type Connection;
 
-    /// What one exchange makes of it: before, what was sent and what came back, and after.
+    /// What one exchange does: the peers before, what was sent and what came back, and the peers after.
     ghost exchanges: { Self → Sending → Self → Type 0 };
 
     /// Opens a connection to the peer of that target, until that moment.

@@ -16,7 +16,7 @@ use workers::Places;
 /// What a service knows of a tenant beside its book.
 #[derive(Drop)]
 pub struct Terms {
-    /// What an operator shows who governs the tenant.
+    /// The token that the tenant's operator shows.
     pub admin: Token,
     /// For how many milliseconds steps of an exchange with one of its peers may begin.
     pub hold: u64,
@@ -63,7 +63,7 @@ impl<J: Run> Office<J> {
         }
     }
 
-    /// How many commands came so for the tenant.
+    /// How many such commands came for the tenant.
     pub fn refused_tokens(&self, tenant: usize) -> u64 {
         match self.refused_tokens.get(tenant) {
             Some(count) => count.load(Ordering::SeqCst),

@@ -187,7 +187,7 @@ impl Chain {
         }
     }
 
-    /// What the next statement is to begin with, if anything came; of a setup, its tokens and targets do not count.
+    /// How the next statement must begin, if anything came. The tokens and targets of a setup do not count.
     pub fn opening_due(&self) -> Option<&Opening>
         ensures { option_copied result ≡ opening_due self.now.due }
     {

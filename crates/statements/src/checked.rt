@@ -25,10 +25,10 @@ const MOST_RECORDS: usize = 16_384 + 1;
 /// What is wrong with a statement. The records of a period are counted from 0.
 #[derive(Clone, Copy, Debug, PartialEq, Eq, Error)]
 pub enum StatementFault {
-    /// It begins with no opening.
+    /// It does not begin with an opening.
     #[error("no opening")]
     Opening,
-    /// No period begins with its opening, for what is named.
+    /// No period begins with its opening, because of what is named.
     #[error("no period begins so: {0}")]
     Limit(OpeningFault),
     /// The line of the record at that place is not an entry.
@@ -55,7 +55,7 @@ fn limit(fault: OpeningFault) -> ReadError<StatementFault> {
     bad(StatementFault::Limit(fault))
 }
 
-/// A period that was gone over again, with its packets that went on and the fees that were kept of them.
+/// A period that was checked, with its packets that went on and the fees that were kept of them.
 #[derive(Drop)]
 pub struct Gone {
     pub period: Period,
@@ -63,8 +63,8 @@ pub struct Gone {
     pub fees: Vec<u64>,
 }
 
-/// A period that is gone over again: its book so far, the fees of its packets that went on, and the number that the next peer
-/// gets.
+/// A period that is being checked: its book so far, the fees of its packets that went on, and the number that the next
+/// peer gets.
 #[derive(Drop)]
 struct Course {
     book: Book,

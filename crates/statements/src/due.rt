@@ -1,11 +1,11 @@
-//! What the next statement of a chain is to open with.
+//! The opening that the next statement of a chain must have.
 
 ghost use Rattle.std.specs.Prelude.{◌≡◌, option_copied};
 ghost use Rattle.statements.specs.Due.{opening_due};
 
 use tenant_core::Opening;
 
-/// What the next period of a chain is to open with.
+/// The opening that the next period of a chain must have.
 #[derive(Drop)]
 pub enum Due {
     /// It is the first one, and no setup was named.

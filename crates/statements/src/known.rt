@@ -1,4 +1,4 @@
-//! What two tellings of a tenant have in common.
+//! What two descriptions of a tenant have in common.
 
 ghost use Rattle.std.specs.Prelude.{◌≡◌, ◌↔◌, IfOk, IsTrue, map};
 ghost use Rattle.statements.specs.Known.{anew, anew_or, known, led, rated, stated, AreLed, GoesOn, IsStatedAs};

@@ -126,7 +126,7 @@ pub fn first_with(
     Ok(all)
 }
 
-/// The peers that were added, and those that a period more added.
+/// The peers that were added, and those that the next period added.
 pub fn added_with(alloc: Global, added: &[PeerSeen], period: &Period) -> Summed<Vec<PeerSeen>>
     ensures { IfOk result (λ all. all.items ≡ added.now ++ seen_during period.now) }
 {

@@ -54,7 +54,7 @@ impl Tally {
         Ok(Tally { sums })
     }
 
-    /// So much more for that peer, if there is anything to add.
+    /// Adds so much for that peer, if there is anything to add.
     pub fn add(&mut self, counted: Option<(PeerNo, u64)>) -> Summed<()>
         ensures { OnOk result (IsAdded self.old self.new (counted_for counted)) }
     {

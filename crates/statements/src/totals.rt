@@ -37,7 +37,7 @@ pub fn raised(count: u64, more: u64) -> Summed<u64>
 }
 
 impl Totals {
-    /// Those of no period.
+    /// The sums of no period.
     pub fn new(alloc: Global) -> Totals
         ensures { AreTotals [] result }
     {
@@ -56,7 +56,7 @@ impl Totals {
         }
     }
 
-    /// Those of a period more.
+    /// The sums with those of the next period.
     pub fn with(&self, alloc: Global, gone: &Gone) -> Summed<Totals>
         requires { IsGone gone.now }
         ensures { IfOk result (λ totals. (ps : List PeriodParts) → AreTotals ps self.now → AreTotals (ps ++ gone.now.period ∷ []) totals) }

@@ -214,7 +214,7 @@ impl Journal {
         self.get(self.len().checked_sub(1)?)
     }
 
-    /// The verdict of a Prepare more.
+    /// Appends the verdict of a Prepare.
     pub(crate) fn push_decide(&mut self, decide: DecideView<'_>, verdict: Verdict)
         requires room { length self.old.records < self.old.places }
         requires short { length decide.destination.now ≤ max_address }
@@ -237,7 +237,7 @@ impl Journal {
         });
     }
 
-    /// The verdict of an answer more.
+    /// Appends the verdict of an answer.
     pub(crate) fn push_answer(&mut self, answer: AnswerEntry, verdict: Verdict)
         requires { length self.old.records < self.old.places }
         ensures { self.new ≡ with_record (record { entry = Answer answer; outcome = Packet verdict }) self.old }
@@ -248,7 +248,7 @@ impl Journal {
         });
     }
 
-    /// A tick more, which marked so many packets overdue.
+    /// Appends a tick, which marked so many packets overdue.
     pub(crate) fn push_tick(&mut self, tick: TickEntry, count: u32)
         requires { length self.old.records < self.old.places }
         ensures { self.new ≡ with_record (record { entry = Tick tick; outcome = Ticked count }) self.old }
@@ -259,7 +259,7 @@ impl Journal {
         });
     }
 
-    /// An accepted order more, which was put into a place of its own before.
+    /// Appends an accepted order, which was put into its own place before.
     pub(crate) fn push_change(&mut self, change: Boxed<ChangeEntry>)
         requires { length self.old.records < self.old.places }
         ensures { self.new ≡ with_record (record { entry = Change change; outcome = Done }) self.old }
@@ -270,7 +270,7 @@ impl Journal {
         });
     }
 
-    /// The end of the period.
+    /// Appends the end of the period.
     pub(crate) fn push_roll(&mut self, roll: RollEntry)
         requires { length self.old.records < self.old.places }
         ensures { self.new ≡ with_record (record { entry = Roll roll; outcome = Rolled }) self.old }

@@ -76,12 +76,12 @@ impl Pair {
     }
 }
 
-/// What changes whom a tenant deals with, and how.
+/// A change of whom a tenant deals with, and how.
 #[derive(Drop)]
 pub enum Order {
-    /// A peer more, with a full bucket and nothing owed.
+    /// Adds a peer, with a full bucket and nothing owed.
     AddPeer(PeerTerms),
-    /// A peer less, and with it the rates that name it.
+    /// Removes a peer, and the rates that name it.
     RemovePeer(Name),
     SetLimits {
         peer: Name,
@@ -91,19 +91,20 @@ pub enum Order {
         peer: Name,
         bucket: BucketTerms,
     },
-    /// Packets for the prefix go to the peer, and the fee is kept of the price of each, in that peer's units.
+    /// Sends packets for the prefix to the peer, and keeps the fee of the price of each, in that peer's
+    /// units.
     AddRoute {
         prefix: Prefix,
         peer: Name,
         fee: Fee,
     },
     RemoveRoute(Prefix),
-    /// What packets of one peer for another cost, in the place of what they did.
+    /// Sets what packets of one peer for another cost, in place of what they did.
     SetRate {
         pair: Pair,
         rate: Rate,
     },
-    /// Money that was paid outside.
+    /// Records money that was paid outside.
     Settle {
         peer: Name,
         side: Side,
@@ -121,7 +122,7 @@ pub enum Command {
     Roll,
 }
 
-/// What a command is answered with.
+/// The answer to a command.
 #[derive(Drop)]
 pub enum Answered {
     /// An order was accepted.

@@ -1,4 +1,4 @@
-//! What answers, ticks and commands are refused for.
+//! Why answers, ticks and commands are refused.
 
 use std::alloc::{AllocError, AllocFailed};
 use thiserror::Error;
@@ -73,7 +73,7 @@ impl<T: Drop> From<AllocFailed<T>> for CommandFault {
     }
 }
 
-/// Why a period cannot begin with an opening, in the order of the tests.
+/// Why a period cannot begin with an opening, in the order of the tests. Each names the rule that is broken.
 #[derive(Clone, Copy, Debug, PartialEq, Eq, Error)]
 pub enum OpeningFault {
     /// The tenant's place is below 64.

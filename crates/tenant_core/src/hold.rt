@@ -9,12 +9,12 @@ use crate::verdict::Verdict;
 use route_table::PeerNo;
 use std::alloc::{AllocError, Global};
 
-/// What became of a packet that went on.
+/// The fate of a packet that went on.
 #[derive(Clone, Copy, Debug, PartialEq, Eq)]
 pub enum Fate {
     /// Its amounts are held until its answer.
     Held,
-    /// It is overdue: its amounts are released, and its answer is still to come.
+    /// It is overdue: its amounts are released, and its answer may still come.
     Marked,
     /// It was answered: its amounts are released, or taken if it was fulfilled.
     Ended { fulfilled: bool },

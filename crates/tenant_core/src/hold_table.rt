@@ -133,7 +133,7 @@ impl HoldTable {
         let _ = &self.holds;
     }
 
-    /// A hold more, which awaits its answer.
+    /// Adds a hold, which awaits its answer.
     pub fn begin(&mut self, hold: Hold)
         requires room { length self.old.holds < self.old.room }
         requires few { count_by is_open self.old.holds < max_holds }

@@ -14,7 +14,7 @@ use std::alloc::{AllocError, Global};
 /// (RFC 0027, "ILP Prepare").
 pub type Expiry = Between<0, 253_402_128_000_000>;
 
-/// What a Prepare says that a tenant decides by.
+/// The parts of a Prepare that a tenant decides by.
 #[derive(Clone, Copy)]
 pub struct PrepareKey<'a> {
     /// In the sender's units.
@@ -88,12 +88,12 @@ pub struct TickEntry {
     pub now: u64,
 }
 
-/// What an accepted order changed: it names peers by their numbers.
+/// The change of an accepted order. It names peers by their numbers.
 #[derive(Drop)]
 pub enum Change {
-    /// A peer more, under the next number.
+    /// A peer was added, under the next number.
     PeerAdded(PeerTerms),
-    /// A peer less, and with it the rates that named it.
+    /// A peer was removed, and the rates that named it.
     PeerRemoved(PeerNo),
     LimitsSet {
         peer: PeerNo,
@@ -140,7 +140,7 @@ pub enum Entry {
     Roll(RollEntry),
 }
 
-/// What an event led to.
+/// The outcome of an event.
 #[derive(Clone, Copy, Debug, PartialEq, Eq)]
 pub enum Outcome {
     /// Of a Prepare or an answer.

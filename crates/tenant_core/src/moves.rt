@@ -1,4 +1,4 @@
-//! What becomes of holds and purses as packets go on, come back and expire.
+//! The holds and purses as packets go on, come back and expire.
 
 ghost use Rattle.std.specs.Prelude.{◌≡◌, ◌≤◌, ◌<◌, ◌&&◌, ℕ, map, length, find, count_by, option_map, option_and_then};
 ghost use Rattle.std.specs.Prelude.{IfSome, IfNone, true, false, slice_get, Some};

@@ -129,7 +129,7 @@ impl Network {
     ghost use Rattle.tenant_core.specs.Places.{token, ArePairsApart};
     ghost use Rattle.tenant_core.specs.Routing.{rate_between};
 
-    /// Nobody.
+    /// A network of nobody.
     pub fn new(alloc: Global) -> Network
         ensures { result ≡ nobody }
     {
@@ -186,7 +186,7 @@ impl Network {
         self.peers.as_slice()
     }
 
-    /// Lends what the type keeps.
+    /// The invariant of the type.
     pub(crate) fn is_network(&self)
         ensures { IsNetwork self.now }
     {
@@ -259,7 +259,7 @@ impl Network {
         true
     }
 
-    /// What adding such a peer is refused for.
+    /// Why adding such a peer is refused, if it is.
     pub fn peer_refusal(&self, terms: &PeerTerms) -> Option<CommandFault>
         ensures { result ≡ peer_refusal self.now terms.now }
     {
@@ -270,7 +270,7 @@ impl Network {
         is_full.then_some(CommandFault::Limit)
     }
 
-    /// What adding a route for the prefix is refused for.
+    /// Why adding a route for the prefix is refused, if it is.
     pub fn route_refusal(&self, prefix: &Prefix) -> Option<CommandFault>
         ensures { result ≡ route_refusal self.now prefix.now }
     {
@@ -280,7 +280,7 @@ impl Network {
         (self.routes.len() == MAX_ROUTES).then_some(CommandFault::Limit)
     }
 
-    /// What taking away the route of the prefix is refused for.
+    /// Why removing the route of the prefix is refused, if it is.
     pub fn no_route_refusal(&self, prefix: &Prefix) -> Option<CommandFault>
         ensures { result ≡ no_route_refusal self.now prefix.now }
     {
@@ -291,7 +291,7 @@ impl Network {
         }
     }
 
-    /// What setting the rate is refused for.
+    /// Why setting the rate is refused, if it is.
     pub fn rate_refusal(&self, rate: &RateTerms) -> Option<CommandFault>
         ensures { result ≡ rate_refusal self.now rate.now }
     {
@@ -337,7 +337,7 @@ impl Network {
         Ok(())
     }
 
-    /// Takes away the peer of that number, and the rates that name it. No route leads to it.
+    /// Removes the peer of that number, and the rates that name it. No route leads to it.
     pub fn remove_peer(&mut self, number: PeerNo)
         requires { ¬ (NamesPeer self.old.routes number) }
         ensures { self.new ≡ without_peer self.old number }
@@ -348,7 +348,7 @@ impl Network {
         order_by_pair(&self.rates, &mut self.by_pair);
     }
 
-    /// Other limits of the peer of that number.
+    /// Sets the limits of the peer of that number.
     pub fn set_limits(&mut self, number: PeerNo, limits: &PeerLimits)
         ensures { self.new ≡ with_limits self.old number limits.now }
     {
@@ -356,7 +356,7 @@ impl Network {
         change_limits(&mut self.peers, number, limits);
     }
 
-    /// Another bucket of the peer of that number, which has that level.
+    /// Sets the bucket of the peer of that number, which has that level.
     pub fn set_bucket(&mut self, number: PeerNo, bucket: &BucketTerms, level: Level)
         ensures { self.new ≡ with_bucket self.old number bucket.now level }
     {
@@ -422,8 +422,8 @@ impl Network {
         Ok(())
     }
 
-    /// Makes a change whose peers are there; the bucket that it fills or changes has that level afterwards. A peer that is
-    /// taken away is named by no route.
+    /// Makes a change whose peers are there. The bucket that it fills or changes has that level afterwards. No route
+    /// may name a peer that is removed.
     ///
     /// The errors are those of the call that makes it. An error leaves the network as it was.
     pub fn apply(

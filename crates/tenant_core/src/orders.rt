@@ -1,4 +1,4 @@
-//! What orders change, and what they are refused for.
+//! The changes of orders, and why orders are refused.
 
 ghost use Rattle.std.specs.Prelude.{length, option_and_then, slice_get, ◌<◌, ◌≡◌, ◌==◌, not, IfOk, IfSome, IfNone, Some, is_some, true, false};
 ghost use Rattle.std.specs.List.{list_any};

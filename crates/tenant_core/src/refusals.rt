@@ -1,4 +1,4 @@
-//! What orders are refused for by the packets and the money of a book, and what they leave in a bucket.
+//! Why orders are refused by the packets and the money of a book, and the bucket that they leave.
 
 ghost use Rattle.std.specs.Prelude.{◌≡◌, Some, None, if◌then◌else◌};
 

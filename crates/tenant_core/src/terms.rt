@@ -35,7 +35,7 @@ pub struct BucketTerms {
 impl PeerLimits {
     ghost use Rattle.tenant_core.specs.Terms.{are_limits_within};
 
-    /// What the types of its numbers keep.
+    /// The limits that the types of its numbers guarantee.
     pub(crate) fn are_within(&self)
         ensures { are_limits_within self.now ≡ true }
     {
@@ -46,7 +46,7 @@ impl PeerLimits {
 impl BucketTerms {
     ghost use Rattle.tenant_core.specs.Terms.{is_bucket_within};
 
-    /// What the types of its numbers keep.
+    /// The limits that the types of its numbers guarantee.
     pub(crate) fn is_within(&self)
         ensures { is_bucket_within self.now ≡ true }
     {
@@ -109,7 +109,7 @@ impl Balance {
 pub struct PeerTerms {
     pub name: Name,
     pub role: Role,
-    /// What the peer shows with the packets that it sends.
+    /// The token that the peer shows with the packets that it sends.
     pub token: Token,
     /// The URL at which the peer takes packets, and the token for it.
     pub target: Target,
@@ -124,7 +124,7 @@ impl PeerTerms {
     ghost use Rattle.std.specs.Prelude.{◌≡◌, true};
     ghost use Rattle.tenant_core.specs.Terms.{are_terms_within};
 
-    /// What the types of its parts keep.
+    /// The limits that the types of its parts guarantee.
     pub(crate) fn are_within(&self)
         ensures { are_terms_within self.now ≡ true }
     {
@@ -164,7 +164,7 @@ pub struct TenantTerms {
     pub name: Name,
     /// The tenant's own address.
     pub address: OwnAddress,
-    /// What an operator shows who governs the tenant.
+    /// The token that the tenant's operator shows.
     pub admin: Token,
     /// How many places the journal of a period has.
     pub journal: u64,

@@ -8,11 +8,11 @@ use route_table::PeerNo;
 /// Why a packet is refused, by the error codes of the protocol (RFC 0027, "Error Codes").
 #[derive(Clone, Copy, Debug, PartialEq, Eq)]
 pub enum RejectCode {
-    /// F00: the sender is no child, and asks for a child's configuration.
+    /// F00: the sender is not a child, and asks for a child's configuration.
     BadRequest,
     /// F02: no peer leads to the destination.
     Unreachable,
-    /// F03: a request for the configuration brings an amount.
+    /// F03: a request for the configuration has an amount.
     InvalidAmount,
     /// F05: the fulfillment that came back does not fit the condition, or a request for the configuration does not have the
     /// condition of 32 zero bytes.
@@ -21,11 +21,11 @@ pub enum RejectCode {
     AmountTooLarge,
     /// T01: before the packet expired, what came back was neither a Fulfill nor a Reject, or nothing.
     PeerUnreachable,
-    /// T03: as many packets await their answers as may at once.
+    /// T03: the most packets that may await their answers at once already do.
     Busy,
-    /// T04: the sender would owe too much, or the next peer be owed too much.
+    /// T04: the sender would owe too much, or too much would be owed to the next peer.
     InsufficientLiquidity,
-    /// T05: the sender brings packets faster than was agreed.
+    /// T05: the sender sends packets faster than was agreed.
     RateLimited,
     /// R00: the packet expired before its answer came.
     TimedOut,

@@ -70,7 +70,7 @@ pub struct Backlog {
     tenants: Vec<Mutex<Waiting>>,
 }
 
-/// Room in a tenant's backlog for one period. It can be neither copied nor let go, only used or given up.
+/// Room in a tenant's backlog for one period. It can be neither copied nor dropped, only used or given up.
 pub struct BacklogRoom<'a> {
     waiting: &'a Mutex<Waiting>,
 }

@@ -19,7 +19,7 @@ pub struct PlaceUse {
     pub waiting: usize,
 }
 
-/// A place that a tenant has taken. It can be neither copied nor let go, only given back.
+/// A place that a tenant has taken. It can be neither copied nor dropped, only given back.
 pub struct Place {
     tenant: usize,
 }

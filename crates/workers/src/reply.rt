@@ -1,4 +1,4 @@
-//! What a job is answered.
+//! The answer to a job.
 
 use floor_core::Got;
 use meters::Kind;
@@ -47,7 +47,7 @@ impl Status {
 /// What became of a packet that a worker had to carry.
 #[derive(Clone, Copy, Debug, PartialEq, Eq)]
 pub enum Reply {
-    /// The frame is no Prepare (400).
+    /// The frame is not a Prepare (400).
     Malformed,
     /// The token is malformed (401).
     Nameless,

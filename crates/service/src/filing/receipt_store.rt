@@ -11,7 +11,7 @@ use std::alloc::Global;
 
 /// A store of the receipts of all workers.
 pub trait ReceiptStore {
-    /// What a question makes of it: before, the answer, and after.
+    /// What a question does: the store before, the answer, and the store after.
     ghost tells_receipts: { Self → Option Bool → Self → Type 0 };
 
     /// What keeping does: the store before, the text of the receipts, whether it is kept now, and the store after.

@@ -1,4 +1,4 @@
-//! What a service does once no worker works any more: it closes periods, and has statements written and receipts audited.
+//! What a service does once no worker works any more: it closes periods, writes statements and audits receipts.
 
 ghost use Rattle.std.specs.Prelude.{◌≡◌, ◌≢◌, ◌<◌, ◌++◌, [], List, vec_len, true, false, IfOk, OnOk};
 ghost use Rattle.tenant_core.specs.declared.period.PeriodParts.{PeriodParts};

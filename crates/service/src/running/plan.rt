@@ -1,4 +1,4 @@
-//! What a service is to do.
+//! What a service does.
 
 ghost use Rattle.std.specs.Prelude.{◌≡◌, ◌≤◌};
 ghost use Rattle.allotment.specs.Loans.{max_places};
@@ -18,9 +18,9 @@ pub struct Extent {
 /// What a service prints at the end beside the lines of its tenants.
 #[derive(Clone, Copy, Debug, PartialEq, Eq)]
 pub struct Report {
-    /// What the command `balances` would tell of each tenant, before these lines.
+    /// Whether to print the answer of each tenant to the command `balances`, before these lines.
     pub balances: bool,
-    /// Whether receipts are kept of all that is done, and audited; and what the audit found, after these lines.
+    /// Whether to keep receipts of all that is done, audit them, and print what the audit found, after these lines.
     pub audit: bool,
 }
 

@@ -1,4 +1,4 @@
-//! What a worker makes of a packet, and of a command.
+//! The answers of a worker to a packet and to a command.
 
 ghost use Rattle.std.specs.Prelude.{◌≡◌, ◌<◌};
 ghost use Rattle.admin_text.specs.Commands.{command_in};

@@ -59,8 +59,8 @@ impl Opening {
 }
 
 impl Book {
-    /// The book of a period that begins with this opening, in which nothing has happened. All the room that the period needs
-    /// is taken now. The fault is the first limit that the opening breaks.
+    /// The book of a period that begins with this opening, in which nothing has happened. It allocates all the room
+    /// that the period needs. The fault is the first limit that the opening breaks.
     pub fn reopened(alloc: Global, opening: Opening) -> Result<Book, ReadError<OpeningFault>>
         ensures { GivesUnlessMemory (λ b. b) result (reopened opening) }
     {
