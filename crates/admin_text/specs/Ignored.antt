@@ -93,7 +93,7 @@ ignored_if (Ok setup) (Some version) t = ignored_by version t
 ignored_if (Ok setup) None t = []
 ignored_if (Err fault) version t = []
 
--- those of a document: none if it is no good setup
+-- those of a document: none if it is not a good setup
 unfoldable pub ignored_in_document : Members → List KeyAt
 ignored_in_document t = ignored_if (setup_of_table t) (version_of t) t
 
@@ -101,6 +101,6 @@ ignored_in_document t = ignored_if (setup_of_table t) (version_of t) t
 abbrev pub document_in : List ℕ → Option Members
 document_in text = if is_utf8 text then parse_document text else None
 
--- those of a text: none if it is no good setup
+-- those of a text: none if it is not a good setup
 abbrev pub ignored_in : List ℕ → List KeyAt
 ignored_in text = option_map_or ignored_in_document (document_in text) []

@@ -1,4 +1,4 @@
--- What no key counts for but those that are listed.
+-- Only the keys that are listed count.
 use Rattle.std.specs.Prelude.{ℕ, ◌≡◌, List, [], ◌∷◌}
 use Rattle.toml.specs.Data.{Members, get_member}
 use Rattle.tenant_core.specs.Network.{Net}

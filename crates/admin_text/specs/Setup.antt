@@ -43,7 +43,7 @@ setup_by (Some version) t = from_start (start_of t) (tenants_of_array version (a
 unfoldable pub setup_of_table : Members → Result Setup SetupFault
 setup_of_table t = setup_by (version_of t) t
 
--- a text that is no TOML is a fault
+-- a text that is not TOML is a fault
 abbrev pub document_of : Option Members → Result Members SetupFault
 document_of None = Err Toml
 document_of (Some members) = Ok members

@@ -1,4 +1,4 @@
--- Values that tell peers, routes, rates and tenants, as they are made for a setup.
+-- Values that describe peers, routes, rates and tenants, as they are made for a setup.
 use Rattle.std.specs.Prelude.{◌≡◌, ◌≤◌, List, [], ◌∷◌, Some, map, length, true}
 use Rattle.std.specs.FinMap.{from_entries}
 use Rattle.std.specs.List.{IsDistinct}
@@ -32,7 +32,7 @@ AllTold tells no_items (x ∷ xs) = ⊥
 AllTold tells (item first others) [] = ⊥
 AllTold tells (item first others) (x ∷ xs) = tells first x × AllTold tells others xs
 
--- what the types of a peer's parts keep
+-- the limits that the types of a peer's parts guarantee
 abbrev pub IsKnown : Peer → Type 0
 IsKnown p = AreWithin (fields_of peer_rows) (peer_values p.terms) × (is_balance_within p.balance ≡ true)
 

@@ -281,7 +281,7 @@ fn ignored_by(alloc: Global, version: Version, table: &Table) -> Result<Vec<Igno
     Ok(found)
 }
 
-// Those of a document, none if it is no good setup.
+// Those of a document, none if it is not a good setup.
 #[tactic(auto, unfolding(crate::specs::Ignored::ignored_in_document))]
 fn ignored_in(alloc: Global, table: &Table) -> Result<Vec<IgnoredKey>, AllocError>
     ensures { IfOk result (λ found. seen found.items ≡ ignored_in_document (table_view table.now)) }

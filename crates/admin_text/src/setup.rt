@@ -72,7 +72,7 @@ impl Setup {
     }
 }
 
-// What the keys of a tenant's table say, but for whom it deals with.
+// What the keys of a tenant's table say, except for its peers, routes and rates.
 #[derive(Drop)]
 struct OwnTerms {
     name: Name,

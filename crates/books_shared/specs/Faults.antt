@@ -5,7 +5,7 @@ use Rattle.books_shared.specs.Shares.{ShareView}
 use Rattle.books_shared.specs.declared.gather.GatherFault.{GatherFault}
 use Rattle.books_shared.specs.declared.gather.GatherFault.TheVariants.{Missing, Differs, Memory}
 
--- the fault is so, and books and shares are handed back
+-- the fault is there, and books and shares are handed back
 abbrev pub IsFault : {J : Type 0} → GatherFault J → BooksView → List ShareView → Type 0
 IsFault (Missing b s) books shares =
     (are_all_there books.workers shares ≡ false) × (b ≡ books) × (s.items ≡ shares)

@@ -43,7 +43,7 @@ total_at tenant shares = sum_by (λ s. slice_index s.counts tenant) shares
 abbrev pub is_total : List ShareView → State × ℕ → Bool
 is_total shares book = book.1 == total_at book.0.opening.tenant shares
 
--- that is so of each book
+-- this holds of each book
 abbrev pub agree : List (State × ℕ) → List ShareView → Bool
 agree books shares = list_all (is_total shares) books
 

@@ -10,7 +10,7 @@ use Rattle.books_shared.specs.Shares.{has_full, max_count, receipts_told}
 abbrev pub HaveRoom : List ℕ → ℕ → Type 0
 HaveRoom counts room = (t : ℕ) → slice_index counts t + room ≤ max_count + 1
 
--- so it is of all that is counted
+-- this holds of all counts
 pub record IsRoomy (entries unknown refused : List ℕ) (room : ℕ) : Type 0 where
   pub counts : HaveRoom entries room
   pub strangers : HaveRoom unknown room

@@ -31,8 +31,7 @@ after_made s (Some r) = after_record s r
 abbrev pub openings_of : List TenantTerms → (start : ℕ) → List Opening
 openings_of setups start = map (λ t. opening_of t.0 t.1 start) (enumerate_from 0 setups)
 
--- something made each of the records in the book, as the steps before it left it: a packet, what came back, a moment, or a
--- command
+-- a cause made each record in the book, as the steps before it left it: a packet, an answer, a moment, or a command
 abbrev pub HaveCauses : State → List Done → Type 0
 HaveCauses s [] = Unit {0}
 HaveCauses s (e ∷ es) = HasCause s e.made × HaveCauses (after_record s e.made) es

@@ -59,7 +59,7 @@ impl<J: Run> Guard<'_, J> {
     ghost use Rattle.books_shared.specs.Turns.{IsLeft, IsEnded, IsSentBy};
     ghost use Rattle.one_list.specs.Holds.{AreOwnAnswers};
 
-    // What the type keeps.
+    // The invariant of the type.
     pub(crate) fn is_kept(&self)
         ensures kept { LockInvariant self.now }
         ensures led { IsLedTo J.openings self.now.state self.now.steps }

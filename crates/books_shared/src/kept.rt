@@ -256,8 +256,8 @@ fn trace<J: Run>(
     share.add(chronicle, part, rise, book.period(), book.journal());
 }
 
-// Counts what a command added that was answered so, and left the book so: the step of a roll is the last record of the period
-// that it closed.
+// Counts what a command with that answer added to a book. The step of a roll is the last record of the period that it
+// closed.
 fn trace_command<J: Run>(
     chronicle: &Chronicle<J>,
     part: &mut TenantPart<J>,
@@ -328,7 +328,7 @@ fn tick_in(book: &mut Book, now: Moment) -> (Result<u32, BookFault>, Rise)
     (count, tick_rise(count))
 }
 
-// The answer, and how many entries of a closed period there are after it.
+// The answer, and how many entries of closed periods it adds.
 fn command_in(
     book: &mut Book,
     alloc: Global,

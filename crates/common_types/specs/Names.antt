@@ -3,7 +3,7 @@ use Rattle.std.specs.Prelude.{ℕ, List, length, Bool, ◌&&◌, ◌||◌, ◌==
 use Rattle.std.specs.List.{list_all}
 use Rattle.common_types.specs.Numbers.{is_between}
 
--- small letters, digits and `-`
+-- lower-case letters, digits and `-`
 abbrev pub is_name_byte : ℕ → Bool
 is_name_byte b = is_between 97 122 b || is_between 48 57 b || (b == 45)
 

@@ -1,4 +1,4 @@
--- What records of tenants' books came from, and which records the steps of a list make.
+-- The causes of records in tenants' books, and the records that the steps of a list make.
 use Rattle.std.specs.Prelude.{ℕ, ◌≡◌, ◌<◌, List, [], ◌∷◌, ◌++◌, length, All, Option, Some, None, Result, Ok, Err, slice_get}
 use Rattle.oer_core.specs.Length.{AreBytes}
 use Rattle.ilp_view.specs.Packet.{Prepare}
@@ -18,9 +18,9 @@ use Rattle.floor_core.specs.declared.step.Malformed.{Malformed}
 use Rattle.floor_core.specs.declared.step.Output.{Output}
 use Rattle.floor_core.specs.declared.step.Step.{Step}
 
--- ---- what a record came from
+-- ---- the cause of a record
 
--- a frame that came with a token and was decided; what came back for a hold; a moment that was handed in; a command
+-- a frame that came with a token and was decided; an answer to a hold; a moment; a command
 pub data Cause : Type 0 where
   Packet : (token frame : List ℕ) (now : ℕ) → Cause
   Return : (hold now : ℕ) (given : Given) → Cause
@@ -39,7 +39,7 @@ made_from s (Cause.Return hold now given) = answer_made s hold now (answer_key (
 made_from s (Cause.Moment now) = tick_made s now
 made_from s (Cause.Order now command) = command_made s command now
 
--- the state that it leaves
+-- the state after it
 abbrev pub left_from : State → Cause → State
 left_from s (Cause.Order now command) = commanded s command now
 left_from s cause = recorded s (made_from s cause)
@@ -49,7 +49,7 @@ abbrev pub BringsBytes : Cause → Type 0
 BringsBytes (Cause.Packet token frame now) = AreBytes frame
 BringsBytes cause = Unit {0}
 
--- something makes that record in a book of that state
+-- a cause makes that record in a book of that state
 abbrev pub HasCause : State → Record → Type 0
 HasCause s r = (cause : Cause) × BringsBytes cause × (made_from s cause ≡ Some r)
 

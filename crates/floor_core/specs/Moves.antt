@@ -1,4 +1,4 @@
--- What each step puts out, and what it does to the parts of a floor.
+-- The output of each step, and what it does to the parts of a floor.
 use Rattle.std.specs.Prelude.{ℕ, ◌+◌, List, slice_index, slice_set, Option, Some, None, Result, Ok, Err}
 use Rattle.tenant_core.specs.Answer.{tick_result, ticked}
 use Rattle.tenant_core.specs.Governed.{command_answer, commanded}
@@ -32,7 +32,7 @@ parts seats books next_calls = record { seats = seats; books = books; next_calls
 
 -- ---- a load
 
--- what a slot's answer to a load is put out as
+-- the output of a slot's answer to a load
 abbrev pub load_output : ℕ → ℕ → Result (Unit {0}) LoadFault → Output
 load_output t call (Ok done) = Loaded t call
 load_output t call (Err load.Busy) = Busy
@@ -54,7 +54,7 @@ load_seat f w t token bytes =
 
 -- ---- a decide, and an answer
 
--- what a slot's turn is put out as, by the tenant's book before it and the slot after it
+-- the output of a slot's turn, by the tenant's book before it and the slot after it
 abbrev pub turn_output : ℕ → State → Work → Turn → Output
 turn_output t book work turn.Idle = Idle
 turn_output t book work turn.Stray = Idle
@@ -72,13 +72,13 @@ put_both f w t work book =
       next_calls = f.next_calls;
     }
 
--- what a call of the worker's slot with a tenant's book puts out, if there is a tenant
+-- the output of a call of the worker's slot with a tenant's book, if there is a tenant
 abbrev pub call_output : FloorState → Option ℕ → (State → Called) → Output
 call_output f None call = Idle
 call_output f (Some t) call =
     turn_output t (book_at f t) (call (book_at f t)).work (call (book_at f t)).turn
 
--- what it leaves
+-- the parts after it
 abbrev pub call_moved : FloorState → ℕ → Option ℕ → (State → Called) → FloorState
 call_moved f w None call = f
 call_moved f w (Some t) call =
@@ -104,7 +104,7 @@ answer_by f w now given book = answer_call (filled (seat_at f w).slot given) boo
 
 -- ---- every step
 
--- what a step puts out
+-- the output of a step
 abbrev pub output_of : FloorState → Step → Output
 output_of f (Load w t token bytes) =
     load_output t (slice_index f.next_calls t) (load_result (seat_at f w).slot.job token bytes)
@@ -113,7 +113,7 @@ output_of f (Answer w now given) = call_output f (waiting_in (seat_at f w).slot.
 output_of f (Tick t now) = Ticked t (tick_result (book_at f t) now)
 output_of f (Govern t now command) = Governed t (command_answer (book_at f t) command now)
 
--- what a step leaves
+-- the parts after a step
 abbrev pub moved : FloorState → Step → FloorState
 moved f (Load w t token bytes) =
     record {

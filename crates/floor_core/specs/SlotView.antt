@@ -25,7 +25,7 @@ expiry_at Idle = None
 expiry_at (Loaded tenant token) = None
 expiry_at (Waiting tenant hold target expiry) = Some expiry
 
--- of the bytes in both rooms, those that a frame or a reply has now
+-- of the bytes in both buffers, those of the frame or the reply
 abbrev pub work_of : Inside → Work
 work_of s =
     record {

@@ -64,7 +64,7 @@ abbrev pub waiting_in : Job → Option ℕ
 waiting_in (Job.Waits tenant hold frame) = Some tenant
 waiting_in _ = None
 
--- a slot with that call, whose frame goes nowhere, and with nothing to tell
+-- a slot with that call, no target and no reply
 abbrev pub carrying : Job → List ℕ → Work
 carrying job room = record { job = job; target = None; expiry = None; reply = []; room = room }
 
@@ -74,22 +74,22 @@ telling reply room = record { job = Job.NoJob; target = None; expiry = None; rep
 
 -- ---- a load
 
--- what the reading of a frame is answered with
+-- the answer to reading a frame
 abbrev pub frame_result : Result Prepare ViewFault → Result (Unit {0}) LoadFault
 frame_result (Ok p) = Ok tt
 frame_result (Err fault) = Err (load.Bad fault)
 
--- what a load is answered with: the first fault of the slot, the token and the frame
+-- the answer to a load: the first fault of the slot, the token and the frame
 abbrev pub load_result : Job → (token bytes : List ℕ) → Result (Unit {0}) LoadFault
 load_result Job.NoJob token bytes = if is_token token then frame_result (prepare_at bytes) else Err load.Token
 load_result _ token bytes = Err load.Busy
 
--- what a load leaves after that answer
+-- the slot after a load with that answer
 abbrev pub loaded_as : Work → ℕ → List ℕ → List ℕ → Result (Unit {0}) LoadFault → Work
 loaded_as w tenant token bytes (Ok done) = carrying (Job.Carries tenant token bytes) w.room
 loaded_as w tenant token bytes (Err fault) = w
 
--- what a load leaves
+-- the slot after a load
 abbrev pub loaded : Work → (tenant : ℕ) → (token bytes : List ℕ) → Work
 loaded w tenant token bytes = loaded_as w tenant token bytes (load_result w.job token bytes)
 
@@ -102,7 +102,7 @@ pub record Called : Type 0 where
   pub work : Work
   pub made : Option Record
 
--- nothing but that answer
+-- only that answer, and nothing else
 abbrev pub only : Turn → Work → Called
 only turn w = record { turn = turn; work = w; made = None }
 
@@ -170,11 +170,11 @@ IsWaiting _ = ⊥
 abbrev pub filled_as : List ℕ → Got
 filled_as bytes = if nat_lt max_frame (length bytes) then got.Fault else got.Filled (length bytes)
 
--- the room with them at its front, if there is room for them
+-- the buffer with them at its front, if there is room for them
 abbrev pub filled_room : List ℕ → List ℕ → List ℕ
 filled_room room bytes = if nat_lt max_frame (length bytes) then room else overwritten room 0 bytes
 
--- what came back: so many bytes at the front of the room, no more than a frame may have, or nothing
+-- the answer of the next peer: so many bytes at the front of the buffer, no more than a frame may have, or nothing
 abbrev pub given_by : (room : List ℕ) → Got → Given
 given_by room (got.Filled n) = if nat_lt max_frame n then given.Fault else given.Bytes (take n room)
 given_by room got.Fault = given.Fault

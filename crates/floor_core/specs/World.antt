@@ -46,8 +46,8 @@ pub record Tenant : Type 0 where
   pub next_call : ℕ
   pub calls : ℕ → Option Stage
 
--- what happens to one tenant: bytes arrive with a token, a call is decided, what came back for a call that was sent on
--- settles it, a moment is handed in, and an operator commands
+-- what happens to one tenant: bytes arrive with a token, a call is decided, an answer settles a call that was sent on,
+-- a moment comes, and an operator commands
 pub data Event : Type 0 where
   Arrives : (token bytes : List ℕ) → Event
   Decides : (call now : ℕ) → Event
@@ -85,7 +85,7 @@ packet_or_fault (Err f) = Err (malformed_by f)
 abbrev pub arrival : List ℕ → List ℕ → Result Prepare Malformed
 arrival token bytes = if is_token token then packet_or_fault (prepare_at bytes) else Err malformed.Token
 
--- what the tenant decides a packet by
+-- the parts of a packet that the tenant decides by
 abbrev pub key_in : Prepare → Key
 key_in p =
     record {
@@ -100,7 +100,7 @@ abbrev pub peer_name : Option Peer → List ℕ
 peer_name None = []
 peer_name (Some p) = p.terms.name
 
--- what came back, if it was an answer of the protocol: a Fulfill, or else a Reject (RFC 0027)
+-- the answer of the next peer, if it is one of the protocol: a Fulfill, or else a Reject (RFC 0027)
 abbrev pub key_read : Result Fulfill ViewFault → Result Reject ViewFault → AnswerKey
 key_read (Ok p) other = key.Fulfilled p.fulfillment
 key_read (Err f) (Ok p) = key.Rejected
@@ -139,7 +139,7 @@ pub record Effect : Type 0 where
 abbrev pub no_effect : Tenant → Effect
 no_effect s = record { output = Idle; after = s; made = None }
 
--- this is said, the book is left so, and that record is made, if any
+-- the output, with the book after it and the record, if one is made
 abbrev pub on_book : Tenant → Output → State → Option Record → Effect
 on_book s output book made = record { output = output; after = record s { book = book }; made = made }
 
@@ -182,7 +182,7 @@ call_decided s call (Some (Ready token p)) now =
     call_judged s call token p (decide_made s.book token (key_in p) now) (judge s.book token (key_in p) now)
 call_decided s call _ now = no_effect s
 
--- the answer to a hold, which settles its call; to one that awaits none, nothing
+-- the answer to a hold, which settles its call; nothing if the hold awaits none
 abbrev pub call_settled : Tenant → (call : ℕ) → Given → Option Record → Result Verdict HoldFault → Effect
 call_settled s call given made (Ok v) =
     on_call s call None (Reply (number_of s) (settled_reply s.book.opening.address (bytes_given given) v)) made
@@ -206,7 +206,7 @@ effect_of s (Governs now command) =
     on_book s (Governed (number_of s) (command_answer s.book command now)) (commanded s.book command now)
     (command_made s.book command now)
 
--- what it says to an event
+-- its output for an event
 abbrev pub reply_alone : Tenant → Event → Output
 reply_alone s e = (effect_of s e).output
 
@@ -214,7 +214,7 @@ reply_alone s e = (effect_of s e).output
 abbrev pub after_alone : Tenant → Event → Tenant
 after_alone s e = (effect_of s e).after
 
--- what the one-tenant connector says to events, one after the other
+-- the outputs of the one-tenant connector for events, one after the other
 abbrev pub run_alone : Tenant → List Event → List Output
 run_alone s [] = []
 run_alone s (e ∷ es) = reply_alone s e ∷ run_alone (after_alone s e) es
@@ -252,7 +252,7 @@ abbrev pub answer_owner : Hand → ℕ → Given → Owner
 answer_owner (Awaits t call) now given = Own t (Answers call now given)
 answer_owner _ now given = Nobody Idle
 
--- whose a step is, by what its worker has in hand; a tick and a command are the tenant's that they name
+-- the owner of a step, by what its worker has in hand; a tick and a command belong to the tenant that they name
 abbrev pub owner : (ℕ → Hand) → Step → Owner
 owner hands (Load worker tenant token bytes) = load_owner (hands worker) tenant token bytes
 owner hands (Decide worker now) = decide_owner (hands worker) now

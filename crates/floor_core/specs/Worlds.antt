@@ -1,4 +1,4 @@
--- All one-tenant connectors at once: what a step is answered with in a world, and the world after it.
+-- All one-tenant connectors at once: the output of a step in a world, and the world after it.
 use Rattle.std.specs.Prelude.{ℕ, List, [], ◌∷◌}
 use Rattle.floor_core.specs.World.{Tenant, World, Owner, put, reply_alone, after_alone, owner, hands_after}
 use Rattle.floor_core.specs.declared.step.Output.{Output}
@@ -14,7 +14,7 @@ abbrev pub tenants_after : World → Owner → ℕ → Tenant
 tenants_after w (Owner.Own t e) = put w.tenants t (after_alone (w.tenants t) e)
 tenants_after w (Owner.Nobody output) = w.tenants
 
--- what a step is answered with
+-- the output of a step
 abbrev pub reply : World → Step → Output
 reply w step = says w (owner w.hands step)
 
@@ -23,7 +23,7 @@ abbrev pub after : World → Step → World
 after w step =
     record { tenants = tenants_after w (owner w.hands step); hands = hands_after w.hands step (reply w step) }
 
--- what steps are answered with, one after the other
+-- the outputs of steps, one after the other
 abbrev pub replies : World → List Step → List Output
 replies w [] = []
 replies w (s ∷ ss) = reply w s ∷ replies (after w s) ss

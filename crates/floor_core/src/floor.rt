@@ -196,7 +196,7 @@ fn decide_on(seats: &mut [Seat], books: &mut [Book], worker: usize, now: Moment)
     }
 }
 
-// What came back for the packet of a slot, taken in by it.
+// Puts the answer for the packet of a slot into the slot.
 fn taken_in(slot: &mut Slot, given: &Given) -> Got
     requires { IsWaiting slot.old.job }
     ensures got { result ≡ got_of given.now }

@@ -10,7 +10,7 @@ ghost use Rattle.ilp_view.specs.Reading.{prepare_at};
 use ilp_addr::Stamp;
 use ilp_view::PrepareMut;
 
-// Another amount and another expiry in the Prepare of that length at the front of the room.
+// Another amount and another expiry in the Prepare of that length at the front of the buffer.
 pub(crate) fn rewrite(room: &mut [u8], len: usize, amount: u64, expiry: u64)
     requires len { len ≤ length room.old }
     requires prepare { IsOk (prepare_at (take len room.old)) }

@@ -313,7 +313,7 @@ fn are_bytes(bytes: &[u8])
     let _first = bytes.first();
 }
 
-// Whom the frame was sent on to.
+// The target that the frame was sent on to.
 fn target_in(stage: &Stage) -> &Target
     requires { IsSome (target_at stage.now) }
     ensures { Some result.now ≡ target_at stage.now }
@@ -324,7 +324,7 @@ fn target_in(stage: &Stage) -> &Target
     }
 }
 
-// The verdict of the book on the Prepare of that length at the front of the room.
+// The verdict of the book on the Prepare of that length at the front of the buffer.
 fn decided(book: &mut Book, token: &[u8], room: &[u8], len: usize, now: Moment) -> Verdict
     requires len { len ≤ length room.now }
     requires prepare { IsOk (prepare_at (take len room.now)) }
@@ -352,7 +352,7 @@ fn target_of(book: &Book, peer: PeerNo) -> Target
     book.target(peer).unwrap().copy()
 }
 
-// How many bytes came back into the room.
+// How many bytes of an answer are in the buffer.
 fn answer_len(got: Got) -> usize
     ensures value { (room : List ℕ) → take result room ≡ bytes_given (given_by room got) }
     ensures within { result ≤ max_frame }
@@ -363,7 +363,7 @@ fn answer_len(got: Got) -> usize
     }
 }
 
-// What the tenant settles a packet by.
+// The parts of an answer that the tenant settles a packet by.
 fn answer_key(room: &[u8], got: Got) -> AnswerKey
     requires { length room.now ≡ max_frame }
     ensures { result ≡ answer_key (given_by room.now got) }

@@ -42,11 +42,11 @@ pub record TakesAll (had : List ℕ) (old new : Option (List ℕ)) (taken has : 
   pub none : has ≡ []
   pub ended : IsAtEnd new
 
--- what is known of a stream on which no more comes
+-- a stream on which no more bytes come
 abbrev pub no_more : Option (List ℕ)
 no_more = Some []
 
--- the reader is as it was, and what came of the call is so; or what there was before it is too little
+-- the reader is as it was, and the result of the call is this; or too few bytes were held before it
 abbrev pub ReadsOnlyFor : {D A E : Type 0} → (old new : D) → Result A E → (So : A → Type 0) → (Few : Type 0) → Type 0
 ReadsOnlyFor old new result So Few = ((new ≡ old) × IfOk result So) ⊎ Few
 
@@ -85,13 +85,13 @@ abbrev pub IsStatedIn : List ℕ → Option ℕ → Type 0
 IsStatedIn text (Some size) = IsSizeOf text size
 IsStatedIn text None = IsSizeLine text → ⊥
 
--- bytes came, and what there was and they are so
+-- bytes came, and this holds of the held bytes with them
 pub record Makes (had : List ℕ) (old new : Option (List ℕ)) (Is : List ℕ → Type 0) : Type 0 where
   pub came : List ℕ
   pub consumed : Consumes old new came
   pub so : Is (had ++ came)
 
--- bytes came, until no more were left, and what there was and they are so
+-- bytes came, until no more were left, and this holds of the held bytes with them
 pub record MakesAll (had : List ℕ) (old new : Option (List ℕ)) (has : List ℕ) (Is : List ℕ → Type 0) : Type 0 where
   pub makes : Makes had old new Is
   pub none : has ≡ []

@@ -61,7 +61,7 @@ framing_in reply =
     then framing_by reply.minor (occurrence (codes "Transfer-Encoding") reply.lines) (occurrence (codes "Content-Length") reply.lines)
     else Err Status
 
--- what a body means
+-- the meaning of a body
 abbrev pub told_of : Body → Result (List ℕ) PostFault
 told_of (whole bytes after) = Ok bytes
 told_of cut = Err Cut
@@ -72,7 +72,7 @@ told_of (bad TooLarge) = Err Size
 abbrev pub body_to_end : List ℕ → Result (List ℕ) PostFault
 body_to_end rest = if nat_lt max_peer_answer (length rest) then Err Size else Ok rest
 
--- what bytes mean as a body that is framed so
+-- the meaning of bytes as a body with this framing
 abbrev pub MeansFramed : AnswerFraming → List ℕ → Result (List ℕ) PostFault → Type 0
 MeansFramed (Framed framing) rest meaning = (body : Body) × IsBody framing rest body × (meaning ≡ told_of body)
 MeansFramed ToEnd rest meaning = meaning ≡ body_to_end rest
@@ -109,7 +109,7 @@ abbrev pub Means : ℕ → List ℕ → Result (List ℕ) PostFault → Type 0
 Means zero stream meaning = meaning ≡ Err Head
 Means (suc heads) stream meaning = FirstMeans (Means heads) stream meaning ⊎ HasNone stream meaning
 
--- what is given of an answer: so many bytes at the front of a buffer, or a fault
+-- the outcome of an answer: so many bytes at the front of a buffer, or a fault
 abbrev pub given : Result ℕ PostFault → List ℕ → Result (List ℕ) PostFault
 given (Ok n) out = Ok (take n out)
 given (Err fault) out = Err fault

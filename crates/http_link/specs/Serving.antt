@@ -51,8 +51,8 @@ pub record IsAsked (wanted : Wanted) (head : Head) (body after : List ℕ) (trac
   pub left : traces.left ≡ Some after
   pub open_or_not : served ≡ kept_unless (closes head)
 
--- the body is refused: nothing is asked, the status is written, and the connection is closed; what was read of the body is
--- not said
+-- the body is refused: nothing is asked, the status is written, and the connection is closed; nothing is said of how
+-- much of the body was read
 pub record IsBodyRefused (fault : BodyFault) (head : Head) (traces : Traces) (served : Served) : Type 0 where
   pub closed : served ≡ Closed
   pub unasked : traces.Unasked
@@ -77,7 +77,7 @@ IsServed (Err status) head rest traces served = IsRefused status rest traces ser
 IsServed (Ok wanted) head rest traces served =
     (body : Body) × IsBody wanted.framing rest body × ServesBody wanted head traces served body
 
--- what is written to a stream that begins with no head within the limits: nothing, or 400
+-- the text written to a stream that begins with no head within the limits: none, or 400
 abbrev pub WritesNothingOr400 : (List ℕ → Type 0) → Served → Type 0
 WritesNothingOr400 Writes served =
     ((served ≡ Ended) × Writes []) ⊎ ((served ≡ Closed) × Writes (refusal_text 400))

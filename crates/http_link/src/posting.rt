@@ -104,7 +104,7 @@ pub fn post<R: Source, W: Sink>(
     // The request is written whole, unless a write fails.
     ensures sent { result ≢ Err PostFault.Write → result ≢ Err PostFault.Turns
         → Appends (W.contents w.old) (W.contents w.new) (post_text target.now frame.now) }
-    // What is given is what the stream means, however it is cut.
+    // The outcome is what the stream means, however it is cut into reads.
     ensures exact { (stream : List ℕ) → R.remaining r.old ≡ Some stream
         → result ≢ Err PostFault.Read → result ≢ Err PostFault.Write → result ≢ Err PostFault.Turns
         → Means max_heads stream (given result out.new) }

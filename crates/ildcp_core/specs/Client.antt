@@ -14,7 +14,8 @@ pub record Client : Type 0 where
   pub scale : ℕ
   pub code : List ℕ
 
--- The tenant's address is one of at most 900 bytes, the scale is a byte, and the name and the code are some.
+-- The tenant's address is one of at most 900 bytes, the scale is a byte, and the name and the code are
+-- valid.
 pub record IsClient (c : Client) : Type 0 where
   pub tenant : IsAddress c.tenant
   pub short : length c.tenant ≤ max_own_address

@@ -26,7 +26,7 @@ cut_of p = record {
   back = behind_expiry p;
 }
 
--- How the Prepare that the frame is is cut, or the first fault.
+-- How the frame's Prepare is cut, or the first fault.
 abbrev pub cut_at : List ℕ → Result Cut ViewFault
 cut_at frame = do
   p ← prepare_at frame

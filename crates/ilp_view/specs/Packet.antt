@@ -149,7 +149,7 @@ abbrev pub reject_frame : List ℕ → List ℕ → List ℕ → List ℕ → Li
 reject_frame code triggered_by message payload =
     14 ∷ octet_string (code ++ (octet_string triggered_by ++ (octet_string message ++ octet_string payload)))
 
--- The parts of the Fulfill that is written so (RFC 0027, "ILP Fulfill").
+-- The parts of the Fulfill with that frame (RFC 0027, "ILP Fulfill").
 abbrev pub written_fulfill : List ℕ → List ℕ → Fulfill
 written_fulfill fulfillment payload = record {
   contents_length = shortest_length (length (fulfillment ++ octet_string payload));
@@ -159,7 +159,7 @@ written_fulfill fulfillment payload = record {
   extra = [];
 }
 
--- The parts of the Reject that is written so (RFC 0027, "ILP Reject").
+-- The parts of the Reject with that frame (RFC 0027, "ILP Reject").
 abbrev pub written_reject : List ℕ → List ℕ → List ℕ → List ℕ → Reject
 written_reject code triggered_by message payload = record {
   contents_length = shortest_length (length (code

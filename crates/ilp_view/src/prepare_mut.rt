@@ -43,7 +43,7 @@ impl<'a> PrepareMut<'a> {
         ensures only { (p : Prepare) → IsPrepare frame.old p → IsOkAnd result (λ m. lent_of m ≡ cut_of p) }
         // Which fault it is.
         ensures exact { Gives lent_of result (cut_at frame.old) }
-        // The frame is lent as it is, and ends as what the PrepareMut ends with.
+        // The frame is borrowed as it is, and ends as the PrepareMut ends.
         ensures same_frame { IfOk result (λ m. name_of m ≡ frame.entry.ghost_name) }
         ensures bytes { IfOk result (λ m. frame_of m ≡ frame.old) }
         ensures fields { IfOk result HasFields }
@@ -58,7 +58,7 @@ impl<'a> PrepareMut<'a> {
         requires { IsOk (prepare_at frame.old) }
         // It is cut at the amount and the expiry.
         ensures cut { IfOk (prepare_at frame.old) (λ p. lent_of result ≡ cut_of p) }
-        // The frame is lent as it is, and ends as what the PrepareMut ends with.
+        // The frame is borrowed as it is, and ends as the PrepareMut ends.
         ensures same_frame { name_of result ≡ frame.entry.ghost_name }
         ensures bytes { frame_of result ≡ frame.old }
         ensures fields { HasFields result }

@@ -48,7 +48,7 @@ fn stated<W: Write>(
     }
 }
 
-// Says what is wrong, and gives how the run ends.
+// Says what is wrong, and returns how the run ends.
 fn refusal<W: Write>(writer: &mut W, words: &[u8]) -> Ending {
     match refuse(writer, words) {
         Ok(()) => Ending::NotGood,
@@ -109,7 +109,7 @@ impl Statements {
     }
 }
 
-// What is said of a text that is no text of receipts.
+// What is said of a text that is not one of receipts.
 fn text_words(
     alloc: Global,
     file: &str,

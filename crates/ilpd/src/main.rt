@@ -251,7 +251,7 @@ fn audit_at(
     )
 }
 
-// Why a word is no address to listen on.
+// Why a word is not an address to listen on.
 const NO_ADDRESS: &str = "not an address: an IP address and a port, as 127.0.0.1:7768";
 
 // A listener on an address, which is an IP address and a port.

@@ -218,7 +218,7 @@ fn setup_words(
     Ok(out)
 }
 
-// What is said of a file whose tenant the setup has not.
+// What is said of a file whose tenant is not in the setup.
 fn stranger_words(alloc: Global, file: &str) -> Result<Vec<u8>, AllocError> {
     let mut out = begun(alloc, file)?;
     out.extend_from_slice(b"the setup has no tenant of its name\n")?;

@@ -15,7 +15,7 @@ pub record Account : Type 0 where
   pub ceiling : ℕ
   pub credit : ℕ
 
--- the bounds of a purse, whatever becomes of what is held
+-- the bounds of a purse, whether held amounts are taken or released
 pub record IsAccount (a : Account) : Type 0 where
   pub most : (a.balance +ℤ pos a.held_in) ≤ℤ pos max_money
   pub least : neg_ℤ (pos max_money) ≤ℤ (a.balance -ℤ pos a.held_out)

@@ -18,7 +18,7 @@ price_of f amount = amount * f.numerator / f.denominator
 abbrev pub price_less : Fraction → ℕ → ℕ → Option ℕ
 price_less f amount fee = if nat_lt (price_of f amount) fee then None else Some (price_of f amount - fee)
 
--- the amount is within its limit, its price within its bound, and no larger amount is so
+-- the amount is within its limit and its price within its bound, and no larger amount is
 pub record IsGreatestAmount (f : Fraction) (limit max amount : ℕ) : Type 0 where
   pub within : amount ≤ limit
   pub price_fits : price_of f amount ≤ max

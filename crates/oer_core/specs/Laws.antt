@@ -6,10 +6,10 @@ use Rattle.oer_core.specs.Writing.{overwritten}
 
 -- Lengths: reading agrees with spelling, and one spelling is the shortest (RFC 0030).
 pub record LengthLaws : Type 0 where
-  -- What is read is spelled so, by that many bytes, and within the limit.
+  -- A length that is read is spelled by that many bytes, and is within the limit.
   pub read_is_spelled : (limit : ℕ) (bytes : List ℕ) (r : ℕ × ℕ) → length_at limit bytes ≡ Ok r
       → (r.1 ≤ length bytes) × IsLength (take r.1 bytes) r.0 × (r.0 ≤ limit)
-  -- What is spelled so is read, whatever follows.
+  -- A length that is spelled is read, whatever follows it.
   pub spelled_is_read : (limit n : ℕ) (spelling rest : List ℕ) → IsLength spelling n → n ≤ limit
       → length_at limit (spelling ++ rest) ≡ Ok (n, length spelling)
   -- No spelling begins another: of two at the front of the same bytes, both are one, and spell one length.
@@ -25,10 +25,10 @@ pub record LengthLaws : Type 0 where
 
 -- Numbers of eight bytes: reading agrees with spelling (RFC 0030, "UInt64").
 pub record NumberLaws : Type 0 where
-  -- What is read is spelled so.
+  -- A number that is read is spelled by those bytes.
   pub read_is_spelled : (bytes : List ℕ) (n : ℕ) (rest : List ℕ) → AreBytes bytes → number_at bytes ≡ Ok (n, rest)
       → (n < 2 ^ 64) × (bytes ≡ to_be_bytes w64 n ++ rest)
-  -- What is spelled so is read, whatever follows.
+  -- A number that is spelled is read, whatever follows it.
   pub spelled_is_read : (n : ℕ) (rest : List ℕ) → n < 2 ^ 64 → number_at (to_be_bytes w64 n ++ rest) ≡ Ok (n, rest)
 
 -- Writing: two writes, one after the other, and reading back what was written.

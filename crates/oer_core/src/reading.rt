@@ -53,10 +53,10 @@ fn length_of(bytes: &[u8], limit: usize) -> Result<(usize, usize), OerFault>
 /// the bytes end inside the length, `BadLength` if the first byte cannot begin a length, `TooLong`
 /// if the length is over `limit`. (RFC 0030)
 pub fn read_length(bytes: &[u8], limit: usize) -> Result<(usize, usize), OerFault>
-    // What is read is spelled so, by that many bytes, and within the limit.
+    // A length that is read is spelled by that many bytes, and is within the limit.
     ensures found { IfOk result (λ r.
         (r.1 ≤ length bytes.now) × IsLength (take r.1 bytes.now) r.0 × (r.0 ≤ limit)) }
-    // What is spelled so is read, whatever follows.
+    // A length that is spelled is read, whatever follows it.
     ensures only { (s rest : List ℕ) (n : ℕ) → IsLength s n → n ≤ limit
         → bytes.now ≡ s ++ rest → result ≡ Ok (n, length s) }
     // Which fault it is.
@@ -115,9 +115,9 @@ fn u64_of(bytes: &[u8]) -> Result<(u64, &[u8]), OerFault>
 ///
 /// Errors: `Short` if there are fewer than eight bytes. (RFC 0030, UInt64)
 pub fn read_u64(bytes: &[u8]) -> Result<(u64, &[u8]), OerFault>
-    // What is read is spelled so.
+    // A number that is read is spelled by those bytes.
     ensures found { IfOk result (λ r. (r.0 < 2 ^ 64) × (bytes.now ≡ to_be_bytes w64 r.0 ++ r.1.now)) }
-    // What is spelled so is read, whatever follows.
+    // A number that is spelled is read, whatever follows it.
     ensures only { (n : ℕ) (rest : List ℕ) → n < 2 ^ 64 → bytes.now ≡ to_be_bytes w64 n ++ rest
         → IsOkAnd result (λ r. (r.0 ≡ n) × (r.1.now ≡ rest)) }
     // Which fault it is.

@@ -52,13 +52,13 @@ pub record HoldLaws : Type 0 where
   pub by_another : (o : Opening) (steps before : List Done) (e : Done) (s : State) (n : ℕ)
       → IsHistory o steps s → of_worker e.worker steps ≡ before ++ e ∷ [] → BeginsHold n e → is_awaited s n ≡ false
       → IsAnsweredByAnother e n steps
-  -- no other step begins a hold of its number, so who sent its packet on is the worker of the step
+  -- no other step begins a hold of its number, so the worker of the step is the one that sent its packet on
   pub held : (o : Opening) (steps before : List Done) (e : Done) (s : State) (n : ℕ)
       → IsHistory o steps s → of_worker e.worker steps ≡ before ++ e ∷ [] → BeginsHold n e → holder n steps ≡ Some e.worker
 
 -- if workers answer only packets that they sent on themselves
 pub record OwnAnswerLaws : Type 0 where
-  -- one step more leaves that so, unless it answers another's packet
+  -- one more step keeps this, unless it answers another worker's packet
   pub goes_on : (steps : List Done) (e : Done)
       → AreOwnAnswers steps → ((n : ℕ) → IsAnswerTo n e → holder n steps ≡ Some e.worker) → AreOwnAnswers (steps ++ e ∷ [])
   -- a packet is awaited as long as its worker has done nothing since for the tenant

@@ -1,4 +1,4 @@
--- What the types are seen as, and what they keep.
+-- How contracts see the types, and what the types keep.
 use Rattle.std.specs.Prelude.{ℕ, Bool, true, false, ◌≡◌, ◌≤◌, ◌<◌, ◌-◌, ◌^◌, List, [], ◌∷◌, map}
 use Rattle.atomic_table.specs.Seated.{TableId}
 use Rattle.atomic_table.specs.Table.{Me}
@@ -63,11 +63,11 @@ abbrev pub met_in : List (List Claim) → List Beginning
 met_in ((c ∷ cs) ∷ vs) = c.met
 met_in _ = []
 
--- what a tenant's part is seen as
+-- a tenant's part, as contracts see it
 abbrev pub part_of : ℕ → List (List Claim) → PartView
 part_of number views = record { number = number; steps = steps_in views }
 
--- what a worker's part is seen as
+-- a worker's part, as contracts see it
 abbrev pub worker_part_of : ℕ → List (List Claim) → WorkerView
 worker_part_of number views = record { number = number; steps = steps_in views; met = met_in views }
 
@@ -85,7 +85,7 @@ tenants_in v = map (λ c. record { number = c.number; steps = c.steps }) (claims
 abbrev pub workers_in : List Claim → List WorkerView
 workers_in v = map (λ c. record { number = c.number; steps = c.steps; met = c.met }) (claims_of true v)
 
--- what parts that were put together are seen as
+-- parts that were put together, as contracts see them
 abbrev pub gathered : List Claim → GatheringView
 gathered v = record { tenants = tenants_in v; workers = workers_in v }
 

@@ -235,7 +235,7 @@ impl<J: Run> Chronicle<J> {
         self.words.shared.split_seat::<Workers>(pass)
     }
 
-    // There is one list by which the claims of the pass are right. They stay the same. That word is looked at.
+    // There is one list by which the claims of the pass are right. They stay the same. That word is read.
     pub(crate) fn look(&self, pass: &mut Pass, word: usize)
         requires table { pass.old.table_id ≡ J.table }
         requires word { word < table_words }

@@ -82,7 +82,8 @@ pub record AreLaid (index : Index) (periods : List PeriodParts) (offsets : List 
   pub laid : (t : ℕ) → t < tenants → IsLaid index periods offsets t (length (list_at holders t))
   pub empty : (t x i : ℕ) → ¬ (slice_get (list_at holders t) x ≡ Some (Some i))
 
--- what came of a number: no period has it, and nothing changed; or one has, up to which there are so many entries
+-- the result for a number: no period has it, and nothing changed; or one has, up to which there are so many
+-- entries
 abbrev pub LaysNext : Index → List PeriodParts → (old new : List ℕ) → (tenant number : ℕ) → Option ℕ → Type 0
 LaysNext index periods old new tenant number None = (place_in index tenant number ≡ None) × (new ≡ old)
 LaysNext index periods old new tenant number (Some total) = IsLaidTo index periods new tenant (number + 1) total

@@ -9,7 +9,7 @@ use crate::index::Index;
 use std::alloc::Global;
 use tenant_core::Period;
 
-// What the type of each period keeps.
+// The invariant of each period.
 pub(crate) fn are_kept(periods: &[Period])
     ensures { AreKept periods.now }
 {

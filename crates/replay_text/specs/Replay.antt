@@ -63,12 +63,12 @@ abbrev pub WritesAll : List ℕ → ℕ → List ℕ → Option (List ℕ) → O
 WritesAll setup_text workers script old new =
     (written : List ℕ) × IsReplayed setup_text workers script written × Appends old new written
 
--- or a front of it
+-- or a part of it from its start on
 abbrev pub WritesFront : List ℕ → ℕ → List ℕ → Option (List ℕ) → Option (List ℕ) → Type 0
 WritesFront setup_text workers script old new =
     (written : List ℕ) × IsReplayed setup_text workers script written × AppendsFront written old new
 
--- After a fault of the setup or the script nothing was written, and after any other a front at most.
+-- After a fault of the setup or the script nothing was written. After any other, at most a part from the start on.
 abbrev pub LeavesWritten : ReplayFault → List ℕ → ℕ → Option (List ℕ) → Option (List ℕ) → Option (List ℕ) → Type 0
 LeavesWritten (fault.Setup f) setup_text workers known old new = Keeps old new
 LeavesWritten (fault.Script f) setup_text workers known old new = Keeps old new
@@ -103,7 +103,7 @@ abbrev pub WritesDone : List (List ℕ) → World → List Step → World → Op
 WritesDone names world steps last old new =
     (done rest : List Step) × (done ++ rest ≡ steps) × (text : List ℕ) × Prints names done world last [] text × Appends old new text
 
--- or a front of them
+-- or a part of them from their start on
 abbrev pub WritesSome : List (List ℕ) → World → List Step → Option (List ℕ) → Option (List ℕ) → Type 0
 WritesSome names world steps old new = (text : List ℕ) × ArePrinted names world steps text × AppendsFront text old new
 
@@ -112,8 +112,8 @@ abbrev pub IsReplayedFor : Setup → ℕ → List ℕ → List ℕ → Type 0
 IsReplayedFor setup workers script written =
     (steps : List Step) × (steps_of_script (names_in setup) workers script ≡ Ok steps) × IsAnswered setup steps written
 
--- After a fault of the setup or the script nothing was written, and after any other a front at most, for a setup that was
--- read.
+-- After a fault of the setup or the script nothing was written. After any other, at most a part from the start on, for
+-- a setup that was read.
 abbrev pub LeavesWrittenFor : ReplayFault → Setup → ℕ → Option (List ℕ) → Option (List ℕ) → Option (List ℕ) → Type 0
 LeavesWrittenFor (fault.Setup f) setup workers known old new = Keeps old new
 LeavesWrittenFor (fault.Script f) setup workers known old new = Keeps old new

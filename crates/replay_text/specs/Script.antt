@@ -132,7 +132,7 @@ abbrev pub step_or_bad : Option Step → Meaning
 step_or_bad None = Bad
 step_or_bad (Some step) = Runs step
 
--- it is nothing that a script may say
+-- the line is not valid
 abbrev pub is_bad : Meaning → Bool
 is_bad Skipped = false
 is_bad (Runs step) = false
@@ -169,7 +169,7 @@ abbrev pub IsCheckedAs : Result (Unit {0}) (ReadError ScriptFault) → Result (L
 IsCheckedAs (Ok done) read = (steps : List Step) × (read ≡ Ok steps)
 IsCheckedAs (Err error) read = Fails error read
 
--- a line that says nothing of a script's
+-- a line that is not one of a script
 abbrev pub IsBad : List (List ℕ) → ℕ → List ℕ → Type 0
 IsBad names workers line = meaning_of names workers line ≡ Bad
 

@@ -33,7 +33,7 @@ step_of_spelled (Govern tenant now text) = do
   command ← result_ok (command_in text.now)
   Some (step.Govern tenant now command)
 
--- what a line says that was read so
+-- what a line means that was read like this
 abbrev pub meaning_read : Result (Option Spelled) LineFault → Meaning
 meaning_read (Ok None) = Skipped
 meaning_read (Ok (Some spelled)) = step_or_bad (step_of_spelled spelled)

@@ -6,7 +6,7 @@ use Rattle.std.specs.Io.KnownBytes.{Appends, Consumes}
 abbrev pub ConsumesAtMost : ℕ → Option (List ℕ) → Option (List ℕ) → Type 0
 ConsumesAtMost most old new = (taken : List ℕ) × (length taken ≤ most) × Consumes old new taken
 
--- a front of the text was written, if not all of it
+-- a part of the text from its start on was written, if not all of it
 abbrev pub AppendsFront : List ℕ → Option (List ℕ) → Option (List ℕ) → Type 0
 AppendsFront text old new = (n : ℕ) × Appends old new (take n text)
 

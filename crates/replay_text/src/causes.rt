@@ -133,7 +133,7 @@ impl fmt::Display for Shown<'_> {
 
 const TOKEN_BYTES: &str = "A-Z a-z 0-9 - . _ ~ + / =";
 
-// What is wrong with a word that is no token, which is not shown.
+// What is wrong with a word that is not a token. The word is not shown.
 fn write_token_fault<W: fmt::Write>(f: &mut fmt::Formatter<W>, word: &[u8]) -> fmt::Result {
     if word.is_empty() {
         return write!(f, "TOKEN is empty: 1 to {MAX_TOKEN} of {TOKEN_BYTES}");

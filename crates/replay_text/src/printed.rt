@@ -116,7 +116,7 @@ fn put_rows(out: &mut Vec<u8>, name: &[u8], rows: &[Row]) -> Result<(), AllocErr
     Ok(())
 }
 
-// What a command was answered with.
+// The answer to a command.
 fn put_governed(
     out: &mut Vec<u8>,
     name: &[u8],

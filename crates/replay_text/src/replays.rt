@@ -357,7 +357,7 @@ pub fn replay_keeping<K: PeriodKeeper, R: Read + Device, W: Write + Device>(
     writer: &mut W,
 ) -> Result<(), ReplayFault>
     requires { (1 ≤ workers) × (workers ≤ max_seats) }
-    // What was written are, to each tenant, the lines of the one-tenant connector on the tenant's own steps alone.
+    // What was written for each tenant are the lines of the one-tenant connector on the tenant's own steps alone.
     ensures written { OnOk result (IfSome (R.remaining reader.old)
         (λ script. WritesAll setup.now workers script (W.contents writer.old) (W.contents writer.new))) }
     // The keeper took just the periods that the steps closed.
@@ -403,7 +403,7 @@ pub fn replay<R: Read + Device, W: Write + Device>(
     writer: &mut W,
 ) -> Result<(), ReplayFault>
     requires { (1 ≤ workers) × (workers ≤ max_seats) }
-    // What was written are, to each tenant, the lines of the one-tenant connector on the tenant's own steps alone.
+    // What was written for each tenant are the lines of the one-tenant connector on the tenant's own steps alone.
     ensures written { OnOk result (IfSome (R.remaining reader.old)
         (λ script. WritesAll setup.now workers script (W.contents writer.old) (W.contents writer.new))) }
     // Which fault it is, and what it leaves.

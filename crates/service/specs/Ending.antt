@@ -8,8 +8,8 @@ use Rattle.service.specs.declared.running.ending.AuditEnd.TheVariants.{Good, Bad
 use Rattle.service.specs.declared.running.ending.ServeFault.{ServeFault}
 use Rattle.service.specs.declared.running.ending.ServeFault.TheVariants.{Memory, Device, Differs, Audit}
 
--- Memory that was refused for the audit comes first; then an accept that failed, unless the host stopped the service; then a
--- statement that is not kept; then what the audit found.
+-- The first of these decides: out of memory for the audit; an accept that failed, unless the host stopped the service;
+-- a statement that is not kept; what the audit found.
 abbrev pub end_of : (has_failed was_stopped is_stated : Bool) → AuditEnd → Result (Unit {0}) ServeFault
 end_of has_failed was_stopped is_stated Lacked = Err Memory
 end_of true false is_stated audit = Err Device

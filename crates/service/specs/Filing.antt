@@ -32,7 +32,7 @@ pub record WasHanded {S : Type 0} (Tells : Telling S) (Keeps : Keeping S) (p : P
   pub is_new : Tells before p.opening.name p.opening.period (Some false) between
   pub handed : Keeps between statement kept after
 
--- the store was asked, and did not tell that it has none; nothing was handed to it
+-- the store was asked, and did not say that it has none; nothing was handed to it
 pub record WasAsked {S : Type 0} (Tells : Telling S) (p : PeriodParts) (before after : S) : Type 0 where
   pub answer : Option Bool
   pub is_known : answer ≢ Some false

@@ -20,7 +20,7 @@ pub record WereHanded {S : Type 0} (Tells : TellingReceipts S) (Keeps : KeepingR
   pub are_new : Tells before (Some false) between
   pub handed : Keeps between (receipts_text (lists_of shares)) kept after
 
--- the store was asked, and did not tell that it has none; nothing was handed to it
+-- the store was asked, and did not say that it has none; nothing was handed to it
 pub record WasAsked {S : Type 0} (Tells : TellingReceipts S) (before after : S) : Type 0 where
   pub answer : Option Bool
   pub is_known : answer ≢ Some false

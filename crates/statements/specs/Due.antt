@@ -1,4 +1,4 @@
--- What the next period of a chain is to open with.
+-- The opening that the next period of a chain must have.
 use Rattle.std.specs.Prelude.{ℕ, List, [], fold, Option, Some, None}
 use Rattle.statements.specs.declared.due.Due.{Due}
 use Rattle.statements.specs.declared.due.Due.TheVariants.{Anything, Ending, Setup}

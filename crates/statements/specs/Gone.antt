@@ -1,4 +1,4 @@
--- Periods that were gone over again.
+-- Periods that were checked again.
 use Rattle.std.specs.Prelude.{◌≡◌}
 use Rattle.statements.specs.Fees.{fees_of}
 use Rattle.statements.specs.declared.checked.Course.{Course}

@@ -109,7 +109,7 @@ opening_text routes o =
 
 -- ---- a record
 
--- what became of a packet, or of what came back for it
+-- the verdict on a packet, or on the answer to it
 unfoldable pub verdict_words : Verdict → List ℕ
 verdict_words Unknown = codes " unknown"
 verdict_words NoRoom = codes " full"

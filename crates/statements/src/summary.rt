@@ -90,7 +90,7 @@ fn put_good(out: &mut Vec<u8>, periods: u64, entries: u64) -> Result<(), AllocEr
     Ok(out.push(b'\n')?)
 }
 
-// The lines as the chain's own sums tell them.
+// The lines, by the chain's own sums.
 fn chain_text(alloc: Global, chain: &Chain) -> Summed<Vec<u8>>
     ensures { IfOk result (λ text. text.items ≡ chain_text chain.now) }
 {

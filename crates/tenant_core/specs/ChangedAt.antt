@@ -1,7 +1,7 @@
 -- Lists of which one element changes.
 use Rattle.std.specs.Prelude.{ℕ, zero, suc, List, [], ◌∷◌, Option, Some, None}
 
--- the list, with the element at that place changed so
+-- the list, with the element at that place changed by that function
 abbrev pub changed_at : {X : Type 0} → (X → X) → List X → ℕ → List X
 changed_at f [] i = []
 changed_at f (x ∷ xs) zero = f x ∷ xs

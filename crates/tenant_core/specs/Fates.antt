@@ -31,7 +31,7 @@ is_ticked_past expiry clock [] = false
 is_ticked_past expiry clock (r ∷ rs) =
     is_tick_past expiry (later clock r) r.entry || is_ticked_past expiry (later clock r) rs
 
--- what becomes of a hold, by the first answer to it, if there is one, and by whether a tick comes when it has expired
+-- the fate of a hold, by the first answer to it, if there is one, and by whether a tick comes after it has expired
 abbrev pub fate_by : Option Record → Bool → Fate
 fate_by (Some r) ticked = Ended (fulfills r.entry r.outcome)
 fate_by None true = Marked
@@ -41,12 +41,12 @@ fate_by None false = Held
 abbrev pub fate_of : Hold → (clock : ℕ) → List Record → Fate
 fate_of h clock rs = fate_by (find (λ r. is_answer_to h.number r.entry) rs) (is_ticked_past h.expiry clock rs)
 
--- the hold that began, if one did, with what became of it
+-- the hold that began, if one did, with its fate
 abbrev pub with_what_became : Option Hold → (clock : ℕ) → List Record → List Hold
 with_what_became None clock rs = []
 with_what_became (Some h) clock rs = with_fate h (fate_of h clock rs) ∷ []
 
--- the holds that records begin, which follow that clock, each with what became of it
+-- the holds that records begin, which follow that clock, each with its fate
 abbrev pub holds_told : (clock : ℕ) → List Record → List Hold
 holds_told clock [] = []
 holds_told clock (r ∷ rs) =

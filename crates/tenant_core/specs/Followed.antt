@@ -1,4 +1,4 @@
--- What came of an order that was made for an entry.
+-- The outcome of an order that was made for an entry.
 use Rattle.std.specs.Prelude.{Option, Some, None, Result, Ok, Err}
 use Rattle.tenant_core.specs.declared.faults.CommandFault.{CommandFault}
 use Rattle.tenant_core.specs.declared.faults.CommandFault.TheVariants.{Memory}

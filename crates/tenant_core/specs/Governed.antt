@@ -1,4 +1,4 @@
--- Commands of an operator: what each is answered with, and the state after it.
+-- Commands of an operator: the answer to each, and the state after it.
 use Rattle.std.specs.Prelude.{ℕ, ◌≡◌, map, max, Option, Some, None, Result, Ok, Err}
 use Rattle.tenant_core.specs.Orders.{ordered, change_record}
 use Rattle.tenant_core.specs.Periods.{roll_refusal, roll_record, closed, next_opening}
@@ -14,7 +14,7 @@ use Rattle.tenant_core.specs.declared.faults.CommandFault.TheVariants.{Memory}
 use Rattle.tenant_core.specs.declared.journal.Change.{Change as Changed}
 use Rattle.tenant_core.specs.declared.journal.Record.{Record}
 
--- what an order is answered with: the change that it makes, or what it is refused for
+-- the answer to an order: the change that it makes, or why it is refused
 abbrev pub order_answer : Result Changed CommandFault → Result Answered CommandFault
 order_answer (Ok change) = Ok Done
 order_answer (Err fault) = Err fault
@@ -29,7 +29,7 @@ abbrev pub order_made : Result Changed CommandFault → ℕ → Option Record
 order_made (Ok change) now = Some (change_record change now)
 order_made (Err fault) now = None
 
--- what a roll is answered with, by what it is refused for
+-- the answer to a roll, by why it is refused
 abbrev pub roll_answer : State → Option CommandFault → ℕ → Result Answered CommandFault
 roll_answer s None now = Ok (Rolled (closed s now))
 roll_answer s (Some fault) now = Err fault
@@ -44,7 +44,7 @@ abbrev pub roll_made : Option CommandFault → ℕ → Option Record
 roll_made None now = Some (roll_record now)
 roll_made (Some fault) now = None
 
--- what a command is answered with at that moment
+-- the answer to a command at that moment
 abbrev pub command_answer : State → Command → ℕ → Result Answered CommandFault
 command_answer s (command.Order order) now = order_answer (ordered s order)
 command_answer s command.Balances now = Ok (Balances (map (row_of s) (network_of s).peers))
@@ -72,7 +72,7 @@ abbrev pub IsRefusal : CommandFault → Result Answered CommandFault → Type 0
 IsRefusal fault (Ok answered) = fault ≡ Memory
 IsRefusal fault (Err named) = fault ≡ named
 
--- what became of a command: its answer and the state after it, or its refusal and no change
+-- the result of a command: its answer and the state after it, or its refusal and no change
 abbrev pub IsGoverned : Result Answered CommandFault → Command → State → State → ℕ → Type 0
 IsGoverned (Ok answered) c before after now =
     (Ok answered ≡ command_answer before c now) × (after ≡ commanded before c now)

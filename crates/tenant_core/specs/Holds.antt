@@ -18,7 +18,7 @@ use Rattle.tenant_core.specs.declared.verdict.Verdict.TheVariants.{Forward, Rela
 
 -- ---- what a fate says
 
--- the answer is still to come
+-- the answer may still come
 abbrev pub awaits_answer : Fate → Bool
 awaits_answer Held = true
 awaits_answer Marked = true

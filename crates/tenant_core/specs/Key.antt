@@ -1,4 +1,4 @@
--- What a Prepare says that a tenant decides by, as bytes and numbers.
+-- The parts of a Prepare that a tenant decides by, as bytes and numbers.
 use Rattle.std.specs.Prelude.{ℕ, List}
 use Rattle.tenant_core.specs.declared.journal.PrepareKey.{PrepareKey}
 

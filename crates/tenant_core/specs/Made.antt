@@ -1,4 +1,4 @@
--- Records that say what was to come: each has the outcome that its entry leads to in the state before it.
+-- Records that say what had to come: each has the outcome that its entry leads to in the state before it.
 use Rattle.std.specs.Prelude.{ℕ, ◌≡◌, ◌≤◌, Some, None}
 use Rattle.ilp_addr.specs.Timestamp.{last_moment}
 use Rattle.tenant_core.specs.Periods.{roll_record, roll_refusal}

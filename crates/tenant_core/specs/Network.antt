@@ -58,7 +58,7 @@ names_peer n r = (r.from == n) || (r.to == n)
 
 -- ---- what changes it
 
--- a peer more, under the next number
+-- with one more peer, under the next number
 abbrev pub with_peer : Net → PeerTerms → ℤ → Level → Net
 with_peer net t balance level =
     record net {
@@ -74,7 +74,7 @@ without_peer net n =
       rates = filter (λ r. not (names_peer n r)) net.rates;
     }
 
--- the peers, the one of that number changed so
+-- the peers, with the one of that number changed by that function
 abbrev pub changed_peer : (Peer → Peer) → ℕ → List Peer → List Peer
 changed_peer change n peers = map (λ p. if p.number == n then change p else p) peers
 
@@ -90,11 +90,11 @@ with_bucket net n bucket level =
       peers = changed_peer (λ p. record p { terms = record p.terms { bucket = bucket }; bucket = level }) n net.peers;
     }
 
--- with a route more
+-- with one more route
 abbrev pub with_route : Net → List ℕ → Hop → Net
 with_route net prefix hop = record net { routes = insert net.routes prefix hop }
 
--- with a route less
+-- without a route
 abbrev pub without_route : Net → List ℕ → Net
 without_route net prefix = record net { routes = remove net.routes prefix }
 

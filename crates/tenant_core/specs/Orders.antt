@@ -44,7 +44,7 @@ rate_named net pair rate = do
   to ← number_named net pair.to
   Some (record { from = from; to = to; rate = rate })
 
--- what an order changes, if the peers are there that it names
+-- the change of an order, if the peers that it names are there
 abbrev pub change_of : Net → Order → Option Changed
 change_of net (AddPeer t) = Some (PeerAdded t)
 change_of net (RemovePeer name) = option_map (λ n. PeerRemoved n) (number_named net name)
@@ -71,13 +71,13 @@ abbrev pub is_too_much : State → ℕ → Side → ℕ → Bool
 is_too_much s n In amount = int_lt (balance_of s n -ℤ pos (held_out_of s n + amount)) (neg_ℤ (pos max_money))
 is_too_much s n Out amount = int_lt (pos max_money) (balance_of s n +ℤ pos (held_in_of s n + amount))
 
--- what a change is refused for by the packets and the money of a state
+-- why the packets and the money of a state refuse a change
 abbrev pub state_refusal : State → Net → Changed → Option CommandFault
 state_refusal s net (PeerRemoved n) = if is_in_use s net n then Some InUse else None
 state_refusal s net (Settled n side amount) = if is_too_much s n side amount then Some Limit else None
 state_refusal s net _ = None
 
--- what it is refused for by the network
+-- why the network refuses it
 abbrev pub net_refusal : Net → Changed → Option CommandFault
 net_refusal net (PeerAdded t) = peer_refusal net t
 net_refusal net (RouteAdded prefix hop) = route_refusal net prefix

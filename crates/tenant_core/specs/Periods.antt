@@ -1,4 +1,4 @@
--- Periods: what a roll is refused for, what it closes, and what the next period begins with.
+-- Periods: why a roll is refused, what it closes, and what the next period begins with.
 use Rattle.std.specs.Prelude.{ℕ, ◌≡◌, ◌+◌, [], ◌∷◌, ◌++◌, map, max, nat_lt, nat_le, Option, Some, None, Result, Ok, Err}
 use Rattle.std.specs.Prelude.{if◌then◌else◌}
 use Rattle.rate_bucket.specs.Bucket.{credit_at}
@@ -61,7 +61,7 @@ closed s now =
       ending = next_opening s (max (clock_of s) now);
     }
 
--- what became of a roll: the closed period and the state after it, or its refusal
+-- the result of a roll: the closed period and the state after it, or its refusal
 abbrev pub IsRolled : Result PeriodParts CommandFault → State → State → ℕ → Type 0
 IsRolled (Ok period) before after now =
     (roll_refusal before ≡ None) × (period ≡ closed before now)

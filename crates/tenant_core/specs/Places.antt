@@ -26,7 +26,7 @@ IsByToken peers order = IsIndex (slice_cmp nat_cmp) (token_at peers) (length pee
 abbrev pub AreTokensApart : List Peer → Type 0
 AreTokensApart peers = AreApart (slice_cmp nat_cmp) token peers
 
--- at is the index for one peer more in the order, if that peer comes last and has this token
+-- `at` is the index for one peer more in the order, if that peer comes last and has this token
 pub record IsFreePlace (peers : List Peer) (order : List ℕ) (t : List ℕ) (at : ℕ) : Type 0 where
   pub within : at ≤ length order
   pub ordered : (p : Peer) → token p ≡ t → IsByToken (peers ++ p ∷ []) (insert order at (length peers))

@@ -71,7 +71,7 @@ paid_on In n (Settled peer In amount) = if peer == n then amount else 0
 paid_on Out n (Settled peer Out amount) = if peer == n then amount else 0
 paid_on side n _ = 0
 
--- what a record says so
+-- what a record says of this
 abbrev pub settled_on : Side → ℕ → Record → ℕ
 settled_on side n r = of_entry r.entry
   where

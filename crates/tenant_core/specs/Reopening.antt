@@ -1,4 +1,5 @@
--- Periods that are gone over again: which openings one can begin with, and what an entry makes of a state that follows it.
+-- Periods that are checked again: which openings one can begin with, and what an entry makes of a state that follows
+-- it.
 use Rattle.std.specs.Prelude.{ℕ, ◌≡◌, ◌*◌, Bool, true, false, not, ◌&&◌, ◌==◌, nat_le, nat_lt, Option, Some, None, option_map, Result, Ok, Err}
 use Rattle.std.specs.Prelude.{if◌then◌else◌}
 use Rattle.std.specs.List.{list_all}
@@ -46,7 +47,7 @@ opened_unless o (Some fault) = Err fault
 abbrev pub reopened : Opening → Result State OpeningFault
 reopened o = opened_unless o (opening_fault o)
 
--- an order makes that change, or the peers are not there that it names
+-- an order makes that change, or the peers that it names are not there
 abbrev pub IsOrderFor : Net → Changed → Option Order → Type 0
 IsOrderFor net c None = names_present net c ≡ false
 IsOrderFor net c (Some order) = (names_present net c ≡ true) × (change_of net order ≡ Some c)

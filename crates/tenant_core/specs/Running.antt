@@ -1,4 +1,4 @@
--- What a book keeps running for each of its peers, beside the records: a purse and a bucket, in the order of the peers.
+-- What a book keeps for each of its peers, beside the records: a purse and a bucket, in the order of the peers.
 use Rattle.std.specs.Prelude.{ℕ, ◌≡◌, ◌≤◌, ◌<◌, pos, ◌+ℤ◌, ◌-ℤ◌, List, All, length, sum_by, fold, drop, Option, Some, None}
 use Rattle.std.specs.Prelude.{slice_get, slice_set, count_by, false, min, if◌then◌else◌}
 use Rattle.money_core.specs.Account.{Account, is_past_ceiling, is_past_credit}

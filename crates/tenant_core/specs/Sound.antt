@@ -20,7 +20,7 @@ pub record IsSound (s : State) : Type 0 where
   pub tenant : s.opening.tenant < max_tenants
   -- whom it names, and by what
   pub network : IsNetwork (network_of s)
-  -- the entries and the answers that are still to come fit the journal, which is short
+  -- the entries and the answers that may still come fit the journal, which is short
   pub room : length s.records + open_holds s ≤ s.opening.journal
   pub journal : s.opening.journal ≤ max_journal
   pub places : 2 ≤ s.opening.journal

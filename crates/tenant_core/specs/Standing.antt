@@ -20,7 +20,7 @@ use Rattle.tenant_core.specs.declared.verdict.Verdict.TheVariants.{Forward}
 abbrev pub state_shown : Standing → State
 state_shown t = record { opening = t.opening.now; records = t.journal.now.records }
 
--- what is shown is a state within its limits, and what a book keeps running beside it
+-- what is shown is a state within its limits, with the purses and buckets that a book keeps beside it
 pub record IsShown (t : Standing) : Type 0 where
   pub sound : IsSound (state_shown t)
   pub network : t.network.now ≡ network_of (state_shown t)

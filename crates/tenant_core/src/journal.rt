@@ -47,7 +47,7 @@ pub enum AnswerKey {
     Fault,
 }
 
-// What the type of a fulfillment keeps.
+// The invariant of the type of a fulfillment.
 fn has_32_bytes(fulfillment: &[u8; 32])
     ensures { length fulfillment.now ≡ 32 }
 {}

@@ -45,7 +45,7 @@ impl Standing<'_> {
         }
     }
 
-    // What taking a peer away is refused for.
+    // Why removing a peer is refused.
     fn removal_refusal(&self, peer: PeerNo) -> Option<CommandFault>
         requires shown { IsShown self.now }
         requires present { is_some (peer_numbered peer self.now.network.now.peers) ≡ true }
@@ -55,7 +55,7 @@ impl Standing<'_> {
         self.is_in_use(peer).then_some(CommandFault::InUse)
     }
 
-    // What a settlement is refused for.
+    // Why a settlement is refused.
     fn settlement_refusal(&self, peer: PeerNo, side: Side, amount: Amount) -> Option<CommandFault>
         requires shown { IsShown self.now }
         requires present { is_some (peer_numbered peer self.now.network.now.peers) ≡ true }

@@ -35,9 +35,9 @@ pub record Circumstances : Type 1 where
 abbrev pub circumstances : List Opening → (ℕ → Type 0) → Circumstances
 circumstances openings Gives = record { openings = openings; Gives = Gives }
 
--- A book as it was found under a lock: the replay of its journal, and within its limits. The tenant's steps until then, over
--- all its periods, led to it from the tenant's first opening; which of them are the asking worker's, `HasOwnSteps` says, and that
--- the worker has met just these, `HasGrown`. And the moment that the clock gave then.
+-- A book as it was found under a lock: the replay of its journal, and within its limits. The tenant's steps until
+-- then, over all its periods, led to it from the tenant's first opening. `HasOwnSteps` says which of them are the
+-- asking worker's, and `HasGrown` that the worker has met just these. `now` is the moment that the clock gave then.
 pub record Found (under : Circumstances) : Type 0 where
   pub book : State
   pub steps : List Done
@@ -81,7 +81,7 @@ meeting found s = has_met found.book.opening.tenant found.steps s
 abbrev pub HasGrown : {under : Circumstances} → Found under → Rise → Option Record → Growth → Type 0
 HasGrown found rise made g = AreAlike (counted rise (next_place found.book) made (meeting found g.before)) g.after
 
--- it has met the steps that led to the book, and nothing else
+-- it has met the steps that led to the book, and nothing else changed
 abbrev pub HasMet : {under : Circumstances} → Found under → Growth → Type 0
 HasMet found g = AreAlike (meeting found g.before) g.after
 
@@ -97,8 +97,8 @@ upto between g = record g { after = between }
 abbrev pub from : ShareView → Growth → Growth
 from between g = record g { before = between }
 
--- a call of the slot with the tenant's book, as it was found: it was answered so, it left the slot so, and the share has grown
--- by it
+-- a call of the slot with the tenant's book, as it was found: its turn, the slot after it, and the share that has
+-- grown by it
 pub record WasCalled (under : Circumstances) (g : Growth) (call : State → ℕ → Called) (turn : Turn) (after : Work) : Type 0 where
   pub found : Found under
   pub own : IsOf g.owner found
@@ -172,8 +172,8 @@ pub record CameBack (under : Circumstances) (g : Growth) (before : Work) (came :
   pub went : WentOn under (upto between g) before came answered So
   pub settled : WasCalled under (from between g) (answer_with answered came) turn.Reply after
 
--- the packet went on, and what came back was awaited no longer: since the step by which it went on, another worker answered its
--- hold
+-- the packet went on, and its answer was not awaited any longer: since the step by which it went on, another worker
+-- answered its hold
 pub record WasLost (under : Circumstances) (g : Growth) (before : Work) (came : Got) (after : Work) (So : Sending → Type 0) : Type 0 where
   pub between : ShareView
   pub answered : Work
@@ -216,7 +216,7 @@ closed _ left = left
 
 -- ---- a command
 
--- the tenant's book was commanded so at its moment, answered this, and the share has grown by that
+-- the tenant's book got this command at its moment, and gave this answer; the share has grown by that
 pub record WasCommanded (under : Circumstances) (g : Growth) (given : Command) (answer : Result Answered CommandFault) : Type 0 where
   pub found : Found under
   pub own : IsOf g.owner found

@@ -1,4 +1,4 @@
--- What becomes of a packet that a worker carries, and what it is answered.
+-- The replies to a packet that a worker carries, and their statuses.
 use Rattle.std.specs.Prelude.{ℕ, ◌≡◌, List, Option, Some, None}
 use Rattle.ilp_addr.specs.Target.{Parts as TargetParts}
 use Rattle.meters.specs.declared.kind.Kind.{Kind}
@@ -56,7 +56,7 @@ pub record Sending : Type 0 where
   pub got : Got
   pub room : List ℕ
 
--- the tenant's packet was sent so, and this came back
+-- the tenant's packet was sent in this exchange
 pub record WasSent (came : Got) (sender : ℕ) (So : Sending → Type 0) : Type 0 where
   pub sending : Sending
   pub tenant : sending.tenant ≡ sender
@@ -76,7 +76,7 @@ IsOver Memory job = Unit {0}
 IsOver (Lost got) job = Unit {0}
 IsOver _ job = job ≡ Job.NoJob
 
--- the packet was one, under a token
+-- the frame was a Prepare, and the token well formed
 abbrev pub IsOfPrepare : Reply → Type 0
 IsOfPrepare Malformed = ⊥
 IsOfPrepare Nameless = ⊥

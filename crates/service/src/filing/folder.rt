@@ -77,7 +77,7 @@ impl<D: Disk> Folder<'_, D> {
 }
 
 impl<D: Disk> StatementStore for Folder<'_, D> {
-    // What a file system keeps no clause can say.
+    // No clause can say what a file system keeps.
     ghost tells = { λ _ _ _ _ _. Unit {0} };
 
     ghost keeps = { λ _ _ _ _. Unit {0} };
@@ -92,7 +92,7 @@ impl<D: Disk> StatementStore for Folder<'_, D> {
 }
 
 impl<D: Disk> ReceiptStore for Folder<'_, D> {
-    // What a file system keeps no clause can say.
+    // No clause can say what a file system keeps.
     ghost tells_receipts = { λ _ _ _. Unit {0} };
 
     ghost keeps_receipts = { λ _ _ _ _. Unit {0} };

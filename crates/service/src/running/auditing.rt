@@ -141,7 +141,7 @@ pub fn lists_of<J: Run>(alloc: Global, shares: &[Share<J>]) -> Result<Vec<&[Rece
     Ok(lists)
 }
 
-// The receipts of a worker. One that has kept none lacks a receipt of each of its records.
+// The receipts of a worker. If it has kept none, each of its records has no receipt.
 fn list_of<J: Run>(share: &Share<J>) -> Result<&[Receipt], AuditFault>
     ensures list { IfOk result (λ list. list.now ≡ receipts_told share.now.steps) }
     ensures kept { IfOk result (λ list. share.now.audited ≡ true) }

@@ -18,7 +18,7 @@ use crate::routing::peer_numbered;
 use ilp_addr::{Address, Moment};
 use std::alloc::{AllocError, Global};
 
-// What the entry of a change leads to, by what came of its order.
+// What the entry of a change leads to, by the result of its order.
 fn order_outcome(done: Result<(), CommandFault>) -> Result<Option<Outcome>, AllocError>
     ensures { result_ok result ≡ order_outcome done }
 {
