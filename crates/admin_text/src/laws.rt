@@ -22,8 +22,8 @@ pub fn setups()
     ensures { SetupLaw }
 {}
 
-/// What is read as a setup may be written, and its text is read as the same setup: its tenants are 1 to 64 of different names,
-/// and numbered as they would be anew.
+/// A setup that was read may be written, and its text is read as the same setup. Its tenants are 1 to 64 of different
+/// names, and their peers have the numbers that they would get anew.
 pub fn setups_again()
     ensures { SetupAgainLaw }
 {}

@@ -1,5 +1,5 @@
-//! Places in a setup, as people find them: a tenant by its number from 0, and its peers, routes and rates by theirs
-//! from 1, each with the names that it gives itself.
+//! Places in a setup, as people find them. A tenant has its number from 0, and its peers, routes and rates have
+//! theirs from 1. Each place has the names that it gives itself.
 
 ghost use Rattle.std.specs.Prelude.{◌≡◌};
 ghost use Rattle.admin_text.specs.Ignored.{place_of};

@@ -275,7 +275,7 @@ pub(crate) fn document_of(alloc: Global, text: &[u8]) -> Result<Table, ReadError
 /// - A peer: `name`, `role` (`child` or `peer`), `token`, `url`, `out_token`, `asset`, `scale`, `cap`,
 ///   `ceiling`, `credit`, `burst`, `per_second`, and `balance` (default 0).
 /// - A route: `prefix`, whose dot at the end is dropped and which is `*` for the empty one, and `peer`, a
-///   peer's name; in version 2 `fee` too, from 0 to 2^62 (default 0). No two have the same prefix.
+///   peer's name. In version 2 also `fee`, from 0 to 2^62 (default 0). No two have the same prefix.
 /// - A rate: `from` and `to`, peers' names, `num` and `den`. Of two for the same ordered pair the later counts.
 ///
 /// The faults are tested in the order of [`SetupFault`]. A key that is missing or of another kind than expected

@@ -95,8 +95,8 @@ impl Lending {
         self.loans.share()
     }
 
-    /// What holds of every lending, as the laws ask for it: no more wait than may, and nobody who could have a place; and what
-    /// is free covers what is owed.
+    /// What holds of every lending, as the laws ask for it. No more wait than may, and nobody waits who could have a
+    /// place. The free places cover what is owed.
     pub fn is_queue(&self)
         ensures queue { IsQueue self.now }
         ensures covered { IsCovered self.now.loans }

@@ -69,10 +69,10 @@ pub fn networks_cross()
     ensures { IsSend Network.the_row }
 {}
 
-/// The receipts that are handed out at the end are complete, if all books were rolled last, the periods are all that
-/// rolls closed, and each worker has a receipt of each of its steps (`complete`). They fit the periods. An order that
-/// takes them all is that of the workers in the one list of all that was done, as `Books::gather` has it. So an audit
-/// of them says yes, unless it is out of memory.
+/// If all books were rolled last, the receipts that are handed out at the end are complete (`complete`). The periods
+/// must be all that rolls closed, and each worker must have a receipt of each of its steps. They fit the periods. An
+/// order that takes them all is that of the workers in the one list of all that was done, as `Books::gather` has it.
+/// So an audit of them says yes, unless it is out of memory.
 ///
 /// What audited shares keep, in the order of their workers, are such receipts (`kept`).
 pub fn gathered_receipts_are_complete()

@@ -41,10 +41,10 @@ impl From<AllocError> for RoomFault {
     }
 }
 
-/// What one worker has counted for each of 64 tenants: the entries that it appended to the tenant's book, the tokens
-/// that were no peer's, and the packets that found the journal full. In an audited run it also keeps a receipt of each
-/// of its steps. For the proofs alone, it has its steps in the one list of all that is done to the books, and the
-/// tenants' steps that it has met. Contracts see it as a `ShareView`.
+/// What one worker has counted for each of 64 tenants: entries that it appended to the tenant's book, tokens that were
+/// no peer's, and packets that found the journal full. In an audited run it also keeps a receipt of each of its steps.
+/// For the proofs alone, it has its steps in the one list of all that is done to the books, and the tenants' steps
+/// that it has met. Contracts see it as a `ShareView`.
 ///
 /// It has room for a number of calls of a `Guard`, each of which uses one up. `make_room` makes room for two. So no
 /// count passes 2^47 + 1. A share that keeps no receipts does not grow.
@@ -150,8 +150,8 @@ impl<J: Run> Share<J> {
         self.ledger.is_some()
     }
 
-    /// The receipts of all that the worker did to the books, in its order, if the run is audited: one for each of its
-    /// steps in the one list, and no others.
+    /// The receipts of all that the worker did to the books, in its order, if the run is audited. There is one for
+    /// each of its steps in the one list, and no other.
     pub fn receipts(&self) -> Option<&[Receipt]>
         ensures { option_map (λ list. list.now) result ≡ receipts_in self.now }
     {

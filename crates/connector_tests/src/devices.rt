@@ -1,5 +1,5 @@
-//! Replays over devices that give and take one byte at a time, and of which each read and each write fails in turn; and
-//! over one that keeps the longest write.
+//! Replays over devices that give and take one byte at a time. Each read and each write fails in turn. Also over a
+//! device that keeps the longest write.
 
 use oer_core::Device;
 use replay_text::{ReplayFault, replay};

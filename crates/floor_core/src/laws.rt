@@ -34,9 +34,8 @@ pub fn one_after_the_other()
         → IsLeft between more ys last → IsLeft world (steps ++ more) (xs ++ ys) last }
 {}
 
-/// In every world, each frame that steps send on is the one that came at the last good load of its worker, or that the
-/// worker had in hand at first. It has 8 other bytes for its amount and 17 others for its expiry. (RFC 0027, "ILP
-/// Prepare")
+/// In every world, each frame that steps send on came at the last good load of its worker, or the worker had it in
+/// hand at first. It has 8 other bytes for its amount and 17 others for its expiry. (RFC 0027, "ILP Prepare")
 pub fn frames_that_go_on()
     ensures { (world : World) (frames : ℕ → List ℕ) (workers tenants : ℕ) (steps : List Step) (outputs : List Output)
         → AreTaken tenants world frames → All (FitsIn workers tenants) steps → All HasBytes steps

@@ -56,8 +56,8 @@ pub enum Given<'a> {
 
 /// Why a tenant can't take what was loaded.
 ///
-/// The token is looked at first. Of the frame come its size, its kind, and its length with what follows it (`Size`, `Kind`,
-/// `Oer`, `AfterEnd`); then its fields, one after another (`Oer`, `Field`, and `Size` for the data).
+/// The token is tested first. Then come the frame's size, its kind, and its length with what follows it (`Size`,
+/// `Kind`, `Oer`, `AfterEnd`). Then come its fields, one after another (`Oer`, `Field`, and `Size` for the data).
 #[derive(Clone, Copy, Debug, PartialEq, Eq)]
 pub enum Malformed {
     /// The token is malformed: it has no byte or over 64, or a byte that no token may have.

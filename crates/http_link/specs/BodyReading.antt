@@ -152,8 +152,8 @@ abbrev pub StepsTo : ℕ → Step → Type 0
 StepsTo done (More size) = Unit {0}
 StepsTo done (Over read) = ReadsAtMost done read
 
--- After a chunk's line with that size: the chunk's bytes were taken, and are in the buffer after those before it; the
--- bytes end inside the chunk or its line end; or no line end follows it.
+-- After a chunk's line with that size. Either the chunk's bytes were taken, and are in the buffer after those before
+-- it. Or the bytes end inside the chunk or its line end. Or no line end follows it.
 abbrev pub TakesChunk : List ℕ → Option (List ℕ) → Option (List ℕ) → List ℕ → (size done : ℕ) → (before after : List ℕ) → Step → Type 0
 TakesChunk had old new has size done before after (More n) =
     (n ≡ size) × ((bytes : List ℕ) × (length bytes ≡ size) × (take (done + size) after ≡ take done before ++ bytes)

@@ -132,7 +132,7 @@ abbrev pub AnswersHost : Result HostWanted HostRefusal → HostTraces → Type 0
 AnswersHost (Ok wanted) traces = IsHostAsked wanted traces
 AnswersHost (Err refusal) traces = IsHostRefused refusal traces
 
--- What serving a stream does that begins with a head of that request and goes on with `rest`: exactly the head is
+-- What serving a stream does that begins with a head of that request and goes on with `rest`. Exactly the head is
 -- taken, it is answered, and the connection is closed (RFC 9112, 9.6).
 pub record IsHostServed (want : Result HostWanted HostRefusal) (rest : List ℕ) (left : Option (List ℕ)) (traces : HostTraces)
     (served : Served) : Type 0 where

@@ -12,7 +12,7 @@ use Rattle.http_link.specs.Serving.{Asked, Traces, IsServed, IsAskedOnly}
 abbrev pub held_in : List ℕ → Held → List ℕ
 held_in room held = drop held.from (take held.to room)
 
--- what is done with a head that asks for that: more bytes came, and it was served by all that there were; if they did
+-- what is done with a head that asks for that: more bytes came, and it was served by all that there were. If they did
 -- not suffice, no more are left
 pub record Runs (want : Result Wanted ℕ) (head : Head) (had : List ℕ) (old new : Option (List ℕ)) (traces : Traces)
     (served : Served) : Type 0 where

@@ -19,7 +19,7 @@ ReadsBehind old new at limit before after (Some n) =
     (at + n ≤ limit) × (n ≡ 0 → IsAtEnd new)
     × ((taken : List ℕ) × (take (at + n) after ≡ take at before ++ taken) × Consumes old new taken)
 
--- more bytes were taken, at most as many as are missing, and are in the buffer after those before; if all of them are
+-- more bytes were taken, at most as many as are missing, and are in the buffer after those before. If all of them are
 -- fewer than needed, no more are left
 pub record FillsOn (old new : Option (List ℕ)) (had : List ℕ) (wanted : ℕ) (buffer : List ℕ) (n : ℕ) : Type 0 where
   pub came : List ℕ

@@ -48,8 +48,8 @@ TakesAll lists order = TakesOn lists none none order
 abbrev pub IsTaken : List (List ListPoint) → (taken : ℕ → ℕ) → ListPoint → Type 0
 IsTaken lists taken p = (i : ℕ) × (k : ℕ) × (k < taken i) × (slice_get (list_at lists i) k ≡ Some p)
 
--- The first points of each list, up to the front, are together the first ones of each group; a point is left, and no list's
--- next one is the next of its group.
+-- The first points of each list, up to the front, are together the first ones of each group. A point is left, and no
+-- list's next one is the next of its group.
 pub record IsStuck (lists : List (List ListPoint)) (front : ℕ → ℕ) : Type 0 where
   pub done : ℕ → ℕ
   pub prefix : (group place : ℕ) → place < done group → IsTaken lists front (point group place)

@@ -149,8 +149,8 @@ fn all_taken(lists: &[Items<ListPoint>], taken: &[usize]) -> bool
     true
 }
 
-/// An order of the points of all lists, in which those of each list and those of each group come one after the other;
-/// or a front at which no list goes on. It takes time and memory in proportion to the points.
+/// An order of the points of all lists, in which those of each list and those of each group come one after the other.
+/// Or a front at which no list goes on. It takes time and memory in proportion to the points.
 ///
 /// `holders` says of each group which list holds the point of each place. Fails only if it is out of memory.
 pub fn join(

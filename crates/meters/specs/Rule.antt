@@ -18,8 +18,8 @@ abbrev pub total : (View → ℕ) → List View → ℕ
 total f [] = 0
 total f (v ∷ vs) = f v + total f vs
 
--- what the seats have counted of a tenant and a kind, all together; a seat that another has joined counts nothing more,
--- since its view is spent and has only zeros
+-- what the seats have counted of a tenant and a kind, all together. A seat that another has joined adds nothing more:
+-- its view is spent and has only zeros
 abbrev pub word_total : ℕ → Kind → List View → ℕ
 word_total tenant kind views = total (λ v. count_in tenant kind v.counts) views
 

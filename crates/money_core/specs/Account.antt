@@ -6,8 +6,8 @@ use Rattle.money_core.specs.declared.purse.TheConstants.{MAX_MONEY}
 abbrev pub max_money : ℕ
 max_money = MAX_MONEY
 
--- a purse: what the peer owes the tenant, below 0 if it is owed; what is held from it and for it; how much it may owe,
--- and how much it may be owed; all in its units
+-- a purse, in the peer's units: what the peer owes the tenant, below 0 if it is owed; what is held from it and for it;
+-- how much it may owe, and how much it may be owed
 pub record Account : Type 0 where
   pub balance : ℤ
   pub held_in : ℕ

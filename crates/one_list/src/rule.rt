@@ -9,8 +9,8 @@ use std::collections::LinkedList;
 use std::marker::PhantomData;
 use tenant_core::Journal;
 
-/// What a pass knows of a worker, or of a tenant: all steps of it, in their order; and the tenants' steps that the worker has
-/// met, each time as far as they had come then.
+/// What a pass knows of a worker, or of a tenant: all its steps, in their order. And the tenants' steps that the
+/// worker has met, each time as far as they had got then.
 pub struct Claim {
     pub of_worker: bool,
     pub number: u64,

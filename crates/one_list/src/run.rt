@@ -2,8 +2,8 @@
 
 use std::marker::Brand;
 
-/// A run of a program: which list it is, of how many tenants and workers, what each tenant's book began with, and whether each
-/// worker answers only packets that it sent on itself. Proofs pick it, once for each list.
+/// A run of a program: which list it is, of how many tenants and workers, and what each tenant's book began with. And
+/// whether each worker answers only packets that it sent on itself. Proofs pick it, once for each list.
 pub trait Run {
     ghost use Rattle.std.specs.Prelude.{Bool, List};
     ghost use Rattle.atomic_table.specs.Seated.{TableId};

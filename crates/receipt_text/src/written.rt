@@ -103,7 +103,7 @@ fn put_version(out: &mut Vec<u8>) -> Result<(), AllocError>
 }
 
 /// The text of the receipts of all workers, a list for each: a line for each worker, and after it one for each of its
-/// receipts, without tokens and targets of peers. Fails only if it is out of memory.
+/// receipts. It has no tokens and targets of peers. Fails only if it is out of memory.
 #[tactic(auto, unfolding(crate::specs::ReceiptText::receipts_text))]
 pub fn write_receipts(alloc: Global, lists: &[&[Receipt]]) -> Result<Vec<u8>, AllocError>
     ensures { IfOk result (λ text. text.items ≡ receipts_text (map (λ list. list.now) lists.now)) }

@@ -98,8 +98,8 @@ pub record IsComplete (periods : List PeriodParts) (lists : List (List Receipt))
   pub matched : AreMatched periods lists
   pub takes : TakesAll (points_of periods lists) order
 
--- The first receipts of each list, up to the front, name the first entries of each tenant's journal; one is left, and no
--- list's next one names its tenant's next entry.
+-- The first receipts of each list, up to the front, name the first entries of each tenant's journal. One is left, and
+-- no list's next one names its tenant's next entry.
 abbrev pub IsStuckAt : List PeriodParts → List (List Receipt) → (front : ℕ → ℕ) → Type 0
 IsStuckAt periods lists front = IsStuck (points_of periods lists) front
 

@@ -31,8 +31,8 @@ abbrev pub IsLast : List PeriodParts → PeriodParts → Type 0
 IsLast periods p =
     (q : PeriodParts) → Contains periods q → q.opening.tenant ≡ p.opening.tenant → q.opening.period ≤ p.opening.period
 
--- There are steps that, run from the tenants' first periods on, make just the records that the receipts show, in that order, and
--- leave each tenant's book as the tenant's last period ended.
+-- There are steps that start from the tenants' first periods and make just the records that the receipts show, in that
+-- order. They leave each tenant's book as the tenant's last period ended.
 pub record AreOfRun (periods : List PeriodParts) (lists : List (List Receipt)) (order : List ℕ) : Type 0 where
   pub openings : List Opening
   pub left : ℕ → State

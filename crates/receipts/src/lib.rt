@@ -1,5 +1,5 @@
-//! Receipts of the entries of many tenants, a ledger in which a worker keeps them, and their audit: the check of all workers'
-//! receipts against the closed periods, which trusts neither the workers nor who kept the receipts.
+//! Receipts of the entries of many tenants, a ledger in which a worker keeps them, and their audit. The audit checks
+//! all workers' receipts against the closed periods. It trusts neither the workers nor the one who kept the receipts.
 #![tactic(auto)]
 
 mod auditing;

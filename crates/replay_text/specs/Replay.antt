@@ -23,9 +23,9 @@ world_of_setup s = world_at_start s.tenants s.start
 abbrev pub names_in : Setup → List (List ℕ)
 names_in s = map (λ t. t.name) s.tenants
 
--- The setup and the script are well formed, and what is written is the lines of the outputs of the script's steps: to
--- each tenant those of the one-tenant connector on the tenant's own steps alone, and nobody's. Each frame that goes on is
--- the one that came, with 8 other bytes for its amount and 17 others for its expiry.
+-- The setup and the script are well formed, and the lines of the outputs of the script's steps are written. To each
+-- tenant these are the outputs of the one-tenant connector on the tenant's own steps alone; the others are nobody's.
+-- Each frame that goes on is the one that came, with 8 other bytes for its amount and 17 others for its expiry.
 pub record IsReplayed (setup_text : List ℕ) (workers : ℕ) (script written : List ℕ) : Type 0 where
   pub setup : Setup
   pub steps : List Step

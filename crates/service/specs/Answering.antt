@@ -105,8 +105,8 @@ IsTold office tenant (Err (Refused Memory)) told printed = told ≡ status.Unava
 IsTold office tenant (Err (Refused fault)) told printed = IsPrinted office tenant (Err fault) told printed
 
 -- A command was done or refused by the book of the tenant, counted at the meters, and answered. The books' share has
--- grown by it: the record that the book made is the next step of the worker's part of the one list, and that part has
--- no other new step.
+-- grown by it: the book's record is the next step of the worker's part of the one list, and that part has no other new
+-- step.
 --
 -- No book was asked if no more may be counted, or if an audited run is out of memory for the receipt. Otherwise one
 -- was asked, at a moment that the clock gave, and steps led to it from the run's openings.
@@ -185,8 +185,8 @@ pub record Connection : Type 0 where
 abbrev pub tenants_of : {J : Type 0} {r : Ghosts J} → Office J r → List ℕ → Option ℕ
 tenants_of office name = tenant_named office.names.items name
 
--- How a connection ended on which that is left: no more bytes came; or its last request closed it, or the next one was turned
--- away; or it gave way, and nothing that was read is left.
+-- How a connection with these bytes left ended. No more bytes came; or its last request closed it, or the next one was
+-- turned away; or it gave way, and no byte that was read is left.
 abbrev pub HasEnded : (List ℕ → Option ℕ) → Over → (left : List ℕ) → (last : Bool) → Option (List ℕ) → Type 0
 HasEnded tenant_of Ended left last known = IsOver tenant_of served.Ended left last known
 HasEnded tenant_of Closed left last known = IsOver tenant_of served.Closed left last known
@@ -243,8 +243,8 @@ pub record HaveCounted {J : Type 0} {r : Ghosts J} (Gives : ℕ → Type 0) (off
   pub sums : (tenant : ℕ) (kind : meter.Kind) → tenant < office.books.tenants
       → counts tenant kind ≡ sum_by (λ desk. count_of tenant kind desk.seat) desks
 
--- what a service knows of the tenants of a setup: their names, the tokens of their operators, for how long each holds a packet
--- at most, and that each has a book
+-- what a service knows of the tenants of a setup: their names, the tokens of their operators, and for how long each
+-- holds a packet at most. Each has a book
 pub record IsOfficeOf {J : Type 0} {r : Ghosts J} (setup : Setup) (office : Office J r) : Type 0 where
   pub names : office.names.items ≡ map (λ t. t.name) setup.tenants
   pub operators : map (λ terms. terms.admin) office.terms.items ≡ map (λ t. t.admin) setup.tenants

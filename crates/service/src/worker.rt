@@ -230,9 +230,9 @@ impl<H: Wait + Net<Stream = TcpStream> + std::time::Clock + Disk, C: Clock, J: R
         rush == Rush::Crowded && yields(rush, self.status, self.served_since(came))
     }
 
-    // Serves the requests of a connection until it ends, and says how. Once it gives way to others, or what had come when the
-    // service was stopped is in the inbox, nothing is read that comes after the requests in the inbox, and it ends after the
-    // last of them.
+    // Serves the requests of a connection until it ends, and says how. At some point it gives way to others, or the
+    // service is stopped and the inbox has all that had come by then. From then on it reads only what the requests in
+    // the inbox still need, and it ends after the last of them.
     fn converse<P: Paced>(
         &mut self,
         reader: &mut P,

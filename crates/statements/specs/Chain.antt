@@ -34,8 +34,8 @@ abbrev pub AreJoined : Due → List PeriodParts → Type 0
 AreJoined due [] = Unit {0}
 AreJoined due (p ∷ ps) = Opens due p × AreJoined (Ending p.ending) ps
 
--- there are closed periods, one for each text, which states it word for word; a roll closes each of them; the first opens with what
--- is due, and each other one with what the one before it ended with
+-- there are closed periods, one for each text, which states it word for word; a roll closes each of them. The first
+-- opens with what is due, and each other one with what the one before it ended with
 pub record IsRun (due : Due) (texts : List (List ℕ)) (ps : List PeriodParts) : Type 0 where
   pub stated : AllZip IsStatement texts ps
   pub closed : All IsPeriod ps

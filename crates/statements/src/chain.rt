@@ -247,9 +247,9 @@ impl Chain {
     }
 
     /// Takes a setup that the service began with, which has the tenant at that place and starts at that moment. If
-    /// anything came before, the setup must have what was due of the tenant, as a running service writes it: the same
-    /// terms, peers with the same balances, routes and rates. Tokens and targets are not compared. If it is refused,
-    /// nothing has changed.
+    /// anything came before, the setup must have what was due of the tenant, as a running service writes it. It must
+    /// have the same terms, peers with the same balances, routes and rates. Tokens and targets are not compared. If it
+    /// is refused, nothing has changed.
     pub fn begin(
         &mut self,
         alloc: Global,

@@ -212,7 +212,7 @@ pub fn checked(alloc: Global, text: &[u8]) -> Checked<Gone>
     }
 }
 
-/// The closed period that a text states word for word, but for tokens and targets, which no statement has: each peer
+/// The closed period that a text states word for word, but for tokens and targets, which no statement has. Each peer
 /// gets a token of its own by its number, and no target.
 ///
 /// By the type of a period, its records are what their entries lead to from its opening on, and its ending is the

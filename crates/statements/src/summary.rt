@@ -103,8 +103,8 @@ fn chain_text(alloc: Global, chain: &Chain) -> Summed<Vec<u8>>
 }
 
 impl Chain {
-    /// The summary of the statements: `good`, how many there are and how many records they have. Then, for each peer
-    /// that was there, a line of what it owed at first and at the end, what came in from it and went out to it, and
+    /// The summary of the statements: `good`, how many there are and how many records they have. Then a line for
+    /// each peer that was there: what it owed at first and at the end, what came in from it and went out to it, and
     /// the fees. Fails if a sum has no room, or if it is out of memory.
     #[tactic(auto, using(crate::proofs::SummarySteps::chain_text_is))]
     pub fn summary(&self, alloc: Global) -> Summed<Vec<u8>>

@@ -19,8 +19,8 @@ abbrev pub credit_of : State → Option Peer → ℕ → ℕ
 credit_of s None clock = 0
 credit_of s (Some p) clock = credit_at (stretch_of s p) clock
 
--- the credit that a change leaves in a bucket at that clock: a peer that is added has a full one, and one that is changed
--- has what it had, as far as there is room for it
+-- the credit that a change leaves in a bucket at that clock. A peer that is added has a full one. One that is changed
+-- keeps what it had, as far as there is room for it
 abbrev pub credit_left : State → Net → ℕ → Changed → ℕ
 credit_left s net clock (PeerAdded t) = full_bucket t.bucket.burst
 credit_left s net clock (BucketSet n bucket) =

@@ -19,8 +19,8 @@ present_setup s admin =
       network = carried_net s (clock_of s) (network_of s);
     }
 
--- A book of this setup begins as the tenant's next period would, but for its place, its clock, the numbers of the period and
--- of the next hold, and its buckets, which are full.
+-- A book of this setup begins as the tenant's next period would, with full buckets. Its place, its clock, and the
+-- numbers of the period and of the next hold may differ.
 abbrev pub PresentSetupLaw : Type 0
 PresentSetupLaw =
     (s : State) (admin : List ℕ) (tenant start : ℕ)

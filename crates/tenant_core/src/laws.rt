@@ -63,8 +63,8 @@ pub fn records_are_made()
     ensures { MadeLaws }
 {}
 
-/// A book of a tenant's present setup begins as the tenant's next period would, but for its place, its clock, the numbers of
-/// the period and of the next hold, and its buckets, which are full.
+/// A book of a tenant's present setup begins as the tenant's next period would, with full buckets. Its place, its
+/// clock, and the numbers of the period and of the next hold may differ.
 pub fn present_setups()
     ensures { PresentSetupLaw }
 {}

@@ -105,8 +105,8 @@ impl PeriodParts {
     }
 }
 
-/// A period that a roll closed, of the size of a pointer. Only rolls make one, and its type keeps what each says: its records
-/// are what their entries lead to from its opening on, the roll's the last, and its ending is what the next period begins with.
+/// A period that a roll closed, of the size of a pointer. Only rolls make one. By its type, its records are what their
+/// entries lead to from its opening on, and the last is the roll's. Its ending is the opening of the next period.
 #[derive(Drop)]
 pub struct Period {
     parts: Boxed<PeriodParts>,

@@ -50,8 +50,8 @@ pub enum GovernFault {
 /// - The share has met just these steps (`HasGrown`). So the one list's steps of the tenant begin with them.
 /// - So balances and refusals come from no book from before the worker's last step, and from none that other steps led
 ///   to.
-/// - The share has grown by just that: by the entry for the tenant, if there is one, and by its record, as the next
-///   step of the worker's part of the one list.
+/// - The share has grown by just that: by the entry for the tenant, if there is one, and by its record. The record is
+///   the next step of the worker's part of the one list.
 ///
 /// Errors, in the order of the tests. Nothing has changed then in the book and in the share's counts.
 ///

@@ -1,5 +1,5 @@
-//! What a worker does: it carries packets and governs tenants by books that it shares with others, over a link, a gate
-//! and a clock that it is given; and many workers at once, on threads.
+//! What a worker does: it carries packets and governs tenants by books that it shares with others, over a given link,
+//! gate and clock. And many workers at once, on threads.
 #![tactic(auto)]
 
 mod backlog;

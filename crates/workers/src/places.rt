@@ -63,8 +63,8 @@ impl Places {
 
     /// Takes a place for the tenant, and waits for one until that moment of the clock.
     ///
-    /// `None` if it got none by then, if the most threads that may wait for the tenant wait already, if the clock
-    /// can't be read, or if there is no such tenant.
+    /// `None` if it got none by then, if as many threads of the tenant wait already as may, if the clock can't be
+    /// read, or if there is no such tenant.
     pub fn take<R: Wait + Clock>(&self, rt: &R, tenant: usize, until: Instant) -> Option<Place>
         ensures { IfSome result (λ place. place.tenant ≡ tenant) }
     {

@@ -9,7 +9,7 @@ use std::test::Fail;
 use tenant_core::{AnswerKey, Book, HoldFault, RejectCode, Verdict};
 
 /// What comes back for a packet of 1,000 units that goes on as 1,500, how long after the start, and whether a tick
-/// comes just before: the verdict, and what is owed after it.
+/// comes just before. Then the verdict, and what is owed after it.
 struct Return {
     title: &'static str,
     key: AnswerKey,

@@ -51,8 +51,8 @@ pub fn time_for(activity: Activity, rush: Rush) -> u64
     }
 }
 
-/// For how many milliseconds a connection may go on with what it does, after it has done it for `spent` milliseconds, of which
-/// the last `stopping` were in a service that stops.
+/// For how many more milliseconds a connection may do what it does. It has done it for `spent` milliseconds, the last
+/// `stopping` of them in a service that stops.
 pub fn left_of(activity: Activity, rush: Rush, spent: u64, stopping: u64) -> u64
     ensures { result ≡ left_of activity rush spent stopping }
 {
@@ -65,7 +65,7 @@ pub fn left_of(activity: Activity, rush: Rush, spent: u64, stopping: u64) -> u64
 }
 
 /// Whether a connection ends after an answer of that status, `served` milliseconds after it came, and gives its thread
-/// to another: only if others wait, and then at once after 400 and 401, and after a second in all.
+/// to another. It does so only if others wait: at once after 400 and 401, and otherwise after a second in all.
 pub fn yields(rush: Rush, status: u16, served: u64) -> bool
     ensures { result ≡ yields rush status served }
 {

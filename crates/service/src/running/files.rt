@@ -16,8 +16,8 @@ const OTHERS: usize = 8;
 /// How many of them are open before a service begins.
 const BEFORE: usize = 6;
 
-/// The most files that a process with this extent has open at once: one for each connection, each exchange with a
-/// peer, and each caller at the host's door, if there is one, and eight more.
+/// The most files that a process with this extent has open at once. There is one for each connection, each exchange
+/// with a peer, and each caller at the host's door, if there is one. Eight more are for the rest.
 pub fn files_of(extent: Extent, has_host: bool) -> usize
     requires workers { extent.workers ≤ max_places }
     requires connections { extent.connections ≤ max_workers }

@@ -275,8 +275,8 @@ where
     Ok((came, fulfilled?))
 }
 
-/// The outcome of a crowd: how many packets the next peer fulfilled, what the service printed at the end, how often
-/// both rolls were right, and the answers that the clients got.
+/// The outcome of a crowd: how many packets the next peer fulfilled, and what the service printed at the end. How
+/// often both rolls were right, and the answers that the clients got.
 #[derive(Drop)]
 struct Crowd {
     fulfilled: u32,

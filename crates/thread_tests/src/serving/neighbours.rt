@@ -122,8 +122,9 @@ const TWO_PLACES: Extent = Extent {
     rounds: Some(3),
 };
 
-// Of acme's four packets one is with a peer that says nothing, one waits, and for two there is no room; beta's packet, whose
-// peer refuses the connection, and its command are answered meanwhile. Both hold a packet for three seconds at most.
+// Of acme's four packets one is with a peer that says nothing, one waits, and for two there is no room. Beta's packet,
+// whose peer refuses the connection, and its command are answered meanwhile. Both hold a packet for three seconds at
+// most.
 #[test]
 fn a_silent_peer_keeps_no_other_tenant(rt: HostRuntime) -> Result<(), Fail> {
     let alloc = rt.alloc();
