@@ -7,8 +7,7 @@ use std::sync::Wait;
 use std::thread::Threads;
 use workers::{Lane, StartFault, run_workers};
 
-/// Evidence that no worker works any more: all have ended, or none begins. Only this module gives
-/// it.
+/// Evidence that no worker works any more: all have ended, or none begins. Only this module has it.
 #[derive(Drop)]
 pub struct Ended(());
 

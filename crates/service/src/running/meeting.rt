@@ -19,7 +19,7 @@ const MISSED: u8 = 3;
 /// For how many milliseconds one waits for the other.
 const PATIENCE: u64 = 3_000;
 
-/// One of two missed a meeting. Neither begins then.
+/// Evidence that one of two missed a meeting. Neither begins then.
 #[derive(Drop)]
 pub struct Missed(());
 
