@@ -116,7 +116,7 @@ fn asset_under<'a>(table: &'a Table, key: &'a str) -> Result<AssetCode, Wrong<'a
     made(AssetCode::new(text.as_bytes()), table, key, Expected::Asset)
 }
 
-// A target that is not valid has a bad URL.
+// With this token only a bad URL makes no target.
 const ANY_TOKEN: &[u8] = b"t";
 
 #[tactic(auto, unfolding(crate::specs::Keys::under))]

@@ -37,7 +37,7 @@ pub(crate) fn is_secret(key: &str) -> bool
     begins_with(key.as_bytes(), b"admin") || has_word(key.as_bytes(), b"token")
 }
 
-/// What is shown of a value in the place of a token: its type or length, never its content.
+/// What is shown of a value in the place of a token: its type, its length or where it is wrong, never its content.
 #[derive(Clone, Copy)]
 pub(crate) enum Hidden {
     Integer,

@@ -347,7 +347,7 @@ fn replay_for<K: PeriodKeeper, R: Read + Device, W: Write + Device>(
 /// script closes.
 ///
 /// The keeper sees the periods in the order of the script's steps, each once, before the next step. No period is
-/// copied. If the replay ends early, it has seen those of the steps that were done.
+/// copied. If the replay ends early, it has seen those of some first steps.
 pub fn replay_keeping<K: PeriodKeeper, R: Read + Device, W: Write + Device>(
     alloc: Global,
     setup: &[u8],

@@ -129,7 +129,7 @@ impl Network {
     ghost use Rattle.tenant_core.specs.Places.{token, ArePairsApart};
     ghost use Rattle.tenant_core.specs.Routing.{rate_between};
 
-    /// A network of nobody.
+    /// A network without peers.
     pub fn new(alloc: Global) -> Network
         ensures { result ≡ nobody }
     {
