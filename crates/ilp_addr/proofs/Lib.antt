@@ -9,3 +9,4 @@ pub mod Hosts
 pub mod Ends
 pub mod Targets
 pub mod Addresses
+pub mod Runs

@@ -57,9 +57,8 @@ impl OwnAddress {
         ensures address { IsAddress self.now }
         ensures own { is_own_address self.now ≡ true }
     {
-        let bytes = self.bytes.as_bytes();
-        let _ = Address::parse(bytes);
-        bytes
+        crate::laws::addresses();
+        self.bytes.as_bytes()
     }
 
     /// The address.

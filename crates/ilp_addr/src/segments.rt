@@ -78,24 +78,35 @@ pub(crate) fn split_at_dot(bytes: &[u8]) -> Option<(&[u8], &[u8])>
     None
 }
 
+// One pass, without a branch for each byte.
 pub(crate) fn are_segments(bytes: &[u8]) -> bool
     ensures { result ≡ list_all spec.is_segment (segments bytes.now) }
 {
-    bytes.split(|b| *b == b'.').all(is_segment)
+    let mut all = true;
+    let mut at_begin = true;
+    for byte in bytes {
+        let is_dot = *byte == b'.';
+        all &= is_segment_byte(*byte) | (is_dot & !at_begin);
+        at_begin = is_dot;
+    }
+    all & !at_begin
 }
 
-#[tactic(auto, unfolding(crate::specs::Address::is_segment))]
-fn is_segment(text: &[u8]) -> bool
-    ensures { result ≡ spec.is_segment text.now }
-{
-    !text.is_empty() && text.iter().all(|b| is_segment_byte(*b))
-}
+// A byte that a segment may have, at its own index. Any other index has a comma.
+static SEGMENT_MAP: [u8; 256] = *b"\
+    ,,,,,,,,,,,,,,,,,,,,,,,,,,,,,,,,\
+    ,,,,,,,,,,,,,-,,0123456789,,,,,,\
+    ,ABCDEFGHIJKLMNOPQRSTUVWXYZ,,,,_\
+    ,abcdefghijklmnopqrstuvwxyz,,,~,\
+    ,,,,,,,,,,,,,,,,,,,,,,,,,,,,,,,,\
+    ,,,,,,,,,,,,,,,,,,,,,,,,,,,,,,,,\
+    ,,,,,,,,,,,,,,,,,,,,,,,,,,,,,,,,\
+    ,,,,,,,,,,,,,,,,,,,,,,,,,,,,,,,,";
 
-#[tactic(auto, unfolding(crate::specs::Address::is_segment_byte))]
 fn is_segment_byte(byte: u8) -> bool
     ensures { result ≡ spec.is_segment_byte byte }
 {
-    matches!(byte, b'a'..=b'z' | b'A'..=b'Z' | b'0'..=b'9' | b'_' | b'~' | b'-')
+    SEGMENT_MAP[byte as usize] != b','
 }
 
 #[tactic(auto, unfolding(crate::specs::Address::is_scheme))]
