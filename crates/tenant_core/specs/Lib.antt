@@ -27,6 +27,7 @@ pub mod Fresh
 pub mod Routing
 pub mod Checks
 pub mod Judge
+pub mod Findings
 pub mod Answer
 pub mod Orders
 pub mod Periods

@@ -1,5 +1,6 @@
 //! Books: an opening and the records since.
 
+mod explain;
 mod follow;
 mod present;
 mod reopen;

@@ -2,18 +2,21 @@
 
 ghost use Rattle.std.specs.Prelude.{◌≡◌};
 ghost use Rattle.ildcp_core.specs.Request.{checked_request};
-ghost use Rattle.tenant_core.specs.Judge.{refuse_over, child_of, config_verdict};
+ghost use Rattle.tenant_core.specs.Findings.{config_finding, verdict_of};
+ghost use Rattle.tenant_core.specs.declared.finding.Finding.TheVariants.{OverCeiling, OverCredit};
+ghost use Rattle.tenant_core.specs.Judge.{child_of, config_verdict};
 ghost use Rattle.tenant_core.specs.Holds.{open_holds};
 
 use crate::arena::Journal;
+use crate::finding::Finding;
 use crate::hold_table::HoldTable;
 use crate::journal::PrepareKey;
 use crate::limits::MAX_HOLDS;
 use crate::network::Network;
 use crate::opening::Opening;
 use crate::peer::Peer;
-use crate::routing::{outgoing_expiry, stays_here};
-use crate::verdict::{RejectCode, Verdict, refuse};
+use crate::routing::outgoing_expiry;
+use crate::verdict::Verdict;
 use ildcp_core::{Child, ChildParts, IldcpFault, check, is_config};
 use ilp_addr::Address;
 use money_core::{Purse, Rate};
@@ -32,7 +35,7 @@ pub struct Standing<'a> {
     pub holds: &'a HoldTable,
 }
 
-/// A peer with its purse and its bucket, and where it stands among the peers.
+/// A peer with its purse and its bucket, and its index among the peers.
 #[derive(Clone, Copy)]
 pub struct Party<'a> {
     pub place: usize,
@@ -49,12 +52,13 @@ pub struct Onward<'a> {
 }
 
 impl<'a> Standing<'a> {
-    ghost use Rattle.std.specs.Prelude.{◌≡◌, ◌<◌, ◌≤◌, IfSome, is_some, true, length, option_map, slice_get, Some};
+    ghost use Rattle.std.specs.Prelude.{◌≡◌, ◌<◌, ◌≤◌, IfOk, IfErr, IfSome, is_some, true, length, option_map, slice_get, Some, None};
+    ghost use Rattle.tenant_core.specs.Findings.{astray};
     ghost use Rattle.tenant_core.specs.Network.{peer_numbered, peer_with_token};
     ghost use Rattle.tenant_core.specs.Routing.{onward, way_by};
     ghost use Rattle.tenant_core.specs.Standing.{state_shown, IsShown, IsParty, peer_of, way_of};
 
-    /// The peer that stands at that place.
+    /// The peer at that place.
     pub fn party(&self, place: usize) -> Party<'a>
         requires shown { IsShown self.now }
         requires inside { place < length self.now.network.now.peers }
@@ -102,14 +106,22 @@ impl<'a> Standing<'a> {
     }
 
     // The way that a packet of `from` goes on: that of the best route, unless it leads back.
-    fn onward(&self, from: PeerNo, destination: &Address<'_>) -> Option<Onward<'a>>
+    fn onward(&self, from: PeerNo, destination: &Address<'_>) -> Result<Onward<'a>, Finding>
         requires { IsShown self.now }
-        ensures way { option_map way_of result ≡ onward self.now.network.now from destination.now }
-        ensures kept { IfSome result (λ way. IsParty (state_shown self.now) way.to) }
+        ensures way { IfOk result (λ way. onward self.now.network.now from destination.now ≡ Some (way_of way)) }
+        ensures none { IfErr result (λ finding. onward self.now.network.now from destination.now ≡ None) }
+        ensures why { IfErr result (λ finding. finding ≡ astray self.now.network.now from destination.now) }
+        ensures kept { IfOk result (λ way. IsParty (state_shown self.now) way.to) }
     {
-        match self.network.routes().find(destination) {
-            Some(hop) if hop.peer != from => self.by_hop(hop),
-            _ => None,
+        let Some(hop) = self.network.routes().find(destination) else {
+            return Err(Finding::NoRoute);
+        };
+        if hop.peer == from {
+            return Err(Finding::LeadsBack);
+        }
+        match self.by_hop(hop) {
+            Some(way) => Ok(way),
+            None => Err(Finding::NoRoute),
         }
     }
 
@@ -131,6 +143,7 @@ impl Standing<'_> {
     ghost use Rattle.tenant_core.specs.Bucket.{is_limited, stretch_of};
     ghost use Rattle.tenant_core.specs.Key.{key_of};
     ghost use Rattle.tenant_core.specs.Purse.{is_over_ceiling, is_over_credit};
+    ghost use Rattle.tenant_core.specs.Findings.{finding_for_sender, finding_at_rate, verdict_of};
     ghost use Rattle.tenant_core.specs.Judge.{verdict_for_sender, verdict_at_rate, is_full, is_recorded, IsSooner};
     ghost use Rattle.tenant_core.specs.State.{clock_of};
     ghost use Rattle.tenant_core.specs.Standing.{state_shown, IsShown, IsParty, CanGoOn, CanGoTo, peer_of, way_of};
@@ -165,83 +178,144 @@ impl Standing<'_> {
             ≡ not (is_admitted (stretch_of (state_shown self.now) (peer_of from.now)) clock) }
         ensures goes { CanGoOn (state_shown self.now) (peer_of from.now) key.now.amount result }
     {
-        if from.bucket.credit(clock) < PACKET {
-            return refuse(RejectCode::RateLimited);
-        }
-        if key.expiry.get() <= clock {
-            return refuse(RejectCode::InsufficientTimeout);
-        }
-        if is_config(key.destination) {
-            return config_verdict(&child_of(self.opening, from.peer), key);
-        }
-        if stays_here(self.opening, key.destination) {
-            return refuse(RejectCode::Unreachable);
-        }
-        let cap = from.peer.terms.limits.cap.get();
-        if key.amount > cap {
-            return refuse_over(key.amount, cap);
-        }
-        let Some(way) = self.onward(from.peer.number, key.destination) else {
-            return refuse(RejectCode::Unreachable);
-        };
-        let Some(rate) = self
-            .network
-            .rate_between(from.peer.number, way.to.peer.number)
-        else {
-            return refuse(RejectCode::Unreachable);
-        };
-        self.verdict_at_rate(from, &way, rate, key, clock)
+        self.finding_for_sender(from, key, clock).verdict()
     }
 
-    // The verdict on a packet of one peer that goes that way, at the rate between the two.
-    fn verdict_at_rate(
+    /// Which check decides at that clock on a packet of that peer, for which the journal has room.
+    pub fn finding_for_sender(&self, from: &Party<'_>, key: &PrepareKey<'_>, clock: u64) -> Finding
+        requires shown { IsShown self.now }
+        requires sender { IsParty (state_shown self.now) from.now }
+        requires clock { clock ≤ last_moment }
+        requires later { clock_of (state_shown self.now) ≤ clock }
+        ensures finding { result
+            ≡ finding_for_sender (state_shown self.now) (peer_of from.now) (key_of key.now) clock }
+        ensures verdict { verdict_of result
+            ≡ verdict_for_sender (state_shown self.now) (peer_of from.now) (key_of key.now) clock }
+        ensures recorded { is_recorded (verdict_of result) ≡ true }
+        ensures sooner { IsSooner (verdict_of result) key.now.expiry }
+        ensures limited { is_limited (verdict_of result)
+            ≡ not (is_admitted (stretch_of (state_shown self.now) (peer_of from.now)) clock) }
+        ensures goes { CanGoOn (state_shown self.now) (peer_of from.now) key.now.amount (verdict_of result) }
+    {
+        let credit = from.bucket.credit(clock);
+        if credit < PACKET {
+            return Finding::BucketEmpty { credit };
+        }
+        let expiry = key.expiry.get();
+        if expiry <= clock {
+            return Finding::Expired { expiry, clock };
+        }
+        if is_config(key.destination) {
+            return config_finding(&child_of(self.opening, from.peer), key);
+        }
+        if key.destination.is_for_neighbors() {
+            return Finding::ForNeighbors;
+        }
+        if key.destination.bytes() == self.opening.address.as_bytes() {
+            return Finding::OwnAddress;
+        }
+        let (amount, cap) = (key.amount, from.peer.terms.limits.cap.get());
+        if amount > cap {
+            return Finding::OverCap { amount, cap };
+        }
+        let way = match self.onward(from.peer.number, key.destination) {
+            Ok(way) => way,
+            Err(finding) => return finding,
+        };
+        let to = way.to.peer.number;
+        let Some(rate) = self.network.rate_between(from.peer.number, to) else {
+            return Finding::NoRate { to };
+        };
+        self.finding_at_rate(from, &way, rate, key, clock)
+    }
+
+    // Which check decides on a packet of one peer that goes that way, at the rate between the two.
+    fn finding_at_rate(
         &self,
         from: &Party<'_>,
         way: &Onward<'_>,
         rate: Rate,
         key: &PrepareKey<'_>,
         clock: u64,
-    ) -> Verdict
+    ) -> Finding
         requires shown { IsShown self.now }
         requires sender { IsParty (state_shown self.now) from.now }
         requires receiver { IsParty (state_shown self.now) way.now.to }
         requires clock { clock ≤ last_moment }
-        ensures verdict { result ≡ verdict_at_rate (state_shown self.now) (peer_of from.now) (way_of way.now) rate
+        ensures finding { result ≡ finding_at_rate (state_shown self.now) (peer_of from.now) (way_of way.now) rate
             (key_of key.now) clock }
-        ensures recorded { is_recorded result ≡ true }
-        ensures sooner { IsSooner result key.now.expiry }
-        ensures limited { is_limited result ≡ false }
-        ensures goes { CanGoTo (state_shown self.now) (peer_of from.now) (peer_of way.now.to) key.now.amount result }
+        ensures verdict { verdict_of result ≡ verdict_at_rate (state_shown self.now) (peer_of from.now) (way_of way.now) rate
+            (key_of key.now) clock }
+        ensures recorded { is_recorded (verdict_of result) ≡ true }
+        ensures sooner { IsSooner (verdict_of result) key.now.expiry }
+        ensures limited { is_limited (verdict_of result) ≡ false }
+        ensures goes { CanGoTo (state_shown self.now) (peer_of from.now) (peer_of way.now.to) key.now.amount
+            (verdict_of result) }
     {
-        let to = &way.to;
+        let (to, amount) = (&way.to, key.amount);
         let fee = way.fee.get();
-        let Some(price) = rate.price_less(key.amount, fee) else {
-            return refuse(RejectCode::InsufficientSource);
+        let Some(price) = rate.price_less(amount, fee) else {
+            let price = rate.price(amount) as u64;
+            return Finding::BelowFee { price, fee };
         };
         let cap = to.peer.terms.limits.cap.get();
         if price > cap as u128 {
-            return refuse_over(
-                key.amount,
-                rate.greatest(from.peer.terms.limits.cap.get(), cap + fee),
-            );
+            return Finding::OverNextCap {
+                to: to.peer.number,
+                price,
+                cap,
+                amount,
+                greatest: rate.greatest(from.peer.terms.limits.cap.get(), cap + fee),
+            };
         }
         let expiry = outgoing_expiry(self.opening, key.expiry.get(), clock);
         if expiry <= clock {
-            return refuse(RejectCode::InsufficientTimeout);
+            return Finding::ExpiresOnward { expiry, clock };
         }
-        let amount = price as u64;
-        if from.purse.passes_ceiling(key.amount) || to.purse.passes_credit(amount) {
-            return refuse(RejectCode::InsufficientLiquidity);
+        let price = price as u64;
+        if from.purse.passes_ceiling(amount) {
+            return over_ceiling(from, amount);
         }
-        if self.awaited() >= MAX_HOLDS {
-            return refuse(RejectCode::Busy);
+        if to.purse.passes_credit(price) {
+            return over_credit(to, price);
         }
-        Verdict::Forward {
+        let awaited = self.awaited();
+        if awaited >= MAX_HOLDS {
+            return Finding::TooManyHeld { awaited };
+        }
+        Finding::GoesOn {
             hold: self.opening.next_hold + self.holds.len() as u64,
-            peer: to.peer.number,
-            amount,
+            to: to.peer.number,
+            price,
             expiry,
         }
+    }
+}
+
+// That the sender would owe more than its ceiling.
+fn over_ceiling(from: &Party<'_>, amount: u64) -> Finding
+    ensures { result ≡ OverCeiling from.now.purse.now.balance from.now.purse.now.held_in amount
+        from.now.peer.now.terms.limits.ceiling }
+{
+    Finding::OverCeiling {
+        balance: from.purse.balance(),
+        held: from.purse.held_in(),
+        amount,
+        ceiling: from.peer.terms.limits.ceiling.get(),
+    }
+}
+
+// That more would be owed to the receiver than its credit.
+fn over_credit(to: &Party<'_>, price: u64) -> Finding
+    ensures { result ≡ OverCredit to.now.peer.now.number to.now.purse.now.balance to.now.purse.now.held_out price
+        to.now.peer.now.terms.limits.credit }
+{
+    Finding::OverCredit {
+        to: to.peer.number,
+        balance: to.purse.balance(),
+        held: to.purse.held_out(),
+        price,
+        credit: to.peer.terms.limits.credit.get(),
     }
 }
 
@@ -258,25 +332,17 @@ pub fn child_of<'a>(opening: &'a Opening, peer: &'a Peer) -> Child<'a>
     })
 }
 
-// The verdict on a request for the configuration.
-fn config_verdict(child: &Child<'_>, key: &PrepareKey<'_>) -> Verdict
-    ensures verdict { result
+// What is found of a request for the configuration.
+fn config_finding(child: &Child<'_>, key: &PrepareKey<'_>) -> Finding
+    ensures finding { result
+        ≡ config_finding key.now.amount (checked_request child.now.role key.now.amount key.now.condition.now) }
+    ensures verdict { verdict_of result
         ≡ config_verdict (checked_request child.now.role key.now.amount key.now.condition.now) }
 {
     match check(child, key.amount, key.condition) {
-        Ok(()) => Verdict::Fulfil,
-        Err(IldcpFault::NotChild) => refuse(RejectCode::BadRequest),
-        Err(IldcpFault::Amount) => refuse(RejectCode::InvalidAmount),
-        Err(IldcpFault::Condition) => refuse(RejectCode::WrongCondition),
-    }
-}
-
-// The refusal of an amount, with the greatest that the caps allow.
-fn refuse_over(amount: u64, greatest: u64) -> Verdict
-    ensures { result ≡ refuse_over amount greatest }
-{
-    Verdict::Refuse {
-        code: RejectCode::AmountTooLarge,
-        amounts: Some((amount, greatest)),
+        Ok(()) => Finding::Config,
+        Err(IldcpFault::NotChild) => Finding::NoChild,
+        Err(IldcpFault::Amount) => Finding::ConfigAmount { amount: key.amount },
+        Err(IldcpFault::Condition) => Finding::ConfigCondition,
     }
 }

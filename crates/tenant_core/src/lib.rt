@@ -5,6 +5,7 @@ mod arena;
 mod book;
 mod command;
 mod faults;
+mod finding;
 mod fresh;
 mod ground;
 mod hold;
@@ -37,6 +38,7 @@ pub use arena::Journal;
 pub use book::Book;
 pub use command::{Amount, Answered, Command, Order, Pair, Side};
 pub use faults::{BookFault, CommandFault, HoldFault, OpeningFault};
+pub use finding::Finding;
 pub use hold::{Fate, Hold};
 pub use ildcp_core::Role;
 pub use journal::{

@@ -28,8 +28,8 @@ fn has_name(peer: &Peer, name: &[u8]) -> bool
     peer.terms.name.as_bytes() == name
 }
 
-// The peer of this name.
-fn peer_named<'a>(peers: &'a [Peer], name: &[u8]) -> Option<&'a Peer>
+/// The peer of this name.
+pub fn peer_named<'a>(peers: &'a [Peer], name: &[u8]) -> Option<&'a Peer>
     ensures { option_copied result ≡ peer_named name.now peers.now }
 {
     peers.iter().find(|peer| has_name(peer, name))

@@ -5,12 +5,11 @@ ghost use Rattle.ilp_addr.specs.Timestamp.{last_moment};
 ghost use Rattle.std.specs.Option.{option_copied};
 ghost use Rattle.tenant_core.specs.Limits.{max_hold};
 ghost use Rattle.tenant_core.specs.Network.{peer_numbered, peer_with_token};
-ghost use Rattle.tenant_core.specs.Routing.{stays_here, outgoing_expiry};
+ghost use Rattle.tenant_core.specs.Routing.{outgoing_expiry};
 
 use crate::network::Network;
 use crate::opening::Opening;
 use crate::peer::Peer;
-use ilp_addr::Address;
 use route_table::PeerNo;
 
 /// The peer that shows this token.
@@ -27,13 +26,6 @@ pub fn peer_numbered(network: &Network, number: PeerNo) -> Option<&Peer>
 {
     let place = network.place_numbered(number)?;
     network.peers().get(place)
-}
-
-/// Whether packets for the destination are not sent on: it is for direct neighbours, or the tenant's own address.
-pub fn stays_here(opening: &Opening, destination: &Address<'_>) -> bool
-    ensures { result ≡ stays_here opening.now destination.now }
-{
-    destination.is_for_neighbors() || destination.bytes() == opening.address.as_bytes()
 }
 
 /// The expiry that a packet goes on with.
