@@ -5,6 +5,7 @@ mod chunked;
 mod connections;
 mod devices;
 mod host;
+mod operators;
 mod outcomes;
 mod posted;
 mod served;

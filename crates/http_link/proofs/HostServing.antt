@@ -1,30 +1,45 @@
--- From what is done with a head to what serving a known stream at the host's door does.
-use Rattle.std.proofs.Common.{◌≡◌, inl, inr, ℕ, List, subst, Option, Some, Result, Ok, Err, IfOk}
-use Rattle.httparse.specs.Grammar.{RequestHead}
-use Rattle.http_link.specs.Heads.{Head, head_of}
-use Rattle.http_link.specs.HostDoor.{AnswersHost, HostAsked, HostTraces, HostWanted, IsHostAskedOnly, IsHostServed, host_asking, host_wanted_of}
+-- From what a door does with a head to what serving a known stream at the host's door does.
+use Rattle.std.proofs.Common.{◌≡◌, inl, inr, ℕ, List, subst, sym, Option, Some, Result, Ok, Err, IfOk}
+use Rattle.std.specs.Prelude.{◌⊎◌}
+use Rattle.http_link.specs.Doors.{IsAnswered, IsServedAtDoor}
+use Rattle.http_link.specs.Heads.{Head}
+use Rattle.http_link.specs.HostDoor.{AnswersHost, HostAsked, HostTraces, HostWanted, IsHostAsked, IsHostAskedOnly, IsHostRefused, IsHostServed, host_asking, host_wanted_of}
 use Rattle.http_link.specs.Serving.{AsksAtMostOnce}
 use Rattle.http_link.specs.declared.host_request.HostRefusal.{HostRefusal}
 use Rattle.http_link.specs.declared.serve.Served.{Served}
-use Rattle.http_link.specs.declared.serve.Served.TheVariants.{Closed}
 use Rattle.http_link.specs.declared.streams.LinkFault.{LinkFault}
 
--- what is done with the head that was found is what serving the stream does
-pub host_served : (result : Result Served LinkFault) (said : Head) (new : Option (List ℕ)) (traces : HostTraces) (head : RequestHead) (rest : List ℕ)
-    → (said ≡ head_of head) × (new ≡ Some rest) → IfOk result (λ served. (served ≡ Closed) × AnswersHost (host_wanted_of said) traces)
-    → IfOk result (IsHostServed (host_wanted_of (head_of head)) rest new traces)
-host_served (Ok served) said new traces head rest is so =
-    record { taken = is.1; answered = subst (λ (h : Head). AnswersHost (host_wanted_of h) traces) is.0 so.1; closed = so.0 }
-host_served (Err fault) said new traces head rest is so = tt
+-- what is done for a head, where that text is written
+abbrev says : HostTraces → List ℕ → HostTraces
+says traces text = record traces { Writes = λ written. written ≡ text }
 
--- what is asked for the head that was found is what the stream's head wants
-pub host_asked : (said : Head) (new : Option (List ℕ)) (Unasked : Type 0) (Asks : HostAsked → Type 0) (head : RequestHead) (rest : List ℕ)
-    → (said ≡ head_of head) × (new ≡ Some rest) → IsHostAskedOnly (host_wanted_of said) Unasked Asks → IsHostAskedOnly (host_wanted_of (head_of head)) Unasked Asks
-host_asked said new Unasked Asks head rest is asks = subst (λ (h : Head). IsHostAskedOnly (host_wanted_of h) Unasked Asks) is.0 asks
+written : (want : Result HostWanted HostRefusal) (traces : HostTraces) → IsAnswered (λ text. AnswersHost want (says traces text)) traces.Writes → AnswersHost want traces
+written (Ok wanted) traces a =
+    record { status = a.1.status; asked = a.1.asked; written = subst traces.Writes (sym a.1.written) a.2 }
+written (Err refusal) traces a =
+    record { unasked = a.1.unasked; written = subst traces.Writes (sym a.1.written) a.2 }
+
+-- what serving does at a door is what it does at the host's
+pub host_served : (result : Result Served LinkFault) (want : Result HostWanted HostRefusal) (rest : List ℕ) (left : Option (List ℕ)) (traces : HostTraces)
+    → IfOk result (IsServedAtDoor rest left (λ text. AnswersHost want (says traces text)) traces.Writes) → IfOk result (IsHostServed want rest left traces)
+host_served (Ok served) want rest left traces at =
+    record { taken = at.taken; answered = written want traces at.answered; closed = at.closed }
+host_served (Err fault) want rest left traces at = tt
+
+-- nothing is asked, or only what the head wants
+pub host_only : (want : Result HostWanted HostRefusal) (Unasked : Type 0) (Asks : HostAsked → Type 0) → Unasked ⊎ IsHostAskedOnly want Unasked Asks → IsHostAskedOnly want Unasked Asks
+host_only (Ok wanted) Unasked Asks (inl none) = inl none
+host_only (Err refusal) Unasked Asks (inl none) = none
+host_only want Unasked Asks (inr asked) = asked
 
 -- at most one question is asked
-pub host_asks_once : (want : Result HostWanted HostRefusal) (Unasked : Type 0) (Asks : HostAsked → Type 0)
+asks_once : (want : Result HostWanted HostRefusal) (Unasked : Type 0) (Asks : HostAsked → Type 0)
     → IsHostAskedOnly want Unasked Asks → AsksAtMostOnce Unasked Asks
-host_asks_once (Ok wanted) Unasked Asks (inl none) = inl none
-host_asks_once (Ok wanted) Unasked Asks (inr asked) = inr (host_asking wanted asked.0, asked.1)
-host_asks_once (Err refusal) Unasked Asks none = inl none
+asks_once (Ok wanted) Unasked Asks (inl none) = inl none
+asks_once (Ok wanted) Unasked Asks (inr asked) = inr (host_asking wanted asked.0, asked.1)
+asks_once (Err refusal) Unasked Asks none = inl none
+
+pub host_asks_once : (Unasked : Type 0) (Asks : HostAsked → Type 0)
+    → Unasked ⊎ ((head : Head) × IsHostAskedOnly (host_wanted_of head) Unasked Asks) → AsksAtMostOnce Unasked Asks
+host_asks_once Unasked Asks (inl none) = inl none
+host_asks_once Unasked Asks (inr asked) = asks_once (host_wanted_of asked.0) Unasked Asks asked.1

@@ -4,7 +4,9 @@ pub mod Heads
 pub mod Grammars
 pub mod Growing
 pub mod Serving
+pub mod Doors
 pub mod HostServing
+pub mod OperatorServing
 pub mod Client
 pub mod Takes
 pub mod ChunkedBodies

@@ -1,5 +1,5 @@
 -- The door of the host, who runs the process: what may be asked there, and what serving one request does.
-use Rattle.std.specs.Prelude.{◌≡◌, ◌⊎◌, ℕ, List, [], ◌++◌, length, true, ◌==◌, if◌then◌else◌, codes}
+use Rattle.std.specs.Prelude.{◌≡◌, ◌⊎◌, ℕ, List, [], ◌++◌, ◌==◌, if◌then◌else◌, codes}
 use Rattle.std.specs.Prelude.{Option, Some, None, Result, Ok, Err}
 use Rattle.std.specs.Str.{bytes_eq}
 use Rattle.common_types.specs.ResultChain.{◌>>=◌}
@@ -10,7 +10,8 @@ use Rattle.http_link.specs.declared.host_request.HostRequest.TheVariants.{Health
 use Rattle.http_link.specs.declared.host_request.HostWanted.{HostWanted as HostWantedAt}
 use Rattle.http_link.specs.declared.serve.Served.{Served}
 use Rattle.http_link.specs.declared.serve.Served.TheVariants.{Closed}
-use Rattle.http_link.specs.Answers.{head_with, line, refusal_text}
+use Rattle.http_link.specs.Answers.{line, refusal_text}
+use Rattle.http_link.specs.Doors.{closing_text}
 use Rattle.http_link.specs.Fields.{Occurrence, occurrence}
 use Rattle.http_link.specs.Heads.{Head}
 use Rattle.http_link.specs.Requests.{or_refused, token_in}
@@ -79,10 +80,6 @@ media_line request = line (codes "Content-Type: " ++ media_of request)
 -- the line that says which method a request has (RFC 9110, 10.2.1)
 abbrev pub allow_line : HostRequest → List ℕ
 allow_line request = line (codes "Allow: " ++ method_of request)
-
--- an answer with a line of its own, after which the connection is closed (RFC 9112, 9.6)
-abbrev pub closing_text : List ℕ → ℕ → List ℕ → List ℕ
-closing_text own status body = head_with own status (length body) true ++ body
 
 -- the answer with a service's status: 200 with its bytes, 401, or 503 for any other (RFC 9110, 15.3.1, 15.5.2 and 15.6.4)
 abbrev pub host_text : HostRequest → ℕ → List ℕ → List ℕ

@@ -13,7 +13,9 @@ pub mod Grammars
 pub mod GrammarLaws
 pub mod Reading
 pub mod Serving
+pub mod Doors
 pub mod HostDoor
+pub mod OperatorDoor
 pub mod Running
 pub mod Connections
 pub mod InboxKept

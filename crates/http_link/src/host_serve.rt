@@ -6,41 +6,35 @@ ghost use Rattle.httparse.specs.Grammar as grammar;
 ghost use Rattle.http_link.specs.Counts.{MadeAll};
 ghost use Rattle.http_link.specs.Telling.{TellsWrites};
 ghost use Rattle.http_link.specs.Heads.{BeginsWith, head_of};
-ghost use Rattle.http_link.specs.Lines.{head_at};
 ghost use Rattle.http_link.specs.HostDoor.{AnswersHost, IsHostAskedOnly, IsHostServed};
-ghost use Rattle.http_link.specs.HostDoor.{allow_line, closing_text, host_asking, host_refusal_text, host_text};
+ghost use Rattle.http_link.specs.HostDoor.{allow_line, host_asking, host_refusal_text, host_text};
 ghost use Rattle.http_link.specs.HostDoor.{host_wanted_at, host_wanted_of, media_line};
 ghost use Rattle.http_link.specs.Serving.{AsksAtMostOnce, WritesNothingOr400};
 
-use crate::answer::head_with;
 use crate::devices::{Sink, Source};
-use crate::grammar::Offered;
-use crate::head::{MAX_HEAD, MAX_LINES, find_head};
+use crate::door::{Answers, serve_door, write_closing};
 use crate::host_request::{HostRefusal, HostRequest, HostWanted, host_wanted_of};
 use crate::host_service::HostService;
-use crate::intake::NOTHING;
-use crate::line_buffer::write_message;
 use crate::request::RequestHead;
-use crate::serve::{Before, Served, head_in, refuse};
+use crate::serve::{Served, refuse};
 use crate::streams::LinkFault;
-use httparse::spans::{EMPTY_HEADER_SPAN, RequestSpans};
 
-/// Reads one request of the host, asks the service where nothing refuses it, and writes the answer, behind
-/// which the connection is closed. (RFC 9112, 2 and 9.6)
+/// Reads one request of the host, asks the service if nothing refuses it, and writes the answer. The connection is closed after
+/// it. (RFC 9112, 2 and 9.6)
 ///
-/// A request has at most 8,192 bytes and 64 field lines in its head. Nothing behind its head is taken from the reader: a
-/// body is not looked at. Where the stream ends before a whole head, nothing is written, and the result is `Ended`. Else the
-/// first check that fails decides: 400 where that is no head or goes over the limits, 404 for another target, 405 for another
-/// method, and 401 where a token is needed and none is shown. (RFC 9110, 15.5)
+/// A request has at most 8,192 bytes and 64 field lines in its head. Nothing after its head is taken from the reader, and a
+/// body is not read. If the stream ends before a whole head, nothing is written, and the result is `Ended`. Otherwise the first
+/// check that fails decides: 400 if the head is malformed or over the limits, 404 for another target, 405 for another method,
+/// and 401 if a token is needed and none is shown. (RFC 9110, 15.5)
 ///
-/// Errors: `Read` and `Write` where the device failed in this call, and `Turns` where 50,000 reads or writes did not
-/// suffice. Before a `Write` or a `Turns` the service may have been asked, before a `Read` not.
+/// Errors: `Read` and `Write` if the device failed in this call, and `Turns` if 50,000 reads or writes did not suffice. Before a
+/// `Write` or a `Turns` the service may have been asked, before a `Read` not.
 pub fn serve_host<R: Source, W: Sink, S: HostService>(
     r: &mut R,
     w: &mut W,
     service: &mut S,
 ) -> Result<Served, LinkFault>
-    // A stream that begins with a head within the limits is served by what the head wants, however it is cut.
+    // A stream that begins with a head within the limits is served as the head asks, however it is cut.
     ensures exact { (stream : List ℕ) (head : grammar.RequestHead) (rest : List ℕ)
         → R.remaining r.old ≡ Some stream → BeginsWith stream head rest
         → IfOk result (IsHostServed (host_wanted_of (head_of head)) rest (R.remaining r.new) (record {
@@ -49,7 +43,7 @@ pub fn serve_host<R: Source, W: Sink, S: HostService>(
           answer = S.answer service.new;
           Writes = λ text. Appends (W.contents w.old) (W.contents w.new) text;
         })) }
-    // Whatever comes of it, only what the head wants is asked.
+    // Only the question of the head is asked, also on an error.
     ensures asked_only { (stream : List ℕ) (head : grammar.RequestHead) (rest : List ℕ)
         → R.remaining r.old ≡ Some stream → BeginsWith stream head rest
         → IsHostAskedOnly (host_wanted_of (head_of head)) (service.new ≡ service.old)
@@ -63,49 +57,40 @@ pub fn serve_host<R: Source, W: Sink, S: HostService>(
         (λ question. S.asks service.old question service.new) }
     ensures unread { result ≡ Err LinkFault.Read → service.new ≡ service.old }
 
-    // A device's fault is told exactly where the device failed.
+    // The error is a device's exactly if the device failed.
     ensures read { (result ≡ Err LinkFault.Read) ↔ (R.failure_count r.old < R.failure_count r.new) }
     ensures write { (result ≡ Err LinkFault.Write) ↔ (W.failure_count w.old < W.failure_count w.new) }
-    // The limit is told only where it was reached.
+    // The limit is reported only if it was reached.
     ensures turns { result ≡ Err LinkFault.Turns
         → MadeAll R.was_read r.old r.new ⊎ MadeAll W.was_written w.old w.new }
 {
-    let before = Before::one(r, w);
-    let mut intake = NOTHING;
-    let mut text = [0u8; MAX_HEAD];
-    let mut lines = [EMPTY_HEADER_SPAN; MAX_LINES];
-    match find_head::<RequestSpans, _>(r, &mut text, &mut intake, &mut lines, before.manner)? {
-        Offered::Partial => Ok(Served::Ended),
-        Offered::Malformed => refuse(w, 400, before.writes),
-        Offered::Whole(spans) => {
-            let head = head_in(&text[..spans.len], &lines, spans);
-            answer_host(w, service, &head, before.writes)
-        }
-    }
+    serve_door::<_, _, S, HostAnswers>(r, w, service)
 }
 
-// Asks the service what a head wants where nothing refuses it, and writes the answer.
-fn answer_host<W: Sink, S: HostService>(
-    w: &mut W,
-    service: &mut S,
-    head: &RequestHead,
-    before: u64,
-) -> Result<Served, LinkFault>
-    requires unfailed { W.failure_count w.old ≤ before }
-    ensures answered { IfOk result (λ served. (served ≡ Served.Closed)
-        × AnswersHost (host_wanted_of (head_at head.now)) (record {
-          Unasked = service.new ≡ service.old;
-          Asks = λ question. S.asks service.old question service.new;
-          answer = S.answer service.new;
-          Writes = λ text. Appends (W.contents w.old) (W.contents w.new) text;
-        })) }
-    ensures asked { IsHostAskedOnly (host_wanted_of (head_at head.now)) (service.new ≡ service.old)
-        (λ question. S.asks service.old question service.new) }
-    ensures told { TellsWrites W.failure_count W.was_written before w.old w.new result }
-{
-    match host_wanted_of(head) {
-        Ok(wanted) => ask_host(w, service, &wanted, before),
-        Err(refusal) => refuse_host(w, refusal, before),
+/// Answers what the host asks.
+struct HostAnswers;
+
+impl<S: HostService> Answers<S> for HostAnswers {
+    ghost asks = { λ head before after. IsHostAskedOnly (host_wanted_of head) (after ≡ before)
+        (λ question. S.asks before question after) };
+
+    ghost answers = { λ head before after text. AnswersHost (host_wanted_of head) (record {
+      Unasked = after ≡ before;
+      Asks = λ question. S.asks before question after;
+      answer = S.answer after;
+      Writes = λ written. written ≡ text;
+    }) };
+
+    fn answer<W: Sink>(
+        w: &mut W,
+        service: &mut S,
+        head: &RequestHead,
+        before: u64,
+    ) -> Result<Served, LinkFault> {
+        match host_wanted_of(head) {
+            Ok(wanted) => ask_host(w, service, &wanted, before),
+            Err(refusal) => refuse_host(w, refusal, before),
+        }
     }
 }
 
@@ -159,24 +144,6 @@ fn refuse_host<W: Sink>(w: &mut W, refusal: HostRefusal, before: u64) -> Result<
         HostRefusal::Method(request) => write_closing(w, allow_line(request), 405, b"", before),
         HostRefusal::Token => refuse(w, 401, before),
     }
-}
-
-// Writes an answer with a line of its own, behind which the connection is closed.
-fn write_closing<W: Sink>(
-    w: &mut W,
-    own: &[u8],
-    status: u16,
-    body: &[u8],
-    before: u64,
-) -> Result<Served, LinkFault>
-    requires short { length own.now ≤ 50 }
-    requires unfailed { W.failure_count w.old ≤ before }
-    ensures whole { IfOk result (λ served. (served ≡ Served.Closed)
-        × Appends (W.contents w.old) (W.contents w.new) (closing_text own.now status body.now)) }
-    ensures told { TellsWrites W.failure_count W.was_written before w.old w.new result }
-{
-    write_message(w, head_with(own, status, body.len(), true), body, before)?;
-    Ok(Served::Closed)
 }
 
 fn media_line(request: HostRequest) -> &'static [u8]

@@ -3,6 +3,7 @@
 //! - [`serve_one`] reads one request from a stream, asks a [`Service`] if nothing refuses it, and writes the answer.
 //!   [`serve_next`] does this for the requests of a connection, whose bytes an [`Inbox`] takes as they come.
 //! - [`serve_host`] does this for one request of the host, which a [`HostService`] answers.
+//! - [`serve_operator`] does this for one request of a tenant's operator, which an [`OperatorService`] answers.
 //! - [`post`] sends a frame to a peer and reads its answer.
 //! - [`LinkFault`] and [`PostFault`] say why a connection ended.
 #![tactic(auto)]
@@ -11,6 +12,7 @@ mod answer;
 mod bodies;
 mod chunks;
 mod devices;
+mod door;
 mod fields;
 mod grammar;
 mod head;
@@ -22,6 +24,9 @@ mod inbox;
 mod intake;
 pub mod laws;
 mod line_buffer;
+mod operator_request;
+mod operator_serve;
+mod operator_service;
 mod posting;
 mod request;
 mod serve;
@@ -33,6 +38,9 @@ pub use host_request::HostRequest;
 pub use host_serve::serve_host;
 pub use host_service::HostService;
 pub use inbox::{Inbox, serve_next};
+pub use operator_request::{OperatorRequest, OperatorWanted, parted};
+pub use operator_serve::serve_operator;
+pub use operator_service::OperatorService;
 pub use posting::{MAX_PEER_ANSWER, PostFault, post};
 pub use request::{MAX_BODY, RequestKind};
 pub use serve::{Served, serve_one};

@@ -176,8 +176,8 @@ fn serve(reader: &mut Pieces, mut writer: Taken, mut desk: HostDesk) -> Outcome 
     }
 }
 
-// A reader of a stream that is cut there; at the end it gives one byte a read.
-fn reader_of(stream: &[u8], cut: usize) -> Pieces<'_> {
+/// A reader of a stream that is cut there; at the end it gives one byte a read.
+pub(crate) fn reader_of(stream: &[u8], cut: usize) -> Pieces<'_> {
     if cut < stream.len() {
         Pieces::cut_at(stream, cut)
     } else {
