@@ -19,7 +19,7 @@ pub enum Task {
     Replay,
     /// To say whether it is good, and whether a script for it is.
     Check,
-    /// To say whether statements are good and go on, one after another, and what they come to.
+    /// To say whether statements are good and continue one another, and their sums.
     Verify,
     /// To serve so many connections at once, each on a thread of its own, and to end once as many were served for each worker,
     /// if it is to end; and what to tell then.
@@ -49,18 +49,18 @@ pub struct HostWords<'a> {
 pub struct CommandLine<'a> {
     pub task: Task,
     pub setup: &'a str,
-    /// The file of a script that is to be checked.
+    /// The file of the script to check.
     pub script: Option<&'a str>,
     pub workers: usize,
     pub address: &'a str,
     pub host: Option<HostWords<'a>>,
     /// The folder where the statements of closed periods are kept.
     pub folder: Option<&'a str>,
-    /// The files of the statements that are to be verified.
+    /// The files of the statements to verify.
     pub statements: Option<Vec<&'a str>>,
-    /// The file of the setup that the first of them is to begin with.
+    /// The file of the setup with which the first of them must begin.
     pub first: Option<&'a str>,
-    /// The file of the receipts that are to be audited by them.
+    /// The file of the receipts to audit by them.
     pub receipts: Option<&'a str>,
 }
 
@@ -238,7 +238,7 @@ fn with_extent<'a>(alloc: Global, serve: Command<'a>) -> Result<Command<'a>, All
         .arg(service_rounds(alloc))
 }
 
-// What a service prints in the end.
+// What a service prints at the end.
 fn with_reports<'a>(alloc: Global, serve: Command<'a>) -> Result<Command<'a>, AllocError> {
     let balances = "To print in the end what each peer owes, as the command balances does";
     let audit = "To keep a receipt of all that is done, and to audit the receipts in the end";
@@ -267,7 +267,7 @@ fn host_token<'a>(alloc: Global) -> Result<Arg<'a>, AllocError> {
         .requires_arg("host")
 }
 
-// The words of the host's door, of which each wants the other.
+// The words of the host's door, each of which needs the other.
 fn with_host<'a>(alloc: Global, serve: Command<'a>) -> Result<Command<'a>, AllocError> {
     serve.arg(host_address(alloc)?)?.arg(host_token(alloc)?)
 }
@@ -392,7 +392,7 @@ fn line_in<'a>(matches: &ArgMatches<'a>) -> CommandLine<'a>
     }
 }
 
-// A number that is to be from 1 to a greatest one.
+// A number that must be from 1 to a greatest one.
 #[derive(Clone, Copy)]
 struct Limited {
     name: &'static str,
@@ -470,11 +470,12 @@ fn all_within_limits(alloc: Global, matches: &ArgMatches<'_>) -> Result<(), Erro
 /// Reads the words of `ilpd replay SETUP [--workers W] [--statements DIR]`, `ilpd check SETUP [SCRIPT [--workers W]]`,
 /// `ilpd verify [--setup SETUP] [--receipts FILE] FILE..` or
 /// `ilpd serve SETUP --workers W [--connections C] [--rounds N] [--balances] [--audit] [--listen ADDR] [--host ADDR
-/// --host-token FILE] [--statements DIR]`, the program's name first. W is 1 to 64, and 1 for a script where it is left out; C is 1 to 4,096, and
-/// 256 where it is left out; N is 1 to 1,000,000; the ADDR to listen on is 127.0.0.1:7768 where it is left out. There is a
-/// host's door only where both of its words are there.
+/// --host-token FILE] [--statements DIR]`, the program's name first.
 ///
-/// The error has the text for people, of a request for help or the version too, or says that memory was refused.
+/// W is 1 to 64, and 1 for a script by default. C is 1 to 4,096, and 256 by default. N is 1 to 1,000,000. The ADDR to listen on
+/// is 127.0.0.1:7768 by default. There is a host's door only if both of its words are there.
+///
+/// The error has the text for people, also for a request for help or the version, or it is out of memory.
 pub fn arguments<'a>(alloc: Global, words: &'a [String]) -> Result<CommandLine<'a>, Error>
     ensures least { IfOk result (λ line. 1 ≤ line.workers) }
     ensures most { IfOk result (λ line. line.workers ≤ max_seats) }

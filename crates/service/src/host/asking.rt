@@ -30,30 +30,30 @@ pub trait Hosted {
     fn lets_in(&self) -> bool
         ensures { admits self.now result };
 
-    /// Its metrics, read through a seat of its meters. The one error is want of memory.
+    /// Its metrics, read through a seat of its meters. Fails only if it is out of memory.
     fn metrics(&self, seat: &mut MeterSeat) -> Result<Vec<u8>, AllocError>
         requires { seat.old.meters ≡ read self.now }
         ensures told { IfOk result (λ text. measures self.now text.items) }
         ensures same { seat.new ≡ seat.old };
 
-    /// The setup of all tenants as they stand. The one error is want of memory.
+    /// The present setup of all tenants. Fails only if it is out of memory.
     fn present(&self) -> Result<Vec<u8>, AllocError>
         ensures { IfOk result (λ text. presents self.now text.items) };
 
-    /// Lets nobody in any more, and waits until all that is in hand is answered.
+    /// Accepts no more connections, and waits until all requests that came are answered.
     fn stop(&self) -> Deserted;
 
-    /// The setup of all tenants as they stand, where no thread serves connections any more. The one error is want of memory.
+    /// The setup of all tenants after the last thread has ended. Fails only if it is out of memory.
     fn present_last(&self, deserted: Deserted) -> Result<Vec<u8>, AllocError>
         ensures { IfOk result (λ text. presents_last self.now text.items) };
 }
 
-/// Why the host is not told what it asked.
+/// Why the host gets no answer to its question.
 #[derive(Clone, Copy, Debug, PartialEq, Eq)]
 pub enum Untold {
-    /// No connection is let in, which is all that it asked.
+    /// Connections are not let in, and the question was about that alone.
     Closed,
-    /// Memory was refused.
+    /// Out of memory.
     Memory,
 }
 
@@ -79,7 +79,7 @@ fn health<S: Hosted>(service: &S) -> Result<Vec<u8>, Untold>
     Ok(Vec::from_slice(service.alloc(), b"ok\n")?)
 }
 
-/// What the host is told of a request. A stop is answered once no thread serves connections any more.
+/// The answer to a request of the host. A stop is answered after the last thread has ended.
 pub fn told_to_host<S: Hosted>(
     service: &S,
     seat: &mut MeterSeat,

@@ -94,7 +94,7 @@ impl Callers {
     }
 }
 
-// How long the request of a caller may be read where it is to be read now.
+// How long the request of a caller may be read, if it must be read now.
 fn time_to_read(caller: &Caller, now: Instant, room: &mut [u8]) -> Option<Duration> {
     let waited = millis_of(now.saturating_duration_since(caller.came));
     let time = reading_time(has_come(&caller.stream, room), waited)?;
@@ -115,7 +115,7 @@ fn reading_time(has_come: bool, waited: u64) -> Option<u64>
     }
 }
 
-// Whether a request has come whole, or nothing more comes, as far as a look at the bytes tells, which stay where they are.
+// Whether a request has come whole, or nothing more comes, by a look at the bytes, which stay unread.
 fn has_come(stream: &TcpStream, room: &mut [u8]) -> bool {
     match stream.peek(room) {
         Ok(0) => true,

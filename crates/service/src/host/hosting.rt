@@ -184,7 +184,7 @@ impl<H: Wait, J: Run> Gauges for Inspected<'_, H, J> {
 }
 
 impl<H: Wait + Clock, J: Run> Hosted for Inspected<'_, H, J> {
-    // What the door tells may be otherwise the next moment.
+    // The door may be closed or opened the next moment.
     ghost admits = { λ _ _. Unit {0} };
 
     ghost measures = { λ s text. IsMetricsOf s.office.now.names.items text };
@@ -238,7 +238,7 @@ impl<H: Wait + Clock, J: Run> Hosted for Inspected<'_, H, J> {
 }
 
 impl<H: Wait + Net<Stream = TcpStream> + Clock, J: Run> Host<'_, H, J> {
-    // Keeps what is told of a request whose token is right, and gives the status.
+    // Keeps the answer to a request whose token is right, and returns the status.
     fn answer(&mut self, request: HostRequest) -> u16
         ensures told { ((result ≡ 200) × IsToldOf J.openings self.old.office.now request self.new.told.items) ⊎ (result ≡ 503) }
         ensures seat { self.new.seat ≡ self.old.seat }

@@ -15,7 +15,7 @@ use std::alloc::{AllocError, Global};
 use tenant_core::Book;
 use workers::PlaceUse;
 
-/// What is told of a tenant's book.
+/// The figures of a tenant's book.
 #[derive(Clone, Copy)]
 pub struct BookFigures {
     /// The running period, its entries, and how many it has room for.
@@ -56,7 +56,7 @@ pub struct ServiceCounts {
     pub states: bool,
 }
 
-/// What tells the numbers of tenants, as they stand.
+/// The source of the present numbers of tenants.
 pub trait Gauges {
     ghost use Rattle.workers.specs.declared.places.PlaceUse.{PlaceUse};
     ghost use Rattle.service.specs.declared.host.metrics.BookFigures.{BookFigures};
@@ -89,11 +89,11 @@ pub trait Gauges {
     fn refused_tokens(&self, tenant: usize) -> u64
         ensures { tells_tokens self.now tenant result };
 
-    /// How a tenant stands with the places.
+    /// The places of a tenant: its share, those in use, and the packets that wait.
     fn places(&self, tenant: usize) -> PlaceUse
         ensures { tells_places self.now tenant result };
 
-    /// How the book of a tenant stands.
+    /// The figures of a tenant's book.
     fn book(&self, tenant: usize) -> BookFigures
         requires { tenant < tenants self.now }
         ensures { tells_book self.now tenant result };
@@ -103,7 +103,7 @@ pub trait Gauges {
         ensures { tells_statements self.now tenant result };
 }
 
-/// What is told of a book.
+/// The figures of a book.
 pub fn figures_of(book: &Book) -> BookFigures
     ensures { result ≡ figures_of book.now }
 {
@@ -115,7 +115,7 @@ pub fn figures_of(book: &Book) -> BookFigures
     }
 }
 
-// What is told of a tenant of that name.
+// The counts of a tenant of that name.
 fn counts_of<'a, G: Gauges>(
     gauges: &G,
     seat: &mut MeterSeat,
@@ -142,7 +142,7 @@ fn counts_of<'a, G: Gauges>(
     }
 }
 
-/// What is told of the tenants of these names, in their order. The one error is want of memory.
+/// The counts of the tenants of these names, in their order. Fails only if it is out of memory.
 pub fn all_counts<'a, G: Gauges>(
     alloc: Global,
     gauges: &G,
@@ -399,7 +399,7 @@ fn put_each(
     Ok(())
 }
 
-// What is told of the whole service.
+// The lines of the whole service.
 #[tactic(auto, unfolding(crate::specs::Metrics::service_text))]
 fn put_service(alloc: Global, text: &mut Vec<u8>, service: ServiceCounts) -> Result<(), AllocError>
     ensures { OnOk result (text.new.items ≡ text.old.items ++ service_text service) }
@@ -415,7 +415,7 @@ fn bit(holds: bool) -> u64
     u64::from(holds)
 }
 
-// What is told of the tenants.
+// The lines of the tenants.
 #[tactic(auto, unfolding(crate::specs::Metrics::tenants_text))]
 fn put_tenants(
     alloc: Global,
@@ -436,7 +436,7 @@ fn put_tenants(
     put_each(alloc, text, Family::OpenHolds, all)
 }
 
-// What is told of the statements, where some are kept.
+// The lines of the statements, if they are kept.
 fn put_statements(
     alloc: Global,
     text: &mut Vec<u8>,
@@ -451,7 +451,7 @@ fn put_statements(
     Ok(())
 }
 
-/// The metrics of a service and of its tenants. The one error is that memory was refused.
+/// The metrics of a service and of its tenants. Fails only if it is out of memory.
 pub fn metrics_text(
     alloc: Global,
     service: ServiceCounts,

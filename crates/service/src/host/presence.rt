@@ -1,4 +1,4 @@
-//! The setup of a service as it stands.
+//! The present setup of a service.
 
 ghost use Rattle.std.specs.Prelude.{◌≡◌, ◌<◌, ◌≤◌, ℕ, IfOk};
 ghost use Rattle.service.specs.Presence.{ArePresent, IsPresent, IsPresentText};
@@ -10,7 +10,7 @@ use std::alloc::{AllocError, Global};
 use std::sync::Wait;
 use tenant_core::TenantSetup;
 
-// The tenant as it stands, with the token of its operator.
+// The tenant as it is now, with the token of its operator.
 fn present_setup<J: Run>(
     handle: &impl Wait,
     alloc: Global,
@@ -28,7 +28,7 @@ fn present_setup<J: Run>(
         .present_setup(alloc, admin)
 }
 
-// All tenants as they stand, in their order, one looked at after the other.
+// All tenants as they are now, in their order, one after the other.
 fn present_setups<J: Run>(
     handle: &impl Wait,
     alloc: Global,
@@ -44,9 +44,9 @@ fn present_setups<J: Run>(
     Ok(setups)
 }
 
-/// The text of a setup of all tenants as they stand, one looked at after the other: each peer with what it owes now, the
-/// routes, the rates and the limits, and the tokens. What is held is in no balance. The tenants' clocks begin where they
-/// began before. The one error is want of memory.
+/// The text of the present setup of all tenants, one after the other: each peer with what it owes now, the routes, the rates
+/// and the limits, and the tokens. What is held is in no balance. The tenants' clocks begin as they began before. Fails only
+/// if it is out of memory.
 pub fn present_text<J: Run>(
     handle: &impl Wait,
     alloc: Global,

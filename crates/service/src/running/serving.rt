@@ -381,34 +381,38 @@ pub struct Doors<'a> {
     pub host: Option<HostDoor<'a>>,
 }
 
-/// Serves connections, each on a thread of its own, joins the threads once as many were served as are to be, and writes what
-/// the command `balances` would tell of each tenant, where that is wanted, a line for each tenant, and what an audit found, where
-/// one is wanted.
+/// Serves connections, each on a thread of its own, and joins the threads once the planned number was served. Then it writes, if
+/// planned, the lines of the command `balances` for each tenant; a line for each tenant; and, if planned, the audit's line.
 ///
-/// A connection that brings no byte is none of those that are served. A packet that goes on takes one of the places
-/// that the tenants share while it is exchanged with the next peer.
+/// A connection that brings no byte does not count as served. A packet that goes on takes one of the places that the tenants
+/// share, during the exchange with the next peer.
 ///
-/// A line says how many packets and commands of the tenant were answered with which status, and how often its peers gave
-/// no answer: the sums of what the workers have counted, one on each thread, each of which begins with nothing and counts
-/// with each question that it is asked as `HasAnswered` says. It is asked what the requests of its connections ask, in their
-/// order, none passed over, and none behind one that closes a connection.
+/// A tenant's line has the counts of its packets and commands by status, and of exchanges in which a peer gave no answer. They
+/// are the sums of the workers' counts. A worker begins with zeros, and counts each question as `HasAnswered` says. Its questions
+/// are the requests of its connections, in order, none skipped, and none after one that closes a connection.
 ///
-/// All that the workers did to the tenants' books is one list, whatever the threads did: of each tenant it has what led from
-/// the setup to the tenant's book, of each worker what it did, and nothing else; and it is a run of a `Floor` from the setup on
-/// (`Books::gather`).
+/// All that the workers did to the tenants' books is one list, whatever the threads did. Each tenant's part leads from the setup
+/// to the tenant's book, each worker's part is what it did, and it has nothing else. The list is a run of a `Floor` from the
+/// setup (`Books::gather`).
 ///
-/// Where an audit is wanted, each worker keeps a receipt of each entry that it appends, and the periods that it closes, so that
-/// memory grows with what is done. In the end one worker rolls each tenant, and all receipts are checked against all periods:
-/// `audit ok N` tells that these N receipts are complete, and `audit WORD` what is wrong.
+/// For an audit each worker keeps a receipt of each entry that it appends, and the periods that it closes, so memory grows with
+/// the entries. At the end one worker rolls each tenant, and all receipts are checked against all periods. `audit ok N` says that
+/// these N receipts are complete, and `audit WORD` what is wrong.
 ///
-/// Where statements are kept, one is written of each period that a roll closes, before the roll is answered and after its lock is
-/// free again. One that can't be written is tried again at the tenant's next roll and in the end. Then one worker rolls each
-/// tenant, and a line tells each statement that is not kept: `statement NAME PERIOD missing`. Where an audit is wanted too, the
-/// receipts of all workers are written then; where they are not kept, a line tells it: `receipts missing`.
+/// If statements are kept, one is written of each period that a roll closes, after the book's lock is free and before the roll is
+/// answered. One that can't be written is tried again at the tenant's next roll and at the end. At the end one worker rolls each
+/// tenant, and each statement that is not kept has a line: `statement NAME PERIOD missing`. With an audit the receipts of all
+/// workers are written too; the line `receipts missing` says that they are not kept.
 ///
-/// `Memory` where memory was refused, also for the audit alone; `Device` where a thread could not be started, the lines or a statement not be
-/// written, or, unless the host stopped the service, a connection not be accepted; `Differs` where the books in the end are not what the workers have counted, which comes of no lock
-/// that hands out what was left in it; `Audit` where an audit found a fault, or the books differ. The lines are written first, unless no thread was started or memory was refused.
+/// Errors:
+///
+/// - `Memory`: out of memory, also if only the audit is.
+/// - `Device`: a thread could not be started, or the lines or a statement not be written; or a connection not be accepted, unless
+///   the host stopped the service.
+/// - `Differs`: the books at the end are not what the workers counted. No lock that returns what was left in it leads to this.
+/// - `Audit`: an audit found a fault, or the books differ.
+///
+/// The lines are written first, unless no thread was started or it is out of memory.
 pub fn serve<
     H: Threads
         + Wait
@@ -524,7 +528,7 @@ fn tell_ungathered<J: Run, W: Write>(
     Err(end)
 }
 
-// What is told last of such an end.
+// The last line of such an end.
 fn ungathered_line(alloc: Global, end: ServeFault) -> Result<Vec<u8>, AllocError>
     ensures { IfOk result (λ line. line.items ≡ ungathered_line end) }
 {
