@@ -1,11 +1,13 @@
 //! Books of tenants:
 //!
-//! - the limits of their setups and networks, verdicts at the bounds of what was agreed, and what comes back;
+//! - the limits of their setups and networks, verdicts at the bounds of what was agreed, the checks that decide, and what comes
+//!   back;
 //! - closed periods, their audits, their statements, chains of statements and texts of receipts;
 //! - copies, owned entries, and random lists of all of these.
 
 mod audits;
 mod chained;
+mod explained;
 mod limits;
 mod owned;
 mod periods;

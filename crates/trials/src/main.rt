@@ -102,12 +102,16 @@ fn run_closed(
     let script = fs::read(rt, script)?;
     let texts = verified::statements_of(rt.alloc(), setup.as_slice(), script.as_slice())?;
     for text in &texts {
-        match str::from_utf8(text.as_slice()) {
-            Ok(lines) => rt.print(lines)?,
-            Err(_) => return Err(Fault::Steps),
-        }
+        print_lines(rt, text.as_slice())?;
     }
     Ok(())
+}
+
+fn print_lines(rt: &impl Print, text: &[u8]) -> Result<(), Fault> {
+    match str::from_utf8(text) {
+        Ok(lines) => Ok(rt.print(lines)?),
+        Err(_) => Err(Fault::Steps),
+    }
 }
 
 // Writes the statements of a script's periods so many times, or checks them, for bench/periods.
@@ -149,10 +153,7 @@ fn run_receipts(
     };
     let closed = steps::periods(rt.alloc(), setup.as_slice(), script)?;
     let text = audited::receipts_of(rt.alloc(), closed.as_slice())?;
-    match str::from_utf8(text.as_slice()) {
-        Ok(lines) => Ok(rt.print(lines)?),
-        Err(_) => Err(Fault::Steps),
-    }
+    print_lines(rt, text.as_slice())
 }
 
 // The word is how many receipts each tenant has, its roll's included.

@@ -63,8 +63,8 @@ fn day(alloc: Global) -> Result<Period, Fail> {
     day_of(alloc, &mut book)
 }
 
-// The receipt of the period's record of that number.
-fn receipt(alloc: Global, period: &Period, number: usize) -> Result<Receipt, Fail> {
+/// The receipt of the period's record of that number.
+pub fn receipt(alloc: Global, period: &Period, number: usize) -> Result<Receipt, Fail> {
     let spare = Spare::new(alloc, MAX_ADDRESS)?;
     let record = period.records().journal().get(number).ok_or("a record")?;
     Ok(Receipt {

@@ -9,7 +9,7 @@ use statements::{Chain, ChainFault, write_statement};
 use std::alloc::Global;
 use std::process::Abort;
 use std::test::Fail;
-use tenant_core::{AnswerKey, Book, Period, Verdict};
+use tenant_core::{AnswerKey, Book, Verdict};
 
 fn order(alloc: Global, book: &mut Book, words: &str) -> Result<(), Fail> {
     let command = match parse_command(alloc, words.as_bytes()) {
@@ -29,28 +29,46 @@ fn fulfil(book: &mut Book, hold: u64) -> Result<(), Fail> {
     }
 }
 
-// A packet without a fee; one with a fee, and money that was paid; a peer that comes and goes, and a packet that is rejected.
-fn periods(alloc: Global) -> Result<[Period; 3], Fail> {
-    let mut book = book(alloc, 64, USUAL, START)?;
-    fulfil(&mut book, 0)?;
-    let first = closed(alloc, &mut book)?;
-    order(alloc, &mut book, "route remove g.acme.bob")?;
-    order(alloc, &mut book, "route add g.acme.bob p1 500")?;
-    fulfil(&mut book, 1)?;
-    order(alloc, &mut book, "settle in p0 700")?;
-    order(alloc, &mut book, "settle out p1 2600")?;
-    let second = closed(alloc, &mut book)?;
+// The statement of the period, which is closed.
+fn stated(alloc: Global, book: &mut Book) -> Result<Vec<u8>, Fail> {
+    let period = closed(alloc, book)?;
+    Ok(write_statement(alloc, &period)?)
+}
+
+// A packet without a fee.
+fn without_fee(alloc: Global, book: &mut Book) -> Result<Vec<u8>, Fail> {
+    fulfil(book, 0)?;
+    stated(alloc, book)
+}
+
+// A packet with a fee, and money that was paid.
+fn with_fee(alloc: Global, book: &mut Book) -> Result<Vec<u8>, Fail> {
+    order(alloc, book, "route remove g.acme.bob")?;
+    order(alloc, book, "route add g.acme.bob p1 500")?;
+    fulfil(book, 1)?;
+    order(alloc, book, "settle in p0 700")?;
+    order(alloc, book, "settle out p1 2600")?;
+    stated(alloc, book)
+}
+
+// A peer that comes and goes, and a packet that is rejected.
+fn with_guest(alloc: Global, book: &mut Book) -> Result<Vec<u8>, Fail> {
     order(
         alloc,
-        &mut book,
+        book,
         "peer add p2 child token-2 http://127.0.0.1:7803/ilp out-2 EUR 9 1500 1000000 1000000 100 100",
     )?;
-    order(alloc, &mut book, "peer remove p2")?;
-    send(&mut book, START)?;
-    answer(&mut book, 2, START + 1, AnswerKey::Rejected)?.ok();
-    tick(&mut book, START + 1)?.ok();
-    let third = closed(alloc, &mut book)?;
-    Ok([first, second, third])
+    order(alloc, book, "peer remove p2")?;
+    reject(book, 2)?;
+    stated(alloc, book)
+}
+
+// A packet of 1,000 goes on, and is rejected.
+fn reject(book: &mut Book, hold: u64) -> Result<(), Fail> {
+    send(book, START)?;
+    answer(book, hold, START + 1, AnswerKey::Rejected)?.ok();
+    tick(book, START + 1)?.ok();
+    Ok(())
 }
 
 // 1,000 of p0's units cost 1,500 of p1's. Fulfilled were 2,000 of p0's: 1,500 went on, and then 1,500 less the fee of 500.
@@ -62,10 +80,11 @@ peer 2 p2 began 0 ended 0 packets-in 0 fulfilled-in 0 settled-in 0 packets-out 0
 
 // The statements of the three periods, and of another tenant's.
 fn texts(alloc: Global) -> Result<Vec<Vec<u8>>, Fail> {
+    let mut book = book(alloc, 64, USUAL, START)?;
     let mut texts = Vec::new(alloc);
-    for period in &periods(alloc)? {
-        texts.push(write_statement(alloc, period)?)?;
-    }
+    texts.push(without_fee(alloc, &mut book)?)?;
+    texts.push(with_fee(alloc, &mut book)?)?;
+    texts.push(with_guest(alloc, &mut book)?)?;
     texts.push(write_statement(alloc, &period_of_each(alloc)?)?)?;
     Ok(texts)
 }
@@ -146,9 +165,10 @@ fn a_chain_goes_on_after_a_refusal(rt: HostRuntime) -> Result<(), Fail> {
     let alloc = rt.alloc();
     let texts = texts(alloc)?;
     let mut chain = Chain::new(alloc);
-    assert!(rt; fault_of(alloc, &mut chain, texts[0].as_slice())?.is_none());
-    assert!(rt; fault_of(alloc, &mut chain, texts[0].as_slice())?.is_some());
+    let again = first_fault(alloc, &mut chain, texts.as_slice(), &[0, 0])?;
+    assert!(rt; matches!(again, Some((1, _))));
     assert!(rt; fault_of(alloc, &mut chain, b"statement 1\n")?.is_some());
-    assert!(rt; fault_of(alloc, &mut chain, texts[1].as_slice())?.is_none());
+    let after = first_fault(alloc, &mut chain, texts.as_slice(), &[1])?;
+    assert!(rt; after.is_none());
     Ok(())
 }

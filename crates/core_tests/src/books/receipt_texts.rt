@@ -1,10 +1,9 @@
 //! Texts of receipts: what is written of complete ones is audited, and what is changed is not.
 
+use super::audits::receipt;
 use super::owned::period_of_each;
-use common_types::Spare;
-use ilp_addr::MAX_ADDRESS;
 use receipt_text::{ReceiptsFault, check_receipts, write_receipts};
-use receipts::{AuditFault, Receipt};
+use receipts::AuditFault;
 use std::alloc::Global;
 use std::process::Abort;
 use std::slice;
@@ -21,18 +20,6 @@ worker 2
 0 0 1 1893456000001 reject 0 = relay
 0 0 3 1893456000001 route remove g.acme.bob
 ";
-
-fn receipt(alloc: Global, period: &Period, number: usize) -> Result<Receipt, Fail> {
-    let spare = Spare::new(alloc, MAX_ADDRESS)?;
-    let record = period.records().journal().get(number).ok_or("a record")?;
-    Ok(Receipt {
-        tenant: period.tenant(),
-        period: period.number(),
-        number: number as u64,
-        entry: record.entry.to_entry(spare),
-        verdict: record.outcome,
-    })
-}
 
 // The receipts of the records of a period, which two workers keep by turns.
 fn text_of(alloc: Global, period: &Period) -> Result<Vec<u8>, Fail> {
