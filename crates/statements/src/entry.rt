@@ -1,4 +1,4 @@
-//! An entry, as it is taken off a record's line. What it led to is not read, since it is told again.
+//! The entry of a record's line. Its outcome is not read, since the checker computes it again.
 
 use crate::terms::{bucket_in, hop_in, limits_in, prefix_in, rate_in, terms_in};
 use crate::words::LineWords;
@@ -113,7 +113,7 @@ fn change_in(
     }
 }
 
-/// The entry that a line tells, where the next peer that is added gets that number.
+/// The entry of a line, if the next peer that is added gets that number.
 pub fn entry_in(
     alloc: Global,
     line: &[u8],

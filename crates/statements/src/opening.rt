@@ -88,7 +88,7 @@ fn set_rate(network: &mut Network, words: &mut LineWords<'_>) -> Read<()> {
     network.set_rate(&rate).map_err(refused)
 }
 
-// Adds what a line tells of the network; `false` where it tells nothing of it.
+// Adds a line of the network; `false` if it is no such line.
 fn add_line(alloc: Global, network: &mut Network, clock: u64, line: &[u8]) -> Read<bool> {
     let mut words = LineWords::of(line);
     let verb = words.next().ok_or(BAD)?;
