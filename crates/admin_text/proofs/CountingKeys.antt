@@ -3,9 +3,9 @@ use Rattle.std.proofs.Common.{◌≡◌, Option, Some, None, refl, ap, ◌∙◌
 use Rattle.toml.specs.Data.{Members}
 use Rattle.tenant_core.specs.Network.{Net}
 use Rattle.admin_text.specs.Keys.{string_under, under, address_under, integer_under, number_under, between_under}
-use Rattle.admin_text.specs.Keys.{integer_or, number_or, array_under, items_under, peer_terms_of, balance_of}
+use Rattle.admin_text.specs.Keys.{integer_or, number_or, array_under, items_under, peer_terms_of, starting_balance}
 use Rattle.admin_text.specs.KeyLaws.{AgreeAt, KeyLaws}
-use Rattle.admin_text.specs.Networks.{network_of, peer_under, fee_of, rate_of, with_peer_of, with_route_of, with_rate_of}
+use Rattle.admin_text.specs.Networks.{network_in_table, peer_under, fee_of, rate_of, with_peer_of, with_route_of, with_rate_of}
 use Rattle.admin_text.specs.Setup.{setup_by, setup_of_table, version_of}
 use Rattle.admin_text.specs.Versions.{top_keys, keys_of}
 use Rattle.admin_text.specs.TenantTable.{tenant_of_table}
@@ -25,12 +25,12 @@ top_agrees t u h = ap (λ (o : Option Version). setup_by o t) version ∙ by (ve
     by (Some v) = rw (h.1.0, h.1.1.0) refl
 
 tenant_agrees : (version : Version) (t u : Members) → AgreeAt (keys_of version Tenant) t u → tenant_of_table version t ≡ tenant_of_table version u
-unfolding tenant_of_table network_of items_under array_under under address_under number_or number_under integer_under string_under
+unfolding tenant_of_table network_in_table items_under array_under under address_under number_or number_under integer_under string_under
 tenant_agrees version t u h =
     rw (h.0, h.1.0, h.1.1.0, h.1.1.1.0, h.1.1.1.1.0, h.1.1.1.1.1.0, h.1.1.1.1.1.1.0, h.1.1.1.1.1.1.1.0, h.1.1.1.1.1.1.1.1.0) refl
 
 peer_agrees : (version : Version) (net : Net) (t u : Members) → AgreeAt (keys_of version Peer) t u → with_peer_of net t ≡ with_peer_of net u
-unfolding peer_terms_of balance_of under number_under between_under integer_or integer_under string_under
+unfolding peer_terms_of starting_balance under number_under between_under integer_or integer_under string_under
 peer_agrees version net t u h =
     let a = h.1.1.1.1 in
     let b = a.1.1.1.1 in

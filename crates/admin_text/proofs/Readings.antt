@@ -23,8 +23,8 @@ use Rattle.tenant_core.specs.declared.limits.TheConstants.{MAX_BURST, MAX_PER_SE
 use Rattle.tenant_core.specs.declared.terms.BucketTerms.{BucketTerms}
 use Rattle.tenant_core.specs.declared.terms.PeerLimits.{PeerLimits}
 use Rattle.admin_text.specs.Prefixes.{written_prefix}
-use Rattle.admin_text.specs.Fields.{Field, WORD, NUMBER, ROLE, PREFIX, TARGET, PAIR, FEE, LIMITS, BUCKET, Said, AllSaid, IsSpelled, AreSpelled, role_word, limits_with, bucket_with}
-use Rattle.admin_text.specs.Fields.{argument, number_or_fault, role_in, pair_in, with_others, of_one, of_two, number_taken, taken, ended, all_taken}
+use Rattle.admin_text.specs.Fields.{Field, WORD, NUMBER, ROLE, PREFIX, TARGET, PAIR, FEE, LIMITS, BUCKET, Said, AllSaid, IsSpelled, SpellFields, role_word, limits_with, bucket_with}
+use Rattle.admin_text.specs.Fields.{argument, number_or_fault, role_in, pair_in, with_others, of_one, of_two, number_taken, field_taken, ended, all_taken}
 use Rattle.admin_text.specs.declared.commands.TextFault.{TextFault}
 use Rattle.admin_text.specs.declared.commands.TextFault.TheVariants.{Argument}
 
@@ -121,8 +121,8 @@ number_is_there laws low high small words r h =
     let m = laws.numbers.read_is_numeral low high k.0 r.0 small (number_is (number_in low high k.0) r.0 k.2) in
     (k.1 ∙ ap (λ (w : List ℕ). w ∷ r.1) m.0, m.1)
 
-field_is : Known → (f : Field) → IsSmall f → (words : List (List ℕ)) (r : Said f × List (List ℕ)) → taken f words ≡ Ok r → IsSpelled f r.0 words r.1
-unfolding taken
+field_is : Known → (f : Field) → IsSmall f → (words : List (List ℕ)) (r : Said f × List (List ℕ)) → field_taken f words ≡ Ok r → IsSpelled f r.0 words r.1
+unfolding field_taken
 field_is laws (WORD test) small words r h =
     let k = one _ words r h in
     let m = chosen (test k.0) k.0 r.0 k.2 in
@@ -178,13 +178,13 @@ unfolding ended
 none_left [] u h = refl
 none_left (word ∷ words) u h = absurd cc
 
-pub all_are : Known → (fields : List Field) → AreSmall fields → (words : List (List ℕ)) (values : AllSaid fields) → all_taken fields words ≡ Ok values → AreSpelled fields values words
+pub all_are : Known → (fields : List Field) → AreSmall fields → (words : List (List ℕ)) (values : AllSaid fields) → all_taken fields words ≡ Ok values → SpellFields fields values words
 all_are laws [] small words values h = none_left words values h
 all_are laws (f ∷ fields) small words values h =
-    let a = bound (taken f words) _ values h in
+    let a = bound (field_taken f words) _ values h in
     let b = bound (all_taken fields a.0.1) _ values a.2 in
     let e : (a.0.0, b.0) ≡ values = cc in
-    subst (λ (vs : AllSaid (f ∷ fields)). AreSpelled (f ∷ fields) vs words) e (a.0.1, field_is laws f small.0 words a.0 a.1, all_are laws fields small.1 a.0.1 b.0 b.1)
+    subst (λ (vs : AllSaid (f ∷ fields)). SpellFields (f ∷ fields) vs words) e (a.0.1, field_is laws f small.0 words a.0 a.1, all_are laws fields small.1 a.0.1 b.0 b.1)
 
 -- ---- what is spelled is read
 
@@ -192,8 +192,8 @@ number_there : Known → (low high n : ℕ) → high < 2 ^ 64 → is_between low
 unfolding number_taken
 number_there laws low high n small h others = rw (laws.numbers.numeral_is_read low high n small h) refl
 
-field_read : Known → (f : Field) → IsSmall f → (value : Said f) (words others : List (List ℕ)) → IsSpelled f value words others → taken f words ≡ Ok (value, others)
-unfolding taken
+field_read : Known → (f : Field) → IsSmall f → (value : Said f) (words others : List (List ℕ)) → IsSpelled f value words others → field_taken f words ≡ Ok (value, others)
+unfolding field_taken
 field_read laws (WORD test) small value words others h = rw (h.0, h.1) refl
 field_read laws (NUMBER low high) small value words others h = rw (h.0, number_there laws low high value small h.1 others) refl
 field_read laws LIMITS small value words others h =
@@ -214,7 +214,7 @@ field_read laws PAIR small value words others h = rw (h.0, h.1.0, h.1.1, h.1.2) 
 field_read laws (FEE high) small value words others (inl h) = rw (h.1, h.0, h.2) refl
 field_read laws (FEE high) small value words others (inr h) = rw (h.0, laws.numbers.numeral_is_read 0 high value small h.1) refl
 
-pub all_read : Known → (fields : List Field) → AreSmall fields → (words : List (List ℕ)) (values : AllSaid fields) → AreSpelled fields values words → all_taken fields words ≡ Ok values
+pub all_read : Known → (fields : List Field) → AreSmall fields → (words : List (List ℕ)) (values : AllSaid fields) → SpellFields fields values words → all_taken fields words ≡ Ok values
 unfolding ended
 all_read laws [] small words values h = rw h refl
 all_read laws (f ∷ fields) small words values h =

@@ -20,7 +20,7 @@ use Rattle.tenant_core.specs.Network.{Net}
 use Rattle.tenant_core.specs.declared.terms.TenantTerms.{TenantTerms}
 use Rattle.admin_text.specs.Anew.{net_anew, anew}
 use Rattle.admin_text.specs.Keys.{array_under}
-use Rattle.admin_text.specs.Networks.{network_of}
+use Rattle.admin_text.specs.Networks.{network_in_table}
 use Rattle.admin_text.specs.declared.version.Version.{Version}
 use Rattle.admin_text.proofs.SetupsAnew.{bound, network_anew}
 
@@ -30,7 +30,7 @@ tenant_anew : (version : Version) (m : Members) (t : TenantTerms) → tenant_of_
 unfolding tenant_of_table
 tenant_anew version m t e =
     let own = bound (own_terms_of m) _ t e in
-    let net = bound (network_of version m) _ t own.2 in
+    let net = bound (network_in_table version m) _ t own.2 in
     let network = ap (λ (o : Option TenantTerms). option_map_or (λ (x : TenantTerms). x.network) o net.0) net.2 in
     let same : net_anew t.network ≡ t.network = subst (λ (n : Net). net_anew n ≡ n) network (network_anew version m net.0 net.1) in
     λ i. record t { network = same i }

@@ -21,8 +21,8 @@ use Rattle.tenant_core.specs.declared.faults.CommandFault.{CommandFault}
 use Rattle.tenant_core.specs.declared.peer.Peer.{Peer}
 use Rattle.tenant_core.specs.declared.terms.RateTerms.{RateTerms}
 use Rattle.admin_text.specs.Anew.{peers_from, number_anew, hop_anew, routes_anew, rate_anew, net_anew}
-use Rattle.admin_text.specs.Keys.{string_under, name_under, number_under, items_under, peer_terms_of, balance_of}
-use Rattle.admin_text.specs.Networks.{no_level, unless, peer_under, fee_of, with_peer_in, with_peer_of, with_peers_of, with_route_of, with_route_in, with_routes_of, rate_of, with_rate_of, with_rate_in, with_rates_of, network_of}
+use Rattle.admin_text.specs.Keys.{string_under, name_under, number_under, items_under, peer_terms_of, starting_balance}
+use Rattle.admin_text.specs.Networks.{no_level, unless, peer_under, fee_of, with_peer_in, with_peer_of, with_peers_of, with_route_of, with_route_in, with_routes_of, rate_of, with_rate_of, with_rate_in, with_rates_of, network_in_table}
 use Rattle.admin_text.specs.Prefixes.{written_prefix}
 use Rattle.admin_text.specs.declared.version.Version.{Version}
 use Rattle.admin_text.proofs.TellsRoutes.{found_mapped, same_routes}
@@ -145,7 +145,7 @@ peers_anew net (item d ds) more k e =
     let a = bound (with_peer_in net d) (λ x. with_peers_of x ds) more e in
     let t = bound (as_table d) (with_peer_of net) a.0 a.1 in
     let terms = bound (peer_terms_of t.0) _ a.0 t.2 in
-    let balance = bound (balance_of t.0) _ a.0 terms.2 in
+    let balance = bound (starting_balance t.0) _ a.0 terms.2 in
     let is = allowed (peer_refusal net terms.0) (with_peer net terms.0 balance.0 no_level) a.0 balance.2 in
     peers_anew a.0 ds more (subst IsAnew is (peer_anew net (record { number = net.next_peer; terms = terms.0; balance = balance.0; bucket = no_level }) k refl refl)) a.2
 
@@ -228,8 +228,8 @@ rates_still net (item d ds) more k e =
     let is = allowed (rate_refusal net r.0) (with_rate net r.0) a.0 r.2 in
     rates_still a.0 ds more (subst IsAnew is (rate_still net r.0 k (rate_below net k t.0 r.0 r.1))) a.2
 
-pub network_anew : (version : Version) (t : Members) (net : Net) → network_of version t ≡ Some net → net_anew net ≡ net
-unfolding network_of
+pub network_anew : (version : Version) (t : Members) (net : Net) → network_in_table version t ≡ Some net → net_anew net ≡ net
+unfolding network_in_table
 network_anew version t net e =
     let peers = bound (items_under (codes "peer") t) _ net e in
     let routes = bound (items_under (codes "route") t) _ net peers.2 in

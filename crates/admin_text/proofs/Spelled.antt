@@ -13,7 +13,7 @@ use Rattle.admin_text.specs.declared.commands.Verb.{Verb}
 use Rattle.admin_text.specs.declared.commands.Verb.TheVariants.{RouteAdd}
 use Rattle.common_types.specs.Numbers.{is_between}
 use Rattle.std.specs.Fmt.{decimal}
-use Rattle.admin_text.specs.Fields.{Field, WORD, NUMBER, ROLE, PREFIX, TARGET, PAIR, FEE, LIMITS, BUCKET, Said, AllSaid, field_words, all_words, IsWithin, AreWithin, IsSpelled, AreSpelled}
+use Rattle.admin_text.specs.Fields.{Field, WORD, NUMBER, ROLE, PREFIX, TARGET, PAIR, FEE, LIMITS, BUCKET, Said, AllSaid, field_words, all_words, IsWithinField, AreWithin, IsSpelled, SpellFields}
 use Rattle.admin_text.specs.Commands.{fields, said, command_words, IsWritten, IsCommandText}
 
 -- a star is no prefix
@@ -40,7 +40,7 @@ fee_written : (high n : ℕ) (others : List (List ℕ)) (b : Bool) → eqb n 0 �
 fee_written high n others true zero h last = inl (eqb-true n 0 zero, last, last)
 fee_written high n others false zero h last = inr (refl, h)
 
-field_written : PrefixWordLaws → (f : Field) (value : Said f) (others : List (List ℕ)) → IsWithin f value → IsAtEnd f others
+field_written : PrefixWordLaws → (f : Field) (value : Said f) (others : List (List ℕ)) → IsWithinField f value → IsAtEnd f others
     → IsSpelled f value (field_words f value ++ others) others
 field_written laws PREFIX p others h last = (prefix_word p, refl, prefix_again laws p h, h)
 field_written laws (FEE high) n others h last = fee_written high n others (eqb n 0) refl h last
@@ -72,7 +72,7 @@ in_order LIMITS fields order = order
 in_order BUCKET fields order = order
 
 all_written : PrefixWordLaws → (fields : List Field) (values : AllSaid fields) → AreInOrder fields → AreWithin fields values
-    → AreSpelled fields values (all_words fields values)
+    → SpellFields fields values (all_words fields values)
 all_written laws [] values order h = refl
 all_written laws (f ∷ fields) values order h = (
   all_words fields values.1,

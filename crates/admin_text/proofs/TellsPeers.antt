@@ -25,8 +25,8 @@ use Rattle.tenant_core.specs.declared.peer.Peer.{Peer}
 use Rattle.tenant_core.specs.declared.terms.PeerTerms.{PeerTerms}
 use Rattle.admin_text.specs.Anew.{peers_from}
 use Rattle.admin_text.specs.Fields.{role_word}
-use Rattle.admin_text.specs.Keys.{string_under, integer_under, number_under, between_under, integer_or, role_of, under, peer_terms_of, balance_of}
-use Rattle.admin_text.specs.Made.{peer_members, number}
+use Rattle.admin_text.specs.Keys.{string_under, integer_under, number_under, between_under, integer_or, role_of, under, peer_terms_of, starting_balance}
+use Rattle.admin_text.specs.Made.{peer_members, number_data}
 use Rattle.admin_text.specs.Networks.{no_level, with_peers_of}
 use Rattle.admin_text.specs.Told.{AllTold, IsKnown, TellsPeer}
 
@@ -36,7 +36,7 @@ pub text_there : (key : List ℕ) (ms : Members) (s : List ℕ) → get_member k
 unfolding string_under
 text_there key ms s e = rw e refl
 
-pub word_there : (key : List ℕ) (ms : Members) (n : ℕ) → get_member key ms ≡ Some (number n) → n ≤ max_money → number_under key ms ≡ Some n
+pub word_there : (key : List ℕ) (ms : Members) (n : ℕ) → get_member key ms ≡ Some (number_data n) → n ≤ max_money → number_under key ms ≡ Some n
 unfolding number_under integer_under
 word_there key ms n e h =
     let below : nat_lt n (2 ^ 64) ≡ true = grind (arith, nat_tests) in
@@ -45,7 +45,7 @@ word_there key ms n e h =
 pub most : (low high n : ℕ) → is_between low high n ≡ true → n ≤ high
 most low high n e = grind (arith, nat_tests)
 
-pub between_there : (low high : ℕ) (key : List ℕ) (ms : Members) (n : ℕ) → get_member key ms ≡ Some (number n) → is_between low high n ≡ true → high ≤ max_money → between_under low high key ms ≡ Some n
+pub between_there : (low high : ℕ) (key : List ℕ) (ms : Members) (n : ℕ) → get_member key ms ≡ Some (number_data n) → is_between low high n ≡ true → high ≤ max_money → between_under low high key ms ≡ Some n
 unfolding between_under
 between_there low high key ms n e h fits =
     let small = most low high n h in
@@ -88,8 +88,8 @@ terms_read laws p k =
       between_there 0 1_000_000 (codes "per_second") ms p.terms.bucket.per_second refl bucket.1 (omega arith),
     ) refl
 
-pub balance_read : (p : Peer) → IsKnown p → balance_of (peer_members p) ≡ Some p.balance
-unfolding balance_of integer_or integer_under peer_members
+pub balance_read : (p : Peer) → IsKnown p → starting_balance (peer_members p) ≡ Some p.balance
+unfolding starting_balance integer_or integer_under peer_members
 balance_read p k = rw k.1 refl
 
 -- ---- all peers

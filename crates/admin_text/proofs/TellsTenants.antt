@@ -24,8 +24,8 @@ use Rattle.tenant_core.specs.declared.terms.RateTerms.{RateTerms}
 use Rattle.tenant_core.specs.declared.terms.TenantTerms.{TenantTerms}
 use Rattle.admin_text.specs.Anew.{peers_from, routes_anew, net_anew, anew, AreTenants}
 use Rattle.admin_text.specs.Keys.{items_under, array_under, address_under, under, number_or}
-use Rattle.admin_text.specs.Made.{peer_members, route_members, rate_members, tenant_members, setup_members, number}
-use Rattle.admin_text.specs.Networks.{network_of}
+use Rattle.admin_text.specs.Made.{peer_members, route_members, rate_members, tenant_members, setup_members, number_data}
+use Rattle.admin_text.specs.Networks.{network_in_table}
 use Rattle.admin_text.specs.Setup.{setup_of, setup_of_table}
 use Rattle.admin_text.specs.TenantTable.{own_terms_of, tenant_of_table}
 use Rattle.admin_text.specs.Tenants.{is_there, next_tenant, tenants_of_items, tenants_of_array}
@@ -50,8 +50,8 @@ pub record Laws : Type 0 where
 
 -- ---- a network
 
-network_read : Laws → (t : TenantTerms) (ps rs qs : Items) → TellsNetwork ps rs qs t.network → network_of Two (tenant_members t ps rs qs) ≡ Some (net_anew t.network)
-unfolding network_of items_under array_under tenant_members
+network_read : Laws → (t : TenantTerms) (ps rs qs : Items) → TellsNetwork ps rs qs t.network → network_in_table Two (tenant_members t ps rs qs) ≡ Some (net_anew t.network)
+unfolding network_in_table items_under array_under tenant_members
 network_read laws t ps rs qs n =
     let net : Net = t.network in
     let now : Net = record { next_peer = length net.peers; peers = peers_from 0 net.peers; routes = empty; rates = [] } in
@@ -69,7 +69,7 @@ within_from : (t : TenantTerms) → is_tenant_setup t ≡ true
     × (t.journal ≤ max_money) × (t.margin ≤ max_money) × (t.hold ≤ max_money)
 within_from t e = (grind (arith, nat_tests), grind (arith, nat_tests), grind (arith, nat_tests), grind (arith, nat_tests), grind (arith, nat_tests), grind (arith, nat_tests))
 
-number_or_there : (default : ℕ) (key : List ℕ) (ms : Members) (n : ℕ) → get_member key ms ≡ Some (number n) → n ≤ max_money → number_or default key ms ≡ Some n
+number_or_there : (default : ℕ) (key : List ℕ) (ms : Members) (n : ℕ) → get_member key ms ≡ Some (number_data n) → n ≤ max_money → number_or default key ms ≡ Some n
 unfolding number_or
 number_or_there default key ms n e h = rw (e, word_there key ms n e h) refl
 

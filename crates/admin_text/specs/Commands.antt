@@ -11,7 +11,7 @@ use Rattle.tenant_core.specs.declared.command.Order.TheVariants.{AddPeer, Remove
 use Rattle.tenant_core.specs.declared.command.Order.TheVariants.{AddRoute, RemoveRoute, SetRate, Settle}
 use Rattle.tenant_core.specs.declared.command.Side.TheVariants.{In, Out}
 use Rattle.admin_text.specs.Fields.{Field, NAME, AMOUNT, TERM, PREFIX, PAIR, FEE, LIMITS, BUCKET}
-use Rattle.admin_text.specs.Fields.{◌&◌, AllSaid, AreSpelled, AreWithin, all_words, taken, all_taken}
+use Rattle.admin_text.specs.Fields.{◌&◌, AllSaid, SpellFields, AreWithin, all_words, field_taken, all_taken}
 use Rattle.admin_text.specs.PeerFields.{fields_of, peer_rows, peer_with, peer_values}
 use Rattle.admin_text.specs.declared.commands.TextFault.{TextFault}
 use Rattle.admin_text.specs.declared.commands.TextFault.TheVariants as fault
@@ -94,7 +94,7 @@ said (command.Order (Settle name Out amount)) = (SettleOut, name & amount & tt)
 -- the words of the verb, and after them those that spell its fields
 abbrev pub AreWordsOf : (v : Verb) × AllSaid (fields v) → List (List ℕ) → Type 0
 AreWordsOf s words =
-    (others : List (List ℕ)) × (words ≡ verb_words s.0 ++ others) × AreSpelled (fields s.0) s.1 others
+    (others : List (List ℕ)) × (words ≡ verb_words s.0 ++ others) × SpellFields (fields s.0) s.1 others
 
 -- the text spells the command
 abbrev pub IsCommandText : List ℕ → Command → Type 0
@@ -146,8 +146,8 @@ command_in text = command_among (words_of text)
 
 -- the words after the verb of a route begin with a prefix
 abbrev pub TakesMemory : Verb → List (List ℕ) → Type 0
-TakesMemory RouteAdd words = IsOk (taken PREFIX words)
-TakesMemory RouteRemove words = IsOk (taken PREFIX words)
+TakesMemory RouteAdd words = IsOk (field_taken PREFIX words)
+TakesMemory RouteRemove words = IsOk (field_taken PREFIX words)
 TakesMemory _ words = ⊥
 
 -- words begin with the verb of a route, and then a prefix

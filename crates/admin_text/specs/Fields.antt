@@ -106,16 +106,16 @@ field_words LIMITS l = map decimal (limit_numbers l)
 field_words BUCKET b = map decimal (bucket_numbers b)
 
 -- it is within the limits of its field
-abbrev pub IsWithin : (f : Field) → Said f → Type 0
-IsWithin (WORD test) word = test word ≡ true
-IsWithin (NUMBER low high) n = is_between low high n ≡ true
-IsWithin ROLE r = Unit {0}
-IsWithin PREFIX p = IsPrefix p
-IsWithin TARGET t = IsTarget t.url t.token t
-IsWithin (FEE high) n = is_between 0 high n ≡ true
-IsWithin LIMITS l = AllByRecursion (λ n. is_between 0 MAX_MONEY n ≡ true) (limit_numbers l)
-IsWithin BUCKET b = (is_between 1 MAX_BURST b.burst ≡ true) × (is_between 0 MAX_PER_SECOND b.per_second ≡ true)
-IsWithin PAIR p = (is_name p.from ≡ true) × (is_name p.to ≡ true) × (bytes_eq p.from p.to ≡ false)
+abbrev pub IsWithinField : (f : Field) → Said f → Type 0
+IsWithinField (WORD test) word = test word ≡ true
+IsWithinField (NUMBER low high) n = is_between low high n ≡ true
+IsWithinField ROLE r = Unit {0}
+IsWithinField PREFIX p = IsPrefix p
+IsWithinField TARGET t = IsTarget t.url t.token t
+IsWithinField (FEE high) n = is_between 0 high n ≡ true
+IsWithinField LIMITS l = AllByRecursion (λ n. is_between 0 MAX_MONEY n ≡ true) (limit_numbers l)
+IsWithinField BUCKET b = (is_between 1 MAX_BURST b.burst ≡ true) × (is_between 0 MAX_PER_SECOND b.per_second ≡ true)
+IsWithinField PAIR p = (is_name p.from ≡ true) × (is_name p.to ≡ true) × (bytes_eq p.from p.to ≡ false)
 
 -- words begin with a spelling of it, and the others follow: a prefix has one spelling more, with a dot at its end, and so has a
 -- fee of 0, which may be spelled or left out
@@ -124,7 +124,7 @@ IsSpelled PREFIX p words others =
     (word : List ℕ) × (words ≡ word ∷ others) × (written_prefix word ≡ Some p) × IsPrefix p
 IsSpelled (FEE high) n words others =
     ((n ≡ 0) × (words ≡ []) × (others ≡ [])) ⊎ ((words ≡ decimal n ∷ others) × (is_between 0 high n ≡ true))
-IsSpelled f value words others = (words ≡ field_words f value ++ others) × IsWithin f value
+IsSpelled f value words others = (words ≡ field_words f value ++ others) × IsWithinField f value
 
 -- ---- several fields, one after the other
 
@@ -146,19 +146,19 @@ all_words (f ∷ fields) values = field_words f values.0 ++ all_words fields val
 -- each is within its limits
 abbrev pub AreWithin : (fields : List Field) → AllSaid fields → Type 0
 AreWithin [] values = Unit {0}
-AreWithin (f ∷ fields) values = IsWithin f values.0 × AreWithin fields values.1
+AreWithin (f ∷ fields) values = IsWithinField f values.0 × AreWithin fields values.1
 
 -- the words spell them, and none is left
-abbrev pub AreSpelled : (fields : List Field) → AllSaid fields → List (List ℕ) → Type 0
-AreSpelled [] values words = words ≡ []
-AreSpelled (f ∷ fields) values words =
-    (others : List (List ℕ)) × IsSpelled f values.0 words others × AreSpelled fields values.1 others
+abbrev pub SpellFields : (fields : List Field) → AllSaid fields → List (List ℕ) → Type 0
+SpellFields [] values words = words ≡ []
+SpellFields (f ∷ fields) values words =
+    (others : List (List ℕ)) × IsSpelled f values.0 words others × SpellFields fields values.1 others
 
 -- ---- what is written
 
 -- its words follow those of a text, and it is within its limits
 abbrev pub IsPut : (f : Field) → Said f → List ℕ → List ℕ → Type 0
-IsPut f value before after = (words_of after ≡ words_of before ++ field_words f value) × IsWithin f value
+IsPut f value before after = (words_of after ≡ words_of before ++ field_words f value) × IsWithinField f value
 
 -- ---- what is read of words
 
@@ -232,16 +232,16 @@ bucket_taken words = do
   Ok (bucket_with first.0 second.0, second.1)
 
 -- the value of a field at the front of words, and the words after it
-unfoldable pub taken : (f : Field) → List (List ℕ) → Result (Said f × List (List ℕ)) TextFault
-taken (WORD test) words = of_one (λ word. if test word then Ok word else Err Argument) words
-taken (NUMBER low high) words = number_taken low high words
-taken ROLE words = of_one role_in words
-taken PREFIX words = of_one (λ word. argument (written_prefix word)) words
-taken TARGET words = of_two (λ url token. argument (target_in url token)) words
-taken PAIR words = of_two pair_in words
-taken (FEE high) words = of_any 0 (λ word. number_or_fault (number_in 0 high word)) words
-taken LIMITS words = limits_taken words
-taken BUCKET words = bucket_taken words
+unfoldable pub field_taken : (f : Field) → List (List ℕ) → Result (Said f × List (List ℕ)) TextFault
+field_taken (WORD test) words = of_one (λ word. if test word then Ok word else Err Argument) words
+field_taken (NUMBER low high) words = number_taken low high words
+field_taken ROLE words = of_one role_in words
+field_taken PREFIX words = of_one (λ word. argument (written_prefix word)) words
+field_taken TARGET words = of_two (λ url token. argument (target_in url token)) words
+field_taken PAIR words = of_two pair_in words
+field_taken (FEE high) words = of_any 0 (λ word. number_or_fault (number_in 0 high word)) words
+field_taken LIMITS words = limits_taken words
+field_taken BUCKET words = bucket_taken words
 
 -- no word is left
 unfoldable pub ended : List (List ℕ) → Result (Unit {0}) TextFault
@@ -252,6 +252,6 @@ ended (word ∷ words) = Err Argument
 abbrev pub all_taken : (fields : List Field) → List (List ℕ) → Result (AllSaid fields) TextFault
 all_taken [] words = ended words
 all_taken (f ∷ fields) words = do
-  value ← taken f words
+  value ← field_taken f words
   values ← all_taken fields value.1
   Ok (value.0, values)

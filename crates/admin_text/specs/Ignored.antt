@@ -22,10 +22,10 @@ use Rattle.admin_text.specs.declared.version.Version.{Version}
 -- ---- the keys that count
 
 -- the place of a spot's table
-abbrev pub place_of : Spot → TablePlace
-place_of spot.Top = place.Top
-place_of (spot.Tenant tenant) = place.Tenant tenant.number
-place_of (spot.Part tenant part) = place.Part tenant.number part.kind part.number
+abbrev pub table_place : Spot → TablePlace
+table_place spot.Top = place.Top
+table_place (spot.Tenant tenant) = place.Tenant tenant.number
+table_place (spot.Part tenant part) = place.Part tenant.number part.kind part.number
 
 -- those that count in the table at a place
 abbrev pub keys_at : Version → TablePlace → List (List ℕ)

@@ -133,5 +133,5 @@ abbrev pub balance_within : ℤ → Option ℤ
 balance_within owed = if is_balance_within owed then Some owed else None
 
 -- what a peer owes at the start, 0 if nothing is said
-unfoldable pub balance_of : Members → Option ℤ
-balance_of t = integer_or (pos 0) (codes "balance") t >>= balance_within
+unfoldable pub starting_balance : Members → Option ℤ
+starting_balance t = integer_or (pos 0) (codes "balance") t >>= balance_within

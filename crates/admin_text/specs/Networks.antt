@@ -10,7 +10,7 @@ use Rattle.tenant_core.specs.declared.faults.CommandFault.{CommandFault}
 use Rattle.tenant_core.specs.declared.peer.Level.{Level}
 use Rattle.tenant_core.specs.declared.terms.RateTerms.{RateTerms}
 use Rattle.common_types.specs.OptionChain.{◌>>=◌}
-use Rattle.admin_text.specs.Keys.{string_under, name_under, number_under, number_or, within, items_under, peer_terms_of, balance_of}
+use Rattle.admin_text.specs.Keys.{string_under, name_under, number_under, number_or, within, items_under, peer_terms_of, starting_balance}
 use Rattle.admin_text.specs.Prefixes.{written_prefix}
 use Rattle.admin_text.specs.Versions.{has_fees}
 use Rattle.admin_text.specs.declared.version.Version.{Version}
@@ -28,7 +28,7 @@ no_level = record { credit = 0; clock = 0; entries = 0 }
 abbrev pub with_peer_of : Net → Members → Option Net
 with_peer_of net t = do
   terms ← peer_terms_of t
-  balance ← balance_of t
+  balance ← starting_balance t
   unless (peer_refusal net terms) (with_peer net terms balance no_level)
 
 -- with the peer of a value, if that is a table
@@ -98,8 +98,8 @@ with_rates_of net (item first others) = do
   with_rates_of more others
 
 -- the network of a tenant's table
-unfoldable pub network_of : Version → Members → Option Net
-network_of version t = do
+unfoldable pub network_in_table : Version → Members → Option Net
+network_in_table version t = do
   peers ← items_under (codes "peer") t
   routes ← items_under (codes "route") t
   rates ← items_under (codes "rate") t

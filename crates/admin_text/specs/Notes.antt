@@ -87,16 +87,16 @@ notes_in text = notes_if (setup_of text)
 
 -- ---- their words
 
-abbrev pub joined : List (List ℕ) → List ℕ
-joined parts = flat_map (λ (part : List ℕ). part) parts
+abbrev pub lines_joined : List (List ℕ) → List ℕ
+lines_joined parts = flat_map (λ (part : List ℕ). part) parts
 
 -- the words of a note, for people
 abbrev pub note_words : Note → List ℕ
-note_words Seconds = joined (codes "start looks like seconds, and counts milliseconds" ∷ [])
-note_words (NoRoute tenant) = joined (codes "tenant " ∷ tenant ∷ codes " has no route: it sends no packet on" ∷ [])
-note_words (NoRate tenant) = joined (codes "tenant " ∷ tenant ∷ codes " has no rate: it sends no packet on" ∷ [])
+note_words Seconds = lines_joined (codes "start looks like seconds, and counts milliseconds" ∷ [])
+note_words (NoRoute tenant) = lines_joined (codes "tenant " ∷ tenant ∷ codes " has no route: it sends no packet on" ∷ [])
+note_words (NoRate tenant) = lines_joined (codes "tenant " ∷ tenant ∷ codes " has no rate: it sends no packet on" ∷ [])
 note_words (NotReached tenant peer) =
-    joined (codes "tenant " ∷ tenant ∷ codes " has a route to " ∷ peer ∷ codes " and no rate to it: it sends no packet there" ∷ [])
+    lines_joined (codes "tenant " ∷ tenant ∷ codes " has a route to " ∷ peer ∷ codes " and no rate to it: it sends no packet there" ∷ [])
 note_words (Gains tenant one other) =
-    joined (codes "tenant " ∷ tenant ∷ codes " loses by its rates between " ∷ one ∷ codes " and " ∷ other
+    lines_joined (codes "tenant " ∷ tenant ∷ codes " loses by its rates between " ∷ one ∷ codes " and " ∷ other
     ∷ codes ": what is sent there and back comes out as more" ∷ [])

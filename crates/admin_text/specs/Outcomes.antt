@@ -5,7 +5,7 @@ use Rattle.common_types.specs.declared.read_error.ReadError.TheVariants.{Memory,
 
 -- the value that was read, or `None` in it if something is wrong; nothing is known if it is out of
 -- memory
-abbrev pub known : {X F : Type 0} → Result X (ReadError F) → Option (Option X)
-known (Ok x) = Some (Some x)
-known (Err Memory) = None
-known (Err (Fault fault)) = Some None
+abbrev pub known_value : {X F : Type 0} → Result X (ReadError F) → Option (Option X)
+known_value (Ok x) = Some (Some x)
+known_value (Err Memory) = None
+known_value (Err (Fault fault)) = Some None

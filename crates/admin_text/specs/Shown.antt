@@ -3,11 +3,11 @@ use Rattle.std.specs.Prelude.{ℕ, List, if◌then◌else◌, Option, Some, None
 use Rattle.toml.specs.Data.{Data}
 use Rattle.toml.specs.View.{view}
 use Rattle.admin_text.specs.Secrets.{is_secret}
-use Rattle.admin_text.specs.declared.secrets.Found.{Found}
-use Rattle.admin_text.specs.declared.secrets.Found.TheVariants.{Nothing, Plain, Hidden}
+use Rattle.admin_text.specs.declared.secrets.ShownValue.{ShownValue}
+use Rattle.admin_text.specs.declared.secrets.ShownValue.TheVariants.{Nothing, Plain, Hidden}
 
 -- the value that is shown, if one is
-abbrev pub value_shown : Found → Option Data
+abbrev pub value_shown : ShownValue → Option Data
 value_shown Nothing = None
 value_shown (Plain value) = Some (view value.now)
 value_shown (Hidden hidden) = None

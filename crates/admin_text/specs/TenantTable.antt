@@ -6,7 +6,7 @@ use Rattle.tenant_core.specs.Network.{Net}
 use Rattle.tenant_core.specs.declared.terms.TenantTerms.{TenantTerms}
 use Rattle.common_types.specs.OptionChain.{◌>>=◌}
 use Rattle.admin_text.specs.Keys.{name_under, address_under, token_under, number_or, within}
-use Rattle.admin_text.specs.Networks.{network_of}
+use Rattle.admin_text.specs.Networks.{network_in_table}
 use Rattle.admin_text.specs.declared.setup.OwnTerms.{OwnTerms}
 use Rattle.admin_text.specs.declared.version.Version.{Version}
 
@@ -44,5 +44,5 @@ terms_with own network = record {
 unfoldable pub tenant_of_table : Version → Members → Option TenantTerms
 tenant_of_table version t = do
   own ← own_terms_of t
-  network ← network_of version t
+  network ← network_in_table version t
   Some (terms_with own network)

@@ -6,7 +6,7 @@ ghost use Rattle.common_types.specs.Outcomes.{GivesUnlessMemory, OnMemory};
 ghost use Rattle.common_types.specs.Words.{words_of};
 ghost use Rattle.tenant_core.specs.declared.command.Command as spec;
 ghost use Rattle.admin_text.specs.Fields.{NAME, TOKEN, ASSET, NUMBER, ROLE, PREFIX, TARGET, PAIR, FEE, LIMITS, BUCKET};
-ghost use Rattle.admin_text.specs.Fields.{role_in, only_one, taken, all_taken, ended};
+ghost use Rattle.admin_text.specs.Fields.{role_in, only_one, field_taken, all_taken, ended};
 ghost use Rattle.admin_text.specs.Commands.{two_word_verbs, verb_among, verb_taken, command_behind, command_among};
 ghost use Rattle.admin_text.specs.Commands.{command_in, IsCommandText, TakesMemory, BeginsWithPrefix};
 ghost use Rattle.admin_text.specs.declared.commands.Verb.TheVariants as verb;
@@ -50,27 +50,27 @@ enum Verb {
     SettleOut,
 }
 
-#[tactic(auto, unfolding(crate::specs::Fields::taken))]
+#[tactic(auto, unfolding(crate::specs::Fields::field_taken))]
 fn next_name(words: Words<'_>) -> Result<(Name, Words<'_>), TextFault>
-    ensures { result ≡ taken NAME words.entry }
+    ensures { result ≡ field_taken NAME words.entry }
 {
     let (word, words) = words.split_first().ok_or(TextFault::Argument)?;
     let name = Name::new(word).ok_or(TextFault::Argument)?;
     Ok((name, words))
 }
 
-#[tactic(auto, unfolding(crate::specs::Fields::taken))]
+#[tactic(auto, unfolding(crate::specs::Fields::field_taken))]
 fn next_token(words: Words<'_>) -> Result<(Token, Words<'_>), TextFault>
-    ensures { result ≡ taken TOKEN words.entry }
+    ensures { result ≡ field_taken TOKEN words.entry }
 {
     let (word, words) = words.split_first().ok_or(TextFault::Argument)?;
     let token = Token::new(word).ok_or(TextFault::Argument)?;
     Ok((token, words))
 }
 
-#[tactic(auto, unfolding(crate::specs::Fields::taken))]
+#[tactic(auto, unfolding(crate::specs::Fields::field_taken))]
 fn next_asset(words: Words<'_>) -> Result<(AssetCode, Words<'_>), TextFault>
-    ensures { result ≡ taken ASSET words.entry }
+    ensures { result ≡ field_taken ASSET words.entry }
 {
     let (word, words) = words.split_first().ok_or(TextFault::Argument)?;
     let asset = AssetCode::new(word).ok_or(TextFault::Argument)?;
@@ -89,17 +89,17 @@ fn role_of(word: &[u8]) -> Result<Role, TextFault>
     }
 }
 
-#[tactic(auto, unfolding(crate::specs::Fields::taken))]
+#[tactic(auto, unfolding(crate::specs::Fields::field_taken))]
 fn next_role(words: Words<'_>) -> Result<(Role, Words<'_>), TextFault>
-    ensures { result ≡ taken ROLE words.entry }
+    ensures { result ≡ field_taken ROLE words.entry }
 {
     let (word, words) = words.split_first().ok_or(TextFault::Argument)?;
     Ok((role_of(word)?, words))
 }
 
-#[tactic(auto, unfolding(crate::specs::Fields::taken))]
+#[tactic(auto, unfolding(crate::specs::Fields::field_taken))]
 fn next_target(words: Words<'_>) -> Result<(Target, Words<'_>), TextFault>
-    ensures { result ≡ taken TARGET words.entry }
+    ensures { result ≡ field_taken TARGET words.entry }
 {
     let (url, words) = words.split_first().ok_or(TextFault::Argument)?;
     let (token, words) = words.split_first().ok_or(TextFault::Argument)?;
@@ -107,9 +107,9 @@ fn next_target(words: Words<'_>) -> Result<(Target, Words<'_>), TextFault>
     Ok((target, words))
 }
 
-#[tactic(auto, unfolding(crate::specs::Fields::taken))]
+#[tactic(auto, unfolding(crate::specs::Fields::field_taken))]
 fn next_pair(words: Words<'_>) -> Result<(Pair, Words<'_>), TextFault>
-    ensures { result ≡ taken PAIR words.entry }
+    ensures { result ≡ field_taken PAIR words.entry }
 {
     let (from, words) = next_name(words)?;
     let (to, words) = next_name(words)?;
@@ -117,11 +117,11 @@ fn next_pair(words: Words<'_>) -> Result<(Pair, Words<'_>), TextFault>
     Ok((pair, words))
 }
 
-#[tactic(auto, unfolding(crate::specs::Fields::taken, crate::specs::Fields::number_taken))]
+#[tactic(auto, unfolding(crate::specs::Fields::field_taken, crate::specs::Fields::number_taken))]
 fn next_number<const LOW: u64, const HIGH: u64>(
     words: Words<'_>,
 ) -> Result<(Between<LOW, HIGH>, Words<'_>), TextFault>
-    ensures { result ≡ taken (NUMBER LOW HIGH) words.entry }
+    ensures { result ≡ field_taken (NUMBER LOW HIGH) words.entry }
 {
     let (word, words) = words.split_first().ok_or(TextFault::Argument)?;
     match number_in(word) {
@@ -131,9 +131,9 @@ fn next_number<const LOW: u64, const HIGH: u64>(
     }
 }
 
-#[tactic(auto, unfolding(crate::specs::Fields::taken))]
+#[tactic(auto, unfolding(crate::specs::Fields::field_taken))]
 fn next_limits(words: Words<'_>) -> Result<(PeerLimits, Words<'_>), TextFault>
-    ensures { result ≡ taken LIMITS words.entry }
+    ensures { result ≡ field_taken LIMITS words.entry }
 {
     let (cap, words) = next_number(words)?;
     let (ceiling, words) = next_number(words)?;
@@ -146,19 +146,19 @@ fn next_limits(words: Words<'_>) -> Result<(PeerLimits, Words<'_>), TextFault>
     Ok((limits, words))
 }
 
-#[tactic(auto, unfolding(crate::specs::Fields::taken))]
+#[tactic(auto, unfolding(crate::specs::Fields::field_taken))]
 fn next_bucket(words: Words<'_>) -> Result<(BucketTerms, Words<'_>), TextFault>
-    ensures { result ≡ taken BUCKET words.entry }
+    ensures { result ≡ field_taken BUCKET words.entry }
 {
     let (burst, words) = next_number(words)?;
     let (per_second, words) = next_number(words)?;
     Ok((BucketTerms { burst, per_second }, words))
 }
 
-#[tactic(auto, unfolding(crate::specs::Fields::taken))]
+#[tactic(auto, unfolding(crate::specs::Fields::field_taken))]
 fn next_prefix(alloc: Global, words: Words<'_>) -> Result<(Prefix, Words<'_>), ReadError<TextFault>>
-    ensures exact { GivesUnlessMemory (λ p. p) result (taken PREFIX words.entry) }
-    ensures memory { OnMemory result (IsOk (taken PREFIX words.entry)) }
+    ensures exact { GivesUnlessMemory (λ p. p) result (field_taken PREFIX words.entry) }
+    ensures memory { OnMemory result (IsOk (field_taken PREFIX words.entry)) }
 {
     let Some((word, words)) = words.split_first() else {
         return Err(ReadError::Fault(TextFault::Argument));
@@ -297,7 +297,7 @@ fn given<T>(read: Result<T, TextFault>) -> Result<T, ReadError<TextFault>>
 }
 
 // The fee at the end of the words, 0 if none is left.
-#[tactic(auto, unfolding(crate::specs::Fields::taken, crate::specs::Fields::ended))]
+#[tactic(auto, unfolding(crate::specs::Fields::field_taken, crate::specs::Fields::ended))]
 fn last_fee(words: Words<'_>) -> Result<Fee, TextFault>
     ensures { only_one result ≡ all_taken (FEE MAX_MONEY ∷ []) words.entry }
 {

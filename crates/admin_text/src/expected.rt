@@ -1,7 +1,7 @@
 //! The value that each key of a setup needs, and its words for people.
 
 use crate::places::TableKind;
-use crate::secrets::{Found, Hidden};
+use crate::secrets::{Hidden, ShownValue};
 use common_types::MAX_TOKEN;
 use std::fmt;
 use tenant_core::limits::{MAX_MONEY, MAX_TENANTS};
@@ -31,7 +31,7 @@ pub(crate) enum Expected {
 #[derive(Clone, Copy)]
 pub(crate) struct Right<'a> {
     pub(crate) expected: Expected,
-    pub(crate) found: Found<'a>,
+    pub(crate) found: ShownValue<'a>,
 }
 
 // The words for a key that needs a whole number from the first to the second.
@@ -39,10 +39,10 @@ fn put_whole<W: fmt::Write>(
     f: &mut fmt::Formatter<W>,
     least: u64,
     most: u64,
-    found: Found<'_>,
+    found: ShownValue<'_>,
 ) -> fmt::Result {
     match found {
-        Found::Plain(Value::Integer(number)) => match u64::try_from(*number) {
+        ShownValue::Plain(Value::Integer(number)) => match u64::try_from(*number) {
             Ok(number) if number >= least => write!(f, "at most {most}"),
             _ => write!(f, "at least {least}"),
         },
@@ -51,10 +51,13 @@ fn put_whole<W: fmt::Write>(
 }
 
 // The words for a key that needs a balance.
-fn put_balance<W: fmt::Write>(f: &mut fmt::Formatter<W>, found: Found<'_>) -> fmt::Result {
+fn put_balance<W: fmt::Write>(f: &mut fmt::Formatter<W>, found: ShownValue<'_>) -> fmt::Result {
     match found {
-        Found::Plain(Value::Integer(number)) if *number < 0 => write!(f, "at least -{MAX_MONEY}"),
-        Found::Plain(Value::Integer(_)) => write!(f, "at most {MAX_MONEY}"),
+        ShownValue::Plain(Value::Integer(number)) if *number < 0 => write!(
+            f,
+            "at least -{MAX_MONEY}"
+        ),
+        ShownValue::Plain(Value::Integer(_)) => write!(f, "at most {MAX_MONEY}"),
         _ => write!(f, "a whole number from -{MAX_MONEY} to {MAX_MONEY}"),
     }
 }
@@ -72,10 +75,10 @@ impl fmt::Display for Right<'_> {
             }
             (Expected::Version, _) => f.write_str("1 and 2 are the versions"),
             (Expected::Name, _) => f.write_str("a text of 1 to 32 of a-z 0-9 -"),
-            (Expected::Token, Found::Hidden(Hidden::Character(number))) => {
+            (Expected::Token, ShownValue::Hidden(Hidden::Character(number))) => {
                 write!(f, "character {number} is none of A-Z a-z 0-9 - . _ ~ + / =")
             }
-            (Expected::Token, Found::Hidden(Hidden::Text(_))) => {
+            (Expected::Token, ShownValue::Hidden(Hidden::Text(_))) => {
                 write!(f, "at most {MAX_TOKEN}")
             }
             (Expected::Token, _) => {

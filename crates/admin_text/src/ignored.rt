@@ -6,7 +6,7 @@ ghost use Rattle.std.specs.Option.{option_map_or};
 ghost use Rattle.std.specs.Str.{bytes_eq};
 ghost use Rattle.toml.specs.Data.{as_table};
 ghost use Rattle.toml.specs.View.{view, items_view, table_view};
-ghost use Rattle.admin_text.specs.Ignored.{items_of, is_key, place_of, ignored_at, ignored_by, ignored_in};
+ghost use Rattle.admin_text.specs.Ignored.{items_of, is_key, table_place, ignored_at, ignored_by, ignored_in};
 ghost use Rattle.admin_text.specs.Ignored.{ignored_in_parts, ignored_in_tenant, ignored_in_tenant_value, ignored_in_tenants, ignored_in_value};
 ghost use Rattle.admin_text.specs.Ignored.{ignored_in_document};
 ghost use Rattle.admin_text.specs.IgnoredKeys.{seen};
@@ -20,7 +20,7 @@ use crate::key_names::{
 };
 use crate::keys::{items_under, version_of};
 use crate::places::{Place, Spot, TableKind, TablePlace};
-use crate::secrets::Found;
+use crate::secrets::ShownValue;
 use crate::setup::{document_of, setup_of_table};
 use crate::version::{Version, has_fees};
 use common_types::{Items, ReadError};
@@ -107,13 +107,13 @@ fn reason(place: TablePlace, name: &str) -> &'static str {
 
 // The value at such a key, if it may be shown.
 #[derive(Clone, Copy)]
-struct Beside<'a>(Found<'a>);
+struct Beside<'a>(ShownValue<'a>);
 
 impl fmt::Display for Beside<'_> {
     fn fmt<W: fmt::Write>(&self, f: &mut fmt::Formatter<W>) -> fmt::Result {
         match self.0 {
-            Found::Plain(value) => write!(f, "{}", Shown(value)),
-            Found::Nothing | Found::Hidden(_) => Ok(()),
+            ShownValue::Plain(value) => write!(f, "{}", Shown(value)),
+            ShownValue::Nothing | ShownValue::Hidden(_) => Ok(()),
         }
     }
 }
@@ -124,11 +124,11 @@ fn ignored_key(
     name: &str,
     value: &Value,
 ) -> Result<IgnoredKey, AllocError>
-    ensures { IfOk result (λ key. seen (key ∷ []) ≡ (place_of spot.entry, name.now) ∷ []) }
+    ensures { IfOk result (λ key. seen (key ∷ []) ≡ (table_place spot.entry, name.now) ∷ []) }
 {
     let place = spot.table();
     let why = reason(place, name);
-    let beside = Beside(Found::at(name, Some(value)));
+    let beside = Beside(ShownValue::at(name, Some(value)));
     let words = format!(in alloc; "{spot}{}{beside}: {why}", Named(name))?;
     Ok(IgnoredKey {
         place,
@@ -147,7 +147,7 @@ fn put_key(
     found: &mut Vec<IgnoredKey>,
 ) -> Result<(), AllocError>
     ensures { OnOk result (seen found.new.items ≡ seen found.old.items
-        ++ (if is_key version (place_of spot.entry) name.now then [] else (place_of spot.entry, name.now) ∷ [])) }
+        ++ (if is_key version (table_place spot.entry) name.now then [] else (table_place spot.entry, name.now) ∷ [])) }
 {
     if !is_key(version, spot.table(), name) {
         found.push(ignored_key(alloc, spot, name, value)?)?;
@@ -163,7 +163,7 @@ fn put_table(
     found: &mut Vec<IgnoredKey>,
 ) -> Result<(), AllocError>
     ensures { OnOk result (seen found.new.items ≡ seen found.old.items
-        ++ ignored_at version (place_of spot.entry) (table_view table.now)) }
+        ++ ignored_at version (table_place spot.entry) (table_view table.now)) }
 {
     for (name, value) in table.iter() {
         put_key(alloc, version, spot, name.as_str(), value, found)?;
@@ -179,7 +179,7 @@ fn put_value(
     found: &mut Vec<IgnoredKey>,
 ) -> Result<(), AllocError>
     ensures { OnOk result (seen found.new.items ≡ seen found.old.items
-        ++ ignored_in_value version (place_of spot.entry) (view value.now)) }
+        ++ ignored_in_value version (table_place spot.entry) (view value.now)) }
 {
     match value.as_table() {
         Some(table) => put_table(alloc, version, spot, table, found),

@@ -10,7 +10,7 @@ ghost use Rattle.admin_text.specs.Keys.{under, name_under, token_under, address_
 ghost use Rattle.admin_text.specs.PeerFields.{target_keys, limit_keys, bucket_keys};
 ghost use Rattle.admin_text.specs.Setup.{start_of, version_of};
 ghost use Rattle.admin_text.specs.Versions.{version_numbered};
-ghost use Rattle.admin_text.specs.Keys.{items_under, peer_terms_of, balance_of};
+ghost use Rattle.admin_text.specs.Keys.{items_under, peer_terms_of, starting_balance};
 
 use crate::expected::Expected;
 use crate::key_names::{
@@ -332,9 +332,9 @@ pub(crate) fn peer_terms_of(table: &Table) -> Result<PeerTerms, Wrong<'_>>
 }
 
 /// What a peer owes at the start, 0 if nothing is said.
-#[tactic(auto, unfolding(crate::specs::Keys::balance_of))]
+#[tactic(auto, unfolding(crate::specs::Keys::starting_balance))]
 pub(crate) fn balance_of(table: &Table) -> Result<Balance, Wrong<'_>>
-    ensures { result_ok result ≡ balance_of (table_view table.now) }
+    ensures { result_ok result ≡ starting_balance (table_view table.now) }
 {
     let owed = integer_or(0, table, BALANCE, Expected::Balance)?;
     made(Balance::new(owed), table, BALANCE, Expected::Balance)

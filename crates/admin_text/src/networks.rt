@@ -8,8 +8,8 @@ ghost use Rattle.toml.specs.View.{view, items_view, table_view};
 ghost use Rattle.tenant_core.specs.Network.{peer_numbered};
 ghost use Rattle.admin_text.specs.Networks.{with_peer_in, with_peers_of, peer_under, rate_of};
 ghost use Rattle.admin_text.specs.Networks.{fee_of, with_route_in, with_routes_of};
-ghost use Rattle.admin_text.specs.Networks.{with_rate_in, with_rates_of, network_of};
-ghost use Rattle.admin_text.specs.Outcomes.{known};
+ghost use Rattle.admin_text.specs.Networks.{with_rate_in, with_rates_of, network_in_table};
+ghost use Rattle.admin_text.specs.Outcomes.{known_value};
 ghost use Rattle.admin_text.specs.Keys.{string_under};
 ghost use Rattle.admin_text.specs.Prefixes.{written_prefix};
 
@@ -44,7 +44,7 @@ fn at_part<'a>(
     at: usize,
     value: &'a Value,
 ) -> Result<Network, ReadError<TenantWrong<'a>>>
-    ensures { known result ≡ known read.entry }
+    ensures { known_value result ≡ known_value read.entry }
 {
     let place = Place::new(kind, at.saturating_add(1), value);
     match read {
@@ -109,7 +109,7 @@ fn with_peer_in<'a>(
     before: &[Value],
     value: &'a Value,
 ) -> Result<Network, ReadError<Wrong<'a>>>
-    ensures { IfSome (known result) (λ more. more ≡ with_peer_in network (view value.now)) }
+    ensures { IfSome (known_value result) (λ more. more ≡ with_peer_in network (view value.now)) }
 {
     let table = table_in(value, TableKind::Peer)?;
     let terms = peer_terms_of(table)?;
@@ -126,7 +126,7 @@ fn with_peer_in<'a>(
 
 #[tactic(auto, unfolding(crate::specs::Networks::with_peers_of))]
 fn with_peers_of(network: Network, values: &[Value]) -> Result<Network, ReadError<TenantWrong<'_>>>
-    ensures { IfSome (known result) (λ more. more ≡ with_peers_of network (items_view values.now)) }
+    ensures { IfSome (known_value result) (λ more. more ≡ with_peers_of network (items_view values.now)) }
 {
     let mut network = network;
     for (at, value) in values.iter().enumerate() {
@@ -149,7 +149,7 @@ fn peer_under<'a>(network: &Network, table: &'a Table, key: &'a str) -> Result<P
 }
 
 fn prefix_of(alloc: Global, table: &Table) -> Result<Prefix, ReadError<Wrong<'_>>>
-    ensures { IfSome (known result) (λ prefix. prefix ≡
+    ensures { IfSome (known_value result) (λ prefix. prefix ≡
         option_and_then written_prefix (string_under (codes "prefix") (table_view table.now))) }
 {
     let text = text_under(table, PREFIX, Expected::Prefix)?;
@@ -179,7 +179,7 @@ fn with_route_in<'a>(
     before: &[Value],
     value: &'a Value,
 ) -> Result<Network, ReadError<Wrong<'a>>>
-    ensures { IfSome (known result) (λ more. more ≡ with_route_in version network (view value.now)) }
+    ensures { IfSome (known_value result) (λ more. more ≡ with_route_in version network (view value.now)) }
 {
     let table = table_in(value, TableKind::Route)?;
     let prefix = prefix_of(alloc, table)?;
@@ -202,7 +202,7 @@ fn with_routes_of(
     network: Network,
     values: &[Value],
 ) -> Result<Network, ReadError<TenantWrong<'_>>>
-    ensures { IfSome (known result) (λ more. more ≡ with_routes_of version network (items_view values.now)) }
+    ensures { IfSome (known_value result) (λ more. more ≡ with_routes_of version network (items_view values.now)) }
 {
     let mut network = network;
     for (at, value) in values.iter().enumerate() {
@@ -251,7 +251,7 @@ fn rate_of<'a>(network: &Network, table: &'a Table) -> Result<RateTerms, Wrong<'
 
 #[tactic(auto, unfolding(crate::specs::Networks::with_rate_of))]
 fn with_rate_in(mut network: Network, value: &Value) -> Result<Network, ReadError<Wrong<'_>>>
-    ensures { IfSome (known result) (λ more. more ≡ with_rate_in network (view value.now)) }
+    ensures { IfSome (known_value result) (λ more. more ≡ with_rate_in network (view value.now)) }
 {
     let table = table_in(value, TableKind::Rate)?;
     let rate = rate_of(&network, table)?;
@@ -264,7 +264,7 @@ fn with_rate_in(mut network: Network, value: &Value) -> Result<Network, ReadErro
 
 #[tactic(auto, unfolding(crate::specs::Networks::with_rates_of))]
 fn with_rates_of(network: Network, values: &[Value]) -> Result<Network, ReadError<TenantWrong<'_>>>
-    ensures { IfSome (known result) (λ more. more ≡ with_rates_of network (items_view values.now)) }
+    ensures { IfSome (known_value result) (λ more. more ≡ with_rates_of network (items_view values.now)) }
 {
     let mut network = network;
     for (at, value) in values.iter().enumerate() {
@@ -275,13 +275,13 @@ fn with_rates_of(network: Network, values: &[Value]) -> Result<Network, ReadErro
 }
 
 /// Whom the tenant of a table deals with at the start, and how.
-#[tactic(auto, unfolding(crate::specs::Networks::network_of))]
+#[tactic(auto, unfolding(crate::specs::Networks::network_in_table))]
 pub(crate) fn network_of(
     alloc: Global,
     version: Version,
     table: &Table,
 ) -> Result<Network, ReadError<TenantWrong<'_>>>
-    ensures { IfSome (known result) (λ network. network ≡ network_of version (table_view table.now)) }
+    ensures { IfSome (known_value result) (λ network. network ≡ network_in_table version (table_view table.now)) }
 {
     let peers = items_under(table, PEER, TableKind::Peer)?;
     let routes = items_under(table, ROUTE, TableKind::Route)?;

@@ -2,7 +2,7 @@
 //! theirs from 1. Each place has the names that it gives itself.
 
 ghost use Rattle.std.specs.Prelude.{◌≡◌};
-ghost use Rattle.admin_text.specs.Ignored.{place_of};
+ghost use Rattle.admin_text.specs.Ignored.{table_place};
 
 use crate::expected::Shown;
 use crate::key_names::{FROM, NAME, PREFIX, TO};
@@ -126,7 +126,7 @@ pub(crate) enum Spot<'a> {
 impl Spot<'_> {
     /// Which table it is.
     pub(crate) fn table(self) -> TablePlace
-        ensures { result ≡ place_of self.entry }
+        ensures { result ≡ table_place self.entry }
     {
         match self {
             Spot::Top => TablePlace::Top,

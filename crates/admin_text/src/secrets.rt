@@ -2,7 +2,7 @@
 
 ghost use Rattle.std.specs.Prelude.{◌≡◌, codes, option_map};
 ghost use Rattle.toml.specs.View.{view};
-ghost use Rattle.admin_text.specs.Secrets.{begins_with, has_word, is_secret};
+ghost use Rattle.admin_text.specs.Secrets.{begins_with_word, has_word, is_secret};
 ghost use Rattle.admin_text.specs.Shown.{value_shown, value_to_show};
 
 use crate::expected::Shown;
@@ -12,7 +12,7 @@ use toml::Value;
 
 // Whether a text begins with a word, in letters of either case.
 fn begins_with(text: &[u8], word: &[u8]) -> bool
-    ensures { result ≡ begins_with text.now word.now }
+    ensures { result ≡ begins_with_word text.now word.now }
 {
     text.len() >= word.len() && text[..word.len()].eq_ignore_ascii_case(word)
 }
@@ -95,32 +95,32 @@ impl Hidden {
 
 /// What is shown of the value at a key.
 #[derive(Clone, Copy)]
-pub(crate) enum Found<'a> {
+pub(crate) enum ShownValue<'a> {
     Nothing,
     Plain(&'a Value),
     Hidden(Hidden),
 }
 
-impl<'a> Found<'a> {
+impl<'a> ShownValue<'a> {
     /// What may be shown of the value at the key of that name.
-    pub(crate) fn at(name: &str, value: Option<&'a Value>) -> Found<'a>
+    pub(crate) fn at(name: &str, value: Option<&'a Value>) -> ShownValue<'a>
         ensures { value_shown result ≡ value_to_show name.now (option_map (λ v. view v.now) value.entry) }
     {
         match value {
-            None => Found::Nothing,
-            Some(value) if is_secret(name) => Found::Hidden(Hidden::of(value)),
-            Some(value) => Found::Plain(value),
+            None => ShownValue::Nothing,
+            Some(value) if is_secret(name) => ShownValue::Hidden(Hidden::of(value)),
+            Some(value) => ShownValue::Plain(value),
         }
     }
 }
 
 /// Writes it after the name of the key.
-impl fmt::Display for Found<'_> {
+impl fmt::Display for ShownValue<'_> {
     fn fmt<W: fmt::Write>(&self, f: &mut fmt::Formatter<W>) -> fmt::Result {
         match *self {
-            Found::Nothing => f.write_str(" is missing"),
-            Found::Plain(value) => write!(f, "{}", Shown(value)),
-            Found::Hidden(hidden) => hidden.write(f),
+            ShownValue::Nothing => f.write_str(" is missing"),
+            ShownValue::Plain(value) => write!(f, "{}", Shown(value)),
+            ShownValue::Hidden(hidden) => hidden.write(f),
         }
     }
 }

@@ -9,7 +9,7 @@ ghost use Rattle.common_types.specs.declared.read_error.ReadError.TheVariants.{M
 ghost use Rattle.common_types.specs.Outcomes.{GivesUnlessMemory};
 ghost use Rattle.admin_text.specs.Ignored.{document_in};
 ghost use Rattle.admin_text.specs.Keys.{array_under};
-ghost use Rattle.admin_text.specs.Outcomes.{known};
+ghost use Rattle.admin_text.specs.Outcomes.{known_value};
 ghost use Rattle.admin_text.specs.TenantTable.{own_terms_of, terms_with, tenant_of_table};
 ghost use Rattle.admin_text.specs.Tenants.{is_there, unless_there, some_tenants, next_tenant, with_one_more, tenants_of_items, tenants_of_array};
 ghost use Rattle.admin_text.specs.Setup.{setup_of_table, setup_of};
@@ -143,7 +143,7 @@ fn new_tenant<'a>(
     tenants: &[TenantSetup],
     value: &'a Value,
 ) -> Result<TenantSetup, ReadError<TenantWrong<'a>>>
-    ensures { IfSome (known result) (λ tenant. tenant ≡
+    ensures { IfSome (known_value result) (λ tenant. tenant ≡
         option_and_then (unless_there tenants.now) (option_and_then (tenant_of_table version) (as_table (view value.now)))) }
 {
     let table = table_in(value, TableKind::Tenant)?;

@@ -3,7 +3,7 @@
 ghost use Rattle.std.specs.Prelude.{◌≡◌, ◌<◌, ◌^◌, pos, IfOk, OnOk};
 ghost use Rattle.toml.specs.Data.{string, integer, array, no_members};
 ghost use Rattle.toml.specs.View.{view, items_view, table_view};
-ghost use Rattle.admin_text.specs.Made.{with_member, number};
+ghost use Rattle.admin_text.specs.Made.{with_member, number_data};
 
 use std::alloc::{AllocError, Global};
 use std::str;
@@ -75,7 +75,7 @@ pub(crate) fn put_number(
     key: &str,
     value: u64,
 ) -> Result<(), AllocError>
-    ensures { OnOk result (table_view table.new ≡ with_member key.now (number value) (table_view table.old)) }
+    ensures { OnOk result (table_view table.new ≡ with_member key.now (number_data value) (table_view table.old)) }
 {
     match i64::try_from(value) {
         Ok(integer) => put_integer(alloc, table, key, integer),

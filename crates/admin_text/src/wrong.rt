@@ -3,7 +3,7 @@
 use crate::expected::{Expected, Right};
 use crate::keys::value_under;
 use crate::places::{Place, TableKind};
-use crate::secrets::Found;
+use crate::secrets::ShownValue;
 use crate::setup::SetupFault;
 use common_types::ReadError;
 use route_table::MAX_ROUTES;
@@ -16,7 +16,7 @@ use toml::Table;
 #[derive(Clone, Copy)]
 pub(crate) struct Key<'a> {
     name: &'a str,
-    found: Found<'a>,
+    found: ShownValue<'a>,
 }
 
 impl<'a> Key<'a> {
@@ -31,7 +31,7 @@ impl<'a> Key<'a> {
     {
         Key {
             name,
-            found: Found::at(name, value_under(table, name)),
+            found: ShownValue::at(name, value_under(table, name)),
         }
     }
 }

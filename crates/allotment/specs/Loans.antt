@@ -27,12 +27,12 @@ abbrev pub used_by : ℕ → Loans → ℕ
 used_by tenant loans = slice_index loans.used tenant
 
 -- how many places are lent
-abbrev pub lent_of : Loans → ℕ
-lent_of loans = sum loans.used
+abbrev pub places_lent : Loans → ℕ
+places_lent loans = sum loans.used
 
 -- how many places nobody uses
 abbrev pub free_of : Loans → ℕ
-free_of loans = loans.places - lent_of loans
+free_of loans = loans.places - places_lent loans
 
 -- how many places tenants may still take up to their shares
 abbrev pub owed_of : Loans → ℕ
@@ -40,7 +40,7 @@ owed_of loans = sum_by (λ used. loans.share - used) loans.used
 
 -- what is lent and what is owed are no more than there is
 abbrev pub IsCovered : Loans → Type 0
-IsCovered loans = lent_of loans + owed_of loans ≤ loans.places
+IsCovered loans = places_lent loans + owed_of loans ≤ loans.places
 
 -- a tenant gets a place up to its share, and beyond it if the other free places cover what is owed
 abbrev pub is_granted : ℕ → Loans → Bool

@@ -3,29 +3,29 @@ use Rattle.std.specs.Prelude.{ℕ, ◌≡◌, ◌+◌, ◌-◌, ◌<◌, ◌==�
 use Rattle.allotment.specs.Loans.{Loans, asked_by, given_back_by, is_granted, used_by}
 
 -- a tenant takes a place or gives one back
-pub record Call : Type 0 where
+pub record PlaceCall : Type 0 where
   pub tenant : ℕ
   pub takes : Bool
 
 -- the loans after a call
-abbrev pub after : Call → Loans → Loans
-after call loans = if call.takes then asked_by call.tenant loans else given_back_by call.tenant loans
+abbrev pub loans_after : PlaceCall → Loans → Loans
+loans_after call loans = if call.takes then asked_by call.tenant loans else given_back_by call.tenant loans
 
 -- the answer to a tenant at a call: whether it got a place, if it asked for one
-abbrev pub told_at : ℕ → Call → Loans → List Bool
+abbrev pub told_at : ℕ → PlaceCall → Loans → List Bool
 told_at tenant call loans = if (call.tenant == tenant) && call.takes then is_granted call.tenant loans ∷ [] else []
 
 -- the answers to a tenant, call by call
-abbrev pub told_to : ℕ → List Call → Loans → List Bool
+abbrev pub told_to : ℕ → List PlaceCall → Loans → List Bool
 told_to tenant [] loans = []
-told_to tenant (call ∷ calls) loans = told_at tenant call loans ++ told_to tenant calls (after call loans)
+told_to tenant (call ∷ calls) loans = told_at tenant call loans ++ told_to tenant calls (loans_after call loans)
 
 -- the calls of one tenant
-abbrev pub calls_by : ℕ → List Call → List Call
+abbrev pub calls_by : ℕ → List PlaceCall → List PlaceCall
 calls_by tenant calls = filter (λ call. call.tenant == tenant) calls
 
 -- a tenant that uses so many places asks for one only while it uses less than its share
-abbrev pub asks_within : ℕ → ℕ → ℕ → List Call → Bool
+abbrev pub asks_within : ℕ → ℕ → ℕ → List PlaceCall → Bool
 asks_within tenant share used [] = true
 asks_within tenant share used (call ∷ calls) =
     if call.tenant == tenant

@@ -78,8 +78,8 @@ picked_up_by tenant queued =
     record queued { kept = slice_set queued.kept tenant (kept_for tenant queued - 1) }
 
 -- a place of the tenant came back, and is kept for one that waits and may have it, if anyone does
-abbrev pub CameBack : ℕ → Queued → Option ℕ → Queued → Type 0
-CameBack tenant before None after = after ≡ returned_by tenant before
-CameBack tenant before (Some next) after =
+abbrev pub IsPlaceBack : ℕ → Queued → Option ℕ → Queued → Type 0
+IsPlaceBack tenant before None after = after ≡ returned_by tenant before
+IsPlaceBack tenant before (Some next) after =
     (0 < waiting_of next before) × (is_granted next (given_back_by tenant before.loans) ≡ true)
     × (after ≡ record (kept_by next (returned_by tenant before)) { turn = turn_after tenant next before })

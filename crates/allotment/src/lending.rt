@@ -52,7 +52,7 @@ impl Lending {
     ghost use Rattle.std.specs.Prelude.{◌≡◌, ◌↔◌, ◌<◌, ◌≤◌, ℕ, length, true, false, nat_lt, replicate, IfNone, IfOk, IfSome, IsTrue, if◌then◌else◌};
     ghost use Rattle.allotment.specs.Loans.{IsCovered, max_places, max_tenants, given_back_by, is_granted, share_of, used_by};
     ghost use Rattle.allotment.specs.WaitsKept.{IsQueue};
-    ghost use Rattle.allotment.specs.Waits.{CameBack, IsNextInTurn, NobodyWaitsInVain, asked_for, given_up_by, kept_for, picked_up_by, waiting_of};
+    ghost use Rattle.allotment.specs.Waits.{IsPlaceBack, IsNextInTurn, NobodyWaitsInVain, asked_for, given_up_by, kept_for, picked_up_by, waiting_of};
 
     /// Places that nobody uses, and how many of each tenant may wait for one. Each tenant is sure of its share
     /// (`Allotment::new`). Fails only if it is out of memory.
@@ -238,7 +238,7 @@ impl Lending {
     pub fn give_back(&mut self, tenant: usize) -> Option<usize>
         requires tenant { tenant < length self.old.loans.used }
         requires uses { kept_for tenant self.old < used_by tenant self.old.loans }
-        ensures back { CameBack tenant self.old result self.new }
+        ensures back { IsPlaceBack tenant self.old result self.new }
         ensures own { IfSome result (λ next. used_by tenant self.old.loans ≤ self.old.loans.share → next ≡ tenant) }
         ensures in_turn { IfSome result (λ next. self.old.loans.share < used_by tenant self.old.loans → IsNextInTurn next self.old) }
         ensures nobody { NobodyWaitsInVain self.new }

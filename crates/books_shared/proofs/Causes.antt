@@ -21,11 +21,11 @@ use Rattle.tenant_core.specs.declared.journal.Record.{Record}
 use Rattle.tenant_core.specs.declared.verdict.Verdict.{Verdict}
 use Rattle.tenant_core.specs.declared.verdict.Verdict.TheVariants.{Unknown, NoRoom, Refuse, Fulfil, Forward, Relay}
 use Rattle.floor_core.specs.Causes.{BringsBytes, Cause, HasCause, made_from}
-use Rattle.floor_core.specs.Work.{Called, IsNamed, IsOfBytes, IsWork, Job, Work, answer_call, decide_call, frame_call, given_by, job_answered, job_decided, settled_call, verdict_call}
+use Rattle.floor_core.specs.Work.{Called, CameWithToken, IsJobOfBytes, IsWork, Job, Work, answer_call, decide_call, frame_call, given_by, job_answered, job_decided, settled_call, verdict_call}
 use Rattle.floor_core.specs.World.{answer_key, heard, key_in}
 use Rattle.floor_core.specs.declared.parts.Got.{Got}
 use Rattle.floor_core.specs.declared.parts.Got.TheVariants as got
-use Rattle.floor_core.specs.declared.step.Given.{Given}
+use Rattle.floor_core.specs.declared.step.PeerAnswer.{PeerAnswer}
 use Rattle.one_list.specs.History.{LeadTo, after_record}
 use Rattle.one_list.specs.declared.step.Done.{Done}
 use Rattle.books_shared.specs.Traced.{HaveCauses}
@@ -63,7 +63,7 @@ own_cause : (s : State) (b : Bool) (one other : Called) → IsCaused s one.made 
 own_cause s true one other h k = h
 own_cause s false one other h k = k
 
-decided_cause : (j : Job) (w : Work) (s : State) (now : ℕ) → IsNamed j → IsOfBytes j → IsCaused s (job_decided j w s now).made
+decided_cause : (j : Job) (w : Work) (s : State) (now : ℕ) → CameWithToken j → IsJobOfBytes j → IsCaused s (job_decided j w s now).made
 decided_cause Job.NoJob w s now named are = tt
 decided_cause (Job.Carries t token frame) w s now named are =
     own_cause s (s.opening.tenant == t) _ _ (frame_cause w s t token frame (prepare_at frame) now named are refl) tt
@@ -85,17 +85,17 @@ heard_given room (got.Filled n) = by (ltb max_frame n) refl
         let within = ltb-false max_frame n e in
         rw e (rw (le-ltb max_frame (length (take n room)) (omega arith)) refl)
 
-settled_cause : (w : Work) (s : State) (g : Given) (made : Option Record) (r : Result Verdict HoldFault) → IsCaused s made → IsCaused s (settled_call w s g made r).made
+settled_cause : (w : Work) (s : State) (g : PeerAnswer) (made : Option Record) (r : Result Verdict HoldFault) → IsCaused s made → IsCaused s (settled_call w s g made r).made
 settled_cause w s g made (Ok v) h = h
 settled_cause w s g made (Err fault) h = tt
 
-answered_cause : (j : Job) (w : Work) (s : State) (now : ℕ) (g : Given) → heard g ≡ g → IsCaused s (job_answered j w s now g).made
+answered_cause : (j : Job) (w : Work) (s : State) (now : ℕ) (g : PeerAnswer) → heard g ≡ g → IsCaused s (job_answered j w s now g).made
 answered_cause Job.NoJob w s now g same = tt
 answered_cause (Job.Carries t token frame) w s now g same = tt
 answered_cause (Job.Waits t hold frame) w s now g same =
     own_cause s (s.opening.tenant == t) _ _
     (settled_cause w s g (answer_made s hold now (answer_key g)) (answer_to s hold now (answer_key g))
-    (by_cause s (answer_made s hold now (answer_key g)) (Cause.Return hold now g) tt (ap (λ (x : Given). answer_made s hold now (answer_key x)) same))) tt
+    (by_cause s (answer_made s hold now (answer_key g)) (Cause.Return hold now g) tt (ap (λ (x : PeerAnswer). answer_made s hold now (answer_key x)) same))) tt
 
 pub answer_cause : (w : Work) (s : State) (now : ℕ) (g : Got) → IsCaused s (answer_call w s now g).made
 answer_cause w s now g = answered_cause w.job w s now (given_by w.room g) (heard_given w.room g)

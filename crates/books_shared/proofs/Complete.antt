@@ -26,15 +26,15 @@ use Rattle.tenant_core.specs.declared.opening.Opening.{Opening}
 use Rattle.tenant_core.specs.declared.period.PeriodParts.{PeriodParts}
 use Rattle.tenant_core.specs.declared.terms.TenantTerms.{TenantTerms}
 use Rattle.floor_core.specs.World.{no_book}
-use Rattle.one_list.specs.History.{IsStep, LeadTo, after_record}
+use Rattle.one_list.specs.History.{IsNextStep, LeadTo, after_record}
 use Rattle.one_list.specs.Steps.{of_tenant, of_worker}
 use Rattle.one_list.specs.declared.step.Done.{Done}
 use Rattle.one_list.specs.declared.step.Size.{Size}
-use Rattle.joint_order.specs.Orders.{TakesOn, list_at, none, one_more, point}
+use Rattle.joint_order.specs.Orders.{TakesOn, list_at, none, one_more_at, point}
 use Rattle.joint_order.specs.declared.point.ListPoint.{ListPoint}
-use Rattle.receipts.specs.Audits.{AreJoined, AreMatched, IsAmong, IsComplete, IsNumbered, NameOne, Names, place_of, points_of, record_of, records_before}
+use Rattle.receipts.specs.Audits.{AreJoined, AreMatched, IsAmong, IsComplete, IsNumbered, NameOne, NamesRecord, journal_place, points_of, shown_record, records_before}
 use Rattle.receipts.specs.declared.receipt.Receipt.{Receipt}
-use Rattle.books_shared.specs.Complete.{AreClosedIn, AreNumbered, AreReceiptsOf, AreRolled, closed_at, closed_by, closed_from}
+use Rattle.books_shared.specs.Complete.{AreClosedIn, AreSharesFrom, AreReceiptsOf, AreRolled, closed_at, periods_closed_by, closed_from}
 use Rattle.books_shared.specs.Gathers.{shares_of}
 use Rattle.books_shared.specs.Shares.{ShareView, receipt_told, receipts_in, receipts_told}
 use Rattle.books_shared.specs.Traced.{AreInOrder, IsLedTo, IsListOf, book_among, openings_of}
@@ -248,7 +248,7 @@ told_none t s rolled = record {
 }
 
 -- a step that closes none comes before
-told_plain : (t : ℕ) (s : State) (e : Done) (es : List Done) (ps : List PeriodParts) → IsStep s e → Told t (recorded s (Some e.made)) es ps
+told_plain : (t : ℕ) (s : State) (e : Done) (es : List Done) (ps : List PeriodParts) → IsNextStep s e → Told t (recorded s (Some e.made)) es ps
     → Told t s (e ∷ es) ps
 told_plain t s e es ps step rest = record {
   numbered = rest.numbered;
@@ -312,7 +312,7 @@ told_plain t s e es ps step rest = record {
     ]
 
 -- a roll comes before
-told_roll : (t : ℕ) (s : State) (e : Done) (es : List Done) (ps : List PeriodParts) (now : ℕ) → s.opening.tenant ≡ t → IsStep s e → e.made ≡ roll_record now
+told_roll : (t : ℕ) (s : State) (e : Done) (es : List Done) (ps : List PeriodParts) (now : ℕ) → s.opening.tenant ≡ t → IsNextStep s e → e.made ≡ roll_record now
     → Told t (opened (next_opening s (max (clock_of s) now))) es ps → Told t s (e ∷ es) (closed s now ∷ ps)
 told_roll t s e es ps now tenant step is_roll rest = record {
   numbered = numbered;
@@ -398,13 +398,13 @@ told_roll t s e es ps now tenant step is_roll rest = record {
     ]
 
 -- the periods that a tenant's steps closed
-told : (t : ℕ) (s u : State) (steps : List Done) → s.opening.tenant ≡ t → u.records ≡ [] → LeadTo s steps u → Told t s steps (closed_by s steps)
+told : (t : ℕ) (s u : State) (steps : List Done) → s.opening.tenant ≡ t → u.records ≡ [] → LeadTo s steps u → Told t s steps (periods_closed_by s steps)
 told t s u [] tenant rolled led = told_none t s (ap (λ (z : State). z.records) led ∙ rolled)
 told t s u (e ∷ es) tenant rolled led =
     let r : Record = e.made in
-    let others : (after_record s r).opening.tenant ≡ t → Told t (after_record s r) es (closed_by (after_record s r) es) =
+    let others : (after_record s r).opening.tenant ≡ t → Told t (after_record s r) es (periods_closed_by (after_record s r) es) =
     λ own. told t (after_record s r) u es own rolled led.1 in
-    let later : List PeriodParts = closed_by (after_record s r) es in
+    let later : List PeriodParts = periods_closed_by (after_record s r) es in
     elim (record_cases s r.entry r.outcome led.0.made) [
       | inl plain ↦
           let rest : Told t (recorded s (Some r)) es later =
@@ -421,7 +421,7 @@ told t s u (e ∷ es) tenant rolled led =
 
 -- those of one tenant
 abbrev own : List Done → ℕ → Opening → List PeriodParts
-own log t o = closed_by (opened o) (of_tenant t log)
+own log t o = periods_closed_by (opened o) (of_tenant t log)
 
 -- what a tenant's steps closed, where its first opening is that
 abbrev IsOwn : List Done → ℕ → Opening → Type 0
@@ -670,7 +670,7 @@ record Stands (openings : List Opening) (log : List Done) (periods : List Period
   has : Contains periods p
   numbered : IsNumbered e.tenant e.period p
   made : slice_get p.records e.number ≡ Some e.made
-  place : place_of periods (receipt_told e) ≡ seen (is_tenant e.tenant) log m
+  place : journal_place periods (receipt_told e) ≡ seen (is_tenant e.tenant) log m
 
 step_stands : (openings : List Opening) (log : List Done) (periods : List PeriodParts) (lists : List (List Receipt)) (m : ℕ) (e : Done)
     → Handed openings log periods lists → slice_get log m ≡ Some e → Stands openings log periods m e
@@ -723,7 +723,7 @@ one_step openings log periods lists m n e d h at_m at_n one =
     let tenant : e.tenant ≡ d.tenant = one.0 in
     let at_e = (step_stands openings log periods lists m e h at_m).place in
     let at_d = (step_stands openings log periods lists n d h at_n).place in
-    let here : place_of periods (receipt_told e) ≡ place_of periods (receipt_told d) =
+    let here : journal_place periods (receipt_told e) ≡ journal_place periods (receipt_told d) =
     ap (λ (u : ℕ). records_before periods u e.period + e.number) tenant
     ∙ (ap (λ (u : ℕ). records_before periods d.tenant u + e.number) one.1 ∙ ap (λ (u : ℕ). records_before periods d.tenant d.period + u) one.2) in
     let same : seen (is_tenant e.tenant) log m ≡ seen (is_tenant e.tenant) log n =
@@ -739,11 +739,11 @@ handed_matched openings log periods lists h = record {
   all = all;
 }
   where
-    right : (r : Receipt) → IsAmong lists r → Names periods r (record_of r)
+    right : (r : Receipt) → IsAmong lists r → NamesRecord periods r (shown_record r)
     right r (i, k, at) =
         let is = is_told openings log periods lists i k r h at in
         let stands = step_stands openings log periods lists is.m is.e h is.at in
-        subst (λ (x : Receipt). Names periods x (record_of x)) is.is (stands.p, stands.has, stands.numbered, stands.made)
+        subst (λ (x : Receipt). NamesRecord periods x (shown_record x)) is.is (stands.p, stands.has, stands.numbered, stands.made)
 
     once : (i k j l : ℕ) (r s : Receipt) → slice_get (list_at lists i) k ≡ Some r → slice_get (list_at lists j) l ≡ Some s
         → NameOne r s → (i ≡ j) × (k ≡ l)
@@ -782,7 +782,7 @@ one_if b = cond b 1 0
 
 -- one more step is counted for its worker, or its tenant
 counted_on : (key : Done → ℕ) (log : List Done) (m : ℕ) (e : Done) → slice_get log m ≡ Some e → (counted : ℕ → ℕ)
-    → ((n : ℕ) → counted n ≡ seen (λ d. key d == n) log m) → (n : ℕ) → one_more counted (key e) n ≡ seen (λ d. key d == n) log (m + 1)
+    → ((n : ℕ) → counted n ≡ seen (λ d. key d == n) log m) → (n : ℕ) → one_more_at counted (key e) n ≡ seen (λ d. key d == n) log (m + 1)
 counted_on key log m e at counted so n =
     let f : Done → Bool = λ d. key d == n in
     let read : get_or log m e ≡ e = get_or_from_slice_get log m e e at in
@@ -791,11 +791,11 @@ counted_on key log m e at counted so n =
     let test : one_if (f (get_or log m e)) ≡ one_if (key e == n) = ap (λ (x : Done). one_if (f x)) read in
     dite (ℕ_discrete n (key e))
     (λ same.
-    let more : one_more counted (key e) n ≡ counted n + 1 = ap (λ (b : Bool). if b then counted n + 1 else counted n) (eq-eqb n (key e) same) in
+    let more : one_more_at counted (key e) n ≡ counted n + 1 = ap (λ (b : Bool). if b then counted n + 1 else counted n) (eq-eqb n (key e) same) in
     let one : one_if (key e == n) ≡ 1 = ap one_if (eq-eqb (key e) n (sym same)) in
     omega arith)
     (λ other.
-    let still : one_more counted (key e) n ≡ counted n = ap (λ (b : Bool). if b then counted n + 1 else counted n) (ne_eqb n (key e) other) in
+    let still : one_more_at counted (key e) n ≡ counted n = ap (λ (b : Bool). if b then counted n + 1 else counted n) (ne_eqb n (key e) other) in
     let none : one_if (key e == n) ≡ 0 = ap one_if (ne_eqb (key e) n (λ is. other (sym is))) in
     omega arith)
 
@@ -819,7 +819,7 @@ takes_on openings log periods lists m [] taken done h rest so_taken so_done = λ
     let long = rest.long in
     let whole : take m log ≡ log = take_all m log (omega arith) in
     let here : taken i ≡ length (of_worker i log) = so_taken i ∙ ap (λ (l : List Done). length (of_worker i l)) whole in
-    let f : Receipt → ListPoint = λ r. point r.tenant (place_of periods r) in
+    let f : Receipt → ListPoint = λ r. point r.tenant (journal_place periods r) in
     let points : list_at (points_of periods lists) i ≡ map f (receipts_told (of_worker i log)) =
     points_at periods lists i ∙ ap (λ (l : List Receipt). map f l) (h.own_lists i) in
     here ∙ sym (ap length points ∙ (length-map (receipts_told (of_worker i log)) f ∙ length-map (of_worker i log) receipt_told))
@@ -827,18 +827,18 @@ takes_on openings log periods lists m (e ∷ es) taken done h rest so_taken so_d
     let same : m + 0 ≡ m = omega arith in
     let at : slice_get log m ≡ Some e = subst (λ n. slice_get log n ≡ Some e) same (rest.at 0 e refl) in
     let w : ℕ = e.worker in
-    let f : Receipt → ListPoint = λ r. point r.tenant (place_of periods r) in
+    let f : Receipt → ListPoint = λ r. point r.tenant (journal_place periods r) in
     let stands = step_stands openings log periods lists m e h at in
     let next : slice_get (list_at (points_of periods lists) w) (seen (is_worker w) log m) ≡ Some (f (receipt_told e)) =
     subst (λ (l : List ListPoint). slice_get l (seen (is_worker w) log m) ≡ Some (f (receipt_told e))) (sym (points_at periods lists w))
     (point_at f (list_at lists w) (seen (is_worker w) log m) (receipt_told e) (told_there openings log periods lists m e h at)) in
-    let place : place_of periods (receipt_told e) ≡ done e.tenant = stands.place ∙ sym (so_done e.tenant) in
+    let place : journal_place periods (receipt_told e) ≡ done e.tenant = stands.place ∙ sym (so_done e.tenant) in
     let taken_next : slice_get (list_at (points_of periods lists) w) (taken w) ≡ Some (point e.tenant (done e.tenant)) =
     subst (λ k. slice_get (list_at (points_of periods lists) w) k ≡ Some (point e.tenant (done e.tenant))) (sym (so_taken w))
     (next ∙ ap (λ (k : ℕ). Some (point e.tenant k)) place) in (
       e.tenant,
       taken_next,
-      takes_on openings log periods lists (m + 1) es (one_more taken w) (one_more done e.tenant) h (rest_on log m e es rest)
+      takes_on openings log periods lists (m + 1) es (one_more_at taken w) (one_more_at done e.tenant) h (rest_on log m e es rest)
           (counted_on (λ d. d.worker) log m e at taken so_taken)
           (counted_on (λ d. d.tenant) log m e at done so_done),
     )
@@ -937,7 +937,7 @@ complete size setups start books shares log periods lists list many rolled moved
         let none : of_tenant t log ≡ [] = none_pass (is_tenant t) log (λ m e there.
         let below = (among m e there).0 in
         ne_eqb e.tenant t (λ same. absurd (omega arith))) in
-        subst (λ (l : List Done). Told t (opened o) l (closed_by (opened o) l)) (sym none) (told_none t (opened o) refl)
+        subst (λ (l : List Done). Told t (opened o) l (periods_closed_by (opened o) l)) (sym none) (told_none t (opened o) refl)
 
     with_share : (w : ℕ) → w < size.workers → list_at lists w ≡ receipts_told (of_worker w log)
     with_share w below =
@@ -960,13 +960,13 @@ complete size setups start books shares log periods lists list many rolled moved
 
 -- ---- shares in order
 
-numbered_at : (from : ℕ) (shares : List ShareView) (k : ℕ) (d : ShareView) → AreNumbered from shares → k < length shares
+numbered_at : (from : ℕ) (shares : List ShareView) (k : ℕ) (d : ShareView) → AreSharesFrom from shares → k < length shares
     → (slice_index_or shares k d).worker ≡ from + k
 numbered_at from [] k d order below = absurd (omega arith)
 numbered_at from (s ∷ ss) zero d order below = let first = order.0 in omega arith
 numbered_at from (s ∷ ss) (suc k) d order below = let later = numbered_at (from + 1) ss k d order.1 (omega arith) in omega arith
 
-none_before : (from w : ℕ) (shares : List ShareView) → AreNumbered from shares → w < from → shares_of w shares ≡ 0
+none_before : (from w : ℕ) (shares : List ShareView) → AreSharesFrom from shares → w < from → shares_of w shares ≡ 0
 none_before from w [] order less = refl
 none_before from w (s ∷ ss) order less =
     let first = order.0 in
@@ -975,7 +975,7 @@ none_before from w (s ∷ ss) order less =
     let sum : shares_of w (s ∷ ss) ≡ one_if (s.worker == w) + shares_of w ss = sum_by-cons (λ (x : ShareView). one_if (x.worker == w)) s ss in
     omega arith
 
-one_share : (from w : ℕ) (shares : List ShareView) → AreNumbered from shares → from ≤ w → w < from + length shares → shares_of w shares ≡ 1
+one_share : (from w : ℕ) (shares : List ShareView) → AreSharesFrom from shares → from ≤ w → w < from + length shares → shares_of w shares ≡ 1
 one_share from w [] order least below = absurd (omega arith)
 one_share from w (s ∷ ss) order least below =
     let first = order.0 in
@@ -999,7 +999,7 @@ all_kept (s ∷ ss) audited =
     rw (here, others) refl
 
 -- the receipts of audited shares that stand in the workers' order are the lists of their workers
-pub kept_in_order : (shares : List ShareView) → AreNumbered 0 shares → All (λ s. s.audited ≡ true) shares
+pub kept_in_order : (shares : List ShareView) → AreSharesFrom 0 shares → All (λ s. s.audited ≡ true) shares
     → AreReceiptsOf (length shares) shares (filter_map receipts_in shares)
 kept_in_order shares order audited = record {
   there = (all_there (length shares) shares).1 (refl, λ w below. one_share 0 w shares order (omega arith) (omega arith));

@@ -28,14 +28,14 @@ use Rattle.floor_core.specs.Causes.{AreCaused, ArePlaced, AreRun, Cause, Entered
 use Rattle.ilp_view.specs.Packet.{Prepare}
 use Rattle.floor_core.specs.World.{Effect, Event, Stage, Tenant, after_alone, all_free, answer_key, arrival, arrived, call_answered, call_decided, call_judged, call_settled, heard, key_in, new_tenant, no_book, put}
 use Rattle.floor_core.specs.World.{tenant_at_start, world_at_start}
-use Rattle.floor_core.specs.declared.step.Given.{Given}
+use Rattle.floor_core.specs.declared.step.PeerAnswer.{PeerAnswer}
 use Rattle.floor_core.specs.declared.step.Malformed.{Malformed}
 use Rattle.one_list.specs.History.{LeadTo, after_entry, after_record}
 use Rattle.one_list.specs.Steps.{HaveOneList, IsBeginning, PartView, WorkerView, of_tenant, of_worker, parts_numbered}
 use Rattle.one_list.specs.declared.step.Done.{Done}
 use Rattle.one_list.specs.declared.step.Size.{Size}
 use Rattle.books_shared.specs.Shares.{ShareView}
-use Rattle.books_shared.specs.Traced.{AreInOrder, AreTraced, HaveCauses, HaveListOf, IsLedTo, IsTraced, after_made, book_among, entry_of, openings_of, part_of}
+use Rattle.books_shared.specs.Traced.{AreInOrder, AreTraced, HaveCauses, HaveListOf, IsLedTo, IsTraced, after_made, book_among, entered_by, openings_of, share_part}
 use Rattle.books_shared.proofs.Tracing.{command_leaves, held_stays, opening_from, record_stays, tick_stays}
 
 -- ---- parts of the list and the books that they lie beside
@@ -58,19 +58,19 @@ of_books openings log (b ∷ bs) (p ∷ ps) traced own =
     (sym (All-head (λ x. of_tenant x.number log ≡ x.steps) p ps own) ∙ ap (λ (n : ℕ). of_tenant n log) traced.0.number) traced.0.led)
     (of_books openings log bs ps traced.1 (All-tail (λ x. of_tenant x.number log ≡ x.steps) p ps own))
 
-of_shares : (log : List Done) (shares : List ShareView) → All (λ p. of_worker p.number log ≡ p.steps) (map part_of shares)
+of_shares : (log : List Done) (shares : List ShareView) → All (λ p. of_worker p.number log ≡ p.steps) (map share_part shares)
     → All (λ s. of_worker s.worker log ≡ s.steps) shares
 of_shares log [] own = All-nil _
 of_shares log (s ∷ ss) own =
-    All-cons (λ x. of_worker x.worker log ≡ x.steps) s ss (All-head (λ p. of_worker p.number log ≡ p.steps) (part_of s) (map part_of ss) own)
-    (of_shares log ss (All-tail (λ p. of_worker p.number log ≡ p.steps) (part_of s) (map part_of ss) own))
+    All-cons (λ x. of_worker x.worker log ≡ x.steps) s ss (All-head (λ p. of_worker p.number log ≡ p.steps) (share_part s) (map share_part ss) own)
+    (of_shares log ss (All-tail (λ p. of_worker p.number log ≡ p.steps) (share_part s) (map share_part ss) own))
 
-met_by_shares : (log : List Done) (shares : List ShareView) → All (λ (p : WorkerView). All (IsBeginning log) p.met) (map part_of shares)
+met_by_shares : (log : List Done) (shares : List ShareView) → All (λ (p : WorkerView). All (IsBeginning log) p.met) (map share_part shares)
     → All (λ (s : ShareView). All (IsBeginning log) s.met) shares
 met_by_shares log [] own = All-nil _
 met_by_shares log (s ∷ ss) own =
-    All-cons (λ (x : ShareView). All (IsBeginning log) x.met) s ss (All-head (λ (p : WorkerView). All (IsBeginning log) p.met) (part_of s) (map part_of ss) own)
-    (met_by_shares log ss (All-tail (λ (p : WorkerView). All (IsBeginning log) p.met) (part_of s) (map part_of ss) own))
+    All-cons (λ (x : ShareView). All (IsBeginning log) x.met) s ss (All-head (λ (p : WorkerView). All (IsBeginning log) p.met) (share_part s) (map share_part ss) own)
+    (met_by_shares log ss (All-tail (λ (p : WorkerView). All (IsBeginning log) p.met) (share_part s) (map share_part ss) own))
 
 -- how many of the books are that tenant's
 abbrev books_of : ℕ → List (State × ℕ) → ℕ
@@ -186,7 +186,7 @@ record_leaves s cause r e = cause_leaves s cause ∙ ap (after_made s) e
 abbrev Leads : State → List Done → State → Type 0
 Leads s steps t = LeadTo s steps t × HaveCauses s steps
 
-all_caused : (log : List Done) (books left : ℕ → State) → ((t : ℕ) → Leads (books t) (of_tenant t log) (left t)) → AreCaused books (map entry_of log) left
+all_caused : (log : List Done) (books left : ℕ → State) → ((t : ℕ) → Leads (books t) (of_tenant t log) (left t)) → AreCaused books (map entered_by log) left
 all_caused [] books left leads = λ t. (leads t).0
 all_caused (e ∷ es) books left leads =
     let t = e.tenant in
@@ -294,13 +294,13 @@ placed openings log books many order led t lt =
     ∙ (sym (history_keeps (opened here.led.first) (book_among books t) (of_tenant (0 + t) log) here.led.history) ∙ tenant)
 
 entries_below : (bound : ℕ) (size : Size) (log : List Done) → size.tenants ≡ bound → All (λ e. (e.tenant < size.tenants) × (e.worker < size.workers)) log
-    → All (λ e. e.tenant < bound) (map entry_of log) × All (λ e. e.tenant < bound) log
+    → All (λ e. e.tenant < bound) (map entered_by log) × All (λ e. e.tenant < bound) log
 entries_below bound size [] e others = (All-nil _, All-nil _)
 entries_below bound size (x ∷ xs) e others =
     let here : x.tenant < size.tenants = (All-head (λ (d : Done). (d.tenant < size.tenants) × (d.worker < size.workers)) x xs others).0 in
     let lt : x.tenant < bound = subst (λ k. x.tenant < k) e here in
     let rest = entries_below bound size xs e (All-tail (λ (d : Done). (d.tenant < size.tenants) × (d.worker < size.workers)) x xs others) in (
-      All-cons (λ (d : Entered). d.tenant < bound) (entry_of x) (map entry_of xs) lt rest.0,
+      All-cons (λ (d : Entered). d.tenant < bound) (entered_by x) (map entered_by xs) lt rest.0,
       All-cons (λ (d : Done). d.tenant < bound) x xs lt rest.1,
     )
 
@@ -311,7 +311,7 @@ Runs = (openings : List Opening) (entries : List Entered) (left : ℕ → State)
 
 pub list_of : Runs → (size : Size) (openings : List Opening) (found books : List (State × ℕ)) (shares : List ShareView) (parts : List PartView)
     → size.tenants ≡ length found → length openings ≡ length found → AreTraced openings found parts → IsPermutation found books
-    → IsNonDecreasingBy (λ b. b.0.opening.tenant) books → HaveOneList size parts (map part_of shares) → HaveListOf size openings books shares
+    → IsNonDecreasingBy (λ b. b.0.opening.tenant) books → HaveOneList size parts (map share_part shares) → HaveListOf size openings books shares
 list_of runs size openings found books shares parts many each traced moved sorted (log, one) =
     let as_many : length books ≡ length found = length_permutation found books moved in
     let led = All-permutation (λ b. IsLedTo openings b.0 (of_tenant b.0.opening.tenant log)) found books moved (of_books openings log found parts traced one.tenants) in
@@ -329,8 +329,8 @@ list_of runs size openings found books shares parts many each traced moved sorte
         met = met_by_shares log shares one.met;
         others = one.others;
         in_order = order;
-        run = runs openings (map entry_of log) (book_among books) (placed openings log books (each ∙ sym as_many) order led)
-            (subst (λ n. All (λ (e : Entered). e.tenant < n) (map entry_of log)) (sym (each ∙ sym as_many)) below.0)
+        run = runs openings (map entered_by log) (book_among books) (placed openings log books (each ∙ sym as_many) order led)
+            (subst (λ n. All (λ (e : Entered). e.tenant < n) (map entered_by log)) (sym (each ∙ sym as_many)) below.0)
             (all_caused log (λ t. book_opened (slice_get openings t)) (book_among books) (λ t. (opens t).leads));
       },
     )
@@ -357,12 +357,12 @@ decided_grows s call now (Some (Stage.Ready token p)) =
     (sym (record_stays (peer_with_token token (network_of s.book).peers) (key_in p) now (judge s.book token (key_in p) now) s.book))
 decided_grows s call now (Some (Stage.Sent hold)) = refl
 
-settled_grows : (s : Tenant) (call : ℕ) (given : Given) (made : Option Record) (r : Result Verdict HoldFault)
+settled_grows : (s : Tenant) (call : ℕ) (given : PeerAnswer) (made : Option Record) (r : Result Verdict HoldFault)
     → recorded s.book made ≡ after_made s.book made → Grows s (call_settled s call given made r)
 settled_grows s call given made (Ok v) same = same
 settled_grows s call given made (Err fault) same = refl
 
-answered_grows : (s : Tenant) (call now : ℕ) (given : Given) (stage : Option Stage) → Grows s (call_answered s call stage now given)
+answered_grows : (s : Tenant) (call now : ℕ) (given : PeerAnswer) (stage : Option Stage) → Grows s (call_answered s call stage now given)
 answered_grows s call now given None = refl
 answered_grows s call now given (Some (Stage.Ready token p)) = refl
 answered_grows s call now given (Some (Stage.Sent hold)) =

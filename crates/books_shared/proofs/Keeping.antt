@@ -12,7 +12,7 @@ use Rattle.one_list.specs.declared.step.Done.{Done}
 use Rattle.receipts.specs.Ledgers.{LedgerView, last_receipt}
 use Rattle.books_shared.specs.ShareKept.{AreTallied, HasKept, IsLedgerOf}
 use Rattle.books_shared.specs.Shares.{receipts_told}
-use Rattle.books_shared.specs.Tracing.{told_by}
+use Rattle.books_shared.specs.Tracing.{steps_appended}
 
 -- ---- tallies
 
@@ -37,7 +37,7 @@ one_by w at o r t e =
 
 -- of what is told of a call that appended so many entries, as many are the tenant's
 told_many : (n w tenant period : ℕ) (records : List Record) (t : ℕ) → n ≤ 1 → n ≤ length records
-    → count_by (λ e. e.tenant == t) (told_by n w tenant period records) ≡ cond (tenant == t) n 0
+    → count_by (λ e. e.tenant == t) (steps_appended n w tenant period records) ≡ cond (tenant == t) n 0
 told_many zero w tenant period records t few there = either_way (tenant == t) 0
 told_many (suc n) w tenant period records t few there =
     let last = there_is records (omega arith) in
@@ -46,9 +46,9 @@ told_many (suc n) w tenant period records t few there =
 
 pub tally_more : (counts : List ℕ) (steps : List Done) (n w tenant period : ℕ) (records : List Record) → AreTallied counts steps
     → tenant < length counts → n ≤ 1 → n ≤ length records
-    → AreTallied (set counts tenant (get_or counts tenant 0 + n)) (steps ++ told_by n w tenant period records)
+    → AreTallied (set counts tenant (get_or counts tenant 0 + n)) (steps ++ steps_appended n w tenant period records)
 tally_more counts steps n w tenant period records tallied inside few there t below =
-    let more = sum_by-append (λ (e : Done). cond (e.tenant == t) 1 0) steps (told_by n w tenant period records) in
+    let more = sum_by-append (λ (e : Done). cond (e.tenant == t) 1 0) steps (steps_appended n w tenant period records) in
     let told = told_many n w tenant period records t few there in
     let before = tallied t below in
     elim (eqb_tells tenant t) [

@@ -39,7 +39,7 @@ use Rattle.tenant_core.specs.declared.verdict.Verdict.TheVariants.{Unknown, NoRo
 use Rattle.floor_core.specs.Work.{Job, Work, Called, answer_call, decide_call, frame_call, given_by, job_answered, job_decided, settled_call, verdict_call}
 use Rattle.floor_core.specs.World.{answer_key, key_in}
 use Rattle.floor_core.specs.declared.parts.Got.{Got}
-use Rattle.floor_core.specs.declared.step.Given.{Given}
+use Rattle.floor_core.specs.declared.step.PeerAnswer.{PeerAnswer}
 use Rattle.std.specs.List.{enumerate_from}
 use Rattle.std.proofs.lemmas.List.{length-map}
 use Rattle.std.proofs.lemmas.List.FromFn.{length-enumerate_from}
@@ -47,12 +47,12 @@ use Rattle.one_list.specs.History.{HistoryLaws}
 use Rattle.one_list.specs.Steps.{PartView, Place, done, done_by, done_last, grown, next_place}
 use Rattle.one_list.specs.declared.step.Done.{Done}
 use Rattle.books_shared.specs.Rises.{entries_of, tick_rise}
-use Rattle.books_shared.specs.declared.rise.Rise.{Rise}
-use Rattle.books_shared.specs.Shares.{ShareView, raised, with_steps}
+use Rattle.books_shared.specs.declared.rise.CallCounts.{CallCounts}
+use Rattle.books_shared.specs.Shares.{ShareView, share_raised, with_steps}
 use Rattle.floor_core.specs.Causes.{HasCause}
-use Rattle.books_shared.specs.Traced.{IsLedTo, IsTraced, after_made, counted, openings_of}
+use Rattle.books_shared.specs.Traced.{IsLedTo, IsTraced, after_made, share_counted, openings_of}
 use Rattle.books_shared.proofs.Causes.{causes_on, governed_cause}
-use Rattle.books_shared.specs.Tracing.{HasAppended, told_by, told_of}
+use Rattle.books_shared.specs.Tracing.{HasAppended, steps_appended, steps_of_command}
 
 -- ---- which records a call appends: none is a roll's
 
@@ -112,11 +112,11 @@ module _ (P : Option Record → Type 0) (none : P None) where
   held_makes None f each = none
   held_makes (Some h) f each = each h
 
-  settled_makes : (w : Work) (s : State) (given : Given) (made : Option Record) (r : Result Verdict HoldFault) → P made → P (settled_call w s given made r).made
+  settled_makes : (w : Work) (s : State) (given : PeerAnswer) (made : Option Record) (r : Result Verdict HoldFault) → P made → P (settled_call w s given made r).made
   settled_makes w s given made (Ok v) h = h
   settled_makes w s given made (Err fault) h = none
 
-  answered_makes : (j : Job) (w : Work) (s : State) (now : ℕ) (given : Given)
+  answered_makes : (j : Job) (w : Work) (s : State) (now : ℕ) (given : PeerAnswer)
       → ((t hold : ℕ) (frame : List ℕ) (key : AnswerKey) (v : Verdict) → j ≡ Job.Waits t hold frame → P (Some (answer_record hold now key v))) → P (job_answered j w s now given).made
   answered_makes Job.NoJob w s now given each = none
   answered_makes (Job.Carries t token frame) w s now given each = none
@@ -149,10 +149,10 @@ pub tick_stays : (s : State) (now : ℕ) → Stays (tick_made s now)
 tick_stays s now = tick_makes Stays stays_none s now (λ count x. refl)
 
 -- a tick counts the entry that it appends
-pub tick_entries : (s : State) (now : ℕ) (count : Result ℕ BookFault) (rise : Rise) → count ≡ tick_result s now → rise ≡ tick_rise count
+pub tick_entries : (s : State) (now : ℕ) (count : Result ℕ BookFault) (rise : CallCounts) → count ≡ tick_result s now → rise ≡ tick_rise count
     → rise.entries ≡ entries_of (tick_made s now)
 tick_entries s now count rise told e =
-    ap (λ (r : Rise). r.entries) (e ∙ ap tick_rise told) ∙ by (has_no_place s) (tick_count s (max (clock_of s) now))
+    ap (λ (r : CallCounts). r.entries) (e ∙ ap tick_rise told) ∙ by (has_no_place s) (tick_count s (max (clock_of s) now))
   where
     by : (b : Bool) (n : ℕ) → (tick_rise (if b then Err Full else Ok n)).entries ≡ entries_of (if b then None else Some (tick_record now n))
     by true n = refl
@@ -224,31 +224,31 @@ one_told laws s r worker tenant =
     (λ i. done_by worker (record { tenant = tenant; period = s.opening.period; number = behind i }) (laws.last s.records r i))
 
 pub told_did : HistoryLaws → (s : State) (made : Option Record) (n worker tenant : ℕ) → n ≡ entries_of made
-    → told_by n worker tenant s.opening.period (recorded s made).records ≡ done_by worker (place_at tenant s) made
+    → steps_appended n worker tenant s.opening.period (recorded s made).records ≡ done_by worker (place_at tenant s) made
 told_did laws s None n worker tenant e = rw e refl
 told_did laws s (Some r) n worker tenant e = rw e (one_told laws s r worker tenant)
 
 order_told : HistoryLaws → (s : State) (r : Result Changed CommandFault) (now worker tenant : ℕ)
-    → told_of (order_answer r) worker tenant (order_left s r now) ≡ done_by worker (place_at tenant s) (order_made r now)
+    → steps_of_command (order_answer r) worker tenant (order_left s r now) ≡ done_by worker (place_at tenant s) (order_made r now)
 order_told laws s (Ok change) now worker tenant = one_told laws s _ worker tenant
 order_told laws s (Err fault) now worker tenant = refl
 
 roll_told : HistoryLaws → (s : State) (o : Option CommandFault) (now worker tenant : ℕ)
-    → told_of (roll_answer s o now) worker tenant (roll_left s o now) ≡ done_by worker (place_at tenant s) (roll_made o now)
+    → steps_of_command (roll_answer s o now) worker tenant (roll_left s o now) ≡ done_by worker (place_at tenant s) (roll_made o now)
 roll_told laws s None now worker tenant = one_told laws s (roll_record now) worker tenant
 roll_told laws s (Some fault) now worker tenant = refl
 
 command_told : HistoryLaws → (s : State) (c : Command) (now worker tenant : ℕ)
-    → told_of (command_answer s c now) worker tenant (commanded s c now) ≡ done_by worker (place_at tenant s) (command_made s c now)
+    → steps_of_command (command_answer s c now) worker tenant (commanded s c now) ≡ done_by worker (place_at tenant s) (command_made s c now)
 command_told laws s (command.Order order) now worker tenant = order_told laws s (ordered s order) now worker tenant
 command_told laws s command.Balances now worker tenant = refl
 command_told laws s command.Roll now worker tenant = roll_told laws s (roll_refusal s) now worker tenant
 
 pub governed_told : HistoryLaws → (r : Result Answered CommandFault) (c : Command) (before after : State) (now worker tenant : ℕ)
     → IsGoverned r c before after now
-    → told_of r worker tenant after ≡ done_by worker (place_at tenant before) (made_by r before c now)
+    → steps_of_command r worker tenant after ≡ done_by worker (place_at tenant before) (made_by r before c now)
 governed_told laws (Ok answered) c before after now worker tenant governed =
-    (λ k. told_of (governed.0 k) worker tenant (governed.1 k)) ∙ command_told laws before c now worker tenant
+    (λ k. steps_of_command (governed.0 k) worker tenant (governed.1 k)) ∙ command_told laws before c now worker tenant
 governed_told laws (Err fault) c before after now worker tenant governed = refl
 
 -- of a command that appended an entry there is a record
@@ -306,20 +306,20 @@ traced_on laws openings s after part left worker made traced e same is caused gr
 
 -- the same, where the opening stays
 told_kept : HistoryLaws → (s : State) (made : Option Record) (n worker tenant : ℕ) → n ≡ entries_of made
-    → told_by n worker tenant (recorded s made).opening.period (recorded s made).records ≡ done_by worker (place_at tenant s) made
+    → steps_appended n worker tenant (recorded s made).opening.period (recorded s made).records ≡ done_by worker (place_at tenant s) made
 told_kept laws s None n worker tenant is = told_did laws s None n worker tenant is
 told_kept laws s (Some r) n worker tenant is = told_did laws s (Some r) n worker tenant is
 
 -- what the list is told of a call that made that record, if it made one
 pub told_call : HistoryLaws → (s after : State) (made : Option Record) (n worker tenant : ℕ) → after ≡ recorded s made → n ≡ entries_of made
-    → told_by n worker tenant after.opening.period after.records ≡ done_by worker (place_at tenant s) made
+    → steps_appended n worker tenant after.opening.period after.records ≡ done_by worker (place_at tenant s) made
 told_call laws s after made n worker tenant e is =
-    ap (λ (x : State). told_by n worker tenant x.opening.period x.records) e ∙ told_kept laws s made n worker tenant is
+    ap (λ (x : State). steps_appended n worker tenant x.opening.period x.records) e ∙ told_kept laws s made n worker tenant is
 
 -- a book after a call of a slot, or a tick
 pub traced_call : MadeLaws → HistoryLaws → (openings : List Opening) (s after : State) (part left : PartView) (worker : ℕ) (made : Option Record) (n : ℕ)
     → IsTraced openings s part → Stays made → IfSome made (λ r. HasCause s r) → after ≡ recorded s made → IsReplay after → n ≡ entries_of made
-    → left ≡ grown part (told_by n worker part.number after.opening.period after.records) → IsTraced openings after left
+    → left ≡ grown part (steps_appended n worker part.number after.opening.period after.records) → IsTraced openings after left
 traced_call made_laws laws openings s after part left worker made n traced stays caused e replay is grew =
     traced_on laws openings s after part left worker made traced (e ∙ sym (stays s)) (ap (λ (x : State). x.opening.tenant) e)
     (made_of made_laws s made (subst IsReplay e replay)) caused
@@ -328,7 +328,7 @@ traced_call made_laws laws openings s after part left worker made n traced stays
 -- a book after a command
 pub traced_command : MadeLaws → CallLaws → HistoryLaws → (openings : List Opening) (s after : State) (part left : PartView) (worker : ℕ) (r : Result Answered CommandFault) (c : Command) (now : ℕ)
     → IsTraced openings s part → IsGoverned r c s after now → IsSound after
-    → left ≡ grown part (told_of r worker part.number after) → IsTraced openings after left
+    → left ≡ grown part (steps_of_command r worker part.number after) → IsTraced openings after left
 traced_command made_laws call_laws laws openings s after part left worker r c now traced governed sound grew =
     traced_on laws openings s after part left worker (made_by r s c now) traced (governed_leaves r c s after now governed)
     (governed_tenant call_laws r c s after now governed) (governed_made made_laws r c s after now governed sound) (governed_cause r s c now)
@@ -342,12 +342,12 @@ steps_told part left worker s made ds grew told own =
     ap (λ (p : PartView). p.steps) grew
     ∙ ap (λ (es : List Done). part.steps ++ es) (told ∙ ap (λ (n : ℕ). done_by worker (place_at n s) made) own)
 
-pub share_told : (share left : ShareView) (rise same : Rise) (number : ℕ) (s : State) (made : Option Record) (ds : List Done)
-    → left ≡ raised rise number (with_steps ds share) → ds ≡ done_by share.worker (place_at number s) made
-    → number ≡ s.opening.tenant → rise ≡ same → left ≡ counted same (next_place s) made share
+pub share_told : (share left : ShareView) (rise same : CallCounts) (number : ℕ) (s : State) (made : Option Record) (ds : List Done)
+    → left ≡ share_raised rise number (with_steps ds share) → ds ≡ done_by share.worker (place_at number s) made
+    → number ≡ s.opening.tenant → rise ≡ same → left ≡ share_counted same (next_place s) made share
 share_told share left rise same number s made ds grew told own is =
-    grew ∙ ((λ i. raised (is i) (own i) (with_steps (told i) share))
-    ∙ ap (λ (n : ℕ). raised same s.opening.tenant (with_steps (done_by share.worker (place_at n s) made) share)) own)
+    grew ∙ ((λ i. share_raised (is i) (own i) (with_steps (told i) share))
+    ∙ ap (λ (n : ℕ). share_raised same s.opening.tenant (with_steps (done_by share.worker (place_at n s) made) share)) own)
 
 -- a book in which nothing has happened, at its place among the openings
 pub traced_first : HistoryLaws → (openings : List Opening) (o : Opening) (part : PartView) → part ≡ record { number = o.tenant; steps = [] }

@@ -22,14 +22,14 @@ closed_at (Roll x) s = closed s x.now ∷ []
 closed_at _ s = []
 
 -- the periods that steps closed, from a state on
-abbrev pub closed_by : State → List Done → List PeriodParts
-closed_by s [] = []
-closed_by s (e ∷ es) = closed_at e.made.entry s ++ closed_by (after_record s e.made) es
+abbrev pub periods_closed_by : State → List Done → List PeriodParts
+periods_closed_by s [] = []
+periods_closed_by s (e ∷ es) = closed_at e.made.entry s ++ periods_closed_by (after_record s e.made) es
 
 -- those of the tenants from that number on, one tenant's after the other's; these are the tenants' first openings
 abbrev pub closed_from : (tenant : ℕ) → List Opening → List Done → List PeriodParts
 closed_from tenant [] log = []
-closed_from tenant (o ∷ os) log = closed_by (opened o) (of_tenant tenant log) ++ closed_from (tenant + 1) os log
+closed_from tenant (o ∷ os) log = periods_closed_by (opened o) (of_tenant tenant log) ++ closed_from (tenant + 1) os log
 
 -- the periods are all that the steps of the list closed, each once, in any order
 abbrev pub AreClosedIn : List Opening → List Done → List PeriodParts → Type 0
@@ -48,6 +48,6 @@ pub record AreReceiptsOf (workers : ℕ) (shares : List ShareView) (lists : List
   pub own : All (λ s. slice_get lists s.worker ≡ Some (receipts_told s.steps)) shares
 
 -- the shares are those of the workers from that number on, in the order of their numbers
-abbrev pub AreNumbered : (worker : ℕ) → List ShareView → Type 0
-AreNumbered worker [] = Unit {0}
-AreNumbered worker (s ∷ ss) = (s.worker ≡ worker) × AreNumbered (worker + 1) ss
+abbrev pub AreSharesFrom : (worker : ℕ) → List ShareView → Type 0
+AreSharesFrom worker [] = Unit {0}
+AreSharesFrom worker (s ∷ ss) = (s.worker ≡ worker) × AreSharesFrom (worker + 1) ss

@@ -6,11 +6,11 @@ use Rattle.books_shared.specs.declared.gather.GatherFault.{GatherFault}
 use Rattle.books_shared.specs.declared.gather.GatherFault.TheVariants.{Missing, Differs, Memory}
 
 -- the fault is there, and books and shares are handed back
-abbrev pub IsFault : {J : Type 0} → GatherFault J → BooksView → List ShareView → Type 0
-IsFault (Missing b s) books shares =
+abbrev pub IsGatherFault : {J : Type 0} → GatherFault J → BooksView → List ShareView → Type 0
+IsGatherFault (Missing b s) books shares =
     (are_all_there books.workers shares ≡ false) × (b ≡ books) × (s.items ≡ shares)
-IsFault (Differs gathered s) books shares =
+IsGatherFault (Differs gathered s) books shares =
     (are_all_there books.workers shares ≡ true) × (length gathered.items ≡ books.tenants)
     × (agree gathered.items shares ≡ false) × (s.items ≡ shares)
-IsFault (Memory b s) books shares =
+IsGatherFault (Memory b s) books shares =
     (are_all_there books.workers shares ≡ true) × (b ≡ books) × (s.items ≡ shares)

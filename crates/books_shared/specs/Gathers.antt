@@ -17,12 +17,12 @@ max_workers = MAX_WORKERS
 -- ---- whose shares they are
 
 -- the share is that worker's
-abbrev pub is_of : ℕ → ShareView → Bool
-is_of worker s = s.worker == worker
+abbrev pub is_share_of : ℕ → ShareView → Bool
+is_share_of worker s = s.worker == worker
 
 -- how many of the shares are that worker's
 abbrev pub shares_of : ℕ → List ShareView → ℕ
-shares_of worker shares = count_by (is_of worker) shares
+shares_of worker shares = count_by (is_share_of worker) shares
 
 -- each of so many workers has one of the shares
 abbrev pub each_has_one : ℕ → List ShareView → Bool

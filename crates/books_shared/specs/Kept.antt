@@ -6,21 +6,21 @@ use Rattle.tenant_core.specs.State.{State}
 use Rattle.one_list.specs.declared.step.Done.{Done}
 
 -- a tenant's book, how many entries its closed periods had, and the tenant's steps in the one list
-pub record Kept : Type 0 where
+pub record LockedBook : Type 0 where
   pub state : State
   pub closed : ℕ
   pub steps : List Done
 
 -- how many entries were appended since the books were made
-abbrev pub number_of : Kept → ℕ
-number_of k = k.closed + length k.state.records
+abbrev pub entries_appended : LockedBook → ℕ
+entries_appended k = k.closed + length k.state.records
 
 -- the most entries of so many closed periods: each has no more than a journal has places, and that of its roll
 abbrev pub most_entries : ℕ → ℕ
 most_entries periods = (max_journal + 1) * periods
 
 -- what holds of a book whenever its lock is free
-pub record LockInvariant (k : Kept) : Type 0 where
+pub record LockInvariant (k : LockedBook) : Type 0 where
   -- it is the replay of its journal, and within its limits
   pub sound : IsSound k.state
   pub closed : k.closed ≤ most_entries k.state.opening.period

@@ -11,7 +11,7 @@ abbrev pub HaveRoom : List ℕ → ℕ → Type 0
 HaveRoom counts room = (t : ℕ) → slice_index counts t + room ≤ max_count + 1
 
 -- this holds of all counts
-pub record IsRoomy (entries unknown refused : List ℕ) (room : ℕ) : Type 0 where
+pub record HasRoomForCounts (entries unknown refused : List ℕ) (room : ℕ) : Type 0 where
   pub counts : HaveRoom entries room
   pub strangers : HaveRoom unknown room
   pub full : HaveRoom refused room
@@ -41,7 +41,7 @@ HasKept (Some before) None more = ⊥
 
 -- all of that
 pub record IsShare (entries unknown refused : List ℕ) (room : ℕ) (spent : Bool) (steps : List Done) (ledger : Option LedgerView) : Type 0 where
-  pub roomy : IsRoomy entries unknown refused room
+  pub roomy : HasRoomForCounts entries unknown refused room
   pub known : spent ≡ (has_full entries || has_full unknown || has_full refused)
   pub tallied : AreTallied entries steps
   pub kept : IsLedgerOf ledger steps room

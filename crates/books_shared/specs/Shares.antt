@@ -5,7 +5,7 @@ use Rattle.std.specs.List.{list_any}
 use Rattle.tenant_core.specs.Limits.{max_tenants}
 use Rattle.one_list.specs.declared.step.Beginning.{Beginning}
 use Rattle.one_list.specs.declared.step.Done.{Done}
-use Rattle.books_shared.specs.declared.rise.Rise.{Rise}
+use Rattle.books_shared.specs.declared.rise.CallCounts.{CallCounts}
 use Rattle.books_shared.specs.declared.share.RoomFault.{RoomFault}
 use Rattle.books_shared.specs.declared.share.RoomFault.TheVariants.{Spent, Memory}
 use Rattle.receipts.specs.Ledgers.{receipt_of}
@@ -56,8 +56,8 @@ abbrev pub added : List ℕ → ℕ → ℕ → List ℕ
 added counts tenant n = slice_set counts tenant (slice_index counts tenant + n)
 
 -- the share after a call that counts so much for that tenant
-abbrev pub raised : Rise → ℕ → ShareView → ShareView
-raised rise tenant s =
+abbrev pub share_raised : CallCounts → ℕ → ShareView → ShareView
+share_raised rise tenant s =
     record s {
       counts = added s.counts tenant rise.entries;
       strangers = added s.strangers tenant rise.strangers;
@@ -70,8 +70,8 @@ abbrev pub with_steps : List Done → ShareView → ShareView
 with_steps more s = record s { steps = s.steps ++ more }
 
 -- the share, once its worker has met the steps of that tenant
-abbrev pub has_met : ℕ → List Done → ShareView → ShareView
-has_met tenant steps s = record s { met = s.met ++ record { tenant = tenant; steps = steps } ∷ [] }
+abbrev pub share_met : ℕ → List Done → ShareView → ShareView
+share_met tenant steps s = record s { met = s.met ++ record { tenant = tenant; steps = steps } ∷ [] }
 
 -- ---- room
 

@@ -11,14 +11,14 @@ use Rattle.one_list.specs.declared.step.Done.{Done}
 use Rattle.one_list.specs.declared.step.Size.{Size}
 use Rattle.floor_core.specs.Causes.{AreRun, Entered, HasCause}
 use Rattle.floor_core.specs.World.{no_book}
-use Rattle.books_shared.specs.Shares.{ShareView, raised, with_steps}
-use Rattle.books_shared.specs.declared.rise.Rise.{Rise}
+use Rattle.books_shared.specs.Shares.{ShareView, share_raised, with_steps}
+use Rattle.books_shared.specs.declared.rise.CallCounts.{CallCounts}
 
 -- ---- a call
 
 -- the share of a worker after a call that counts so much, and made that record at that place
-abbrev pub counted : Rise → Place → Option Record → ShareView → ShareView
-counted rise at made s = raised rise at.tenant (with_steps (done_by s.worker at made) s)
+abbrev pub share_counted : CallCounts → Place → Option Record → ShareView → ShareView
+share_counted rise at made s = share_raised rise at.tenant (with_steps (done_by s.worker at made) s)
 
 -- the state after it
 abbrev pub after_made : State → Option Record → State
@@ -61,8 +61,8 @@ abbrev pub book_among : List (State × ℕ) → ℕ → State
 book_among books tenant = (slice_index_or books tenant (no_book, 0)).0
 
 -- the step's record, in its tenant's book
-abbrev pub entry_of : Done → Entered
-entry_of e = record { tenant = e.tenant; made = e.made }
+abbrev pub entered_by : Done → Entered
+entered_by e = record { tenant = e.tenant; made = e.made }
 
 -- It is the list of all that was done. For each tenant it has the steps that led to the tenant's book, in the order of
 -- its journals, with the outcomes of the replay. For each worker it has the steps that its share knows, in their
@@ -77,7 +77,7 @@ pub record IsListOf (size : Size) (openings : List Opening) (books : List (State
   pub met : All (λ s. All (IsBeginning log) s.met) shares
   pub others : All (λ e. (e.tenant < size.tenants) × (e.worker < size.workers)) log
   pub in_order : AreInOrder 0 books
-  pub run : AreRun openings (map entry_of log) (book_among books)
+  pub run : AreRun openings (map entered_by log) (book_among books)
 
 -- there is one
 abbrev pub HaveListOf : Size → List Opening → List (State × ℕ) → List ShareView → Type 0
@@ -90,5 +90,5 @@ AreTraced openings (b ∷ bs) (p ∷ ps) = IsTraced openings b.0 p × AreTraced 
 AreTraced openings _ _ = ⊥
 
 -- the part of the list that a share knows
-abbrev pub part_of : ShareView → WorkerView
-part_of s = record { number = s.worker; steps = s.steps; met = s.met }
+abbrev pub share_part : ShareView → WorkerView
+share_part s = record { number = s.worker; steps = s.steps; met = s.met }

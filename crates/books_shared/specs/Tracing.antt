@@ -10,16 +10,16 @@ use Rattle.one_list.specs.declared.step.Done.{Done as Step}
 
 -- the steps of a call that appended so many entries, by the period's records after it: of the last one, if it appended
 -- any
-abbrev pub told_by : ℕ → (worker tenant period : ℕ) → List Record → List Step
-told_by zero worker tenant period records = []
-told_by (suc n) worker tenant period records = done_last worker tenant period records
+abbrev pub steps_appended : ℕ → (worker tenant period : ℕ) → List Record → List Step
+steps_appended zero worker tenant period records = []
+steps_appended (suc n) worker tenant period records = done_last worker tenant period records
 
 -- the steps of a command with that answer, by the state after it: of the change's record, or of the closed period's
 -- last one
-abbrev pub told_of : Result Answered CommandFault → (worker tenant : ℕ) → State → List Step
-told_of (Ok Done) worker tenant s = done_last worker tenant s.opening.period s.records
-told_of (Ok (Rolled period)) worker tenant s = done_last worker tenant period.opening.period period.records
-told_of _ worker tenant s = []
+abbrev pub steps_of_command : Result Answered CommandFault → (worker tenant : ℕ) → State → List Step
+steps_of_command (Ok Done) worker tenant s = done_last worker tenant s.opening.period s.records
+steps_of_command (Ok (Rolled period)) worker tenant s = done_last worker tenant period.opening.period period.records
+steps_of_command _ worker tenant s = []
 
 -- there is such a record, if an entry was appended
 abbrev pub HasAppended : Result Answered CommandFault → State → Type 0

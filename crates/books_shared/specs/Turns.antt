@@ -18,12 +18,12 @@ pub record IsSentOn (before after : Job) : Type 0 where
   pub tenant : waiting_in after ≡ tenant_in before
 
 -- what a decide left of the slot, by its turn: as it was, with no call, or with a call that awaits its answer
-abbrev pub IsLeft : Turn → Work → Work → Type 0
-IsLeft Idle before after = after ≡ before
-IsLeft Stray before after = after ≡ before
-IsLeft Stranger before after = after.job ≡ Job.NoJob
-IsLeft Reply before after = after.job ≡ Job.NoJob
-IsLeft (Send peer hold) before after = IsSentOn before.job after.job
+abbrev pub IsSlotLeft : Turn → Work → Work → Type 0
+IsSlotLeft Idle before after = after ≡ before
+IsSlotLeft Stray before after = after ≡ before
+IsSlotLeft Stranger before after = after.job ≡ Job.NoJob
+IsSlotLeft Reply before after = after.job ≡ Job.NoJob
+IsSlotLeft (Send peer hold) before after = IsSentOn before.job after.job
 
 -- what an answer left of the slot, by its turn: with no call, or as it was
 abbrev pub IsEnded : Turn → Work → Work → Type 0

@@ -6,7 +6,7 @@ ghost use Rattle.books_shared.specs.Shares.{fresh_shares};
 ghost use Rattle.books_shared.specs.Traced.{openings_of};
 
 use crate::guard::Guard;
-use crate::kept::Kept;
+use crate::kept::LockedBook;
 use crate::share::Share;
 use ilp_addr::Moment;
 use one_list::{Chronicle, Opened, Run, Unclaimed};
@@ -29,7 +29,7 @@ pub const MAX_WORKERS: usize = 4_096;
 #[derive(Drop)]
 pub struct Books<J: Run> {
     pub(crate) chronicle: Chronicle<J>,
-    pub(crate) locks: Vec<Mutex<Kept<J>>>,
+    pub(crate) locks: Vec<Mutex<LockedBook<J>>>,
     pub(crate) workers: usize,
 }
 
@@ -151,7 +151,7 @@ fn locks_of<J: Run>(
     unclaimed: &mut Unclaimed<J>,
     setups: &[TenantSetup],
     start: Moment,
-) -> Result<Vec<Mutex<Kept<J>>>, AllocError>
+) -> Result<Vec<Mutex<LockedBook<J>>>, AllocError>
     requires few { length setups.now ≤ max_tenants }
     requires none { unclaimed.old.tenants ≡ 0 }
     requires many { J.size.tenants ≡ length setups.now }
@@ -160,11 +160,11 @@ fn locks_of<J: Run>(
     ensures workers { unclaimed.new.workers ≡ unclaimed.old.workers }
 {
     one_list::laws::histories();
-    let mut locks: Vec<Mutex<Kept<J>>> = Vec::with_capacity(alloc, setups.len())?;
+    let mut locks: Vec<Mutex<LockedBook<J>>> = Vec::with_capacity(alloc, setups.len())?;
     for (tenant, setup) in setups.iter().enumerate() {
         let book = Book::new(alloc, tenant, setup, start)?;
         let part = chronicle.tenant_part(unclaimed);
-        locks.push_reserved(Mutex::new(Kept::new(book, part)));
+        locks.push_reserved(Mutex::new(LockedBook::new(book, part)));
     }
     Ok(locks)
 }

@@ -4,10 +4,10 @@ ghost use Rattle.std.specs.Prelude.{◌≡◌, ◌<◌, ◌≤◌, [], ◌++◌,
 ghost use Rattle.std.specs.List.Sorted.{IsNonDecreasingBy, IsPermutation};
 ghost use Rattle.tenant_core.specs.Limits.{max_tenants};
 ghost use Rattle.books_shared.specs.Gathers.{agree, are_all_there, each_has_one, max_workers, shares_of, total_at};
-ghost use Rattle.books_shared.specs.Traced.{AreTraced, part_of};
+ghost use Rattle.books_shared.specs.Traced.{AreTraced, share_part};
 
 use crate::books::Books;
-use crate::kept::Kept;
+use crate::kept::LockedBook;
 use crate::share::Share;
 use one_list::{Chronicle, Gathering, Run};
 use std::alloc::Global;
@@ -29,7 +29,7 @@ impl<J: Run> Books<J> {
     ghost use Rattle.std.specs.Prelude.{IfOk, IfErr};
     ghost use Rattle.books_shared.specs.Gathers.{AreGathered};
     ghost use Rattle.books_shared.specs.Traced.{HaveListOf};
-    ghost use Rattle.books_shared.specs.Faults.{IsFault};
+    ghost use Rattle.books_shared.specs.Faults.{IsGatherFault};
 
     /// Opens all locks and returns the book of each tenant, in the order of their numbers. Each comes with how many
     /// entries were appended to it since `Books::new`, which is the sum of what the shares count for its tenant.
@@ -60,7 +60,7 @@ impl<J: Run> Books<J> {
     ) -> Result<Vec<(Book, u64)>, GatherFault<J>>
         ensures one_list { IfOk result (λ gathered. HaveListOf J.size J.openings gathered.items shares.items) }
         ensures ok { IfOk result (λ gathered. AreGathered gathered.items self shares.items) }
-        ensures err { IfErr result (λ fault. IsFault fault self shares.items) }
+        ensures err { IfErr result (λ fault. IsGatherFault fault self shares.items) }
     {
         if !are_all_there(self.workers(), shares.as_slice()) {
             return Err(GatherFault::Missing(self, shares));
@@ -150,8 +150,8 @@ fn agree<J: Run>(books: &[(Book, u64)], shares: &[Share<J>]) -> bool
 fn open_all<J: Run>(
     chronicle: &Chronicle<J>,
     alloc: Global,
-    mut locks: Vec<Mutex<Kept<J>>>,
-) -> Result<(Vec<(Book, u64)>, Gathering<J>), Vec<Mutex<Kept<J>>>>
+    mut locks: Vec<Mutex<LockedBook<J>>>,
+) -> Result<(Vec<(Book, u64)>, Gathering<J>), Vec<Mutex<LockedBook<J>>>>
     ensures books { IfOk result (λ opened. vec_len opened.0 ≡ vec_len locks) }
     ensures parts { IfOk result (λ opened. AreTraced J.openings opened.0.items opened.1.tenants) }
     ensures none { IfOk result (λ opened. opened.1.workers ≡ []) }
@@ -188,7 +188,7 @@ fn tenant_of(book: &(Book, u64)) -> usize
 // Adds the workers' parts of the one list.
 fn add_all<J: Run>(chronicle: &Chronicle<J>, parts: &mut Gathering<J>, shares: Vec<Share<J>>)
     ensures tenants { parts.new.tenants ≡ parts.old.tenants }
-    ensures workers { parts.new.workers ≡ parts.old.workers ++ map part_of shares.items }
+    ensures workers { parts.new.workers ≡ parts.old.workers ++ map share_part shares.items }
 {
     for share in shares {
         parts.add_worker(chronicle, share.into_part());

@@ -1,6 +1,6 @@
 //! A tenant's book whose lock is held.
 
-use crate::kept::Kept;
+use crate::kept::LockedBook;
 use crate::share::Share;
 use floor_core::{Got, Slot, Turn};
 use ilp_addr::Moment;
@@ -10,22 +10,22 @@ use std::marker::Model;
 use std::sync::MutexGuard;
 use tenant_core::{Answered, Book, BookFault, Command, CommandFault};
 
-/// A tenant's book whose lock is held, until the guard is dropped. Contracts see it as a `Kept`: the book's state, how
+/// A tenant's book whose lock is held, until the guard is dropped. Contracts see it as a `LockedBook`: the book's state, how
 /// many entries its closed periods had, and all that was done to the book since `Books::new`. The latter are the
 /// tenant's steps in the one list of what is done to all books, in order.
 #[derive(Drop)]
 pub struct Guard<'a, J: Run> {
-    kept: MutexGuard<'a, Kept<J>>,
+    kept: MutexGuard<'a, LockedBook<J>>,
     chronicle: &'a Chronicle<J>,
 }
 
 impl<'a, J: Run> Model for Guard<'a, J> {
     ghost use Rattle.std.specs.Sync.Mutex.{mutex_guard_value};
-    ghost use Rattle.books_shared.specs.Kept.{Kept};
+    ghost use Rattle.books_shared.specs.Kept.{LockedBook};
     ghost use Rattle.std.specs.Coded.{codes};
     ghost use Rattle.route_table.specs.contracts.routes.Routes as routes;
 
-    ghost Value = { Kept };
+    ghost Value = { LockedBook };
 
     ghost coded = { Prim.hlevel (codes, routes.the_row.coded) };
 
@@ -37,7 +37,10 @@ impl<'a, J: Run> Guard<'a, J> {
     ghost use Rattle.std.specs.Sync.Mutex.{mutex_guard_value};
 
     // The book whose lock was taken.
-    pub(crate) fn new(kept: MutexGuard<'a, Kept<J>>, chronicle: &'a Chronicle<J>) -> Guard<'a, J>
+    pub(crate) fn new(
+        kept: MutexGuard<'a, LockedBook<J>>,
+        chronicle: &'a Chronicle<J>,
+    ) -> Guard<'a, J>
         ensures { result ≡ mutex_guard_value kept.entry }
     {
         Guard { kept, chronicle }
@@ -51,12 +54,12 @@ impl<J: Run> Guard<'_, J> {
     ghost use Rattle.tenant_core.specs.Answer.{tick_made, tick_result, ticked};
     ghost use Rattle.tenant_core.specs.Governed.{IsGoverned, made_by};
     ghost use Rattle.tenant_core.specs.Sound.{IsSound};
-    ghost use Rattle.books_shared.specs.Kept.{LockInvariant, number_of};
+    ghost use Rattle.books_shared.specs.Kept.{LockInvariant, entries_appended};
     ghost use Rattle.books_shared.specs.Rises.{command_rise, entries_closed, rise_of, tick_rise};
-    ghost use Rattle.books_shared.specs.Shares.{has_met};
-    ghost use Rattle.books_shared.specs.Traced.{IsLedTo, counted};
+    ghost use Rattle.books_shared.specs.Shares.{share_met};
+    ghost use Rattle.books_shared.specs.Traced.{IsLedTo, share_counted};
     ghost use Rattle.one_list.specs.Steps.{done_by, next_place, of_tenant, of_worker};
-    ghost use Rattle.books_shared.specs.Turns.{IsLeft, IsEnded, IsSentBy};
+    ghost use Rattle.books_shared.specs.Turns.{IsSlotLeft, IsEnded, IsSentBy};
     ghost use Rattle.one_list.specs.Holds.{AreOwnAnswers};
 
     // The invariant of the type.
@@ -82,7 +85,7 @@ impl<J: Run> Guard<'_, J> {
     /// How many entries were appended to the book since `Books::new`, those of the closed periods and of their rolls
     /// too: below 2^47.
     pub fn number(&self) -> u64
-        ensures value { result ≡ number_of self.now }
+        ensures value { result ≡ entries_appended self.now }
         ensures within { result < 2 ^ 47 }
     {
         self.kept.number()
@@ -93,7 +96,7 @@ impl<J: Run> Guard<'_, J> {
     /// begin with them (`Books::gather`). Nothing else changes, and it takes neither room nor memory.
     pub fn meet(&mut self, share: &mut Share<J>)
         ensures book { self.new ≡ self.old }
-        ensures share { share.new ≡ has_met self.old.state.opening.tenant self.old.steps share.old }
+        ensures share { share.new ≡ share_met self.old.state.opening.tenant self.old.steps share.old }
         ensures shared { of_worker share.old.worker self.old.steps ≡ of_tenant self.old.state.opening.tenant share.old.steps }
     {
         self.kept.meet(self.chronicle, share);
@@ -116,12 +119,12 @@ impl<J: Run> Guard<'_, J> {
         ensures closed { self.new.closed ≡ self.old.closed }
         ensures steps { self.new.steps ≡ self.old.steps
             ++ done_by share.old.worker (next_place self.old.state) (decide_call slot.old self.old.state now).made }
-        ensures share { share.new ≡ counted (rise_of (decide_call slot.old self.old.state now)) (next_place self.old.state)
+        ensures share { share.new ≡ share_counted (rise_of (decide_call slot.old self.old.state now)) (next_place self.old.state)
             (decide_call slot.old self.old.state now).made share.old }
-        ensures number { number_of self.new
-            ≡ number_of self.old + (rise_of (decide_call slot.old self.old.state now)).entries }
+        ensures number { entries_appended self.new
+            ≡ entries_appended self.old + (rise_of (decide_call slot.old self.old.state now)).entries }
         // The slot, as the turn says it.
-        ensures left { IsLeft result slot.old slot.new }
+        ensures left { IsSlotLeft result slot.old slot.new }
     {
         self.kept.decide(self.chronicle, share, slot, now)
     }
@@ -140,10 +143,10 @@ impl<J: Run> Guard<'_, J> {
         ensures closed { self.new.closed ≡ self.old.closed }
         ensures steps { self.new.steps ≡ self.old.steps
             ++ done_by share.old.worker (next_place self.old.state) (answer_call slot.old self.old.state now got).made }
-        ensures share { share.new ≡ counted (rise_of (answer_call slot.old self.old.state now got)) (next_place self.old.state)
+        ensures share { share.new ≡ share_counted (rise_of (answer_call slot.old self.old.state now got)) (next_place self.old.state)
             (answer_call slot.old self.old.state now got).made share.old }
-        ensures number { number_of self.new
-            ≡ number_of self.old + (rise_of (answer_call slot.old self.old.state now got)).entries }
+        ensures number { entries_appended self.new
+            ≡ entries_appended self.old + (rise_of (answer_call slot.old self.old.state now got)).entries }
         // The slot, as the turn says it.
         ensures left { IsEnded result slot.old slot.new }
     {
@@ -161,9 +164,9 @@ impl<J: Run> Guard<'_, J> {
         ensures closed { self.new.closed ≡ self.old.closed }
         ensures steps { self.new.steps ≡ self.old.steps
             ++ done_by share.old.worker (next_place self.old.state) (tick_made self.old.state now) }
-        ensures share { share.new ≡ counted (tick_rise result) (next_place self.old.state)
+        ensures share { share.new ≡ share_counted (tick_rise result) (next_place self.old.state)
             (tick_made self.old.state now) share.old }
-        ensures number { number_of self.new ≡ number_of self.old + (tick_rise result).entries }
+        ensures number { entries_appended self.new ≡ entries_appended self.old + (tick_rise result).entries }
     {
         self.kept.tick(self.chronicle, share, now)
     }
@@ -188,9 +191,9 @@ impl<J: Run> Guard<'_, J> {
             ≡ self.old.closed + entries_closed result (length self.old.state.records) }
         ensures steps { self.new.steps ≡ self.old.steps
             ++ done_by share.old.worker (next_place self.old.state) (made_by result self.old.state command.now now) }
-        ensures share { share.new ≡ counted (command_rise result) (next_place self.old.state)
+        ensures share { share.new ≡ share_counted (command_rise result) (next_place self.old.state)
             (made_by result self.old.state command.now now) share.old }
-        ensures number { number_of self.new ≡ number_of self.old + (command_rise result).entries }
+        ensures number { entries_appended self.new ≡ entries_appended self.old + (command_rise result).entries }
     {
         self.kept
             .command(alloc, self.chronicle, share, command, now)

@@ -9,10 +9,10 @@ ghost use Rattle.tenant_core.specs.Limits.{max_tenants};
 ghost use Rattle.tenant_core.specs.State.{recorded};
 ghost use Rattle.books_shared.specs.Rises.{IsSmall, command_rise, entries_closed, rise_of, tick_rise};
 ghost use Rattle.books_shared.specs.Kept.{most_entries};
-ghost use Rattle.books_shared.specs.Shares.{has_met, raised, with_steps};
-ghost use Rattle.books_shared.specs.Tracing.{HasAppended, told_by, told_of};
+ghost use Rattle.books_shared.specs.Shares.{share_met, share_raised, with_steps};
+ghost use Rattle.books_shared.specs.Tracing.{HasAppended, steps_appended, steps_of_command};
 
-use crate::rise::{Rise, command_rise, entries_closed, rise_of_turn, tick_rise};
+use crate::rise::{CallCounts, command_rise, entries_closed, rise_of_turn, tick_rise};
 use crate::share::Share;
 use floor_core::{Got, Slot, Turn};
 use ilp_addr::Moment;
@@ -22,23 +22,23 @@ use std::marker::Model;
 use tenant_core::{Answered, Book, BookFault, Command, CommandFault};
 
 /// A tenant's book, how many entries its closed periods had, and the tenant's part of the one list. Contracts see it as a
-/// `Kept`.
+/// `LockedBook`.
 #[derive(Drop)]
-pub struct Kept<J: Run> {
+pub struct LockedBook<J: Run> {
     book: Book,
     closed: u64,
     part: TenantPart<J>,
 }
 
-impl<J: Run> Model for Kept<J> {
-    ghost use Rattle.books_shared.specs.Kept.{Kept, most_entries};
+impl<J: Run> Model for LockedBook<J> {
+    ghost use Rattle.books_shared.specs.Kept.{LockedBook, most_entries};
     ghost use Rattle.books_shared.specs.Traced.{IsTraced};
     ghost use Rattle.std.specs.Coded.{codes};
     ghost use Rattle.route_table.specs.contracts.routes.Routes as routes;
     ghost use Rattle.std.specs.Prelude.{◌≤◌, ◌≡◌, true};
     ghost use Rattle.one_list.specs.Holds.{AreOwnAnswers};
 
-    ghost Value = { Kept };
+    ghost Value = { LockedBook };
 
     ghost coded = { Prim.hlevel (codes, routes.the_row.coded) };
 
@@ -48,7 +48,7 @@ impl<J: Run> Model for Kept<J> {
         × (J.own ≡ true → AreOwnAnswers k.part.steps) };
 }
 
-impl<J: Run> Kept<J> {
+impl<J: Run> LockedBook<J> {
     ghost use Rattle.std.specs.Prelude.{◌≡◌, ◌+◌, ◌<◌, ◌^◌, [], ◌++◌, length, true};
     ghost use Rattle.floor_core.specs.Work.{decide_call, answer_call};
     ghost use Rattle.one_list.specs.Holds.{AreOwnAnswers};
@@ -56,18 +56,18 @@ impl<J: Run> Kept<J> {
     ghost use Rattle.tenant_core.specs.Answer.{tick_made, tick_result, ticked};
     ghost use Rattle.tenant_core.specs.Governed.{IsGoverned, made_by};
     ghost use Rattle.tenant_core.specs.State.{opened, recorded};
-    ghost use Rattle.books_shared.specs.Kept.{LockInvariant, number_of};
+    ghost use Rattle.books_shared.specs.Kept.{LockInvariant, entries_appended};
     ghost use Rattle.books_shared.specs.Rises.{command_rise, entries_closed, rise_of, tick_rise};
-    ghost use Rattle.books_shared.specs.Traced.{IsLedTo, IsTraced, counted};
+    ghost use Rattle.books_shared.specs.Traced.{IsLedTo, IsTraced, share_counted};
     ghost use Rattle.one_list.specs.Steps.{done_by, next_place, of_tenant, of_worker};
 
     /// A book in which nothing has happened, and the part of the one list of its tenant.
-    pub fn new(book: Book, part: TenantPart<J>) -> Kept<J>
+    pub fn new(book: Book, part: TenantPart<J>) -> LockedBook<J>
         requires traced { IsTraced J.openings book part }
         requires answers { J.own ≡ true → AreOwnAnswers part.steps }
         ensures { result ≡ record { state = book; closed = 0; steps = part.steps } }
     {
-        Kept {
+        LockedBook {
             book,
             closed: 0,
             part,
@@ -93,7 +93,7 @@ impl<J: Run> Kept<J> {
 
     /// How many entries were appended since the books were made.
     pub fn number(&self) -> u64
-        ensures value { result ≡ number_of self.now }
+        ensures value { result ≡ entries_appended self.now }
         ensures within { result < 2 ^ 47 }
     {
         tenant_core::laws::book_is_sound(&self.book);
@@ -104,7 +104,7 @@ impl<J: Run> Kept<J> {
     /// keeps that it has met these steps. Nothing else changes.
     pub fn meet(&mut self, chronicle: &Chronicle<J>, share: &mut Share<J>)
         ensures book { self.new ≡ self.old }
-        ensures share { share.new ≡ has_met self.old.state.opening.tenant self.old.steps share.old }
+        ensures share { share.new ≡ share_met self.old.state.opening.tenant self.old.steps share.old }
         ensures shared { of_worker share.old.worker self.old.steps ≡ of_tenant self.old.state.opening.tenant share.old.steps }
     {
         share.meet(chronicle, &mut self.part);
@@ -112,11 +112,11 @@ impl<J: Run> Kept<J> {
 
     /// The book and how many entries were appended, and its part of the one list.
     pub fn into_parts(self) -> ((Book, u64), TenantPart<J>)
-        ensures book { result.0 ≡ (self.state, number_of self) }
+        ensures book { result.0 ≡ (self.state, entries_appended self) }
         ensures traced { IsTraced J.openings self.state result.1 }
     {
         let number = self.number();
-        let Kept { book, part, .. } = self;
+        let LockedBook { book, part, .. } = self;
         ((book, number), part)
     }
 
@@ -135,9 +135,9 @@ impl<J: Run> Kept<J> {
         ensures closed { self.new.closed ≡ self.old.closed }
         ensures steps { self.new.steps ≡ self.old.steps
             ++ done_by share.old.worker (next_place self.old.state) (decide_call slot.old self.old.state now).made }
-        ensures share { share.new ≡ counted (rise_of (decide_call slot.old self.old.state now)) (next_place self.old.state)
+        ensures share { share.new ≡ share_counted (rise_of (decide_call slot.old self.old.state now)) (next_place self.old.state)
             (decide_call slot.old self.old.state now).made share.old }
-        ensures number { number_of self.new ≡ number_of self.old + (rise_of (decide_call slot.old self.old.state now)).entries }
+        ensures number { entries_appended self.new ≡ entries_appended self.old + (rise_of (decide_call slot.old self.old.state now)).entries }
     {
         tenant_core::laws::records_are_made();
         one_list::laws::histories();
@@ -166,9 +166,9 @@ impl<J: Run> Kept<J> {
         ensures closed { self.new.closed ≡ self.old.closed }
         ensures steps { self.new.steps ≡ self.old.steps
             ++ done_by share.old.worker (next_place self.old.state) (answer_call slot.old self.old.state now got).made }
-        ensures share { share.new ≡ counted (rise_of (answer_call slot.old self.old.state now got)) (next_place self.old.state)
+        ensures share { share.new ≡ share_counted (rise_of (answer_call slot.old self.old.state now got)) (next_place self.old.state)
             (answer_call slot.old self.old.state now got).made share.old }
-        ensures number { number_of self.new ≡ number_of self.old + (rise_of (answer_call slot.old self.old.state now got)).entries }
+        ensures number { entries_appended self.new ≡ entries_appended self.old + (rise_of (answer_call slot.old self.old.state now got)).entries }
     {
         tenant_core::laws::records_are_made();
         one_list::laws::histories();
@@ -192,9 +192,9 @@ impl<J: Run> Kept<J> {
         ensures closed { self.new.closed ≡ self.old.closed }
         ensures steps { self.new.steps ≡ self.old.steps
             ++ done_by share.old.worker (next_place self.old.state) (tick_made self.old.state now) }
-        ensures share { share.new ≡ counted (tick_rise result) (next_place self.old.state)
+        ensures share { share.new ≡ share_counted (tick_rise result) (next_place self.old.state)
             (tick_made self.old.state now) share.old }
-        ensures number { number_of self.new ≡ number_of self.old + (tick_rise result).entries }
+        ensures number { entries_appended self.new ≡ entries_appended self.old + (tick_rise result).entries }
     {
         tenant_core::laws::records_are_made();
         one_list::laws::histories();
@@ -220,9 +220,9 @@ impl<J: Run> Kept<J> {
             ≡ self.old.closed + entries_closed result (length self.old.state.records) }
         ensures steps { self.new.steps ≡ self.old.steps
             ++ done_by share.old.worker (next_place self.old.state) (made_by result self.old.state command.now now) }
-        ensures share { share.new ≡ counted (command_rise result) (next_place self.old.state)
+        ensures share { share.new ≡ share_counted (command_rise result) (next_place self.old.state)
             (made_by result self.old.state command.now now) share.old }
-        ensures number { number_of self.new ≡ number_of self.old + (command_rise result).entries }
+        ensures number { entries_appended self.new ≡ entries_appended self.old + (command_rise result).entries }
     {
         tenant_core::laws::calls();
         tenant_core::laws::records_are_made();
@@ -242,16 +242,16 @@ fn trace<J: Run>(
     part: &mut TenantPart<J>,
     share: &mut Share<J>,
     book: &Book,
-    rise: Rise,
+    rise: CallCounts,
 )
     requires tenant { part.old.number < max_tenants }
     requires room { 0 < share.old.room }
     requires small { IsSmall rise }
     requires appended { rise.entries ≤ length book.now.records }
     ensures part { part.new ≡ grown part.old
-        (told_by rise.entries share.old.worker part.old.number book.now.opening.period book.now.records) }
-    ensures share { share.new ≡ raised rise part.old.number (with_steps
-        (told_by rise.entries share.old.worker part.old.number book.now.opening.period book.now.records) share.old) }
+        (steps_appended rise.entries share.old.worker part.old.number book.now.opening.period book.now.records) }
+    ensures share { share.new ≡ share_raised rise part.old.number (with_steps
+        (steps_appended rise.entries share.old.worker part.old.number book.now.opening.period book.now.records) share.old) }
 {
     share.add(chronicle, part, rise, book.period(), book.journal());
 }
@@ -268,9 +268,9 @@ fn trace_command<J: Run>(
     requires tenant { part.old.number < max_tenants }
     requires room { 0 < share.old.room }
     requires appended { HasAppended answer.now book.now }
-    ensures part { part.new ≡ grown part.old (told_of answer.now share.old.worker part.old.number book.now) }
-    ensures share { share.new ≡ raised (command_rise answer.now) part.old.number
-        (with_steps (told_of answer.now share.old.worker part.old.number book.now) share.old) }
+    ensures part { part.new ≡ grown part.old (steps_of_command answer.now share.old.worker part.old.number book.now) }
+    ensures share { share.new ≡ share_raised (command_rise answer.now) part.old.number
+        (with_steps (steps_of_command answer.now share.old.worker part.old.number book.now) share.old) }
 {
     let rise = command_rise(answer);
     match answer {
@@ -289,7 +289,7 @@ fn trace_command<J: Run>(
     }
 }
 
-fn decide_in(book: &mut Book, slot: &mut Slot, now: Moment) -> (Turn, Rise)
+fn decide_in(book: &mut Book, slot: &mut Slot, now: Moment) -> (Turn, CallCounts)
     ensures turn { result.0 ≡ (decide_call slot.old book.old now).turn }
     ensures slot { slot.new ≡ (decide_call slot.old book.old now).work }
     ensures book { book.new ≡ recorded book.old (decide_call slot.old book.old now).made }
@@ -303,7 +303,7 @@ fn decide_in(book: &mut Book, slot: &mut Slot, now: Moment) -> (Turn, Rise)
     (turn, rise_of_turn(turn, entries as u64))
 }
 
-fn answer_in(book: &mut Book, slot: &mut Slot, now: Moment, got: Got) -> (Turn, Rise)
+fn answer_in(book: &mut Book, slot: &mut Slot, now: Moment, got: Got) -> (Turn, CallCounts)
     ensures turn { result.0 ≡ (answer_call slot.old book.old now got).turn }
     ensures slot { slot.new ≡ (answer_call slot.old book.old now got).work }
     ensures book { book.new ≡ recorded book.old (answer_call slot.old book.old now got).made }
@@ -317,7 +317,7 @@ fn answer_in(book: &mut Book, slot: &mut Slot, now: Moment, got: Got) -> (Turn, 
     (turn, rise_of_turn(turn, entries as u64))
 }
 
-fn tick_in(book: &mut Book, now: Moment) -> (Result<u32, BookFault>, Rise)
+fn tick_in(book: &mut Book, now: Moment) -> (Result<u32, BookFault>, CallCounts)
     ensures count { result.0 ≡ tick_result book.old now }
     ensures book { book.new ≡ ticked book.old now }
     ensures rise { result.1 ≡ tick_rise result.0 }

@@ -4,14 +4,14 @@ ghost use Rattle.std.specs.Prelude.{◌≡◌, ◌<◌, ◌↔◌, ℕ, All, Boo
 ghost use Rattle.std.specs.List.{filter_map};
 ghost use Rattle.tenant_core.specs.Sound.{IsSound};
 ghost use Rattle.books_shared.specs.Gathers.{are_all_there, shares_of};
-ghost use Rattle.books_shared.specs.Shares.{ShareView, fresh_shares, raised, receipts_in};
-ghost use Rattle.books_shared.specs.declared.rise.Rise.{Rise};
-ghost use Rattle.books_shared.specs.Complete.{AreClosedIn, AreNumbered, AreReceiptsOf, AreRolled};
+ghost use Rattle.books_shared.specs.Shares.{ShareView, fresh_shares, share_raised, receipts_in};
+ghost use Rattle.books_shared.specs.declared.rise.CallCounts.{CallCounts};
+ghost use Rattle.books_shared.specs.Complete.{AreClosedIn, AreSharesFrom, AreReceiptsOf, AreRolled};
 ghost use Rattle.books_shared.specs.Traced.{IsListOf, after_made, openings_of};
 ghost use Rattle.one_list.specs.declared.step.Done.{Done};
 ghost use Rattle.one_list.specs.declared.step.Size.{Size};
 ghost use Rattle.receipts.specs.Audits.{AreMatched, IsComplete, IsStuckAt};
-ghost use Rattle.receipts.specs.Layout.{AreKept};
+ghost use Rattle.receipts.specs.Layout.{AreOfRolls};
 ghost use Rattle.receipts.specs.Runs.{AreOfRun};
 ghost use Rattle.receipts.specs.declared.receipt.Receipt.{Receipt};
 ghost use Rattle.tenant_core.specs.State.{State};
@@ -43,7 +43,7 @@ pub fn all_there()
 /// The shares that `Books::new` gives are all there, and what calls count leaves them so: a share stays its worker's.
 pub fn fresh_shares_are_all_there()
     ensures fresh { (audited : Bool) (workers : ℕ) → IsTrue (are_all_there workers (fresh_shares audited workers)) }
-    ensures same { (rise : Rise) (tenant : ℕ) (share : ShareView) → (raised rise tenant share).worker ≡ share.worker }
+    ensures same { (rise : CallCounts) (tenant : ℕ) (share : ShareView) → (share_raised rise tenant share).worker ≡ share.worker }
 {}
 
 /// The record that an event makes is what the book of the one-tenant connector grows by. After the record of a roll,
@@ -81,7 +81,7 @@ pub fn gathered_receipts_are_complete()
         → IsListOf size (openings_of setups start) books shares log → size.tenants ≡ length books
         → AreRolled books → AreClosedIn (openings_of setups start) log periods → AreReceiptsOf size.workers shares lists
         → IsComplete periods lists (map (λ e. e.worker) log) }
-    ensures kept { (shares : List ShareView) → AreNumbered 0 shares → All (λ s. s.audited ≡ true) shares
+    ensures kept { (shares : List ShareView) → AreSharesFrom 0 shares → All (λ s. s.audited ≡ true) shares
         → AreReceiptsOf (length shares) shares (filter_map receipts_in shares) }
 {}
 
@@ -92,7 +92,7 @@ pub fn orders()
     ensures stuck { (periods : List PeriodParts) (lists : List (List Receipt)) (front : ℕ → ℕ) (order : List ℕ)
         → AreMatched periods lists → IsStuckAt periods lists front → IsComplete periods lists order → ⊥ }
     ensures run { (periods : List PeriodParts) (lists : List (List Receipt)) (order : List ℕ)
-        → AreKept periods → IsComplete periods lists order → AreOfRun periods lists order }
+        → AreOfRolls periods → IsComplete periods lists order → AreOfRun periods lists order }
 {
     no_order_where_stuck();
     complete_receipts_are_a_run();

@@ -8,7 +8,7 @@ use tenant_core::{Answered, BookFault, CommandFault};
 
 /// What a call adds to the counts of a tenant.
 #[derive(Clone, Copy, Debug, PartialEq, Eq)]
-pub struct Rise {
+pub struct CallCounts {
     /// How many entries were appended to the book.
     pub entries: u64,
     /// How many tokens were no peer's.
@@ -17,34 +17,34 @@ pub struct Rise {
     pub full: u64,
 }
 
-const NOTHING: Rise = Rise {
+const NOTHING: CallCounts = CallCounts {
     entries: 0,
     strangers: 0,
     full: 0,
 };
 
-const AN_ENTRY: Rise = Rise {
+const AN_ENTRY: CallCounts = CallCounts {
     entries: 1,
     strangers: 0,
     full: 0,
 };
 
 /// What a call of a slot with that turn adds, which appended so many entries.
-pub fn rise_of_turn(turn: Turn, entries: u64) -> Rise
+pub fn rise_of_turn(turn: Turn, entries: u64) -> CallCounts
     ensures { result ≡ rise_of_turn turn entries }
 {
     match turn {
-        Turn::Stranger => Rise {
+        Turn::Stranger => CallCounts {
             entries,
             strangers: 1,
             full: 0,
         },
-        Turn::Reply => Rise {
+        Turn::Reply => CallCounts {
             entries,
             strangers: 0,
             full: if entries == 0 { 1 } else { 0 },
         },
-        Turn::Idle | Turn::Stray | Turn::Send { .. } => Rise {
+        Turn::Idle | Turn::Stray | Turn::Send { .. } => CallCounts {
             entries,
             strangers: 0,
             full: 0,
@@ -53,7 +53,7 @@ pub fn rise_of_turn(turn: Turn, entries: u64) -> Rise
 }
 
 /// What a tick with that result adds.
-pub fn tick_rise(count: Result<u32, BookFault>) -> Rise
+pub fn tick_rise(count: Result<u32, BookFault>) -> CallCounts
     ensures { result ≡ tick_rise count }
 {
     match count {
@@ -63,7 +63,7 @@ pub fn tick_rise(count: Result<u32, BookFault>) -> Rise
 }
 
 /// What a command with that answer adds.
-pub fn command_rise(answer: &Result<Answered, CommandFault>) -> Rise
+pub fn command_rise(answer: &Result<Answered, CommandFault>) -> CallCounts
     ensures { result ≡ command_rise answer.now }
 {
     match answer {

@@ -5,9 +5,9 @@ ghost use Rattle.one_list.specs.Steps.{grown, worked};
 ghost use Rattle.receipts.specs.Ledgers.{last_receipt};
 ghost use Rattle.books_shared.specs.ShareKept.{HasKept, HasMadeRoom, IsLedgerOf};
 ghost use Rattle.books_shared.specs.Shares.{has_full, receipts_told};
-ghost use Rattle.books_shared.specs.Tracing.{told_by};
+ghost use Rattle.books_shared.specs.Tracing.{steps_appended};
 
-use crate::rise::Rise;
+use crate::rise::CallCounts;
 use one_list::{Chronicle, Run, TenantPart, WorkerPart};
 use receipts::{Ledger, Receipt};
 use std::alloc::{AllocError, Global};
@@ -86,9 +86,9 @@ impl<J: Run> Share<J> {
     ghost use Rattle.std.specs.Prelude.{◌≡◌, ◌+◌, ◌<◌, ◌≤◌, ◌==◌, Bool, [], count_by, length, option_map, slice_index};
     ghost use Rattle.tenant_core.specs.Limits.{max_tenants};
     ghost use Rattle.books_shared.specs.Rises.{IsSmall};
-    ghost use Rattle.books_shared.specs.Shares.{IsRoomMade, fresh, has_met, max_count, raised, receipts_in, with_steps};
-    ghost use Rattle.books_shared.specs.Traced.{part_of};
-    ghost use Rattle.books_shared.specs.Tracing.{told_by};
+    ghost use Rattle.books_shared.specs.Shares.{IsRoomMade, fresh, share_met, max_count, share_raised, receipts_in, with_steps};
+    ghost use Rattle.books_shared.specs.Traced.{share_part};
+    ghost use Rattle.books_shared.specs.Tracing.{steps_appended};
     ghost use Rattle.one_list.specs.Steps.{grown, of_tenant, of_worker};
 
     // The share of a worker that has counted nothing. It keeps receipts if `audited`.
@@ -183,7 +183,7 @@ impl<J: Run> Share<J> {
         &mut self,
         chronicle: &Chronicle<J>,
         tenant: &mut TenantPart<J>,
-        rise: Rise,
+        rise: CallCounts,
         period: u64,
         journal: &Journal,
     )
@@ -192,9 +192,9 @@ impl<J: Run> Share<J> {
         requires small { IsSmall rise }
         requires appended { rise.entries ≤ length journal.now.records }
         ensures tenant { tenant.new
-            ≡ grown tenant.old (told_by rise.entries self.old.worker tenant.old.number period journal.now.records) }
-        ensures share { self.new ≡ raised rise tenant.old.number
-            (with_steps (told_by rise.entries self.old.worker tenant.old.number period journal.now.records) self.old) }
+            ≡ grown tenant.old (steps_appended rise.entries self.old.worker tenant.old.number period journal.now.records) }
+        ensures share { self.new ≡ share_raised rise tenant.old.number
+            (with_steps (steps_appended rise.entries self.old.worker tenant.old.number period journal.now.records) self.old) }
     {
         let number = tenant.number() as usize;
         tell(
@@ -219,7 +219,7 @@ impl<J: Run> Share<J> {
     // The tenant's steps by the worker are the worker's steps of the tenant; and the worker has met the tenant's.
     pub(crate) fn meet(&mut self, chronicle: &Chronicle<J>, tenant: &mut TenantPart<J>)
         ensures tenant { tenant.new ≡ tenant.old }
-        ensures share { self.new ≡ has_met tenant.old.number tenant.old.steps self.old }
+        ensures share { self.new ≡ share_met tenant.old.number tenant.old.steps self.old }
         ensures shared { of_worker self.old.worker tenant.old.steps ≡ of_tenant tenant.old.number self.old.steps }
     {
         chronicle.meet(tenant, &mut self.part);
@@ -227,7 +227,7 @@ impl<J: Run> Share<J> {
 
     // The worker's part of the one list.
     pub(crate) fn into_part(self) -> WorkerPart<J>
-        ensures { result ≡ part_of self }
+        ensures { result ≡ share_part self }
     {
         let Share { part, .. } = self;
         part
@@ -279,11 +279,11 @@ fn tell<J: Run>(
 )
     requires { IfSome ledger.old (λ kept. 0 < kept.room) }
     ensures tenant { tenant.new
-        ≡ grown tenant.old (told_by entries worker.old.number tenant.old.number period journal.now.records) }
+        ≡ grown tenant.old (steps_appended entries worker.old.number tenant.old.number period journal.now.records) }
     ensures worker { worker.new
-        ≡ worked worker.old (told_by entries worker.old.number tenant.old.number period journal.now.records) }
+        ≡ worked worker.old (steps_appended entries worker.old.number tenant.old.number period journal.now.records) }
     ensures ledger { HasKept ledger.old ledger.new
-        (receipts_told (told_by entries worker.old.number tenant.old.number period journal.now.records)) }
+        (receipts_told (steps_appended entries worker.old.number tenant.old.number period journal.now.records)) }
 {
     if entries != 0 {
         let number = tenant.number() as usize;

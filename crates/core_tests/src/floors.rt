@@ -6,7 +6,7 @@ ghost use Rattle.floor_core.specs.FloorView.{Fits};
 
 use admin_text::read_setup;
 use common_types::Boxed;
-use floor_core::{Floor, Given, Octets, Output, Step};
+use floor_core::{Floor, Octets, Output, PeerAnswer, Step};
 use ilp_addr::Moment;
 use std::alloc::Global;
 use std::process::Abort;
@@ -81,11 +81,11 @@ fn step_of<'a>(alloc: Global, row: &Row, bytes: &'a [u8]) -> Result<Step<'a>, Fa
         Row::Show(token, _) => Ok(load(0, 0, token, bytes)),
         Row::Decide(worker, _) => Ok(Step::Decide { worker, now }),
         Row::Answer(worker, _, _) => {
-            let given = Given::Bytes(Octets::of(bytes));
+            let given = PeerAnswer::Bytes(Octets::of(bytes));
             Ok(Step::Answer { worker, now, given })
         }
         Row::Lost(worker, _) => {
-            let given = Given::Fault;
+            let given = PeerAnswer::Fault;
             Ok(Step::Answer { worker, now, given })
         }
         Row::Tick(tenant, _) => Ok(Step::Tick { tenant, now }),

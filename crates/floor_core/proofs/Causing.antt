@@ -27,8 +27,8 @@ use Rattle.tenant_core.specs.declared.verdict.Verdict.TheVariants.{Unknown, NoRo
 use Rattle.floor_core.specs.Causes.{Cause, Entered, AreCaused, AreRun, ArePlaced, BringsBytes, all_made, book_opened, entered, left_from, made_from, made_in, packet_made, world_opened}
 use Rattle.floor_core.specs.Forwards.{AreForwards, AreTaken, HasBytes, no_frames}
 use Rattle.floor_core.specs.World.{AreOutputs, Effect, FitsIn, Stage, Tenant, Hand, World, put, arrival, arrived, key_in, answer_key, heard, told, owner}
-use Rattle.floor_core.specs.Worlds.{after, after_all, replies}
-use Rattle.floor_core.specs.declared.step.Given.{Given}
+use Rattle.floor_core.specs.Worlds.{world_after, after_all, replies}
+use Rattle.floor_core.specs.declared.step.PeerAnswer.{PeerAnswer}
 use Rattle.floor_core.specs.declared.step.Malformed.{Malformed}
 use Rattle.floor_core.specs.declared.step.Output.{Output}
 use Rattle.floor_core.specs.declared.step.Step.{Step}
@@ -231,7 +231,7 @@ awaited_made s hold now key None r e made = absurd (not_made (rw e at made))
 awaited_made s hold now key (Some h) r e made = rw e refl
 
 -- the tenant after the answer
-abbrev answered_tenant : World → (t hold call now : ℕ) → Given → Tenant
+abbrev answered_tenant : World → (t hold call now : ℕ) → PeerAnswer → Tenant
 answered_tenant w t hold call now given =
     record {
       book = answered (w.tenants t).book hold now (answer_key (heard given));
@@ -240,7 +240,7 @@ answered_tenant w t hold call now given =
     }
 
 -- the world after it
-abbrev answered_world : World → (t hold call worker now : ℕ) → Given → World
+abbrev answered_world : World → (t hold call worker now : ℕ) → PeerAnswer → World
 answered_world w t hold call worker now given =
     record { tenants = put w.tenants t (answered_tenant w t hold call now given); hands = put w.hands worker Hand.Free }
 
@@ -248,13 +248,13 @@ ok_of : (r : Result Verdict HoldFault) → is_ok r ≡ true → (v : Verdict) ×
 ok_of (Ok v) e = (v, refl)
 ok_of (Err fault) e = absurd (not_true e)
 
-answer_after_step : (w : World) (t hold call worker now : ℕ) (given : Given) (v : Verdict) → w.hands worker ≡ Hand.Awaits t call
+answer_after_step : (w : World) (t hold call worker now : ℕ) (given : PeerAnswer) (v : Verdict) → w.hands worker ≡ Hand.Awaits t call
     → (w.tenants t).calls call ≡ Some (Stage.Sent hold) → answer_to (w.tenants t).book hold now (answer_key (heard given)) ≡ Ok v
-    → after w (Answer worker now given) ≡ answered_world w t hold call worker now given
+    → world_after w (Answer worker now given) ≡ answered_world w t hold call worker now given
 answer_after_step w t hold call worker now given v hand stage settled =
     rw hand (came w worker t (Hand.Awaits t call) _ _ (answer_effect (w.tenants t) call hold now (heard given) v ((w.tenants t).calls call) stage settled))
 
-answer_made_step : (w : World) (t hold call worker now : ℕ) (given : Given) (v : Verdict) → w.hands worker ≡ Hand.Awaits t call
+answer_made_step : (w : World) (t hold call worker now : ℕ) (given : PeerAnswer) (v : Verdict) → w.hands worker ≡ Hand.Awaits t call
     → (w.tenants t).calls call ≡ Some (Stage.Sent hold) → answer_to (w.tenants t).book hold now (answer_key (heard given)) ≡ Ok v
     → made_in w (owner w.hands (Answer worker now given)) ≡ entered t (answer_made (w.tenants t).book hold now (answer_key (heard given)))
 answer_made_step w t hold call worker now given v hand stage settled =
@@ -266,7 +266,7 @@ split true false e = (refl, refl)
 split false b e = absurd (not_true e)
 
 -- the other holds of the tenant are where they were
-others_await : OpenHoldLaws → (bound next : ℕ) (w : World) (t hold now : ℕ) (given : Given) (here : IsAwaitedIn w t hold) → IsGoing bound next w → (other : ℕ)
+others_await : OpenHoldLaws → (bound next : ℕ) (w : World) (t hold now : ℕ) (given : PeerAnswer) (here : IsAwaitedIn w t hold) → IsGoing bound next w → (other : ℕ)
     → is_awaited (answered (w.tenants t).book hold now (answer_key (heard given))) other ≡ true
     → IsAwaitedIn (answered_world w t hold here.call here.worker now given) t other
 others_await holds bound next w t hold now given here g other is =
@@ -287,7 +287,7 @@ others_await holds bound next w t hold now given here g other is =
 free_put : (hands : ℕ → Hand) (v k : ℕ) → hands k ≡ Hand.Free → put hands v Hand.Free k ≡ Hand.Free
 free_put hands v k e = elim (eqb_tells k v) [ inl a ↦ rw a.0 refl | inr a ↦ rw a.0 e ]
 
-return_moves : (w : World) (t hold call worker now : ℕ) (given : Given)
+return_moves : (w : World) (t hold call worker now : ℕ) (given : PeerAnswer)
     → Moves w (answered_world w t hold call worker now given) t worker (answered_tenant w t hold call now given) Hand.Free
 return_moves w t hold call worker now given =
     record {
@@ -302,7 +302,7 @@ at_work : (bound next : ℕ) (w : World) (t call worker : ℕ) → IsGoing bound
 at_work bound next w t call worker g hand = dite (dec_lt worker next) (λ lt. lt)
     (λ not_below. absurd (not_awaits (w.hands worker) t call (g.free worker (omega arith)) hand))
 
-return_goes : OpenHoldLaws → CallLaws → (bound next : ℕ) (w : World) (t hold now : ℕ) (given : Given) (r : Record) → t < bound → IsGoing bound next w
+return_goes : OpenHoldLaws → CallLaws → (bound next : ℕ) (w : World) (t hold now : ℕ) (given : PeerAnswer) (r : Record) → t < bound → IsGoing bound next w
     → made_from (w.tenants t).book (Cause.Return hold now given) ≡ Some r
     → Goes bound next w t r (left_from (w.tenants t).book (Cause.Return hold now given))
 return_goes holds calls bound next w t hold now given r lt g e =
@@ -312,7 +312,7 @@ return_goes holds calls bound next w t hold now given r lt g e =
     let here = g.awaited t hold awaits in
     let ok = ok_of (answer_to book hold now key) (calls.settled book hold now key ∙ awaits) in
     let m = answered_world w t hold here.call here.worker now given in
-    let is : after w (Answer here.worker now given) ≡ m = answer_after_step w t hold here.call here.worker now given ok.0 here.hand here.stage ok.1 in
+    let is : world_after w (Answer here.worker now given) ≡ m = answer_after_step w t hold here.call here.worker now given ok.0 here.hand here.stage ok.1 in
     let moves = return_moves w t hold here.call here.worker now given in
     let going : IsGoing bound next m =
     goes_on bound next next w m t here.worker (answered_tenant w t hold here.call now given) Hand.Free g moves
@@ -351,7 +351,7 @@ loaded_world w t worker token p =
     }
 
 load_after_step : (w : World) (t worker : ℕ) (token frame : List ℕ) (p : Prepare) → w.hands worker ≡ Hand.Free → (w.tenants t).book.opening.tenant ≡ t
-    → arrival token frame ≡ Ok p → after w (Load worker t token frame) ≡ loaded_world w t worker token p
+    → arrival token frame ≡ Ok p → world_after w (Load worker t token frame) ≡ loaded_world w t worker token p
 load_after_step w t worker token frame p free number arrives =
     rw free (came w worker t Hand.Free _ _ (arrival_effect (w.tenants t) token frame (Ok p) arrives)
     ∙ (λ j. record { tenants = put w.tenants t (loaded_tenant w t token p); hands = put w.hands worker (Hand.Has (number j) (w.tenants t).next_call) }))
@@ -391,7 +391,7 @@ told_left s token p t call Relay = refl
 -- the step of the decide, in a world in which the worker has that call
 decide_moves : (l : World) (t worker call now : ℕ) (token : List ℕ) (p : Prepare) → l.hands worker ≡ Hand.Has t call
     → (l.tenants t).calls call ≡ Some (Stage.Ready token p)
-    → Moves l (after l (Decide worker now)) t worker
+    → Moves l (world_after l (Decide worker now)) t worker
     (record {
       book = decided (l.tenants t).book token (key_in p) now;
       next_call = (l.tenants t).next_call;
@@ -436,7 +436,7 @@ left_free t call u other Relay ne e = not_true (ap is_free (sym e))
 -- both steps as one move
 packet_moves : (w : World) (t worker now : ℕ) (token frame : List ℕ) (p : Prepare) → w.hands worker ≡ Hand.Free → (w.tenants t).book.opening.tenant ≡ t
     → arrival token frame ≡ Ok p
-    → Moves w (after (after w (Load worker t token frame)) (Decide worker now)) t worker (decided_tenant w t token p now)
+    → Moves w (world_after (world_after w (Load worker t token frame)) (Decide worker now)) t worker (decided_tenant w t token p now)
     (hand_left t (w.tenants t).next_call (judge (w.tenants t).book token (key_in p) now))
 packet_moves w t worker now token frame p free number arrives =
     let l = loaded_world w t worker token p in
@@ -453,11 +453,11 @@ packet_moves w t worker now token frame p free number arrives =
       hands = λ k ne. put-other w.hands worker _ k ne;
     } in
     let second = decide_moves l t worker (w.tenants t).next_call now token p hand stage in
-    let both = twice w l (after l (Decide worker now)) t worker x _ _ _ first second in
-    subst (λ (y : World). Moves w (after y (Decide worker now)) t worker (decided_tenant w t token p now)
+    let both = twice w l (world_after l (Decide worker now)) t worker x _ _ _ first second in
+    subst (λ (y : World). Moves w (world_after y (Decide worker now)) t worker (decided_tenant w t token p now)
     (hand_left t (w.tenants t).next_call (judge (w.tenants t).book token (key_in p) now)))
     (sym (load_after_step w t worker token frame p free number arrives))
-    (subst (λ (y : Tenant). Moves w (after l (Decide worker now)) t worker
+    (subst (λ (y : Tenant). Moves w (world_after l (Decide worker now)) t worker
     (record {
       book = decided y.book token (key_in p) now;
       next_call = y.next_call;
@@ -473,7 +473,7 @@ packet_made_steps w t worker now token frame p free number arrives =
     let hand : l.hands worker ≡ Hand.Has t (w.tenants t).next_call = put-same w.hands worker _ in
     let stage : (l.tenants t).calls (w.tenants t).next_call ≡ Some (Stage.Ready token p)
     = ap (λ (y : Tenant). y.calls (w.tenants t).next_call) own ∙ put-same (w.tenants t).calls (w.tenants t).next_call _ in
-    ap (λ (es : List Entered). es ++ all_made (after w (Load worker t token frame)) (Decide worker now ∷ [])) (load_made_step w t worker token frame free)
+    ap (λ (es : List Entered). es ++ all_made (world_after w (Load worker t token frame)) (Decide worker now ∷ [])) (load_made_step w t worker token frame free)
     ∙ (ap (λ (y : World). all_made y (Decide worker now ∷ [])) (load_after_step w t worker token frame p free number arrives)
     ∙ (ap (λ (es : List Entered). es ++ []) (decide_made_step l t worker (w.tenants t).next_call now token p hand stage)
     ∙ ap (λ (y : Tenant). entered t (decide_made y.book token (key_in p) now) ++ []) own))
@@ -533,7 +533,7 @@ packet_goes holds calls bound next w t now token frame r lt are g e =
     let p = read.0 in
     let free : w.hands next ≡ Hand.Free = g.free next (omega arith) in
     let number = g.numbered t lt in
-    let m = after (after w (Load next t token frame)) (Decide next now) in
+    let m = world_after (world_after w (Load next t token frame)) (Decide next now) in
     let moves : Moves w m t next (decided_tenant w t token p now) (hand_left t (w.tenants t).next_call (judge book token (key_in p) now))
     = packet_moves w t next now token frame p free number read.1 in
     record {
@@ -572,8 +572,8 @@ fits_more few many tenants le (Govern tenant now command) h = h
 all_made-append : (w : World) (ss more : List Step) → all_made w (ss ++ more) ≡ all_made w ss ++ all_made (after_all w ss) more
 all_made-append w [] more = refl
 all_made-append w (s ∷ ss) more =
-    ap (λ (es : List Entered). made_in w (owner w.hands s) ++ es) (all_made-append (after w s) ss more)
-    ∙ sym (append_assoc (made_in w (owner w.hands s)) (all_made (after w s) ss) (all_made (after_all (after w s) ss) more))
+    ap (λ (es : List Entered). made_in w (owner w.hands s) ++ es) (all_made-append (world_after w s) ss more)
+    ∙ sym (append_assoc (made_in w (owner w.hands s)) (all_made (world_after w s) ss) (all_made (after_all (world_after w s) ss) more))
 
 -- steps from that world on make these records, and leave those books: of tenants below the bound, and workers of whom the next
 -- ones are free

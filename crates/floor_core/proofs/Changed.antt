@@ -5,9 +5,9 @@ use Rattle.std.proofs.Math.ListN.{length-set}
 use Rattle.std.proofs.lemmas.Bool.{ne_eqb}
 use Rattle.std.proofs.lemmas.Bool.Decides.{eqb_tells}
 use Rattle.tenant_core.specs.State.{State}
-use Rattle.floor_core.specs.Work.{Job, IsOfBytes, IsReadable}
+use Rattle.floor_core.specs.Work.{Job, IsJobOfBytes, IsReadable}
 use Rattle.floor_core.specs.World.{put, no_book}
-use Rattle.floor_core.specs.FloorView.{FloorState, hand_by, hands_of, carried, is_call, stage_in, calls_of, no_seat, tenant_of, carried_at, world_of, IsSound}
+use Rattle.floor_core.specs.FloorView.{FloorState, hand_by, hands_of, call_carried, is_call, stage_in, calls_of, no_seat, tenant_of, carried_at, world_of, IsSoundFloor}
 use Rattle.floor_core.specs.declared.floor.Seat.{Seat}
 use Rattle.floor_core.proofs.Calls.{Apart, lookup, none, carried_set, hand_set, others_stay}
 
@@ -18,14 +18,14 @@ pub record Changes (f : FloorState) (w t k : ℕ) (s : Seat) : Type 0 where
   pub apart : Apart f.seats
   pub others : (v : ℕ) → v ≢ w → carried_at f.seats v ≢ Some (t, k)
   pub old : (carried_at f.seats w ≡ None) ⊎ (carried_at f.seats w ≡ Some (t, k))
-  pub new : (s.slot.job ≡ Job.NoJob) ⊎ (carried s ≡ Some (t, k))
+  pub new : (s.slot.job ≡ Job.NoJob) ⊎ (call_carried s ≡ Some (t, k))
   pub readable : IsReadable s.slot.job
-  pub octets : IsOfBytes s.slot.job
+  pub octets : IsJobOfBytes s.slot.job
 
-idle : (s : Seat) → s.slot.job ≡ Job.NoJob → carried s ≡ None
+idle : (s : Seat) → s.slot.job ≡ Job.NoJob → call_carried s ≡ None
 idle s e = rw e refl
 
-carries_new : (f : FloorState) (w t k : ℕ) (s : Seat) → Changes f w t k s → (carried s ≡ None) ⊎ (carried s ≡ Some (t, k))
+carries_new : (f : FloorState) (w t k : ℕ) (s : Seat) → Changes f w t k s → (call_carried s ≡ None) ⊎ (call_carried s ≡ Some (t, k))
 carries_new f w t k s h = elim h.new [ inl e ↦ inl (idle s e) | inr e ↦ inr e ]
 
 same_some : (o : Option (ℕ × ℕ)) (c d : ℕ × ℕ) → (o ≡ None) ⊎ (o ≡ Some c) → o ≡ Some d → d ≡ c
@@ -35,21 +35,21 @@ same_some o c d (inr e) h = cc
 pub apart_set : (f : FloorState) (w t k : ℕ) (s : Seat) → Changes f w t k s → Apart (set f.seats w s)
 apart_set f w t k s h = record {
   same = λ v u c p q.
-      let pv : put (carried_at f.seats) w (carried s) v ≡ Some c = sym (carried_set f.seats w s h.worker v) ∙ p in
-      let qu : put (carried_at f.seats) w (carried s) u ≡ Some c = sym (carried_set f.seats w s h.worker u) ∙ q in
+      let pv : put (carried_at f.seats) w (call_carried s) v ≡ Some c = sym (carried_set f.seats w s h.worker v) ∙ p in
+      let qu : put (carried_at f.seats) w (call_carried s) u ≡ Some c = sym (carried_set f.seats w s h.worker u) ∙ q in
       elim (eqb_tells v w) [
         | inl a ↦ elim (eqb_tells u w) [
           | inl b ↦ a.1 ∙ sym b.1
           | inr b ↦
-              let x : carried s ≡ Some c = rw a.0 at pv in
+              let x : call_carried s ≡ Some c = rw a.0 at pv in
               let y : carried_at f.seats u ≡ Some c = rw b.0 at qu in
-              absurd (h.others u b.1 (y ∙ ap (λ (d : ℕ × ℕ). Some d) (same_some (carried s) (t, k) c (carries_new f w t k s h) x)))
+              absurd (h.others u b.1 (y ∙ ap (λ (d : ℕ × ℕ). Some d) (same_some (call_carried s) (t, k) c (carries_new f w t k s h) x)))
         ]
         | inr a ↦ elim (eqb_tells u w) [
           | inl b ↦
-              let x : carried s ≡ Some c = rw b.0 at qu in
+              let x : call_carried s ≡ Some c = rw b.0 at qu in
               let y : carried_at f.seats v ≡ Some c = rw a.0 at pv in
-              absurd (h.others v a.1 (y ∙ ap (λ (d : ℕ × ℕ). Some d) (same_some (carried s) (t, k) c (carries_new f w t k s h) x)))
+              absurd (h.others v a.1 (y ∙ ap (λ (d : ℕ × ℕ). Some d) (same_some (call_carried s) (t, k) c (carries_new f w t k s h) x)))
           | inr b ↦
               let x : carried_at f.seats v ≡ Some c = rw a.0 at pv in
               let y : carried_at f.seats u ≡ Some c = rw b.0 at qu in
@@ -60,16 +60,16 @@ apart_set f w t k s h = record {
 
 nobody_carries : (f : FloorState) (w t k : ℕ) (s : Seat) → Changes f w t k s → s.slot.job ≡ Job.NoJob → (v : ℕ) → carried_at (set f.seats w s) v ≢ Some (t, k)
 nobody_carries f w t k s h e v q =
-    let qv : put (carried_at f.seats) w (carried s) v ≡ Some (t, k) = sym (carried_set f.seats w s h.worker v) ∙ q in
+    let qv : put (carried_at f.seats) w (call_carried s) v ≡ Some (t, k) = sym (carried_set f.seats w s h.worker v) ∙ q in
     elim (eqb_tells v w) [
-      | inl a ↦ let x : carried s ≡ Some (t, k) = rw a.0 at qv in let y = idle s e in absurd cc
+      | inl a ↦ let x : call_carried s ≡ Some (t, k) = rw a.0 at qv in let y = idle s e in absurd cc
       | inr a ↦ let x : carried_at f.seats v ≡ Some (t, k) = rw a.0 at qv in h.others v a.1 x
     ]
 
 call_new : (f : FloorState) (w t k : ℕ) (s : Seat) → Changes f w t k s → calls_of t (set f.seats w s) k ≡ stage_in s.slot.job
 call_new f w t k s h = elim h.new [
   | inl e ↦ none (set f.seats w s) t k (nobody_carries f w t k s h e) ∙ sym (ap stage_in e)
-  | inr e ↦ lookup (set f.seats w s) w (t, k) (apart_set f w t k s h) (ap carried (get_or-set_same f.seats w s no_seat h.worker) ∙ e) ∙ ap (λ (x : Seat). stage_in x.slot.job) (get_or-set_same f.seats w s no_seat h.worker)
+  | inr e ↦ lookup (set f.seats w s) w (t, k) (apart_set f w t k s h) (ap call_carried (get_or-set_same f.seats w s no_seat h.worker) ∙ e) ∙ ap (λ (x : Seat). stage_in x.slot.job) (get_or-set_same f.seats w s no_seat h.worker)
 ]
 
 pub differs : (t n u k : ℕ) (o : Option (ℕ × ℕ)) → (o ≡ None) ⊎ (o ≡ Some (u, k)) → (u ≢ t) ⊎ (k ≢ n) → is_call t n o ≡ false
@@ -78,7 +78,7 @@ differs t n u k o (inr e) (inl d) = rw e (rw (ne_eqb u t d) refl)
 differs t n u k o (inr e) (inr d) = rw e (rw (ne_eqb k n d) (elim (eqb u t) as (λ b. (b && false) ≡ false) [ true ↦ refl | false ↦ refl ]))
 
 other_call : (f : FloorState) (w t k : ℕ) (s : Seat) (m n : ℕ) → Changes f w t k s → (t ≢ m) ⊎ (k ≢ n) → calls_of m (set f.seats w s) n ≡ calls_of m f.seats n
-other_call f w t k s m n h d = others_stay f.seats w s m n h.worker (differs m n t k (carried s) (carries_new f w t k s h) d) (differs m n t k (carried_at f.seats w) h.old d)
+other_call f w t k s m n h d = others_stay f.seats w s m n h.worker (differs m n t k (call_carried s) (carries_new f w t k s h) d) (differs m n t k (carried_at f.seats w) h.old d)
 
 own_calls : (f : FloorState) (w t k : ℕ) (s : Seat) → Changes f w t k s → (n : ℕ) → calls_of t (set f.seats w s) n ≡ put (calls_of t f.seats) k (stage_in s.slot.job) n
 own_calls f w t k s h n =
@@ -141,18 +141,18 @@ placed_set books t l there placed e m lt =
       | inr a ↦ ap (λ (b : State). b.opening.tenant) (get_or-set_other books t m l no_book a.1) ∙ placed m m_in
     ]
 
-pub sound_changed : (f : FloorState) (w t k : ℕ) (s : Seat) (l : State) (nexts : List ℕ) → IsSound f → Changes f w t k s → Counts f t k nexts → l.opening.tenant ≡ t → IsSound (next_state f w t s l nexts)
+pub sound_changed : (f : FloorState) (w t k : ℕ) (s : Seat) (l : State) (nexts : List ℕ) → IsSoundFloor f → Changes f w t k s → Counts f t k nexts → l.opening.tenant ≡ t → IsSoundFloor (next_state f w t s l nexts)
 sound_changed f w t k s l nexts i h n e = record {
   as_many = n.as_many ∙ i.as_many ∙ sym (length-set f.books t l);
   placed = placed_set f.books t l h.tenant i.placed e;
   apart = (apart_set f w t k s h).same;
   below = λ v c p.
-      let pv : put (carried_at f.seats) w (carried s) v ≡ Some c = sym (carried_set f.seats w s h.worker v) ∙ p in
+      let pv : put (carried_at f.seats) w (call_carried s) v ≡ Some c = sym (carried_set f.seats w s h.worker v) ∙ p in
       let le = length-set f.books t l in
       elim (eqb_tells v w) [
         | inl a ↦
-            let x : carried s ≡ Some c = rw a.0 at pv in
-            let y : c ≡ (t, k) = same_some (carried s) (t, k) c (carries_new f w t k s h) x in
+            let x : call_carried s ≡ Some c = rw a.0 at pv in
+            let y : c ≡ (t, k) = same_some (call_carried s) (t, k) c (carries_new f w t k s h) x in
             rw y (rw le h.tenant, n.above)
         | inr a ↦
             let x : carried_at f.seats v ≡ Some c = rw a.0 at pv in
@@ -160,5 +160,5 @@ sound_changed f w t k s l nexts i h n e = record {
             (rw le b.0, counts_more f t k nexts n c b.1)
       ];
   readable = holds_set IsReadable f.seats w s h.worker i.readable h.readable;
-  octets = holds_set IsOfBytes f.seats w s h.worker i.octets h.octets;
+  octets = holds_set IsJobOfBytes f.seats w s h.worker i.octets h.octets;
 }

@@ -13,7 +13,7 @@ use Rattle.tenant_core.specs.declared.verdict.Verdict.{Verdict}
 use Rattle.tenant_core.specs.declared.verdict.Verdict.TheVariants.{Unknown, NoRoom, Refuse, Fulfil, Forward, Relay}
 use Rattle.floor_core.specs.Replies.{decision_reply}
 use Rattle.floor_core.specs.World.{Effect, Event, Hand, Stage, Tenant, World, answer_key, arrival, arrived, bytes_given, call_answered, call_decided, call_judged, call_settled, effect_of, key_in, number_of, on_call, peer_name, put, settled_reply, told}
-use Rattle.floor_core.specs.declared.step.Given.{Given}
+use Rattle.floor_core.specs.declared.step.PeerAnswer.{PeerAnswer}
 use Rattle.floor_core.specs.declared.step.Malformed.{Malformed}
 use Rattle.floor_core.specs.declared.step.Output.{Output}
 use Rattle.floor_core.specs.declared.step.Output.TheVariants.{Stranger, Reply, Send}
@@ -49,7 +49,7 @@ decide_effect s call token p now stage is =
     ∙ judged_is s call token p (decide_made s.book token (key_in p) now) (judge s.book token (key_in p) now)
 
 -- a packet that was sent on: it is settled
-pub answer_effect : (s : Tenant) (call hold now : ℕ) (given : Given) (v : Verdict) (stage : Option Stage) → stage ≡ Some (Stage.Sent hold)
+pub answer_effect : (s : Tenant) (call hold now : ℕ) (given : PeerAnswer) (v : Verdict) (stage : Option Stage) → stage ≡ Some (Stage.Sent hold)
     → answer_to s.book hold now (answer_key given) ≡ Ok v
     → call_answered s call stage now given
     ≡ on_call s call None (Reply (number_of s) (settled_reply s.book.opening.address (bytes_given given) v)) (answer_made s.book hold now (answer_key given))

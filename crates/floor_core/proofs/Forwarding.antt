@@ -20,20 +20,20 @@ use Rattle.tenant_core.specs.State.{State}
 use Rattle.tenant_core.specs.declared.faults.HoldFault.{HoldFault}
 use Rattle.tenant_core.specs.declared.verdict.Verdict.{Verdict}
 use Rattle.tenant_core.specs.declared.verdict.Verdict.TheVariants.{Unknown, NoRoom, Refuse, Fulfil, Forward, Relay}
-use Rattle.floor_core.specs.FloorView.{FloorState, Fits, IsSound, hand_by, no_seat, stage_of_frame, world_of}
-use Rattle.floor_core.specs.Forwards.{AreForwards, AreTaken, HasBytes, HasTaken, SendsForward, frames_after, frames_on}
-use Rattle.floor_core.specs.Told.{shown}
-use Rattle.floor_core.specs.Work.{Job, IsOfBytes, frame_of}
+use Rattle.floor_core.specs.FloorView.{FloorState, Fits, IsSoundFloor, hand_by, no_seat, stage_of_frame, world_of}
+use Rattle.floor_core.specs.Forwards.{AreForwards, AreTaken, HasBytes, HasTakenFrame, SendsForward, frames_after, frames_on}
+use Rattle.floor_core.specs.Outputs.{shown}
+use Rattle.floor_core.specs.Work.{Job, IsJobOfBytes, job_frame}
 use Rattle.floor_core.specs.World.{Effect, FitsIn, Hand, Stage, Tenant, World, AreOutputs, answer_key, arrival, arrived, bytes_given, call_answered, call_decided, heard, key_in, no_effect, number_of, on_call, packet_or_fault, put, settled_reply, told}
-use Rattle.floor_core.specs.Worlds.{after, replies, reply}
-use Rattle.floor_core.specs.declared.step.Given.{Given}
+use Rattle.floor_core.specs.Worlds.{world_after, replies, reply}
+use Rattle.floor_core.specs.declared.step.PeerAnswer.{PeerAnswer}
 use Rattle.floor_core.specs.declared.step.Malformed.{Malformed}
 use Rattle.floor_core.specs.declared.step.Malformed.TheVariants as malformed
 use Rattle.floor_core.specs.declared.step.Output.{Output}
 use Rattle.floor_core.specs.declared.step.Output.TheVariants.{Busy, Idle, Reply}
 use Rattle.floor_core.specs.declared.step.Step.{Step}
 use Rattle.floor_core.specs.declared.step.Step.TheVariants.{Load, Decide, Answer, Tick, Govern}
-use Rattle.floor_core.specs.declared.step.Told.{Told}
+use Rattle.floor_core.specs.declared.step.StepOutput.{StepOutput}
 use Rattle.floor_core.proofs.Calls.{put-back, put-other, put-same}
 use Rattle.floor_core.proofs.Effects.{answer_effect, arrival_effect, came, decide_effect, said, stage_after}
 use Rattle.floor_core.proofs.Simulation.{carried_call}
@@ -66,7 +66,7 @@ abbrev with_tenant : World → ℕ → Tenant → (ℕ → Hand) → World
 with_tenant w t x hands = record { tenants = put w.tenants t x; hands = hands }
 
 still : (bound : ℕ) (w : World) (t : ℕ) (x : Tenant) (hands : ℕ → Hand) (frame : List ℕ) (u call : ℕ) → Grows (w.tenants t) x
-    → HasTaken bound w frame u call → HasTaken bound (with_tenant w t x hands) frame u call
+    → HasTakenFrame bound w frame u call → HasTakenFrame bound (with_tenant w t x hands) frame u call
 still bound w t x hands frame u call grows h = elim (eqb_tells u t) [
   | inl a ↦
       let b : call < (w.tenants t).next_call = subst (λ k. call < (w.tenants k).next_call) a.1 h.loaded in
@@ -89,13 +89,13 @@ numbers bound w t x grows n u lt = elim (eqb_tells u t) [
 -- a step of a tenant by a worker
 by_worker : (bound : ℕ) (w : World) (t v : ℕ) (x : Tenant) (z : Hand) (frames more : ℕ → List ℕ) → AreTaken bound w frames → Grows (w.tenants t) x
     → ((u : ℕ) → u ≢ v → more u ≡ frames u)
-    → ((a c : ℕ) → z ≡ Hand.Has a c → HasTaken bound (with_tenant w t x (put w.hands v z)) (more v) a c)
+    → ((a c : ℕ) → z ≡ Hand.Has a c → HasTakenFrame bound (with_tenant w t x (put w.hands v z)) (more v) a c)
     → AreTaken bound (with_tenant w t x (put w.hands v z)) more
 by_worker bound w t v x z frames more i grows same own = record {
   numbered = numbers bound w t x grows i.numbered;
   each = λ u a c e. elim (eqb_tells u v) [
-    | inl q ↦ subst (λ k. HasTaken bound (with_tenant w t x (put w.hands v z)) (more k) a c) (sym q.1) (own a c (rw q.0 at e))
-    | inr q ↦ subst (λ (f : List ℕ). HasTaken bound (with_tenant w t x (put w.hands v z)) f a c) (sym (same u q.1))
+    | inl q ↦ subst (λ k. HasTakenFrame bound (with_tenant w t x (put w.hands v z)) (more k) a c) (sym q.1) (own a c (rw q.0 at e))
+    | inr q ↦ subst (λ (f : List ℕ). HasTakenFrame bound (with_tenant w t x (put w.hands v z)) f a c) (sym (same u q.1))
         (still bound w t x (put w.hands v z) (frames u) a c grows (i.each u a c (rw q.0 at e)))
   ];
 }
@@ -113,14 +113,14 @@ by_nobody bound w t x frames i grows = record {
 -- what is to be shown of a step
 record Next (bound : ℕ) (w : World) (frames : ℕ → List ℕ) (s : Step) : Type 0 where
   sends : SendsForward frames s (reply w s)
-  taken : AreTaken bound (after w s) (frames_after frames s (reply w s))
+  taken : AreTaken bound (world_after w s) (frames_after frames s (reply w s))
 
 -- where its output and the world after it are known
-as_known : (bound : ℕ) (w : World) (frames : ℕ → List ℕ) (s : Step) (o : Output) (m : World) → reply w s ≡ o → after w s ≡ m
+as_known : (bound : ℕ) (w : World) (frames : ℕ → List ℕ) (s : Step) (o : Output) (m : World) → reply w s ≡ o → world_after w s ≡ m
     → SendsForward frames s o → AreTaken bound m (frames_after frames s o) → Next bound w frames s
 as_known bound w frames s o m out left sends taken = record {
   sends = subst (λ (x : Output). SendsForward frames s x) (sym out) sends;
-  taken = subst (λ (x : Output). AreTaken bound (after w s) (frames_after frames s x)) (sym out)
+  taken = subst (λ (x : Output). AreTaken bound (world_after w s) (frames_after frames s x)) (sym out)
       (subst (λ (y : World). AreTaken bound y (frames_after frames s o)) (sym left) taken);
 }
 
@@ -173,7 +173,7 @@ load_good reads bound w frames v t token bytes p i lt are free arrives =
     let effect = arrival_effect s token bytes (Ok p) arrives in
     let here : m.tenants t ≡ x = put-same w.tenants t x in
     let is : IsPrepare bytes p = reads bytes p are (read_of (is_token token) (prepare_at bytes) p arrives) in
-    let own : HasTaken bound m (put frames v bytes v) t k = record {
+    let own : HasTakenFrame bound m (put frames v bytes v) t k = record {
       there = lt;
       loaded = subst (λ (y : Tenant). k < y.next_call) (sym here) (omega arith);
       packet = λ other q e.
@@ -185,8 +185,8 @@ load_good reads bound w frames v t token bytes p i lt are free arrives =
     (by_worker bound w t v x z frames (put frames v bytes) i (loaded_grows s token p) (λ u ne. put-other frames v bytes u ne)
     (λ a c e.
     let same = has_call (number_of s) k a c e in
-    subst (λ n. HasTaken bound m (put frames v bytes v) n c) (sym (i.numbered t lt) ∙ same.0)
-    (subst (λ n. HasTaken bound m (put frames v bytes v) t n) same.1 own)))
+    subst (λ n. HasTakenFrame bound m (put frames v bytes v) n c) (sym (i.numbered t lt) ∙ same.0)
+    (subst (λ n. HasTakenFrame bound m (put frames v bytes v) t n) same.1 own)))
 
 load_bad : (bound : ℕ) (w : World) (frames : ℕ → List ℕ) (v t : ℕ) (token bytes : List ℕ) (wrong : Malformed) → AreTaken bound w frames
     → w.hands v ≡ Hand.Free → arrival token bytes ≡ Err wrong → Next bound w frames (Load v t token bytes)
@@ -274,7 +274,7 @@ decide_ready forwards laws bound w frames v now t call token p i hand stage =
 
 -- nothing comes of the step
 nothing_comes : (bound : ℕ) (w : World) (frames : ℕ → List ℕ) (v t : ℕ) (s : Step) (h : Hand) → AreTaken bound w frames → w.hands v ≡ h
-    → reply w s ≡ Idle → after w s ≡ with_tenant w t (w.tenants t) (put w.hands v h)
+    → reply w s ≡ Idle → world_after w s ≡ with_tenant w t (w.tenants t) (put w.hands v h)
     → SendsForward frames s Idle → frames_after frames s Idle ≡ frames → Next bound w frames s
 nothing_comes bound w frames v t s h i hand out left sends same =
     as_known bound w frames s Idle w out (left ∙ same_tenant w t v h hand) sends (subst (λ (f : ℕ → List ℕ). AreTaken bound w f) (sym same) i)
@@ -303,7 +303,7 @@ decide_next forwards laws bound w frames v now i (Hand.Awaits t call) e =
 none_ready : (token : List ℕ) (p : Prepare) → (let o : Option Stage = None in o) ≡ Some (Stage.Ready token p) → ⊥
 none_ready token p e = cc
 
-answer_settled : CallLaws → (bound : ℕ) (w : World) (frames : ℕ → List ℕ) (v now : ℕ) (given : Given) (t call hold : ℕ) → AreTaken bound w frames
+answer_settled : CallLaws → (bound : ℕ) (w : World) (frames : ℕ → List ℕ) (v now : ℕ) (given : PeerAnswer) (t call hold : ℕ) → AreTaken bound w frames
     → w.hands v ≡ Hand.Awaits t call → (w.tenants t).calls call ≡ Some (Stage.Sent hold)
     → (r : Result Verdict HoldFault) → answer_to (w.tenants t).book hold now (answer_key (heard given)) ≡ r → Next bound w frames (Answer v now given)
 answer_settled laws bound w frames v now given t call hold i hand stage (Ok verdict) r =
@@ -322,7 +322,7 @@ answer_settled laws bound w frames v now given t call hold i hand stage (Err fau
     nothing_comes bound w frames v t (Answer v now given) (Hand.Awaits t call) i hand (rw hand (ap (λ (y : Effect). y.output) effect))
     (rw hand (came w v t (Hand.Awaits t call) _ _ effect)) tt refl
 
-answer_by : CallLaws → (bound : ℕ) (w : World) (frames : ℕ → List ℕ) (v now : ℕ) (given : Given) (t call : ℕ) → AreTaken bound w frames
+answer_by : CallLaws → (bound : ℕ) (w : World) (frames : ℕ → List ℕ) (v now : ℕ) (given : PeerAnswer) (t call : ℕ) → AreTaken bound w frames
     → w.hands v ≡ Hand.Awaits t call → (stage : Option Stage) → (w.tenants t).calls call ≡ stage → Next bound w frames (Answer v now given)
 answer_by laws bound w frames v now given t call i hand None e =
     let effect = ap (λ (o : Option Stage). call_answered (w.tenants t) call o now (heard given)) e in
@@ -335,7 +335,7 @@ answer_by laws bound w frames v now given t call i hand (Some (Stage.Ready token
 answer_by laws bound w frames v now given t call i hand (Some (Stage.Sent hold)) e =
     answer_settled laws bound w frames v now given t call hold i hand e (answer_to (w.tenants t).book hold now (answer_key (heard given))) refl
 
-answer_next : CallLaws → (bound : ℕ) (w : World) (frames : ℕ → List ℕ) (v now : ℕ) (given : Given) → AreTaken bound w frames → (h : Hand) → w.hands v ≡ h
+answer_next : CallLaws → (bound : ℕ) (w : World) (frames : ℕ → List ℕ) (v now : ℕ) (given : PeerAnswer) → AreTaken bound w frames → (h : Hand) → w.hands v ≡ h
     → Next bound w frames (Answer v now given)
 answer_next laws bound w frames v now given i Hand.Free e = as_known bound w frames (Answer v now given) Idle w (rw e refl) (rw e (same_world w v Hand.Free e)) tt i
 answer_next laws bound w frames v now given i (Hand.Has t call) e =
@@ -362,7 +362,7 @@ all_next : Reads → Forwards → CallLaws → (workers bound : ℕ) (w : World)
 all_next reads forwards laws workers bound w frames [] i fits are = tt
 all_next reads forwards laws workers bound w frames (s ∷ ss) i fits are =
     let n = next reads forwards laws workers bound w frames s i (All-head (FitsIn workers bound) s ss fits) (All-head HasBytes s ss are) in
-    (n.sends, all_next reads forwards laws workers bound (after w s) (frames_after frames s (reply w s)) ss n.taken (All-tail (FitsIn workers bound) s ss fits) (All-tail HasBytes s ss are))
+    (n.sends, all_next reads forwards laws workers bound (world_after w s) (frames_after frames s (reply w s)) ss n.taken (All-tail (FitsIn workers bound) s ss fits) (All-tail HasBytes s ss are))
 
 pub are_forwards : Reads → Forwards → CallLaws → (world : World) (frames : ℕ → List ℕ) (workers tenants : ℕ) (steps : List Step) (outputs : List Output)
     → AreTaken tenants world frames → All (FitsIn workers tenants) steps → All HasBytes steps → AreOutputs world steps outputs → AreForwards frames steps outputs
@@ -376,8 +376,8 @@ read_at_stage : (token other : List ℕ) (r : Result Prepare ViewFault) (p : Pre
 read_at_stage token other (Ok q) p e = ap (λ (x : Prepare). Ok x) (some_ready token other q p e)
 read_at_stage token other (Err fault) p e = absurd cc
 
-taken_as : Reads → (f : FloorState) (v t : ℕ) (token frame : List ℕ) → (get_or f.seats v no_seat).slot.job ≡ Job.Carries t token frame → AreBytes frame → IsSound f
-    → HasTaken (length f.books) (world_of f) frame t (get_or f.seats v no_seat).call
+taken_as : Reads → (f : FloorState) (v t : ℕ) (token frame : List ℕ) → (get_or f.seats v no_seat).slot.job ≡ Job.Carries t token frame → AreBytes frame → IsSoundFloor f
+    → HasTakenFrame (length f.books) (world_of f) frame t (get_or f.seats v no_seat).call
 taken_as reads f v t token frame e are i =
     let c = carried_call f v t (Job.Carries t token frame) e refl i in
     let below = i.below v (t, (get_or f.seats v no_seat).call) c.0 in
@@ -387,17 +387,17 @@ taken_as reads f v t token frame e are i =
       packet = λ other p q. reads frame p are (read_at_stage token other (prepare_at frame) p (sym c.1 ∙ q));
     }
 
-taken_by : Reads → (f : FloorState) (v t call : ℕ) (job : Job) → (get_or f.seats v no_seat).slot.job ≡ job → hand_by job (get_or f.seats v no_seat).call ≡ Hand.Has t call → IsOfBytes job → IsSound f
-    → HasTaken (length f.books) (world_of f) (frame_of job) t call
+taken_by : Reads → (f : FloorState) (v t call : ℕ) (job : Job) → (get_or f.seats v no_seat).slot.job ≡ job → hand_by job (get_or f.seats v no_seat).call ≡ Hand.Has t call → IsJobOfBytes job → IsSoundFloor f
+    → HasTakenFrame (length f.books) (world_of f) (job_frame job) t call
 taken_by reads f v t call Job.NoJob e h are i = absurd cc
 taken_by reads f v t call (Job.Carries u token frame) e h are i =
     let same = has_call u (get_or f.seats v no_seat).call t call h in
-    subst (λ k. HasTaken (length f.books) (world_of f) frame t k) same.1
-    (subst (λ k. HasTaken (length f.books) (world_of f) frame k (get_or f.seats v no_seat).call) same.0 (taken_as reads f v u token frame e are i))
+    subst (λ k. HasTakenFrame (length f.books) (world_of f) frame t k) same.1
+    (subst (λ k. HasTakenFrame (length f.books) (world_of f) frame k (get_or f.seats v no_seat).call) same.0 (taken_as reads f v u token frame e are i))
 taken_by reads f v t call (Job.Waits u hold frame) e h are i = absurd cc
 
 -- they are what its workers took in
-pub taken_on : Reads → (f : FloorState) → IsSound f → AreTaken (length f.books) (world_of f) (frames_on f)
+pub taken_on : Reads → (f : FloorState) → IsSoundFloor f → AreTaken (length f.books) (world_of f) (frames_on f)
 taken_on reads f i = record {
   numbered = i.placed;
   each = λ v t call h. taken_by reads f v t call (get_or f.seats v no_seat).slot.job refl h (i.octets v) i;
@@ -410,7 +410,7 @@ SendsOn = (world : World) (frames : ℕ → List ℕ) (workers tenants : ℕ) (s
     → AreOutputs world steps outputs → AreForwards frames steps outputs
 
 -- so it is of one step, if it is not refused memory
-pub step_sends : {E : Type 0} → SendsOn → (f g : FloorState) (step : Step) (r : Result Told E) → AreTaken (length f.books) (world_of f) (frames_on f) → Fits f step → HasBytes step
+pub step_sends : {E : Type 0} → SendsOn → (f g : FloorState) (step : Step) (r : Result StepOutput E) → AreTaken (length f.books) (world_of f) (frames_on f) → Fits f step → HasBytes step
     → IfOk r (λ told. shown g.seats told ≡ reply (world_of f) step) → IfOk r (λ told. SendsForward (frames_on f) step (shown g.seats told))
 step_sends law f g step (Ok told) taken fits bytes is =
     subst (λ (x : Output). SendsForward (frames_on f) step x) (sym is)

@@ -16,7 +16,7 @@ use Rattle.tenant_core.specs.declared.verdict.Verdict.{Verdict}
 use Rattle.tenant_core.specs.declared.verdict.Verdict.TheVariants.{Unknown, NoRoom, Refuse, Fulfil, Forward, Relay}
 use Rattle.floor_core.specs.Kept.{CallsMatchHolds}
 use Rattle.floor_core.specs.World.{Effect, Stage, Tenant, Event, put, after_alone, arrived, call_answered, call_decided, call_settled, key_in, answer_key, heard, arrival}
-use Rattle.floor_core.specs.declared.step.Given.{Given}
+use Rattle.floor_core.specs.declared.step.PeerAnswer.{PeerAnswer}
 use Rattle.floor_core.specs.declared.step.Malformed.{Malformed}
 use Rattle.floor_core.proofs.Effects.{decide_effect, stage_after}
 
@@ -112,7 +112,7 @@ other_stays : (a : Bool) (n m : ℕ) → n ≢ m → a ≡ true → (a && not (e
 other_stays a n m ne e = rw e (rw (ne_eqb n m ne) refl)
 
 -- an answer leaves a tenant kept
-settled_kept : (s : Tenant) (given : Given) (made : Option Record) (k hold : ℕ) (r : Result Verdict HoldFault) → s.calls k ≡ Some (Stage.Sent hold)
+settled_kept : (s : Tenant) (given : PeerAnswer) (made : Option Record) (k hold : ℕ) (r : Result Verdict HoldFault) → s.calls k ≡ Some (Stage.Sent hold)
     → ((h : ℕ) → is_awaited (recorded s.book made) h ≡ (is_awaited s.book h && not (eqb h hold)))
     → CallsMatchHolds s → CallsMatchHolds (call_settled s k given made r).after
 settled_kept s given made k hold (Err f) here is i = i
@@ -127,7 +127,7 @@ settled_kept s given made k hold (Ok v) here is i = record {
   ];
 }
 
-answer_kept : OpenHoldLaws → (s : Tenant) (k now : ℕ) (given : Given) (o : Option Stage) → s.calls k ≡ o → CallsMatchHolds s → CallsMatchHolds (call_answered s k o now given).after
+answer_kept : OpenHoldLaws → (s : Tenant) (k now : ℕ) (given : PeerAnswer) (o : Option Stage) → s.calls k ≡ o → CallsMatchHolds s → CallsMatchHolds (call_answered s k o now given).after
 answer_kept laws s k now given None e i = i
 answer_kept laws s k now given (Some (Stage.Ready token p)) e i = i
 answer_kept laws s k now given (Some (Stage.Sent hold)) e i =

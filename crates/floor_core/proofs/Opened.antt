@@ -9,8 +9,8 @@ use Rattle.std.proofs.lemmas.List.{get_or_past, get_or_default, length-replicate
 use Rattle.tenant_core.specs.Network.{nobody}
 use Rattle.tenant_core.specs.State.{State, opened, opening_of}
 use Rattle.tenant_core.specs.declared.terms.TenantTerms.{TenantTerms}
-use Rattle.floor_core.specs.FloorView.{FloorState, no_seat, carried_at, carried_by, calls_of, hand_by, tenant_of, IsWhole, IsNew}
-use Rattle.floor_core.specs.Work.{Job, IsOfBytes, IsReadable}
+use Rattle.floor_core.specs.FloorView.{FloorState, no_seat, carried_at, carried_by, calls_of, hand_by, tenant_of, IsWhole, IsNewFloor}
+use Rattle.floor_core.specs.Work.{Job, IsJobOfBytes, IsReadable}
 use Rattle.floor_core.specs.World.{Stage, tenant_at_start, no_book}
 use Rattle.floor_core.specs.declared.floor.Seat.{Seat}
 use Rattle.floor_core.proofs.Calls.{none}
@@ -37,7 +37,7 @@ unsent o hold n e = cc
 readable : (job : Job) → job ≡ Job.NoJob → IsReadable job
 readable job e = rw e tt
 
-octets : (job : Job) → job ≡ Job.NoJob → IsOfBytes job
+octets : (job : Job) → job ≡ Job.NoJob → IsJobOfBytes job
 octets job e = rw e tt
 
 pub whole : (f : FloorState) → length f.next_calls ≡ length f.books → AreFree f.seats → ((t : ℕ) → t < length f.books → (get_or f.books t no_book).opening.tenant ≡ t) → IsWhole f
@@ -93,7 +93,7 @@ zeros (suc n) (suc t) = zeros n t
 
 -- a floor of free seats and the books of all setups
 pub record New (setups : List TenantTerms) (start workers : ℕ) (f : FloorState) : Type 0 where
-  pub is_new : IsNew setups start workers f
+  pub is_new : IsNewFloor setups start workers f
   pub is_whole : IsWhole f
 
 -- each tenant of a floor of free seats stands at its start

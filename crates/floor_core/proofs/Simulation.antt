@@ -21,18 +21,18 @@ use Rattle.tenant_core.specs.declared.command.Command.{Command}
 use Rattle.tenant_core.specs.declared.faults.HoldFault.{HoldFault}
 use Rattle.tenant_core.specs.declared.verdict.Verdict.{Verdict}
 use Rattle.tenant_core.specs.declared.verdict.Verdict.TheVariants.{Unknown, NoRoom, Refuse, Fulfil, Forward, Relay}
-use Rattle.floor_core.specs.FloorView.{FloorState, hand_by, hands_of, carried_by, stage_in, stage_of_frame, calls_of, no_seat, tenant_of, carried_at, world_of, IsSound, Fits}
+use Rattle.floor_core.specs.FloorView.{FloorState, hand_by, hands_of, carried_by, stage_in, stage_of_frame, calls_of, no_seat, tenant_of, carried_at, world_of, IsSoundFloor, Fits}
 use Rattle.floor_core.specs.Forwards.{HasBytes}
 use Rattle.floor_core.specs.Kept.{CallsMatchHolds}
-use Rattle.floor_core.specs.Moves.{put_both, output_of, moved, turn_output, got_of, filled}
-use Rattle.floor_core.specs.Work.{Job, Work, IsOfBytes, IsReadable, verdict_call, given_by, settled_call}
+use Rattle.floor_core.specs.Moves.{put_both, output_of, moved, turn_output, given_got, slot_filled}
+use Rattle.floor_core.specs.Work.{Job, Work, IsJobOfBytes, IsReadable, verdict_call, given_by, settled_call}
 use Rattle.floor_core.specs.World.{Effect, Stage, malformed_by, Tenant, Hand, World, bytes_given, put, heard, answer_key, key_in, settled_reply, told, no_book}
-use Rattle.floor_core.specs.Worlds.{reply, after}
+use Rattle.floor_core.specs.Worlds.{reply, world_after}
 use Rattle.floor_core.specs.declared.floor.Seat.{Seat}
-use Rattle.floor_core.specs.declared.step.Given.{Given}
+use Rattle.floor_core.specs.declared.step.PeerAnswer.{PeerAnswer}
 use Rattle.floor_core.specs.declared.step.Malformed.TheVariants as malformed
 use Rattle.floor_core.specs.declared.step.Output.TheVariants as output
-use Rattle.floor_core.specs.declared.step.Given.TheVariants as given
+use Rattle.floor_core.specs.declared.step.PeerAnswer.TheVariants as given
 use Rattle.floor_core.specs.declared.step.Step.{Step}
 use Rattle.floor_core.specs.declared.step.Step.TheVariants.{Load, Decide, Answer, Tick, Govern}
 use Rattle.floor_core.proofs.Calls.{Apart, put-back, lookup}
@@ -42,8 +42,8 @@ use Rattle.floor_core.proofs.Effects.{answer_effect, arrival_effect, decide_effe
 -- what is to be shown of a step
 pub record Simulates (f : FloorState) (step : Step) : Type 0 where
   pub output : output_of f step ≡ reply (world_of f) step
-  pub world : world_of (moved f step) ≡ after (world_of f) step
-  pub sound : IsSound (moved f step)
+  pub world : world_of (moved f step) ≡ world_after (world_of f) step
+  pub sound : IsSoundFloor (moved f step)
 
 -- ---- what does not change
 
@@ -70,7 +70,7 @@ no_news f w z e = let back = put-back (hands_of f.seats) w in (λ j. record { te
 -- ---- a call that goes on, or ends
 
 -- the call that a busy worker carries
-pub carried_call : (f : FloorState) (w t : ℕ) (job : Job) → (get_or f.seats w no_seat).slot.job ≡ job → carried_by job (get_or f.seats w no_seat).call ≡ Some (t, (get_or f.seats w no_seat).call) → IsSound f
+pub carried_call : (f : FloorState) (w t : ℕ) (job : Job) → (get_or f.seats w no_seat).slot.job ≡ job → carried_by job (get_or f.seats w no_seat).call ≡ Some (t, (get_or f.seats w no_seat).call) → IsSoundFloor f
     → (carried_at f.seats w ≡ Some (t, (get_or f.seats w no_seat).call)) × (calls_of t f.seats (get_or f.seats w no_seat).call ≡ stage_in job)
 carried_call f w t job e b i =
     let here : carried_at f.seats w ≡ Some (t, (get_or f.seats w no_seat).call) = rw e b in
@@ -82,10 +82,10 @@ pub record Goes (t k : ℕ) (job : Job) (stage : Option Stage) : Type 0 where
   pub stage_is : stage_in job ≡ stage
   pub ends : (job ≡ Job.NoJob) ⊎ (carried_by job k ≡ Some (t, k))
   pub readable : IsReadable job
-  pub octets : IsOfBytes job
+  pub octets : IsJobOfBytes job
 
 -- the change of a seat that carried call k of tenant t, and of its book
-changes : (f : FloorState) (w t : ℕ) (old : Job) (new : Work) (stage : Option Stage) → w < length f.seats → IsSound f → (get_or f.seats w no_seat).slot.job ≡ old
+changes : (f : FloorState) (w t : ℕ) (old : Job) (new : Work) (stage : Option Stage) → w < length f.seats → IsSoundFloor f → (get_or f.seats w no_seat).slot.job ≡ old
     → carried_by old (get_or f.seats w no_seat).call ≡ Some (t, (get_or f.seats w no_seat).call) → Goes t (get_or f.seats w no_seat).call new.job stage
     → Changes f w t (get_or f.seats w no_seat).call (record { slot = new; call = (get_or f.seats w no_seat).call })
 changes f w t old new stage lt i e b g =
@@ -101,7 +101,7 @@ changes f w t old new stage lt i e b g =
       octets = g.octets;
     }
 
-counts : (f : FloorState) (w t : ℕ) (old : Job) → IsSound f → (get_or f.seats w no_seat).slot.job ≡ old → carried_by old (get_or f.seats w no_seat).call ≡ Some (t, (get_or f.seats w no_seat).call)
+counts : (f : FloorState) (w t : ℕ) (old : Job) → IsSoundFloor f → (get_or f.seats w no_seat).slot.job ≡ old → carried_by old (get_or f.seats w no_seat).call ≡ Some (t, (get_or f.seats w no_seat).call)
     → Counts f t (get_or f.seats w no_seat).call f.next_calls
 counts f w t old i e b =
     let c = carried_call f w t old e b i in
@@ -110,9 +110,9 @@ counts f w t old i e b =
 pub record Settles (f : FloorState) (w t : ℕ) (new : Work) (l : State) (stage : Option Stage) : Type 0 where
   pub world : world_of (put_both f w t new l)
       ≡ record { tenants = put (tenant_of f) t (record { book = l; next_call = get_or f.next_calls t 0; calls = put (calls_of t f.seats) (get_or f.seats w no_seat).call stage }); hands = put (hands_of f.seats) w (hand_by new.job (get_or f.seats w no_seat).call) }
-  pub sound : IsSound (put_both f w t new l)
+  pub sound : IsSoundFloor (put_both f w t new l)
 
-settles : (f : FloorState) (w t : ℕ) (old : Job) (new : Work) (l : State) (stage : Option Stage) → w < length f.seats → IsSound f → (get_or f.seats w no_seat).slot.job ≡ old
+settles : (f : FloorState) (w t : ℕ) (old : Job) (new : Work) (l : State) (stage : Option Stage) → w < length f.seats → IsSoundFloor f → (get_or f.seats w no_seat).slot.job ≡ old
     → carried_by old (get_or f.seats w no_seat).call ≡ Some (t, (get_or f.seats w no_seat).call) → Goes t (get_or f.seats w no_seat).call new.job stage → l.opening.tenant ≡ t → Settles f w t new l stage
 settles f w t old new l stage lt i e b g placed =
     let ch = changes f w t old new stage lt i e b g in
@@ -165,7 +165,7 @@ said_by s t token p room made Fulfil e = rw e refl
 said_by s t token p room made (Forward hold peer amount expiry) e = rw e refl
 said_by s t token p room made Relay e = rw e refl
 
-decides_packet : CallLaws → (f : FloorState) (w now t : ℕ) (token frame : List ℕ) (p : Prepare) → w < length f.seats → IsSound f → (get_or f.seats w no_seat).slot.job ≡ Job.Carries t token frame
+decides_packet : CallLaws → (f : FloorState) (w now t : ℕ) (token frame : List ℕ) (p : Prepare) → w < length f.seats → IsSoundFloor f → (get_or f.seats w no_seat).slot.job ≡ Job.Carries t token frame
     → prepare_at frame ≡ Ok p → Simulates f (Decide w now)
 decides_packet laws f w now t token frame p lt i e r =
     let c = carried_call f w t (Job.Carries t token frame) e refl i in
@@ -189,15 +189,15 @@ decides_packet laws f w now t token frame p lt i e r =
       sound = rw (e, e, q, r, m) s.sound;
     }
 
-decides_ready : CallLaws → (f : FloorState) (w now t : ℕ) (token frame : List ℕ) → w < length f.seats → IsSound f → (get_or f.seats w no_seat).slot.job ≡ Job.Carries t token frame
+decides_ready : CallLaws → (f : FloorState) (w now t : ℕ) (token frame : List ℕ) → w < length f.seats → IsSoundFloor f → (get_or f.seats w no_seat).slot.job ≡ Job.Carries t token frame
     → (r : Result Prepare ViewFault) → prepare_at frame ≡ r → is_ok r ≡ true → Simulates f (Decide w now)
 decides_ready laws f w now t token frame lt i e (Ok p) r good = decides_packet laws f w now t token frame p lt i e r
 decides_ready laws f w now t token frame lt i e (Err fault) r good = absurd cc
 
-decides_idle : (f : FloorState) (w now : ℕ) → IsSound f → (get_or f.seats w no_seat).slot.job ≡ Job.NoJob → Simulates f (Decide w now)
+decides_idle : (f : FloorState) (w now : ℕ) → IsSoundFloor f → (get_or f.seats w no_seat).slot.job ≡ Job.NoJob → Simulates f (Decide w now)
 decides_idle f w now i e = record { output = rw e refl; world = rw e (no_news f w Hand.Free (rw e refl)); sound = rw e i }
 
-decides_sent : (f : FloorState) (w now t hold : ℕ) (frame : List ℕ) → IsSound f → (get_or f.seats w no_seat).slot.job ≡ Job.Waits t hold frame → Simulates f (Decide w now)
+decides_sent : (f : FloorState) (w now t hold : ℕ) (frame : List ℕ) → IsSoundFloor f → (get_or f.seats w no_seat).slot.job ≡ Job.Waits t hold frame → Simulates f (Decide w now)
 decides_sent f w now t hold frame i e =
     let s = same_state f w t in
     record {
@@ -209,37 +209,37 @@ decides_sent f w now t hold frame i e =
 -- ---- an answer
 
 -- what a slot takes in leaves its call
-filled_job : (w : Work) (g : Given) → (filled w g).job ≡ w.job
+filled_job : (w : Work) (g : PeerAnswer) → (slot_filled w g).job ≡ w.job
 filled_job w (given.Bytes bytes) = refl
 filled_job w given.Fault = refl
 
 -- and is what came back
-heard_by : (w : Work) (g : Given) → given_by (filled w g).room (got_of g) ≡ heard g
+heard_by : (w : Work) (g : PeerAnswer) → given_by (slot_filled w g).room (given_got g) ≡ heard g
 heard_by w given.Fault = refl
 heard_by w (given.Bytes bytes) = by (ltb max_frame (length bytes)) refl
   where
-    by : (b : Bool) → ltb max_frame (length bytes) ≡ b → given_by (filled w (given.Bytes bytes)).room (got_of (given.Bytes bytes)) ≡ heard (given.Bytes bytes)
+    by : (b : Bool) → ltb max_frame (length bytes) ≡ b → given_by (slot_filled w (given.Bytes bytes)).room (given_got (given.Bytes bytes)) ≡ heard (given.Bytes bytes)
     by true e = rw e refl
     by false e = rw (e, e) (ap (λ (xs : List ℕ). given.Bytes xs) (take-append_seam bytes _))
 
-answers_idle : (f : FloorState) (w now : ℕ) (g : Given) → IsSound f → (get_or f.seats w no_seat).slot.job ≡ Job.NoJob → Simulates f (Answer w now g)
+answers_idle : (f : FloorState) (w now : ℕ) (g : PeerAnswer) → IsSoundFloor f → (get_or f.seats w no_seat).slot.job ≡ Job.NoJob → Simulates f (Answer w now g)
 answers_idle f w now g i e = record { output = rw e refl; world = rw e (no_news f w Hand.Free (rw e refl)); sound = rw e i }
 
-answers_ready : (f : FloorState) (w now : ℕ) (g : Given) (t : ℕ) (token frame : List ℕ) → IsSound f → (get_or f.seats w no_seat).slot.job ≡ Job.Carries t token frame → Simulates f (Answer w now g)
+answers_ready : (f : FloorState) (w now : ℕ) (g : PeerAnswer) (t : ℕ) (token frame : List ℕ) → IsSoundFloor f → (get_or f.seats w no_seat).slot.job ≡ Job.Carries t token frame → Simulates f (Answer w now g)
 answers_ready f w now g t token frame i e =
     record { output = rw e refl; world = rw e (no_news f w (Hand.Has t (get_or f.seats w no_seat).call) (rw e refl)); sound = rw e i }
 
-answers_settled : CallLaws → (f : FloorState) (w now : ℕ) (g : Given) (t hold : ℕ) (frame : List ℕ) (v : Verdict) → w < length f.seats → IsSound f → (get_or f.seats w no_seat).slot.job ≡ Job.Waits t hold frame
+answers_settled : CallLaws → (f : FloorState) (w now : ℕ) (g : PeerAnswer) (t hold : ℕ) (frame : List ℕ) (v : Verdict) → w < length f.seats → IsSoundFloor f → (get_or f.seats w no_seat).slot.job ≡ Job.Waits t hold frame
     → answer_to (get_or f.books t no_book) hold now (answer_key (heard g)) ≡ Ok v → Simulates f (Answer w now g)
 answers_settled laws f w now g t hold frame v lt i e r =
     let c = carried_call f w t (Job.Waits t hold frame) e refl i in
     let there : t < length f.books = (i.below w (t, (get_or f.seats w no_seat).call) c.0).0 in
     let book = get_or f.books t no_book in
-    let slot = filled (get_or f.seats w no_seat).slot g in
+    let slot = slot_filled (get_or f.seats w no_seat).slot g in
     let here : book.opening.tenant ≡ t = i.placed t there in
     let q : eqb book.opening.tenant t ≡ true = eq-eqb book.opening.tenant t here in
     let j : slot.job ≡ Job.Waits t hold frame = filled_job (get_or f.seats w no_seat).slot g ∙ e in
-    let h : given_by slot.room (got_of g) ≡ heard g = heard_by (get_or f.seats w no_seat).slot g in
+    let h : given_by slot.room (given_got g) ≡ heard g = heard_by (get_or f.seats w no_seat).slot g in
     let l = answered book hold now (answer_key (heard g)) in
     let s = settles f w t (Job.Waits t hold frame) (settled_call slot book (heard g) None (Ok v)).work l None lt i e refl (record { stage_is = refl; ends = inl refl; readable = tt; octets = tt }) ((laws.same_answered book hold now (answer_key (heard g))).number ∙ here) in
     let k = (get_or f.seats w no_seat).call in
@@ -251,20 +251,20 @@ answers_settled laws f w now g t hold frame v lt i e r =
       sound = rw (e, j, h, q, r) s.sound;
     }
 
-answers_sent : CallLaws → (f : FloorState) (w now : ℕ) (g : Given) (t hold : ℕ) (frame : List ℕ) → w < length f.seats → IsSound f → (get_or f.seats w no_seat).slot.job ≡ Job.Waits t hold frame
+answers_sent : CallLaws → (f : FloorState) (w now : ℕ) (g : PeerAnswer) (t hold : ℕ) (frame : List ℕ) → w < length f.seats → IsSoundFloor f → (get_or f.seats w no_seat).slot.job ≡ Job.Waits t hold frame
     → (r : Result Verdict HoldFault) → answer_to (get_or f.books t no_book) hold now (answer_key (heard g)) ≡ r → is_ok r ≡ true → Simulates f (Answer w now g)
 answers_sent laws f w now g t hold frame lt i e (Ok v) r good = answers_settled laws f w now g t hold frame v lt i e r
 answers_sent laws f w now g t hold frame lt i e (Err fault) r good = absurd cc
 
 -- ---- by what the worker carries
 
-decide_by : CallLaws → (f : FloorState) (w now : ℕ) → w < length f.seats → IsSound f → (job : Job) → (get_or f.seats w no_seat).slot.job ≡ job → Simulates f (Decide w now)
+decide_by : CallLaws → (f : FloorState) (w now : ℕ) → w < length f.seats → IsSoundFloor f → (job : Job) → (get_or f.seats w no_seat).slot.job ≡ job → Simulates f (Decide w now)
 decide_by laws f w now lt i Job.NoJob e = decides_idle f w now i e
 decide_by laws f w now lt i (Job.Carries t token frame) e =
     decides_ready laws f w now t token frame lt i e (prepare_at frame) refl (subst IsReadable e (i.readable w))
 decide_by laws f w now lt i (Job.Waits t hold frame) e = decides_sent f w now t hold frame i e
 
-answer_by : CallLaws → (f : FloorState) (w now : ℕ) (g : Given) → w < length f.seats → IsSound f → ((t : ℕ) → CallsMatchHolds (tenant_of f t)) → (job : Job) → (get_or f.seats w no_seat).slot.job ≡ job
+answer_by : CallLaws → (f : FloorState) (w now : ℕ) (g : PeerAnswer) → w < length f.seats → IsSoundFloor f → ((t : ℕ) → CallsMatchHolds (tenant_of f t)) → (job : Job) → (get_or f.seats w no_seat).slot.job ≡ job
     → Simulates f (Answer w now g)
 answer_by laws f w now g lt i kept Job.NoJob e = answers_idle f w now g i e
 answer_by laws f w now g lt i kept (Job.Carries t token frame) e = answers_ready f w now g t token frame i e
@@ -280,7 +280,7 @@ answer_by laws f w now g lt i kept (Job.Waits t hold frame) e =
 same_load : (f : FloorState) (w : ℕ) → record f { seats = set f.seats w (record { slot = (get_or f.seats w no_seat).slot; call = (get_or f.seats w no_seat).call }) } ≡ f
 same_load f w = let p = same_seats f.seats w in λ j. record { seats = p j; books = f.books; next_calls = f.next_calls }
 
-loads_carries : (f : FloorState) (w t : ℕ) (token bytes : List ℕ) (u : ℕ) (k frame : List ℕ) → IsSound f → (get_or f.seats w no_seat).slot.job ≡ Job.Carries u k frame → Simulates f (Load w t token bytes)
+loads_carries : (f : FloorState) (w t : ℕ) (token bytes : List ℕ) (u : ℕ) (k frame : List ℕ) → IsSoundFloor f → (get_or f.seats w no_seat).slot.job ≡ Job.Carries u k frame → Simulates f (Load w t token bytes)
 loads_carries f w t token bytes u k frame i e =
     let s = same_load f w in
     record {
@@ -289,7 +289,7 @@ loads_carries f w t token bytes u k frame i e =
       sound = rw e (rw s i);
     }
 
-loads_waits : (f : FloorState) (w t : ℕ) (token bytes : List ℕ) (u hold : ℕ) (frame : List ℕ) → IsSound f → (get_or f.seats w no_seat).slot.job ≡ Job.Waits u hold frame → Simulates f (Load w t token bytes)
+loads_waits : (f : FloorState) (w t : ℕ) (token bytes : List ℕ) (u hold : ℕ) (frame : List ℕ) → IsSoundFloor f → (get_or f.seats w no_seat).slot.job ≡ Job.Waits u hold frame → Simulates f (Load w t token bytes)
 loads_waits f w t token bytes u hold frame i e =
     let s = same_load f w in
     record {
@@ -302,7 +302,7 @@ loads_waits f w t token bytes u hold frame i e =
 no_news_of : (f : FloorState) (w t : ℕ) → hands_of f.seats w ≡ Hand.Free → world_of f ≡ record { tenants = put (tenant_of f) t (tenant_of f t); hands = put (hands_of f.seats) w Hand.Free }
 no_news_of f w t e = no_news f w Hand.Free e ∙ (let back = put-back (tenant_of f) t in λ j. record { tenants = sym back j; hands = put (hands_of f.seats) w Hand.Free })
 
-loads_no_token : (f : FloorState) (w t : ℕ) (token bytes : List ℕ) → t < length f.books → IsSound f → (get_or f.seats w no_seat).slot.job ≡ Job.NoJob → is_token token ≡ false → Simulates f (Load w t token bytes)
+loads_no_token : (f : FloorState) (w t : ℕ) (token bytes : List ℕ) → t < length f.books → IsSoundFloor f → (get_or f.seats w no_seat).slot.job ≡ Job.NoJob → is_token token ≡ false → Simulates f (Load w t token bytes)
 loads_no_token f w t token bytes there i e b =
     let s = same_load f w in
     let here = i.placed t there in
@@ -313,7 +313,7 @@ loads_no_token f w t token bytes there i e b =
       sound = rw (e, b) (rw s i);
     }
 
-loads_bad : (f : FloorState) (w t : ℕ) (token bytes : List ℕ) (fault : ViewFault) → t < length f.books → IsSound f → (get_or f.seats w no_seat).slot.job ≡ Job.NoJob → is_token token ≡ true
+loads_bad : (f : FloorState) (w t : ℕ) (token bytes : List ℕ) (fault : ViewFault) → t < length f.books → IsSoundFloor f → (get_or f.seats w no_seat).slot.job ≡ Job.NoJob → is_token token ≡ true
     → prepare_at bytes ≡ Err fault → Simulates f (Load w t token bytes)
 loads_bad f w t token bytes fault there i e b r =
     let s = same_load f w in
@@ -329,7 +329,7 @@ loads_bad f w t token bytes fault there i e b r =
 abbrev loaded_seat : FloorState → ℕ → ℕ → List ℕ → List ℕ → Seat
 loaded_seat f w t token bytes = record { slot = record { job = Job.Carries t token bytes; target = None; expiry = None; reply = []; room = (get_or f.seats w no_seat).slot.room }; call = get_or f.next_calls t 0 }
 
-fresh : (f : FloorState) (w t : ℕ) (token bytes : List ℕ) → w < length f.seats → t < length f.books → IsSound f → (get_or f.seats w no_seat).slot.job ≡ Job.NoJob → is_ok (prepare_at bytes) ≡ true → AreBytes bytes
+fresh : (f : FloorState) (w t : ℕ) (token bytes : List ℕ) → w < length f.seats → t < length f.books → IsSoundFloor f → (get_or f.seats w no_seat).slot.job ≡ Job.NoJob → is_ok (prepare_at bytes) ≡ true → AreBytes bytes
     → Changes f w t (get_or f.next_calls t 0) (loaded_seat f w t token bytes)
 fresh f w t token bytes lt there i e good are =
     record {
@@ -343,7 +343,7 @@ fresh f w t token bytes lt there i e good are =
       octets = are;
     }
 
-counted : (f : FloorState) (t : ℕ) → t < length f.books → IsSound f → Counts f t (get_or f.next_calls t 0) (set f.next_calls t (get_or f.next_calls t 0 + 1))
+counted : (f : FloorState) (t : ℕ) → t < length f.books → IsSoundFloor f → Counts f t (get_or f.next_calls t 0) (set f.next_calls t (get_or f.next_calls t 0 + 1))
 counted f t there i =
     let n : t < length f.next_calls = let a = i.as_many in omega arith in
     let e : get_or (set f.next_calls t (get_or f.next_calls t 0 + 1)) t 0 ≡ get_or f.next_calls t 0 + 1 = get_or-set_same f.next_calls t (get_or f.next_calls t 0 + 1) 0 n in
@@ -354,7 +354,7 @@ counted f t there i =
       above = omega arith;
     }
 
-loads_good : (f : FloorState) (w t : ℕ) (token bytes : List ℕ) (p : Prepare) → w < length f.seats → t < length f.books → IsSound f → (get_or f.seats w no_seat).slot.job ≡ Job.NoJob → is_token token ≡ true
+loads_good : (f : FloorState) (w t : ℕ) (token bytes : List ℕ) (p : Prepare) → w < length f.seats → t < length f.books → IsSoundFloor f → (get_or f.seats w no_seat).slot.job ≡ Job.NoJob → is_token token ≡ true
     → AreBytes bytes → prepare_at bytes ≡ Ok p → Simulates f (Load w t token bytes)
 loads_good f w t token bytes p lt there i e b are r =
     let here = i.placed t there in
@@ -377,20 +377,20 @@ loads_good f w t token bytes p lt there i e b are r =
           ∙ (λ j. record { tenants = put (tenant_of f) t (record { book = get_or f.books t no_book; next_call = next j; calls = put (calls_of t f.seats) k (stage_of_frame token (r j)) }); hands = put (hands_of f.seats) w (Hand.Has t k) })
           ∙ same_hand _ (hands_of f.seats) w _ _ (ap (λ x. Hand.Has x k) (sym here))
           ∙ sym (came f w t Hand.Free _ _ effect));
-      sound = rw (e, b, r) (subst (λ (z : List State). IsSound (record { seats = set f.seats w s; books = z; next_calls = nexts })) same so);
+      sound = rw (e, b, r) (subst (λ (z : List State). IsSoundFloor (record { seats = set f.seats w s; books = z; next_calls = nexts })) same so);
     }
 
-load_token : (f : FloorState) (w t : ℕ) (token bytes : List ℕ) → w < length f.seats → t < length f.books → IsSound f → (get_or f.seats w no_seat).slot.job ≡ Job.NoJob → is_token token ≡ true
+load_token : (f : FloorState) (w t : ℕ) (token bytes : List ℕ) → w < length f.seats → t < length f.books → IsSoundFloor f → (get_or f.seats w no_seat).slot.job ≡ Job.NoJob → is_token token ≡ true
     → AreBytes bytes → (r : Result Prepare ViewFault) → prepare_at bytes ≡ r → Simulates f (Load w t token bytes)
 load_token f w t token bytes lt there i e b are (Ok p) r = loads_good f w t token bytes p lt there i e b are r
 load_token f w t token bytes lt there i e b are (Err fault) r = loads_bad f w t token bytes fault there i e b r
 
-load_free : (f : FloorState) (w t : ℕ) (token bytes : List ℕ) → w < length f.seats → t < length f.books → IsSound f → (get_or f.seats w no_seat).slot.job ≡ Job.NoJob
+load_free : (f : FloorState) (w t : ℕ) (token bytes : List ℕ) → w < length f.seats → t < length f.books → IsSoundFloor f → (get_or f.seats w no_seat).slot.job ≡ Job.NoJob
     → AreBytes bytes → (b : Bool) → is_token token ≡ b → Simulates f (Load w t token bytes)
 load_free f w t token bytes lt there i e are true b = load_token f w t token bytes lt there i e b are (prepare_at bytes) refl
 load_free f w t token bytes lt there i e are false b = loads_no_token f w t token bytes there i e b
 
-load_by : (f : FloorState) (w t : ℕ) (token bytes : List ℕ) → w < length f.seats → t < length f.books → IsSound f → AreBytes bytes → (job : Job) → (get_or f.seats w no_seat).slot.job ≡ job → Simulates f (Load w t token bytes)
+load_by : (f : FloorState) (w t : ℕ) (token bytes : List ℕ) → w < length f.seats → t < length f.books → IsSoundFloor f → AreBytes bytes → (job : Job) → (get_or f.seats w no_seat).slot.job ≡ job → Simulates f (Load w t token bytes)
 load_by f w t token bytes lt there i are Job.NoJob e = load_free f w t token bytes lt there i e are (is_token token) refl
 load_by f w t token bytes lt there i are (Job.Carries u k frame) e = loads_carries f w t token bytes u k frame i e
 load_by f w t token bytes lt there i are (Job.Waits u hold frame) e = loads_waits f w t token bytes u hold frame i e
@@ -405,7 +405,7 @@ book_tenants f t l there m =
       | inr a ↦ rw a.0 (let p = get_or-set_other f.books t m l no_book a.1 in λ j. record { book = p j; next_call = get_or f.next_calls m 0; calls = calls_of m f.seats })
     ]
 
-book_sound : (f : FloorState) (t : ℕ) (l : State) → t < length f.books → IsSound f → l.opening.tenant ≡ t → IsSound (record { seats = f.seats; books = set f.books t l; next_calls = f.next_calls })
+book_sound : (f : FloorState) (t : ℕ) (l : State) → t < length f.books → IsSoundFloor f → l.opening.tenant ≡ t → IsSoundFloor (record { seats = f.seats; books = set f.books t l; next_calls = f.next_calls })
 book_sound f t l there i e =
     let le = length-set f.books t l in
     record {
@@ -417,7 +417,7 @@ book_sound f t l there i e =
       octets = i.octets;
     }
 
-tick_by : CallLaws → (f : FloorState) (t now : ℕ) → t < length f.books → IsSound f → Simulates f (Tick t now)
+tick_by : CallLaws → (f : FloorState) (t now : ℕ) → t < length f.books → IsSoundFloor f → Simulates f (Tick t now)
 tick_by laws f t now there i =
     let here = i.placed t there in
     let l = ticked (get_or f.books t no_book) now in
@@ -427,7 +427,7 @@ tick_by laws f t now there i =
       sound = book_sound f t l there i ((laws.same_ticked (get_or f.books t no_book) now).number ∙ here);
     }
 
-govern_by : CallLaws → (f : FloorState) (t now : ℕ) (command : Command) → t < length f.books → IsSound f → Simulates f (Govern t now command)
+govern_by : CallLaws → (f : FloorState) (t now : ℕ) (command : Command) → t < length f.books → IsSoundFloor f → Simulates f (Govern t now command)
 govern_by laws f t now command there i =
     let here = i.placed t there in
     let l = commanded (get_or f.books t no_book) command now in
@@ -438,7 +438,7 @@ govern_by laws f t now command there i =
     }
 
 -- each step of a floor is the step of its world
-pub simulates : CallLaws → (f : FloorState) (step : Step) → IsSound f → ((t : ℕ) → CallsMatchHolds (tenant_of f t)) → Fits f step → HasBytes step → Simulates f step
+pub simulates : CallLaws → (f : FloorState) (step : Step) → IsSoundFloor f → ((t : ℕ) → CallsMatchHolds (tenant_of f t)) → Fits f step → HasBytes step → Simulates f step
 simulates laws f (Load w t token bytes) i kept h are = load_by f w t token bytes h.0 h.1 i are (get_or f.seats w no_seat).slot.job refl
 simulates laws f (Decide w now) i kept h are = decide_by laws f w now h i (get_or f.seats w no_seat).slot.job refl
 simulates laws f (Answer w now g) i kept h are = answer_by laws f w now g h i kept (get_or f.seats w no_seat).slot.job refl

@@ -4,7 +4,7 @@ use Rattle.std.proofs.lemmas.Bool.{eq-eqb, ne_eqb}
 use Rattle.std.proofs.lemmas.Bool.Decides.{eqb_tells}
 use Rattle.std.proofs.lemmas.List.{take_more, take_all}
 use Rattle.floor_core.specs.World.{Tenant, World, Hand, Owner, put, reply_alone, after_alone, run_alone, left_alone, owner, hands_after, owners, own_steps, seen_by, hands_left, NobodysAreRight, AreOutputs, IsLeft}
-use Rattle.floor_core.specs.Worlds.{says, tenants_after, reply, after, replies, after_all}
+use Rattle.floor_core.specs.Worlds.{says, tenants_after, reply, world_after, replies, after_all}
 use Rattle.floor_core.specs.declared.step.Output.{Output}
 use Rattle.floor_core.specs.declared.step.Step.{Step}
 use Rattle.floor_core.proofs.Calls.{put-same, put-other}
@@ -44,8 +44,8 @@ first t w m (Owner.Own u e) os xs last same told left =
 pub sees_its_own : (t : ℕ) (w : World) (steps : List Step) → SeesItsOwn t w steps
 sees_its_own t w [] = record { told = refl; left = refl }
 sees_its_own t w (s ∷ ss) =
-    let ih = sees_its_own t (after w s) ss in
-    let f = first t w (after w s) (owner w.hands s) (owners (after w s).hands ss (replies (after w s) ss)) (replies (after w s) ss) ((after_all (after w s) ss).tenants t) refl ih.told ih.left in
+    let ih = sees_its_own t (world_after w s) ss in
+    let f = first t w (world_after w s) (owner w.hands s) (owners (world_after w s).hands ss (replies (world_after w s) ss)) (replies (world_after w s) ss) ((after_all (world_after w s) ss).tenants t) refl ih.told ih.left in
     record { told = f.told; left = f.left }
 
 nobodys_first : (w : World) (o : Owner) (os : List Owner) (xs : List Output) → NobodysAreRight os xs → NobodysAreRight (o ∷ os) (says w o ∷ xs)
@@ -54,15 +54,15 @@ nobodys_first w (Owner.Nobody out) os xs ih = (refl, ih)
 
 nobodys_are_right : (w : World) (steps : List Step) → NobodysAreRight (owners w.hands steps (replies w steps)) (replies w steps)
 nobodys_are_right w [] = tt
-nobodys_are_right w (s ∷ ss) = nobodys_first w (owner w.hands s) (owners (after w s).hands ss (replies (after w s) ss)) (replies (after w s) ss) (nobodys_are_right (after w s) ss)
+nobodys_are_right w (s ∷ ss) = nobodys_first w (owner w.hands s) (owners (world_after w s).hands ss (replies (world_after w s) ss)) (replies (world_after w s) ss) (nobodys_are_right (world_after w s) ss)
 
 length-replies : (w : World) (steps : List Step) → length (replies w steps) ≡ length steps
 length-replies w [] = refl
-length-replies w (s ∷ ss) = let ih = length-replies (after w s) ss in omega arith
+length-replies w (s ∷ ss) = let ih = length-replies (world_after w s) ss in omega arith
 
 hands_run : (w : World) (steps : List Step) → (after_all w steps).hands ≡ hands_left w.hands steps (replies w steps)
 hands_run w [] = refl
-hands_run w (s ∷ ss) = hands_run (after w s) ss
+hands_run w (s ∷ ss) = hands_run (world_after w s) ss
 
 pub are_replies : (w : World) (steps : List Step) → AreOutputs w steps (replies w steps)
 are_replies w steps = record {
@@ -78,15 +78,15 @@ is_after w steps = record { alone = λ t. (sees_its_own t w steps).left; hands =
 
 replies-more : (w : World) (ss : List Step) (s : Step) → replies w (ss ++ s ∷ []) ≡ replies w ss ++ reply (after_all w ss) s ∷ []
 replies-more w [] s = refl
-replies-more w (x ∷ ss) s = ap (λ (ys : List Output). reply w x ∷ ys) (replies-more (after w x) ss s)
+replies-more w (x ∷ ss) s = ap (λ (ys : List Output). reply w x ∷ ys) (replies-more (world_after w x) ss s)
 
-after_all-more : (w : World) (ss : List Step) (s : Step) → after_all w (ss ++ s ∷ []) ≡ after (after_all w ss) s
+after_all-more : (w : World) (ss : List Step) (s : Step) → after_all w (ss ++ s ∷ []) ≡ world_after (after_all w ss) s
 after_all-more w [] s = refl
-after_all-more w (x ∷ ss) s = after_all-more (after w x) ss s
+after_all-more w (x ∷ ss) s = after_all-more (world_after w x) ss s
 
 -- one more step, as a loop has it
 pub run_more : (w m : World) (steps : List Step) (i : ℕ) (s : Step) (outs : List Output) → i < length steps → s ≡ get_or steps i s → outs ≡ replies w (take i steps) → m ≡ after_all w (take i steps)
-    → (outs ++ reply m s ∷ [] ≡ replies w (take (i + 1) steps)) × (after m s ≡ after_all w (take (i + 1) steps))
+    → (outs ++ reply m s ∷ [] ≡ replies w (take (i + 1) steps)) × (world_after m s ≡ after_all w (take (i + 1) steps))
 run_more w m steps i s outs lt at told moved =
     let more : take (i + 1) steps ≡ take i steps ++ s ∷ [] = take_more steps i s lt ∙ ap (λ (x : Step). take i steps ++ x ∷ []) (sym at) in (
       rw (more, told, moved) (sym (replies-more w (take i steps) s)),
@@ -164,8 +164,8 @@ only_replies w (st ∷ sts) [] l s n = absurd (omega arith)
 only_replies w (st ∷ sts) (x ∷ xs) l s n =
     let h = head w (owner w.hands st) (owners (hands_after w.hands st x) sts xs) x xs s n in
     let e : x ≡ reply w st = h.is in
-    let same : hands_after w.hands st x ≡ (after w st).hands = ap (hands_after w.hands st) e in
-    let rest : xs ≡ replies (after w st) sts = only_replies (after w st) sts xs (omega arith)
+    let same : hands_after w.hands st x ≡ (world_after w st).hands = ap (hands_after w.hands st) e in
+    let rest : xs ≡ replies (world_after w st) sts = only_replies (world_after w st) sts xs (omega arith)
     (subst (λ (hs : ℕ → Hand). (t : ℕ) → seen_by t (owners hs sts xs) xs ≡ run_alone (tenants_after w (owner w.hands st) t) (own_steps t (owners hs sts xs))) same h.seen_is)
     (subst (λ (hs : ℕ → Hand). NobodysAreRight (owners hs sts xs) xs) same h.nobodys) in
     λ i. e i ∷ rest i
@@ -177,11 +177,11 @@ one_list w steps xs ys a b = only_replies w steps xs a.each_step a.alone a.nobod
 
 replies-append : (w : World) (ss more : List Step) → replies w (ss ++ more) ≡ replies w ss ++ replies (after_all w ss) more
 replies-append w [] more = refl
-replies-append w (s ∷ ss) more = ap (λ (ys : List Output). reply w s ∷ ys) (replies-append (after w s) ss more)
+replies-append w (s ∷ ss) more = ap (λ (ys : List Output). reply w s ∷ ys) (replies-append (world_after w s) ss more)
 
 pub after_all-append : (w : World) (ss more : List Step) → after_all w (ss ++ more) ≡ after_all (after_all w ss) more
 after_all-append w [] more = refl
-after_all-append w (s ∷ ss) more = after_all-append (after w s) ss more
+after_all-append w (s ∷ ss) more = after_all-append (world_after w s) ss more
 
 are_the_replies : (w : World) (steps : List Step) (xs : List Output) → AreOutputs w steps xs → xs ≡ replies w steps
 are_the_replies w steps xs a = only_replies w steps xs a.each_step a.alone a.nobodys

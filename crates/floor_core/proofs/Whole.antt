@@ -7,13 +7,13 @@ use Rattle.tenant_core.specs.OpenHolds.{OpenHoldLaws}
 use Rattle.floor_core.specs.FloorView.{FloorState, world_of, hands_of, hand_by, no_seat, Fits, IsWhole, IsMet}
 use Rattle.floor_core.specs.Forwards.{HasBytes}
 use Rattle.floor_core.specs.Kept.{CallsMatchHolds}
-use Rattle.floor_core.specs.Moves.{output_of, moved, AsksSound, IsAsked}
+use Rattle.floor_core.specs.Moves.{output_of, moved, AsksSound, IsAskedBookSound}
 use Rattle.floor_core.specs.Work.{Job, tenant_in}
 use Rattle.floor_core.specs.World.{World, Owner, owner, load_owner, decide_owner, answer_owner}
-use Rattle.floor_core.specs.Worlds.{tenants_after, reply, after}
-use Rattle.floor_core.specs.declared.step.Given.{Given}
-use Rattle.floor_core.specs.Told.{shown}
-use Rattle.floor_core.specs.declared.step.Told.{Told}
+use Rattle.floor_core.specs.Worlds.{tenants_after, reply, world_after}
+use Rattle.floor_core.specs.declared.step.PeerAnswer.{PeerAnswer}
+use Rattle.floor_core.specs.Outputs.{shown}
+use Rattle.floor_core.specs.declared.step.StepOutput.{StepOutput}
 use Rattle.floor_core.specs.declared.step.Step.{Step}
 use Rattle.floor_core.specs.declared.step.Step.TheVariants.{Load, Decide, Answer, Tick, Govern}
 use Rattle.floor_core.proofs.Keeping.{IsAskedOf, after_kept}
@@ -33,12 +33,12 @@ load_asks f Job.NoJob call t token bytes = tt
 load_asks f (Job.Carries u k frame) call t token bytes = tt
 load_asks f (Job.Waits u hold frame) call t token bytes = tt
 
-decide_asks : (f : FloorState) (job : Job) (call now : ℕ) → IsAsked f (tenant_in job) → OwnerAsks (world_of f) (decide_owner (hand_by job call) now)
+decide_asks : (f : FloorState) (job : Job) (call now : ℕ) → IsAskedBookSound f (tenant_in job) → OwnerAsks (world_of f) (decide_owner (hand_by job call) now)
 decide_asks f Job.NoJob call now asked = tt
 decide_asks f (Job.Carries t token frame) call now asked = asked
 decide_asks f (Job.Waits t hold frame) call now asked = tt
 
-answer_asks : (f : FloorState) (job : Job) (call now : ℕ) (g : Given) → OwnerAsks (world_of f) (answer_owner (hand_by job call) now g)
+answer_asks : (f : FloorState) (job : Job) (call now : ℕ) (g : PeerAnswer) → OwnerAsks (world_of f) (answer_owner (hand_by job call) now g)
 answer_asks f Job.NoJob call now g = tt
 answer_asks f (Job.Carries t token frame) call now g = tt
 answer_asks f (Job.Waits t hold frame) call now g = tt
@@ -52,7 +52,7 @@ owner_asks f (Govern t now command) asked = tt
 
 pub record Steps (f : FloorState) (step : Step) : Type 0 where
   pub output : output_of f step ≡ reply (world_of f) step
-  pub world : world_of (moved f step) ≡ after (world_of f) step
+  pub world : world_of (moved f step) ≡ world_after (world_of f) step
   pub whole : IsWhole (moved f step)
 
 pub steps : OpenHoldLaws → CallLaws → (f : FloorState) (step : Step) → IsWhole f → Fits f step → HasBytes step → AsksSound f step → Steps f step
@@ -82,12 +82,12 @@ pub met : (f : FloorState) → IsWhole f → (w : ℕ) → IsMet (get_or f.seats
 met f i w = met_by f w i (get_or f.seats w no_seat).slot.job refl
 
 -- what a step of a floor is, or nothing where memory is refused
-pub record Stepped {E : Type 0} (f g : FloorState) (step : Step) (r : Result Told E) : Type 0 where
+pub record Stepped {E : Type 0} (f g : FloorState) (step : Step) (r : Result StepOutput E) : Type 0 where
   pub whole : IsWhole g
   pub told : IfOk r (λ told. shown g.seats told ≡ reply (world_of f) step)
-  pub world : OnOk r (world_of g ≡ after (world_of f) step)
+  pub world : OnOk r (world_of g ≡ world_after (world_of f) step)
 
-pub stepped : {E : Type 0} → OpenHoldLaws → CallLaws → (f g : FloorState) (step : Step) (r : Result Told E) → IsWhole f → Fits f step → HasBytes step → OnOk r (AsksSound f step)
+pub stepped : {E : Type 0} → OpenHoldLaws → CallLaws → (f g : FloorState) (step : Step) (r : Result StepOutput E) → IsWhole f → Fits f step → HasBytes step → OnOk r (AsksSound f step)
     → IfOk r (λ told. shown g.seats told ≡ output_of f step) → OnOk r (g ≡ moved f step) → OnErr r (g ≡ f) → Stepped f g step r
 stepped laws calls f g step (Ok o) i h are asked out move same =
     let s = steps laws calls f step i h are asked in

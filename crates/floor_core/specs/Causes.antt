@@ -12,8 +12,8 @@ use Rattle.tenant_core.specs.declared.opening.Opening.{Opening}
 use Rattle.floor_core.specs.Forwards.{AreForwards, HasBytes, no_frames}
 use Rattle.floor_core.specs.World.{Tenant, Event, Owner, World, put, new_tenant, no_book, arrival, key_in, answer_key, heard}
 use Rattle.floor_core.specs.World.{effect_of, all_free, owner, FitsIn, AreOutputs, IsLeft}
-use Rattle.floor_core.specs.Worlds.{after}
-use Rattle.floor_core.specs.declared.step.Given.{Given}
+use Rattle.floor_core.specs.Worlds.{world_after}
+use Rattle.floor_core.specs.declared.step.PeerAnswer.{PeerAnswer}
 use Rattle.floor_core.specs.declared.step.Malformed.{Malformed}
 use Rattle.floor_core.specs.declared.step.Output.{Output}
 use Rattle.floor_core.specs.declared.step.Step.{Step}
@@ -23,7 +23,7 @@ use Rattle.floor_core.specs.declared.step.Step.{Step}
 -- a frame that came with a token and was decided; an answer to a hold; a moment; a command
 pub data Cause : Type 0 where
   Packet : (token frame : List ℕ) (now : ℕ) → Cause
-  Return : (hold now : ℕ) (given : Given) → Cause
+  Return : (hold now : ℕ) (given : PeerAnswer) → Cause
   Moment : (now : ℕ) → Cause
   Order : (now : ℕ) (command : Command) → Cause
 
@@ -86,7 +86,7 @@ made_in w (Owner.Nobody output) = []
 -- the records that steps make, one after another
 abbrev pub all_made : World → List Step → List Entered
 all_made w [] = []
-all_made w (s ∷ ss) = made_in w (owner w.hands s) ++ all_made (after w s) ss
+all_made w (s ∷ ss) = made_in w (owner w.hands s) ++ all_made (world_after w s) ss
 
 -- ---- from openings on
 

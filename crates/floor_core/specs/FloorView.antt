@@ -8,7 +8,7 @@ use Rattle.tenant_core.specs.OpenHolds.{is_awaited}
 use Rattle.tenant_core.specs.State.{State}
 use Rattle.tenant_core.specs.declared.terms.TenantTerms.{TenantTerms}
 use Rattle.floor_core.specs.Kept.{CallsMatchHolds}
-use Rattle.floor_core.specs.Work.{Job, carrying, IsReadable, IsOfBytes}
+use Rattle.floor_core.specs.Work.{Job, carrying, IsReadable, IsJobOfBytes}
 use Rattle.floor_core.specs.World.{Stage, Tenant, Hand, World, FitsIn, no_book, world_at_start}
 use Rattle.floor_core.specs.declared.floor.Seat.{Seat}
 use Rattle.floor_core.specs.declared.floor.TheConstants.{MAX_SEATS}
@@ -64,12 +64,12 @@ carried_by (Job.Carries tenant token frame) call = Some (tenant, call)
 carried_by (Job.Waits tenant hold frame) call = Some (tenant, call)
 
 -- the same of a seat
-abbrev pub carried : Seat → Option (ℕ × ℕ)
-carried s = carried_by s.slot.job s.call
+abbrev pub call_carried : Seat → Option (ℕ × ℕ)
+call_carried s = carried_by s.slot.job s.call
 
 -- the same of a worker
 abbrev pub carried_at : List Seat → ℕ → Option (ℕ × ℕ)
-carried_at seats w = carried (slice_index_or seats w no_seat)
+carried_at seats w = call_carried (slice_index_or seats w no_seat)
 
 -- that is the call of this number of tenant t
 abbrev pub is_call : ℕ → ℕ → Option (ℕ × ℕ) → Bool
@@ -79,7 +79,7 @@ is_call t call (Some c) = (c.0 == t) && (c.1 == call)
 -- the calls of tenant t that have not ended, by number, each at the stage of the seat that carries it
 abbrev pub calls_of : ℕ → List Seat → ℕ → Option Stage
 calls_of t [] call = None
-calls_of t (s ∷ ss) call = if is_call t call (carried s) then stage_in s.slot.job else calls_of t ss call
+calls_of t (s ∷ ss) call = if is_call t call (call_carried s) then stage_in s.slot.job else calls_of t ss call
 
 -- what a worker has in hand
 abbrev pub hand_by : Job → ℕ → Hand
@@ -115,7 +115,7 @@ abbrev pub HasRoom : FloorState → ℕ → Type 0
 HasRoom f steps = (t : ℕ) → t < length f.books → slice_index f.next_calls t + steps ≤ 2 ^ 63
 
 -- a floor of these tenants and so many workers on which nothing has happened: nobody has a reply yet
-pub record IsNew (setups : List TenantTerms) (start workers : ℕ) (f : FloorState) : Type 0 where
+pub record IsNewFloor (setups : List TenantTerms) (start workers : ℕ) (f : FloorState) : Type 0 where
   pub workers_are : length f.seats ≡ workers
   pub tenants_are : length f.books ≡ length setups
   pub world : world_of f ≡ world_at_start setups start
@@ -124,7 +124,7 @@ pub record IsNew (setups : List TenantTerms) (start workers : ℕ) (f : FloorSta
 -- ---- what holds of every floor
 
 -- its parts fit each other
-pub record IsSound (f : FloorState) : Type 0 where
+pub record IsSoundFloor (f : FloorState) : Type 0 where
   pub as_many : length f.next_calls ≡ length f.books
   -- each book is at its tenant's number
   pub placed : (t : ℕ) → t < length f.books → (book_at f t).opening.tenant ≡ t
@@ -136,11 +136,11 @@ pub record IsSound (f : FloorState) : Type 0 where
   -- its frame reads
   pub readable : (w : ℕ) → IsReadable (seat_at f w).slot.job
   -- and is made of bytes
-  pub octets : (w : ℕ) → IsOfBytes (seat_at f w).slot.job
+  pub octets : (w : ℕ) → IsJobOfBytes (seat_at f w).slot.job
 
 -- and so is each tenant
 pub record IsWhole (f : FloorState) : Type 0 where
-  pub sound : IsSound f
+  pub sound : IsSoundFloor f
   pub tenants : (t : ℕ) → CallsMatchHolds (tenant_of f t)
 
 -- the tenant of a slot's call is there, and if the slot waits, the tenant's book awaits the answer

@@ -3,7 +3,7 @@ use Rattle.std.specs.Prelude.{ℕ, ◌≡◌, ◌<◌, List, [], ◌∷◌, Some
 use Rattle.oer_core.specs.Length.{AreBytes}
 use Rattle.ilp_view.specs.Packet.{Prepare, IsPrepare, IsForwardOf}
 use Rattle.floor_core.specs.FloorView.{FloorState, seat_at}
-use Rattle.floor_core.specs.Work.{frame_of}
+use Rattle.floor_core.specs.Work.{job_frame}
 use Rattle.floor_core.specs.World.{Hand, Stage, World, number_of, put}
 use Rattle.floor_core.specs.declared.step.Output.{Output}
 use Rattle.floor_core.specs.declared.step.Output.TheVariants.{Loaded, Send}
@@ -48,11 +48,11 @@ no_frames worker = []
 
 -- the frames that the workers of a floor have
 abbrev pub frames_on : FloorState → ℕ → List ℕ
-frames_on f worker = frame_of (seat_at f worker).slot.job
+frames_on f worker = job_frame (seat_at f worker).slot.job
 
 -- a worker took this frame in as that call: the tenant is there and has loaded the call, and if it may be decided, the
 -- frame is its packet
-pub record HasTaken (tenants : ℕ) (world : World) (frame : List ℕ) (t call : ℕ) : Type 0 where
+pub record HasTakenFrame (tenants : ℕ) (world : World) (frame : List ℕ) (t call : ℕ) : Type 0 where
   pub there : t < tenants
   pub loaded : call < (world.tenants t).next_call
   pub packet : (token : List ℕ) (p : Prepare) → (world.tenants t).calls call ≡ Some (Stage.Ready token p)
@@ -63,4 +63,4 @@ pub record HasTaken (tenants : ℕ) (world : World) (frame : List ℕ) (t call :
 pub record AreTaken (tenants : ℕ) (world : World) (frames : ℕ → List ℕ) : Type 0 where
   pub numbered : (t : ℕ) → t < tenants → number_of (world.tenants t) ≡ t
   pub each : (worker t call : ℕ) → world.hands worker ≡ Hand.Has t call
-      → HasTaken tenants world (frames worker) t call
+      → HasTakenFrame tenants world (frames worker) t call

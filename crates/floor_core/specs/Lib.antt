@@ -10,6 +10,6 @@ pub mod Moves
 pub mod Worlds
 pub mod Causes
 pub mod Forwards
-pub mod Told
+pub mod Outputs
 pub mod Parts
 pub mod FloorKept

@@ -7,7 +7,7 @@ use Rattle.tenant_core.specs.Present.{network_of}
 use Rattle.tenant_core.specs.Sound.{IsSound}
 use Rattle.tenant_core.specs.State.{State, recorded}
 use Rattle.floor_core.specs.FloorView.{FloorState, seat_at, book_at}
-use Rattle.floor_core.specs.Work.{Work, Called, frame_of, tenant_in, load_result, loaded, decide_call}
+use Rattle.floor_core.specs.Work.{Work, Called, job_frame, tenant_in, load_result, loaded, decide_call}
 use Rattle.floor_core.specs.Work.{waiting_in, filled_as, filled_room, answer_call}
 use Rattle.floor_core.specs.World.{malformed_by, peer_name}
 use Rattle.floor_core.specs.declared.floor.Seat.{Seat}
@@ -17,8 +17,8 @@ use Rattle.floor_core.specs.declared.parts.LoadFault.{LoadFault}
 use Rattle.floor_core.specs.declared.parts.LoadFault.TheVariants as load
 use Rattle.floor_core.specs.declared.parts.Turn.{Turn}
 use Rattle.floor_core.specs.declared.parts.Turn.TheVariants as turn
-use Rattle.floor_core.specs.declared.step.Given.{Given}
-use Rattle.floor_core.specs.declared.step.Given.TheVariants as given
+use Rattle.floor_core.specs.declared.step.PeerAnswer.{PeerAnswer}
+use Rattle.floor_core.specs.declared.step.PeerAnswer.TheVariants as given
 use Rattle.floor_core.specs.declared.step.Malformed.TheVariants as malformed
 use Rattle.floor_core.specs.declared.step.Output.{Output}
 use Rattle.floor_core.specs.declared.step.Output.TheVariants.{Busy, Idle, Loaded, Bad, Stranger, Reply, Send, Ticked}
@@ -27,8 +27,8 @@ use Rattle.floor_core.specs.declared.step.Step.{Step}
 use Rattle.floor_core.specs.declared.step.Step.TheVariants.{Load, Decide, Answer, Tick, Govern}
 
 -- a floor of these parts
-abbrev pub parts : List Seat → List State → List ℕ → FloorState
-parts seats books next_calls = record { seats = seats; books = books; next_calls = next_calls }
+abbrev pub floor_with : List Seat → List State → List ℕ → FloorState
+floor_with seats books next_calls = record { seats = seats; books = books; next_calls = next_calls }
 
 -- ---- a load
 
@@ -61,7 +61,7 @@ turn_output t book work turn.Stray = Idle
 turn_output t book work turn.Stranger = Stranger t
 turn_output t book work turn.Reply = Reply t work.reply
 turn_output t book work (turn.Send peer hold) =
-    Send t (peer_name (peer_numbered peer (network_of book).peers)) hold (frame_of work.job)
+    Send t (peer_name (peer_numbered peer (network_of book).peers)) hold (job_frame work.job)
 
 -- the slot and the book of one step are changed
 abbrev pub put_both : FloorState → ℕ → ℕ → Work → State → FloorState
@@ -85,22 +85,22 @@ call_moved f w (Some t) call =
     put_both f w t (call (book_at f t)).work (recorded (book_at f t) (call (book_at f t)).made)
 
 -- what came back, as a slot takes it
-abbrev pub got_of : Given → Got
-got_of (given.Bytes bytes) = filled_as bytes
-got_of given.Fault = got.Fault
+abbrev pub given_got : PeerAnswer → Got
+given_got (given.Bytes bytes) = filled_as bytes
+given_got given.Fault = got.Fault
 
 -- the slot that took it
-abbrev pub filled : Work → Given → Work
-filled w (given.Bytes bytes) = record w { room = filled_room w.room bytes }
-filled w given.Fault = w
+abbrev pub slot_filled : Work → PeerAnswer → Work
+slot_filled w (given.Bytes bytes) = record w { room = filled_room w.room bytes }
+slot_filled w given.Fault = w
 
 -- a decide by the worker's slot
 abbrev pub decide_by : FloorState → ℕ → ℕ → State → Called
 decide_by f w now book = decide_call (seat_at f w).slot book now
 
 -- an answer to it
-abbrev pub answer_by : FloorState → ℕ → ℕ → Given → State → Called
-answer_by f w now given book = answer_call (filled (seat_at f w).slot given) book now (got_of given)
+abbrev pub answer_by : FloorState → ℕ → ℕ → PeerAnswer → State → Called
+answer_by f w now given book = answer_call (slot_filled (seat_at f w).slot given) book now (given_got given)
 
 -- ---- every step
 
@@ -129,11 +129,11 @@ moved f (Tick t now) = record f { books = slice_set f.books t (ticked (book_at f
 moved f (Govern t now command) = record f { books = slice_set f.books t (commanded (book_at f t) command now) }
 
 -- the book that a decide asks is a state within its limits
-abbrev pub IsAsked : FloorState → Option ℕ → Type 0
-IsAsked f None = Unit {0}
-IsAsked f (Some t) = IsSound (book_at f t)
+abbrev pub IsAskedBookSound : FloorState → Option ℕ → Type 0
+IsAskedBookSound f None = Unit {0}
+IsAskedBookSound f (Some t) = IsSound (book_at f t)
 
 -- and so of the step
 abbrev pub AsksSound : FloorState → Step → Type 0
-AsksSound f (Decide w now) = IsAsked f (tenant_in (seat_at f w).slot.job)
+AsksSound f (Decide w now) = IsAskedBookSound f (tenant_in (seat_at f w).slot.job)
 AsksSound f _ = Unit {0}

@@ -3,5 +3,5 @@ use Rattle.floor_core.specs.FloorView.{FloorState}
 use Rattle.floor_core.specs.declared.floor.Parts.TheInside.{Inside}
 
 -- the lists, wherever they lie in memory
-abbrev pub lists_of : Inside → FloorState
-lists_of p = record { seats = p.seats.items; books = p.books.items; next_calls = p.next_calls.items }
+abbrev pub floor_of_parts : Inside → FloorState
+floor_of_parts p = record { seats = p.seats.items; books = p.books.items; next_calls = p.next_calls.items }

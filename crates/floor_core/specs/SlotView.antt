@@ -20,10 +20,10 @@ target_at (Loaded tenant token) = None
 target_at (Waiting tenant hold target expiry) = Some target
 
 -- when that frame expires
-abbrev pub expiry_at : Stage → Option ℕ
-expiry_at Idle = None
-expiry_at (Loaded tenant token) = None
-expiry_at (Waiting tenant hold target expiry) = Some expiry
+abbrev pub stage_expiry : Stage → Option ℕ
+stage_expiry Idle = None
+stage_expiry (Loaded tenant token) = None
+stage_expiry (Waiting tenant hold target expiry) = Some expiry
 
 -- of the bytes in both buffers, those of the frame or the reply
 abbrev pub work_of : Inside → Work
@@ -31,7 +31,7 @@ work_of s =
     record {
       job = job_of s.stage (take s.frame_len s.frame);
       target = target_at s.stage;
-      expiry = expiry_at s.stage;
+      expiry = stage_expiry s.stage;
       reply = take s.reply_len s.reply;
       room = s.reply;
     }

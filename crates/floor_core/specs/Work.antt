@@ -26,8 +26,8 @@ use Rattle.floor_core.specs.declared.parts.LoadFault.{LoadFault}
 use Rattle.floor_core.specs.declared.parts.LoadFault.TheVariants as load
 use Rattle.floor_core.specs.declared.parts.Turn.{Turn}
 use Rattle.floor_core.specs.declared.parts.Turn.TheVariants.{Idle, Stray, Stranger, Reply, Send}
-use Rattle.floor_core.specs.declared.step.Given.{Given}
-use Rattle.floor_core.specs.declared.step.Given.TheVariants as given
+use Rattle.floor_core.specs.declared.step.PeerAnswer.{PeerAnswer}
+use Rattle.floor_core.specs.declared.step.PeerAnswer.TheVariants as given
 
 -- ---- what is carried
 
@@ -48,10 +48,10 @@ pub record Work : Type 0 where
   pub room : List ℕ
 
 -- the frame of a call
-abbrev pub frame_of : Job → List ℕ
-frame_of Job.NoJob = []
-frame_of (Job.Carries tenant token frame) = frame
-frame_of (Job.Waits tenant hold frame) = frame
+abbrev pub job_frame : Job → List ℕ
+job_frame Job.NoJob = []
+job_frame (Job.Carries tenant token frame) = frame
+job_frame (Job.Waits tenant hold frame) = frame
 
 -- the tenant of a call
 abbrev pub tenant_in : Job → Option ℕ
@@ -175,17 +175,17 @@ abbrev pub filled_room : List ℕ → List ℕ → List ℕ
 filled_room room bytes = if nat_lt max_frame (length bytes) then room else overwritten room 0 bytes
 
 -- the answer of the next peer: so many bytes at the front of the buffer, no more than a frame may have, or nothing
-abbrev pub given_by : (room : List ℕ) → Got → Given
+abbrev pub given_by : (room : List ℕ) → Got → PeerAnswer
 given_by room (got.Filled n) = if nat_lt max_frame n then given.Fault else given.Bytes (take n room)
 given_by room got.Fault = given.Fault
 
 -- the result of an answer to a hold, which makes that record
-abbrev pub settled_call : Work → State → Given → Option Record → Result Verdict HoldFault → Called
+abbrev pub settled_call : Work → State → PeerAnswer → Option Record → Result Verdict HoldFault → Called
 settled_call w s given made (Ok v) = replied (settled_reply s.opening.address (bytes_given given) v) w.room made
 settled_call w s given made (Err fault) = only Stray w
 
 -- the result of an answer to a slot with that call
-abbrev pub job_answered : Job → Work → State → ℕ → Given → Called
+abbrev pub job_answered : Job → Work → State → ℕ → PeerAnswer → Called
 job_answered (Job.Waits tenant hold frame) w s now given =
     if_own tenant s w
     (settled_call w s given (answer_made s hold now (answer_key given)) (answer_to s hold now (answer_key given)))
@@ -203,9 +203,9 @@ IsReadable (Job.Carries tenant token frame) = is_ok (prepare_at frame) ≡ true
 IsReadable _ = Unit {0}
 
 -- and is made of bytes
-abbrev pub IsOfBytes : Job → Type 0
-IsOfBytes (Job.Carries tenant token frame) = AreBytes frame
-IsOfBytes _ = Unit {0}
+abbrev pub IsJobOfBytes : Job → Type 0
+IsJobOfBytes (Job.Carries tenant token frame) = AreBytes frame
+IsJobOfBytes _ = Unit {0}
 
 -- a frame that was sent on has that
 abbrev pub WaitsWith : {A : Type 0} → Job → Option A → Type 0
@@ -213,17 +213,17 @@ WaitsWith (Job.Waits tenant hold frame) what = IsSome what
 WaitsWith _ what = Unit {0}
 
 -- and came with a token
-abbrev pub IsNamed : Job → Type 0
-IsNamed (Job.Carries tenant token frame) = is_token token ≡ true
-IsNamed _ = Unit {0}
+abbrev pub CameWithToken : Job → Type 0
+CameWithToken (Job.Carries tenant token frame) = is_token token ≡ true
+CameWithToken _ = Unit {0}
 
 -- what holds of every slot
 pub record IsWork (w : Work) : Type 0 where
   pub readable : IsReadable w.job
-  pub octets : IsOfBytes w.job
-  pub named : IsNamed w.job
+  pub octets : IsJobOfBytes w.job
+  pub named : CameWithToken w.job
   pub somewhere : WaitsWith w.job w.target
   pub until : WaitsWith w.job w.expiry
-  pub frame : length (frame_of w.job) ≤ max_frame
+  pub frame : length (job_frame w.job) ≤ max_frame
   pub reply : length w.reply ≤ max_frame
   pub room : length w.room ≡ max_frame

@@ -27,8 +27,8 @@ use Rattle.tenant_core.specs.declared.verdict.Verdict.TheVariants.{Unknown, Refu
 use Rattle.floor_core.specs.Replies.{decision_reply, refusal_reply}
 use Rattle.floor_core.specs.declared.step.Malformed.{Malformed}
 use Rattle.floor_core.specs.declared.step.Malformed.TheVariants as malformed
-use Rattle.floor_core.specs.declared.step.Given.{Given}
-use Rattle.floor_core.specs.declared.step.Given.TheVariants.{Bytes, Fault}
+use Rattle.floor_core.specs.declared.step.PeerAnswer.{PeerAnswer}
+use Rattle.floor_core.specs.declared.step.PeerAnswer.TheVariants.{Bytes, Fault}
 use Rattle.floor_core.specs.declared.step.Step.{Step}
 use Rattle.floor_core.specs.declared.step.Step.TheVariants.{Load, Decide, Answer, Tick, Govern}
 use Rattle.floor_core.specs.declared.step.Output.{Output}
@@ -51,7 +51,7 @@ pub record Tenant : Type 0 where
 pub data Event : Type 0 where
   Arrives : (token bytes : List ℕ) → Event
   Decides : (call now : ℕ) → Event
-  Answers : (call now : ℕ) (given : Given) → Event
+  Answers : (call now : ℕ) (given : PeerAnswer) → Event
   Ticks : (now : ℕ) → Event
   Governs : (now : ℕ) (command : Command) → Event
 
@@ -107,17 +107,17 @@ key_read (Err f) (Ok p) = key.Rejected
 key_read (Err f) (Err g) = key.Fault
 
 -- what the tenant settles a packet by: bytes that are neither a Fulfill nor a Reject are a fault
-abbrev pub answer_key : Given → AnswerKey
+abbrev pub answer_key : PeerAnswer → AnswerKey
 answer_key (Bytes bytes) = key_read (fulfill_at bytes) (reject_at bytes)
 answer_key Fault = key.Fault
 
 -- the bytes that came back
-abbrev pub bytes_given : Given → List ℕ
+abbrev pub bytes_given : PeerAnswer → List ℕ
 bytes_given (Bytes bytes) = bytes
 bytes_given Fault = []
 
 -- what came back, if it is short enough for an answer
-abbrev pub heard : Given → Given
+abbrev pub heard : PeerAnswer → PeerAnswer
 heard (Bytes bytes) = if nat_lt max_frame (length bytes) then Fault else Bytes bytes
 heard Fault = Fault
 
@@ -183,13 +183,13 @@ call_decided s call (Some (Ready token p)) now =
 call_decided s call _ now = no_effect s
 
 -- the answer to a hold, which settles its call; nothing if the hold awaits none
-abbrev pub call_settled : Tenant → (call : ℕ) → Given → Option Record → Result Verdict HoldFault → Effect
+abbrev pub call_settled : Tenant → (call : ℕ) → PeerAnswer → Option Record → Result Verdict HoldFault → Effect
 call_settled s call given made (Ok v) =
     on_call s call None (Reply (number_of s) (settled_reply s.book.opening.address (bytes_given given) v)) made
 call_settled s call given made (Err f) = no_effect s
 
 -- the answer to a call at that stage
-abbrev pub call_answered : Tenant → (call : ℕ) → Option Stage → (now : ℕ) → Given → Effect
+abbrev pub call_answered : Tenant → (call : ℕ) → Option Stage → (now : ℕ) → PeerAnswer → Effect
 call_answered s call (Some (Sent hold)) now given =
     call_settled s call given (answer_made s.book hold now (answer_key given))
     (answer_to s.book hold now (answer_key given))
@@ -248,7 +248,7 @@ decide_owner (Has t call) now = Own t (Decides call now)
 decide_owner (Awaits t call) now = Nobody Idle
 
 -- an answer is to the call in hand, if that awaits one
-abbrev pub answer_owner : Hand → ℕ → Given → Owner
+abbrev pub answer_owner : Hand → ℕ → PeerAnswer → Owner
 answer_owner (Awaits t call) now given = Own t (Answers call now given)
 answer_owner _ now given = Nobody Idle
 

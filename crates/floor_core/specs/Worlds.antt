@@ -19,16 +19,16 @@ abbrev pub reply : World → Step → Output
 reply w step = says w (owner w.hands step)
 
 -- the world after it
-abbrev pub after : World → Step → World
-after w step =
+abbrev pub world_after : World → Step → World
+world_after w step =
     record { tenants = tenants_after w (owner w.hands step); hands = hands_after w.hands step (reply w step) }
 
 -- the outputs of steps, one after the other
 abbrev pub replies : World → List Step → List Output
 replies w [] = []
-replies w (s ∷ ss) = reply w s ∷ replies (after w s) ss
+replies w (s ∷ ss) = reply w s ∷ replies (world_after w s) ss
 
 -- the world after them
 abbrev pub after_all : World → List Step → World
 after_all w [] = w
-after_all w (s ∷ ss) = after_all (after w s) ss
+after_all w (s ∷ ss) = after_all (world_after w s) ss

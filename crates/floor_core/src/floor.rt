@@ -8,16 +8,16 @@ ghost use Rattle.tenant_core.specs.Governed.{command_answer, commanded};
 ghost use Rattle.tenant_core.specs.Network.{peer_numbered};
 ghost use Rattle.tenant_core.specs.Present.{network_of};
 ghost use Rattle.floor_core.specs.FloorView.{IsMet, seat_at, seat_in};
-ghost use Rattle.floor_core.specs.Moves.{parts, output_of, moved, IsAsked, got_of, filled};
+ghost use Rattle.floor_core.specs.Moves.{floor_with, output_of, moved, IsAskedBookSound, given_got, slot_filled};
 ghost use Rattle.floor_core.specs.Work.{tenant_in, IsWaiting};
 ghost use Rattle.floor_core.specs.Work.Job.{NoJob};
-ghost use Rattle.floor_core.specs.Told.{shown};
+ghost use Rattle.floor_core.specs.Outputs.{shown};
 ghost use Rattle.floor_core.specs.World.{peer_name, malformed_by};
 ghost use Rattle.floor_core.specs.declared.step.Step.TheVariants.{Load, Decide, Answer, Tick, Govern};
 
 use crate::parts::{Got, LoadFault, Turn};
 use crate::slot::Slot;
-use crate::step::{Given, Malformed, Output, Step, Told};
+use crate::step::{Malformed, Output, PeerAnswer, Step, StepOutput};
 use common_types::{Bytes, Items, Text};
 use ilp_addr::Moment;
 use ilp_view::{MAX_FRAME, ViewFault};
@@ -52,9 +52,9 @@ impl Model for Parts {
 
     ghost coded = { Prim.hlevel (codes, routes.the_row.coded) };
 
-    ghost use Rattle.floor_core.specs.Parts.{lists_of};
+    ghost use Rattle.floor_core.specs.Parts.{floor_of_parts};
 
-    ghost view = { lists_of };
+    ghost view = { floor_of_parts };
 }
 
 /// Workers that carry packets for tenants. Contracts see what it shows to the one-tenant connectors.
@@ -140,11 +140,11 @@ fn load_on(
     requires tenant { tenant < length next_calls.old }
     requires room { slice_index next_calls.old tenant + 1 < 2 ^ 64 }
     ensures bytes { AreBytes bytes.now }
-    ensures output { result ≡ output_of (parts seats.old [] next_calls.old) (Load worker tenant token.now bytes.now) }
+    ensures output { result ≡ output_of (floor_with seats.old [] next_calls.old) (Load worker tenant token.now bytes.now) }
     ensures seats { seats.new
-        ≡ (moved (parts seats.old [] next_calls.old) (Load worker tenant token.now bytes.now)).seats }
+        ≡ (moved (floor_with seats.old [] next_calls.old) (Load worker tenant token.now bytes.now)).seats }
     ensures calls { next_calls.new
-        ≡ (moved (parts seats.old [] next_calls.old) (Load worker tenant token.now bytes.now)).next_calls }
+        ≡ (moved (floor_with seats.old [] next_calls.old) (Load worker tenant token.now bytes.now)).next_calls }
 {
     let seat = &mut seats[worker];
     match seat.slot.load(tenant, token, bytes) {
@@ -166,28 +166,28 @@ fn load_on(
     }
 }
 
-fn decide_on(seats: &mut [Seat], books: &mut [Book], worker: usize, now: Moment) -> Told
+fn decide_on(seats: &mut [Seat], books: &mut [Book], worker: usize, now: Moment) -> StepOutput
     requires worker { worker < length seats.old }
-    requires met { IsMet (seat_at (parts seats.old books.old []) worker).slot.job books.old }
-    ensures told { shown seats.new result ≡ output_of (parts seats.old books.old []) (Decide worker now) }
-    ensures seats { seats.new ≡ (moved (parts seats.old books.old []) (Decide worker now)).seats }
-    ensures books { books.new ≡ (moved (parts seats.old books.old []) (Decide worker now)).books }
-    ensures asked { IsAsked (parts seats.old books.old [])
-        (tenant_in (seat_at (parts seats.old books.old []) worker).slot.job) }
+    requires met { IsMet (seat_at (floor_with seats.old books.old []) worker).slot.job books.old }
+    ensures told { shown seats.new result ≡ output_of (floor_with seats.old books.old []) (Decide worker now) }
+    ensures seats { seats.new ≡ (moved (floor_with seats.old books.old []) (Decide worker now)).seats }
+    ensures books { books.new ≡ (moved (floor_with seats.old books.old []) (Decide worker now)).books }
+    ensures asked { IsAskedBookSound (floor_with seats.old books.old [])
+        (tenant_in (seat_at (floor_with seats.old books.old []) worker).slot.job) }
 {
     tenant_core::laws::what_stays();
     let seat = &mut seats[worker];
     let Some(tenant) = seat.slot.tenant() else {
-        return Told::Whole(Output::Idle);
+        return StepOutput::Whole(Output::Idle);
     };
     let book = &mut books[tenant];
     tenant_core::laws::book_is_sound(book);
     match seat.slot.decide(book, now) {
-        Turn::Idle => Told::Whole(Output::Idle),
+        Turn::Idle => StepOutput::Whole(Output::Idle),
         Turn::Stray => unreachable!(),
-        Turn::Stranger => Told::Whole(Output::Stranger { tenant }),
-        Turn::Reply => Told::Reply { worker, tenant },
-        Turn::Send { peer, hold } => Told::Send {
+        Turn::Stranger => StepOutput::Whole(Output::Stranger { tenant }),
+        Turn::Reply => StepOutput::Reply { worker, tenant },
+        Turn::Send { peer, hold } => StepOutput::Send {
             worker,
             tenant,
             peer: peer_name(book, peer),
@@ -197,14 +197,14 @@ fn decide_on(seats: &mut [Seat], books: &mut [Book], worker: usize, now: Moment)
 }
 
 // Puts the answer for the packet of a slot into the slot.
-fn taken_in(slot: &mut Slot, given: &Given) -> Got
+fn taken_in(slot: &mut Slot, given: &PeerAnswer) -> Got
     requires { IsWaiting slot.old.job }
-    ensures got { result ≡ got_of given.now }
-    ensures slot { slot.new ≡ filled slot.old given.now }
+    ensures got { result ≡ given_got given.now }
+    ensures slot { slot.new ≡ slot_filled slot.old given.now }
 {
     match given {
-        Given::Bytes(bytes) => slot.fill(bytes.as_slice()),
-        Given::Fault => Got::Fault,
+        PeerAnswer::Bytes(bytes) => slot.fill(bytes.as_slice()),
+        PeerAnswer::Fault => Got::Fault,
     }
 }
 
@@ -213,30 +213,30 @@ fn answer_on(
     books: &mut [Book],
     worker: usize,
     now: Moment,
-    given: &Given,
-) -> Told
+    given: &PeerAnswer,
+) -> StepOutput
     requires worker { worker < length seats.old }
-    requires met { IsMet (seat_at (parts seats.old books.old []) worker).slot.job books.old }
-    ensures told { shown seats.new result ≡ output_of (parts seats.old books.old []) (Answer worker now given.now) }
-    ensures seats { seats.new ≡ (moved (parts seats.old books.old []) (Answer worker now given.now)).seats }
-    ensures books { books.new ≡ (moved (parts seats.old books.old []) (Answer worker now given.now)).books }
+    requires met { IsMet (seat_at (floor_with seats.old books.old []) worker).slot.job books.old }
+    ensures told { shown seats.new result ≡ output_of (floor_with seats.old books.old []) (Answer worker now given.now) }
+    ensures seats { seats.new ≡ (moved (floor_with seats.old books.old []) (Answer worker now given.now)).seats }
+    ensures books { books.new ≡ (moved (floor_with seats.old books.old []) (Answer worker now given.now)).books }
 {
     tenant_core::laws::calls();
     let seat = &mut seats[worker];
     let Some(tenant) = seat.slot.waiting() else {
-        return Told::Whole(Output::Idle);
+        return StepOutput::Whole(Output::Idle);
     };
     let got = taken_in(&mut seat.slot, given);
     match seat.slot.answer(&mut books[tenant], now, got) {
-        Turn::Reply => Told::Reply { worker, tenant },
+        Turn::Reply => StepOutput::Reply { worker, tenant },
         _ => unreachable!(),
     }
 }
 
 fn tick_on(books: &mut [Book], tenant: usize, now: Moment) -> Output
     requires { tenant < length books.old }
-    ensures output { result ≡ output_of (parts [] books.old []) (Tick tenant now) }
-    ensures books { books.new ≡ (moved (parts [] books.old []) (Tick tenant now)).books }
+    ensures output { result ≡ output_of (floor_with [] books.old []) (Tick tenant now) }
+    ensures books { books.new ≡ (moved (floor_with [] books.old []) (Tick tenant now)).books }
 {
     let answer = books[tenant].tick(now);
     Output::Ticked { tenant, answer }
@@ -272,8 +272,8 @@ fn govern_on(
 ) -> Result<Output, AllocError>
     requires { tenant < length books.old }
     ensures output { IfOk result (λ output.
-        output ≡ output_of (parts [] books.old []) (Govern tenant now command.now)) }
-    ensures books { OnOk result (books.new ≡ (moved (parts [] books.old []) (Govern tenant now command.now)).books) }
+        output ≡ output_of (floor_with [] books.old []) (Govern tenant now command.now)) }
+    ensures books { OnOk result (books.new ≡ (moved (floor_with [] books.old []) (Govern tenant now command.now)).books) }
     ensures same { OnErr result (books.new ≡ books.old) }
 {
     let answer = governed(alloc, &mut books[tenant], command, now)?;
@@ -285,10 +285,10 @@ impl Parts {
     ghost use Rattle.floor_core.specs.FloorView.{Fits, HasRoom, IsCommand, IsMet, seat_at};
     ghost use Rattle.floor_core.specs.Forwards.{HasBytes};
     ghost use Rattle.floor_core.specs.Moves.{output_of, moved, AsksSound};
-    ghost use Rattle.floor_core.specs.Told.{shown};
+    ghost use Rattle.floor_core.specs.Outputs.{shown};
 
     // One step, or nothing if a command runs out of memory.
-    fn step(&mut self, alloc: Global, step: &Step) -> Result<Told, AllocError>
+    fn step(&mut self, alloc: Global, step: &Step) -> Result<StepOutput, AllocError>
         requires fits { Fits self.old step.now }
         requires met { (w : ℕ) → IsMet (seat_at self.old w).slot.job self.old.books }
         requires as_many { length self.old.next_calls ≡ length self.old.books }
@@ -306,7 +306,7 @@ impl Parts {
                 tenant,
                 token,
                 bytes,
-            } => Ok(Told::Whole(load_on(
+            } => Ok(StepOutput::Whole(load_on(
                 &mut self.seats,
                 &mut self.next_calls,
                 *worker,
@@ -327,12 +327,21 @@ impl Parts {
                 *now,
                 given,
             )),
-            Step::Tick { tenant, now } => Ok(Told::Whole(tick_on(&mut self.books, *tenant, *now))),
+            Step::Tick { tenant, now } => {
+                let output = tick_on(&mut self.books, *tenant, *now);
+                Ok(StepOutput::Whole(output))
+            }
             Step::Govern {
                 tenant,
                 now,
                 command,
-            } => Ok(Told::Whole(govern_on(alloc, &mut self.books, *tenant, *now, command.get())?)),
+            } => Ok(StepOutput::Whole(govern_on(
+                alloc,
+                &mut self.books,
+                *tenant,
+                *now,
+                command.get(),
+            )?)),
         }
     }
 }
@@ -343,20 +352,20 @@ impl Floor {
     ghost use Rattle.ilp_view.specs.Packet.{max_frame};
     ghost use Rattle.floor_core.specs.FloorView.{world_of, seat_in, Fits, HasRoom, IsCommand};
     ghost use Rattle.floor_core.specs.Forwards.{AreForwards, AreTaken, HasBytes, SendsForward, frames_on};
-    ghost use Rattle.floor_core.specs.Told.{shown};
+    ghost use Rattle.floor_core.specs.Outputs.{shown};
     ghost use Rattle.floor_core.specs.World.{AreOutputs, IsLeft};
-    ghost use Rattle.floor_core.specs.Worlds.{reply, after};
+    ghost use Rattle.floor_core.specs.Worlds.{reply, world_after};
 
     /// Does a step and returns its output. For a tenant's own step, the output is what the one-tenant connector says
     /// to the event, and the tenant ends as it does there. A frame that is sent on is the one that the worker had,
     /// with 8 other bytes for its amount and 17 others for its expiry.
     ///
     /// Fails only if a command runs out of memory. Nothing has changed then.
-    pub fn step(&mut self, alloc: Global, step: &Step) -> Result<Told, AllocError>
+    pub fn step(&mut self, alloc: Global, step: &Step) -> Result<StepOutput, AllocError>
         requires fits { Fits self.old step.now }
         requires room { HasRoom self.old 1 }
         ensures told { IfOk result (λ told. shown self.new.seats told ≡ reply (world_of self.old) step.now) }
-        ensures world { OnOk result (world_of self.new ≡ after (world_of self.old) step.now) }
+        ensures world { OnOk result (world_of self.new ≡ world_after (world_of self.old) step.now) }
         ensures forwards { IfOk result (λ told. SendsForward (frames_on self.old) step.now (shown self.new.seats told)) }
         ensures bytes { HasBytes step.now }
         ensures same { OnErr result (self.new ≡ self.old) }
@@ -403,18 +412,18 @@ impl Floor {
     }
 
     // The output of a step, with its bytes copied into a buffer that was allocated for them.
-    fn output(&self, told: Told, room: Vec<u8>) -> Output
+    fn output(&self, told: StepOutput, room: Vec<u8>) -> Output
         requires empty { room.items ≡ [] }
         requires fits { max_frame ≤ vec_capacity room }
         ensures { result ≡ shown self.now.seats told }
     {
         match told {
-            Told::Whole(output) => output,
-            Told::Reply { worker, tenant } => Output::Reply {
+            StepOutput::Whole(output) => output,
+            StepOutput::Reply { worker, tenant } => Output::Reply {
                 tenant,
                 bytes: copied(room, self.reply(worker)),
             },
-            Told::Send {
+            StepOutput::Send {
                 worker,
                 tenant,
                 peer,
@@ -476,7 +485,7 @@ impl Floor {
 
 impl Floor {
     ghost use Rattle.std.specs.Prelude.{◌≡◌, ◌≤◌, ℕ, length, IfOk};
-    ghost use Rattle.floor_core.specs.FloorView.{IsNew, max_seats};
+    ghost use Rattle.floor_core.specs.FloorView.{IsNewFloor, max_seats};
     ghost use Rattle.tenant_core.specs.Limits.{max_tenants};
 
     /// The floor of these tenants, whose first periods begin at `start`, and of so many workers with nothing in hand:
@@ -489,7 +498,7 @@ impl Floor {
     ) -> Result<Floor, AllocError>
         requires tenants { (1 ≤ length setups.now) × (length setups.now ≤ max_tenants) }
         requires workers { (1 ≤ workers) × (workers ≤ max_seats) }
-        ensures { IfOk result (λ floor. IsNew setups.now start workers floor) }
+        ensures { IfOk result (λ floor. IsNewFloor setups.now start workers floor) }
     {
         let seats = free_seats(alloc, workers)?;
         let mut books: Vec<Book> = Vec::with_capacity(alloc, setups.len())?;

@@ -15,4 +15,4 @@ pub use floor::{Floor, MAX_SEATS, RunFault};
 pub use octets::Octets;
 pub use parts::{Got, LoadFault, Turn};
 pub use slot::Slot;
-pub use step::{Given, Malformed, Output, Step, Told};
+pub use step::{Malformed, Output, PeerAnswer, Step, StepOutput};

@@ -69,7 +69,7 @@ impl Slot {
     ghost use Rattle.std.specs.Prelude.{◌≡◌, ◌≤◌, ◌↔◌, IfOk, IsSome, Some, length};
     ghost use Rattle.ilp_view.specs.Packet.{max_frame};
     ghost use Rattle.tenant_core.specs.State.{recorded};
-    ghost use Rattle.floor_core.specs.Work.{Job, Work, load_result, loaded, decide_call, answer_call, frame_of, tenant_in, carrying};
+    ghost use Rattle.floor_core.specs.Work.{Job, Work, load_result, loaded, decide_call, answer_call, job_frame, tenant_in, carrying};
     ghost use Rattle.floor_core.specs.Work.{IsWaiting, waiting_in, filled_as, filled_room, IsWork};
     ghost use Rattle.std.specs.Borrow.{sem};
     ghost use Rattle.floor_core.specs.Lending.{LendsRoom};
@@ -110,7 +110,7 @@ impl Slot {
 
     /// The frame that is carried: the one that came, or the one that was sent on; none if the slot is idle.
     pub fn frame(&self) -> &[u8]
-        ensures value { result.now ≡ frame_of self.now.job }
+        ensures value { result.now ≡ job_frame self.now.job }
         ensures short { length result.now ≤ max_frame }
     {
         match &self.stage {
@@ -254,7 +254,7 @@ impl Slot {
         requires { IsWaiting self.old.job }
         ensures* writes_back { sem 𝓛 (LendsRoom self.entry result.2) }
         ensures target { Some result.0.now ≡ self.old.target }
-        ensures frame { result.1.now ≡ frame_of self.old.job }
+        ensures frame { result.1.now ≡ job_frame self.old.job }
         ensures room { result.2.now ≡ self.old.room }
         ensures size { length result.2.now ≡ max_frame }
     {

@@ -28,7 +28,7 @@ pub enum Step<'a> {
     Answer {
         worker: usize,
         now: Moment,
-        given: Given<'a>,
+        given: PeerAnswer<'a>,
     },
     /// Gives a tenant the moment. The tenant gives up what is overdue.
     Tick {
@@ -47,7 +47,7 @@ const _: () = prove!(size_of::<Step<'static>>() == 56);
 
 /// What came back from the next peer.
 #[derive(Drop)]
-pub enum Given<'a> {
+pub enum PeerAnswer<'a> {
     /// Bytes as they came, of whatever kind.
     Bytes(Octets<'a>),
     /// No answer.
@@ -124,7 +124,7 @@ const _: () = prove!(size_of::<Output>() == 88);
 
 /// The output of a step. The bytes of a reply or of a frame are still the worker's, until its next step.
 #[derive(Drop)]
-pub enum Told {
+pub enum StepOutput {
     /// All of it.
     Whole(Output),
     /// An answer to the sender of the frame: `Floor::reply` of the worker.

@@ -16,7 +16,7 @@ use Rattle.httparse.proofs.ChunkLemmas.{ReadsChunkLine-append, chunk_line_unique
 use Rattle.httparse.proofs.GrammarLemmas.{ReadsSection-append}
 use Rattle.http_link.specs.Limits.{max_chunk_line, max_head}
 use Rattle.http_link.specs.Bodies.{BeginsChunk, BeginsNothing, BeginsTrailers, BeginsWrong, Body, Chunk, EndsBody, EndsFirst, IsChunk, IsChunked, IsCutShort, IsMalformed, IsSizeLine, IsTrailerText, NoneEnds, bad, contents, cut, ends_line, ends_section, print_chunk}
-use Rattle.http_link.specs.BodyReading.{LiesBehind, Takes, TakesAll, Makes, MakesAll, IsSizeOf, ReadsAs, ReadsAtMost, TakesChunk, TakesLast, TakesStep, TakesBytes, body_read}
+use Rattle.http_link.specs.BodyReading.{LiesBehind, Takes, TakesEveryByte, Makes, MakesAll, IsSizeOf, ReadsAs, ReadsAtMost, TakesChunk, TakesLast, TakesStep, TakesBytes, body_read}
 use Rattle.http_link.specs.Running.{held_in}
 use Rattle.http_link.specs.Streams.{FillsOn}
 use Rattle.http_link.specs.declared.held.Held.{Held}
@@ -70,10 +70,10 @@ makes_long ends most Is had old new text has long none takes =
     }
 
 -- bytes that were all taken are all that there was and came
-all_taken : (had : List ℕ) (old new : Option (List ℕ)) (taken has : List ℕ) → (takes : TakesAll had old new taken has) → had ++ takes.takes.came ≡ taken
+all_taken : (had : List ℕ) (old new : Option (List ℕ)) (taken has : List ℕ) → (takes : TakesEveryByte had old new taken has) → had ++ takes.takes.came ≡ taken
 all_taken had old new taken has all = all.takes.parts ∙ ap (λ (w : List ℕ). taken ++ w) all.none ∙ append-nil taken
 
-pub makes_all : (Is : List ℕ → Type 0) (had : List ℕ) (old new : Option (List ℕ)) (taken has : List ℕ) → TakesAll had old new taken has → Is taken
+pub makes_all : (Is : List ℕ → Type 0) (had : List ℕ) (old new : Option (List ℕ)) (taken has : List ℕ) → TakesEveryByte had old new taken has → Is taken
     → MakesAll had old new has Is
 makes_all Is had old new taken has all so = record {
   makes = record { came = all.takes.came; consumed = all.takes.consumed; so = subst Is (sym (all_taken had old new taken has all)) so };

@@ -8,12 +8,12 @@ use Rattle.http_link.specs.Limits.{max_lines}
 use Rattle.http_link.specs.Fields.{Line}
 use Rattle.http_link.specs.Heads.{BeginsAnswer, Reply, reply_of}
 use Rattle.httparse.specs.Spans.{IsResponseAt, header_bytes}
-use Rattle.http_link.specs.Grammars.{IsReplyText, replies}
+use Rattle.http_link.specs.Grammars.{IsReplyText, answer_heads}
 use Rattle.http_link.specs.Reading.{HeadIsFound}
 use Rattle.http_link.specs.declared.grammar.Offered.TheVariants as offered
 use Rattle.http_link.specs.declared.posting.PostFault.{PostFault}
 use Rattle.http_link.specs.declared.posting.PostFault.TheVariants.{Head, Cut}
-use Rattle.http_link.specs.Client.{IsMeaning, Means, MeansFramed, is_interim, told_of}
+use Rattle.http_link.specs.Client.{IsMeaning, Means, MeansFramed, is_interim, body_meaning}
 use Rattle.std.specs.Io.KnownBytes.{IsAtEnd}
 use Rattle.http_link.specs.Bodies.{IsBody, bad, cut, whole}
 use Rattle.http_link.specs.BodyReading.{ReadsAs, body_read}
@@ -32,7 +32,7 @@ true_or_false false t f = cc
 
 -- a head that was found begins all that had come and follows
 reply_begins : (old new : Option (List ℕ)) (had has rest : List ℕ) (lines : List HeaderSpan) (spans : ResponseSpans) → length lines ≡ max_lines
-    → (found : HeadIsFound replies had old new has lines (offered.Whole spans)) → old ≡ Some rest
+    → (found : HeadIsFound answer_heads had old new has lines (offered.Whole spans)) → old ≡ Some rest
     → (left : List ℕ) × (new ≡ Some left) × BeginsAnswer (had ++ rest) found.stands.2.head (drop spans.len has ++ left)
 reply_begins old new had has rest lines spans room found e =
     let front = begins_with_taken old new found.came rest found.taken e in
@@ -99,11 +99,11 @@ reply_said said text lines spans head says at = rw (says, at.code, at.version, a
 
 -- a final head that was found, whose body means that, is what all means
 pub final_read : (heads : ℕ) (old new : Option (List ℕ)) (also had has rest text : List ℕ) (lines : List HeaderSpan) (spans : ResponseSpans) (said : List Line) (meaning : Result (List ℕ) PostFault)
-    → 0 < heads → length lines ≡ max_lines → also ≡ had → HeadIsFound replies also old new has lines (offered.Whole spans) → old ≡ Some rest → (spans.len ≤ length has → text ≡ take spans.len has)
+    → 0 < heads → length lines ≡ max_lines → also ≡ had → HeadIsFound answer_heads also old new has lines (offered.Whole spans) → old ≡ Some rest → (spans.len ≤ length has → text ≡ take spans.len has)
     → said ≡ map (header_bytes text) (take spans.headers lines) → is_between 100 199 spans.code ≡ false
     → ((left : List ℕ) → new ≡ Some left → IsMeaning (record { status = spans.code; minor = spans.version; lines = said }) (drop spans.len has ++ left) meaning) → Means heads (had ++ rest) meaning
 final_read heads old new also had has rest text lines spans said meaning some room moved found-before e text-is says final is =
-    let found : HeadIsFound replies had old new has lines (offered.Whole spans) = subst (λ (h : List ℕ). HeadIsFound replies h old new has lines (offered.Whole spans)) moved found-before in
+    let found : HeadIsFound answer_heads had old new has lines (offered.Whole spans) = subst (λ (h : List ℕ). HeadIsFound answer_heads h old new has lines (offered.Whole spans)) moved found-before in
     let same = text-is found.stands.0 in
     let front = reply_begins old new had has rest lines spans room found e in
     let head = found.stands.2.head in
@@ -114,7 +114,7 @@ final_read heads old new also had has rest text lines spans said meaning some ro
 
 -- an interim head that was found is passed over
 pub interim_read : (heads : ℕ) (old new : Option (List ℕ)) (had has rest : List ℕ) (lines : List HeaderSpan) (spans : ResponseSpans) → 0 < heads → length lines ≡ max_lines
-    → HeadIsFound replies had old new has lines (offered.Whole spans) → old ≡ Some rest → is_between 100 199 spans.code ≡ true
+    → HeadIsFound answer_heads had old new has lines (offered.Whole spans) → old ≡ Some rest → is_between 100 199 spans.code ≡ true
     → (left : List ℕ) × (new ≡ Some left) × ((meaning : Result (List ℕ) PostFault) → Means (heads - 1) (drop spans.len has ++ left) meaning → Means heads (had ++ rest) meaning)
 interim_read heads old new had has rest lines spans some room found e interim =
     let front = reply_begins old new had has rest lines spans room found e in (
@@ -126,9 +126,9 @@ interim_read heads old new had has rest lines spans some room found e interim =
 
 -- where the stream has ended and no head was found, the answer is cut
 pub partial_read : (heads : ℕ) (old new : Option (List ℕ)) (also had has rest : List ℕ) (lines : List HeaderSpan) → 0 < heads → length lines ≡ max_lines
-    → also ≡ had → HeadIsFound replies also old new has lines offered.Partial → old ≡ Some rest → Means heads (had ++ rest) (Err Cut)
+    → also ≡ had → HeadIsFound answer_heads also old new has lines offered.Partial → old ≡ Some rest → Means heads (had ++ rest) (Err Cut)
 partial_read heads old new also had has rest lines some room moved found-before e =
-    let found : HeadIsFound replies had old new has lines offered.Partial = subst (λ (h : List ℕ). HeadIsFound replies h old new has lines offered.Partial) moved found-before in
+    let found : HeadIsFound answer_heads had old new has lines offered.Partial = subst (λ (h : List ℕ). HeadIsFound answer_heads h old new has lines offered.Partial) moved found-before in
     let front = begins_with_taken old new found.came rest found.taken e in
     let over : front.0 ≡ [] = subst IsAtEnd front.1 found.stands.1 in
     let came : rest ≡ found.came = front.2 ∙ ap (λ (w : List ℕ). found.came ++ w) over ∙ append-nil found.came in
@@ -138,9 +138,9 @@ partial_read heads old new also had has rest lines some room moved found-before 
 
 -- where no head can be found, the answer has none
 pub malformed_read : (heads : ℕ) (old new : Option (List ℕ)) (also had has rest : List ℕ) (lines : List HeaderSpan) → 0 < heads → length lines ≡ max_lines
-    → also ≡ had → HeadIsFound replies also old new has lines offered.Malformed → old ≡ Some rest → Means heads (had ++ rest) (Err Head)
+    → also ≡ had → HeadIsFound answer_heads also old new has lines offered.Malformed → old ≡ Some rest → Means heads (had ++ rest) (Err Head)
 malformed_read heads old new also had has rest lines some room moved found-before e =
-    let found : HeadIsFound replies had old new has lines offered.Malformed = subst (λ (h : List ℕ). HeadIsFound replies h old new has lines offered.Malformed) moved found-before in
+    let found : HeadIsFound answer_heads had old new has lines offered.Malformed = subst (λ (h : List ℕ). HeadIsFound answer_heads h old new has lines offered.Malformed) moved found-before in
     let front = begins_with_taken old new found.came rest found.taken e in
     let all : has ++ front.0 ≡ had ++ rest =
     ap (λ (w : List ℕ). w ++ front.0) found.grew ∙ append_assoc had found.came front.0 ∙ ap (λ (w : List ℕ). had ++ w) (sym front.2) in
@@ -153,7 +153,7 @@ both_parts had came more = append_assoc had came more
 
 -- a body that was read is what the bytes mean
 pub body_means : (framing : Framing) (read : BodyRead) (old new : Option (List ℕ)) (had has room rest : List ℕ) → ReadsAs had old new has room (IsBody framing) read → old ≡ Some rest
-    → MeansFramed (Framed framing) (had ++ rest) (told_of (body_read room has read))
+    → MeansFramed (Framed framing) (had ++ rest) (body_meaning (body_read room has read))
 body_means framing (Whole n) old new had has room rest read e =
     let front = begins_with_taken old new read.came rest read.consumed e in
     let all : (had ++ read.came) ++ front.0 ≡ had ++ rest = both_parts had read.came front.0 ∙ ap (λ (w : List ℕ). had ++ w) (sym front.2) in (

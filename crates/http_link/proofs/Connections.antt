@@ -13,7 +13,7 @@ use Rattle.http_link.specs.Lines.{head_in}
 use Rattle.http_link.specs.Grammars.{requests}
 use Rattle.http_link.specs.Reading.{BeginsNot, HeadIsFound}
 use Rattle.http_link.specs.Requests.{Wanted, closes, wanted_of}
-use Rattle.http_link.specs.Running.{AsksWanted, Runs}
+use Rattle.http_link.specs.Running.{AsksWanted, RunsOnHead}
 use Rattle.http_link.specs.Serving.{Asked, IsAskedOnly, IsServed, Traces, asking}
 use Rattle.http_link.specs.declared.grammar.Offered.TheVariants.{Malformed, Partial, Whole}
 use Rattle.http_link.specs.declared.serve.Served.{Served}
@@ -48,7 +48,7 @@ found_says had old mid room there lines spans found =
 -- what is done with the head that was found is what serving the next request does
 pub found_next : (r : Result Served LinkFault) (tenant_of : List ℕ → Option ℕ) (had : List ℕ) (old mid new : Option (List ℕ)) (room : List ℕ) (there : ℕ) (lines : List HeaderSpan)
     (spans : RequestSpans) (traces : Traces) → length lines ≡ max_lines → HeadIsFound requests had old mid (take there room) lines (Whole spans)
-    → IfOk r (Runs (wanted_of tenant_of (head_in (take spans.len room) lines spans)) (head_in (take spans.len room) lines spans) (drop spans.len (take there room)) mid new traces) → IfOk r (ServesNext tenant_of had old new traces)
+    → IfOk r (RunsOnHead (wanted_of tenant_of (head_in (take spans.len room) lines spans)) (head_in (take spans.len room) lines spans) (drop spans.len (take there room)) mid new traces) → IfOk r (ServesNext tenant_of had old new traces)
 found_next (Err fault) tenant_of had old mid new room there lines spans traces lined found runs = tt
 found_next (Ok served) tenant_of had old mid new room there lines spans traces lined found runs =
     record {

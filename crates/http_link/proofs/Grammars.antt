@@ -2,8 +2,8 @@
 use Rattle.std.proofs.Common.{◌≡◌, ℕ, List, ◌++◌, ap, ◌∙◌}
 use Rattle.httparse.specs.Grammar.{HasNoRequest, HasNoResponse, ReadsRequest, ReadsResponse}
 use Rattle.http_link.proofs.Heads.{partial_goes_on}
-use Rattle.http_link.specs.Grammars.{IsReplyText, IsRequestText, replies, requests}
-use Rattle.http_link.specs.Reading.{GoesOn}
+use Rattle.http_link.specs.Grammars.{IsReplyText, IsRequestText, answer_heads, requests}
+use Rattle.http_link.specs.Reading.{IsHeadBegun}
 
 -- ---- requests
 
@@ -12,7 +12,7 @@ pub reads_request : (stream text rest : List ℕ) (lines : ℕ) (is : IsRequestT
 reads_request stream text rest lines is parts = (is.is, parts ∙ ap (λ (w : List ℕ). w ++ rest) is.printed)
 
 -- where the parser finds no head yet, the text goes on in each
-pub request_goes_on : (text : List ℕ) (room : ℕ) → HasNoRequest text → GoesOn requests text room
+pub request_goes_on : (text : List ℕ) (room : ℕ) → HasNoRequest text → IsHeadBegun requests text room
 request_goes_on text room none = partial_goes_on requests text room (λ head rest is parts. none is.head rest (reads_request text head rest room is parts))
 
 -- ---- answers
@@ -22,5 +22,5 @@ pub reads_reply : (stream text rest : List ℕ) (lines : ℕ) (is : IsReplyText 
 reads_reply stream text rest lines is parts = (is.is, parts ∙ ap (λ (w : List ℕ). w ++ rest) is.printed)
 
 -- where the parser finds no head yet, the text goes on in each
-pub reply_goes_on : (text : List ℕ) (room : ℕ) → HasNoResponse text → GoesOn replies text room
-reply_goes_on text room none = partial_goes_on replies text room (λ head rest is parts. none is.head rest (reads_reply text head rest room is parts))
+pub reply_goes_on : (text : List ℕ) (room : ℕ) → HasNoResponse text → IsHeadBegun answer_heads text room
+reply_goes_on text room none = partial_goes_on answer_heads text room (λ head rest is parts. none is.head rest (reads_reply text head rest room is parts))

@@ -10,7 +10,7 @@ use Rattle.std.specs.Io.KnownBytes.{Consumes}
 use Rattle.httparse.specs.declared.spans.HeaderSpan.{HeaderSpan}
 use Rattle.http_link.specs.Limits.{max_head}
 use Rattle.http_link.specs.Grammars.{Grammar, IsGrammar, ends_empty_line}
-use Rattle.http_link.specs.Reading.{BeginsNever, BeginsNone, BeginsNot, GoesOn, Sees, StandsIn}
+use Rattle.http_link.specs.Reading.{BeginsNever, BeginsNone, BeginsNot, IsHeadBegun, Sees, StandsIn}
 use Rattle.http_link.specs.declared.grammar.Offered.{Offered}
 use Rattle.http_link.specs.declared.grammar.Offered.TheVariants.{Partial, Whole}
 
@@ -80,7 +80,7 @@ module _ {S : Type 0} (grammar : Grammar S) where
   -- ---- fronts
 
   -- what goes on goes on behind a byte that ends no empty line
-  pub goes_on_inside : IsGrammar grammar → (text both : List ℕ) (b room : ℕ) → both ≡ text ++ b ∷ [] → ends_empty_line both ≡ false → GoesOn grammar text room → GoesOn grammar both room
+  pub goes_on_inside : IsGrammar grammar → (text both : List ℕ) (b room : ℕ) → both ≡ text ++ b ∷ [] → ends_empty_line both ≡ false → IsHeadBegun grammar text room → IsHeadBegun grammar both room
   goes_on_inside laws text both b room grows inside on head more rest is parts = by_length (lt_or_ge (length both) (length head))
     where
       by_length : (length both < length head) ⊎ (length head ≤ length both) → length both < length head
@@ -96,7 +96,7 @@ module _ {S : Type 0} (grammar : Grammar S) where
           absurd (not_both (ends_empty_line both) (ap ends_empty_line same ∙ laws.ended head room is) inside)
 
   -- a text that begins with no whole head goes on in each
-  pub partial_goes_on : (text : List ℕ) (room : ℕ) → ((head rest : List ℕ) → grammar.IsHead head room → text ≡ head ++ rest → ⊥) → GoesOn grammar text room
+  pub partial_goes_on : (text : List ℕ) (room : ℕ) → ((head rest : List ℕ) → grammar.IsHead head room → text ≡ head ++ rest → ⊥) → IsHeadBegun grammar text room
   partial_goes_on text room none head more rest is parts = by_length (lt_or_ge (length text) (length head))
     where
       by_length : (length text < length head) ⊎ (length head ≤ length text) → length text < length head
@@ -104,12 +104,12 @@ module _ {S : Type 0} (grammar : Grammar S) where
       by_length (inr le) = let whole = goes_on head rest text more (sym parts) le in absurd (none head whole.0 is whole.1)
 
   -- nothing is no whole head
-  pub nothing_goes_on : IsGrammar grammar → (room : ℕ) → GoesOn grammar [] room
+  pub nothing_goes_on : IsGrammar grammar → (room : ℕ) → IsHeadBegun grammar [] room
   nothing_goes_on laws room [] more rest is parts = absurd (not_both false (laws.ended [] room is) refl)
   nothing_goes_on laws room (b ∷ head) more rest is parts = omega arith
 
   -- a head that ends with the text, and not before
-  whole_at : IsGrammar grammar → (front text : List ℕ) (b room : ℕ) (lines : List HeaderSpan) (spans : S) → text ≡ front ++ b ∷ [] → room ≡ length lines → GoesOn grammar front room
+  whole_at : IsGrammar grammar → (front text : List ℕ) (b room : ℕ) (lines : List HeaderSpan) (spans : S) → text ≡ front ++ b ∷ [] → room ≡ length lines → IsHeadBegun grammar front room
       → grammar.Covers text lines spans → grammar.len spans ≡ length text
   whole_at laws front text b room lines spans grows wide on covers =
       let len = grammar.len spans in
@@ -120,7 +120,7 @@ module _ {S : Type 0} (grammar : Grammar S) where
       omega (arith, length-append front (b ∷ []), length-take len text)
 
   -- of a text that goes on up to a byte, and has a head with it, the head ends there
-  pub ends_there : IsGrammar grammar → (text : List ℕ) (k room : ℕ) (lines : List HeaderSpan) (spans : S) → k < length text → room ≡ length lines → GoesOn grammar (take k text) room
+  pub ends_there : IsGrammar grammar → (text : List ℕ) (k room : ℕ) (lines : List HeaderSpan) (spans : S) → k < length text → room ≡ length lines → IsHeadBegun grammar (take k text) room
       → grammar.Covers (take (k + 1) text) lines spans → grammar.len spans ≡ k + 1
   ends_there laws text k room lines spans some wide on covers =
       let grows : take (k + 1) text ≡ take k text ++ slice_index text k ∷ [] = grind (arith, common_steps) in
@@ -150,14 +150,14 @@ module _ {S : Type 0} (grammar : Grammar S) where
       (sym (append_assoc (take seen (take end room)) (drop seen (take had room)) more) ∙ ap (λ (w : List ℕ). w ++ more) (sym front) ∙ parts)
 
   -- where a front goes on that is as long as a head may be, no head begins all and what follows
-  pub too_long : (bytes front back : List ℕ) (lines other : ℕ) → lines ≡ other → bytes ≡ front ++ back → GoesOn grammar front lines → max_head ≤ length front
+  pub too_long : (bytes front back : List ℕ) (lines other : ℕ) → lines ≡ other → bytes ≡ front ++ back → IsHeadBegun grammar front lines → max_head ≤ length front
       → BeginsNever grammar bytes other
   too_long bytes front back lines other same parts on most more head rest is reads short =
       let lt = on head (back ++ more) rest (subst (λ n. grammar.IsHead head n) (sym same) is) (sym (append_assoc front back more) ∙ ap (λ (w : List ℕ). w ++ more) (sym parts) ∙ reads) in
       absurd (omega arith)
 
   -- where a front goes on that is all there is, no head begins it
-  pub all_goes_on : (bytes front back : List ℕ) (lines other : ℕ) → lines ≡ other → bytes ≡ front ++ back → GoesOn grammar front lines → length bytes ≤ length front
+  pub all_goes_on : (bytes front back : List ℕ) (lines other : ℕ) → lines ≡ other → bytes ≡ front ++ back → IsHeadBegun grammar front lines → length bytes ≤ length front
       → BeginsNot grammar bytes other
   all_goes_on bytes front back lines other same parts on all head rest is reads short =
       let lt = on head back rest (subst (λ n. grammar.IsHead head n) (sym same) is) (sym parts ∙ reads) in
@@ -171,7 +171,7 @@ module _ {S : Type 0} (grammar : Grammar S) where
   none_yet old now room had there end seen lines before after spans offered same other whole partial sees (inr none) =
       subst (λ n. BeginsNot grammar had n) other none
   none_yet old now room had there end seen lines before after spans offered same other whole partial sees (inl is) =
-      let on : GoesOn grammar (take seen (take end room)) lines × (seen ≡ length (take end room)) =
+      let on : IsHeadBegun grammar (take seen (take end room)) lines × (seen ≡ length (take end room)) =
       subst (λ (o : Offered S). Sees grammar (take end room) seen lines spans o) partial sees in
       let front : take seen (take end room) ≡ take end room = take_all seen (take end room) (omega (arith, on.1)) in
       let parts : take there room ≡ take seen (take end room) ++ [] =

@@ -1,7 +1,7 @@
 -- From what a door does with a head to what serving a known stream at the host's door does.
 use Rattle.std.proofs.Common.{◌≡◌, inl, inr, ℕ, List, subst, sym, Option, Some, Result, Ok, Err, IfOk}
 use Rattle.std.specs.Prelude.{◌⊎◌}
-use Rattle.http_link.specs.Doors.{IsAnswered, IsServedAtDoor}
+use Rattle.http_link.specs.Doors.{IsAnswerWritten, IsServedAtDoor}
 use Rattle.http_link.specs.Heads.{Head}
 use Rattle.http_link.specs.HostDoor.{AnswersHost, HostAsked, HostTraces, HostWanted, IsHostAsked, IsHostAskedOnly, IsHostRefused, IsHostServed, host_asking, host_wanted_of}
 use Rattle.http_link.specs.Serving.{AsksAtMostOnce}
@@ -13,7 +13,7 @@ use Rattle.http_link.specs.declared.streams.LinkFault.{LinkFault}
 abbrev says : HostTraces → List ℕ → HostTraces
 says traces text = record traces { Writes = λ written. written ≡ text }
 
-written : (want : Result HostWanted HostRefusal) (traces : HostTraces) → IsAnswered (λ text. AnswersHost want (says traces text)) traces.Writes → AnswersHost want traces
+written : (want : Result HostWanted HostRefusal) (traces : HostTraces) → IsAnswerWritten (λ text. AnswersHost want (says traces text)) traces.Writes → AnswersHost want traces
 written (Ok wanted) traces a =
     record { status = a.1.status; asked = a.1.asked; written = subst traces.Writes (sym a.1.written) a.2 }
 written (Err refusal) traces a =

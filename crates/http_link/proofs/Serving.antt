@@ -13,7 +13,7 @@ use Rattle.http_link.specs.Grammars.{IsRequest, IsRequestText, requests}
 use Rattle.http_link.specs.Reading.{HeadIsFound}
 use Rattle.http_link.specs.declared.grammar.Offered.TheVariants as offered
 use Rattle.http_link.specs.Lines.{head_in}
-use Rattle.http_link.specs.Bodies.{Body, IsBody, bad, cut, refusal_of, whole}
+use Rattle.http_link.specs.Bodies.{Body, IsBody, bad, cut, body_status, whole}
 use Rattle.http_link.specs.BodyReading.{ReadsAs}
 use Rattle.http_link.specs.Connections.{IsCutBehind}
 use Rattle.http_link.specs.Requests.{Wanted, closes, waits, wanted_of}
@@ -24,7 +24,7 @@ use Rattle.http_link.specs.declared.serve.Served.{Served}
 use Rattle.http_link.specs.declared.serve.Served.TheVariants.{Closed, Ended}
 use Rattle.http_link.specs.declared.streams.LinkFault.{LinkFault}
 use Rattle.http_link.specs.Serving.{Asked, Traces, IsServed, IsAskedOnly, AsksAtMostOnce, ServesBody, asking, kept_unless}
-use Rattle.http_link.specs.Running.{Runs, AsksWanted}
+use Rattle.http_link.specs.Running.{RunsOnHead, AsksWanted}
 use Rattle.http_link.proofs.Growing.{bad_more, whole_more}
 use Rattle.http_link.specs.GrammarLaws.{request_printed}
 use Rattle.http_link.proofs.Heads.{begins_with_taken, nothing_left}
@@ -44,7 +44,7 @@ same_left one other e = cc
 
 -- what is done with a head behind which nothing had come, and nothing is held in the end, is what serving the stream does
 pub runs_served : (want : Result Wanted ℕ) (head : Head) (rest : List ℕ) (left : Option (List ℕ)) (traces : Traces) (served : Served)
-    → traces.left ≡ Some [] → Runs want head [] (Some rest) left traces served → IsServed want head rest (leaving left traces) served
+    → traces.left ≡ Some [] → RunsOnHead want head [] (Some rest) left traces served → IsServed want head rest (leaving left traces) served
 runs_served (Err status) head rest left traces served none runs =
     let front = taken_left rest runs.came left runs.taken in
     let nothing : runs.came ≡ [] = same_left runs.came [] (sym runs.so.left ∙ none) in
@@ -190,12 +190,12 @@ none_here old new room stream there lines spans lined within ends found e none =
 
 -- what is done with the head that was found is what serving the stream does
 pub head_served : (result : Result Served LinkFault) (tenant_of : List ℕ → Option ℕ) (said : Head) (new left : Option (List ℕ)) (traces : Traces) (head : RequestHead) (rest : List ℕ)
-    → traces.left ≡ Some [] → (said ≡ head_of head) × (new ≡ Some rest) → IfOk result (Runs (wanted_of tenant_of said) said [] new left traces)
+    → traces.left ≡ Some [] → (said ≡ head_of head) × (new ≡ Some rest) → IfOk result (RunsOnHead (wanted_of tenant_of said) said [] new left traces)
     → IfOk result (IsServed (wanted_of tenant_of (head_of head)) (head_of head) rest (leaving left traces))
 head_served (Ok served) tenant_of said new left traces head rest none is runs =
     runs_served (wanted_of tenant_of (head_of head)) (head_of head) rest left traces served none
-    (subst (λ (known : Option (List ℕ)). Runs (wanted_of tenant_of (head_of head)) (head_of head) [] known left traces served) is.1
-    (subst (λ (h : Head). Runs (wanted_of tenant_of h) h [] new left traces served) is.0 runs))
+    (subst (λ (known : Option (List ℕ)). RunsOnHead (wanted_of tenant_of (head_of head)) (head_of head) [] known left traces served) is.1
+    (subst (λ (h : Head). RunsOnHead (wanted_of tenant_of h) h [] new left traces served) is.0 runs))
 head_served (Err fault) tenant_of said new left traces head rest none is runs = tt
 
 -- what is asked for the head that was found is what the stream's head wants
@@ -209,9 +209,9 @@ head_asked tenant_of said new left Unasked Asks head rest is asks =
 -- what refuses a head is what is done with it
 pub refused_runs : (r : Result Served LinkFault) (want : Result Wanted ℕ) (status : ℕ) (head : Head) (had : List ℕ) (known : Option (List ℕ)) (traces : Traces)
     → want ≡ Err status → traces.left ≡ Some had → traces.Unasked → IfOk r (λ served. (served ≡ Closed) × traces.Writes (refusal_text status))
-    → IfOk r (Runs want head had known known traces)
+    → IfOk r (RunsOnHead want head had known known traces)
 refused_runs (Ok served) want status head had known traces is left unasked refused =
-    subst (λ (w : Result Wanted ℕ). Runs w head had known known traces served) (sym is) (record {
+    subst (λ (w : Result Wanted ℕ). RunsOnHead w head had known known traces served) (sym is) (record {
       came = [];
       taken = Consumes-nil known;
       so = record { closed = refused.0; unasked = unasked; written = refused.1; left = left ∙ ap Some (sym (append-nil had)) };
@@ -224,8 +224,8 @@ refused_runs (Err fault) want status head had known traces is left unasked refus
 
 -- what is done where that is wanted is done where a head asks for that, and likewise what is asked
 pub wanted_runs : (r : Result Served LinkFault) (want other : Result Wanted ℕ) (head : Head) (had : List ℕ) (old new : Option (List ℕ)) (traces : Traces)
-    → want ≡ other → IfOk r (Runs other head had old new traces) → IfOk r (Runs want head had old new traces)
-wanted_runs r want other head had old new traces is runs = subst (λ (w : Result Wanted ℕ). IfOk r (Runs w head had old new traces)) (sym is) runs
+    → want ≡ other → IfOk r (RunsOnHead other head had old new traces) → IfOk r (RunsOnHead want head had old new traces)
+wanted_runs r want other head had old new traces is runs = subst (λ (w : Result Wanted ℕ). IfOk r (RunsOnHead w head had old new traces)) (sym is) runs
 
 pub wanted_asks : (want other : Result Wanted ℕ) (had : List ℕ) (old new : Option (List ℕ)) (Unasked : Type 0) (Asks : Asked → Type 0)
     → want ≡ other → AsksWanted other had old new Unasked Asks → AsksWanted want had old new Unasked Asks
@@ -248,7 +248,7 @@ never_ended false e = absurd cc
 pub whole_runs : (r : Result Served LinkFault) (wanted : Wanted) (head : Head) (had : List ℕ) (old new : Option (List ℕ)) (has room : List ℕ) (n : ℕ) (Unasked : Type 0) (Asks : Asked → Type 0)
     (told : List ℕ) (first mid last : Option (List ℕ)) → ReadsAs had old new has room (IsBody wanted.framing) (Whole n) → Appends first mid (continue_text (waits head))
     → IfOk r (λ served. (served ≡ kept_unless (closes head)) × ((status : ℕ) × Asks (asking wanted (take n room) status) × Appends mid last (answer_text wanted.kind status told (closes head))))
-    → IfOk r (Runs (Ok wanted) head had old new (traced Unasked Asks told (λ text. Appends first last text) has))
+    → IfOk r (RunsOnHead (Ok wanted) head had old new (traced Unasked Asks told (λ text. Appends first last text) has))
 whole_runs (Ok served) wanted head had old new has room n Unasked Asks told first mid last read interim (kept, (status, asked, written)) = record {
   came = read.came;
   taken = read.consumed;
@@ -270,7 +270,7 @@ whole_runs (Err fault) wanted head had old new has room n Unasked Asks told firs
 -- a body was cut
 pub cut_runs : (wanted : Wanted) (head : Head) (had : List ℕ) (old new : Option (List ℕ)) (has room : List ℕ) (Unasked : Type 0) (Asks : Asked → Type 0)
     (told : List ℕ) (first last : Option (List ℕ)) → ReadsAs had old new has room (IsBody wanted.framing) Cut → Appends first last (continue_text (waits head)) → Unasked
-    → Runs (Ok wanted) head had old new (traced Unasked Asks told (λ text. Appends first last text) has) Ended
+    → RunsOnHead (Ok wanted) head had old new (traced Unasked Asks told (λ text. Appends first last text) has) Ended
 cut_runs wanted head had old new has room Unasked Asks told first last read interim unasked = record {
   came = read.came;
   taken = read.consumed;
@@ -281,15 +281,15 @@ cut_runs wanted head had old new has room Unasked Asks told first last read inte
 -- a body was refused
 pub bad_runs : (r : Result Served LinkFault) (wanted : Wanted) (head : Head) (fault : BodyFault) (had : List ℕ) (old new : Option (List ℕ)) (has room : List ℕ) (Unasked : Type 0) (Asks : Asked → Type 0)
     (told : List ℕ) (first mid last : Option (List ℕ)) → ReadsAs had old new has room (IsBody wanted.framing) (Bad fault) → Appends first mid (continue_text (waits head)) → Unasked
-    → IfOk r (λ served. (served ≡ Closed) × Appends mid last (refusal_text (refusal_of fault)))
-    → IfOk r (Runs (Ok wanted) head had old new (traced Unasked Asks told (λ text. Appends first last text) has))
+    → IfOk r (λ served. (served ≡ Closed) × Appends mid last (refusal_text (body_status fault)))
+    → IfOk r (RunsOnHead (Ok wanted) head had old new (traced Unasked Asks told (λ text. Appends first last text) has))
 bad_runs (Ok served) wanted head fault had old new has room Unasked Asks told first mid last read interim unasked refused = record {
   came = read.came;
   taken = read.consumed;
   so = (
     bad fault,
     read.so,
-    record { closed = refused.0; unasked = unasked; written = Appends-trans first mid last (continue_text (waits head)) (refusal_text (refusal_of fault)) interim refused.1 },
+    record { closed = refused.0; unasked = unasked; written = Appends-trans first mid last (continue_text (waits head)) (refusal_text (body_status fault)) interim refused.1 },
   );
   ended = λ is. absurd (not_ended (sym refused.0 ∙ is));
 }
@@ -306,12 +306,12 @@ whole_asks wanted had old new has room n Unasked Asks read asked = inr (read.cam
 -- what is done is the same where head, bytes and what is left are told otherwise
 pub told_runs : (r : Result Served LinkFault) (tenant_of : List ℕ → Option ℕ) (said other : Head) (had there : List ℕ) (old new : Option (List ℕ)) (left now : List ℕ)
     (Unasked : Type 0) (Asks : Asked → Type 0) (answer : List ℕ) (Writes : List ℕ → Type 0)
-    → other ≡ said → there ≡ had → now ≡ left → IfOk r (Runs (wanted_of tenant_of other) other there old new (traced Unasked Asks answer Writes now))
-    → IfOk r (Runs (wanted_of tenant_of said) said had old new (traced Unasked Asks answer Writes left))
+    → other ≡ said → there ≡ had → now ≡ left → IfOk r (RunsOnHead (wanted_of tenant_of other) other there old new (traced Unasked Asks answer Writes now))
+    → IfOk r (RunsOnHead (wanted_of tenant_of said) said had old new (traced Unasked Asks answer Writes left))
 told_runs r tenant_of said other had there old new left now Unasked Asks answer Writes same_head same_bytes same_left runs =
-    subst (λ (w : List ℕ). IfOk r (Runs (wanted_of tenant_of said) said had old new (traced Unasked Asks answer Writes w))) same_left
-    (subst (λ (w : List ℕ). IfOk r (Runs (wanted_of tenant_of said) said w old new (traced Unasked Asks answer Writes now))) same_bytes
-    (subst (λ (h : Head). IfOk r (Runs (wanted_of tenant_of h) h there old new (traced Unasked Asks answer Writes now))) same_head runs))
+    subst (λ (w : List ℕ). IfOk r (RunsOnHead (wanted_of tenant_of said) said had old new (traced Unasked Asks answer Writes w))) same_left
+    (subst (λ (w : List ℕ). IfOk r (RunsOnHead (wanted_of tenant_of said) said w old new (traced Unasked Asks answer Writes now))) same_bytes
+    (subst (λ (h : Head). IfOk r (RunsOnHead (wanted_of tenant_of h) h there old new (traced Unasked Asks answer Writes now))) same_head runs))
 
 pub told_asks : (tenant_of : List ℕ → Option ℕ) (said other : Head) (had there : List ℕ) (old new : Option (List ℕ)) (Unasked : Type 0) (Asks : Asked → Type 0)
     → other ≡ said → there ≡ had → AsksWanted (wanted_of tenant_of other) there old new Unasked Asks → AsksWanted (wanted_of tenant_of said) had old new Unasked Asks

@@ -8,7 +8,7 @@ use Rattle.std.proofs.lemmas.List.{take-append-le}
 use Rattle.std.proofs.Math.Seq.{drop-append_seam}
 use Rattle.http_link.specs.Streams.{PullsNext, ReadsBehind}
 use Rattle.http_link.specs.Bodies.{BeginsNothing, EndsFirst}
-use Rattle.http_link.specs.BodyReading.{Takes, TakesAll, TakesNext}
+use Rattle.http_link.specs.BodyReading.{Takes, TakesEveryByte, TakesNext}
 use Rattle.http_link.specs.Running.{held_in}
 use Rattle.http_link.proofs.Heads.{lt_or_ge, nothing_left}
 
@@ -26,8 +26,8 @@ takes_then had old mid new one two between has a b = record {
   consumed = Consumes-trans old mid new a.came b.came a.consumed b.consumed;
 }
 
-pub takes_all_then : (had : List ℕ) (old mid new : Option (List ℕ)) (one two between has : List ℕ) → Takes had old mid one between → TakesAll between mid new two has
-    → TakesAll had old new (one ++ two) has
+pub takes_all_then : (had : List ℕ) (old mid new : Option (List ℕ)) (one two between has : List ℕ) → Takes had old mid one between → TakesEveryByte between mid new two has
+    → TakesEveryByte had old new (one ++ two) has
 takes_all_then had old mid new one two between has a b = record {
   takes = takes_then had old mid new one two between has a b.takes;
   none = b.none;
@@ -53,7 +53,7 @@ reads_then old mid new at limit before room after n none same read =
 
 -- where nothing was held and nothing came, all is over
 pub over_now : (old new : Option (List ℕ)) (at limit : ℕ) (before after : List ℕ) (h : Held) (n : ℕ) → h.to ≤ h.from → n ≡ 0
-    → ReadsBehind old new at limit before after (Some n) → at ≤ length before → TakesAll (held_in before h) old new [] (held_in after h)
+    → ReadsBehind old new at limit before after (Some n) → at ≤ length before → TakesEveryByte (held_in before h) old new [] (held_in after h)
 over_now old new at limit before after h n none zero read within =
     let taken : read.2.0 ≡ [] = nothing_left read.2.0 (omega (arith, ap length read.2.1, length-append (take at before) read.2.0, length-take at before, length-take (at + n) after)) in
     let gone : held_in after h ≡ [] = none_held after h none in
@@ -142,13 +142,13 @@ unended_yet ends text n b unended now k le = by_length (lt_or_ge n k)
 
 -- where all was taken and the text has not ended, it is cut
 pub text_cut : (ends : List ℕ → Bool) (had : List ℕ) (old mid new : Option (List ℕ)) (text : List ℕ) (n : ℕ) (between has : List ℕ) → n < length text
-    → ((k : ℕ) → k ≤ n → ends (take k text) ≡ false) → Takes had old mid (take n text) between → TakesAll between mid new [] has
-    → (taken : List ℕ) × BeginsNothing ends (length text) taken × TakesAll had old new taken has
+    → ((k : ℕ) → k ≤ n → ends (take k text) ≡ false) → Takes had old mid (take n text) between → TakesEveryByte between mid new [] has
+    → (taken : List ℕ) × BeginsNothing ends (length text) taken × TakesEveryByte had old new taken has
 text_cut ends had old mid new text n between has some unended one two = (
   take n text,
   (
     omega (arith, length-take n text),
     λ k le. let few : k ≤ n = omega (arith, length-take n text) in ap ends (take-take k n text few) ∙ unended k few,
   ),
-  subst (λ (w : List ℕ). TakesAll had old new w has) (append-nil (take n text)) (takes_all_then had old mid new (take n text) [] between has one two),
+  subst (λ (w : List ℕ). TakesEveryByte had old new w has) (append-nil (take n text)) (takes_all_then had old mid new (take n text) [] between has one two),
 )

@@ -153,6 +153,6 @@ IsBody (Sized size) bytes body = IsSized size bytes body
 IsBody (Chunked most) bytes body = IsChunked most bytes body
 
 -- the status that refuses a body (RFC 9110, 15.5.1 and 15.5.14)
-abbrev pub refusal_of : BodyFault → ℕ
-refusal_of Malformed = 400
-refusal_of TooLarge = 413
+abbrev pub body_status : BodyFault → ℕ
+body_status Malformed = 400
+body_status TooLarge = 413

@@ -37,7 +37,7 @@ pub record Takes (had : List ℕ) (old new : Option (List ℕ)) (taken has : Lis
   pub consumed : Consumes old new came
 
 -- these were taken, nothing is left, and no more comes
-pub record TakesAll (had : List ℕ) (old new : Option (List ℕ)) (taken has : List ℕ) : Type 0 where
+pub record TakesEveryByte (had : List ℕ) (old new : Option (List ℕ)) (taken has : List ℕ) : Type 0 where
   pub takes : Takes had old new taken has
   pub none : has ≡ []
   pub ended : IsAtEnd new
@@ -53,7 +53,7 @@ ReadsOnlyFor old new result So Few = ((new ≡ old) × IfOk result So) ⊎ Few
 -- the next byte was taken, or there is none
 abbrev pub TakesNext : List ℕ → Option (List ℕ) → Option (List ℕ) → List ℕ → Option ℕ → Type 0
 TakesNext had old new has (Some b) = Takes had old new (b ∷ []) has
-TakesNext had old new has None = TakesAll had old new [] has
+TakesNext had old new has None = TakesEveryByte had old new [] has
 
 -- if no more is taken than is needed, and nothing was held, then nothing is held
 abbrev pub ReadsNoFurther : Reach → Held → Held → Type 0
@@ -70,7 +70,7 @@ TakesText sought had old new has text (Found n) =
     (n ≤ length text) × EndsFirst (ends_sought sought) (take n text) × Takes had old new (take n text) has
 TakesText sought had old new has text TooLong = NoneEnds (ends_sought sought) text × Takes had old new text has
 TakesText sought had old new has text Ended =
-    (taken : List ℕ) × BeginsNothing (ends_sought sought) (length text) taken × TakesAll had old new taken has
+    (taken : List ℕ) × BeginsNothing (ends_sought sought) (length text) taken × TakesEveryByte had old new taken has
 
 -- ---- chunks
 
@@ -110,13 +110,13 @@ TakesBytes had old new has size done before after true =
     (bytes : List ℕ) × (length bytes ≡ size) × (take (done + size) after ≡ take done before ++ bytes)
     × Takes had old new bytes has
 TakesBytes had old new has size done before after false =
-    (taken : List ℕ) × (length taken < size) × TakesAll had old new taken has
+    (taken : List ℕ) × (length taken < size) × TakesEveryByte had old new taken has
 
 -- a line end was taken, or two other bytes, or there are fewer
 abbrev pub TakesEnd : List ℕ → Option (List ℕ) → Option (List ℕ) → List ℕ → Checked → Type 0
 TakesEnd had old new has Right = Takes had old new crlf_bytes has
 TakesEnd had old new has Wrong = (two : List ℕ) × (length two ≡ 2) × (two ≢ crlf_bytes) × Takes had old new two has
-TakesEnd had old new has Short = (taken : List ℕ) × (length taken < 2) × TakesAll had old new taken has
+TakesEnd had old new has Short = (taken : List ℕ) × (length taken < 2) × TakesEveryByte had old new taken has
 
 -- what was read, as a body: it is at the front of the buffer, and those bytes are left
 abbrev pub body_read : (room has : List ℕ) → BodyRead → Body

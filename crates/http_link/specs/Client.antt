@@ -14,7 +14,8 @@ use Rattle.http_link.specs.declared.posting.PostFault.TheVariants.{Read, Write, 
 use Rattle.http_link.specs.declared.posting.PostFault.TheVariants.{Size}
 use Rattle.http_link.specs.declared.streams.LinkFault.{LinkFault}
 use Rattle.http_link.specs.declared.streams.LinkFault.TheVariants as links
-use Rattle.http_link.specs.Fields.{Occurrence, missing, once, repeated, occurrence, value_of, is_chunked, is_length}
+use Rattle.common_types.specs.Numerals.{value_of}
+use Rattle.http_link.specs.Fields.{Occurrence, missing, once, repeated, occurrence, is_chunked, is_length}
 use Rattle.http_link.specs.Limits.{max_peer_answer}
 use Rattle.http_link.specs.Heads.{BeginsAnswer, Reply, reply_of}
 use Rattle.http_link.specs.Answers.{line}
@@ -62,11 +63,11 @@ framing_in reply =
     else Err Status
 
 -- the meaning of a body
-abbrev pub told_of : Body → Result (List ℕ) PostFault
-told_of (whole bytes after) = Ok bytes
-told_of cut = Err Cut
-told_of (bad Malformed) = Err Unframed
-told_of (bad TooLarge) = Err Size
+abbrev pub body_meaning : Body → Result (List ℕ) PostFault
+body_meaning (whole bytes after) = Ok bytes
+body_meaning cut = Err Cut
+body_meaning (bad Malformed) = Err Unframed
+body_meaning (bad TooLarge) = Err Size
 
 -- a body that goes to the end of the stream (RFC 9112, 6.3)
 abbrev pub body_to_end : List ℕ → Result (List ℕ) PostFault
@@ -74,7 +75,7 @@ body_to_end rest = if nat_lt max_peer_answer (length rest) then Err Size else Ok
 
 -- the meaning of bytes as a body with this framing
 abbrev pub MeansFramed : AnswerFraming → List ℕ → Result (List ℕ) PostFault → Type 0
-MeansFramed (Framed framing) rest meaning = (body : Body) × IsBody framing rest body × (meaning ≡ told_of body)
+MeansFramed (Framed framing) rest meaning = (body : Body) × IsBody framing rest body × (meaning ≡ body_meaning body)
 MeansFramed ToEnd rest meaning = meaning ≡ body_to_end rest
 
 -- the same, or why the head is refused

@@ -86,23 +86,23 @@ AreAskedBy tenant_of bytes (asked ∷ earlier) left last =
 -- ---- the end
 
 -- a head is refused, or the body after it is
-abbrev pub IsRefusedBy : Result Wanted ℕ → List ℕ → Type 0
-IsRefusedBy (Err status) rest = Unit {0}
-IsRefusedBy (Ok wanted) rest = (fault : BodyFault) × IsBody wanted.framing rest (bad fault)
+abbrev pub IsRequestRefused : Result Wanted ℕ → List ℕ → Type 0
+IsRequestRefused (Err status) rest = Unit {0}
+IsRequestRefused (Ok wanted) rest = (fault : BodyFault) × IsBody wanted.framing rest (bad fault)
 
 -- what bytes begin with is no head within the limits, or one that is refused, or whose body is
 abbrev pub IsTurnedAway : (List ℕ → Option ℕ) → List ℕ → Type 0
 IsTurnedAway tenant_of bytes =
     ((head : RequestHead) (rest : List ℕ) → BeginsWith bytes head rest → ⊥)
     ⊎ ((head : RequestHead) × (rest : List ℕ) × BeginsWith bytes head rest
-    × IsRefusedBy (wanted_of tenant_of (head_of head)) rest)
+    × IsRequestRefused (wanted_of tenant_of (head_of head)) rest)
 
 -- How a connection with these bytes left ended: no more bytes came; or its last request closed it, or the next one was
 -- turned away.
-abbrev pub IsOver : (List ℕ → Option ℕ) → Served → (left : List ℕ) → (last : Bool) → Option (List ℕ) → Type 0
-IsOver tenant_of Ended left last known = IsAtEnd known
-IsOver tenant_of Closed left last known = (last ≡ true) ⊎ IsTurnedAway tenant_of left
-IsOver tenant_of Kept left last known = ⊥
+abbrev pub IsConnectionOver : (List ℕ → Option ℕ) → Served → (left : List ℕ) → (last : Bool) → Option (List ℕ) → Type 0
+IsConnectionOver tenant_of Ended left last known = IsAtEnd known
+IsConnectionOver tenant_of Closed left last known = (last ≡ true) ⊎ IsTurnedAway tenant_of left
+IsConnectionOver tenant_of Kept left last known = ⊥
 
 -- ---- waiting
 

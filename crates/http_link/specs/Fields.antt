@@ -1,5 +1,5 @@
 -- The field lines of a head (RFC 9110, 5).
-use Rattle.std.specs.Prelude.{ℕ, ◌+◌, ◌-◌, ◌*◌, List, [], ◌∷◌, length, take, drop, map, filter, fold, Bool, ◌&&◌, ◌==◌}
+use Rattle.std.specs.Prelude.{ℕ, List, [], ◌∷◌, length, take, drop, map, filter, Bool, ◌&&◌, ◌==◌}
 use Rattle.std.specs.Prelude.{codes, if◌then◌else◌}
 use Rattle.std.specs.List.{list_all, list_any, slice_split}
 use Rattle.std.specs.Str.{str_eq_ignore_ascii_case}
@@ -42,10 +42,6 @@ has_element word value = list_any (is_element word) (slice_split (λ b. b == 44)
 -- a body's coding is `chunked`, and no other beside it (RFC 9112, 7.1)
 abbrev pub is_chunked : List ℕ → Bool
 is_chunked coding = str_eq_ignore_ascii_case coding (codes "chunked")
-
--- the value of decimal digits
-abbrev pub value_of : List ℕ → ℕ
-value_of digits = fold (λ n d. n * 10 + (d - 48)) 0 digits
 
 -- a length that we read: 1 to 10 digits (RFC 9110, 8.6)
 abbrev pub is_length : List ℕ → Bool

@@ -10,7 +10,7 @@ use Rattle.httparse.specs.Grammar.{RequestHead, print_request, ResponseHead, pri
 use Rattle.httparse.specs.declared.spans.HeaderSpan.{HeaderSpan}
 use Rattle.httparse.specs.declared.spans.RequestSpans.{RequestSpans}
 use Rattle.httparse.specs.declared.spans.ResponseSpans.{ResponseSpans}
-use Rattle.http_link.specs.Grammars.{IsGrammar, IsReply, IsRequest, ends_empty_line, replies, requests}
+use Rattle.http_link.specs.Grammars.{IsGrammar, IsReply, IsRequest, ends_empty_line, answer_heads, requests}
 
 -- ---- what ends with an empty line
 
@@ -96,7 +96,7 @@ reply_ended : (h : ResponseHead) → ends_empty_line (print_response h) ≡ true
 unfolding print_response
 reply_ended h = section_ended (print_blank h.blank ++ print_version h.minor ++ 32 ∷ h.digits ++ print_reason h.reason) h.line_end h.fields h.last
 
-pub replies_are : IsGrammar replies
+pub replies_are : IsGrammar answer_heads
 replies_are = record {
   ended = λ head lines is. ap ends_empty_line is.printed ∙ reply_ended is.head;
   within = λ text lines spans is. is.within.section.len_fits;

@@ -64,5 +64,5 @@ pub record IsReply (text : List ℕ) (lines : List HeaderSpan) (spans : Response
   pub within : IsResponseWithin text lines spans
 
 -- the heads of answers
-abbrev pub replies : Grammar ResponseSpans
-replies = record { IsHead = IsReplyText; Covers = IsReply; len = λ spans. spans.len }
+abbrev pub answer_heads : Grammar ResponseSpans
+answer_heads = record { IsHead = IsReplyText; Covers = IsReply; len = λ spans. spans.len }

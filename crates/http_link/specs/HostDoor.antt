@@ -19,11 +19,11 @@ use Rattle.http_link.specs.Requests.{or_refused, token_in}
 -- ---- requests
 
 -- the target of a request (RFC 9112, 3.2.1)
-abbrev pub target_of : HostRequest → List ℕ
-target_of Health = codes "/health"
-target_of Metrics = codes "/metrics"
-target_of Setup = codes "/setup"
-target_of Stop = codes "/stop"
+abbrev pub host_target : HostRequest → List ℕ
+host_target Health = codes "/health"
+host_target Metrics = codes "/metrics"
+host_target Setup = codes "/setup"
+host_target Stop = codes "/stop"
 
 -- the method of a request (RFC 9110, 9.3.1 and 9.3.3)
 abbrev pub method_of : HostRequest → List ℕ
@@ -35,10 +35,10 @@ method_of Stop = codes "POST"
 -- the request with that target, exactly (RFC 9112, 3.2.1)
 abbrev pub request_at : List ℕ → Option HostRequest
 request_at target =
-    if bytes_eq target (target_of Health) then Some Health
-    else (if bytes_eq target (target_of Metrics) then Some Metrics
-    else (if bytes_eq target (target_of Setup) then Some Setup
-    else (if bytes_eq target (target_of Stop) then Some Stop else None)))
+    if bytes_eq target (host_target Health) then Some Health
+    else (if bytes_eq target (host_target Metrics) then Some Metrics
+    else (if bytes_eq target (host_target Setup) then Some Setup
+    else (if bytes_eq target (host_target Stop) then Some Stop else None)))
 
 -- the token with which a request comes, by the lines that show credentials; for `Health` none is looked at (RFC 6750, 2.1)
 abbrev pub token_shown : HostRequest → Occurrence → Option (List ℕ)
@@ -82,8 +82,8 @@ abbrev pub allow_line : HostRequest → List ℕ
 allow_line request = line (codes "Allow: " ++ method_of request)
 
 -- the answer with a service's status: 200 with its bytes, 401, or 503 for any other (RFC 9110, 15.3.1, 15.5.2 and 15.6.4)
-abbrev pub host_text : HostRequest → ℕ → List ℕ → List ℕ
-host_text request status body =
+abbrev pub host_answer : HostRequest → ℕ → List ℕ → List ℕ
+host_answer request status body =
     if status == 200 then closing_text (media_line request) 200 body
     else (if status == 401 then refusal_text 401 else refusal_text 503)
 
@@ -117,7 +117,7 @@ pub record HostTraces : Type 1 where
 pub record IsHostAsked (wanted : HostWanted) (traces : HostTraces) : Type 0 where
   pub status : ℕ
   pub asked : traces.Asks (host_asking wanted status)
-  pub written : traces.Writes (host_text wanted.request status traces.answer)
+  pub written : traces.Writes (host_answer wanted.request status traces.answer)
 
 -- nothing is asked, and what refuses the head is written
 pub record IsHostRefused (refusal : HostRefusal) (traces : HostTraces) : Type 0 where

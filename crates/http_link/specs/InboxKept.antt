@@ -5,8 +5,8 @@ use Rattle.http_link.specs.Running.{held_in}
 use Rattle.http_link.specs.declared.inbox.Inbox.TheInside.{Inside}
 
 -- the bytes that have come and were not served
-abbrev pub waiting_in : Inside → List ℕ
-waiting_in i = held_in i.room i.held
+abbrev pub bytes_waiting : Inside → List ℕ
+bytes_waiting i = held_in i.room i.held
 
 -- they are in the buffer
 pub record InboxInvariant (i : Inside) : Type 0 where

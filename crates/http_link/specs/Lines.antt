@@ -4,8 +4,8 @@ use Rattle.httparse.specs.Spans.{span_bytes, header_bytes}
 use Rattle.httparse.specs.declared.spans.HeaderSpan.{HeaderSpan}
 use Rattle.httparse.specs.declared.spans.RequestSpans.{RequestSpans}
 use Rattle.http_link.specs.declared.fields.Lines.{Lines}
-use Rattle.http_link.specs.declared.fields.Found.{Found}
-use Rattle.http_link.specs.declared.fields.Found.TheVariants.{Missing, Once, Repeated}
+use Rattle.http_link.specs.declared.fields.FieldValue.{FieldValue}
+use Rattle.http_link.specs.declared.fields.FieldValue.TheVariants.{Missing, Once, Repeated}
 use Rattle.http_link.specs.declared.request.RequestHead.{RequestHead}
 use Rattle.http_link.specs.declared.request.Wanted.{Wanted as WantedAt}
 use Rattle.http_link.specs.Fields.{Line, Occurrence, missing, once, repeated}
@@ -17,7 +17,7 @@ abbrev pub lines_at : Lines → List Line
 lines_at lines = map (header_bytes lines.text.now) lines.spans.now
 
 -- what was found, without its place
-abbrev pub occurrence_at : Found → Occurrence
+abbrev pub occurrence_at : FieldValue → Occurrence
 occurrence_at Missing = missing
 occurrence_at (Once value) = once value.now
 occurrence_at Repeated = repeated

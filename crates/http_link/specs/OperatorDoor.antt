@@ -63,15 +63,15 @@ operator_media Statement = codes "text/plain"
 operator_media Explain = codes "text/plain"
 
 -- the line that says what an answer is (RFC 9110, 8.3)
-abbrev pub media_line : List ℕ → List ℕ
-media_line media = line (codes "Content-Type: " ++ media)
+abbrev pub operator_media_line : List ℕ → List ℕ
+operator_media_line media = line (codes "Content-Type: " ++ media)
 
 -- the answer with a service's status: 200 with its bytes, 400 with the line that says why, 401, 404, or 503 for any other
 -- (RFC 9110, 15.3.1, 15.5.1, 15.5.2, 15.5.5 and 15.6.4)
 abbrev pub operator_text : OperatorRequest → ℕ → List ℕ → List ℕ
 operator_text request status body =
-    if status == 200 then closing_text (media_line (operator_media request)) 200 body
-    else (if status == 400 then closing_text (media_line (codes "text/plain")) 400 body
+    if status == 200 then closing_text (operator_media_line (operator_media request)) 200 body
+    else (if status == 400 then closing_text (operator_media_line (codes "text/plain")) 400 body
     else (if status == 401 then refusal_text 401
     else (if status == 404 then refusal_text 404 else refusal_text 503)))
 

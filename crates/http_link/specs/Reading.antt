@@ -8,8 +8,8 @@ use Rattle.http_link.specs.declared.grammar.Offered.{Offered}
 use Rattle.http_link.specs.declared.grammar.Offered.TheVariants.{Whole, Partial, Malformed}
 
 -- each head with at most so many lines that begins with this text is longer than it
-abbrev pub GoesOn : {S : Type 0} → Grammar S → List ℕ → ℕ → Type 0
-GoesOn grammar text room =
+abbrev pub IsHeadBegun : {S : Type 0} → Grammar S → List ℕ → ℕ → Type 0
+IsHeadBegun grammar text room =
     (head more rest : List ℕ) → grammar.IsHead head room → text ++ more ≡ head ++ rest → length text < length head
 
 -- the text and what follows begin with no head with so many lines at most
@@ -19,7 +19,7 @@ BeginsNone grammar text room = (head more rest : List ℕ) → grammar.IsHead he
 -- what is known of a text
 abbrev pub Decides : {S : Type 0} → Grammar S → List ℕ → ℕ → List HeaderSpan → Offered S → Type 0
 Decides grammar text room lines (Whole spans) = grammar.Covers text lines spans
-Decides grammar text room lines Partial = GoesOn grammar text room
+Decides grammar text room lines Partial = IsHeadBegun grammar text room
 Decides grammar text room lines Malformed = BeginsNone grammar text room
 
 -- no head within the limits begins the bytes
@@ -35,7 +35,7 @@ BeginsNever grammar bytes lines = (more : List ℕ) → BeginsNot grammar (bytes
 abbrev pub Sees : {S : Type 0} → Grammar S → List ℕ → (seen room : ℕ) → List HeaderSpan → Offered S → Type 0
 Sees grammar text seen room lines (Whole spans) =
     grammar.Covers (take seen text) lines spans × (grammar.len spans ≡ seen)
-Sees grammar text seen room lines Partial = GoesOn grammar (take seen text) room × (seen ≡ length text)
+Sees grammar text seen room lines Partial = IsHeadBegun grammar (take seen text) room × (seen ≡ length text)
 Sees grammar text seen room lines Malformed = BeginsNone grammar (take seen text) room
 
 -- a head was seen that ends after the bytes that had been looked at

@@ -10,7 +10,8 @@ use Rattle.http_link.specs.declared.bodies.Framing.{Framing}
 use Rattle.http_link.specs.declared.bodies.Framing.TheVariants.{Chunked, Sized}
 use Rattle.http_link.specs.declared.request.RequestKind.{RequestKind}
 use Rattle.http_link.specs.declared.request.RequestKind.TheVariants.{Ilp, Admin}
-use Rattle.http_link.specs.Fields.{Line, values_of, Occurrence, missing, once, repeated, occurrence, has_element, is_chunked, value_of}
+use Rattle.common_types.specs.Numerals.{value_of}
+use Rattle.http_link.specs.Fields.{Line, values_of, Occurrence, missing, once, repeated, occurrence, has_element, is_chunked}
 use Rattle.http_link.specs.Fields.{is_length, skip_spaces}
 use Rattle.http_link.specs.Heads.{Head}
 use Rattle.http_link.specs.Limits.{max_body, max_command}
@@ -33,18 +34,18 @@ or_refused refusal (Some value) = Ok value
 or_refused refusal None = Err refusal
 
 -- the tenant of a name
-abbrev pub tenant_named : (List ℕ → Option ℕ) → RequestKind → List ℕ → Option (RequestKind × ℕ)
-tenant_named tenant_of kind name = with_kind (tenant_of name)
+abbrev pub door_named : (List ℕ → Option ℕ) → RequestKind → List ℕ → Option (RequestKind × ℕ)
+door_named tenant_of kind name = with_kind (tenant_of name)
   where
     with_kind : Option ℕ → Option (RequestKind × ℕ)
     with_kind (Some tenant) = Some (kind, tenant)
     with_kind None = None
 
 -- `/ilp/NAME` or `/admin/NAME`, exactly (RFC 9112, 3.2.1)
-abbrev pub place_of : (List ℕ → Option ℕ) → List ℕ → Option (RequestKind × ℕ)
-place_of tenant_of target =
-    if bytes_eq (take 5 target) (codes "/ilp/") then tenant_named tenant_of Ilp (drop 5 target)
-    else (if bytes_eq (take 7 target) (codes "/admin/") then tenant_named tenant_of Admin (drop 7 target) else None)
+abbrev pub door_at : (List ℕ → Option ℕ) → List ℕ → Option (RequestKind × ℕ)
+door_at tenant_of target =
+    if bytes_eq (take 5 target) (codes "/ilp/") then door_named tenant_of Ilp (drop 5 target)
+    else (if bytes_eq (take 7 target) (codes "/admin/") then door_named tenant_of Admin (drop 7 target) else None)
 
 -- a length within the limit of its kind (RFC 9110, 15.5.14)
 abbrev pub within_limit : RequestKind → ℕ → Result Framing ℕ
@@ -90,7 +91,7 @@ coding_of lines = occurrence (codes "Transfer-Encoding") lines
 abbrev pub wanted_of : (List ℕ → Option ℕ) → Head → Result Wanted ℕ
 wanted_of tenant_of head = do
   posted ← if bytes_eq head.method (codes "POST") then Ok head.method else Err 405
-  place ← or_refused 404 (place_of tenant_of head.target)
+  place ← or_refused 404 (door_at tenant_of head.target)
   framing ← framing_of place.0 head.minor (coding_of head.lines) (occurrence (codes "Content-Length") head.lines)
   token ← or_refused 401 (token_in (occurrence (codes "Authorization") head.lines))
   Ok (record { kind = place.0; tenant = place.1; token = token; framing = framing })

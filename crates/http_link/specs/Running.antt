@@ -14,7 +14,7 @@ held_in room held = drop held.from (take held.to room)
 
 -- what is done with a head that asks for that: more bytes came, and it was served by all that there were. If they did
 -- not suffice, no more are left
-pub record Runs (want : Result Wanted ℕ) (head : Head) (had : List ℕ) (old new : Option (List ℕ)) (traces : Traces)
+pub record RunsOnHead (want : Result Wanted ℕ) (head : Head) (had : List ℕ) (old new : Option (List ℕ)) (traces : Traces)
     (served : Served) : Type 0 where
   pub came : List ℕ
   pub taken : Consumes old new came

@@ -5,7 +5,7 @@ use Rattle.http_link.specs.declared.bodies.BodyFault.{BodyFault}
 use Rattle.http_link.specs.declared.request.RequestKind.{RequestKind}
 use Rattle.http_link.specs.declared.serve.Served.{Served}
 use Rattle.http_link.specs.declared.serve.Served.TheVariants.{Kept, Closed, Ended}
-use Rattle.http_link.specs.Bodies.{Body, IsBody, bad, cut, refusal_of, whole}
+use Rattle.http_link.specs.Bodies.{Body, IsBody, bad, cut, body_status, whole}
 use Rattle.http_link.specs.Heads.{Head}
 use Rattle.http_link.specs.Requests.{Wanted, waits, closes}
 use Rattle.http_link.specs.Answers.{answer_text, refusal_text, continue_text}
@@ -44,7 +44,7 @@ pub record IsCut (head : Head) (traces : Traces) (served : Served) : Type 0 wher
   pub left : traces.left ≡ Some []
 
 -- the body is whole: exactly that is asked, once, and the answer is written
-pub record IsAsked (wanted : Wanted) (head : Head) (body after : List ℕ) (traces : Traces) (served : Served) : Type 0 where
+pub record IsAskedOnce (wanted : Wanted) (head : Head) (body after : List ℕ) (traces : Traces) (served : Served) : Type 0 where
   pub status : ℕ
   pub asked : traces.Asks (asking wanted body status)
   pub written : traces.Writes (continue_text (waits head) ++ answer_text wanted.kind status traces.answer (closes head))
@@ -56,10 +56,10 @@ pub record IsAsked (wanted : Wanted) (head : Head) (body after : List ℕ) (trac
 pub record IsBodyRefused (fault : BodyFault) (head : Head) (traces : Traces) (served : Served) : Type 0 where
   pub closed : served ≡ Closed
   pub unasked : traces.Unasked
-  pub written : traces.Writes (continue_text (waits head) ++ refusal_text (refusal_of fault))
+  pub written : traces.Writes (continue_text (waits head) ++ refusal_text (body_status fault))
 
 -- a head is refused: nothing is asked, the status is written, and the connection is closed
-pub record IsRefused (status : ℕ) (rest : List ℕ) (traces : Traces) (served : Served) : Type 0 where
+pub record IsHeadRefused (status : ℕ) (rest : List ℕ) (traces : Traces) (served : Served) : Type 0 where
   pub closed : served ≡ Closed
   pub unasked : traces.Unasked
   pub written : traces.Writes (refusal_text status)
@@ -67,13 +67,13 @@ pub record IsRefused (status : ℕ) (rest : List ℕ) (traces : Traces) (served 
 
 -- what serving a request does, by its body
 abbrev pub ServesBody : Wanted → Head → Traces → Served → Body → Type 0
-ServesBody wanted head traces served (whole body after) = IsAsked wanted head body after traces served
+ServesBody wanted head traces served (whole body after) = IsAskedOnce wanted head body after traces served
 ServesBody wanted head traces served cut = IsCut head traces served
 ServesBody wanted head traces served (bad fault) = IsBodyRefused fault head traces served
 
 -- what serving does with a stream that begins with a head and goes on with `rest`, by the request in the head
 abbrev pub IsServed : Result Wanted ℕ → Head → List ℕ → Traces → Served → Type 0
-IsServed (Err status) head rest traces served = IsRefused status rest traces served
+IsServed (Err status) head rest traces served = IsHeadRefused status rest traces served
 IsServed (Ok wanted) head rest traces served =
     (body : Body) × IsBody wanted.framing rest body × ServesBody wanted head traces served body
 

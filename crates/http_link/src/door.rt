@@ -6,7 +6,7 @@ ghost use Rattle.httparse.specs.Grammar as grammar;
 ghost use Rattle.http_link.specs.Counts.{MadeAll};
 ghost use Rattle.http_link.specs.Telling.{TellsWrites};
 ghost use Rattle.http_link.specs.Heads.{BeginsWith, Head, head_of};
-ghost use Rattle.http_link.specs.Doors.{IsAnswered, IsServedAtDoor, closing_text};
+ghost use Rattle.http_link.specs.Doors.{IsAnswerWritten, IsServedAtDoor, closing_text};
 ghost use Rattle.http_link.specs.Serving.{WritesNothingOr400};
 
 use crate::answer::head_with;
@@ -24,7 +24,7 @@ use httparse::spans::{EMPTY_HEADER_SPAN, RequestSpans};
 pub(crate) trait Answers<S> {
     ghost use Rattle.std.specs.Prelude.{◌≡◌, ◌≤◌, List, ℕ, IfOk};
     ghost use Rattle.std.specs.Io.KnownBytes.{Appends};
-    ghost use Rattle.http_link.specs.Doors.{IsAnswered};
+    ghost use Rattle.http_link.specs.Doors.{IsAnswerWritten};
     ghost use Rattle.http_link.specs.Heads.{Head};
     ghost use Rattle.http_link.specs.Lines.{head_at};
     ghost use Rattle.http_link.specs.Telling.{TellsWrites};
@@ -45,7 +45,7 @@ pub(crate) trait Answers<S> {
     ) -> Result<Served, LinkFault>
         requires unfailed { W.failure_count w.old ≤ before }
         ensures answered { IfOk result (λ served. (served ≡ Closed)
-            × IsAnswered (answers (head_at head.now) service.old service.new)
+            × IsAnswerWritten (answers (head_at head.now) service.old service.new)
             (λ text. Appends (W.contents w.old) (W.contents w.new) text)) }
         ensures asked { asks (head_at head.now) service.old service.new }
         ensures told { TellsWrites W.failure_count W.was_written before w.old w.new result };

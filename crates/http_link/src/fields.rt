@@ -7,14 +7,15 @@ ghost use Rattle.httparse.specs.Grammar.{is_ows, skip_ows};
 ghost use Rattle.httparse.specs.Spans.{span_bytes};
 ghost use Rattle.common_types.specs.Numbers.{is_between};
 ghost use Rattle.http_link.specs.Fields.{values_of, occurrence, is_element, has_element};
-ghost use Rattle.http_link.specs.Fields.{value_of, is_chunked, is_length, skip_spaces};
+ghost use Rattle.common_types.specs.Numerals.{value_of};
+ghost use Rattle.http_link.specs.Fields.{is_chunked, is_length, skip_spaces};
 ghost use Rattle.http_link.specs.Lines.{lines_at, occurrence_at};
 
 use httparse::spans::{HeaderSpan, Span};
 
 /// How often a name occurs among the lines of a head.
 #[derive(Clone, Copy)]
-pub(crate) enum Found<'b> {
+pub(crate) enum FieldValue<'b> {
     /// No line has it.
     Missing,
     /// One line has it, with this value.
@@ -50,15 +51,15 @@ pub(crate) fn is_same(a: &[u8], b: &[u8]) -> bool
 
 impl<'b> Lines<'b> {
     /// How often a name occurs among the lines. (RFC 9110, 5.1)
-    pub(crate) fn find(&self, name: &[u8]) -> Found<'b>
+    pub(crate) fn find(&self, name: &[u8]) -> FieldValue<'b>
         ensures { occurrence_at result ≡ occurrence name.now (lines_at self.now) }
     {
-        let mut found = Found::Missing;
+        let mut found = FieldValue::Missing;
         for line in self.spans {
             if is_same(bytes_at(self.text, line.name), name) {
                 found = match found {
-                    Found::Missing => Found::Once(bytes_at(self.text, line.value)),
-                    _ => Found::Repeated,
+                    FieldValue::Missing => FieldValue::Once(bytes_at(self.text, line.value)),
+                    _ => FieldValue::Repeated,
                 };
             }
         }

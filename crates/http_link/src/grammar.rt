@@ -2,7 +2,7 @@
 
 ghost use Rattle.std.specs.Prelude.{◌≡◌, length};
 ghost use Rattle.http_link.specs.GrammarLaws.{replies_are, requests_are};
-ghost use Rattle.http_link.specs.Grammars.{Grammar, IsGrammar, replies, requests};
+ghost use Rattle.http_link.specs.Grammars.{Grammar, IsGrammar, answer_heads, requests};
 ghost use Rattle.http_link.specs.Reading.{Decides};
 
 use httparse::Status;
@@ -48,7 +48,7 @@ impl HeadSpans for RequestSpans {
 }
 
 impl HeadSpans for ResponseSpans {
-    ghost grammar = { replies };
+    ghost grammar = { answer_heads };
 
     ghost laws = { replies_are };
 

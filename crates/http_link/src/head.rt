@@ -3,7 +3,7 @@
 ghost use Rattle.std.specs.Prelude.{◌≡◌, ◌≢◌, ◌↔◌, ◌⊎◌, ◌-◌, ◌<◌, ◌≤◌, length, take, false, Err, IfOk};
 ghost use Rattle.http_link.specs.Telling.{TellsReads};
 ghost use Rattle.http_link.specs.Grammars.{ends_empty_line};
-ghost use Rattle.http_link.specs.Reading.{BeginsNot, Decides, EndsAt, GoesOn, HeadIsFound, Sees, SeesFurther};
+ghost use Rattle.http_link.specs.Reading.{BeginsNot, Decides, EndsAt, IsHeadBegun, HeadIsFound, Sees, SeesFurther};
 ghost use Rattle.http_link.specs.Limits.{max_head};
 
 use crate::devices::Source;
@@ -36,7 +36,7 @@ fn is_due(text: &[u8], parsed: usize) -> bool
 // Parses a text whose last byte has just come, if that is due. So many of its bytes were parsed before.
 fn examine<H: HeadSpans>(text: &[u8], parsed: &mut usize, lines: &mut [HeaderSpan]) -> Offered<H>
     requires some { 0 < length text.now }
-    requires inside { GoesOn H.grammar (take (length text.now - 1) text.now) (length lines.old) }
+    requires inside { IsHeadBegun H.grammar (take (length text.now - 1) text.now) (length lines.old) }
     ensures lines { length lines.new ≡ length lines.old }
     ensures decides { Decides H.grammar text.now (length lines.old) lines.new result }
 {
@@ -55,7 +55,7 @@ fn scan<H: HeadSpans>(
     lines: &mut [HeaderSpan],
 ) -> Offered<H>
     requires seen { seen.old ≤ length text.now }
-    requires inside { GoesOn H.grammar (take seen.old text.now) (length lines.old) }
+    requires inside { IsHeadBegun H.grammar (take seen.old text.now) (length lines.old) }
     ensures lines { length lines.new ≡ length lines.old }
     ensures seen { seen.new ≤ length text.now }
     ensures further { SeesFurther seen.old seen.new result }

@@ -6,7 +6,7 @@ ghost use Rattle.http_link.specs.HostDoor.{request_at, method_of, token_shown};
 ghost use Rattle.http_link.specs.HostDoor.{host_wanted_at, host_wanted_of};
 ghost use Rattle.http_link.specs.Lines.{head_at, occurrence_at};
 
-use crate::fields::Found;
+use crate::fields::FieldValue;
 use crate::request::{RequestHead, token_in};
 
 /// What the host may ask for.
@@ -65,7 +65,7 @@ fn method_of(request: HostRequest) -> &'static [u8]
     }
 }
 
-fn token_shown(request: HostRequest, found: Found<'_>) -> Option<&[u8]>
+fn token_shown(request: HostRequest, found: FieldValue<'_>) -> Option<&[u8]>
     ensures { option_map (λ token. token.now) result ≡ token_shown request (occurrence_at found.entry) }
 {
     match request {

@@ -7,7 +7,7 @@ ghost use Rattle.http_link.specs.Counts.{MadeAll};
 ghost use Rattle.http_link.specs.Telling.{TellsWrites};
 ghost use Rattle.http_link.specs.Heads.{BeginsWith, head_of};
 ghost use Rattle.http_link.specs.HostDoor.{AnswersHost, IsHostAskedOnly, IsHostServed};
-ghost use Rattle.http_link.specs.HostDoor.{allow_line, host_asking, host_refusal_text, host_text};
+ghost use Rattle.http_link.specs.HostDoor.{allow_line, host_asking, host_refusal_text, host_answer};
 ghost use Rattle.http_link.specs.HostDoor.{host_wanted_at, host_wanted_of, media_line};
 ghost use Rattle.http_link.specs.Serving.{AsksAtMostOnce, WritesNothingOr400};
 
@@ -104,7 +104,7 @@ fn ask_host<W: Sink, S: HostService>(
     requires unfailed { W.failure_count w.old ≤ before }
     ensures answered { IfOk result (λ served. (served ≡ Served.Closed)
         × ((status : ℕ) × S.asks service.old (host_asking (host_wanted_at wanted.now) status) service.new
-        × Appends (W.contents w.old) (W.contents w.new) (host_text wanted.now.request status (S.answer service.new)))) }
+        × Appends (W.contents w.old) (W.contents w.new) (host_answer wanted.now.request status (S.answer service.new)))) }
     ensures asked { (status : ℕ) × S.asks service.old (host_asking (host_wanted_at wanted.now) status) service.new }
     ensures told { TellsWrites W.failure_count W.was_written before w.old w.new result }
 {
@@ -122,7 +122,7 @@ fn write_told<W: Sink>(
 ) -> Result<Served, LinkFault>
     requires unfailed { W.failure_count w.old ≤ before }
     ensures whole { IfOk result (λ served. (served ≡ Served.Closed)
-        × Appends (W.contents w.old) (W.contents w.new) (host_text request status body.now)) }
+        × Appends (W.contents w.old) (W.contents w.new) (host_answer request status body.now)) }
     ensures told { TellsWrites W.failure_count W.was_written before w.old w.new result }
 {
     match status {

@@ -8,7 +8,7 @@ ghost use Rattle.http_link.specs.Connections.{AreTooFew, AsksNext, Awaits, IsCut
 ghost use Rattle.http_link.specs.Lines.{head_in};
 ghost use Rattle.http_link.specs.Grammars.{IsRequest};
 ghost use Rattle.http_link.specs.Requests.{wanted_of};
-ghost use Rattle.http_link.specs.Running.{AsksWanted, Runs, held_in};
+ghost use Rattle.http_link.specs.Running.{AsksWanted, RunsOnHead, held_in};
 ghost use Rattle.http_link.specs.Limits.{max_body, max_request};
 
 use crate::devices::{Sink, Source};
@@ -38,9 +38,9 @@ impl Model for Inbox {
 
     ghost Value = { List ℕ };
 
-    ghost use Rattle.http_link.specs.InboxKept.{InboxInvariant, waiting_in};
+    ghost use Rattle.http_link.specs.InboxKept.{InboxInvariant, bytes_waiting};
 
-    ghost view = { waiting_in };
+    ghost view = { bytes_waiting };
 
     ghost invariant = { InboxInvariant };
 }
@@ -268,7 +268,7 @@ fn serve_found<R: Source, W: Sink, S: Service>(
     requires writes { W.failure_count w.old ≤ before.writes }
     ensures len { length room.new ≡ length room.old }
     ensures lies { LiesBehind 0 room.new intake.new.held }
-    ensures runs { IfOk result (Runs (wanted_of (S.tenant_of service.old) (head_in (take parsed.entry.spans.len room.old) parsed.entry.lines.now parsed.entry.spans))
+    ensures runs { IfOk result (RunsOnHead (wanted_of (S.tenant_of service.old) (head_in (take parsed.entry.spans.len room.old) parsed.entry.lines.now parsed.entry.spans))
         (head_in (take parsed.entry.spans.len room.old) parsed.entry.lines.now parsed.entry.spans) (drop parsed.entry.spans.len (take intake.old.held.to room.old)) (R.remaining r.old) (R.remaining r.new) (record {
           Unasked = service.new ≡ service.old;
           Asks = λ question. S.asks service.old question service.new;

@@ -7,7 +7,7 @@ ghost use Rattle.http_link.specs.Counts.{MadeAll};
 ghost use Rattle.http_link.specs.Telling.{TellsWrites};
 ghost use Rattle.http_link.specs.Heads.{BeginsWith, head_of};
 ghost use Rattle.http_link.specs.Doors.{IsServedAtDoor};
-ghost use Rattle.http_link.specs.OperatorDoor.{AnswersOperator, IsOperatorAskedOnly, media_line, operator_asking, operator_media};
+ghost use Rattle.http_link.specs.OperatorDoor.{AnswersOperator, IsOperatorAskedOnly, operator_media_line, operator_asking, operator_media};
 ghost use Rattle.http_link.specs.OperatorDoor.{operator_refusal_text, operator_text, operator_wanted_at, operator_wanted_of};
 ghost use Rattle.http_link.specs.Serving.{AsksAtMostOnce, WritesNothingOr400};
 
@@ -141,7 +141,7 @@ fn refuse_operator<W: Sink>(w: &mut W, status: u16, before: u64) -> Result<Serve
 }
 
 fn media_line(request: OperatorRequest) -> &'static [u8]
-    ensures line { result.now ≡ media_line (operator_media request) }
+    ensures line { result.now ≡ operator_media_line (operator_media request) }
     ensures short { length result.now ≤ 50 }
 {
     match request {

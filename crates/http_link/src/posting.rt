@@ -9,13 +9,13 @@ ghost use Rattle.http_link.specs.Telling.{TellsReadsAs};
 ghost use Rattle.http_link.specs.Lines.{lines_at, occurrence_at};
 ghost use Rattle.http_link.specs.BodyReading.{LiesBehind};
 ghost use Rattle.http_link.specs.Client.{FitsAnswer, GivesAs, Means, framing_by, framing_in, given, post_fault_of, post_head, post_text, sized_by};
-ghost use Rattle.http_link.specs.Fields.{value_of};
+ghost use Rattle.common_types.specs.Numerals.{value_of};
 ghost use Rattle.http_link.specs.Limits.{max_peer_answer, max_heads};
 ghost use Rattle.http_link.specs.Running.{held_in};
 
 use crate::bodies::{BodyFault, BodyRead, Framing, read_body};
 use crate::devices::{Sink, Source};
-use crate::fields::{Found, Lines, is_chunked, is_length, value_up_to};
+use crate::fields::{FieldValue, Lines, is_chunked, is_length, value_up_to};
 use crate::grammar::Offered;
 use crate::head::{MAX_LINES, find_head};
 use crate::held::move_to_front;
@@ -227,15 +227,19 @@ fn framing_in(status: u16, minor: u8, fields: Lines<'_>) -> Result<AnswerFraming
 }
 
 // How a body is framed by the lines on its coding and its length.
-fn framing_by(minor: u8, coded: Found<'_>, stated: Found<'_>) -> Result<AnswerFraming, PostFault>
+fn framing_by(
+    minor: u8,
+    coded: FieldValue<'_>,
+    stated: FieldValue<'_>,
+) -> Result<AnswerFraming, PostFault>
     ensures value { result ≡ framing_by minor (occurrence_at coded.entry) (occurrence_at stated.entry) }
     ensures bound { IfOk result FitsAnswer }
     ensures own { (result ≢ Err PostFault.Read) × (result ≢ Err PostFault.Write) × (result ≢ Err PostFault.Turns) }
 {
     match (coded, stated) {
-        (Found::Missing, Found::Missing) => Ok(AnswerFraming::ToEnd),
-        (Found::Missing, Found::Once(text)) if is_length(text) => sized_by(text),
-        (Found::Once(coding), Found::Missing) if minor == 1 && is_chunked(coding) => {
+        (FieldValue::Missing, FieldValue::Missing) => Ok(AnswerFraming::ToEnd),
+        (FieldValue::Missing, FieldValue::Once(text)) if is_length(text) => sized_by(text),
+        (FieldValue::Once(coding), FieldValue::Missing) if minor == 1 && is_chunked(coding) => {
             Ok(AnswerFraming::Framed(Framing::Chunked(MAX_PEER_ANSWER)))
         }
         _ => Err(PostFault::Unframed),

@@ -6,14 +6,16 @@ ghost use Rattle.std.specs.Str.{bytes_eq, str_eq_ignore_ascii_case};
 ghost use Rattle.std.specs.List.{list_any};
 ghost use Rattle.common_types.specs.Outcomes.{Gives};
 ghost use Rattle.http_link.specs.Bodies.{most_of};
-ghost use Rattle.http_link.specs.Fields.{value_of};
+ghost use Rattle.common_types.specs.Numerals.{value_of};
 ghost use Rattle.http_link.specs.Lines.{lines_at, occurrence_at, head_at, wanted_at};
-ghost use Rattle.http_link.specs.Requests.{place_of, tenant_named, framing_of, within_limit, body_limit};
+ghost use Rattle.http_link.specs.Requests.{door_at, door_named, framing_of, within_limit, body_limit};
 ghost use Rattle.http_link.specs.Requests.{bearer_token, token_in, wanted_of, waits, closes};
 ghost use Rattle.http_link.specs.Limits.{max_body};
 
 use crate::bodies::Framing;
-use crate::fields::{Found, Lines, is_chunked, is_length, is_same, value_up_to, without_spaces};
+use crate::fields::{
+    FieldValue, Lines, is_chunked, is_length, is_same, value_up_to, without_spaces,
+};
 use crate::service::Service;
 use common_types::is_token;
 use common_types::limits::MAX_FRAME;
@@ -75,7 +77,7 @@ fn tenant_named<S: Service>(
     kind: RequestKind,
     name: &[u8],
 ) -> Option<(RequestKind, usize)>
-    ensures { result ≡ tenant_named (S.tenant_of service.now) kind name.now }
+    ensures { result ≡ door_named (S.tenant_of service.now) kind name.now }
 {
     match service.tenant(name) {
         Some(tenant) => Some((kind, tenant)),
@@ -84,7 +86,7 @@ fn tenant_named<S: Service>(
 }
 
 fn place_of<S: Service>(service: &S, target: &[u8]) -> Option<(RequestKind, usize)>
-    ensures { result ≡ place_of (S.tenant_of service.now) target.now }
+    ensures { result ≡ door_at (S.tenant_of service.now) target.now }
 {
     if let Some(name) = behind(b"/ilp/", target) {
         return tenant_named(service, RequestKind::Ilp, name);
@@ -95,14 +97,19 @@ fn place_of<S: Service>(service: &S, target: &[u8]) -> Option<(RequestKind, usiz
     }
 }
 
-fn framing_of(kind: RequestKind, minor: u8, coded: Found, length: Found) -> Result<Framing, u16>
+fn framing_of(
+    kind: RequestKind,
+    minor: u8,
+    coded: FieldValue,
+    length: FieldValue,
+) -> Result<Framing, u16>
     ensures value { result ≡ framing_of kind minor (occurrence_at coded.entry) (occurrence_at length.entry) }
     ensures bound { IfOk result (λ framing. most_of framing ≤ max_body) }
 {
     match (coded, length) {
-        (Found::Missing, Found::Missing) => Err(411),
-        (Found::Missing, Found::Once(text)) if is_length(text) => stated_size(kind, text),
-        (Found::Once(coding), Found::Missing) if minor == 1 && is_chunked(coding) => {
+        (FieldValue::Missing, FieldValue::Missing) => Err(411),
+        (FieldValue::Missing, FieldValue::Once(text)) if is_length(text) => stated_size(kind, text),
+        (FieldValue::Once(coding), FieldValue::Missing) if minor == 1 && is_chunked(coding) => {
             Ok(Framing::Chunked(body_limit(kind)))
         }
         _ => Err(400),
@@ -142,11 +149,11 @@ fn begins_with_space(bytes: &[u8]) -> bool
     }
 }
 
-pub(crate) fn token_in(found: Found<'_>) -> Option<&[u8]>
+pub(crate) fn token_in(found: FieldValue<'_>) -> Option<&[u8]>
     ensures { option_map (λ token. token.now) result ≡ token_in (occurrence_at found.entry) }
 {
     match found {
-        Found::Once(value) => bearer_token(value),
+        FieldValue::Once(value) => bearer_token(value),
         _ => None,
     }
 }

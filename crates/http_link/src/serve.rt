@@ -7,7 +7,7 @@ ghost use Rattle.httparse.specs.Spans.{IsRequestWithin};
 ghost use Rattle.http_link.specs.Connections.{IsCutBehind};
 ghost use Rattle.http_link.specs.Counts.{MadeAll, Spends};
 ghost use Rattle.http_link.specs.Telling.{TellsWrites};
-ghost use Rattle.http_link.specs.Bodies.{IsBody, cut, most_of, refusal_of};
+ghost use Rattle.http_link.specs.Bodies.{IsBody, cut, most_of, body_status};
 ghost use Rattle.http_link.specs.BodyReading.{LiesBehind, ReadsNoFurther};
 ghost use Rattle.http_link.specs.Heads.{BeginsWith, head_of};
 ghost use Rattle.http_link.specs.Lines.{head_at, head_in, wanted_at};
@@ -15,7 +15,7 @@ ghost use Rattle.http_link.specs.Requests.{closes, wanted_of};
 ghost use Rattle.http_link.specs.Answers.{refusal_text, continue_text, answer_text, told_body};
 ghost use Rattle.http_link.specs.Serving.{IsServed, IsAskedOnly, AsksAtMostOnce, WritesNothingOr400};
 ghost use Rattle.http_link.specs.Serving.{asking, kept_unless};
-ghost use Rattle.http_link.specs.Running.{Runs, AsksWanted, held_in};
+ghost use Rattle.http_link.specs.Running.{RunsOnHead, AsksWanted, held_in};
 ghost use Rattle.http_link.specs.Limits.{max_body};
 
 use crate::answer::{answer_head, status_told};
@@ -191,7 +191,7 @@ pub(crate) fn serve_head<R: Source, W: Sink, S: Service>(
     requires writes { W.failure_count w.old ≤ before.writes }
     ensures len { length room.new ≡ length room.old }
     ensures lies { LiesBehind 0 room.new intake.new.held }
-    ensures runs { IfOk result (Runs (wanted_of (S.tenant_of service.old) (head_at head.now)) (head_at head.now)
+    ensures runs { IfOk result (RunsOnHead (wanted_of (S.tenant_of service.old) (head_at head.now)) (head_at head.now)
         (held_in room.old intake.old.held) (R.remaining r.old) (R.remaining r.new) (record {
           Unasked = service.new ≡ service.old;
           Asks = λ question. S.asks service.old question service.new;
@@ -238,7 +238,7 @@ fn serve_wanted<R: Source, W: Sink, S: Service>(
     requires writes { W.failure_count w.old ≤ before.writes }
     ensures len { length room.new ≡ length room.old }
     ensures lies { LiesBehind 0 room.new intake.new.held }
-    ensures runs { IfOk result (Runs (Ok (wanted_at request.entry.wanted)) (head_at request.entry.head)
+    ensures runs { IfOk result (RunsOnHead (Ok (wanted_at request.entry.wanted)) (head_at request.entry.head)
         (held_in room.old intake.old.held) (R.remaining r.old) (R.remaining r.new) (record {
           Unasked = service.new ≡ service.old;
           Asks = λ question. S.asks service.old question service.new;
@@ -290,7 +290,7 @@ fn answer<W: Sink, S: Service>(
 
 // The status that refuses a body.
 fn refusal_of(fault: BodyFault) -> u16
-    ensures { result ≡ refusal_of fault }
+    ensures { result ≡ body_status fault }
 {
     match fault {
         BodyFault::Malformed => 400,

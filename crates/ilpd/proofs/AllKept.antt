@@ -3,19 +3,19 @@ use Rattle.std.proofs.Common.{◌≡◌, ℕ, List, [], ◌∷◌, Option, Some,
 use Rattle.std.specs.Prelude.{IfSome}
 use Rattle.std.proofs.lemmas.Bool.{and_parts}
 use Rattle.tenant_core.specs.declared.period.PeriodParts.{PeriodParts}
-use Rattle.replay_text.specs.Closed.{HasTaken, TakesClosed, closed_by}
+use Rattle.replay_text.specs.Closed.{HasTakenPeriods, TakesClosed, closed_by}
 use Rattle.service.specs.Filing.{IsFiled, Keeping, Telling}
-use Rattle.ilpd.specs.Filing.{AreKept, Files, KeepsClosed}
+use Rattle.ilpd.specs.Filing.{AreStatementsKept, Files, KeepsClosed}
 use Rattle.ilpd.specs.declared.filing.Filer.{Filer}
 
-kept_before : {S : Type 0} (Tells : Telling S) (Keeps : Keeping S) (ps : List PeriodParts) (k l : Filer S) → HasTaken (Files Tells Keeps) ps k l
+kept_before : {S : Type 0} (Tells : Telling S) (Keeps : Keeping S) (ps : List PeriodParts) (k l : Filer S) → HasTakenPeriods (Files Tells Keeps) ps k l
     → l.are_kept ≡ true → k.are_kept ≡ true
 kept_before {S} Tells Keeps [] k l same all = subst (λ (x : Filer S). x.are_kept ≡ true) same all
 kept_before Tells Keeps (p ∷ ps) k l (between, (kept, filed, is), others) all =
     (and_parts k.are_kept kept (sym is ∙ kept_before Tells Keeps ps between l others all)).0
 
-all_kept : {S : Type 0} (Tells : Telling S) (Keeps : Keeping S) (ps : List PeriodParts) (k l : Filer S) → HasTaken (Files Tells Keeps) ps k l
-    → l.are_kept ≡ true → AreKept Tells Keeps ps k.store l.store
+all_kept : {S : Type 0} (Tells : Telling S) (Keeps : Keeping S) (ps : List PeriodParts) (k l : Filer S) → HasTakenPeriods (Files Tells Keeps) ps k l
+    → l.are_kept ≡ true → AreStatementsKept Tells Keeps ps k.store l.store
 all_kept {S} Tells Keeps [] k l same all = ap (λ (x : Filer S). x.store) same
 all_kept {S} Tells Keeps (p ∷ ps) k l (between, (kept, filed, is), others) all =
     let both = and_parts k.are_kept kept (sym is ∙ kept_before Tells Keeps ps between l others all) in (

@@ -17,5 +17,5 @@ IsBounded (Serve connections rounds report) =
     (1 ≤ connections) × (connections ≤ max_workers) × IfSome rounds (λ n. (1 ≤ n) × (n ≤ MAX_ROUNDS))
 
 -- the token of a text, which a line feed may end
-abbrev pub token_of : List ℕ → Option (List ℕ)
-token_of text = if is_token (command_line text) then Some (command_line text) else None
+abbrev pub token_in_file : List ℕ → Option (List ℕ)
+token_in_file text = if is_token (command_line text) then Some (command_line text) else None

@@ -1,6 +1,6 @@
 -- The exit status of the program.
 use Rattle.std.specs.Prelude.{ℕ, Result, Ok, Err}
-use Rattle.replay_text.specs.Replay.{status_of}
+use Rattle.replay_text.specs.Replay.{replay_status}
 use Rattle.service.specs.declared.running.ending.ServeFault.TheVariants as service
 use Rattle.ilpd.specs.declared.ending.Ending.{Ending}
 use Rattle.ilpd.specs.declared.ending.Ending.TheVariants.{Usage, Fault, Served, NoToken, NotGood, Audit}
@@ -10,7 +10,7 @@ use Rattle.ilpd.specs.declared.ending.Ending.TheVariants.{Usage, Fault, Served, 
 abbrev pub exit_status : Result (Unit {0}) Ending → ℕ
 exit_status (Ok done) = 0
 exit_status (Err (Usage error)) = 2
-exit_status (Err (Fault fault)) = status_of fault
+exit_status (Err (Fault fault)) = replay_status fault
 exit_status (Err (Served service.Memory)) = 1
 exit_status (Err (Served service.Device)) = 5
 exit_status (Err (Served service.Differs)) = 6

@@ -5,7 +5,7 @@ ghost use Rattle.std.specs.Prelude.{◌≡◌, ◌≤◌, length, IfOk};
 ghost use Rattle.allotment.specs.Loans.{max_places};
 ghost use Rattle.books_shared.specs.Gathers.{max_workers};
 ghost use Rattle.floor_core.specs.FloorView.{max_seats};
-ghost use Rattle.ilpd.specs.CommandLine.{token_of};
+ghost use Rattle.ilpd.specs.CommandLine.{token_in_file};
 ghost use Rattle.tenant_core.specs.Limits.{max_tenants};
 
 #[cfg(test)]
@@ -278,7 +278,7 @@ fn token_in(rt: &(impl Files + Print + AllocGlobal), file: &str) -> Result<Token
 
 // The token of a text, which a line feed may end.
 fn token_of(text: &[u8]) -> Option<Token>
-    ensures { result ≡ token_of text.now }
+    ensures { result ≡ token_in_file text.now }
 {
     Token::new(without_line_feed(text))
 }

@@ -1,13 +1,13 @@
 //! Why a file or a socket failed, in words for people.
 
 ghost use Rattle.std.specs.Prelude.{◌≡◌};
-ghost use Rattle.ilpd.specs.Reasons.{reason_of};
+ghost use Rattle.ilpd.specs.Reasons.{failure_words};
 
 use std::io::ErrorKind;
 
 /// Why something failed that the system was asked for.
 pub fn reason_of(kind: ErrorKind) -> &'static str
-    ensures { result.now ≡ reason_of kind }
+    ensures { result.now ≡ failure_words kind }
 {
     match kind {
         ErrorKind::NotFound => "no such file",

@@ -8,8 +8,8 @@ use Rattle.std.proofs.lemmas.List.Sums.{sum_by-cons}
 use mathlib.Core.Logic.{dite}
 use native.Mathlib.Decide.{ℕ_discrete, dec_le}
 use Rattle.joint_order.specs.declared.point.ListPoint.{ListPoint}
-use Rattle.joint_order.specs.Orders.{AreHeld, IsStuck, IsTaken, TakesAll, TakesOn, at, list_at, none, one_more, point, points_count}
-use Rattle.joint_order.specs.Steps.{CanGoOn, IsGoing, Progress, Runs, holder_at, if_next, left_of, joined, listed, looked, next_at, raised}
+use Rattle.joint_order.specs.Orders.{AreHeld, IsStuck, IsTaken, TakesEveryPoint, TakesOn, at, list_at, none, one_more_at, point, points_count}
+use Rattle.joint_order.specs.Steps.{CanCountPoint, IsGoing, Progress, RunsByOrder, holder_at, if_next, points_left, inner_of, listed, looked, next_at, with_one_more}
 use Rattle.joint_order.proofs.Stuck.{done_taken, more_here, more_there, no_less}
 use Rattle.joint_order.proofs.Looks.{found, has_list, is_next, some_is}
 
@@ -30,29 +30,29 @@ length_set [] i n = refl
 length_set (x ∷ xs) zero n = refl
 length_set (x ∷ xs) (suc i) n = ap suc (length_set xs i n)
 
-one_more_here : (xs : List ℕ) (i j : ℕ) → i < length xs → slice_index (raised xs i) j ≡ one_more (at xs) i j
+one_more_here : (xs : List ℕ) (i j : ℕ) → i < length xs → slice_index (with_one_more xs i) j ≡ one_more_at (at xs) i j
 one_more_here xs i j below = dite (ℕ_discrete j i)
     (λ same. rw (eq-eqb j i same)
-    (let P : ℕ → Type 0 = λ k. slice_index (raised xs i) k ≡ slice_index xs k + 1 in
+    (let P : ℕ → Type 0 = λ k. slice_index (with_one_more xs i) k ≡ slice_index xs k + 1 in
     subst P (sym same) (index_set_same xs i (slice_index xs i + 1) below)))
     (λ other. rw (ne_eqb j i other) (index_set_other xs i j (slice_index xs i + 1) other))
 
-pub raised_at : (xs : List ℕ) (i : ℕ) → i < length xs → at (raised xs i) ≡ one_more (at xs) i
+pub raised_at : (xs : List ℕ) (i : ℕ) → i < length xs → at (with_one_more xs i) ≡ one_more_at (at xs) i
 raised_at xs i below = λ k j. one_more_here xs i j below k
 
-runs_on : (lists : List (List ListPoint)) (order : List ℕ) (f d f' d' : ℕ → ℕ) (i t : ℕ) → Runs lists f d order f' d'
-    → slice_get (list_at lists i) (f' i) ≡ Some (point t (d' t)) → Runs lists f d (order ++ i ∷ []) (one_more f' i) (one_more d' t)
+runs_on : (lists : List (List ListPoint)) (order : List ℕ) (f d f' d' : ℕ → ℕ) (i t : ℕ) → RunsByOrder lists f d order f' d'
+    → slice_get (list_at lists i) (f' i) ≡ Some (point t (d' t)) → RunsByOrder lists f d (order ++ i ∷ []) (one_more_at f' i) (one_more_at d' t)
 runs_on lists [] f d f' d' i t run next =
     let P : (ℕ → ℕ) → Type 0 = λ g. slice_get (list_at lists i) (g i) ≡ Some (point t (d' t)) in
     let Q : (ℕ → ℕ) → Type 0 = λ g. slice_get (list_at lists i) (f i) ≡ Some (point t (g t)) in
-    (t, subst Q run.1 (subst P run.0 next), (ap (λ (g : ℕ → ℕ). one_more g i) run.0, ap (λ (g : ℕ → ℕ). one_more g t) run.1))
+    (t, subst Q run.1 (subst P run.0 next), (ap (λ (g : ℕ → ℕ). one_more_at g i) run.0, ap (λ (g : ℕ → ℕ). one_more_at g t) run.1))
 runs_on lists (j ∷ order) f d f' d' i t run next =
-    (run.0, run.1, runs_on lists order (one_more f j) (one_more d run.0) f' d' i t run.2 next)
+    (run.0, run.1, runs_on lists order (one_more_at f j) (one_more_at d run.0) f' d' i t run.2 next)
 
-takes_on : (lists : List (List ListPoint)) (order : List ℕ) (f d f' d' : ℕ → ℕ) → Runs lists f d order f' d'
+takes_on : (lists : List (List ListPoint)) (order : List ℕ) (f d f' d' : ℕ → ℕ) → RunsByOrder lists f d order f' d'
     → ((i : ℕ) → f' i ≡ length (list_at lists i)) → TakesOn lists f d order
 takes_on lists [] f d f' d' run ends = λ i. (λ k. sym run.0 k i) ∙ ends i
-takes_on lists (j ∷ order) f d f' d' run ends = (run.0, run.1, takes_on lists order (one_more f j) (one_more d run.0) f' d' run.2 ends)
+takes_on lists (j ∷ order) f d f' d' run ends = (run.0, run.1, takes_on lists order (one_more_at f j) (one_more_at d run.0) f' d' run.2 ends)
 
 same_parts : (t u a b : ℕ) → ◌≡◌ {A = Option ListPoint} (Some (point t a)) (Some (point u b)) → (u ≡ t) × (b ≡ a)
 same_parts t u a b e =
@@ -61,7 +61,7 @@ same_parts t u a b e =
 
 -- no more of a group was taken than is done of it, with one more
 no_more_taken : (lists : List (List ListPoint)) (f d : ℕ → ℕ) (i t : ℕ) → slice_get (list_at lists i) (f i) ≡ Some (point t (d t))
-    → ((u p : ℕ) → IsTaken lists f (point u p) → p < d u) → (u p : ℕ) → IsTaken lists (one_more f i) (point u p) → p < one_more d t u
+    → ((u p : ℕ) → IsTaken lists f (point u p) → p < d u) → (u p : ℕ) → IsTaken lists (one_more_at f i) (point u p) → p < one_more_at d t u
 no_more_taken lists f d i t next old u p n = dite (ℕ_discrete n.0 i)
     (λ e. dite (ℕ_discrete n.1 (f i))
     (λ last. newest e last)
@@ -82,26 +82,26 @@ no_more_taken lists f d i t next old u p n = dite (ℕ_discrete n.0 i)
     newer e earlier =
         let h = more_here f i in
         let below = n.2 in
-        let g : one_more f i n.0 ≡ one_more f i i = ap (one_more f i) e in
+        let g : one_more_at f i n.0 ≡ one_more_at f i i = ap (one_more_at f i) e in
         let k : f n.0 ≡ f i = ap f e in
         omega arith
 
-    newest : n.0 ≡ i → n.1 ≡ f i → p < one_more d t u
+    newest : n.0 ≡ i → n.1 ≡ f i → p < one_more_at d t u
     newest e last =
         let P : ℕ → Type 0 = λ j. slice_get (list_at lists j) n.1 ≡ Some (point u p) in
         let Q : ℕ → Type 0 = λ k. slice_get (list_at lists i) k ≡ Some (point u p) in
         let there : slice_get (list_at lists i) (f i) ≡ Some (point u p) = subst Q last (subst P e n.3) in
         let same = same_parts t u (d t) p (sym next ∙ there) in
         let h = more_here d t in
-        let g : one_more d t u ≡ one_more d t t = ap (one_more d t) same.0 in
+        let g : one_more_at d t u ≡ one_more_at d t t = ap (one_more_at d t) same.0 in
         let q = same.1 in
         omega arith
 
 within_next : (lists : List (List ListPoint)) (f : ℕ → ℕ) (i j : ℕ) (p : ListPoint) → slice_get (list_at lists i) (f i) ≡ Some p
-    → f j ≤ length (list_at lists j) → one_more f i j ≤ length (list_at lists j)
+    → f j ≤ length (list_at lists j) → one_more_at f i j ≤ length (list_at lists j)
 within_next lists f i j p next most = dite (ℕ_discrete j i)
     (λ e.
-    let P : ℕ → Type 0 = λ k. one_more f i k ≤ length (list_at lists k) in
+    let P : ℕ → Type 0 = λ k. one_more_at f i k ≤ length (list_at lists k) in
     subst P (sym e) (let h = more_here f i in let below = slice_get_within (list_at lists i) (f i) p next in omega arith))
     (λ other. let h = more_there f i j other in omega arith)
 
@@ -110,7 +110,7 @@ none_past lists i past = ap (λ (o : Option (List ListPoint)). unwrap_or o []) (
 
 -- where all is taken, the order takes all
 pub all_end : (lists : List (List ListPoint)) (holders : List (List (Option ℕ))) (g : Progress) → IsGoing lists holders g
-    → ((i : ℕ) → i < length lists → nat_le (length (list_at lists i)) (slice_index g.taken i) ≡ true) → TakesAll lists g.order
+    → ((i : ℕ) → i < length lists → nat_le (length (list_at lists i)) (slice_index g.taken i) ≡ true) → TakesEveryPoint lists g.order
 all_end lists holders g going taken = takes_on lists g.order none none (at g.taken) (at g.done) going.runs (λ i. dite (dec_le (length lists) i)
     (λ past. let e = ap length (none_past lists i past) in let w = going.within i in omega arith)
     (λ here.
@@ -142,35 +142,35 @@ waits_without lists taken done rest i stands waits j goes = elim (Contains-appen
 
 -- after a point was taken, a list goes on that went on before, or has the next point of the group, or is the same list
 pub waits_with : (lists : List (List ListPoint)) (holders : List (List (Option ℕ))) (taken done rest : List ℕ) (i : ℕ) (p : ListPoint)
-    → AreHeld lists holders → CanGoOn taken done i p
+    → AreHeld lists holders → CanCountPoint taken done i p
     → ((j : ℕ) → IsSome (next_at lists taken done j) → Contains (rest ++ i ∷ []) j)
-    → (j : ℕ) → IsSome (next_at lists (raised taken i) (raised done p.group) j)
+    → (j : ℕ) → IsSome (next_at lists (with_one_more taken i) (with_one_more done p.group) j)
     → Contains ((rest ++ i ∷ []) ++ listed (holder_at holders p.group (p.place + 1))) j
 waits_with lists holders taken done rest i p held can waits j goes = dite (ℕ_discrete j i)
     (λ same.
     let P : ℕ → Type 0 = λ k. Contains ((rest ++ i ∷ []) ++ listed (holder_at holders p.group (p.place + 1))) k in
     subst P (sym same) (Contains-append_left (rest ++ i ∷ []) _ i (Contains-append_right rest (i ∷ []) i (here_alone i))))
     (λ other.
-    let found_q = some_is (next_at lists (raised taken i) (raised done p.group) j) goes in
+    let found_q = some_is (next_at lists (with_one_more taken i) (with_one_more done p.group) j) goes in
     let q = found_q.0 in
-    let at_q = found (raised done p.group) (slice_get (list_at lists j) (slice_index (raised taken i) j)) q found_q.1 in
-    let same_front : slice_index (raised taken i) j ≡ slice_index taken j = index_set_other taken i j (slice_index taken i + 1) other in
+    let at_q = found (with_one_more done p.group) (slice_get (list_at lists j) (slice_index (with_one_more taken i) j)) q found_q.1 in
+    let same_front : slice_index (with_one_more taken i) j ≡ slice_index taken j = index_set_other taken i j (slice_index taken i + 1) other in
     let F : ℕ → Type 0 = λ n. slice_get (list_at lists j) n ≡ Some q in
     let there : slice_get (list_at lists j) (slice_index taken j) ≡ Some q = subst F same_front at_q.0 in
     dite (ℕ_discrete q.group p.group)
     (λ same_group.
     let done_here = index_set_same done p.group (slice_index done p.group + 1) can.group in
-    let D : ℕ → Type 0 = λ t. slice_index (raised done p.group) t ≡ q.place in
-    let counted : slice_index (raised done p.group) p.group ≡ q.place = subst D same_group at_q.2 in
+    let D : ℕ → Type 0 = λ t. slice_index (with_one_more done p.group) t ≡ q.place in
+    let counted : slice_index (with_one_more done p.group) p.group ≡ q.place = subst D same_group at_q.2 in
     let was = can.next in
     let place : q.place ≡ p.place + 1 = omega arith in
     let G : ℕ → ℕ → Type 0 = λ t n. slice_get (list_at holders t) n ≡ Some (Some j) in
     let holds : slice_get (list_at holders p.group) (p.place + 1) ≡ Some (Some j)
     = subst (λ n. G p.group n) place (subst (λ t. G t q.place) same_group (held.held j (slice_index taken j) q there)) in
-    let H : Option (Option ℕ) → Type 0 = λ o. Contains ((rest ++ i ∷ []) ++ listed (joined o)) j in
+    let H : Option (Option ℕ) → Type 0 = λ o. Contains ((rest ++ i ∷ []) ++ listed (inner_of o)) j in
     subst H (sym holds) (Contains-append_right (rest ++ i ∷ []) (j ∷ []) j (here_alone j)))
     (λ other_group.
-    let same_done : slice_index (raised done p.group) q.group ≡ slice_index done q.group
+    let same_done : slice_index (with_one_more done p.group) q.group ≡ slice_index done q.group
     = index_set_other done p.group q.group (slice_index done p.group + 1) other_group in
     let same_length = length_set done p.group (slice_index done p.group + 1) in
     let below = at_q.1 in
@@ -181,14 +181,14 @@ waits_with lists holders taken done rest i p held can waits j goes = dite (ℕ_d
     Contains-append_left (rest ++ i ∷ []) _ j (waits j went)))
 
 left_at : (lists : List (List ListPoint)) (taken : List ℕ) (i : ℕ) → i < length taken → slice_index taken i < length (list_at lists i)
-    → left_of lists (raised taken i) + 1 ≡ left_of lists taken
+    → points_left lists (with_one_more taken i) + 1 ≡ points_left lists taken
 left_at [] taken i below less = absurd (omega arith)
 left_at (l ∷ ls) [] i below less = absurd (omega arith)
 left_at (l ∷ ls) (n ∷ ns) zero below less = omega arith
 left_at (l ∷ ls) (n ∷ ns) (suc i) below less = let e = left_at ls ns i (omega arith) less in omega arith
 
 -- at first all are left
-none_left_out : (lists : List (List ListPoint)) → 0 + left_of lists (replicate (length lists) 0) ≡ points_count lists
+none_left_out : (lists : List (List ListPoint)) → 0 + points_left lists (replicate (length lists) 0) ≡ points_count lists
 none_left_out [] = refl
 none_left_out (l ∷ ls) =
     let others = none_left_out ls in
@@ -197,7 +197,7 @@ none_left_out (l ∷ ls) =
 
 -- where all were taken, none is left
 none_left : (lists : List (List ListPoint)) (taken : List ℕ) → length taken ≡ length lists
-    → ((i : ℕ) → i < length lists → length (list_at lists i) ≤ slice_index taken i) → left_of lists taken ≡ 0
+    → ((i : ℕ) → i < length lists → length (list_at lists i) ≤ slice_index taken i) → points_left lists taken ≡ 0
 none_left [] taken wide all = refl
 none_left (l ∷ ls) [] wide all = refl
 none_left (l ∷ ls) (n ∷ ns) wide all =
@@ -215,7 +215,7 @@ all_counted lists holders g going taken =
 
 -- where the search stands after a look
 pub look_on : (lists : List (List ListPoint)) (holders : List (List (Option ℕ))) (taken done order rest : List ℕ) (i : ℕ) (o : Option ListPoint)
-    → AreHeld lists holders → next_at lists taken done i ≡ o → ((p : ListPoint) → o ≡ Some p → CanGoOn taken done i p)
+    → AreHeld lists holders → next_at lists taken done i ≡ o → ((p : ListPoint) → o ≡ Some p → CanCountPoint taken done i p)
     → IsGoing lists holders (record { taken = taken; done = done; order = order; waiting = rest ++ i ∷ [] })
     → IsGoing lists holders (looked holders i o (record { taken = taken; done = done; order = order; waiting = rest }))
 look_on lists holders taken done order rest i None held e can g = record {
@@ -234,8 +234,8 @@ look_on lists holders taken done order rest i (Some p) held e can g =
     let place_is : p ≡ point p.group (slice_index done p.group) = λ k. point p.group (sym c.next k) in
     let F : ListPoint → Type 0 = λ q. slice_get (list_at lists i) (slice_index taken i) ≡ Some q in
     let next : slice_get (list_at lists i) (at taken i) ≡ Some (point p.group (at done p.group)) = subst F place_is at_p.0 in
-    let f : at (raised taken i) ≡ one_more (at taken) i = raised_at taken i c.list in
-    let d : at (raised done p.group) ≡ one_more (at done) p.group = raised_at done p.group c.group in
+    let f : at (with_one_more taken i) ≡ one_more_at (at taken) i = raised_at taken i c.list in
+    let d : at (with_one_more done p.group) ≡ one_more_at (at done) p.group = raised_at done p.group c.group in
     record {
       wide = length_set taken i (slice_index taken i + 1) ∙ g.wide;
       all = length_set done p.group (slice_index done p.group + 1) ∙ g.all;
@@ -245,12 +245,12 @@ look_on lists holders taken done order rest i (Some p) held e can g =
       runs = rw (f, d) (runs_on lists order none none (at taken) (at done) i p.group g.runs next);
       prefix =
           let P : (ℕ → ℕ) → (ℕ → ℕ) → Type 0 = λ a b. (u n : ℕ) → n < b u → IsTaken lists a (point u n) in
-          subst (λ b. P (at (raised taken i)) b) (sym d)
-          (subst (λ a. P a (one_more (at done) p.group)) (sym f) (done_taken lists (at taken) (at done) i p.group next g.prefix));
+          subst (λ b. P (at (with_one_more taken i)) b) (sym d)
+          (subst (λ a. P a (one_more_at (at done) p.group)) (sym f) (done_taken lists (at taken) (at done) i p.group next g.prefix));
       no_more =
           let P : (ℕ → ℕ) → (ℕ → ℕ) → Type 0 = λ a b. (u n : ℕ) → IsTaken lists a (point u n) → n < b u in
-          subst (λ b. P (at (raised taken i)) b) (sym d)
-          (subst (λ a. P a (one_more (at done) p.group)) (sym f) (no_more_taken lists (at taken) (at done) i p.group next g.no_more));
+          subst (λ b. P (at (with_one_more taken i)) b) (sym d)
+          (subst (λ a. P a (one_more_at (at done) p.group)) (sym f) (no_more_taken lists (at taken) (at done) i p.group next g.no_more));
       counted =
           let below = slice_get_within (list_at lists i) (slice_index taken i) p at_p.0 in
           let less = left_at lists taken i c.list below in
@@ -318,8 +318,8 @@ one_number_more numbers n all k below = dite (ℕ_discrete k n)
 
 -- a look leaves less to do: each point that is left brings two looks at most, and each list that waits one
 pub look_smaller : (lists : List (List ListPoint)) (holders : List (List (Option ℕ))) (g : Progress) (i : ℕ) (o : Option ListPoint)
-    → next_at lists g.taken g.done i ≡ o → ((p : ListPoint) → o ≡ Some p → CanGoOn g.taken g.done i p)
-    → 2 * left_of lists (looked holders i o g).taken + length (looked holders i o g).waiting < 2 * left_of lists g.taken + (length g.waiting + 1)
+    → next_at lists g.taken g.done i ≡ o → ((p : ListPoint) → o ≡ Some p → CanCountPoint g.taken g.done i p)
+    → 2 * points_left lists (looked holders i o g).taken + length (looked holders i o g).waiting < 2 * points_left lists g.taken + (length g.waiting + 1)
 look_smaller lists holders g i None e can = omega arith
 look_smaller lists holders g i (Some p) e can =
     let c = can p refl in

@@ -6,7 +6,7 @@ use mathlib.Core.Logic.{dite}
 use native.Mathlib.Decide.{dec_le}
 use Rattle.joint_order.specs.declared.point.ListPoint.{ListPoint}
 use Rattle.joint_order.specs.Orders.{AreHeld, list_at}
-use Rattle.joint_order.specs.Steps.{AreShort, CanGoOn, if_next, next_at}
+use Rattle.joint_order.specs.Steps.{AreShort, CanCountPoint, if_next, next_at}
 
 -- a list that has an element is one of the lists
 pub has_list : {A : Type 0} (lists : List (List A)) (i k : ℕ) (x : A) → slice_get (list_at lists i) k ≡ Some x → i < length lists
@@ -37,7 +37,7 @@ found done (Some q) p e = by_test (nat_lt q.group (length done) && (slice_index 
 
 pub can_go_on : (lists : List (List ListPoint)) (holders : List (List (Option ℕ))) (taken done : List ℕ) (i : ℕ) (p : ListPoint)
     → length taken ≡ length lists → AreHeld lists holders → AreShort lists → AreShort holders
-    → next_at lists taken done i ≡ Some p → CanGoOn taken done i p
+    → next_at lists taken done i ≡ Some p → CanCountPoint taken done i p
 can_go_on lists holders taken done i p wide held lists_short holders_short e =
     let at = found done (slice_get (list_at lists i) (slice_index taken i)) p e in
     let there = has_list lists i (slice_index taken i) p at.0 in

@@ -19,8 +19,8 @@ points_count lists = sum_by (λ list. length list) lists
 -- ---- orders
 
 -- one more at that number
-abbrev pub one_more : (ℕ → ℕ) → ℕ → ℕ → ℕ
-one_more f i j = if j == i then f j + 1 else f j
+abbrev pub one_more_at : (ℕ → ℕ) → ℕ → ℕ → ℕ
+one_more_at f i j = if j == i then f j + 1 else f j
 
 -- the number of that place of a list, 0 past its end
 abbrev pub at : List ℕ → ℕ → ℕ
@@ -36,11 +36,11 @@ abbrev pub TakesOn : List (List ListPoint) → (taken done : ℕ → ℕ) → (o
 TakesOn lists taken done [] = (i : ℕ) → taken i ≡ length (list_at lists i)
 TakesOn lists taken done (i ∷ order) =
     (group : ℕ) × (slice_get (list_at lists i) (taken i) ≡ Some (point group (done group)))
-    × TakesOn lists (one_more taken i) (one_more done group) order
+    × TakesOn lists (one_more_at taken i) (one_more_at done group) order
 
 -- the order takes all points, those of each list and those of each group one after the other
-abbrev pub TakesAll : List (List ListPoint) → (order : List ℕ) → Type 0
-TakesAll lists order = TakesOn lists none none order
+abbrev pub TakesEveryPoint : List (List ListPoint) → (order : List ℕ) → Type 0
+TakesEveryPoint lists order = TakesOn lists none none order
 
 -- ---- fronts
 

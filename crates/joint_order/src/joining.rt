@@ -1,8 +1,8 @@
 //! The search for an order.
 
 ghost use Rattle.std.specs.Prelude.{◌≡◌, ◌≤◌, ◌<◌, ◌+◌, ℕ, length, nat_le, slice_get, slice_index, vec_len, Contains, IfOk, IfSome, OnOk, false, true};
-ghost use Rattle.joint_order.specs.Orders.{AreHeld, IsStuck, OnOrder, OnStuck, TakesAll, list_at, points_count};
-ghost use Rattle.joint_order.specs.Steps.{AreShort, CanGoOn, Progress, holder_at, if_next, looked, next_at};
+ghost use Rattle.joint_order.specs.Orders.{AreHeld, IsStuck, OnOrder, OnStuck, TakesEveryPoint, list_at, points_count};
+ghost use Rattle.joint_order.specs.Steps.{AreShort, CanCountPoint, Progress, holder_at, if_next, looked, next_at};
 
 use crate::point::ListPoint;
 use common_types::Items;
@@ -58,7 +58,7 @@ fn next_at(
     requires lists { AreShort lists.now }
     requires holders { AreShort holders.now }
     ensures value { result ≡ next_at lists.now taken.now done.now i }
-    ensures fits { IfSome result (λ point. CanGoOn taken.now done.now i point) }
+    ensures fits { IfSome result (λ point. CanCountPoint taken.now done.now i point) }
 {
     if_next(done, point_at(lists, taken, i))
 }
@@ -159,7 +159,7 @@ pub fn join(
     holders: &[Items<Option<usize>>],
 ) -> Result<Joined, AllocError>
     requires { AreHeld lists.now holders.now }
-    ensures order { IfOk result (OnOrder (TakesAll lists.now)) }
+    ensures order { IfOk result (OnOrder (TakesEveryPoint lists.now)) }
     ensures count { IfOk result (OnOrder (λ order. length order ≡ points_count lists.now)) }
     ensures stuck { IfOk result (OnStuck (IsStuck lists.now)) }
 {

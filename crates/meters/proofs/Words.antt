@@ -13,7 +13,7 @@ use Rattle.meters.specs.declared.rule.View.{View}
 use Rattle.meters.specs.Counts.{place_of, word_of, count_in, both_rows}
 use Rattle.atomic_table.specs.Seated.{TableId}
 use Rattle.meters.specs.Seats.{MetersState, SeatState, max_splits}
-use Rattle.meters.specs.Rule.{seat_state, total, empty_view, spent_view, raised_view, split_view, joined_view, IsSound, Kept, Raises, Looks}
+use Rattle.meters.specs.Rule.{seat_state, total, empty_view, spent_view, raised_view, split_view, joined_view, IsSoundView, RuleHolds, Raises, Looks}
 
 -- a view's count at a place
 abbrev pub at_place : ℕ → View → ℕ
@@ -150,21 +150,21 @@ total_none f (x ∷ xs) h =
 
 -- ---- what each view keeps
 
-sound_set : (views : List View) (id : ℕ) (w : View) → ((k : ℕ) (u : View) → get_elem? views k ≡ some u → IsSound k u) → IsSound id w
-    → (k : ℕ) (u : View) → get_elem? (set views id w) k ≡ some u → IsSound k u
+sound_set : (views : List View) (id : ℕ) (w : View) → ((k : ℕ) (u : View) → get_elem? views k ≡ some u → IsSoundView k u) → IsSoundView id w
+    → (k : ℕ) (u : View) → get_elem? (set views id w) k ≡ some u → IsSoundView k u
 sound_set views id w all one k u at = elim (at_set views id k w u at) [
-  | inl h ↦ let P : ℕ → Type 0 = λ n. IsSound n u in subst P (sym h.0) (let Q : View → Type 0 = λ x. IsSound id x in subst Q h.1 one)
+  | inl h ↦ let P : ℕ → Type 0 = λ n. IsSoundView n u in subst P (sym h.0) (let Q : View → Type 0 = λ x. IsSoundView id x in subst Q h.1 one)
   | inr h ↦ all k u h.1
 ]
 
-sound_snoc : (views : List View) (w : View) → ((k : ℕ) (u : View) → get_elem? views k ≡ some u → IsSound k u) → ((k : ℕ) → IsSound k w)
-    → (k : ℕ) (u : View) → get_elem? (views ++ w ∷ []) k ≡ some u → IsSound k u
+sound_snoc : (views : List View) (w : View) → ((k : ℕ) (u : View) → get_elem? views k ≡ some u → IsSoundView k u) → ((k : ℕ) → IsSoundView k w)
+    → (k : ℕ) (u : View) → get_elem? (views ++ w ∷ []) k ≡ some u → IsSoundView k u
 sound_snoc views w all one k u at = elim (at_snoc views w u k at) [
   | inl h ↦ all k u h
-  | inr h ↦ let P : View → Type 0 = λ x. IsSound k x in subst P h (one k)
+  | inr h ↦ let P : View → Type 0 = λ x. IsSoundView k x in subst P h (one k)
 ]
 
-empty_sound : (k : ℕ) → IsSound k (empty_view false)
+empty_sound : (k : ℕ) → IsSoundView k (empty_view false)
 empty_sound k = record {
   long = length-replicate {A = ℕ} 256 0;
   bounded = λ i. let e = no_count 256 i in omega arith;
@@ -173,7 +173,7 @@ empty_sound k = record {
   joined = λ h. omega arith;
 }
 
-first_sound : IsSound 0 (empty_view true)
+first_sound : IsSoundView 0 (empty_view true)
 first_sound = record {
   long = length-replicate {A = ℕ} 256 0;
   bounded = λ i. let e = no_count 256 i in omega arith;
@@ -182,7 +182,7 @@ first_sound = record {
   joined = λ h. omega arith;
 }
 
-spent_sound : (k : ℕ) → IsSound k spent_view
+spent_sound : (k : ℕ) → IsSoundView k spent_view
 spent_sound k = record {
   long = length-replicate {A = ℕ} 256 0;
   bounded = λ i. let e = no_count 256 i in omega arith;
@@ -197,7 +197,7 @@ only_first : (v w : View) (k : ℕ) → get_elem? (v ∷ []) k ≡ some w → (k
 only_first v w zero at = (refl, some-injective v w at)
 only_first v w (suc k) at = absurd (some-ne-none w (sym at))
 
-pub kept_at_first : (tenants : ℕ) (words : List ℕ) → words ≡ replicate (4 * tenants) 0 → Kept tenants (opening words [] (empty_view true))
+pub kept_at_first : (tenants : ℕ) (words : List ℕ) → words ≡ replicate (4 * tenants) 0 → RuleHolds tenants (opening words [] (empty_view true))
 kept_at_first tenants words is =
     record {
       long = ap length is ∙ length-replicate {A = ℕ} (4 * tenants) 0;
@@ -210,14 +210,14 @@ kept_at_first tenants words is =
       few = omega arith;
       sound = λ id v at.
           let h = only_first (empty_view true) v id at in
-          let P : ℕ → Type 0 = λ n. IsSound n v in
-          let Q : View → Type 0 = λ x. IsSound 0 x in
+          let P : ℕ → Type 0 = λ n. IsSoundView n v in
+          let Q : View → Type 0 = λ x. IsSoundView 0 x in
           subst P (sym h.0) (subst Q h.1 first_sound);
     }
 
 -- ---- a count
 
-bounds : (tenants : ℕ) (s : State (Unit {0}) View) → Kept tenants s → (t : ℕ) (k : Kind) → t < tenants → slice_index s.words (word_of t k) ≤ (max_splits + 1) * 2 ^ 40
+bounds : (tenants : ℕ) (s : State (Unit {0}) View) → RuleHolds tenants s → (t : ℕ) (k : Kind) → t < tenants → slice_index s.words (word_of t k) ≤ (max_splits + 1) * 2 ^ 40
 bounds tenants s kept t k lt =
     let most = total_bound (word_of t k) s.views (λ id v at. (kept.sound id v at).bounded (word_of t k)) in
     let e = kept.sums t k lt in
@@ -246,7 +246,7 @@ bounded_raised i j v lt room live old = dite (ℕ_discrete j i)
     (λ ne. let same : at_place j (raised_view i v) ≡ at_place j v = index_set_other v.counts i j (slice_index v.counts i + 1) ne in omega arith)
 
 raise_allows : (tenants slots id t : ℕ) (k : Kind) (me : Me (Unit {0}) View) → t < tenants → tenants ≤ 64 → at_place (word_of t k) me.0 < 2 ^ 40 → 0 < me.0.parts
-    → Allows (Kept tenants) slots id me (word_of t k) (λ n. (n + 1) % 2 ^ 64) (Raises (step slots (word_of t k) 1 0 none) me)
+    → Allows (RuleHolds tenants) slots id me (word_of t k) (λ n. (n + 1) % 2 ^ 64) (Raises (step slots (word_of t k) 1 0 none) me)
 raise_allows tenants slots id t k me lt few room live s kept len at fits =
     let v = me.0 in
     let i : ℕ = word_of t k in
@@ -282,9 +282,9 @@ raise_allows tenants slots id t k me lt few room live s kept len at fits =
 
 -- a word is raised by one
 pub count_allows : (tenants slots id t i : ℕ) (k : Kind) (me : Me (Unit {0}) View) → i ≡ word_of t k → t < tenants → tenants ≤ 64 → at_place i me.0 < 2 ^ 40 → 0 < me.0.parts
-    → Allows (Kept tenants) slots id me i (λ n. (n + 1) % 2 ^ 64) (Raises (step slots i 1 0 none) me)
+    → Allows (RuleHolds tenants) slots id me i (λ n. (n + 1) % 2 ^ 64) (Raises (step slots i 1 0 none) me)
 count_allows tenants slots id t i k me is lt few room live =
-    let P : ℕ → Type 0 = λ j. Allows (Kept tenants) slots id me j (λ n. (n + 1) % 2 ^ 64) (Raises (step slots j 1 0 none) me) in
+    let P : ℕ → Type 0 = λ j. Allows (RuleHolds tenants) slots id me j (λ n. (n + 1) % 2 ^ 64) (Raises (step slots j 1 0 none) me) in
     let R : ℕ → Type 0 = λ j. at_place j me.0 < 2 ^ 40 in
     subst P (sym is) (raise_allows tenants slots id t k me lt few (subst R is room) live)
 
@@ -298,7 +298,7 @@ same_word (x ∷ xs) (suc i) zero = refl
 same_word (x ∷ xs) (suc i) (suc j) = same_word xs i j
 
 look_allows : (tenants slots id t : ℕ) (k : Kind) (me : Me (Unit {0}) View) → t < tenants
-    → Allows (Kept tenants) slots id me (word_of t k) (λ n. n) (Looks (step slots (word_of t k) 0 0 none) me)
+    → Allows (RuleHolds tenants) slots id me (word_of t k) (λ n. n) (Looks (step slots (word_of t k) 0 0 none) me)
 look_allows tenants slots id t k me lt s kept len at fits =
     let v = me.0 in
     let i : ℕ = word_of t k in
@@ -323,9 +323,9 @@ look_allows tenants slots id t k me lt s kept len at fits =
 
 -- a word is read
 pub load_allows : (tenants slots id t i : ℕ) (k : Kind) (me : Me (Unit {0}) View) → i ≡ word_of t k → t < tenants
-    → Allows (Kept tenants) slots id me i (λ n. n) (Looks (step slots i 0 0 none) me)
+    → Allows (RuleHolds tenants) slots id me i (λ n. n) (Looks (step slots i 0 0 none) me)
 load_allows tenants slots id t i k me is lt =
-    let P : ℕ → Type 0 = λ j. Allows (Kept tenants) slots id me j (λ n. n) (Looks (step slots j 0 0 none) me) in
+    let P : ℕ → Type 0 = λ j. Allows (RuleHolds tenants) slots id me j (λ n. n) (Looks (step slots j 0 0 none) me) in
     subst P (sym is) (look_allows tenants slots id t k me lt)
 
 -- ---- the seats that are left
@@ -335,7 +335,7 @@ true_or_false true = inl refl
 true_or_false false = inr refl
 
 -- no other view has splits
-others_plain : (tenants : ℕ) (s : State (Unit {0}) View) → Kept tenants s → (id : ℕ) (v : View) → v.first ≡ true → get_elem? s.views id ≡ some v
+others_plain : (tenants : ℕ) (s : State (Unit {0}) View) → RuleHolds tenants s → (id : ℕ) (v : View) → v.first ≡ true → get_elem? s.views id ≡ some v
     → total (λ u. u.splits) (set s.views id spent_view) ≡ 0
 others_plain tenants s kept id v first at = total_none (λ u. u.splits) (set s.views id spent_view) (λ k u there.
     elim (at_set s.views id k spent_view u there) [
@@ -346,7 +346,7 @@ others_plain tenants s kept id v first at = total_none (λ u. u.splits) (set s.v
       ]
     ])
 
-only_splits : (tenants : ℕ) (s : State (Unit {0}) View) → Kept tenants s → (id : ℕ) (v : View) → v.first ≡ true → get_elem? s.views id ≡ some v
+only_splits : (tenants : ℕ) (s : State (Unit {0}) View) → RuleHolds tenants s → (id : ℕ) (v : View) → v.first ≡ true → get_elem? s.views id ≡ some v
     → total (λ u. u.splits) s.views ≡ v.splits
 only_splits tenants s kept id v first at =
     let z = others_plain tenants s kept id v first at in
@@ -354,7 +354,7 @@ only_splits tenants s kept id v first at =
     omega arith
 
 -- where the first seat has joined as many as it was split into, the words are its counts
-pub close_exact : (tenants : ℕ) (s : State (Unit {0}) View) → Kept tenants s → (id : ℕ) (v : View) → v.first ≡ true → v.joins ≡ v.splits → get_elem? s.views id ≡ some v
+pub close_exact : (tenants : ℕ) (s : State (Unit {0}) View) → RuleHolds tenants s → (id : ℕ) (v : View) → v.first ≡ true → v.joins ≡ v.splits → get_elem? s.views id ≡ some v
     → (t : ℕ) (k : Kind) → t < tenants → slice_index s.words (word_of t k) ≡ at_place (word_of t k) v
 close_exact tenants s kept id v first same at t k lt =
     let i : ℕ = word_of t k in
@@ -373,7 +373,7 @@ close_exact tenants s kept id v first same at t k lt =
     omega arith
 
 -- a word is no less than a seat's count of it
-pub close_least : (tenants : ℕ) (s : State (Unit {0}) View) → Kept tenants s → (id : ℕ) (v : View) → get_elem? s.views id ≡ some v
+pub close_least : (tenants : ℕ) (s : State (Unit {0}) View) → RuleHolds tenants s → (id : ℕ) (v : View) → get_elem? s.views id ≡ some v
     → (t : ℕ) (k : Kind) → t < tenants → at_place (word_of t k) v ≤ slice_index s.words (word_of t k)
 close_least tenants s kept id v at t k lt =
     let own = part_of_total (at_place (word_of t k)) s.views id v at in
@@ -387,7 +387,7 @@ at_value (x ∷ xs) (suc i) a e = at_value xs i a e
 
 -- ---- a split
 
-pub split_splits : (tenants id : ℕ) (v : View) → v.first ≡ true → v.splits < max_splits → Splits (Kept tenants) id v (split_view v) (empty_view false)
+pub split_splits : (tenants id : ℕ) (v : View) → v.first ≡ true → v.splits < max_splits → Splits (RuleHolds tenants) id v (split_view v) (empty_view false)
 split_splits tenants id v first few s kept at =
     let old = kept.sound id v at in
     record {
@@ -432,10 +432,10 @@ both_totals f views id other v w b at there sum none_left =
     let two = total_set f (set views id b) other w spent_view there in
     omega arith
 
-pub join_joins : (tenants id other : ℕ) (v w : View) → w.first ≡ false → 0 < w.parts → Joins (Kept tenants) id v other w (joined_view v w) spent_view
+pub join_joins : (tenants id other : ℕ) (v w : View) → w.first ≡ false → 0 < w.parts → Joins (RuleHolds tenants) id v other w (joined_view v w) spent_view
 join_joins tenants id other v w plain live s kept at apart there =
     let old = kept.sound id v at in
-    let theirs : IsSound other w = elim (at_set s.views id other (joined_view v w) w there) [
+    let theirs : IsSoundView other w = elim (at_set s.views id other (joined_view v w) w there) [
       | inl h ↦ absurd (apart h.0)
       | inr h ↦ kept.sound other w h.1
     ] in

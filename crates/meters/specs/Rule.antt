@@ -45,7 +45,7 @@ joined_view v w = record v { counts = both_rows v.counts w.counts; joins = v.joi
 
 -- what one view keeps: it counts for `parts` seats, and each of its counts is at most 2^40 for each of these seats.
 -- Only the first seat, at place 0, is split. It counts for more seats than it has joined
-pub record IsSound (id : ℕ) (v : View) : Type 0 where
+pub record IsSoundView (id : ℕ) (v : View) : Type 0 where
   pub long : length v.counts ≡ 256
   pub bounded : (i : ℕ) → slice_index v.counts i ≤ v.parts * 2 ^ 40
   pub leads : v.first ≡ true → id ≡ 0
@@ -54,12 +54,12 @@ pub record IsSound (id : ℕ) (v : View) : Type 0 where
 
 -- the rule: for each tenant and kind the word is the sum of that count over the views of all seats. No seat is lost:
 -- the views count for one seat and one more for each split, and there are at most as many splits as allowed
-pub record Kept (tenants : ℕ) (s : State (Unit {0}) View) : Type 0 where
+pub record RuleHolds (tenants : ℕ) (s : State (Unit {0}) View) : Type 0 where
   pub long : length s.words ≡ 4 * tenants
   pub sums : (tenant : ℕ) (kind : Kind) → tenant < tenants → count_in tenant kind s.words ≡ word_total tenant kind s.views
   pub parts : total (λ v. v.parts) s.views ≡ 1 + total (λ v. v.splits) s.views
   pub few : total (λ v. v.splits) s.views ≤ max_splits
-  pub sound : (id : ℕ) (v : View) → get_elem? s.views id ≡ some v → IsSound id v
+  pub sound : (id : ℕ) (v : View) → get_elem? s.views id ≡ some v → IsSoundView id v
 
 -- a word is raised by one: the seat's count of it rises by one, and nothing else of what it knows changes
 abbrev pub Raises : Step (Unit {0}) → Me (Unit {0}) View → ℕ → Me (Unit {0}) View → Type 0

@@ -18,9 +18,9 @@ pub struct Sums;
 
 impl TableRule<(), View, usize> for Sums {
     ghost use Rattle.std.specs.Prelude.{true};
-    ghost use Rattle.meters.specs.Rule.{Kept, empty_view};
+    ghost use Rattle.meters.specs.Rule.{RuleHolds, empty_view};
 
-    ghost holds = { Kept };
+    ghost holds = { RuleHolds };
 
     ghost first = { λ _. empty_view true };
 }

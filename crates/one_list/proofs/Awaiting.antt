@@ -26,7 +26,7 @@ use Rattle.tenant_core.specs.declared.journal.Outcome.TheVariants.{Packet, Ticke
 use Rattle.tenant_core.specs.declared.journal.Record.{Record}
 use Rattle.tenant_core.specs.declared.opening.Opening.{Opening}
 use Rattle.tenant_core.specs.declared.verdict.Verdict.TheVariants.{Unknown, NoRoom, Refuse, Forward, Fulfil, Relay}
-use Rattle.one_list.specs.History.{IsHistory, IsStep, LeadTo, after_entry, after_record}
+use Rattle.one_list.specs.History.{IsHistory, IsNextStep, LeadTo, after_entry, after_record}
 use Rattle.one_list.specs.Holds.{BeginsHold, HoldLaws, IsAnsweredByAnother, IsAnswerTo, holder, is_numbered}
 use Rattle.one_list.proofs.Numbers.{course_of, held, holds_pushed}
 use Rattle.one_list.specs.Steps.{of_worker}
@@ -179,7 +179,7 @@ answered_by s t (e ∷ es) n led awaited none = by (is_answer_to n e.made.entry)
     by false is later = later (awaited_after s e.made n led.0.made awaited is)
 
 -- the state before a step
-lead_at : (s t : State) (earlier : List Done) (e : Done) (later : List Done) → LeadTo s (earlier ++ e ∷ later) t → (u : State) × IsStep u e × LeadTo (after_record u e.made) later t
+lead_at : (s t : State) (earlier : List Done) (e : Done) (later : List Done) → LeadTo s (earlier ++ e ∷ later) t → (u : State) × IsNextStep u e × LeadTo (after_record u e.made) later t
 lead_at s t [] e later led = (s, led.0, led.1)
 lead_at s t (x ∷ xs) e later led = lead_at (after_record s x.made) t xs e later led.1
 

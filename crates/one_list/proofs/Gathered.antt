@@ -11,8 +11,8 @@ use Rattle.one_list.specs.declared.step.Done.{Done}
 use Rattle.one_list.specs.declared.step.Size.{Size}
 use Rattle.one_list.specs.declared.rule.Claim.{Claim}
 use Rattle.one_list.specs.Steps.{IsBeginning, PartView, WorkerView, HaveOneList, of_tenant, of_worker, parts_numbered}
-use Rattle.one_list.specs.Rules.{AllFit, Fits, IsTold, claim, claims_of, count_of, is_kind, is_of}
-use Rattle.one_list.specs.Parts.{gathered, met_in, steps_in, tenants_in, workers_in}
+use Rattle.one_list.specs.Rules.{AllFit, IsRightClaim, AreOfOneList, claim, claims_of, claim_count, is_kind, speaks_of}
+use Rattle.one_list.specs.Parts.{gathered, met_in, claimed_steps, tenants_in, workers_in}
 
 -- what a seat holds that a badge became
 pub seated : {c : List Claim} {me : Me Recorded (List Claim)} → me.0 ∷ [] ≡ c ∷ [] → me.1 ≡ [] → me ≡ (c, [])
@@ -20,13 +20,13 @@ seated {c} {me} e f = let h : me.0 ≡ c = cc (e) in λ i. (h i, f i)
 
 -- a badge claims the steps that are in it
 pub claimed : {b : Bool} {n : ℕ} {steps : List Done} {met : List Beginning} {views : List (List Claim)} → views ≡ (claim b n steps met ∷ []) ∷ []
-    → views ≡ (claim b n (steps_in views) met ∷ []) ∷ []
-claimed {b} {n} {steps} {met} {views} e = e ∙ ap (λ (l : List Done). (claim b n l met ∷ []) ∷ []) (sym (ap steps_in e))
+    → views ≡ (claim b n (claimed_steps views) met ∷ []) ∷ []
+claimed {b} {n} {steps} {met} {views} e = e ∙ ap (λ (l : List Done). (claim b n l met ∷ []) ∷ []) (sym (ap claimed_steps e))
 
 -- and has met what is in it
 pub claimed_met : {b : Bool} {n : ℕ} {steps : List Done} {met : List Beginning} {views : List (List Claim)} → views ≡ (claim b n steps met ∷ []) ∷ []
-    → views ≡ (claim b n (steps_in views) (met_in views) ∷ []) ∷ []
-claimed_met {b} {n} {steps} {met} {views} e = claimed e ∙ ap (λ (l : List Beginning). (claim b n (steps_in views) l ∷ []) ∷ []) (sym (ap met_in e))
+    → views ≡ (claim b n (claimed_steps views) (met_in views) ∷ []) ∷ []
+claimed_met {b} {n} {steps} {met} {views} e = claimed e ∙ ap (λ (l : List Beginning). (claim b n (claimed_steps views) l ∷ []) ∷ []) (sym (ap met_in e))
 
 -- the parts of which a claim speaks
 abbrev part_in : Claim → PartView
@@ -70,19 +70,19 @@ TellsWorker log p = of_worker p.number log ≡ p.steps
 abbrev HasMet : List Done → WorkerView → Type 0
 HasMet log p = All (IsBeginning log) p.met
 
-told_tenant : (log : List Done) (c : Claim) (cs : List Claim) (b : Bool) → c.of_worker ≡ b → Fits log c → All (TellsTenant log) (tenants_in cs)
+told_tenant : (log : List Done) (c : Claim) (cs : List Claim) (b : Bool) → c.of_worker ≡ b → IsRightClaim log c → All (TellsTenant log) (tenants_in cs)
     → All (TellsTenant log) (map part_in (cond (not b) (c ∷ claims_of false cs) (claims_of false cs)))
 told_tenant log c cs true is f rest = rest
 told_tenant log c cs false is f rest =
     All-cons (TellsTenant log) (part_in c) (tenants_in cs) (subst (λ b. filter (λ (e : Done). cond b (e.worker == c.number) (e.tenant == c.number)) log ≡ c.steps) is f.0) rest
 
-told_worker : (log : List Done) (c : Claim) (cs : List Claim) (b : Bool) → c.of_worker ≡ b → Fits log c → All (TellsWorker log) (workers_in cs)
+told_worker : (log : List Done) (c : Claim) (cs : List Claim) (b : Bool) → c.of_worker ≡ b → IsRightClaim log c → All (TellsWorker log) (workers_in cs)
     → All (TellsWorker log) (map worker_in (cond b (c ∷ claims_of true cs) (claims_of true cs)))
 told_worker log c cs true is f rest =
     All-cons (TellsWorker log) (worker_in c) (workers_in cs) (subst (λ b. filter (λ (e : Done). cond b (e.worker == c.number) (e.tenant == c.number)) log ≡ c.steps) is f.0) rest
 told_worker log c cs false is f rest = rest
 
-told_met : (log : List Done) (c : Claim) (cs : List Claim) (b : Bool) → Fits log c → All (HasMet log) (workers_in cs)
+told_met : (log : List Done) (c : Claim) (cs : List Claim) (b : Bool) → IsRightClaim log c → All (HasMet log) (workers_in cs)
     → All (HasMet log) (map worker_in (cond b (c ∷ claims_of true cs) (claims_of true cs)))
 told_met log c cs true f rest = All-cons (HasMet log) (worker_in c) (workers_in cs) f.1 rest
 told_met log c cs false f rest = rest
@@ -100,13 +100,13 @@ met_told log [] f = All-nil (HasMet log)
 met_told log (c ∷ cs) f = told_met log c cs c.of_worker f.0 (met_told log cs f.1)
 
 -- a tenant's parts are counted as the claims are that speak of it
-numbered_by : (n : ℕ) (c : Claim) (cs : List Claim) (b : Bool) → c.of_worker ≡ b → parts_numbered n (tenants_in cs) ≡ count_of false n cs
-    → parts_numbered n (tenants_in (c ∷ cs)) ≡ count_of false n (c ∷ cs)
+numbered_by : (n : ℕ) (c : Claim) (cs : List Claim) (b : Bool) → c.of_worker ≡ b → parts_numbered n (tenants_in cs) ≡ claim_count false n cs
+    → parts_numbered n (tenants_in (c ∷ cs)) ≡ claim_count false n (c ∷ cs)
 numbered_by n c cs true is rest =
     let left : parts_numbered n (tenants_in (c ∷ cs)) ≡ parts_numbered n (tenants_in cs)
     = ap (λ (b : Bool). parts_numbered n (map part_in (cond (not b) (c ∷ claims_of false cs) (claims_of false cs)))) is in
-    let right : count_of false n (c ∷ cs) ≡ cond (is_of false n c) 1 0 + count_of false n cs = sum_by-cons (λ x. cond (is_of false n x) 1 0) c cs in
-    let one : ℕ = cond (is_of false n c) 1 0 in
+    let right : claim_count false n (c ∷ cs) ≡ cond (speaks_of false n c) 1 0 + claim_count false n cs = sum_by-cons (λ x. cond (speaks_of false n x) 1 0) c cs in
+    let one : ℕ = cond (speaks_of false n c) 1 0 in
     let none : one ≡ 0 = ap (λ (b : Bool). cond (not b && (c.number == n)) 1 0) is in
     omega (arith, left, right, none, rest)
 numbered_by n c cs false is rest =
@@ -114,17 +114,17 @@ numbered_by n c cs false is rest =
     let left : parts_numbered n (tenants_in (c ∷ cs)) ≡ one + parts_numbered n (tenants_in cs)
     = ap (λ (b : Bool). parts_numbered n (map part_in (cond (not b) (c ∷ claims_of false cs) (claims_of false cs)))) is
     ∙ sum_by-cons (λ (p : PartView). cond (p.number == n) 1 0) (part_in c) (tenants_in cs) in
-    let right : count_of false n (c ∷ cs) ≡ cond (is_of false n c) 1 0 + count_of false n cs = sum_by-cons (λ x. cond (is_of false n x) 1 0) c cs in
-    let own : ℕ = cond (is_of false n c) 1 0 in
+    let right : claim_count false n (c ∷ cs) ≡ cond (speaks_of false n c) 1 0 + claim_count false n cs = sum_by-cons (λ x. cond (speaks_of false n x) 1 0) c cs in
+    let own : ℕ = cond (speaks_of false n c) 1 0 in
     let here : own ≡ one = ap (λ (b : Bool). cond (not b && (c.number == n)) 1 0) is in
     omega (arith, left, right, here, rest)
 
-numbered : (n : ℕ) (v : List Claim) → parts_numbered n (tenants_in v) ≡ count_of false n v
+numbered : (n : ℕ) (v : List Claim) → parts_numbered n (tenants_in v) ≡ claim_count false n v
 numbered n [] = refl
 numbered n (c ∷ cs) = numbered_by n c cs c.of_worker refl (numbered n cs)
 
 -- where the claims are right there is one list
-pub one_list : (size : Size) (v : List Claim) → IsTold size v → HaveOneList size (tenants_in v) (workers_in v)
+pub one_list : (size : Size) (v : List Claim) → AreOfOneList size v → HaveOneList size (tenants_in v) (workers_in v)
 one_list size v t = (
   t.0,
   record {

@@ -6,11 +6,11 @@ use Rattle.tenant_core.specs.Journals.{last_of}
 use Rattle.tenant_core.specs.State.{State, opened}
 use Rattle.tenant_core.specs.declared.journal.Record.{Record}
 use Rattle.one_list.specs.declared.step.Done.{Done}
-use Rattle.one_list.specs.History.{HistoryLaws, IsStep, LeadTo, after_record}
+use Rattle.one_list.specs.History.{HistoryLaws, IsNextStep, LeadTo, after_record}
 
 -- steps lead on by one step more
-pub lead_on : (from s : State) (steps : List Done) (e : Done) → LeadTo from steps s → IsStep s e → LeadTo from (steps ++ e ∷ []) (after_record s e.made)
-lead_on from s [] e is step = (subst (λ z. IsStep z e) (sym is) step, ap (λ z. after_record z e.made) is)
+pub lead_on : (from s : State) (steps : List Done) (e : Done) → LeadTo from steps s → IsNextStep s e → LeadTo from (steps ++ e ∷ []) (after_record s e.made)
+lead_on from s [] e is step = (subst (λ z. IsNextStep z e) (sym is) step, ap (λ z. after_record z e.made) is)
 lead_on from s (x ∷ xs) e led step = (led.0, lead_on (after_record from x.made) s xs e led.1 step)
 
 -- the last record of a list that ends with it

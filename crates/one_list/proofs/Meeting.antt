@@ -5,7 +5,7 @@ use Rattle.one_list.specs.declared.step.Beginning.{Beginning}
 use Rattle.one_list.specs.declared.step.Done.{Done}
 use Rattle.one_list.specs.declared.step.Size.{Size}
 use Rattle.one_list.specs.declared.rule.Claim.{Claim}
-use Rattle.one_list.specs.Rules.{IsTold, claim}
+use Rattle.one_list.specs.Rules.{AreOfOneList, claim}
 use Rattle.one_list.specs.Steps.{of_tenant, of_worker}
 
 -- of two tests, either may come first
@@ -20,8 +20,8 @@ filter_both p q (x ∷ xs) = by (p x) (q x) refl refl (filter_both p q xs)
     by false false e f rest = rest
 
 -- of right claims, of a worker and of a tenant: what the worker did for the tenant is what the worker did of the tenant's steps
-pub told_alike : (size : Size) (worker tenant : ℕ) (ls js : List Done) (met : List Beginning) (claims : List Claim) → claims ≡ claim true worker ls met ∷ claim false tenant js [] ∷ [] → IsTold size claims
+pub told_alike : (size : Size) (worker tenant : ℕ) (ls js : List Done) (met : List Beginning) (claims : List Claim) → claims ≡ claim true worker ls met ∷ claim false tenant js [] ∷ [] → AreOfOneList size claims
     → of_worker worker js ≡ of_tenant tenant ls
 told_alike size worker tenant ls js met claims is told =
-    let t = subst (IsTold size) is told in
+    let t = subst (AreOfOneList size) is told in
     ap (of_worker worker) (sym t.1.1.0.0) ∙ (filter_both (λ (e : Done). e.worker == worker) (λ (e : Done). e.tenant == tenant) t.0 ∙ ap (of_tenant tenant) t.1.0.0)

@@ -16,7 +16,7 @@ use Rattle.one_list.specs.declared.step.Done.{Done}
 use Rattle.one_list.specs.declared.step.Size.{Size}
 use Rattle.one_list.specs.declared.rule.Claim.{Claim}
 use Rattle.one_list.specs.Steps.{IsBeginning, Place, done, done_by, done_last, last_place, of_tenant}
-use Rattle.one_list.specs.Rules.{new_claims, first_view, claim, concerns, Fits, AllFit, is_kind, is_of, count_of, AreBelow, ChronicleInvariant, steps_by, claim_after, claims_after, Adds, Looks, Meets, met_claims, first_claim, other_claims, claims_of}
+use Rattle.one_list.specs.Rules.{new_claims, first_view, claim, concerns, IsRightClaim, AllFit, is_kind, speaks_of, claim_count, AreBelow, ChronicleInvariant, steps_by, claim_after, claims_after, Adds, LookShows, Meets, met_claims, first_claim, other_claims, claims_of}
 
 -- ---- sums over all views
 
@@ -60,41 +60,41 @@ all_after log es [] f = tt
 all_after log es (c ∷ cs) f = ((filter-append (concerns c) log es ∙ ap (λ l. l ++ filter (concerns c) es) f.0.0, met_more log es c.met f.0.1), all_after log es cs f.1)
 
 -- a claim that the step does not concern
-fits_else : (log : List Done) (e : Done) (c : Claim) → concerns c e ≡ false → Fits log c → Fits (log ++ e ∷ []) c
+fits_else : (log : List Done) (e : Done) (c : Claim) → concerns c e ≡ false → IsRightClaim log c → IsRightClaim (log ++ e ∷ []) c
 fits_else log e c n f = (filter-append (concerns c) log (e ∷ []) ∙ (ap (λ b. filter (concerns c) log ++ cond b (e ∷ []) []) n ∙ (append-nil _ ∙ f.0)), met_more log (e ∷ []) c.met f.1)
 
 -- whom a claim concerns that concerns the step
-owner : (c : Claim) (e : Done) → concerns c e ≡ true → (is_of true e.worker c ≡ true) ⊎ (is_of false e.tenant c ≡ true)
+owner : (c : Claim) (e : Done) → concerns c e ≡ true → (speaks_of true e.worker c ≡ true) ⊎ (speaks_of false e.tenant c ≡ true)
 owner c e h = by c.of_worker refl
   where
-    by : (b : Bool) → c.of_worker ≡ b → (is_of true e.worker c ≡ true) ⊎ (is_of false e.tenant c ≡ true)
+    by : (b : Bool) → c.of_worker ≡ b → (speaks_of true e.worker c ≡ true) ⊎ (speaks_of false e.tenant c ≡ true)
     by true is = inl (grind (arith, nat_tests, is, h))
     by false is = inr (grind (arith, nat_tests, is, h))
 
-counts-cons : (b : Bool) (n : ℕ) (c : Claim) (cs : List Claim) → count_of b n (c ∷ cs) ≡ cond (is_of b n c) 1 0 + count_of b n cs
+counts-cons : (b : Bool) (n : ℕ) (c : Claim) (cs : List Claim) → claim_count b n (c ∷ cs) ≡ cond (speaks_of b n c) 1 0 + claim_count b n cs
 counts-cons b n c cs = sum_by-cons _ c cs
 
-count_after : (b : Bool) (n : ℕ) (es : List Done) (v : List Claim) → count_of b n (map (claim_after es) v) ≡ count_of b n v
+count_after : (b : Bool) (n : ℕ) (es : List Done) (v : List Claim) → claim_count b n (map (claim_after es) v) ≡ claim_count b n v
 count_after b n es [] = refl
-count_after b n es (c ∷ cs) = counts-cons b n (claim_after es c) (map (claim_after es) cs) ∙ (ap (λ k. cond (is_of b n c) 1 0 + k) (count_after b n es cs) ∙ sym (counts-cons b n c cs))
+count_after b n es (c ∷ cs) = counts-cons b n (claim_after es c) (map (claim_after es) cs) ∙ (ap (λ k. cond (speaks_of b n c) 1 0 + k) (count_after b n es cs) ∙ sym (counts-cons b n c cs))
 
-counted : (b : Bool) (n : ℕ) (c : Claim) (cs : List Claim) → is_of b n c ≡ true → count_of b n (c ∷ cs) ≡ 0 → ⊥
-counted b n c cs is zeros = absurd (omega (arith, sym zeros ∙ (counts-cons b n c cs ∙ ap (λ t. cond t 1 0 + count_of b n cs) is)))
+counted : (b : Bool) (n : ℕ) (c : Claim) (cs : List Claim) → speaks_of b n c ≡ true → claim_count b n (c ∷ cs) ≡ 0 → ⊥
+counted b n c cs is zeros = absurd (omega (arith, sym zeros ∙ (counts-cons b n c cs ∙ ap (λ t. cond t 1 0 + claim_count b n cs) is)))
 
-rest_none : (b : Bool) (n : ℕ) (c : Claim) (cs : List Claim) → count_of b n (c ∷ cs) ≡ 0 → count_of b n cs ≡ 0
+rest_none : (b : Bool) (n : ℕ) (c : Claim) (cs : List Claim) → claim_count b n (c ∷ cs) ≡ 0 → claim_count b n cs ≡ 0
 rest_none b n c cs zeros = omega (arith, sym zeros ∙ counts-cons b n c cs)
 
 -- where nobody of the step is claimed, the claims stay right
-all_else : (log : List Done) (e : Done) (v : List Claim) → count_of true e.worker v ≡ 0 → count_of false e.tenant v ≡ 0 → AllFit log v → AllFit (log ++ e ∷ []) v
+all_else : (log : List Done) (e : Done) (v : List Claim) → claim_count true e.worker v ≡ 0 → claim_count false e.tenant v ≡ 0 → AllFit log v → AllFit (log ++ e ∷ []) v
 all_else log e [] p q f = tt
 all_else log e (c ∷ cs) p q f = (by (concerns c e) refl, all_else log e cs (rest_none true e.worker c cs p) (rest_none false e.tenant c cs q) f.1)
   where
-    by : (b : Bool) → concerns c e ≡ b → Fits (log ++ e ∷ []) c
+    by : (b : Bool) → concerns c e ≡ b → IsRightClaim (log ++ e ∷ []) c
     by true is = absurd (⊎_elim (λ h. counted true e.worker c cs h p) (λ h. counted false e.tenant c cs h q) (owner c e is))
     by false is = fits_else log e c is f.0
 
 -- the same for the step of a record, if there is one
-none_else : (log : List Done) (w : ℕ) (at : Place) (m : Option Record) (v : List Claim) → count_of true w v ≡ 0 → count_of false at.tenant v ≡ 0 → AllFit log v → AllFit (log ++ done_by w at m) v
+none_else : (log : List Done) (w : ℕ) (at : Place) (m : Option Record) (v : List Claim) → claim_count true w v ≡ 0 → claim_count false at.tenant v ≡ 0 → AllFit log v → AllFit (log ++ done_by w at m) v
 none_else log w at None v p q f = subst (λ l. AllFit l v) (sym (append-nil log)) f
 none_else log w at (Some r) v p q f = all_else log (done w at r) v p q f
 
@@ -115,7 +115,7 @@ fit_set log views id w others mine j u e =
 
 -- ---- a step
 
-adds : (size : Size) (slots id word w t period : ℕ) (v : List Claim) (j : Recorded) (f : ℕ → ℕ) → steps_by v period j.records ≡ done_last w t period j.records → 0 < count_of true w v → 0 < count_of false t v
+adds : (size : Size) (slots id word w t period : ℕ) (v : List Claim) (j : Recorded) (f : ℕ → ℕ) → steps_by v period j.records ≡ done_last w t period j.records → 0 < claim_count true w v → 0 < claim_count false t v
     → t < size.tenants → w < size.workers
     → Allows (λ (s : State Recorded (List Claim)). ChronicleInvariant size s.views) slots id (v, []) word f (Adds (step slots word 0 period (some j)) (v, []))
 adds size slots id word w t period v j f by p q tenant worker s k homes at small =
@@ -123,8 +123,8 @@ adds size slots id word w t period v j f by p q tenant worker s k homes at small
     let place = last_place t period j.records in
     let es = done_by w place m in
     let u = map (claim_after es) v in
-    let none_of : (b : Bool) (n : ℕ) → 0 < count_of b n v → (i : ℕ) (x : List Claim) → i ≢ id → get_elem? s.views i ≡ some x → count_of b n x ≡ 0
-    = λ b n some_here i x apart there. omega (arith, k.once b n, two_of_sum (count_of b n) s.views id i v x at there apart) in (
+    let none_of : (b : Bool) (n : ℕ) → 0 < claim_count b n v → (i : ℕ) (x : List Claim) → i ≢ id → get_elem? s.views i ≡ some x → claim_count b n x ≡ 0
+    = λ b n some_here i x apart there. omega (arith, k.once b n, two_of_sum (claim_count b n) s.views id i v x at there apart) in (
       u,
       keeps,
       tt,
@@ -133,7 +133,7 @@ adds size slots id word w t period v j f by p q tenant worker s k homes at small
         fits = fit_set (k.log ++ es) s.views id u
             (λ i x apart there. none_else k.log w place m x (none_of true w p i x apart there) (none_of false t q i x apart there) (k.fits i x there))
             (all_after k.log es v (k.fits id v at));
-        once = λ b n. omega (arith, k.once b n, sum_set (count_of b n) s.views id v u at, count_after b n es v);
+        once = λ b n. omega (arith, k.once b n, sum_set (claim_count b n) s.views id v u at, count_after b n es v);
         below = all_below size k.log w place m k.below tenant worker;
       },
       ap (λ z. (map (claim_after z) v, [])) (sym by),
@@ -148,8 +148,8 @@ pub adds_as : (size : Size) (slots id word : ℕ) (me : Me Recorded (List Claim)
     → Allows (λ (s : State Recorded (List Claim)). ChronicleInvariant size s.views) slots id me word f (Adds (step slots word 0 period (some j)) me)
 adds_as size slots id word me worker tenant period j f ls js met is t w =
     let v = claim true worker ls met ∷ claim false tenant js [] ∷ [] in
-    let here : 0 < count_of true worker v = rw (self_equal worker) (omega arith) in
-    let there : 0 < count_of false tenant v = rw (self_equal tenant) (omega arith) in
+    let here : 0 < claim_count true worker v = rw (self_equal worker) (omega arith) in
+    let there : 0 < claim_count false tenant v = rw (self_equal tenant) (omega arith) in
     subst (λ (m : Me Recorded (List Claim)). Allows (λ (s : State Recorded (List Claim)). ChronicleInvariant size s.views) slots id m word f (Adds (step slots word 0 period (some j)) m)) (sym is)
     (adds size slots id word worker tenant period v j f refl here there t w)
 
@@ -175,9 +175,9 @@ after_add w t period j ls js met theirs mine both after a b joined told =
 
 -- a look
 pub looks_as : (size : Size) (slots id word : ℕ) (me : Me Recorded (List Claim)) (known : Size) → size ≡ known
-    → Allows (λ (s : State Recorded (List Claim)). ChronicleInvariant size s.views) slots id me word (λ n. n) (Looks known (step slots word 0 0 none) me)
+    → Allows (λ (s : State Recorded (List Claim)). ChronicleInvariant size s.views) slots id me word (λ n. n) (LookShows known (step slots word 0 0 none) me)
 looks_as size slots id word me known is s k homes at small =
-    (me.0, keeps, tt, subst (λ l. ChronicleInvariant size l) (sym (set_again s.views id me.0 at)) k, ((k.log, k.fits id me.0 at, subst (λ (z : Size). AreBelow z k.log) is k.below, λ b n. omega (arith, k.once b n, at_most_sum (count_of b n) s.views id me.0 at)), refl))
+    (me.0, keeps, tt, subst (λ l. ChronicleInvariant size l) (sym (set_again s.views id me.0 at)) k, ((k.log, k.fits id me.0 at, subst (λ (z : Size). AreBelow z k.log) is k.below, λ b n. omega (arith, k.once b n, at_most_sum (claim_count b n) s.views id me.0 at)), refl))
 
 -- ---- a meeting
 
@@ -204,10 +204,10 @@ meets_as size slots id word me known w t ls js met is claims =
       record {
         log = k.log;
         fits = fit_set k.log s.views id u (λ i x apart there. k.fits i x there) (met_fit k.log w t ls js met (k.fits id v at));
-        once = λ b n. omega (arith, k.once b n, sum_set (count_of b n) s.views id v u at, counts-cons b n (claim true w ls met) (claim false t js [] ∷ []), counts-cons b n (claim true w ls (met ++ record { tenant = t; steps = js } ∷ [])) (claim false t js [] ∷ []));
+        once = λ b n. omega (arith, k.once b n, sum_set (claim_count b n) s.views id v u at, counts-cons b n (claim true w ls met) (claim false t js [] ∷ []), counts-cons b n (claim true w ls (met ++ record { tenant = t; steps = js } ∷ [])) (claim false t js [] ∷ []));
         below = k.below;
       },
-      ((k.log, k.fits id v at, subst (λ (z : Size). AreBelow z k.log) is k.below, λ b n. omega (arith, k.once b n, at_most_sum (count_of b n) s.views id v at)), refl),
+      ((k.log, k.fits id v at, subst (λ (z : Size). AreBelow z k.log) is k.below, λ b n. omega (arith, k.once b n, at_most_sum (claim_count b n) s.views id v at)), refl),
     ))
 
 -- what a meeting made of two passes that were put together
@@ -227,13 +227,13 @@ joins size id other v w s k at apart there =
     record {
       log = k.log;
       fits = fit_set k.log (set s.views id both) other [] (λ j u _ e. fit_set k.log s.views id both (λ i y _ e'. k.fits i y e') (fit-append k.log v w (k.fits id v at) (k.fits other w there')) j u e) tt;
-      once = λ b n. omega (arith, k.once b n, sum_set (count_of b n) s.views id v both at, sum_set (count_of b n) (set s.views id both) other w [] there, sum_by-append (λ c. cond (is_of b n c) 1 0) v w);
+      once = λ b n. omega (arith, k.once b n, sum_set (claim_count b n) s.views id v both at, sum_set (claim_count b n) (set s.views id both) other w [] there, sum_by-append (λ c. cond (speaks_of b n c) 1 0) v w);
       below = k.below;
     }
 
 -- a pass may be cut into parts whose claims are right and count as many
 splits : (size : Size) (id : ℕ) (v left right : List Claim) → ((log : List Done) → AllFit log v → AllFit log left × AllFit log right)
-    → ((b : Bool) (n : ℕ) → count_of b n left + count_of b n right ≡ count_of b n v)
+    → ((b : Bool) (n : ℕ) → claim_count b n left + claim_count b n right ≡ claim_count b n v)
     → Splits (λ (s : State Recorded (List Claim)). ChronicleInvariant size s.views) id v left right
 splits size id v left right fit counts s k at =
     let mine = fit k.log (k.fits id v at) in
@@ -243,7 +243,7 @@ splits size id v left right fit counts s k at =
           (λ was. fit_set k.log s.views id left (λ i y _ e'. k.fits i y e') mine.0 j u was)
           (λ (same : right ≡ u). subst (AllFit k.log) same mine.1)
           (at_snoc (set s.views id left) right u j e);
-      once = λ b n. omega (arith, k.once b n, sum_set (count_of b n) s.views id v left at, counts b n, sum_by-append (count_of b n) (set s.views id left) (right ∷ []), sum_by-cons (count_of b n) right []);
+      once = λ b n. omega (arith, k.once b n, sum_set (claim_count b n) s.views id v left at, counts b n, sum_by-append (claim_count b n) (set s.views id left) (right ∷ []), sum_by-cons (claim_count b n) right []);
       below = k.below;
     }
 
@@ -251,14 +251,14 @@ fit_first : (log : List Done) (v : List Claim) → AllFit log v → AllFit log (
 fit_first log [] f = (tt, tt)
 fit_first log (c ∷ cs) f = (f.1, (f.0, tt))
 
-count_first : (b : Bool) (n : ℕ) (v : List Claim) → count_of b n (other_claims v) + count_of b n (first_claim v) ≡ count_of b n v
+count_first : (b : Bool) (n : ℕ) (v : List Claim) → claim_count b n (other_claims v) + claim_count b n (first_claim v) ≡ claim_count b n v
 count_first b n [] = refl
 count_first b n (c ∷ cs) = omega (arith, counts-cons b n c cs, counts-cons b n c [])
 
 pub splits_first : (size : Size) (id : ℕ) (v : List Claim) → Splits (λ (s : State Recorded (List Claim)). ChronicleInvariant size s.views) id v (other_claims v) (first_claim v)
 splits_first size id v = splits size id v (other_claims v) (first_claim v) (λ log. fit_first log v) (λ b n. count_first b n v)
 
-fit_by : (log : List Done) (c : Claim) (cs : List Claim) (b : Bool) → Fits log c → AllFit log cs → AllFit log (cond b (c ∷ cs) cs)
+fit_by : (log : List Done) (c : Claim) (cs : List Claim) (b : Bool) → IsRightClaim log c → AllFit log cs → AllFit log (cond b (c ∷ cs) cs)
 fit_by log c cs true f fs = (f, fs)
 fit_by log c cs false f fs = fs
 
@@ -266,12 +266,12 @@ fit_kind : (log : List Done) (k : Bool) (v : List Claim) → AllFit log v → Al
 fit_kind log k [] f = tt
 fit_kind log k (c ∷ cs) f = fit_by log c (claims_of k cs) (is_kind k c) f.0 (fit_kind log k cs f.1)
 
-kinds_by : (b : Bool) (n : ℕ) (c : Claim) (cs : List Claim) (k : Bool) → count_of b n (claims_of false cs) + count_of b n (claims_of true cs) ≡ count_of b n cs
-    → count_of b n (cond (not k) (c ∷ claims_of false cs) (claims_of false cs)) + count_of b n (cond k (c ∷ claims_of true cs) (claims_of true cs)) ≡ count_of b n (c ∷ cs)
+kinds_by : (b : Bool) (n : ℕ) (c : Claim) (cs : List Claim) (k : Bool) → claim_count b n (claims_of false cs) + claim_count b n (claims_of true cs) ≡ claim_count b n cs
+    → claim_count b n (cond (not k) (c ∷ claims_of false cs) (claims_of false cs)) + claim_count b n (cond k (c ∷ claims_of true cs) (claims_of true cs)) ≡ claim_count b n (c ∷ cs)
 kinds_by b n c cs true rest = omega (arith, counts-cons b n c cs, counts-cons b n c (claims_of true cs), rest)
 kinds_by b n c cs false rest = omega (arith, counts-cons b n c cs, counts-cons b n c (claims_of false cs), rest)
 
-count_kinds : (b : Bool) (n : ℕ) (v : List Claim) → count_of b n (claims_of false v) + count_of b n (claims_of true v) ≡ count_of b n v
+count_kinds : (b : Bool) (n : ℕ) (v : List Claim) → claim_count b n (claims_of false v) + claim_count b n (claims_of true v) ≡ claim_count b n v
 count_kinds b n [] = refl
 count_kinds b n (c ∷ cs) = kinds_by b n c cs c.of_worker (count_kinds b n cs)
 
@@ -285,46 +285,46 @@ new_fit b k zero = tt
 new_fit b k (suc n) = ((refl, All-nil (IsBeginning [])), new_fit b (suc k) n)
 
 -- no claims of the other kind, none below the first number, and one each
-new_other : (b : Bool) (m k n : ℕ) → count_of (not b) m (new_claims b k n) ≡ 0
+new_other : (b : Bool) (m k n : ℕ) → claim_count (not b) m (new_claims b k n) ≡ 0
 new_other b m k zero = refl
 new_other true m k (suc n) = omega (arith, counts-cons false m (claim true k [] []) (new_claims true (suc k) n), new_other true m (suc k) n)
 new_other false m k (suc n) = omega (arith, counts-cons true m (claim false k [] []) (new_claims false (suc k) n), new_other false m (suc k) n)
 
-is_of_same : (b : Bool) (m k : ℕ) → is_of b m (claim b k [] []) ≡ (k == m)
+is_of_same : (b : Bool) (m k : ℕ) → speaks_of b m (claim b k [] []) ≡ (k == m)
 is_of_same true m k = refl
 is_of_same false m k = refl
 
-count_next : (b : Bool) (m k n : ℕ) → count_of b m (new_claims b k (suc n)) ≡ cond (k == m) 1 0 + count_of b m (new_claims b (suc k) n)
-count_next b m k n = counts-cons b m (claim b k [] []) (new_claims b (suc k) n) ∙ ap (λ t. cond t 1 0 + count_of b m (new_claims b (suc k) n)) (is_of_same b m k)
+count_next : (b : Bool) (m k n : ℕ) → claim_count b m (new_claims b k (suc n)) ≡ cond (k == m) 1 0 + claim_count b m (new_claims b (suc k) n)
+count_next b m k n = counts-cons b m (claim b k [] []) (new_claims b (suc k) n) ∙ ap (λ t. cond t 1 0 + claim_count b m (new_claims b (suc k) n)) (is_of_same b m k)
 
-new_below : (b : Bool) (m k n : ℕ) → m < k → count_of b m (new_claims b k n) ≡ 0
+new_below : (b : Bool) (m k n : ℕ) → m < k → claim_count b m (new_claims b k n) ≡ 0
 new_below b m k zero lt = refl
 new_below b m k (suc n) lt =
     let apart : (k == m) ≡ false = grind (arith, nat_tests, lt) in
-    omega (arith, count_next b m k n ∙ ap (λ t. cond t 1 0 + count_of b m (new_claims b (suc k) n)) apart, new_below b m (suc k) n (omega arith))
+    omega (arith, count_next b m k n ∙ ap (λ t. cond t 1 0 + claim_count b m (new_claims b (suc k) n)) apart, new_below b m (suc k) n (omega arith))
 
-once_by : (b : Bool) (m k n : ℕ) (t : Bool) → (k == m) ≡ t → count_of b m (new_claims b (suc k) n) ≤ 1 → count_of b m (new_claims b k (suc n)) ≤ 1
+once_by : (b : Bool) (m k n : ℕ) (t : Bool) → (k == m) ≡ t → claim_count b m (new_claims b (suc k) n) ≤ 1 → claim_count b m (new_claims b k (suc n)) ≤ 1
 once_by b m k n true is rest =
     let same : k ≡ m = grind (arith, nat_tests, is) in
-    omega (arith, count_next b m k n ∙ ap (λ t. cond t 1 0 + count_of b m (new_claims b (suc k) n)) is, new_below b m (suc k) n (omega arith))
-once_by b m k n false is rest = omega (arith, count_next b m k n ∙ ap (λ t. cond t 1 0 + count_of b m (new_claims b (suc k) n)) is, rest)
+    omega (arith, count_next b m k n ∙ ap (λ t. cond t 1 0 + claim_count b m (new_claims b (suc k) n)) is, new_below b m (suc k) n (omega arith))
+once_by b m k n false is rest = omega (arith, count_next b m k n ∙ ap (λ t. cond t 1 0 + claim_count b m (new_claims b (suc k) n)) is, rest)
 
-new_once : (b : Bool) (m k n : ℕ) → count_of b m (new_claims b k n) ≤ 1
+new_once : (b : Bool) (m k n : ℕ) → claim_count b m (new_claims b k n) ≤ 1
 new_once b m k zero = omega arith
 new_once b m k (suc n) = once_by b m k n (k == m) refl (new_once b m (suc k) n)
 
-first_once : (size : Size) (b : Bool) (m : ℕ) → count_of b m (first_view size) ≤ 1
+first_once : (size : Size) (b : Bool) (m : ℕ) → claim_count b m (first_view size) ≤ 1
 first_once size true m =
-    omega (arith, sum_by-append (λ c. cond (is_of true m c) 1 0) (new_claims false 0 size.tenants) (new_claims true 0 size.workers), new_other false m 0 size.tenants, new_once true m 0 size.workers)
+    omega (arith, sum_by-append (λ c. cond (speaks_of true m c) 1 0) (new_claims false 0 size.tenants) (new_claims true 0 size.workers), new_other false m 0 size.tenants, new_once true m 0 size.workers)
 first_once size false m =
-    omega (arith, sum_by-append (λ c. cond (is_of false m c) 1 0) (new_claims false 0 size.tenants) (new_claims true 0 size.workers), new_other true m 0 size.workers, new_once false m 0 size.tenants)
+    omega (arith, sum_by-append (λ c. cond (speaks_of false m c) 1 0) (new_claims false 0 size.tenants) (new_claims true 0 size.workers), new_other true m 0 size.workers, new_once false m 0 size.tenants)
 
 pub begins : (size : Size) → ChronicleInvariant size (first_view size ∷ [])
 begins size =
     record {
       log = [];
       fits = fits;
-      once = λ b m. omega (arith, sum_by-cons (count_of b m) (first_view size) [], first_once size b m);
+      once = λ b m. omega (arith, sum_by-cons (claim_count b m) (first_view size) [], first_once size b m);
       below = All-nil (λ e. (e.tenant < size.tenants) × (e.worker < size.workers));
     }
   where
@@ -339,7 +339,7 @@ enters size slots word s k homes small = (
   record {
     log = k.log;
     fits = λ j u e. ⊎_elim (λ was. k.fits j u was) (λ (same : [] ≡ u). subst (AllFit k.log) same tt) (at_snoc s.views [] u j e);
-    once = λ b n. omega (arith, k.once b n, sum_by-append (count_of b n) s.views ([] ∷ []), sum_by-cons (count_of b n) [] []);
+    once = λ b n. omega (arith, k.once b n, sum_by-append (claim_count b n) s.views ([] ∷ []), sum_by-cons (claim_count b n) [] []);
     below = k.below;
   },
   refl,

@@ -37,7 +37,7 @@ use Rattle.tenant_core.specs.declared.verdict.RejectCode.TheVariants.{BadRequest
 use Rattle.tenant_core.specs.declared.verdict.RejectCode.TheVariants.{InsufficientLiquidity, RateLimited, InsufficientSource, InsufficientTimeout}
 use Rattle.tenant_core.specs.declared.verdict.Verdict.{Verdict}
 use Rattle.tenant_core.specs.declared.verdict.Verdict.TheVariants.{Refuse, Fulfil, Forward}
-use Rattle.one_list.specs.History.{IsStep, LeadTo, after_entry, after_record}
+use Rattle.one_list.specs.History.{IsNextStep, LeadTo, after_entry, after_record}
 use Rattle.one_list.specs.Holds.{BeginsHold, begins_hold, holder, is_numbered}
 use Rattle.one_list.specs.declared.step.Done.{Done}
 

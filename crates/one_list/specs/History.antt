@@ -20,7 +20,7 @@ abbrev pub after_record : State → Record → State
 after_record s r = after_entry r.entry s r
 
 -- the step's record is what its entry leads to in the state, and its place is that of the next record
-pub record IsStep (s : State) (e : Done) : Type 0 where
+pub record IsNextStep (s : State) (e : Done) : Type 0 where
   pub made : IsMade s e.made
   pub period : e.period ≡ s.opening.period
   pub number : e.number ≡ length s.records
@@ -28,7 +28,7 @@ pub record IsStep (s : State) (e : Done) : Type 0 where
 -- steps that each made its record, one after another, lead from one state to the other
 abbrev pub LeadTo : State → List Done → State → Type 0
 LeadTo s [] t = s ≡ t
-LeadTo s (e ∷ es) t = IsStep s e × LeadTo (after_record s e.made) es t
+LeadTo s (e ∷ es) t = IsNextStep s e × LeadTo (after_record s e.made) es t
 
 -- the steps are all that happened since a tenant's first opening
 abbrev pub IsHistory : Opening → List Done → State → Type 0
@@ -38,5 +38,5 @@ IsHistory o steps s = LeadTo (opened o) steps s
 pub record HistoryLaws : Type 0 where
   pub begins : (o : Opening) → IsHistory o [] (opened o)
   pub goes_on : (o : Opening) (steps : List Done) (s : State) (e : Done)
-      → IsHistory o steps s → IsStep s e → IsHistory o (steps ++ e ∷ []) (after_record s e.made)
+      → IsHistory o steps s → IsNextStep s e → IsHistory o (steps ++ e ∷ []) (after_record s e.made)
   pub last : (records : List Record) (r : Record) → last_of (records ++ r ∷ []) ≡ Some r

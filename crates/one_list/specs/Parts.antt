@@ -29,20 +29,20 @@ pub record GatheringView : Type 0 where
 -- ---- what the types keep
 
 -- a table has words for that many tenants
-pub record IsRoomy (table : TableId) (size : Size) : Type 0 where
+pub record HasTenantWords (table : TableId) (size : Size) : Type 0 where
   pub words : table.words ≡ table_words
   pub few : size.tenants ≤ max_tenants
 
 -- the table of an opened list, and its first pass
 pub record IsOpened (table : TableId) (size : Size) (at : TableId) (me : Me Recorded (List Claim)) : Type 0 where
-  pub roomy : IsRoomy table size
+  pub roomy : HasTenantWords table size
   pub countable : size.workers < 2 ^ 64
   pub same_table : at ≡ table
   pub claims : me ≡ (first_view size, [])
 
 -- the table of a run's list
 pub record IsChronicle (table : TableId) (size : Size) (at : TableId) (key : Size) : Type 0 where
-  pub roomy : IsRoomy table size
+  pub roomy : HasTenantWords table size
   pub same_table : at ≡ table
   pub same_size : key ≡ size
 
@@ -54,9 +54,9 @@ pub record IsUnclaimed (table : TableId) (of_worker : Bool) (from most : ℕ) (a
   pub claims : me ≡ (new_claims of_worker from (most - from), [])
 
 -- the steps that a part's pass claims
-abbrev pub steps_in : List (List Claim) → List Done
-steps_in ((c ∷ cs) ∷ vs) = c.steps
-steps_in _ = []
+abbrev pub claimed_steps : List (List Claim) → List Done
+claimed_steps ((c ∷ cs) ∷ vs) = c.steps
+claimed_steps _ = []
 
 -- what a part's pass has met
 abbrev pub met_in : List (List Claim) → List Beginning
@@ -65,17 +65,17 @@ met_in _ = []
 
 -- a tenant's part, as contracts see it
 abbrev pub part_of : ℕ → List (List Claim) → PartView
-part_of number views = record { number = number; steps = steps_in views }
+part_of number views = record { number = number; steps = claimed_steps views }
 
 -- a worker's part, as contracts see it
 abbrev pub worker_part_of : ℕ → List (List Claim) → WorkerView
-worker_part_of number views = record { number = number; steps = steps_in views; met = met_in views }
+worker_part_of number views = record { number = number; steps = claimed_steps views; met = met_in views }
 
 -- the pass of the part of that worker, or of that tenant, which has met that
 pub record IsPart (table : TableId) (of_worker : Bool) (number most : ℕ) (met : List Beginning) (at : TableId) (views : List (List Claim)) : Type 0 where
   pub below : number < most
   pub same_table : at ≡ table
-  pub claims : views ≡ (claim of_worker number (steps_in views) met ∷ []) ∷ []
+  pub claims : views ≡ (claim of_worker number (claimed_steps views) met ∷ []) ∷ []
 
 -- the tenants' parts of which the claims speak
 abbrev pub tenants_in : List Claim → List PartView

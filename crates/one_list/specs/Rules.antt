@@ -36,25 +36,25 @@ abbrev pub concerns : Claim → Done → Bool
 concerns c e = cond c.of_worker (e.worker == c.number) (e.tenant == c.number)
 
 -- the claim is right: these are all such steps of the list, in its order, and what was met are tenants' first steps in it
-abbrev pub Fits : List Done → Claim → Type 0
-Fits log c = (filter (concerns c) log ≡ c.steps) × All (IsBeginning log) c.met
+abbrev pub IsRightClaim : List Done → Claim → Type 0
+IsRightClaim log c = (filter (concerns c) log ≡ c.steps) × All (IsBeginning log) c.met
 
 -- all claims are right
 abbrev pub AllFit : List Done → List Claim → Type 0
 AllFit log [] = Unit {0}
-AllFit log (c ∷ cs) = Fits log c × AllFit log cs
+AllFit log (c ∷ cs) = IsRightClaim log c × AllFit log cs
 
 -- the claim is of a worker, or of a tenant, as asked
 abbrev pub is_kind : Bool → Claim → Bool
 is_kind of_worker c = cond of_worker c.of_worker (not c.of_worker)
 
 -- the claim speaks of that worker, or of that tenant
-abbrev pub is_of : Bool → ℕ → Claim → Bool
-is_of of_worker number c = is_kind of_worker c && (c.number == number)
+abbrev pub speaks_of : Bool → ℕ → Claim → Bool
+speaks_of of_worker number c = is_kind of_worker c && (c.number == number)
 
 -- how many of the claims speak of that worker, or of that tenant
-abbrev pub count_of : Bool → ℕ → List Claim → ℕ
-count_of of_worker number claims = count_by (is_of of_worker number) claims
+abbrev pub claim_count : Bool → ℕ → List Claim → ℕ
+claim_count of_worker number claims = count_by (speaks_of of_worker number) claims
 
 -- each step is of one of the tenants by one of the workers
 abbrev pub AreBelow : Size → List Done → Type 0
@@ -65,7 +65,7 @@ AreBelow size log = All (λ e. (e.tenant < size.tenants) × (e.worker < size.wor
 pub record ChronicleInvariant (size : Size) (views : List (List Claim)) : Type 0 where
   pub log : List Done
   pub fits : (by : ℕ) (v : List Claim) → get_elem? views by ≡ some v → AllFit log v
-  pub once : (of_worker : Bool) (number : ℕ) → sum_by (count_of of_worker number) views ≤ 1
+  pub once : (of_worker : Bool) (number : ℕ) → sum_by (claim_count of_worker number) views ≤ 1
   pub below : AreBelow size log
 
 -- ---- the start
@@ -101,15 +101,15 @@ Adds st me n me' = me' ≡ (claims_after st.second st.said me.0, me.1)
 
 -- none speaks of a worker or a tenant of which another does
 abbrev pub AreOnce : List Claim → Type 0
-AreOnce v = (of_worker : Bool) (number : ℕ) → count_of of_worker number v ≤ 1
+AreOnce v = (of_worker : Bool) (number : ℕ) → claim_count of_worker number v ≤ 1
 
 -- there is one list by which the claims are right
-abbrev pub IsTold : Size → List Claim → Type 0
-IsTold size v = (log : List Done) × AllFit log v × AreBelow size log × AreOnce v
+abbrev pub AreOfOneList : Size → List Claim → Type 0
+AreOfOneList size v = (log : List Done) × AllFit log v × AreBelow size log × AreOnce v
 
 -- what a look shows: the claims are right, and stay as they are
-abbrev pub Looks : Size → Step Recorded → Me Recorded (List Claim) → ℕ → Me Recorded (List Claim) → Type 0
-Looks size st me n me' = IsTold size me.0 × (me' ≡ me)
+abbrev pub LookShows : Size → Step Recorded → Me Recorded (List Claim) → ℕ → Me Recorded (List Claim) → Type 0
+LookShows size st me n me' = AreOfOneList size me.0 × (me' ≡ me)
 
 -- the claims after the worker that is claimed has met the steps of the tenant that is
 abbrev pub met_claims : List Claim → List Claim
@@ -119,7 +119,7 @@ met_claims v = v
 
 -- what a meeting shows: the claims are right, and the worker's claim covers the tenant's steps from then on
 abbrev pub Meets : Size → Step Recorded → Me Recorded (List Claim) → ℕ → Me Recorded (List Claim) → Type 0
-Meets size st me n me' = IsTold size me.0 × (me' ≡ (met_claims me.0, me.1))
+Meets size st me n me' = AreOfOneList size me.0 × (me' ≡ (met_claims me.0, me.1))
 
 -- ---- cut in two
 

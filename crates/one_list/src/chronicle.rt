@@ -3,7 +3,7 @@
 ghost use Rattle.std.specs.Prelude.{◌≡◌, ◌+◌, ◌^◌, ◌<◌, ◌≤◌, ℕ, true, false, List, [], ◌∷◌, ◌++◌};
 ghost use Rattle.one_list.specs.declared.step.Beginning.{Beginning};
 ghost use Rattle.one_list.specs.declared.step.Done.{Done};
-ghost use Rattle.one_list.specs.Rules.{IsTold, claim, claims_of, first_claim, first_view, met_claims, new_claims, other_claims, table_words};
+ghost use Rattle.one_list.specs.Rules.{AreOfOneList, claim, claims_of, first_claim, first_view, met_claims, new_claims, other_claims, table_words};
 ghost use Rattle.one_list.specs.Steps.{done_last, grown, has_met, of_tenant, of_worker, worked};
 ghost use Rattle.tenant_core.specs.Limits.{max_tenants};
 
@@ -239,7 +239,7 @@ impl<J: Run> Chronicle<J> {
     pub(crate) fn look(&self, pass: &mut Pass, word: usize)
         requires table { pass.old.table_id ≡ J.table }
         requires word { word < table_words }
-        ensures told { IsTold J.size pass.old.me.0 }
+        ensures told { AreOfOneList J.size pass.old.me.0 }
         ensures table { pass.new.table_id ≡ J.table }
         ensures same { pass.new.me ≡ pass.old.me }
     {

@@ -54,9 +54,9 @@ pub struct Look<J: Run> {
 }
 
 impl<J: Run> Play<Journal, View> for Look<J> {
-    ghost use Rattle.one_list.specs.Rules.{Looks};
+    ghost use Rattle.one_list.specs.Rules.{LookShows};
 
-    ghost then = { Looks J.size };
+    ghost then = { LookShows J.size };
 }
 
 /// The claims are right, and the worker that is claimed has met the steps of the tenant that is.

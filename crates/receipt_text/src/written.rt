@@ -3,7 +3,7 @@
 ghost use Rattle.std.specs.Prelude.{◌≡◌, ◌++◌, IfOk, OnOk, map};
 ghost use Rattle.std.specs.Fmt.{decimal};
 ghost use Rattle.std.specs.List.{flat_map};
-ghost use Rattle.receipt_text.specs.ReceiptText.{receipt_line, receipts_text, version_line, worker_line, worker_text};
+ghost use Rattle.receipt_text.specs.ReceiptText.{receipt_line, receipts_text, receipts_version_line, worker_line, worker_text};
 ghost use Rattle.tenant_core.specs.Views.{decide_of, entry_of};
 
 use itoa::Buffer;
@@ -95,9 +95,9 @@ fn put_workers(out: &mut Vec<u8>, lists: &[&[Receipt]]) -> Result<(), AllocError
     Ok(())
 }
 
-#[tactic(auto, unfolding(crate::specs::ReceiptText::version_line))]
+#[tactic(auto, unfolding(crate::specs::ReceiptText::receipts_version_line))]
 fn put_version(out: &mut Vec<u8>) -> Result<(), AllocError>
-    ensures { OnOk result (out.new.items ≡ out.old.items ++ version_line) }
+    ensures { OnOk result (out.new.items ≡ out.old.items ++ receipts_version_line) }
 {
     out.extend_from_slice(b"receipts 1\n")
 }

@@ -28,8 +28,8 @@ use Rattle.tenant_core.specs.declared.journal.Change.{Change as Changed}
 use Rattle.tenant_core.specs.declared.journal.Record.{Record}
 use Rattle.floor_core.specs.Causes.{BringsBytes, Cause, left_from, made_from}
 use Rattle.floor_core.specs.World.{answer_key, arrival, heard, key_in}
-use Rattle.floor_core.specs.declared.step.Given.{Given}
-use Rattle.floor_core.specs.declared.step.Given.TheVariants as given
+use Rattle.floor_core.specs.declared.step.PeerAnswer.{PeerAnswer}
+use Rattle.floor_core.specs.declared.step.PeerAnswer.TheVariants as given
 use Rattle.receipts.proofs.Octets.{amount, both, none, one_more, spelling, timestamp}
 
 -- a Reject of code F00, and nothing else
@@ -163,7 +163,7 @@ key_back laws key said =
 -- ---- what came back
 
 -- what came back, to be settled by that
-abbrev given_of : AnswerKey → Given
+abbrev given_of : AnswerKey → PeerAnswer
 given_of (Fulfilled fulfillment) = given.Bytes (fulfill_frame fulfillment [])
 given_of Rejected = given.Bytes plain_reject
 given_of Fault = given.Fault

@@ -2,8 +2,8 @@
 use Rattle.std.proofs.Common.{◌≡◌, ℕ, List, Some, slice_get, refl, sym, subst, ◌∙◌, inl, inr}
 use Rattle.joint_order.specs.Orders.{at}
 use Rattle.tenant_core.specs.declared.period.PeriodParts.{PeriodParts}
-use Rattle.receipts.specs.Audits.{AreJoined, AreMatched, HasGap, IsComplete, IsStuckAt, ShowsAnother, record_of}
-use Rattle.receipts.specs.Layout.{IsFault}
+use Rattle.receipts.specs.Audits.{AreJoined, AreMatched, HasGap, IsComplete, IsStuckAt, ShowsAnother, shown_record}
+use Rattle.receipts.specs.Layout.{IsAuditFault}
 use Rattle.receipts.specs.declared.fault.AuditFault.{AuditFault}
 use Rattle.receipts.specs.declared.fault.AuditFault.TheVariants.{Differs, Gap, Memory, Missing, NoPeriod, Order, Twice}
 use Rattle.receipts.specs.declared.receipt.Receipt.{Receipt}
@@ -25,7 +25,7 @@ shows_its_own periods lists matched (r, x, among, names, other) =
     let place : also.0 ≡ at.0 = matched.joined.once also.0 at.0 names.0 own.0 also.1 at.1 (names.2.0 ∙ sym own.2.0, names.2.1 ∙ sym own.2.1) in
     let same : names.0 ≡ own.0 = one_there periods at.0 names.0 own.0 (subst (λ k. slice_get periods k ≡ Some names.0) place also.1) at.1 in
     let read : slice_get own.0.records r.number ≡ Some x = subst (λ (p : PeriodParts). slice_get p.records r.number ≡ Some x) same names.3 in
-    other (one_there own.0.records r.number (record_of r) x own.3 read)
+    other (one_there own.0.records r.number (shown_record r) x own.3 read)
 
 abbrev pub StuckLaw : Type 0
 StuckLaw = (periods : List PeriodParts) (lists : List (List Receipt)) (front : ℕ → ℕ) (order : List ℕ)
@@ -33,8 +33,8 @@ StuckLaw = (periods : List PeriodParts) (lists : List (List Receipt)) (front : �
 
 -- where receipts are complete, want of memory is the only fault
 pub faultless : StuckLaw → (periods : List PeriodParts) (lists : List (List Receipt)) (order : List ℕ) (fault : AuditFault)
-    → IsComplete periods lists order → IsFault periods lists fault → fault ≡ Memory
-faultless law periods lists order NoPeriod complete (r, among, none) = absurd (none (record_of r) (complete.matched.right r among))
+    → IsComplete periods lists order → IsAuditFault periods lists fault → fault ≡ Memory
+faultless law periods lists order NoPeriod complete (r, among, none) = absurd (none (shown_record r) (complete.matched.right r among))
 faultless law periods lists order Gap complete gap = absurd (no_gap periods complete.matched.joined gap)
 faultless law periods lists order Twice complete (i, k, j, l, r, s, at_r, at_s, apart, one) = absurd (apart (complete.matched.once i k j l r s at_r at_s one))
 faultless law periods lists order Missing complete (p, n, has, below, none) =

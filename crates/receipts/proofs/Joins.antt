@@ -6,7 +6,7 @@ use native.Mathlib.Decide.{ℕ_discrete}
 use Rattle.tenant_core.specs.Closing.{IsPeriod}
 use Rattle.tenant_core.specs.declared.period.PeriodParts.{PeriodParts}
 use Rattle.receipts.specs.Audits.{AreJoined, HasGap, IsNumbered}
-use Rattle.receipts.specs.Layout.{AreKept, IsIndex, IsIndexUpTo, IsLedAt, place_in}
+use Rattle.receipts.specs.Layout.{AreOfRolls, HasMapPerTenant, IsIndexUpTo, IsLedAt, place_in}
 use Rattle.receipts.specs.declared.index.Index.{Index}
 use Rattle.receipts.proofs.Places.{read_there}
 
@@ -33,7 +33,7 @@ same_place a b e = ap (λ (o : Option ℕ). unwrap_or o a) e
 -- the index with the period at that place
 pub noted : (old new : Index) (periods : List PeriodParts) (k : ℕ) (p : PeriodParts) → IsIndexUpTo old periods k
     → slice_get periods k ≡ Some p → place_in old p.opening.tenant p.opening.period ≡ None
-    → IsIndex new → place_in new p.opening.tenant p.opening.period ≡ Some k
+    → HasMapPerTenant new → place_in new p.opening.tenant p.opening.period ≡ Some k
     → ((t n : ℕ) → ¬ ((t ≡ p.opening.tenant) × (n ≡ p.opening.period)) → place_in new t n ≡ place_in old t n)
     → IsIndexUpTo new periods (k + 1)
 noted old new periods k p was here free complete there others = record {
@@ -83,7 +83,7 @@ twice_there index periods k j q was here at =
     inl (j, k, r.1.0, q, (λ e. absurd (omega arith)), r.1.1, here, r.1.2)
 
 -- a period that another leads to has it at the number before
-pub led_from : (periods : List PeriodParts) (index : Index) (p q : PeriodParts) (m : ℕ) → AreKept periods
+pub led_from : (periods : List PeriodParts) (index : Index) (p q : PeriodParts) (m : ℕ) → AreOfRolls periods
     → IsIndexUpTo index periods (length periods) → Contains periods p → p.ending ≡ q.opening → q.opening.period ≡ m + 1
     → (k : ℕ) × (slice_get periods k ≡ Some p) × (place_in index q.opening.tenant m ≡ Some k)
 led_from periods index p q m kept all there ends number =
@@ -98,7 +98,7 @@ led_from periods index p q m kept all there ends number =
     (at.0, at.1, subst (λ n. P q.opening.tenant n) number_is (subst (λ t. P t p.opening.period) tenant place))
 
 -- no period is there before one that is not the first
-pub none_before : (index : Index) (periods : List PeriodParts) (k m : ℕ) (q : PeriodParts) → AreKept periods
+pub none_before : (index : Index) (periods : List PeriodParts) (k m : ℕ) (q : PeriodParts) → AreOfRolls periods
     → IsIndexUpTo index periods (length periods) → slice_get periods k ≡ Some q → q.opening.period ≡ m + 1
     → place_in index q.opening.tenant m ≡ None → HasGap periods
 none_before index periods k m q kept all here number none =
@@ -113,7 +113,7 @@ none_before index periods k m q kept all here number none =
     )
 
 -- the one before it ends in another state
-pub another_before : (index : Index) (periods : List PeriodParts) (k m j : ℕ) (q p : PeriodParts) → AreKept periods
+pub another_before : (index : Index) (periods : List PeriodParts) (k m j : ℕ) (q p : PeriodParts) → AreOfRolls periods
     → IsIndexUpTo index periods (length periods) → slice_get periods k ≡ Some q → q.opening.period ≡ m + 1
     → place_in index q.opening.tenant m ≡ Some j → slice_get periods j ≡ Some p → p.ending ≢ q.opening → HasGap periods
 another_before index periods k m j q p kept all here number place before other =

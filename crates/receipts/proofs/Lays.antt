@@ -10,7 +10,7 @@ use Rattle.tenant_core.specs.Limits.{max_period, max_tenants}
 use Rattle.tenant_core.specs.declared.period.PeriodParts.{PeriodParts}
 use Rattle.joint_order.specs.Orders.{list_at}
 use Rattle.receipts.specs.Audits.{AreJoined, IsNumbered, records_before}
-use Rattle.receipts.specs.Layout.{AreKept, AreLaid, IsIndexUpTo, IsLaid, IsLaidTo, KeepsOthers, place_in}
+use Rattle.receipts.specs.Layout.{AreOfRolls, AreLaid, IsIndexUpTo, IsLaid, IsLaidTo, KeepsOthers, place_in}
 use Rattle.receipts.specs.declared.index.Index.{Index}
 use Rattle.receipts.proofs.Joins.{is_element, led_from, one_there}
 
@@ -245,7 +245,7 @@ pub keeps_both : (index : Index) (xs ys zs : List ℕ) (t : ℕ) → KeepsOthers
 keeps_both index xs ys zs t first second = λ u m j other found. second u m j other found ∙ first u m j other found
 
 -- behind a number that no period of a tenant has, none has one
-no_hole : (index : Index) (periods : List PeriodParts) (t n d : ℕ) → AreKept periods → AreJoined periods
+no_hole : (index : Index) (periods : List PeriodParts) (t n d : ℕ) → AreOfRolls periods → AreJoined periods
     → IsIndexUpTo index periods (length periods) → place_in index t n ≡ None → (k : ℕ) → place_in index t (n + d) ≡ Some k → ⊥
 no_hole index periods t n zero kept joined all none k found =
     let P : ℕ → Type 0 = λ m. place_in index t m ≡ Some k in
@@ -280,7 +280,7 @@ all_laid index periods offsets t n total all laid ends = record {
       omega arith;
 }
 
-pub ends_there : (index : Index) (periods : List PeriodParts) (t n : ℕ) → AreKept periods → AreJoined periods
+pub ends_there : (index : Index) (periods : List PeriodParts) (t n : ℕ) → AreOfRolls periods → AreJoined periods
     → IsIndexUpTo index periods (length periods) → place_in index t n ≡ None → (m k : ℕ) → place_in index t m ≡ Some k → m < n
 ends_there index periods t n kept joined all none m k found = dite (dec_lt m n)
     (λ less. less)
@@ -289,7 +289,7 @@ ends_there index periods t n kept joined all none m k found = dite (dec_lt m n)
     let there : place_in index t (n + (m - n)) ≡ Some k = subst P (omega arith) found in
     absurd (no_hole index periods t n (m - n) kept joined all none k there))
 
-pub ends_last : (index : Index) (periods : List PeriodParts) (t n : ℕ) → AreKept periods → IsIndexUpTo index periods (length periods)
+pub ends_last : (index : Index) (periods : List PeriodParts) (t n : ℕ) → AreOfRolls periods → IsIndexUpTo index periods (length periods)
     → max_period < n → (m k : ℕ) → place_in index t m ≡ Some k → m < n
 ends_last index periods t n kept all past m k found =
     let right = all.right t m k found in

@@ -8,9 +8,9 @@ use Rattle.tenant_core.specs.declared.journal.Record.{Record}
 use Rattle.tenant_core.specs.declared.period.PeriodParts.{PeriodParts}
 use Rattle.joint_order.specs.Orders.{AreDistinct, AreHeld, list_at, point, points_count}
 use Rattle.joint_order.specs.declared.point.ListPoint.{ListPoint}
-use Rattle.receipts.specs.Audits.{AreJoined, AreMatched, IsNumbered, LacksReceipt, NameOne, Names, place_of, points_of, receipts_of, record_of, records_before}
-use Rattle.receipts.specs.Layout.{AreLaid, AreNoted, HaveRows, IsBefore, IsFault, IsHeldNowhere, IsHeldWhole, IsIndexUpTo, IsLaid, IsNoted, IsRefused, held_of, place_in, points_in}
-use Rattle.receipts.specs.Rows.{AreRowsOf, IsIndexed}
+use Rattle.receipts.specs.Audits.{AreJoined, AreMatched, IsNumbered, LacksReceipt, NameOne, NamesRecord, journal_place, points_of, receipts_of, shown_record, records_before}
+use Rattle.receipts.specs.Layout.{AreLaid, AreNoted, HaveRows, IsBefore, IsAuditFault, IsHeldNowhere, IsHeldWhole, IsIndexUpTo, IsLaid, IsNoted, IsReceiptRefused, held_of, place_in, points_in}
+use Rattle.receipts.specs.Rows.{AreRowsOf, IsPeriodIndex}
 use Rattle.receipts.specs.declared.layout.Laid.{Laid}
 use Rattle.receipts.specs.declared.fault.AuditFault.{AuditFault}
 use Rattle.receipts.specs.declared.fault.AuditFault.TheVariants.{NoPeriod, Gap, Twice, Missing, Differs, Order, Memory}
@@ -23,7 +23,7 @@ use Rattle.receipts.proofs.Places.{shown_length, unwritten, written}
 -- what stands in the period that the index finds is named
 pub named_there : (index : Index) (periods : List PeriodParts) (r : Receipt) (k : ℕ) (p : PeriodParts) (x : Record)
     → IsIndexUpTo index periods (length periods) → place_in index r.tenant r.period ≡ Some k → slice_get periods k ≡ Some p
-    → slice_get p.records r.number ≡ Some x → Names periods r x
+    → slice_get p.records r.number ≡ Some x → NamesRecord periods r x
 named_there index periods r k p x all place at there =
     let right = all.right r.tenant r.period k place in
     let same : right.1.0 ≡ p = one_there periods k right.1.0 p right.1.1 at in
@@ -33,7 +33,7 @@ named_there index periods r k p x all place at there =
 -- what is read of the period that the index finds is named
 pub named_by_index : (index : Index) (periods : List PeriodParts) (r : Receipt) (k : ℕ) (p : PeriodParts) (records : List Record) (x : Record)
     → IsIndexUpTo index periods (length periods) → Some k ≡ place_in index r.tenant r.period → p ≡ get_or periods k p → records ≡ p.records
-    → ◌≡◌ {A = Option Record} (Some x) (slice_get records r.number) → Names periods r x
+    → ◌≡◌ {A = Option Record} (Some x) (slice_get records r.number) → NamesRecord periods r x
 named_by_index index periods r k p records x all place read are there =
     let below = (all.right r.tenant r.period k (sym place)).0 in
     let R : List Record → Type 0 = λ rs. ◌≡◌ {A = Option Record} (Some x) (slice_get rs r.number) in
@@ -53,8 +53,8 @@ same_entry periods t m n k l a b p q at_p at_q is_p is_q below_p below_q same = 
     (λ more. let later = before_later periods t n q l m at_q is_q (omega arith) in absurd (omega arith)))
 
 -- receipts that name records at one place of a journal name one entry
-pub name_one : (periods : List PeriodParts) (r s : Receipt) (x y : Record) → Names periods r x → Names periods s y → r.tenant ≡ s.tenant
-    → place_of periods r ≡ place_of periods s → NameOne r s
+pub name_one : (periods : List PeriodParts) (r s : Receipt) (x y : Record) → NamesRecord periods r x → NamesRecord periods s y → r.tenant ≡ s.tenant
+    → journal_place periods r ≡ journal_place periods s → NameOne r s
 name_one periods r s x y named also tenant place =
     let p = named.0 in
     let q = also.0 in
@@ -68,7 +68,7 @@ name_one periods r s x y named also tenant place =
     (tenant, same.0, same.1)
 
 -- a receipt that names a record names no other
-pub named_once : (periods : List PeriodParts) (r s : Receipt) → NameOne r s → place_of periods r ≡ place_of periods s
+pub named_once : (periods : List PeriodParts) (r s : Receipt) → NameOne r s → journal_place periods r ≡ journal_place periods s
 named_once periods r s one =
     let e : records_before periods r.tenant r.period ≡ records_before periods s.tenant s.period
     = ap (λ t. records_before periods t r.period) one.0 ∙ ap (records_before periods s.tenant) one.1 in
@@ -78,8 +78,8 @@ named_once periods r s one =
 -- the place of what a receipt names, and that there is room for it
 pub placed : (index : Index) (periods : List PeriodParts) (offsets : List ℕ) (holders : List (List (Option ℕ))) (r : Receipt) (k : ℕ)
     → IsIndexUpTo index periods (length periods) → HaveRows index periods offsets holders → place_in index r.tenant r.period ≡ Some k
-    → Names periods r (record_of r)
-    → (slice_index offsets k + r.number ≡ place_of periods r) × (r.tenant < length holders) × (place_of periods r < length (list_at holders r.tenant))
+    → NamesRecord periods r (shown_record r)
+    → (slice_index offsets k + r.number ≡ journal_place periods r) × (r.tenant < length holders) × (journal_place periods r < length (list_at holders r.tenant))
 placed index periods offsets holders r k all rows place named =
     let below = tenant_below index periods r.tenant r.period k all place in
     let laid = rows.laid r.tenant below in
@@ -90,7 +90,7 @@ placed index periods offsets holders r k all rows place named =
     let found_there : place_in index r.tenant r.period ≡ Some at.0
     = subst (λ n. P r.tenant n) named.2.1 (subst (λ t. P t named.0.opening.period) named.2.0 found) in
     let room = laid.room r.period at.0 named.0 found_there at.1 in
-    let number = slice_get_within named.0.records r.number (record_of r) named.3 in
+    let number = slice_get_within named.0.records r.number (shown_record r) named.3 in
     let many = rows.rows in
     (omega arith, omega arith, omega arith)
 
@@ -141,11 +141,11 @@ known_apart a j known free =
 
 -- a receipt that was known names another place than one that was not
 apart_from : (periods : List PeriodParts) (holders : List (List (Option ℕ))) (r s : Receipt) (j : ℕ) → held_of periods holders r ≡ Some None
-    → held_of periods holders s ≡ Some (Some j) → ¬ ((s.tenant ≡ r.tenant) × (place_of periods s ≡ place_of periods r))
+    → held_of periods holders s ≡ Some (Some j) → ¬ ((s.tenant ≡ r.tenant) × (journal_place periods s ≡ journal_place periods r))
 apart_from periods holders r s j free known same =
     let P : ℕ → ℕ → Type 0 = λ t x. slice_get (list_at holders t) x ≡ Some (Some j) in
     known_apart (held_of periods holders r) j
-    (subst (λ x. P r.tenant x) same.1 (subst (λ t. P t (place_of periods s)) same.0 known)) free
+    (subst (λ x. P r.tenant x) same.1 (subst (λ t. P t (journal_place periods s)) same.0 known)) free
 
 -- before the next place is that place, or before it
 before_next : (j l i n : ℕ) → IsBefore j l i (n + 1) → IsBefore j l i n ⊎ ((j ≡ i) × (l ≡ n))
@@ -168,25 +168,25 @@ not_before j l i n (inr (same, below)) e = let there = e.1 in absurd (omega arit
 -- one more receipt is known
 pub noted_next : (periods : List PeriodParts) (lists : List (List Receipt)) (old new : List (List (Option ℕ))) (i n : ℕ) (r : Receipt) (p : ListPoint)
     → AreNoted periods lists old i n → slice_get (list_at lists i) n ≡ Some r → IsNoted periods old new r i p
-    → (r.tenant < length old) × (place_of periods r < length (list_at old r.tenant)) → AreNoted periods lists new i (n + 1)
+    → (r.tenant < length old) × (journal_place periods r < length (list_at old r.tenant)) → AreNoted periods lists new i (n + 1)
 noted_next periods lists old new i n r p was at noted room =
     let W : List (List (Option ℕ)) → Type 0 = λ h. AreNoted periods lists h i (n + 1) in
     subst W (sym noted.known) (record {
       right = λ j l s before there. elim (before_next j l i n before) [
         | inl earlier ↦
             let w = was.right j l s earlier there in
-            (w.0, held_still old r.tenant (place_of periods r) s.tenant (place_of periods s) (Some i) (apart_from periods old r s j noted.free w.1) ∙ w.1)
+            (w.0, held_still old r.tenant (journal_place periods r) s.tenant (journal_place periods s) (Some i) (apart_from periods old r s j noted.free w.1) ∙ w.1)
         | inr last ↦ is_last j l s last there
       ];
       known = λ t x j held. dite (ℕ_discrete t r.tenant)
-          (λ tenant. dite (ℕ_discrete x (place_of periods r))
+          (λ tenant. dite (ℕ_discrete x (journal_place periods r))
           (λ place.
-          let P : ℕ → ℕ → Type 0 = λ u y. slice_get (list_at (slice_set old r.tenant (slice_set (list_at old r.tenant) (place_of periods r) (Some i))) u) y ≡ Some (Some j) in
+          let P : ℕ → ℕ → Type 0 = λ u y. slice_get (list_at (slice_set old r.tenant (slice_set (list_at old r.tenant) (journal_place periods r) (Some i))) u) y ≡ Some (Some j) in
           let here = subst (λ y. P r.tenant y) place (subst (λ u. P u x) tenant held) in
-          let e : ◌≡◌ {A = Option (Option ℕ)} (Some (Some i)) (Some (Some j)) = sym (held_now old r.tenant (place_of periods r) (Some i) room.0 room.1) ∙ here in
+          let e : ◌≡◌ {A = Option (Option ℕ)} (Some (Some i)) (Some (Some j)) = sym (held_now old r.tenant (journal_place periods r) (Some i) room.0 room.1) ∙ here in
           let f : ◌≡◌ {A = Option ℕ} (Some i) (Some j) = ap (λ (o : Option (Option ℕ)). unwrap_or o (Some i)) e in
           let g : i ≡ j = ap (λ (o : Option ℕ). unwrap_or o i) f in
-          let Q : ℕ → Type 0 = λ k. (l : ℕ) × (s : Receipt) × IsBefore k l i (n + 1) × (slice_get (list_at lists k) l ≡ Some s) × (s.tenant ≡ t) × (place_of periods s ≡ x) in
+          let Q : ℕ → Type 0 = λ k. (l : ℕ) × (s : Receipt) × IsBefore k l i (n + 1) × (slice_get (list_at lists k) l ≡ Some s) × (s.tenant ≡ t) × (journal_place periods s ≡ x) in
           subst Q g (n, r, just_before i n, at, sym tenant, sym place))
           (λ other. earlier t x j held (λ e. other e.1)))
           (λ other. earlier t x j held (λ e. other e.0));
@@ -218,28 +218,28 @@ noted_next periods lists old new i n r p was at noted room =
         one_there (list_at lists i) n s r (subst (λ b. P i b) e.1 (subst (λ a. P a l) e.0 there)) at
 
     is_last : (j l : ℕ) (s : Receipt) → (j ≡ i) × (l ≡ n) → slice_get (list_at lists j) l ≡ Some s
-        → Names periods s (record_of s) × (held_of periods (slice_set old r.tenant (slice_set (list_at old r.tenant) (place_of periods r) (Some i))) s ≡ Some (Some j))
+        → NamesRecord periods s (shown_record s) × (held_of periods (slice_set old r.tenant (slice_set (list_at old r.tenant) (journal_place periods r) (Some i))) s ≡ Some (Some j))
     is_last j l s e there =
-        let P : Receipt → Type 0 = λ q. Names periods q (record_of q)
-        × (held_of periods (slice_set old r.tenant (slice_set (list_at old r.tenant) (place_of periods r) (Some i))) q ≡ Some (Some j)) in
-        let Q : ℕ → Type 0 = λ k. held_of periods (slice_set old r.tenant (slice_set (list_at old r.tenant) (place_of periods r) (Some i))) r ≡ Some (Some k) in
-        subst P (sym (is_r j l s e there)) (noted.right, subst Q (sym e.0) (held_now old r.tenant (place_of periods r) (Some i) room.0 room.1))
+        let P : Receipt → Type 0 = λ q. NamesRecord periods q (shown_record q)
+        × (held_of periods (slice_set old r.tenant (slice_set (list_at old r.tenant) (journal_place periods r) (Some i))) q ≡ Some (Some j)) in
+        let Q : ℕ → Type 0 = λ k. held_of periods (slice_set old r.tenant (slice_set (list_at old r.tenant) (journal_place periods r) (Some i))) r ≡ Some (Some k) in
+        subst P (sym (is_r j l s e there)) (noted.right, subst Q (sym e.0) (held_now old r.tenant (journal_place periods r) (Some i) room.0 room.1))
 
-    earlier : (t x j : ℕ) → slice_get (list_at (slice_set old r.tenant (slice_set (list_at old r.tenant) (place_of periods r) (Some i))) t) x ≡ Some (Some j)
-        → ¬ ((t ≡ r.tenant) × (x ≡ place_of periods r))
-        → (l : ℕ) × (s : Receipt) × IsBefore j l i (n + 1) × (slice_get (list_at lists j) l ≡ Some s) × (s.tenant ≡ t) × (place_of periods s ≡ x)
+    earlier : (t x j : ℕ) → slice_get (list_at (slice_set old r.tenant (slice_set (list_at old r.tenant) (journal_place periods r) (Some i))) t) x ≡ Some (Some j)
+        → ¬ ((t ≡ r.tenant) × (x ≡ journal_place periods r))
+        → (l : ℕ) × (s : Receipt) × IsBefore j l i (n + 1) × (slice_get (list_at lists j) l ≡ Some s) × (s.tenant ≡ t) × (journal_place periods s ≡ x)
     earlier t x j held other =
-        let w = was.known t x j (sym (held_still old r.tenant (place_of periods r) t x (Some i) other) ∙ held) in
+        let w = was.known t x j (sym (held_still old r.tenant (journal_place periods r) t x (Some i) other) ∙ held) in
         (w.0, w.1, still_before j w.0 i n w.2, w.3, w.4, w.5)
 
 -- what a receipt is refused for is a fault of all
 pub refused_is_fault : (periods : List PeriodParts) (lists : List (List Receipt)) (holders : List (List (Option ℕ))) (i n : ℕ) (r : Receipt)
-    → AreNoted periods lists holders i n → slice_get (list_at lists i) n ≡ Some r → (fault : AuditFault) → IsRefused periods holders r fault
-    → IsFault periods lists fault
+    → AreNoted periods lists holders i n → slice_get (list_at lists i) n ≡ Some r → (fault : AuditFault) → IsReceiptRefused periods holders r fault
+    → IsAuditFault periods lists fault
 refused_is_fault periods lists holders i n r was at NoPeriod none = (r, (i, n, at), none)
 refused_is_fault periods lists holders i n r was at Gap never = absurd never
 refused_is_fault periods lists holders i n r was at Twice known =
-    let w = was.known r.tenant (place_of periods r) known.1.0 known.1.1 in
+    let w = was.known r.tenant (journal_place periods r) known.1.0 known.1.1 in
     let right = was.right known.1.0 w.0 w.1 w.2 w.3 in (
       known.1.0,
       w.0,
@@ -250,7 +250,7 @@ refused_is_fault periods lists holders i n r was at Twice known =
       w.3,
       at,
       not_before known.1.0 w.0 i n w.2,
-      name_one periods w.1 r (record_of w.1) (record_of r) right.0 known.0 w.4 w.5,
+      name_one periods w.1 r (shown_record w.1) (shown_record r) right.0 known.0 w.4 w.5,
     )
 refused_is_fault periods lists holders i n r was at Missing never = absurd never
 refused_is_fault periods lists holders i n r was at Differs other = (r, other.0, (i, n, at), other.1, other.2)
@@ -313,7 +313,7 @@ entry_placed index periods offsets holders k n p all rows at below =
     (omega arith, omega arith)
 
 -- the entry of a number of a period that was read lies in the row of the period's tenant
-pub entry_within : (laid : Laid) (holders : List (List (Option ℕ))) (k n t : ℕ) (p q : PeriodParts) → IsIndexed laid → AreRowsOf laid holders
+pub entry_within : (laid : Laid) (holders : List (List (Option ℕ))) (k n t : ℕ) (p q : PeriodParts) → IsPeriodIndex laid → AreRowsOf laid holders
     → slice_get laid.periods.now k ≡ Some p → n < length p.records → q ≡ get_or laid.periods.now k q → t ≡ q.opening.tenant
     → slice_index laid.offsets.now k + n < length (list_at holders t)
 entry_within laid holders k n t p q all rows at below read tenant =
@@ -325,7 +325,7 @@ entry_within laid holders k n t p q all rows at below read tenant =
     subst W (ap (λ (x : PeriodParts). x.opening.tenant) same ∙ sym tenant) within
 
 -- what stands there is what stands at its place
-pub entry_at : (laid : Laid) (holders : List (List (Option ℕ))) (k n t : ℕ) (p q : PeriodParts) (x : Option ℕ) → IsIndexed laid → AreRowsOf laid holders
+pub entry_at : (laid : Laid) (holders : List (List (Option ℕ))) (k n t : ℕ) (p q : PeriodParts) (x : Option ℕ) → IsPeriodIndex laid → AreRowsOf laid holders
     → slice_get laid.periods.now k ≡ Some p → n < length p.records → q ≡ get_or laid.periods.now k q → t ≡ q.opening.tenant
     → slice_get (list_at holders t) (slice_index laid.offsets.now k + n) ≡ Some x
     → slice_get (list_at holders p.opening.tenant) (records_before laid.periods.now p.opening.tenant p.opening.period + n) ≡ Some x
@@ -387,7 +387,7 @@ pub points_held : (periods : List PeriodParts) (lists : List (List Receipt)) (ho
 points_held periods lists holders n all noted = record {
   held = λ i k p at.
       let P : List ListPoint → Type 0 = λ l. slice_get l k ≡ Some p in
-      let from = point_from (λ r. point r.tenant (place_of periods r)) (list_at lists i) k p (subst P (points_at periods lists i) at) in
+      let from = point_from (λ r. point r.tenant (journal_place periods r)) (list_at lists i) k p (subst P (points_at periods lists i) at) in
       let w = noted.right i k from.0 (inl (below i k from.0 from.1)) from.1 in
       let Q : ListPoint → Type 0 = λ q. slice_get (list_at holders q.group) q.place ≡ Some (Some i) in
       subst Q from.2 w.1;
@@ -416,7 +416,7 @@ are_matched index periods offsets lists holders n joined all noted held = record
       = ap (λ t. records_before periods t w.1.period) w.4 in
       let place = w.5 in
       let same = same_entry periods p.opening.tenant w.1.period p.opening.period at_q.0 at.0 w.1.number m q p at_q.1 at.1
-      (subst P w.4 right.2) (refl, refl) (slice_get_within q.records w.1.number (record_of w.1) right.3) below (omega arith) in
+      (subst P w.4 right.2) (refl, refl) (slice_get_within q.records w.1.number (shown_record w.1) right.3) below (omega arith) in
       (w.1, (h.0, w.0, w.3), (sym w.4, sym same.0), same.1);
 }
   where
@@ -446,7 +446,7 @@ pub as_many_points : (periods : List PeriodParts) (lists : List (List Receipt)) 
 as_many_points periods [] = refl
 as_many_points periods (l ∷ ls) =
     let others = as_many_points periods ls in
-    let here = shown_length (λ (r : Receipt). point r.tenant (place_of periods r)) l in
+    let here = shown_length (λ (r : Receipt). point r.tenant (journal_place periods r)) l in
     let sum = sum_by-cons (λ (list : List Receipt). length list) l ls in
     let points = sum_by-cons (λ (list : List ListPoint). length list) (points_in periods l) (points_of periods ls) in
     omega arith
@@ -455,10 +455,10 @@ as_many_points periods (l ∷ ls) =
 pub are_distinct : (periods : List PeriodParts) (lists : List (List Receipt)) → AreMatched periods lists → AreDistinct (points_of periods lists)
 are_distinct periods lists matched i k j l p at there =
     let P : List ListPoint → ℕ → Type 0 = λ list n. slice_get list n ≡ Some p in
-    let f : Receipt → ListPoint = λ r. point r.tenant (place_of periods r) in
+    let f : Receipt → ListPoint = λ r. point r.tenant (journal_place periods r) in
     let r = point_from f (list_at lists i) k p (subst (λ list. P list k) (points_at periods lists i) at) in
     let s = point_from f (list_at lists j) l p (subst (λ list. P list l) (points_at periods lists j) there) in
     let same : f r.0 ≡ f s.0 = r.2 ∙ sym s.2 in
     matched.once i k j l r.0 s.0 r.1 s.1
-    (name_one periods r.0 s.0 (record_of r.0) (record_of s.0) (matched.right r.0 (i, k, r.1)) (matched.right s.0 (j, l, s.1))
+    (name_one periods r.0 s.0 (shown_record r.0) (shown_record s.0) (matched.right r.0 (i, k, r.1)) (matched.right s.0 (j, l, s.1))
     (ap (λ (q : ListPoint). q.group) same) (ap (λ (q : ListPoint). q.place) same))

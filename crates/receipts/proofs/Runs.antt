@@ -21,11 +21,11 @@ use Rattle.tenant_core.specs.declared.opening.Opening.{Opening}
 use Rattle.tenant_core.specs.declared.period.PeriodParts.{PeriodParts}
 use Rattle.floor_core.specs.Causes.{BringsBytes, AreCaused, ArePlaced, AreRun, Cause, Entered, book_opened, left_from, made_from}
 use Rattle.floor_core.specs.World.{no_book, put}
-use Rattle.joint_order.specs.Orders.{TakesOn, list_at, none, one_more, point}
+use Rattle.joint_order.specs.Orders.{TakesOn, list_at, none, one_more_at, point}
 use Rattle.joint_order.specs.declared.point.ListPoint.{ListPoint}
-use Rattle.receipts.specs.Audits.{AreJoined, AreMatched, IsComplete, place_of, points_of, record_of, records_before}
-use Rattle.receipts.specs.Layout.{AreKept}
-use Rattle.receipts.specs.Runs.{AreOfRun, IsLast, entry_of, in_order, led_by, taken_in}
+use Rattle.receipts.specs.Audits.{AreJoined, AreMatched, IsComplete, journal_place, points_of, shown_record, records_before}
+use Rattle.receipts.specs.Layout.{AreOfRolls}
+use Rattle.receipts.specs.Runs.{AreOfRun, IsLast, entered_in, in_order, led_by, taken_in}
 use Rattle.receipts.specs.declared.receipt.Receipt.{Receipt}
 use Rattle.receipts.proofs.Causes.{Explains, FrameLaws, explained_call}
 use Rattle.receipts.proofs.Joins.{ends_next, is_element, is_read, one_there}
@@ -131,7 +131,7 @@ same_period periods p q joined has_p has_q tenant number =
     one_there periods at_q.0 p q (subst (λ k. slice_get periods k ≡ Some p) place at_p.1) at_q.1
 
 -- a period is what a roll closed
-is_kept : (periods : List PeriodParts) (p : PeriodParts) → AreKept periods → Contains periods p → IsPeriod p
+is_kept : (periods : List PeriodParts) (p : PeriodParts) → AreOfRolls periods → Contains periods p → IsPeriod p
 is_kept periods p kept has = let at = is_read periods p has in kept at.0 p at.1
 
 -- a period's records come before those of the tenant's later numbers
@@ -149,7 +149,7 @@ record LeadsTo (periods : List PeriodParts) (p q : PeriodParts) : Type 0 where
   number : p.opening.period + 1 ≡ q.opening.period
 
 -- one leads to each that is not its tenant's first
-led_by_one : (periods : List PeriodParts) (q : PeriodParts) → AreKept periods → AreJoined periods → Contains periods q → q.opening.period ≢ 0
+led_by_one : (periods : List PeriodParts) (q : PeriodParts) → AreOfRolls periods → AreJoined periods → Contains periods q → q.opening.period ≢ 0
     → (p : PeriodParts) × LeadsTo periods p q
 led_by_one periods q kept joined has later = elim (joined.led q has) [
   | inl first ↦ absurd (later first)
@@ -170,7 +170,7 @@ led_by_one periods q kept joined has later = elim (joined.led q has) [
 abbrev NextPlace : (p q : PeriodParts) → (n k : ℕ) → Type 0
 NextPlace p q n k = ((p ≡ q) × (k ≡ n + 1)) ⊎ ((n + 1 ≡ length p.records) × (k ≡ 0) × (p.ending ≡ q.opening))
 
-next_place : (periods : List PeriodParts) (p q : PeriodParts) (n k : ℕ) → AreKept periods → AreJoined periods → Contains periods p → Contains periods q
+next_place : (periods : List PeriodParts) (p q : PeriodParts) (n k : ℕ) → AreOfRolls periods → AreJoined periods → Contains periods p → Contains periods q
     → q.opening.tenant ≡ p.opening.tenant → n < length p.records → k < length q.records
     → records_before periods p.opening.tenant p.opening.period + n + 1 ≡ records_before periods p.opening.tenant q.opening.period + k → NextPlace p q n k
 next_place periods p q n (suc k) kept joined has_p has_q tenant below_n below_k same =
@@ -223,16 +223,16 @@ put_here {A = A} f k n v same = rw (eq-eqb n k same) refl
 put_elsewhere : {A : Type 0} (f : ℕ → A) (k n : ℕ) (v : A) → n ≢ k → put f k v n ≡ f n
 put_elsewhere {A = A} f k n v other = rw (ne_eqb n k other) refl
 
-more_here : (f : ℕ → ℕ) (k n : ℕ) → n ≡ k → one_more f k n ≡ f n + 1
+more_here : (f : ℕ → ℕ) (k n : ℕ) → n ≡ k → one_more_at f k n ≡ f n + 1
 more_here f k n same = rw (eq-eqb n k same) refl
 
-more_elsewhere : (f : ℕ → ℕ) (k n : ℕ) → n ≢ k → one_more f k n ≡ f n
+more_elsewhere : (f : ℕ → ℕ) (k n : ℕ) → n ≢ k → one_more_at f k n ≡ f n
 more_elsewhere f k n other = rw (ne_eqb n k other) refl
 
 -- they stand there after the next record of a tenant
-stand_on : (periods : List PeriodParts) (books : ℕ → State) (done : ℕ → ℕ) (t : ℕ) (p : PeriodParts) (n : ℕ) (s : State) → AreKept periods → AreJoined periods
+stand_on : (periods : List PeriodParts) (books : ℕ → State) (done : ℕ → ℕ) (t : ℕ) (p : PeriodParts) (n : ℕ) (s : State) → AreOfRolls periods → AreJoined periods
     → Stand periods books done → Contains periods p → p.opening.tenant ≡ t → n < length p.records
-    → done t ≡ records_before periods t p.opening.period + n → Follows p n s → Stand periods (put books t s) (one_more done t)
+    → done t ≡ records_before periods t p.opening.period + n → Follows p n s → Stand periods (put books t s) (one_more_at done t)
 stand_on periods books done t p n s kept joined stand has own below at follows = record {
   inside = λ q k has_q below_q there. dite (ℕ_discrete q.opening.tenant t)
       (λ same.
@@ -376,11 +376,11 @@ first_begins periods p joined has first =
     same_period periods q p joined has_q has (eqb-true _ _ parts.0) (eqb-true _ _ parts.1 ∙ sym first)))
 
 -- the tenant of a period is one of those
-tenant_few : (periods : List PeriodParts) (p : PeriodParts) → AreKept periods → Contains periods p → p.opening.tenant < max_tenants
+tenant_few : (periods : List PeriodParts) (p : PeriodParts) → AreOfRolls periods → Contains periods p → p.opening.tenant < max_tenants
 tenant_few periods p kept has = (is_kept periods p kept has).sound.tenant
 
 -- a tenant's first opening stands at its number
-first_opening : (periods : List PeriodParts) (p : PeriodParts) → AreKept periods → AreJoined periods → Contains periods p → p.opening.period ≡ 0
+first_opening : (periods : List PeriodParts) (p : PeriodParts) → AreOfRolls periods → AreJoined periods → Contains periods p → p.opening.period ≡ 0
     → slice_get (openings_from periods 0 max_tenants) p.opening.tenant ≡ Some p.opening
 first_opening periods p kept joined has first =
     let same : 0 + p.opening.tenant ≡ p.opening.tenant = omega arith in
@@ -397,7 +397,7 @@ are_placed periods t inside =
     ap (λ (o : Option Opening). (book_opened o).opening.tenant) there ∙ found_first t periods
 
 -- the books stand at the openings
-stand_first : (periods : List PeriodParts) → AreKept periods → AreJoined periods
+stand_first : (periods : List PeriodParts) → AreOfRolls periods → AreJoined periods
     → Stand periods (λ t. book_opened (slice_get (openings_from periods 0 max_tenants) t)) none
 stand_first periods kept joined = record {
   inside = λ p k has below at. dite (ℕ_discrete p.opening.period 0)
@@ -420,7 +420,7 @@ stand_first periods kept joined = record {
 -- the receipts that were taken name records that were made
 abbrev HaveMade : List PeriodParts → List (List Receipt) → (taken done : ℕ → ℕ) → Type 0
 HaveMade periods lists taken done =
-    (i k : ℕ) (r : Receipt) → k < taken i → slice_get (list_at lists i) k ≡ Some r → place_of periods r < done r.tenant
+    (i k : ℕ) (r : Receipt) → k < taken i → slice_get (list_at lists i) k ≡ Some r → journal_place periods r < done r.tenant
 
 -- the records are caused, and leave the last periods' endings
 record Went (periods : List PeriodParts) (books : ℕ → State) (entries : List Entered) : Type 0 where
@@ -430,7 +430,7 @@ record Went (periods : List PeriodParts) (books : ℕ → State) (entries : List
   last : (p : PeriodParts) → Contains periods p → IsLast periods p → left p.opening.tenant ≡ opened p.ending
 
 -- where all receipts were taken, each book stands as its tenant's last period ended
-went_all : (periods : List PeriodParts) (lists : List (List Receipt)) (taken done : ℕ → ℕ) (books : ℕ → State) → AreKept periods → AreMatched periods lists
+went_all : (periods : List PeriodParts) (lists : List (List Receipt)) (taken done : ℕ → ℕ) (books : ℕ → State) → AreOfRolls periods → AreMatched periods lists
     → Stand periods books done → HaveMade periods lists taken done → ((i : ℕ) → taken i ≡ length (list_at (points_of periods lists) i)) → Went periods books []
 went_all periods lists taken done books kept matched stand made all = record {
   left = books;
@@ -442,7 +442,7 @@ went_all periods lists taken done books kept matched stand made all = record {
       let r : Receipt = found.0 in
       let among = found.1 in
       let many : length (list_at (points_of periods lists) among.0) ≡ length (list_at lists among.0) =
-      ap length (points_at periods lists among.0) ∙ length-map (list_at lists among.0) (λ x. point x.tenant (place_of periods x)) in
+      ap length (points_at periods lists among.0) ∙ length-map (list_at lists among.0) (λ x. point x.tenant (journal_place periods x)) in
       let within = slice_get_within (list_at lists among.0) among.1 r among.2 in
       let taken_all = all among.0 in
       let below : records_before periods r.tenant r.period + r.number < done r.tenant = made among.0 among.1 r (omega arith) among.2 in
@@ -459,29 +459,29 @@ record Takes (periods : List PeriodParts) (lists : List (List Receipt)) (taken d
   r : Receipt
   tenant : group ≡ r.tenant
   read : slice_get (list_at lists i) (taken i) ≡ Some r
-  place : place_of periods r ≡ done r.tenant
+  place : journal_place periods r ≡ done r.tenant
   few : r.tenant < max_tenants
   cause : Cause
   brings : BringsBytes cause
-  made : made_from (books r.tenant) cause ≡ Some (record_of r)
-  stand : Stand periods (put books r.tenant (left_from (books r.tenant) cause)) (one_more done r.tenant)
+  made : made_from (books r.tenant) cause ≡ Some (shown_record r)
+  stand : Stand periods (put books r.tenant (left_from (books r.tenant) cause)) (one_more_at done r.tenant)
 
-takes_one : FrameLaws → (periods : List PeriodParts) (lists : List (List Receipt)) (taken done : ℕ → ℕ) (books : ℕ → State) (i group : ℕ) → AreKept periods
+takes_one : FrameLaws → (periods : List PeriodParts) (lists : List (List Receipt)) (taken done : ℕ → ℕ) (books : ℕ → State) (i group : ℕ) → AreOfRolls periods
     → AreMatched periods lists → Stand periods books done
     → slice_get (list_at (points_of periods lists) i) (taken i) ≡ Some (point group (done group)) → Takes periods lists taken done books i group
 takes_one laws periods lists taken done books i group kept matched stand at =
-    let from = point_from (λ r. point r.tenant (place_of periods r)) (list_at lists i) (taken i) (point group (done group))
+    let from = point_from (λ r. point r.tenant (journal_place periods r)) (list_at lists i) (taken i) (point group (done group))
     (subst (λ (ps : List ListPoint). slice_get ps (taken i) ≡ Some (point group (done group))) (points_at periods lists i) at) in
     let r : Receipt = from.0 in
     let tenant : r.tenant ≡ group = ap (λ (p : ListPoint). p.group) from.2 in
-    let place : place_of periods r ≡ done r.tenant = ap (λ (p : ListPoint). p.place) from.2 ∙ ap done (sym tenant) in
+    let place : journal_place periods r ≡ done r.tenant = ap (λ (p : ListPoint). p.place) from.2 ∙ ap done (sym tenant) in
     let named = matched.right r (i, taken i, from.1) in
     let p : PeriodParts = named.0 in
     let has = named.1 in
     let own : p.opening.tenant ≡ r.tenant = named.2.0 in
     let number : p.opening.period ≡ r.period = named.2.1 in
-    let below = slice_get_within p.records r.number (record_of r) named.3 in
-    let explained = record_explained laws p r.number (record_of r) (is_kept periods p kept has) named.3 in
+    let below = slice_get_within p.records r.number (shown_record r) named.3 in
+    let explained = record_explained laws p r.number (shown_record r) (is_kept periods p kept has) named.3 in
     let at_r : done r.tenant ≡ records_before periods r.tenant p.opening.period + r.number =
     sym place ∙ ap (λ (m : ℕ). records_before periods r.tenant m + r.number) (sym number) in
     let at_p : done p.opening.tenant ≡ records_before periods p.opening.tenant p.opening.period + r.number =
@@ -504,7 +504,7 @@ takes_one laws periods lists taken done books i group kept matched stand at =
 
 -- and then that record was made too
 made_one : (periods : List PeriodParts) (lists : List (List Receipt)) (taken done : ℕ → ℕ) (i : ℕ) (r : Receipt) → HaveMade periods lists taken done
-    → slice_get (list_at lists i) (taken i) ≡ Some r → place_of periods r ≡ done r.tenant → HaveMade periods lists (one_more taken i) (one_more done r.tenant)
+    → slice_get (list_at lists i) (taken i) ≡ Some r → journal_place periods r ≡ done r.tenant → HaveMade periods lists (one_more_at taken i) (one_more_at done r.tenant)
 made_one periods lists taken done i r made read place j k q below at = dite (ℕ_discrete j i)
     (λ same.
     let now : k < taken j + 1 = subst (λ m. k < m) (more_here taken i j same) below in
@@ -514,35 +514,35 @@ made_one periods lists taken done i r made read place j k q below at = dite (ℕ
     (subst (λ m. slice_get (list_at lists j) m ≡ Some q) last at) in
     let one : r ≡ q = one_there (list_at lists i) (taken i) r q read here in
     let counts = more_here done r.tenant r.tenant refl in
-    subst (λ (x : Receipt). place_of periods x < one_more done r.tenant x.tenant) one (omega arith))
+    subst (λ (x : Receipt). journal_place periods x < one_more_at done r.tenant x.tenant) one (omega arith))
     (λ before. raised q (made j k q (omega arith) at)))
     (λ other. raised q (made j k q (subst (λ m. k < m) (more_elsewhere taken i j other) below) at))
   where
-    raised : (q : Receipt) → place_of periods q < done q.tenant → place_of periods q < one_more done r.tenant q.tenant
+    raised : (q : Receipt) → journal_place periods q < done q.tenant → journal_place periods q < one_more_at done r.tenant q.tenant
     raised q less = dite (ℕ_discrete q.tenant r.tenant)
         (λ same. let more = more_here done r.tenant q.tenant same in omega arith)
-        (λ other. subst (λ m. place_of periods q < m) (sym (more_elsewhere done r.tenant q.tenant other)) less)
+        (λ other. subst (λ m. journal_place periods q < m) (sym (more_elsewhere done r.tenant q.tenant other)) less)
 
 -- the receipts that are left are caused, one after another
-goes_on : FrameLaws → (periods : List PeriodParts) (lists : List (List Receipt)) (order : List ℕ) (taken done : ℕ → ℕ) (books : ℕ → State) → AreKept periods
+goes_on : FrameLaws → (periods : List PeriodParts) (lists : List (List Receipt)) (order : List ℕ) (taken done : ℕ → ℕ) (books : ℕ → State) → AreOfRolls periods
     → AreMatched periods lists → Stand periods books done → HaveMade periods lists taken done → TakesOn (points_of periods lists) taken done order
-    → Went periods books (map entry_of (taken_in lists taken order))
+    → Went periods books (map entered_in (taken_in lists taken order))
 goes_on laws periods lists [] taken done books kept matched stand made takes = went_all periods lists taken done books kept matched stand made takes
 goes_on laws periods lists (i ∷ order) taken done books kept matched stand made (group, at, rest) =
     let one = takes_one laws periods lists taken done books i group kept matched stand at in
     let r : Receipt = one.r in
     let s : State = left_from (books r.tenant) one.cause in
-    let more = goes_on laws periods lists order (one_more taken i) (one_more done r.tenant) (put books r.tenant s) kept matched one.stand
+    let more = goes_on laws periods lists order (one_more_at taken i) (one_more_at done r.tenant) (put books r.tenant s) kept matched one.stand
     (made_one periods lists taken done i r made one.read one.place)
-    (subst (λ u. TakesOn (points_of periods lists) (one_more taken i) (one_more done u) order) one.tenant rest) in
-    let entries : List Entered = entry_of r ∷ map entry_of (taken_in lists (one_more taken i) order) in
+    (subst (λ u. TakesOn (points_of periods lists) (one_more_at taken i) (one_more_at done u) order) one.tenant rest) in
+    let entries : List Entered = entered_in r ∷ map entered_in (taken_in lists (one_more_at taken i) order) in
     let whole : Went periods books entries = record {
       left = more.left;
       caused = (one.cause, one.brings, one.made, more.caused);
-      few = All-cons (λ (e : Entered). e.tenant < max_tenants) (entry_of r) (map entry_of (taken_in lists (one_more taken i) order)) one.few more.few;
+      few = All-cons (λ (e : Entered). e.tenant < max_tenants) (entered_in r) (map entered_in (taken_in lists (one_more_at taken i) order)) one.few more.few;
       last = more.last;
     } in
-    subst (λ (o : Option Receipt). Went periods books (map entry_of (led_by o (taken_in lists (one_more taken i) order)))) (sym one.read) whole
+    subst (λ (o : Option Receipt). Went periods books (map entered_in (led_by o (taken_in lists (one_more_at taken i) order)))) (sym one.read) whole
 
 -- ---- the law
 
@@ -552,7 +552,7 @@ RunLaw = (openings : List Opening) (entries : List Entered) (left : ℕ → Stat
     → ArePlaced openings → All (λ e. e.tenant < length openings) entries
     → AreCaused (λ t. book_opened (slice_get openings t)) entries left → AreRun openings entries left
 
-pub complete_are_run : FrameLaws → RunLaw → (periods : List PeriodParts) (lists : List (List Receipt)) (order : List ℕ) → AreKept periods
+pub complete_are_run : FrameLaws → RunLaw → (periods : List PeriodParts) (lists : List (List Receipt)) (order : List ℕ) → AreOfRolls periods
     → IsComplete periods lists order → AreOfRun periods lists order
 complete_are_run laws runs periods lists order kept complete =
     let joined = complete.matched.joined in
@@ -564,6 +564,6 @@ complete_are_run laws runs periods lists order kept complete =
       left = went.left;
       first = λ p has first. first_opening periods p kept joined has first;
       last = went.last;
-      run = runs openings (map entry_of (in_order lists order)) went.left (are_placed periods)
-          (subst (λ n. All (λ (e : Entered). e.tenant < n) (map entry_of (in_order lists order))) (sym (openings_many periods 0 max_tenants)) went.few) went.caused;
+      run = runs openings (map entered_in (in_order lists order)) went.left (are_placed periods)
+          (subst (λ n. All (λ (e : Entered). e.tenant < n) (map entered_in (in_order lists order))) (sym (openings_many periods 0 max_tenants)) went.few) went.caused;
     }

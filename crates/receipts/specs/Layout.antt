@@ -8,15 +8,15 @@ use Rattle.tenant_core.specs.declared.journal.Record.{Record}
 use Rattle.tenant_core.specs.declared.period.PeriodParts.{PeriodParts}
 use Rattle.joint_order.specs.Orders.{at, list_at, point}
 use Rattle.joint_order.specs.declared.point.ListPoint.{ListPoint}
-use Rattle.receipts.specs.Audits.{AreMatched, HasGap, IsNumbered, IsStuckAt, LacksReceipt, NamesNothing, NameOne, Names, NamesTwice, ShowsAnother, place_of, record_of, records_before}
+use Rattle.receipts.specs.Audits.{AreMatched, HasGap, IsNumbered, IsStuckAt, LacksReceipt, NamesNothing, NameOne, NamesRecord, NamesTwice, ShowsAnother, journal_place, shown_record, records_before}
 use Rattle.receipts.specs.declared.fault.AuditFault.{AuditFault}
 use Rattle.receipts.specs.declared.fault.AuditFault.TheVariants.{NoPeriod, Gap, Twice, Missing, Differs, Order, Memory}
 use Rattle.receipts.specs.declared.index.Index.{Index}
 use Rattle.receipts.specs.declared.receipt.Receipt.{Receipt}
 
 -- there is a map for each tenant
-abbrev pub IsIndex : Index → Type 0
-IsIndex index = vec_len index.places ≡ max_tenants
+abbrev pub HasMapPerTenant : Index → Type 0
+HasMapPerTenant index = vec_len index.places ≡ max_tenants
 
 -- the place of the period of that number of the tenant
 abbrev pub place_in : Index → (tenant number : ℕ) → Option ℕ
@@ -24,15 +24,15 @@ place_in index tenant number = option_and_then (λ m. get nat_cmp m number) (sli
 
 -- the periods up to that place are found by tenant and number, and what is found is one of them
 pub record IsIndexUpTo (index : Index) (periods : List PeriodParts) (count : ℕ) : Type 0 where
-  pub complete : IsIndex index
+  pub complete : HasMapPerTenant index
   pub found : (k : ℕ) (p : PeriodParts) → k < count → slice_get periods k ≡ Some p
       → place_in index p.opening.tenant p.opening.period ≡ Some k
   pub right : (tenant number k : ℕ) → place_in index tenant number ≡ Some k
       → (k < count) × ((p : PeriodParts) × (slice_get periods k ≡ Some p) × IsNumbered tenant number p)
 
 -- each period is what a roll closed
-abbrev pub AreKept : List PeriodParts → Type 0
-AreKept periods = (k : ℕ) (p : PeriodParts) → slice_get periods k ≡ Some p → IsPeriod p
+abbrev pub AreOfRolls : List PeriodParts → Type 0
+AreOfRolls periods = (k : ℕ) (p : PeriodParts) → slice_get periods k ≡ Some p → IsPeriod p
 
 -- the period at that place is its tenant's first, or another ends in the state that it opens
 abbrev pub IsLedAt : List PeriodParts → ℕ → Type 0
@@ -42,14 +42,14 @@ IsLedAt periods k = (q : PeriodParts) → slice_get periods k ≡ Some q
 -- ---- faults
 
 -- the fault is there; running out of memory says nothing
-abbrev pub IsFault : List PeriodParts → List (List Receipt) → AuditFault → Type 0
-IsFault periods lists NoPeriod = NamesNothing periods lists
-IsFault periods lists Gap = HasGap periods
-IsFault periods lists Twice = NamesTwice lists
-IsFault periods lists Missing = LacksReceipt periods lists
-IsFault periods lists Differs = ShowsAnother periods lists
-IsFault periods lists (Order front) = AreMatched periods lists × IsStuckAt periods lists (at front.items)
-IsFault periods lists Memory = ⊤
+abbrev pub IsAuditFault : List PeriodParts → List (List Receipt) → AuditFault → Type 0
+IsAuditFault periods lists NoPeriod = NamesNothing periods lists
+IsAuditFault periods lists Gap = HasGap periods
+IsAuditFault periods lists Twice = NamesTwice lists
+IsAuditFault periods lists Missing = LacksReceipt periods lists
+IsAuditFault periods lists Differs = ShowsAnother periods lists
+IsAuditFault periods lists (Order front) = AreMatched periods lists × IsStuckAt periods lists (at front.items)
+IsAuditFault periods lists Memory = ⊤
 
 -- a fault of the periods: a gap, or out of memory
 abbrev pub IsGap : List PeriodParts → AuditFault → Type 0
@@ -98,30 +98,30 @@ pub record HaveRows (index : Index) (periods : List PeriodParts) (offsets : List
 
 -- what is known of the entry that a receipt names
 abbrev pub held_of : List PeriodParts → List (List (Option ℕ)) → Receipt → Option (Option ℕ)
-held_of periods holders r = slice_get (list_at holders r.tenant) (place_of periods r)
+held_of periods holders r = slice_get (list_at holders r.tenant) (journal_place periods r)
 
 -- the place of the record that a receipt names, and shows, in its tenant's journal
 pub record IsPlace (periods : List PeriodParts) (holders : List (List (Option ℕ))) (r : Receipt) (place : ℕ) : Type 0 where
-  pub right : Names periods r (record_of r)
-  pub is : place ≡ place_of periods r
+  pub right : NamesRecord periods r (shown_record r)
+  pub is : place ≡ journal_place periods r
   pub tenant : r.tenant < length holders
   pub room : place < length (list_at holders r.tenant)
 
 -- a receipt of that list shows the record that it names, of which no receipt was known; now it is
 pub record IsNoted (periods : List PeriodParts) (old new : List (List (Option ℕ))) (r : Receipt) (list : ℕ) (noted : ListPoint) : Type 0 where
-  pub right : Names periods r (record_of r)
+  pub right : NamesRecord periods r (shown_record r)
   pub free : held_of periods old r ≡ Some None
-  pub known : new ≡ slice_set old r.tenant (slice_set (list_at old r.tenant) (place_of periods r) (Some list))
-  pub is : noted ≡ point r.tenant (place_of periods r)
+  pub known : new ≡ slice_set old r.tenant (slice_set (list_at old r.tenant) (journal_place periods r) (Some list))
+  pub is : noted ≡ point r.tenant (journal_place periods r)
   pub tenant : r.tenant < length old
-  pub room : place_of periods r < length (list_at old r.tenant)
+  pub room : journal_place periods r < length (list_at old r.tenant)
 
 -- why a receipt is refused
-abbrev pub IsRefused : List PeriodParts → List (List (Option ℕ)) → Receipt → AuditFault → Type 0
-IsRefused periods holders r NoPeriod = (x : Record) → ¬ (Names periods r x)
-IsRefused periods holders r Differs = (x : Record) × Names periods r x × (record_of r ≢ x)
-IsRefused periods holders r Twice = Names periods r (record_of r) × ((j : ℕ) × (held_of periods holders r ≡ Some (Some j)))
-IsRefused periods holders r _ = ⊥
+abbrev pub IsReceiptRefused : List PeriodParts → List (List (Option ℕ)) → Receipt → AuditFault → Type 0
+IsReceiptRefused periods holders r NoPeriod = (x : Record) → ¬ (NamesRecord periods r x)
+IsReceiptRefused periods holders r Differs = (x : Record) × NamesRecord periods r x × (shown_record r ≢ x)
+IsReceiptRefused periods holders r Twice = NamesRecord periods r (shown_record r) × ((j : ℕ) × (held_of periods holders r ≡ Some (Some j)))
+IsReceiptRefused periods holders r _ = ⊥
 
 -- the place of a list comes before that one
 abbrev pub IsBefore : (list place : ℕ) → (i n : ℕ) → Type 0
@@ -130,15 +130,15 @@ IsBefore list place i n = (list < i) ⊎ ((list ≡ i) × (place < n))
 -- the receipts before that place of that list are known, and no others
 pub record AreNoted (periods : List PeriodParts) (lists : List (List Receipt)) (holders : List (List (Option ℕ))) (i n : ℕ) : Type 0 where
   pub right : (j l : ℕ) (r : Receipt) → IsBefore j l i n → slice_get (list_at lists j) l ≡ Some r
-      → Names periods r (record_of r) × (held_of periods holders r ≡ Some (Some j))
+      → NamesRecord periods r (shown_record r) × (held_of periods holders r ≡ Some (Some j))
   pub known : (t x j : ℕ) → slice_get (list_at holders t) x ≡ Some (Some j)
-      → (l : ℕ) × (r : Receipt) × IsBefore j l i n × (slice_get (list_at lists j) l ≡ Some r) × (r.tenant ≡ t) × (place_of periods r ≡ x)
+      → (l : ℕ) × (r : Receipt) × IsBefore j l i n × (slice_get (list_at lists j) l ≡ Some r) × (r.tenant ≡ t) × (journal_place periods r ≡ x)
   pub once : (j l k m : ℕ) (r s : Receipt) → IsBefore j l i n → IsBefore k m i n → slice_get (list_at lists j) l ≡ Some r
       → slice_get (list_at lists k) m ≡ Some s → NameOne r s → (j ≡ k) × (l ≡ m)
 
 -- the points of the receipts of a list
 abbrev pub points_in : List PeriodParts → List Receipt → List ListPoint
-points_in periods list = map (λ r. point r.tenant (place_of periods r)) list
+points_in periods list = map (λ r. point r.tenant (journal_place periods r)) list
 
 -- a receipt holds the record of that number of a period
 abbrev pub IsHeldAt : List PeriodParts → List (List (Option ℕ)) → PeriodParts → ℕ → Type 0

@@ -1,9 +1,9 @@
 //! The audit.
 
 ghost use Rattle.std.specs.Prelude.{◌≡◌, length, map, count_by, ◌==◌, IfOk, IfErr};
-ghost use Rattle.receipts.specs.Audits.{AreMatched, IsComplete, points_of, receipts_of, tenants_of};
+ghost use Rattle.receipts.specs.Audits.{AreMatched, IsComplete, points_of, receipts_of, tenant_count};
 ghost use Rattle.joint_order.specs.Orders.{AreHeld};
-ghost use Rattle.receipts.specs.Layout.{AreKept, IsFault};
+ghost use Rattle.receipts.specs.Layout.{AreOfRolls, IsAuditFault};
 ghost use Rattle.receipts.specs.Runs.{AreOfRun};
 
 use crate::chains::{are_kept, check_joined, index_of};
@@ -30,7 +30,7 @@ pub struct Audited {
 }
 
 fn tenants_of(periods: &[Period]) -> usize
-    ensures { result ≡ tenants_of periods.now }
+    ensures { result ≡ tenant_count periods.now }
 {
     let mut count = 0;
     for period in periods {
@@ -48,11 +48,11 @@ fn matched(
     periods: &[Period],
     lists: &[&[Receipt]],
 ) -> Result<(Vec<Items<ListPoint>>, Vec<Items<Option<usize>>>), AuditFault>
-    requires kept { AreKept periods.now }
+    requires kept { AreOfRolls periods.now }
     ensures matched { IfOk result (λ found. AreMatched periods.now (map (λ list. list.now) lists.now)) }
     ensures points { IfOk result (λ found. found.0.items ≡ points_of periods.now (map (λ list. list.now) lists.now)) }
     ensures held { IfOk result (λ found. AreHeld found.0.items found.1.items) }
-    ensures fault { IfErr result (IsFault periods.now (map (λ list. list.now) lists.now)) }
+    ensures fault { IfErr result (IsAuditFault periods.now (map (λ list. list.now) lists.now)) }
 {
     let index = index_of(alloc, periods)?;
     check_joined(&index, periods)?;
@@ -86,9 +86,9 @@ fn matched(
 pub fn audit(alloc: Global, periods: &[Period], lists: &[&[Receipt]]) -> Result<Audited, AuditFault>
     ensures complete { IfOk result (λ audited. IsComplete periods.now (map (λ list. list.now) lists.now) audited.order) }
     ensures run { IfOk result (λ audited. AreOfRun periods.now (map (λ list. list.now) lists.now) audited.order) }
-    ensures counts { IfOk result (λ audited. (audited.tenants ≡ tenants_of periods.now) × (audited.periods ≡ length periods.now)
+    ensures counts { IfOk result (λ audited. (audited.tenants ≡ tenant_count periods.now) × (audited.periods ≡ length periods.now)
         × (audited.receipts ≡ receipts_of (map (λ list. list.now) lists.now))) }
-    ensures fault { IfErr result (IsFault periods.now (map (λ list. list.now) lists.now)) }
+    ensures fault { IfErr result (IsAuditFault periods.now (map (λ list. list.now) lists.now)) }
 {
     are_kept(periods);
     crate::laws::complete_receipts_are_a_run();

@@ -2,7 +2,7 @@
 
 ghost use Rattle.std.specs.Prelude.{◌≡◌, ◌<◌, ◌≤◌, ◌+◌, ℕ, length, slice_get, IfOk, IfErr, OnOk, true, false};
 ghost use Rattle.receipts.specs.Audits.{AreJoined, HasGap};
-ghost use Rattle.receipts.specs.Layout.{AreKept, IsGap, IsIndexUpTo, IsLedAt};
+ghost use Rattle.receipts.specs.Layout.{AreOfRolls, IsGap, IsIndexUpTo, IsLedAt};
 
 use crate::fault::AuditFault;
 use crate::index::Index;
@@ -11,7 +11,7 @@ use tenant_core::Period;
 
 // The invariant of each period.
 pub(crate) fn are_kept(periods: &[Period])
-    ensures { AreKept periods.now }
+    ensures { AreOfRolls periods.now }
 {
     for k in 0..periods.len() {
         tenant_core::laws::period_is_kept(&periods[k]);
@@ -49,7 +49,7 @@ pub(crate) fn index_of(alloc: Global, periods: &[Period]) -> Result<Index, Audit
 fn is_led(index: &Index, periods: &[Period], k: usize) -> bool
     requires inside { k < length periods.now }
     requires index { IsIndexUpTo index.now periods.now (length periods.now) }
-    requires kept { AreKept periods.now }
+    requires kept { AreOfRolls periods.now }
     ensures led { result ≡ true → IsLedAt periods.now k }
     ensures gap { result ≡ false → HasGap periods.now }
 {
@@ -67,7 +67,7 @@ fn is_led(index: &Index, periods: &[Period], k: usize) -> bool
 /// Whether each tenant's periods join. `Gap` if they don't.
 pub(crate) fn check_joined(index: &Index, periods: &[Period]) -> Result<(), AuditFault>
     requires index { IsIndexUpTo index.now periods.now (length periods.now) }
-    requires kept { AreKept periods.now }
+    requires kept { AreOfRolls periods.now }
     ensures joined { OnOk result (AreJoined periods.now) }
     ensures gap { IfErr result (IsGap periods.now) }
 {

@@ -14,11 +14,11 @@ pub(crate) struct Index {
 }
 
 impl Index {
-    ghost use Rattle.receipts.specs.Layout.{IsIndex, place_in};
+    ghost use Rattle.receipts.specs.Layout.{HasMapPerTenant, place_in};
 
     /// No periods.
     pub(crate) fn new(alloc: Global) -> Result<Index, AllocError>
-        ensures index { IfOk result IsIndex }
+        ensures index { IfOk result HasMapPerTenant }
         ensures none { IfOk result (λ index. (tenant number : ℕ) → place_in index tenant number ≡ None) }
     {
         let mut places = Vec::with_capacity(alloc, MAX_TENANTS)?;
@@ -30,7 +30,7 @@ impl Index {
 
     /// The place of the tenant's period of that number.
     pub(crate) fn place(&self, tenant: usize, number: u64) -> Option<usize>
-        requires { IsIndex self.now }
+        requires { HasMapPerTenant self.now }
         ensures { result ≡ place_in self.now tenant number }
     {
         self.places.get(tenant)?.get(&number).copied()
@@ -43,9 +43,9 @@ impl Index {
         number: u64,
         place: usize,
     ) -> Result<(), AllocError>
-        requires index { IsIndex self.old }
+        requires index { HasMapPerTenant self.old }
         requires tenant { tenant < max_tenants }
-        ensures index { OnOk result (IsIndex self.new) }
+        ensures index { OnOk result (HasMapPerTenant self.new) }
         ensures there { OnOk result (place_in self.new tenant number ≡ Some place) }
         ensures others { OnOk result ((t n : ℕ) → ¬ ((t ≡ tenant) × (n ≡ number))
             → place_in self.new t n ≡ place_in self.old t n) }

@@ -3,7 +3,7 @@
 ghost use Rattle.std.specs.Prelude.{◌≡◌, List, ℕ};
 ghost use Rattle.tenant_core.specs.declared.period.PeriodParts.{PeriodParts};
 ghost use Rattle.receipts.specs.Audits.{AreMatched, IsComplete, IsStuckAt};
-ghost use Rattle.receipts.specs.Layout.{AreKept, IsFault};
+ghost use Rattle.receipts.specs.Layout.{AreOfRolls, IsAuditFault};
 ghost use Rattle.receipts.specs.Runs.{AreOfRun};
 ghost use Rattle.receipts.specs.declared.fault.AuditFault.{AuditFault};
 ghost use Rattle.receipts.specs.declared.fault.AuditFault.TheVariants.{Memory};
@@ -21,7 +21,7 @@ pub fn no_order_where_stuck()
 /// If receipts are complete, their audit has one possible fault: it is out of memory. Otherwise it says yes.
 pub fn complete_receipts_have_no_fault()
     ensures { (periods : List PeriodParts) (lists : List (List Receipt)) (order : List ℕ) (fault : AuditFault)
-        → IsComplete periods lists order → IsFault periods lists fault → fault ≡ Memory }
+        → IsComplete periods lists order → IsAuditFault periods lists fault → fault ≡ Memory }
 {
     no_order_where_stuck();
 }
@@ -32,7 +32,7 @@ pub fn complete_receipts_have_no_fault()
 /// some that say the same.
 pub fn complete_receipts_are_a_run()
     ensures { (periods : List PeriodParts) (lists : List (List Receipt)) (order : List ℕ)
-        → AreKept periods → IsComplete periods lists order → AreOfRun periods lists order }
+        → AreOfRolls periods → IsComplete periods lists order → AreOfRun periods lists order }
 {
     oer_core::laws::lengths();
     ilp_addr::laws::addresses();

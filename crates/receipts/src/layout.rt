@@ -3,7 +3,7 @@
 ghost use Rattle.std.specs.Prelude.{◌≡◌, ◌<◌, ◌≤◌, length, vec_len, slice_index, IfOk, OnOk};
 ghost use Rattle.tenant_core.specs.Limits.{max_tenants};
 ghost use Rattle.receipts.specs.Audits.{AreJoined};
-ghost use Rattle.receipts.specs.Layout.{AreKept, AreLaid, IsIndexUpTo, IsLaid, IsLaidTo, KeepsOthers, LaysNext};
+ghost use Rattle.receipts.specs.Layout.{AreOfRolls, AreLaid, IsIndexUpTo, IsLaid, IsLaidTo, KeepsOthers, LaysNext};
 
 use crate::holders::Holders;
 use crate::index::Index;
@@ -53,7 +53,7 @@ fn lay_tenant(
     tenant: usize,
 ) -> Result<usize, AllocError>
     requires index { IsIndexUpTo index.now periods.now (length periods.now) }
-    requires kept { AreKept periods.now }
+    requires kept { AreOfRolls periods.now }
     requires joined { AreJoined periods.now }
     requires wide { vec_len offsets.old ≡ length periods.now }
     ensures wide { vec_len offsets.new ≡ length periods.now }
@@ -77,7 +77,7 @@ pub(crate) fn lay_out(
     periods: &[Period],
 ) -> Result<(Vec<usize>, Holders), AllocError>
     requires index { IsIndexUpTo index.now periods.now (length periods.now) }
-    requires kept { AreKept periods.now }
+    requires kept { AreOfRolls periods.now }
     requires joined { AreJoined periods.now }
     ensures { IfOk result (λ laid. AreLaid index.now periods.now laid.0.items laid.1 max_tenants) }
 {

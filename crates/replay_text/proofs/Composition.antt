@@ -14,7 +14,7 @@ use Rattle.floor_core.specs.declared.step.Step.{Step}
 use Rattle.admin_text.specs.Setup.{setup_of}
 use Rattle.admin_text.specs.declared.setup.Setup.{Setup}
 use Rattle.replay_text.specs.Printed.{printed_lines}
-use Rattle.replay_text.specs.Replay.{names_in, refusal_of, ArePrinted, IsRefusedBy, IsAnswered, IsReplayed, IsReplayedFor, LeavesWritten, LeavesWrittenFor, WritesAll, WritesFront, WritesLines, world_of_setup}
+use Rattle.replay_text.specs.Replay.{names_in, refusal_of, ArePrinted, IsReplayFault, AreReplayLines, IsReplayed, IsReplayedFor, LeavesWritten, LeavesWrittenFor, WritesAll, WritesFront, WritesLines, world_of_setup}
 use Rattle.replay_text.specs.Streams.{AppendsFront}
 use Rattle.replay_text.specs.Script.{lines_of, meaning_of, steps_of_script}
 use Rattle.replay_text.specs.declared.script.Meaning.TheVariants.{Runs}
@@ -38,7 +38,7 @@ has_room setups start steps f new few = λ t within.
 
 -- what a new floor answers
 pub answered_by : (setup : Setup) (steps : List Step) (world : World) (outputs : List Output) (names : List (List ℕ)) (text : List ℕ)
-    → world ≡ world_of_setup setup → AreOutputs world steps outputs → names ≡ names_in setup → text ≡ printed_lines names outputs → IsAnswered setup steps text
+    → world ≡ world_of_setup setup → AreOutputs world steps outputs → names ≡ names_in setup → text ≡ printed_lines names outputs → AreReplayLines setup steps text
 answered_by setup steps world outputs names text new are named printed =
     (outputs, subst (λ (w : World). AreOutputs w steps outputs) new are, printed ∙ ap (λ (ns : List (List ℕ)). printed_lines ns outputs) named)
 
@@ -80,7 +80,7 @@ sends_on law setup workers script steps outputs parsed are =
 
 -- what answers the steps of a script is a replay of it
 pub replayed_for : (known : Option (List ℕ)) (workers : ℕ) (setup : Setup) (steps : List Step) (text : List ℕ)
-    → IfSome known (λ script. steps_of_script (names_in setup) workers script ≡ Ok steps) → IsAnswered setup steps text
+    → IfSome known (λ script. steps_of_script (names_in setup) workers script ≡ Ok steps) → AreReplayLines setup steps text
     → IfSome known (λ script. IsReplayedFor setup workers script text)
 replayed_for None workers setup steps text parsed answers = tt
 replayed_for (Some script) workers setup steps text parsed answers = (steps, parsed, answers)
@@ -154,7 +154,7 @@ replayed_not_refused (Some script) setup_text workers text is = rw (is.setup_is,
 
 -- what a setup that was read is refused by, the text of that setup is
 pub refused_as_read : {A : Type 0} (setup_text : List ℕ) (workers : ℕ) (setup : Setup) (result : Result A ReplayFault) (known : Option (List ℕ))
-    → setup_of setup_text ≡ Ok setup → IfErr result (λ fault. IsRefusedBy fault (Ok setup) workers known) → IfErr result (λ fault. IsRefusedBy fault (setup_of setup_text) workers known)
+    → setup_of setup_text ≡ Ok setup → IfErr result (λ fault. IsReplayFault fault (Ok setup) workers known) → IfErr result (λ fault. IsReplayFault fault (setup_of setup_text) workers known)
 refused_as_read setup_text workers setup result known read refused = rw read refused
 
 -- a script that is too long is refused for that

@@ -9,7 +9,7 @@ use Rattle.std.proofs.lemmas.Bool.{ltb-true, lt-ltb, and_parts}
 use Rattle.std.proofs.lemmas.Option.{cond_some, option_and_then_some}
 use Rattle.std.proofs.lemmas.List.Elements.{All-cons, All-nil}
 use Rattle.std.proofs.lemmas.List.Quantifiers.{position-Some}
-use Rattle.replay_text.specs.Script.{moment_spelled, given_of, answer_of, tick_of, govern_of, step_behind, number_below, tenant_named, token_of, frame_of, load_of, decide_of, step_of_words, meaning_of}
+use Rattle.replay_text.specs.Script.{moment_spelled, given_of, answer_of, tick_of, govern_of, step_behind, number_below, tenant_named, token_word, frame_word, load_of, decide_step, step_of_words, meaning_of}
 use Rattle.common_types.specs.Words.{words_of}
 use Rattle.common_types.specs.Numerals.{is_numeral, value_of}
 use Rattle.replay_text.specs.Script.{is_empty, is_skipped, step_in, step_or_bad, steps_in, steps_of_script}
@@ -49,11 +49,11 @@ load_fits : (names : List (List ℕ)) (workers : ℕ) (words : List ℕ × List 
 load_fits names workers words s e =
     option_and_then_some _ (number_below workers words.0) s e (λ w w_is rest.
     option_and_then_some _ (tenant_named names words.1) s rest (λ t t_is rest.
-    option_and_then_some _ (token_of words.2) s rest (λ k k_is rest.
-    option_and_then_some _ (frame_of words.3) s rest (λ b b_is rest.
+    option_and_then_some _ (token_word words.2) s rest (λ k k_is rest.
+    option_and_then_some _ (frame_word words.3) s rest (λ b b_is rest.
     subst (IsGood workers (length names)) (some_is (Load w t k b) s rest) ((number_fits workers words.0 w w_is, tenant_fits names words.1 t t_is), frame_bytes words.3 b b_is)))))
 
-decide_fits : (names : List (List ℕ)) (workers : ℕ) (words : List ℕ × List ℕ) (s : Step) → decide_of workers words ≡ Some s → IsGood workers (length names) s
+decide_fits : (names : List (List ℕ)) (workers : ℕ) (words : List ℕ × List ℕ) (s : Step) → decide_step workers words ≡ Some s → IsGood workers (length names) s
 decide_fits names workers words s e =
     option_and_then_some _ (number_below workers words.0) s e (λ w w_is rest.
     option_and_then_some _ (moment_spelled words.1) s rest (λ n n_is rest.

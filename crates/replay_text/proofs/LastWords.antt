@@ -15,12 +15,12 @@ use Rattle.hex.specs.Hex.{decode_of, is_hex_digit}
 use Rattle.common_types.specs.OptionChain.{◌>>=◌}
 use Rattle.common_types.specs.Numerals.{is_digit, is_numeral, value_of}
 use Rattle.common_types.specs.Words.{words_of}
-use Rattle.floor_core.specs.declared.step.Given.{Given}
-use Rattle.floor_core.specs.declared.step.Given.TheVariants.{Bytes}
+use Rattle.floor_core.specs.declared.step.PeerAnswer.{PeerAnswer}
+use Rattle.floor_core.specs.declared.step.PeerAnswer.TheVariants.{Bytes}
 use Rattle.floor_core.specs.declared.step.Step.{Step}
 use Rattle.floor_core.specs.declared.step.Step.TheVariants.{Load, Decide, Answer, Tick}
 use Rattle.ilp_addr.specs.Timestamp.{last_moment}
-use Rattle.replay_text.specs.Script.{answer_of, decide_of, frame_of, given_of, is_empty, load_of, moment_spelled, number_below, tenant_named, tick_of, token_of}
+use Rattle.replay_text.specs.Script.{answer_of, decide_step, frame_word, given_of, is_empty, load_of, moment_spelled, number_below, tenant_named, tick_of, token_word}
 use Rattle.replay_text.specs.Words.{two_of, three_of, four_of}
 use Rattle.replay_text.proofs.Decoding.{digits_of}
 use Rattle.replay_text.proofs.Splits.{split_found, split_none}
@@ -63,7 +63,7 @@ no_number bound word i e = none_if_never (number_below bound word) (λ n is.
     let is_one = (cond_some (is_numeral word && nat_lt (value_of word) bound) (value_of word) n is).0 in
     spaced is_digit word i refl e (AllPass-from_list_all is_digit word (are_digits word (and_parts (is_numeral word) (nat_lt (value_of word) bound) is_one).0)))
 
-no_frame : (word : List ℕ) (i : ℕ) → position (λ b. eqb b 32) word ≡ Some i → frame_of word ≡ None
+no_frame : (word : List ℕ) (i : ℕ) → position (λ b. eqb b 32) word ≡ Some i → frame_word word ≡ None
 no_frame word i e =
     let none : result_ok (decode_of word) ≡ None = none_unless (result_ok (decode_of word)) (λ some. spaced is_hex_digit word i refl e (digits_of word some).1) in
     rw (other_word (codes "-") word i refl e) (none_either_way (is_empty word) (result_ok (decode_of word)) none)
@@ -74,10 +74,10 @@ no_given word i e =
 
 -- ---- steps whose last word has a space
 
-no_load : (names : List (List ℕ)) (workers : ℕ) (a b c word : List ℕ) → frame_of word ≡ None → load_of names workers (a, b, c, word) ≡ None
+no_load : (names : List (List ℕ)) (workers : ℕ) (a b c word : List ℕ) → frame_word word ≡ None → load_of names workers (a, b, c, word) ≡ None
 no_load names workers a b c word none =
-    subst (λ (o : Option (List ℕ)). (number_below workers a >>= (λ w. tenant_named names b >>= (λ t. token_of c >>= (λ k. o >>= (λ bytes. Some (Load w t k bytes)))))) ≡ None) (sym none)
-    (by (number_below workers a) (tenant_named names b) (token_of c))
+    subst (λ (o : Option (List ℕ)). (number_below workers a >>= (λ w. tenant_named names b >>= (λ t. token_word c >>= (λ k. o >>= (λ bytes. Some (Load w t k bytes)))))) ≡ None) (sym none)
+    (by (number_below workers a) (tenant_named names b) (token_word c))
   where
     by : (o p : Option ℕ) (q : Option (List ℕ)) → (o >>= (λ w. p >>= (λ t. q >>= (λ k. ◌>>=◌ {A = List ℕ} None (λ bytes. Some (Load w t k bytes)))))) ≡ None
     by None p q = refl
@@ -87,15 +87,15 @@ no_load names workers a b c word none =
 
 no_answer : (workers : ℕ) (a b word : List ℕ) → given_of word ≡ None → answer_of workers (a, b, word) ≡ None
 no_answer workers a b word none =
-    subst (λ (o : Option Given). (number_below workers a >>= (λ w. moment_spelled b >>= (λ n. o >>= (λ g. Some (Answer w n g))))) ≡ None) (sym none)
+    subst (λ (o : Option PeerAnswer). (number_below workers a >>= (λ w. moment_spelled b >>= (λ n. o >>= (λ g. Some (Answer w n g))))) ≡ None) (sym none)
     (by (number_below workers a) (moment_spelled b))
   where
-    by : (o p : Option ℕ) → (o >>= (λ w. p >>= (λ n. ◌>>=◌ {A = Given} None (λ g. Some (Answer w n g))))) ≡ None
+    by : (o p : Option ℕ) → (o >>= (λ w. p >>= (λ n. ◌>>=◌ {A = PeerAnswer} None (λ g. Some (Answer w n g))))) ≡ None
     by None p = refl
     by (Some w) None = refl
     by (Some w) (Some n) = refl
 
-no_decide : (workers : ℕ) (a word : List ℕ) → moment_spelled word ≡ None → decide_of workers (a, word) ≡ None
+no_decide : (workers : ℕ) (a word : List ℕ) → moment_spelled word ≡ None → decide_step workers (a, word) ≡ None
 no_decide workers a word none =
     subst (λ (o : Option ℕ). (number_below workers a >>= (λ w. o >>= (λ n. Some (Decide w n)))) ≡ None) (sym none) (by (number_below workers a))
   where
@@ -160,11 +160,11 @@ answer_said workers ws a b rest e =
     (λ i space. no_answer workers a b rest (no_given rest i space))
 
 pub decide_said : (workers : ℕ) (ws : List (List ℕ)) (a rest : List ℕ) → ws ≡ a ∷ words_of rest
-    → option_and_then (decide_of workers) (two_of ws) ≡ decide_of workers (a, rest)
+    → option_and_then (decide_step workers) (two_of ws) ≡ decide_step workers (a, rest)
 decide_said workers ws a rest e =
-    ap (λ (ws : List (List ℕ)). option_and_then (decide_of workers) (two_of ws)) e
-    ∙ behind (λ ws. option_and_then (decide_of workers) (two_of (a ∷ ws))) (λ word. decide_of workers (a, word)) rest refl
-    (λ b others some. ap (option_and_then (decide_of workers)) (two_of-more a b others some))
+    ap (λ (ws : List (List ℕ)). option_and_then (decide_step workers) (two_of ws)) e
+    ∙ behind (λ ws. option_and_then (decide_step workers) (two_of (a ∷ ws))) (λ word. decide_step workers (a, word)) rest refl
+    (λ b others some. ap (option_and_then (decide_step workers)) (two_of-more a b others some))
     (λ i space. no_decide workers a rest (no_number (last_moment + 1) rest i space))
 
 pub tick_said : (names : List (List ℕ)) (ws : List (List ℕ)) (a rest : List ℕ) → ws ≡ a ∷ words_of rest

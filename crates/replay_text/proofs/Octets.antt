@@ -8,7 +8,7 @@ use Rattle.hex.specs.Hex.{◌>>=◌, decode_of, decode_pairs, digit_or_error, he
 use Rattle.hex.specs.declared.error.FromHexError.{FromHexError}
 use Rattle.hex.specs.declared.error.FromHexError.TheVariants.{OddLength}
 use Rattle.oer_core.specs.Length.{AreBytes}
-use Rattle.replay_text.specs.Script.{frame_of, is_empty}
+use Rattle.replay_text.specs.Script.{frame_word, is_empty}
 
 some_is : {A : Type 0} (x y : A) → (let o : Option A = Some x in o) ≡ Some y → x ≡ y
 some_is x y e = cc
@@ -70,7 +70,7 @@ pairs_small i (high ∷ low ∷ rest) bytes e =
     subst AreBytes (ok_is (byte ∷ more) bytes e) (consed byte more (pair_small high low i byte byte_is) (pairs_small (i + 2) rest more more_is))))
 
 -- what a word spells are bytes
-pub frame_bytes : (word bytes : List ℕ) → frame_of word ≡ Some bytes → AreBytes bytes
+pub frame_bytes : (word bytes : List ℕ) → frame_word word ≡ Some bytes → AreBytes bytes
 frame_bytes word bytes e = by (bytes_eq word (codes "-")) (is_empty word) e
   where
     decoded : (r : Result (List ℕ) FromHexError) → decode_of word ≡ r → result_ok r ≡ Some bytes → AreBytes bytes

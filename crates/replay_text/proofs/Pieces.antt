@@ -8,10 +8,10 @@ use Rattle.std.proofs.lemmas.Grind.{flat_map-append}
 use Rattle.std.proofs.lemmas.List.{append_assoc, take-append-drop}
 use Rattle.floor_core.specs.FloorView.{FloorState, HasRoom}
 use Rattle.floor_core.specs.World.{World, AreOutputs, IsLeft}
-use Rattle.floor_core.specs.Worlds.{reply, after, replies, after_all}
+use Rattle.floor_core.specs.Worlds.{reply, world_after, replies, after_all}
 use Rattle.floor_core.specs.declared.step.Output.{Output}
 use Rattle.floor_core.specs.declared.step.Step.{Step}
-use Rattle.replay_text.specs.Printed.{line_of, printed_lines}
+use Rattle.replay_text.specs.Printed.{output_line, printed_lines}
 use Rattle.replay_text.specs.Replay.{ArePrinted, HasLong, Prints, WritesDone, WritesLines, WritesSome}
 use Rattle.replay_text.specs.Script.{lines_of, meaning_of, steps_in}
 use Rattle.replay_text.specs.Streams.{AppendsFront, WritesUpTo}
@@ -48,13 +48,13 @@ pub prints_none : Laws → (names : List (List ℕ)) (w : World) (text : List �
 prints_none laws names w text = ([], laws.replies w [], laws.after w [], sym (append-nil text))
 
 -- one step
-pub prints_one : RepliesLaw → AfterLaw → (names : List (List ℕ)) (step : Step) (w m : World) (output : Output) (a b : List ℕ) → output ≡ reply w step → m ≡ after w step → b ≡ a ++ line_of names output
+pub prints_one : RepliesLaw → AfterLaw → (names : List (List ℕ)) (step : Step) (w m : World) (output : Output) (a b : List ℕ) → output ≡ reply w step → m ≡ world_after w step → b ≡ a ++ output_line names output
     → Prints names (step ∷ []) w m a b
 prints_one outputs left names step w m output a b is world printed = (
   reply w step ∷ [],
   outputs w (step ∷ []),
   subst (λ (x : World). IsLeft w (step ∷ []) (reply w step ∷ []) x) (sym world) (left w (step ∷ [])),
-  printed ∙ ap (λ (o : Output). a ++ line_of names o) is ∙ ap (λ t. a ++ t) (sym (append-nil (line_of names (reply w step)))),
+  printed ∙ ap (λ (o : Output). a ++ output_line names o) is ∙ ap (λ t. a ++ t) (sym (append-nil (output_line names (reply w step)))),
 )
 
 -- lines behind lines
@@ -64,7 +64,7 @@ prints_more laws names steps more w m n a b c p q =
     let lines : c ≡ a ++ printed_lines names (p.0 ++ q.0) =
     q.3 ∙ (ap (λ t. t ++ printed_lines names q.0) p.3
     ∙ (append_assoc a (printed_lines names p.0) (printed_lines names q.0)
-    ∙ ap (λ t. a ++ t) (sym (flat_map-append (line_of names) p.0 q.0)))) in
+    ∙ ap (λ t. a ++ t) (sym (flat_map-append (output_line names) p.0 q.0)))) in
     (p.0 ++ q.0, laws.outputs w m steps more p.0 q.0 p.1 p.2 q.1, laws.left w m n steps more p.0 q.0 p.1 p.2 q.1 q.2, lines)
 
 -- a text may stand before both

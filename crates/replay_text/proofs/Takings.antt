@@ -5,12 +5,12 @@ use Rattle.std.proofs.lemmas.List.{append_assoc}
 use Rattle.std.specs.Prelude.{IfSome, OnOk, Ok, Err, Result}
 use Rattle.tenant_core.specs.declared.period.PeriodParts.{PeriodParts}
 use Rattle.floor_core.specs.World.{World, IsLeft}
-use Rattle.floor_core.specs.Worlds.{reply, after}
+use Rattle.floor_core.specs.Worlds.{reply, world_after}
 use Rattle.floor_core.specs.declared.step.Output.{Output}
 use Rattle.floor_core.specs.declared.step.Step.{Step}
 use Rattle.admin_text.specs.Setup.{setup_of}
 use Rattle.admin_text.specs.declared.setup.Setup.{Setup}
-use Rattle.replay_text.specs.Closed.{Closes, ClosesAll, HasTaken, Taking, TakesClosed, TakesClosedFor, closed_by, closed_in}
+use Rattle.replay_text.specs.Closed.{Closes, ClosesAll, HasTakenPeriods, Taking, TakesClosed, TakesClosedFor, closed_by, closed_in}
 use Rattle.replay_text.specs.Printed.{printed_lines}
 use Rattle.replay_text.specs.Replay.{IsReplayed, names_in, world_of_setup}
 use Rattle.replay_text.specs.Script.{lines_of, meaning_of, steps_in, steps_of_script}
@@ -22,19 +22,19 @@ use Rattle.replay_text.proofs.Scripts.{steps_behind}
 -- ---- what is taken
 
 -- periods behind periods
-taken_more : {K : Type 0} (Takes : Taking K) (ps qs : List PeriodParts) (k l m : K) → HasTaken Takes ps k l → HasTaken Takes qs l m
-    → HasTaken Takes (ps ++ qs) k m
-taken_more Takes [] qs k l m same more = subst (λ x. HasTaken Takes qs x m) same more
+taken_more : {K : Type 0} (Takes : Taking K) (ps qs : List PeriodParts) (k l m : K) → HasTakenPeriods Takes ps k l → HasTakenPeriods Takes qs l m
+    → HasTakenPeriods Takes (ps ++ qs) k m
+taken_more Takes [] qs k l m same more = subst (λ x. HasTakenPeriods Takes qs x m) same more
 taken_more Takes (p ∷ ps) qs k l m (between, first, others) more = (between, first, taken_more Takes ps qs between l m others more)
 
 -- the period of one step
 pub closes_one : {K : Type 0} → RepliesLaw → AfterLaw → (Takes : Taking K) (step : Step) (w m : World) (output : Output) (k l : K)
-    → output ≡ reply w step → m ≡ after w step → HasTaken Takes (closed_in output) k l → Closes Takes (step ∷ []) w m k l
+    → output ≡ reply w step → m ≡ world_after w step → HasTakenPeriods Takes (closed_in output) k l → Closes Takes (step ∷ []) w m k l
 closes_one outputs left Takes step w m output k l is world taken = (
   reply w step ∷ [],
   outputs w (step ∷ []),
   subst (λ (x : World). IsLeft w (step ∷ []) (reply w step ∷ []) x) (sym world) (left w (step ∷ [])),
-  subst (λ ps. HasTaken Takes ps k l) (ap closed_in is ∙ sym (append-nil (closed_in (reply w step)))) taken,
+  subst (λ ps. HasTakenPeriods Takes ps k l) (ap closed_in is ∙ sym (append-nil (closed_in (reply w step)))) taken,
 )
 
 -- a line that is skipped closes none
@@ -49,7 +49,7 @@ closes_more laws Takes steps more w m n j k l p q = (
   p.0 ++ q.0,
   laws.outputs w m steps more p.0 q.0 p.1 p.2 q.1,
   laws.left w m n steps more p.0 q.0 p.1 p.2 q.1 q.2,
-  subst (λ ps. HasTaken Takes ps j l) (sym (flat_map-append closed_in p.0 q.0)) (taken_more Takes (closed_by p.0) (closed_by q.0) j k l p.3 q.3),
+  subst (λ ps. HasTakenPeriods Takes ps j l) (sym (flat_map-append closed_in p.0 q.0)) (taken_more Takes (closed_by p.0) (closed_by q.0) j k l p.3 q.3),
 )
 
 -- ---- how far the steps of a list are done

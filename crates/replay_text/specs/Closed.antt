@@ -25,26 +25,26 @@ abbrev pub Taking : Type 0 → Type 1
 Taking K = K → PeriodParts → K → Type 0
 
 -- the keeper took just these periods, one after another
-abbrev pub HasTaken : {K : Type 0} → Taking K → List PeriodParts → (before after : K) → Type 0
-HasTaken Takes [] before after = after ≡ before
-HasTaken {K} Takes (p ∷ ps) before after = (between : K) × Takes before p between × HasTaken Takes ps between after
+abbrev pub HasTakenPeriods : {K : Type 0} → Taking K → List PeriodParts → (before after : K) → Type 0
+HasTakenPeriods Takes [] before after = after ≡ before
+HasTakenPeriods {K} Takes (p ∷ ps) before after = (between : K) × Takes before p between × HasTakenPeriods Takes ps between after
 
 -- The setup and the script are well formed, and the keeper took just the periods that the outputs of the script's steps say were
 -- closed, each once, in their order.
 abbrev pub TakesClosed : {K : Type 0} → Taking K → List ℕ → ℕ → List ℕ → (before after : K) → Type 0
 TakesClosed Takes setup_text workers script before after =
-    (written : List ℕ) × (is : IsReplayed setup_text workers script written) × HasTaken Takes (closed_by is.outputs) before after
+    (written : List ℕ) × (is : IsReplayed setup_text workers script written) × HasTakenPeriods Takes (closed_by is.outputs) before after
 
 -- the steps lead from one world to another, and the keeper took what they closed
 abbrev pub Closes : {K : Type 0} → Taking K → List Step → World → World → (before after : K) → Type 0
 Closes Takes steps world left before after =
     (outputs : List Output) × AreOutputs world steps outputs × IsLeft world steps outputs left
-    × HasTaken Takes (closed_by outputs) before after
+    × HasTakenPeriods Takes (closed_by outputs) before after
 
 -- the keeper took what these steps close, from that world on
 abbrev pub ClosesAll : {K : Type 0} → Taking K → List Step → World → (before after : K) → Type 0
 ClosesAll Takes steps world before after =
-    (outputs : List Output) × AreOutputs world steps outputs × HasTaken Takes (closed_by outputs) before after
+    (outputs : List Output) × AreOutputs world steps outputs × HasTakenPeriods Takes (closed_by outputs) before after
 
 -- the keeper took what the steps of a script close, for a setup that was read
 abbrev pub TakesClosedFor : {K : Type 0} → Taking K → Setup → ℕ → List ℕ → (before after : K) → Type 0

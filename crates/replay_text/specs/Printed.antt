@@ -18,17 +18,17 @@ use Rattle.floor_core.specs.declared.step.Output.{Output}
 use Rattle.floor_core.specs.declared.step.Output.TheVariants.{Busy, Idle, Loaded, Bad, Stranger, Reply, Send, Ticked, Governed}
 
 -- the name of a tenant, or nothing if no tenant has that number
-abbrev pub name_of : List (List ℕ) → ℕ → List ℕ
-name_of names tenant = slice_index_or names tenant []
+abbrev pub tenant_name : List (List ℕ) → ℕ → List ℕ
+tenant_name names tenant = slice_index_or names tenant []
 
 -- what is wrong with a token or a frame, in a word
-abbrev pub word_of : Malformed → List ℕ
-word_of Token = codes "token"
-word_of Kind = codes "kind"
-word_of Oer = codes "oer"
-word_of Field = codes "field"
-word_of AfterEnd = codes "after"
-word_of Size = codes "size"
+abbrev pub malformed_word : Malformed → List ℕ
+malformed_word Token = codes "token"
+malformed_word Kind = codes "kind"
+malformed_word Oer = codes "oer"
+malformed_word Field = codes "field"
+malformed_word AfterEnd = codes "after"
+malformed_word Size = codes "size"
 
 -- the words of a tick's answer
 abbrev pub tick_text : Result ℕ BookFault → List ℕ
@@ -64,25 +64,25 @@ abbrev pub answer_lines : List ℕ → Result Answered CommandFault → List ℕ
 answer_lines name answer = command_text name answer ++ 10 ∷ []
 
 -- the words of an output
-abbrev pub line_text : List (List ℕ) → Output → List ℕ
-line_text names Busy = codes "- busy"
-line_text names Idle = codes "- idle"
-line_text names (Loaded tenant call) = name_of names tenant ++ codes " loaded " ++ decimal call
-line_text names (Bad tenant kind) = name_of names tenant ++ codes " bad " ++ word_of kind
-line_text names (Stranger tenant) = name_of names tenant ++ codes " stranger"
-line_text names (Ticked tenant answer) = name_of names tenant ++ tick_text answer
-line_text names (Governed tenant answer) = command_text (name_of names tenant) answer
-line_text names (Reply tenant bytes) = name_of names tenant ++ codes " reply " ++ encode_lower bytes
-line_text names (Send tenant peer hold frame) =
-    name_of names tenant ++ codes " send " ++ peer ++ codes " " ++ decimal hold ++ codes " " ++ encode_lower frame
+abbrev pub output_words : List (List ℕ) → Output → List ℕ
+output_words names Busy = codes "- busy"
+output_words names Idle = codes "- idle"
+output_words names (Loaded tenant call) = tenant_name names tenant ++ codes " loaded " ++ decimal call
+output_words names (Bad tenant kind) = tenant_name names tenant ++ codes " bad " ++ malformed_word kind
+output_words names (Stranger tenant) = tenant_name names tenant ++ codes " stranger"
+output_words names (Ticked tenant answer) = tenant_name names tenant ++ tick_text answer
+output_words names (Governed tenant answer) = command_text (tenant_name names tenant) answer
+output_words names (Reply tenant bytes) = tenant_name names tenant ++ codes " reply " ++ encode_lower bytes
+output_words names (Send tenant peer hold frame) =
+    tenant_name names tenant ++ codes " send " ++ peer ++ codes " " ++ decimal hold ++ codes " " ++ encode_lower frame
 
 -- the line of an output, or its lines
-unfoldable pub line_of : List (List ℕ) → Output → List ℕ
-line_of names output = line_text names output ++ 10 ∷ []
+unfoldable pub output_line : List (List ℕ) → Output → List ℕ
+output_line names output = output_words names output ++ 10 ∷ []
 
 -- the lines of some outputs, for tenants of these names
 abbrev pub printed_lines : List (List ℕ) → List Output → List ℕ
-printed_lines names outputs = flat_map (line_of names) outputs
+printed_lines names outputs = flat_map (output_line names) outputs
 
 -- a text was appended to another, which has no less capacity then; or there was too little room for
 -- both

@@ -37,11 +37,11 @@ pub record IsReplayed (setup_text : List ℕ) (workers : ℕ) (script written : 
   pub written_is : written ≡ printed_lines (names_in setup) outputs
 
 -- the exit status of a program that a replay with this fault ends
-abbrev pub status_of : ReplayFault → ℕ
-status_of fault.Memory = 1
-status_of (fault.Setup f) = 3
-status_of (fault.Script f) = 4
-status_of fault.Device = 5
+abbrev pub replay_status : ReplayFault → ℕ
+replay_status fault.Memory = 1
+replay_status (fault.Setup f) = 3
+replay_status (fault.Script f) = 4
+replay_status fault.Device = 5
 
 -- the first fault of a setup, and after it of the script for that setup, if there is one
 abbrev pub refusal_of : Result Setup SetupFault → ℕ → List ℕ → Option ReplayFault
@@ -51,11 +51,11 @@ refusal_of (Err f) workers script = Some (fault.Setup f)
 
 -- A setup is refused by its first fault, and a script by its own if the setup is good. This says nothing of memory and
 -- devices.
-abbrev pub IsRefusedBy : ReplayFault → Result Setup SetupFault → ℕ → Option (List ℕ) → Type 0
-IsRefusedBy fault.Memory read workers known = Unit {0}
-IsRefusedBy fault.Device read workers known = Unit {0}
-IsRefusedBy (fault.Setup f) read workers known = read ≡ Err f
-IsRefusedBy (fault.Script f) read workers known =
+abbrev pub IsReplayFault : ReplayFault → Result Setup SetupFault → ℕ → Option (List ℕ) → Type 0
+IsReplayFault fault.Memory read workers known = Unit {0}
+IsReplayFault fault.Device read workers known = Unit {0}
+IsReplayFault (fault.Setup f) read workers known = read ≡ Err f
+IsReplayFault (fault.Script f) read workers known =
     IsOk read × IfSome known (λ script. refusal_of read workers script ≡ Some (fault.Script f))
 
 -- the whole text was written
@@ -81,8 +81,8 @@ ArePrinted names world steps text =
     (outputs : List Output) × AreOutputs world steps outputs × (text ≡ printed_lines names outputs)
 
 -- the lines of the outputs of these steps, for the tenants of a setup
-abbrev pub IsAnswered : Setup → List Step → List ℕ → Type 0
-IsAnswered setup steps written = ArePrinted (names_in setup) (world_of_setup setup) steps written
+abbrev pub AreReplayLines : Setup → List Step → List ℕ → Type 0
+AreReplayLines setup steps written = ArePrinted (names_in setup) (world_of_setup setup) steps written
 
 -- the steps lead from one world to another, and the lines of their outputs are appended to a text
 abbrev pub Prints : List (List ℕ) → List Step → World → World → List ℕ → List ℕ → Type 0
@@ -110,7 +110,7 @@ WritesSome names world steps old new = (text : List ℕ) × ArePrinted names wor
 -- what is written for a setup that was read, and a script
 abbrev pub IsReplayedFor : Setup → ℕ → List ℕ → List ℕ → Type 0
 IsReplayedFor setup workers script written =
-    (steps : List Step) × (steps_of_script (names_in setup) workers script ≡ Ok steps) × IsAnswered setup steps written
+    (steps : List Step) × (steps_of_script (names_in setup) workers script ≡ Ok steps) × AreReplayLines setup steps written
 
 -- After a fault of the setup or the script nothing was written. After any other, at most a part from the start on, for
 -- a setup that was read.

@@ -15,8 +15,8 @@ use Rattle.common_types.specs.Outcomes.{Fails}
 use Rattle.common_types.specs.Words.{words_of}
 use Rattle.common_types.specs.declared.read_error.ReadError.{ReadError}
 use Rattle.admin_text.specs.Commands.{command_among}
-use Rattle.floor_core.specs.declared.step.Given.{Given}
-use Rattle.floor_core.specs.declared.step.Given.TheVariants.{Bytes, Fault}
+use Rattle.floor_core.specs.declared.step.PeerAnswer.{PeerAnswer}
+use Rattle.floor_core.specs.declared.step.PeerAnswer.TheVariants.{Bytes, Fault}
 use Rattle.floor_core.specs.declared.step.Step.{Step}
 use Rattle.replay_text.specs.Words.{two_of, three_of, four_of}
 use Rattle.floor_core.specs.declared.step.Step.TheVariants.{Load, Decide, Answer, Tick, Govern}
@@ -50,12 +50,12 @@ abbrev pub tenant_named : List (List ℕ) → List ℕ → Option ℕ
 tenant_named names word = if is_empty word then None else position (λ name. bytes_eq name word) names
 
 -- a word that is a token
-abbrev pub token_of : List ℕ → Option (List ℕ)
-token_of word = if is_token word then Some word else None
+abbrev pub token_word : List ℕ → Option (List ℕ)
+token_word word = if is_token word then Some word else None
 
 -- the bytes that a word spells: hexadecimal digits in either case, or `-` for no bytes
-abbrev pub frame_of : List ℕ → Option (List ℕ)
-frame_of word =
+abbrev pub frame_word : List ℕ → Option (List ℕ)
+frame_word word =
     if bytes_eq word (codes "-") then Some []
     else (if is_empty word then None else result_ok (decode_of word))
 
@@ -64,21 +64,21 @@ abbrev pub moment_spelled : List ℕ → Option ℕ
 moment_spelled word = number_below (last_moment + 1) word
 
 -- what came back, as a word says it: `fault`, or bytes
-abbrev pub given_of : List ℕ → Option Given
-given_of word = if bytes_eq word (codes "fault") then Some Fault else option_map (λ bytes. Bytes bytes) (frame_of word)
+abbrev pub given_of : List ℕ → Option PeerAnswer
+given_of word = if bytes_eq word (codes "fault") then Some Fault else option_map (λ bytes. Bytes bytes) (frame_word word)
 
 -- the words after `load`: W TENANT TOKEN HEX
 abbrev pub load_of : List (List ℕ) → ℕ → List ℕ × List ℕ × List ℕ × List ℕ → Option Step
 load_of names workers words = do
   worker ← number_below workers words.0
   tenant ← tenant_named names words.1
-  token ← token_of words.2
-  bytes ← frame_of words.3
+  token ← token_word words.2
+  bytes ← frame_word words.3
   Some (Load worker tenant token bytes)
 
 -- the words after `decide`: W NOW
-abbrev pub decide_of : ℕ → List ℕ × List ℕ → Option Step
-decide_of workers words = do
+abbrev pub decide_step : ℕ → List ℕ × List ℕ → Option Step
+decide_step workers words = do
   worker ← number_below workers words.0
   now ← moment_spelled words.1
   Some (Decide worker now)
@@ -111,7 +111,7 @@ govern_of names _ = None
 abbrev pub step_behind : List (List ℕ) → ℕ → List ℕ → List (List ℕ) → Option Step
 step_behind names workers verb words =
     if bytes_eq verb (codes "load") then four_of words >>= load_of names workers
-    else (if bytes_eq verb (codes "decide") then two_of words >>= decide_of workers
+    else (if bytes_eq verb (codes "decide") then two_of words >>= decide_step workers
     else (if bytes_eq verb (codes "answer") then three_of words >>= answer_of workers
     else (if bytes_eq verb (codes "tick") then two_of words >>= tick_of names
     else (if bytes_eq verb (codes "do") then govern_of names words

@@ -13,7 +13,7 @@ script_fault_of Size = fault.Size
 script_fault_of (Line number cause) = fault.Line number
 
 -- what was checked, or the fault
-abbrev pub fault_alone : {X : Type 0} → Result X (ReadError ScriptWrong) → Result X (ReadError ScriptFault)
-fault_alone (Ok x) = Ok x
-fault_alone (Err Memory) = Err Memory
-fault_alone (Err (Fault wrong)) = Err (Fault (script_fault_of wrong))
+abbrev pub script_fault_alone : {X : Type 0} → Result X (ReadError ScriptWrong) → Result X (ReadError ScriptFault)
+script_fault_alone (Ok x) = Ok x
+script_fault_alone (Err Memory) = Err Memory
+script_fault_alone (Err (Fault wrong)) = Err (Fault (script_fault_of wrong))

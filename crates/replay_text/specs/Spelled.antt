@@ -3,11 +3,11 @@ use Rattle.std.specs.Prelude.{ℕ, List, Option, Some, None, option_copied, opti
 use Rattle.std.specs.Result.{result_ok}
 use Rattle.common_types.specs.OptionChain.{◌>>=◌}
 use Rattle.admin_text.specs.Commands.{command_in}
-use Rattle.floor_core.specs.declared.step.Given.{Given}
-use Rattle.floor_core.specs.declared.step.Given.TheVariants.{Bytes, Fault}
+use Rattle.floor_core.specs.declared.step.PeerAnswer.{PeerAnswer}
+use Rattle.floor_core.specs.declared.step.PeerAnswer.TheVariants.{Bytes, Fault}
 use Rattle.floor_core.specs.declared.step.Step.{Step}
 use Rattle.floor_core.specs.declared.step.Step.TheVariants as step
-use Rattle.replay_text.specs.Script.{frame_of, step_or_bad}
+use Rattle.replay_text.specs.Script.{frame_word, step_or_bad}
 use Rattle.replay_text.specs.declared.causes.LineFault.{LineFault}
 use Rattle.replay_text.specs.declared.lines.Spelled.{Spelled}
 use Rattle.replay_text.specs.declared.lines.Spelled.TheVariants.{Load, Decide, Answer, Tick, Govern}
@@ -15,14 +15,14 @@ use Rattle.replay_text.specs.declared.script.Meaning.{Meaning}
 use Rattle.replay_text.specs.declared.script.Meaning.TheVariants.{Skipped, Bad}
 
 -- what came back: the bytes that a word spells, or a fault if there is none
-abbrev pub given_spelled : Option (List ℕ) → Option Given
+abbrev pub given_spelled : Option (List ℕ) → Option PeerAnswer
 given_spelled None = Some Fault
-given_spelled (Some word) = option_map (λ bytes. Bytes bytes) (frame_of word)
+given_spelled (Some word) = option_map (λ bytes. Bytes bytes) (frame_word word)
 
 -- the step that was spelled, if its last word is right
 abbrev pub step_of_spelled : Spelled → Option Step
 step_of_spelled (Load worker tenant token frame) = do
-  bytes ← frame_of frame.now
+  bytes ← frame_word frame.now
   Some (step.Load worker tenant token.now bytes)
 step_of_spelled (Decide worker now) = Some (step.Decide worker now)
 step_of_spelled (Answer worker now frame) = do

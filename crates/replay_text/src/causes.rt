@@ -28,7 +28,7 @@ pub enum Operand {
     /// A moment.
     Now,
     /// What came back: bytes, or `fault`.
-    Given,
+    PeerAnswer,
     /// A command, of one word or more.
     Command,
 }
@@ -44,7 +44,7 @@ impl Verb {
                 Operand::Frame,
             ],
             Verb::Decide => &[Operand::Worker, Operand::Now],
-            Verb::Answer => &[Operand::Worker, Operand::Now, Operand::Given],
+            Verb::Answer => &[Operand::Worker, Operand::Now, Operand::PeerAnswer],
             Verb::Tick => &[Operand::Tenant, Operand::Now],
             Verb::Do => &[Operand::Tenant, Operand::Now, Operand::Command],
         }
@@ -68,7 +68,7 @@ impl Operand {
             Operand::Worker => "W",
             Operand::Tenant => "TENANT",
             Operand::Token => "TOKEN",
-            Operand::Frame | Operand::Given => "HEX",
+            Operand::Frame | Operand::PeerAnswer => "HEX",
             Operand::Now => "NOW",
             Operand::Command => "COMMAND",
         }
@@ -81,7 +81,7 @@ impl Operand {
             Operand::Tenant => "the name of a tenant of the setup",
             Operand::Token => "1 to 64 of A-Z a-z 0-9 - . _ ~ + / =",
             Operand::Frame => "digits of 0-9 a-f A-F, or - for no bytes",
-            Operand::Given => "digits of 0-9 a-f A-F, - for no bytes, or fault",
+            Operand::PeerAnswer => "digits of 0-9 a-f A-F, - for no bytes, or fault",
             Operand::Command => "a command",
         }
     }

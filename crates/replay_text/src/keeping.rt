@@ -2,11 +2,11 @@
 
 ghost use Rattle.std.specs.Prelude.{List};
 ghost use Rattle.tenant_core.specs.declared.period.PeriodParts.{PeriodParts};
-ghost use Rattle.floor_core.specs.Told.{shown};
+ghost use Rattle.floor_core.specs.Outputs.{shown};
 ghost use Rattle.floor_core.specs.declared.floor.Seat.{Seat};
-ghost use Rattle.replay_text.specs.Closed.{HasTaken, closed_in};
+ghost use Rattle.replay_text.specs.Closed.{HasTakenPeriods, closed_in};
 
-use floor_core::{Output, Told};
+use floor_core::{Output, StepOutput};
 use tenant_core::{Answered, Period};
 
 /// Who gets closed periods.
@@ -30,10 +30,10 @@ impl PeriodKeeper for LetGo {
 }
 
 /// Shows the keeper the period that a step closed, if it closed one.
-pub fn hand_over<K: PeriodKeeper>(told: &Told, keeper: &mut K)
-    ensures { (seats : List Seat) → HasTaken K.takes (closed_in (shown seats told.now)) keeper.old keeper.new }
+pub fn hand_over<K: PeriodKeeper>(told: &StepOutput, keeper: &mut K)
+    ensures { (seats : List Seat) → HasTakenPeriods K.takes (closed_in (shown seats told.now)) keeper.old keeper.new }
 {
-    if let Told::Whole(
+    if let StepOutput::Whole(
         Output::Governed {
             answer: Ok(Answered::Rolled(period)),
             ..

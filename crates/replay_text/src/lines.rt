@@ -4,7 +4,7 @@ ghost use Rattle.std.specs.Prelude.{◌≡◌, is_none, is_some, option_and_then
 ghost use Rattle.std.specs.Result.{result_ok};
 ghost use Rattle.common_types.specs.Words.{words_left};
 ghost use Rattle.admin_text.specs.Commands.{command_in};
-ghost use Rattle.replay_text.specs.Script.{load_of, decide_of, answer_of, tick_of, govern_of, step_behind};
+ghost use Rattle.replay_text.specs.Script.{load_of, decide_step, answer_of, tick_of, govern_of, step_behind};
 ghost use Rattle.replay_text.specs.Script.{is_bad, is_skipped, meaning_of};
 ghost use Rattle.replay_text.specs.Spelled.{meaning_read, step_of_spelled};
 ghost use Rattle.replay_text.specs.Words.{two_of, three_of, four_of};
@@ -87,7 +87,7 @@ fn read_decide<'a>(
     words: Option<&'a [u8]>,
 ) -> Result<Spelled<'a>, LineFault<'a>>
     ensures { option_and_then step_of_spelled (result_ok result)
-        ≡ option_and_then (decide_of parties.entry.workers) (two_of (words_left (option_copied words.entry))) }
+        ≡ option_and_then (decide_step parties.entry.workers) (two_of (words_left (option_copied words.entry))) }
 {
     let Some((worker, now)) = two_words(words) else {
         return Err(missing(Verb::Decide, words));
@@ -228,7 +228,7 @@ fn last_fault<'a>(alloc: Global, spelled: &Spelled<'a>) -> Result<Option<LineFau
         Spelled::Answer {
             frame: Some(frame),
             ..
-        } => Ok(check_frame(Verb::Answer, Operand::Given, frame).err()),
+        } => Ok(check_frame(Verb::Answer, Operand::PeerAnswer, frame).err()),
         Spelled::Govern { command, .. } => match command_in(alloc, command)? {
             Ok(_) => Ok(None),
             Err(fault) => Ok(Some(LineFault::Command(fault))),

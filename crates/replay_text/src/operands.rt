@@ -6,14 +6,14 @@ ghost use Rattle.std.specs.Result.{result_ok};
 ghost use Rattle.std.specs.Str.{bytes_eq};
 ghost use Rattle.hex.specs.Hex.{decode_of};
 ghost use Rattle.replay_text.specs.Spelled.{given_spelled};
-ghost use Rattle.replay_text.specs.Script.{frame_of, moment_spelled, number_below, tenant_named, token_of};
+ghost use Rattle.replay_text.specs.Script.{frame_word, moment_spelled, number_below, tenant_named, token_word};
 
 use crate::causes::{LineFault, Operand, Verb};
 use crate::hexadecimal::{are_digits, decode, spells_bytes};
 use crate::numbers::number_below;
 use crate::scans::place_of;
 use common_types::{Name, is_numeral, is_token};
-use floor_core::{Given, Octets};
+use floor_core::{Octets, PeerAnswer};
 use ilp_addr::Moment;
 use std::alloc::AllocError;
 
@@ -68,7 +68,7 @@ pub(crate) fn tenant_of<'a>(parties: Parties<'_>, word: &'a [u8]) -> Result<usiz
 
 /// A word that is a token.
 pub(crate) fn token_of(word: &[u8]) -> Result<&[u8], LineFault<'_>>
-    ensures { option_copied (result_ok result) ≡ token_of word.now }
+    ensures { option_copied (result_ok result) ≡ token_word word.now }
 {
     if is_token(word) {
         Ok(word)
@@ -116,7 +116,7 @@ fn bytes_fault(verb: Verb, operand: Operand, word: &[u8]) -> LineFault<'_> {
 // The digits of the bytes that a word spells, if it does.
 #[tactic(auto, unfolding(hex::specs::Hex::decode_pairs))]
 fn digits_of(word: &[u8]) -> Option<&[u8]>
-    ensures { frame_of word.now ≡ option_and_then (λ digits. result_ok (decode_of digits)) (option_copied result) }
+    ensures { frame_word word.now ≡ option_and_then (λ digits. result_ok (decode_of digits)) (option_copied result) }
 {
     if word == b"-".as_slice() {
         return Some(&[]);
@@ -126,7 +126,7 @@ fn digits_of(word: &[u8]) -> Option<&[u8]>
 
 /// Whether a word spells bytes, which are not stored.
 pub(crate) fn check_frame(verb: Verb, operand: Operand, word: &[u8]) -> Result<(), LineFault<'_>>
-    ensures { is_ok result ≡ is_some (frame_of word.now) }
+    ensures { is_ok result ≡ is_some (frame_word word.now) }
 {
     match digits_of(word) {
         Some(digits) if spells_bytes(digits) => Ok(()),
@@ -139,7 +139,7 @@ pub(crate) fn frame_of<'a>(
     word: &[u8],
     room: &'a mut Vec<u8>,
 ) -> Result<Option<Octets<'a>>, AllocError>
-    ensures { IfOk result (λ frame. frame ≡ frame_of word.now) }
+    ensures { IfOk result (λ frame. frame ≡ frame_word word.now) }
 {
     let Some(digits) = digits_of(word) else {
         return Ok(None);
@@ -151,11 +151,11 @@ pub(crate) fn frame_of<'a>(
 pub(crate) fn given_of<'a>(
     word: Option<&[u8]>,
     room: &'a mut Vec<u8>,
-) -> Result<Option<Given<'a>>, AllocError>
+) -> Result<Option<PeerAnswer<'a>>, AllocError>
     ensures { IfOk result (λ given. given ≡ given_spelled (option_copied word.entry)) }
 {
     match word {
-        Some(word) => Ok(frame_of(word, room)?.map(Given::Bytes)),
-        None => Ok(Some(Given::Fault)),
+        Some(word) => Ok(frame_of(word, room)?.map(PeerAnswer::Bytes)),
+        None => Ok(Some(PeerAnswer::Fault)),
     }
 }

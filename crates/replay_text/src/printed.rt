@@ -3,20 +3,20 @@
 ghost use Rattle.std.specs.Prelude.{◌≡◌, ◌++◌, ◌∷◌, [], IfOk, OnOk, codes};
 ghost use Rattle.std.specs.Fmt.{decimal, signed_decimal};
 ghost use Rattle.hex.specs.Hex.{encode_lower};
-ghost use Rattle.replay_text.specs.Printed.{name_of, word_of, tick_text, line_text, line_of, printed_lines};
+ghost use Rattle.replay_text.specs.Printed.{tenant_name, malformed_word, tick_text, output_words, output_line, printed_lines};
 ghost use Rattle.replay_text.specs.Printed.{Puts, answer_lines, refusal_word, row_line, command_text};
 ghost use Rattle.std.specs.List.{flat_map};
-ghost use Rattle.floor_core.specs.Told.{shown};
+ghost use Rattle.floor_core.specs.Outputs.{shown};
 
 use crate::hexadecimal::put_hex;
 use common_types::Name;
-use floor_core::{Floor, Malformed, Output, Told};
+use floor_core::{Floor, Malformed, Output, StepOutput};
 use itoa::Buffer;
 use std::alloc::{AllocError, Global};
 use tenant_core::{Answered, BookFault, CommandFault, Row};
 
 fn name_of(names: &[Name], tenant: usize) -> &[u8]
-    ensures { result.now ≡ name_of names.now tenant }
+    ensures { result.now ≡ tenant_name names.now tenant }
 {
     match names.get(tenant) {
         Some(name) => name.as_bytes(),
@@ -25,7 +25,7 @@ fn name_of(names: &[Name], tenant: usize) -> &[u8]
 }
 
 fn word_of(kind: Malformed) -> &'static [u8]
-    ensures { result.now ≡ word_of kind }
+    ensures { result.now ≡ malformed_word kind }
 {
     match kind {
         Malformed::Token => b"token",
@@ -158,7 +158,7 @@ pub fn put_answer(
     out: &mut Vec<u8>,
     answer: &Result<Answered, CommandFault>,
 ) -> Result<(), AllocError>
-    ensures { OnOk result (out.new.items ≡ out.old.items ++ answer_lines (name_of names.now tenant) answer.now) }
+    ensures { OnOk result (out.new.items ≡ out.old.items ++ answer_lines (tenant_name names.now tenant) answer.now) }
 {
     put_governed(out, name_of(names, tenant), answer)?;
     out.push(b'\n')?;
@@ -172,7 +172,7 @@ fn put_named(
     out: &mut Vec<u8>,
     words: &[u8],
 ) -> Result<(), AllocError>
-    ensures { Puts result out.old out.new (name_of names.now tenant ++ words.now) }
+    ensures { Puts result out.old out.new (tenant_name names.now tenant ++ words.now) }
 {
     out.extend_from_slice(name_of(names, tenant))?;
     out.extend_from_slice(words)
@@ -185,14 +185,14 @@ fn put_reply(
     out: &mut Vec<u8>,
     reply: &[u8],
 ) -> Result<(), AllocError>
-    ensures { Puts result out.old out.new (name_of names.now tenant ++ codes " reply " ++ encode_lower reply.now) }
+    ensures { Puts result out.old out.new (tenant_name names.now tenant ++ codes " reply " ++ encode_lower reply.now) }
 {
     put_named(names, tenant, out, b" reply ")?;
     put_hex(out, reply)
 }
 
 fn put_text(names: &[Name], out: &mut Vec<u8>, output: &Output) -> Result<(), AllocError>
-    ensures { Puts result out.old out.new (line_text names.now output.now) }
+    ensures { Puts result out.old out.new (output_words names.now output.now) }
 {
     match output {
         Output::Busy => out.extend_from_slice(b"- busy"),
@@ -226,9 +226,9 @@ fn put_text(names: &[Name], out: &mut Vec<u8>, output: &Output) -> Result<(), Al
     }
 }
 
-#[tactic(auto, unfolding(crate::specs::Printed::line_of))]
+#[tactic(auto, unfolding(crate::specs::Printed::output_line))]
 fn put_line(names: &[Name], out: &mut Vec<u8>, output: &Output) -> Result<(), AllocError>
-    ensures { OnOk result (out.new.items ≡ out.old.items ++ line_of names.now output.now) }
+    ensures { OnOk result (out.new.items ≡ out.old.items ++ output_line names.now output.now) }
 {
     put_text(names, out, output)?;
     out.push(b'\n')?;
@@ -240,14 +240,19 @@ fn put_told_text(
     names: &[Name],
     out: &mut Vec<u8>,
     floor: &Floor,
-    told: &Told,
+    told: &StepOutput,
 ) -> Result<(), AllocError>
-    ensures { Puts result out.old out.new (line_text names.now (shown floor.now.seats told.now)) }
+    ensures { Puts result out.old out.new (output_words names.now (shown floor.now.seats told.now)) }
 {
     match told {
-        Told::Whole(output) => put_text(names, out, output),
-        Told::Reply { worker, tenant } => put_reply(names, *tenant, out, floor.reply(*worker)),
-        Told::Send {
+        StepOutput::Whole(output) => put_text(names, out, output),
+        StepOutput::Reply { worker, tenant } => put_reply(
+            names,
+            *tenant,
+            out,
+            floor.reply(*worker),
+        ),
+        StepOutput::Send {
             worker,
             tenant,
             peer,
@@ -261,14 +266,14 @@ fn put_told_text(
 
 /// Appends the lines for the output of a step of the floor to a text, for the tenants of these names. Fails only if it
 /// is out of memory.
-#[tactic(auto, unfolding(crate::specs::Printed::line_of))]
+#[tactic(auto, unfolding(crate::specs::Printed::output_line))]
 pub(crate) fn put_told(
     names: &[Name],
     out: &mut Vec<u8>,
     floor: &Floor,
-    told: &Told,
+    told: &StepOutput,
 ) -> Result<(), AllocError>
-    ensures { Puts result out.old out.new (line_of names.now (shown floor.now.seats told.now)) }
+    ensures { Puts result out.old out.new (output_line names.now (shown floor.now.seats told.now)) }
 {
     put_told_text(names, out, floor, told)?;
     out.push(b'\n')?;

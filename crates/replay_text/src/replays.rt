@@ -2,7 +2,7 @@
 
 ghost use Rattle.std.specs.Prelude.{◌≡◌, ◌≢◌, ◌≤◌, ◌<◌, ◌⊎◌, ◌↔◌, ◌+◌, ◌∷◌, [], ℕ, List, OnOk, OnErr, IfOk, IfErr, IfSome, IsOk, None, Ok, Err, length};
 ghost use Rattle.std.specs.Io.KnownBytes.{Keeps, Appends};
-ghost use Rattle.replay_text.specs.Replay.{HasLong, names_in, refusal_of, IsRefusedBy, Prints, WritesAll, LeavesWritten};
+ghost use Rattle.replay_text.specs.Replay.{HasLong, names_in, refusal_of, IsReplayFault, Prints, WritesAll, LeavesWritten};
 ghost use Rattle.replay_text.specs.Replay.{IsReplayedFor, LeavesWrittenFor, WritesDone, WritesLines, WritesSome, world_of_setup};
 ghost use Rattle.admin_text.specs.Setup.{setup_of};
 ghost use Rattle.floor_core.specs.FloorView.{Fits, HasRoom, max_seats, world_of};
@@ -65,11 +65,11 @@ pub enum ReplayFault {
 
 impl ReplayFault {
     ghost use Rattle.std.specs.Prelude.{◌≡◌};
-    ghost use Rattle.replay_text.specs.Replay.{status_of};
+    ghost use Rattle.replay_text.specs.Replay.{replay_status};
 
     /// The exit status of a program that a replay with this fault ends.
     pub fn status(self) -> u8
-        ensures { result ≡ status_of self }
+        ensures { result ≡ replay_status self }
     {
         match self {
             ReplayFault::Memory => 1,
@@ -247,7 +247,7 @@ fn good_script<R: Read + Device>(
     ensures good { IfOk result (λ script. NoneIsBad names.now workers (lines_of script.items)) }
     ensures steps { IfOk result (λ script. steps_of_script names.now workers script.items
         ≡ Ok (steps_in names.now workers (lines_of script.items))) }
-    ensures refused { IfErr result (λ fault. IsRefusedBy fault (Ok setup.now) workers (R.remaining reader.old)) }
+    ensures refused { IfErr result (λ fault. IsReplayFault fault (Ok setup.now) workers (R.remaining reader.old)) }
     ensures device { (result ≡ Err ReplayFault.Device) ↔ (R.failure_count reader.old < R.failure_count reader.new) }
     ensures taken { ConsumesAtMost (MAX_SCRIPT + 1) (R.remaining reader.old) (R.remaining reader.new) }
 {
@@ -317,7 +317,7 @@ fn replay_for<K: PeriodKeeper, R: Read + Device, W: Write + Device>(
         × Appends (W.contents writer.old) (W.contents writer.new) text)) }
     ensures closed { OnOk result (IfSome (R.remaining reader.old)
         (λ script. TakesClosedFor K.takes setup.now workers script keeper.old keeper.new)) }
-    ensures refused { IfErr result (λ fault. IsRefusedBy fault (Ok setup.now) workers (R.remaining reader.old)) }
+    ensures refused { IfErr result (λ fault. IsReplayFault fault (Ok setup.now) workers (R.remaining reader.old)) }
     ensures left { IfErr result (λ fault. LeavesWrittenFor fault setup.now workers (R.remaining reader.old)
         (W.contents writer.old) (W.contents writer.new)) }
     ensures device { (result ≡ Err ReplayFault.Device)
@@ -364,7 +364,7 @@ pub fn replay_keeping<K: PeriodKeeper, R: Read + Device, W: Write + Device>(
     ensures closed { OnOk result (IfSome (R.remaining reader.old)
         (λ script. TakesClosed K.takes setup.now workers script keeper.old keeper.new)) }
     // Which fault it is, and what it leaves.
-    ensures refused { IfErr result (λ fault. IsRefusedBy fault (setup_of setup.now) workers (R.remaining reader.old)) }
+    ensures refused { IfErr result (λ fault. IsReplayFault fault (setup_of setup.now) workers (R.remaining reader.old)) }
     ensures left { IfErr result (λ fault.
         LeavesWritten fault setup.now workers (R.remaining reader.old) (W.contents writer.old) (W.contents writer.new)) }
     ensures device { (result ≡ Err ReplayFault.Device)
@@ -407,7 +407,7 @@ pub fn replay<R: Read + Device, W: Write + Device>(
     ensures written { OnOk result (IfSome (R.remaining reader.old)
         (λ script. WritesAll setup.now workers script (W.contents writer.old) (W.contents writer.new))) }
     // Which fault it is, and what it leaves.
-    ensures refused { IfErr result (λ fault. IsRefusedBy fault (setup_of setup.now) workers (R.remaining reader.old)) }
+    ensures refused { IfErr result (λ fault. IsReplayFault fault (setup_of setup.now) workers (R.remaining reader.old)) }
     ensures left { IfErr result (λ fault.
         LeavesWritten fault setup.now workers (R.remaining reader.old) (W.contents writer.old) (W.contents writer.new)) }
     ensures device { (result ≡ Err ReplayFault.Device)

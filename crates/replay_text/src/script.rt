@@ -4,7 +4,7 @@ ghost use Rattle.std.specs.Prelude.{◌≡◌, ◌<◌, ◌≤◌, ◌↔◌, �
 ghost use Rattle.std.specs.Result.{result_err};
 ghost use Rattle.replay_text.specs.Script.{lines_of, meaning_of, steps_from, steps_of_script};
 ghost use Rattle.replay_text.specs.Script.{AreSteps, IsCheckedAs, IsFirstBad};
-ghost use Rattle.replay_text.specs.ScriptWrong.{fault_alone, script_fault_of};
+ghost use Rattle.replay_text.specs.ScriptWrong.{script_fault_alone, script_fault_of};
 ghost use Rattle.floor_core.specs.declared.step.Step.{Step};
 
 use crate::causes::LineFault;
@@ -108,7 +108,7 @@ fn check_lines<'a>(
     text: &'a [u8],
 ) -> Result<(), ReadError<ScriptWrong<'a>>>
     requires { length text.now ≤ MAX_SCRIPT }
-    ensures { IsCheckedAs (fault_alone result) (steps_from names.now workers 1 (lines_of text.now)) }
+    ensures { IsCheckedAs (script_fault_alone result) (steps_from names.now workers 1 (lines_of text.now)) }
 {
     let mut rest = text;
     let mut number: usize = 1;

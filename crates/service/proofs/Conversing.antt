@@ -3,7 +3,7 @@ use Rattle.std.proofs.Common.{ℕ, ◌≡◌, ◌⊎◌, inl, inr, ◌++◌, ◌
 use Rattle.std.proofs.KnownBytes.{Consumes-nil, Consumes-trans}
 use Rattle.std.specs.Io.KnownBytes.{Consumes, IsAtEnd}
 use Rattle.one_list.specs.declared.run.Run.{Ghosts}
-use Rattle.http_link.specs.Connections.{AreAskedBy, AsksNext, Awaits, HeadServed, IsAskedBy, IsOver, IsRefusedBy, IsTurnedAway, ServesNext, TurnedAway}
+use Rattle.http_link.specs.Connections.{AreAskedBy, AsksNext, Awaits, HeadServed, IsAskedBy, IsConnectionOver, IsRequestRefused, IsTurnedAway, ServesNext, TurnedAway}
 use Rattle.http_link.specs.Bodies.{Body, IsBody, bad, cut, whole}
 use Rattle.http_link.specs.Heads.{head_of}
 use Rattle.http_link.specs.Requests.{Wanted, closes, wanted_of}
@@ -47,13 +47,13 @@ stepped_head tenant_of bytes known traces served ended h = by_wanted (wanted_of 
   where
     by_wanted : (want : Result Wanted ℕ) → wanted_of tenant_of (head_of h.head) ≡ want → IsServed want (head_of h.head) h.rest traces served
         → OneAsked tenant_of bytes traces served ⊎ NoneAsked tenant_of bytes traces served known
-    by_wanted (Err status) is so = inr (so.unasked, inl (so.closed, inr (h.head, h.rest, h.begins, subst (λ (w : Result Wanted ℕ). IsRefusedBy w h.rest) (sym is) tt)))
+    by_wanted (Err status) is so = inr (so.unasked, inl (so.closed, inr (h.head, h.rest, h.begins, subst (λ (w : Result Wanted ℕ). IsRequestRefused w h.rest) (sym is) tt)))
     by_wanted (Ok wanted) is so = by_body so.0 so.1 so.2
       where
         by_body : (body : Body) → IsBody wanted.framing h.rest body → ServesBody wanted (head_of h.head) traces served body → OneAsked tenant_of bytes traces served ⊎ NoneAsked tenant_of bytes traces served known
         by_body cut frames so = inr (so.unasked, inr (so.ended, ended so.ended))
         by_body (bad fault) frames so =
-            inr (so.unasked, inl (so.closed, inr (h.head, h.rest, h.begins, subst (λ (w : Result Wanted ℕ). IsRefusedBy w h.rest) (sym is) (fault, frames))))
+            inr (so.unasked, inl (so.closed, inr (h.head, h.rest, h.begins, subst (λ (w : Result Wanted ℕ). IsRequestRefused w h.rest) (sym is) (fault, frames))))
         by_body (whole body after) frames so =
             inl (record {
               asked = asking wanted body so.status;
@@ -217,7 +217,7 @@ talk_kept {J} {r} Gives office before old mid new had now between after traces l
 -- a connection that is closed, or has ended, is over
 pub talk_over : {J : Type 0} {r : Ghosts J} (Gives : ℕ → Type 0) (office : Office J r) (before : Desk J r) (old mid new : Option (List ℕ)) (had : List ℕ) (between after : Desk J r)
     (traces : Traces) (served : Served) (ends : Over) → (served ≡ Kept → ⊥)
-    → ((left : List ℕ) (last : Bool) → IsOver (tenants_of office) served left last new → HasEnded (tenants_of office) ends left last new)
+    → ((left : List ℕ) (last : Bool) → IsConnectionOver (tenants_of office) served left last new → HasEnded (tenants_of office) ends left last new)
     → MoreMayCome → Talk Gives office before old mid had between → ServesNext (tenants_of office) had mid new traces served
     → (traces.Unasked → after ≡ between) → ((asked : Asked) → traces.Asks asked → HasAnswered Gives office between asked after)
     → HasHeard Gives office before old new (Ok ends) after
@@ -229,14 +229,14 @@ talk_over {J} {r} Gives office before old mid new had between after traces serve
     taken : Consumes old new (t.came ++ s.came)
     taken = Consumes-trans old mid new t.came s.came t.taken s.taken
 
-    closed_by : (last : Bool) (left : List ℕ) → served ≡ kept_unless last → IsOver (tenants_of office) served left last new
-    closed_by true left e = subst (λ (w : Served). IsOver (tenants_of office) w left true new) (sym e) (inl refl)
+    closed_by : (last : Bool) (left : List ℕ) → served ≡ kept_unless last → IsConnectionOver (tenants_of office) served left last new
+    closed_by true left e = subst (λ (w : Served). IsConnectionOver (tenants_of office) w left true new) (sym e) (inl refl)
     closed_by false left e = absurd (not_kept e)
 
     over_by : ((served ≡ Closed) × IsTurnedAway (tenants_of office) (had ++ s.came)) ⊎ ((served ≡ Ended) × IsAtEnd new)
-        → IsOver (tenants_of office) served (had ++ s.came) false new
-    over_by (inl (e, away)) = subst (λ (w : Served). IsOver (tenants_of office) w (had ++ s.came) false new) (sym e) (inr away)
-    over_by (inr (e, end)) = subst (λ (w : Served). IsOver (tenants_of office) w (had ++ s.came) false new) (sym e) end
+        → IsConnectionOver (tenants_of office) served (had ++ s.came) false new
+    over_by (inl (e, away)) = subst (λ (w : Served). IsConnectionOver (tenants_of office) w (had ++ s.came) false new) (sym e) (inr away)
+    over_by (inr (e, end)) = subst (λ (w : Served). IsConnectionOver (tenants_of office) w (had ++ s.came) false new) (sym e) end
 
     by_step : OneAsked (tenants_of office) (had ++ s.came) traces served ⊎ NoneAsked (tenants_of office) (had ++ s.came) traces served new
         → HasHeard Gives office before old new (Ok ends) after

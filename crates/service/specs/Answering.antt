@@ -23,7 +23,7 @@ use Rattle.floor_core.specs.Work.{loaded}
 use Rattle.floor_core.specs.declared.parts.Got.{Got}
 use Rattle.workers.specs.Carrying.{IsCarried, IsDone, circumstances, growth}
 use Rattle.workers.specs.Counting.{IsSpent, command_kind, reply_tallied, tallied}
-use Rattle.workers.specs.Replies.{code_of, sends_of, status_of}
+use Rattle.workers.specs.Replies.{http_code, sends_of, status_of}
 use Rattle.workers.specs.declared.governing.GovernFault.{GovernFault}
 use Rattle.workers.specs.declared.governing.GovernFault.TheVariants.{Spent, Stray, Refused}
 use Rattle.workers.specs.declared.governing.GovernFault.TheVariants as govern
@@ -35,8 +35,8 @@ use Rattle.workers.specs.declared.reply.Status.TheVariants as status
 use Rattle.admin_text.specs.Commands.{command_in}
 use Rattle.admin_text.specs.declared.setup.Setup.{Setup}
 use Rattle.admin_text.specs.declared.commands.TextFault.{TextFault}
-use Rattle.replay_text.specs.Printed.{answer_lines, name_of}
-use Rattle.http_link.specs.Connections.{AreAskedBy, IsOver}
+use Rattle.replay_text.specs.Printed.{answer_lines, tenant_name}
+use Rattle.http_link.specs.Connections.{AreAskedBy, IsConnectionOver}
 use Rattle.http_link.specs.Serving.{Asked}
 use Rattle.http_link.specs.declared.request.RequestKind.{RequestKind}
 use Rattle.http_link.specs.declared.request.RequestKind.TheVariants.{Ilp, Admin}
@@ -92,17 +92,17 @@ command_line body = if slice_index_or body (length body - 1) 0 == 10 then take (
 -- a command's answer is printed in its lines (200), unless it is out of memory for them (503)
 abbrev pub IsPrinted : {J : Type 0} {r : Ghosts J} → Office J r → ℕ → Result Answered CommandFault → Status → List ℕ → Type 0
 IsPrinted office tenant answer told printed =
-    ((told ≡ status.Answered) × (printed ≡ answer_lines (name_of office.names.items tenant) answer))
+    ((told ≡ status.Answered) × (printed ≡ answer_lines (tenant_name office.names.items tenant) answer))
     ⊎ (told ≡ status.Unavailable)
 
 -- what the tenant's book answers or refuses is printed; any other fault is a 503
-abbrev pub IsTold : {J : Type 0} {r : Ghosts J} → Office J r → ℕ → Result Answered GovernFault → Status → List ℕ → Type 0
-IsTold office tenant (Ok answered) told printed = IsPrinted office tenant (Ok answered) told printed
-IsTold office tenant (Err Spent) told printed = told ≡ status.Unavailable
-IsTold office tenant (Err govern.Memory) told printed = told ≡ status.Unavailable
-IsTold office tenant (Err Stray) told printed = told ≡ status.Unavailable
-IsTold office tenant (Err (Refused Memory)) told printed = told ≡ status.Unavailable
-IsTold office tenant (Err (Refused fault)) told printed = IsPrinted office tenant (Err fault) told printed
+abbrev pub IsCommandAnswer : {J : Type 0} {r : Ghosts J} → Office J r → ℕ → Result Answered GovernFault → Status → List ℕ → Type 0
+IsCommandAnswer office tenant (Ok answered) told printed = IsPrinted office tenant (Ok answered) told printed
+IsCommandAnswer office tenant (Err Spent) told printed = told ≡ status.Unavailable
+IsCommandAnswer office tenant (Err govern.Memory) told printed = told ≡ status.Unavailable
+IsCommandAnswer office tenant (Err Stray) told printed = told ≡ status.Unavailable
+IsCommandAnswer office tenant (Err (Refused Memory)) told printed = told ≡ status.Unavailable
+IsCommandAnswer office tenant (Err (Refused fault)) told printed = IsPrinted office tenant (Err fault) told printed
 
 -- A command was done or refused by the book of the tenant, counted at the meters, and answered. The books' share has
 -- grown by it: the book's record is the next step of the worker's part of the one list, and that part has no other new
@@ -119,7 +119,7 @@ pub record WasGoverned {J : Type 0} {r : Ghosts J} (Gives : ℕ → Type 0) (off
   pub metered : after.seat ≡ tallied tenant (command_kind answer) before.seat
   pub slot : after.slot ≡ before.slot
   pub sent : after.sent ≡ before.sent
-  pub told_so : IsTold office tenant answer told after.printed.items
+  pub told_so : IsCommandAnswer office tenant answer told after.printed.items
 
 -- A text that spells a command is done, and any other is malformed (400). If it is out of memory to read it, nothing
 -- happens (503).
@@ -162,7 +162,7 @@ WasAsked Gives Admin office asked before told after =
 -- a question was answered with that status, and the text of a 200 is of the question's kind
 pub record HasAnswered {J : Type 0} {r : Ghosts J} (Gives : ℕ → Type 0) (office : Office J r) (before : Desk J r) (asked : Asked) (after : Desk J r) : Type 0 where
   pub told : Status
-  pub code : asked.status ≡ code_of told
+  pub code : asked.status ≡ http_code told
   pub kind : after.told ≡ asked.kind
   pub so : WasAsked Gives asked.kind office asked before told after
 
@@ -188,8 +188,8 @@ tenants_of office name = tenant_named office.names.items name
 -- How a connection with these bytes left ended. No more bytes came; or its last request closed it, or the next one was
 -- turned away; or it gave way, and no byte that was read is left.
 abbrev pub HasEnded : (List ℕ → Option ℕ) → Over → (left : List ℕ) → (last : Bool) → Option (List ℕ) → Type 0
-HasEnded tenant_of Ended left last known = IsOver tenant_of served.Ended left last known
-HasEnded tenant_of Closed left last known = IsOver tenant_of served.Closed left last known
+HasEnded tenant_of Ended left last known = IsConnectionOver tenant_of served.Ended left last known
+HasEnded tenant_of Closed left last known = IsConnectionOver tenant_of served.Closed left last known
 HasEnded tenant_of Yielded left last known = left ≡ []
 
 -- What was heard on a connection: its requests were answered in their order, none passed over and none after the last
@@ -219,18 +219,18 @@ pub record HasServed {J : Type 0} {r : Ghosts J} (Gives : ℕ → Type 0) (offic
 -- ---- a service
 
 -- a share in which nothing is counted
-abbrev pub IsFresh : ShareView → Type 0
-IsFresh share = (audited : Bool) × (worker : ℕ) × (share ≡ fresh audited worker)
+abbrev pub IsUncounted : ShareView → Type 0
+IsUncounted share = (audited : Bool) × (worker : ℕ) × (share ≡ fresh audited worker)
 
 -- a desk at which nothing was asked: its worker has counted nothing
-pub record IsNew {J : Type 0} {r : Ghosts J} (desk : Desk J r) : Type 0 where
-  pub share : IsFresh desk.share
+pub record IsNewDesk {J : Type 0} {r : Ghosts J} (desk : Desk J r) : Type 0 where
+  pub share : IsUncounted desk.share
   pub seat : (tenant : ℕ) (kind : meter.Kind) → count_of tenant kind desk.seat ≡ 0
 
 -- a desk that its connections left
 pub record HasWorked {J : Type 0} {r : Ghosts J} (Gives : ℕ → Type 0) (office : Office J r) (desk : Desk J r) : Type 0 where
   pub new : Desk J r
-  pub is_new : IsNew new
+  pub is_new : IsNewDesk new
   pub served : HasServed Gives office new desk
 
 -- the desks of so many workers, as their connections left them, with these shares, and what they have counted in all

@@ -7,7 +7,7 @@ use Rattle.tenant_core.specs.declared.command.Command.TheVariants.{Roll}
 use Rattle.tenant_core.specs.declared.faults.CommandFault.TheVariants.{Memory}
 use Rattle.tenant_core.specs.declared.period.PeriodParts.{PeriodParts}
 use Rattle.receipts.specs.Audits.{IsComplete, receipts_of}
-use Rattle.receipts.specs.Layout.{IsFault}
+use Rattle.receipts.specs.Layout.{IsAuditFault}
 use Rattle.receipts.specs.Runs.{AreOfRun}
 use Rattle.receipts.specs.declared.fault.AuditFault.{AuditFault}
 use Rattle.receipts.specs.declared.fault.AuditFault.TheVariants.{NoPeriod, Gap, Twice, Missing, Differs, Order}
@@ -111,13 +111,13 @@ AreLacking shares fault =
 -- what an audit of these periods found wrong: all workers have kept receipts, in which the fault is there; or they can't be looked at
 abbrev pub IsWrong : List PeriodParts → List ShareView → AuditFault → Type 0
 IsWrong periods shares fault =
-    (All (λ s. s.audited ≡ true) shares × IsFault periods (lists_of shares) fault) ⊎ AreLacking shares fault
+    (All (λ s. s.audited ≡ true) shares × IsAuditFault periods (lists_of shares) fault) ⊎ AreLacking shares fault
 
 -- the text of an audit, by how it ended: none without an audit or if it ran out of memory; otherwise what it found
-abbrev pub IsFound : (wanted : Bool) → List PeriodParts → List ShareView → AuditEnd → List ℕ → Type 0
-IsFound wanted periods shares Lacked text = text ≡ []
-IsFound false periods shares Good text = text ≡ []
-IsFound false periods shares Bad text = ⊥
-IsFound true periods shares Good text = (receipts : ℕ) × IsCount periods shares receipts × (text ≡ audit_line receipts)
-IsFound true periods shares Bad text =
+abbrev pub IsAuditText : (wanted : Bool) → List PeriodParts → List ShareView → AuditEnd → List ℕ → Type 0
+IsAuditText wanted periods shares Lacked text = text ≡ []
+IsAuditText false periods shares Good text = text ≡ []
+IsAuditText false periods shares Bad text = ⊥
+IsAuditText true periods shares Good text = (receipts : ℕ) × IsCount periods shares receipts × (text ≡ audit_line receipts)
+IsAuditText true periods shares Bad text =
     (fault : AuditFault) × IsWrong periods shares fault × (text ≡ audit_told (fault_word fault))

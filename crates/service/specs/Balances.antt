@@ -6,7 +6,7 @@ use Rattle.tenant_core.specs.Governed.{command_answer}
 use Rattle.tenant_core.specs.declared.command.Command.TheVariants.{Balances}
 use Rattle.floor_core.specs.declared.step.Output.{Output}
 use Rattle.floor_core.specs.declared.step.Output.TheVariants.{Governed}
-use Rattle.replay_text.specs.Printed.{line_of}
+use Rattle.replay_text.specs.Printed.{output_line}
 
 -- the answer of a book to the command `balances`
 abbrev pub balances_told : State → Output
@@ -14,4 +14,4 @@ balances_told book = Governed book.opening.tenant (command_answer book Balances 
 
 -- the lines of that, for some books with their numbers
 abbrev pub balance_lines : List (List ℕ) → List (State × ℕ) → List ℕ
-balance_lines names books = flat_map (λ book. line_of names (balances_told book.0)) books
+balance_lines names books = flat_map (λ book. output_line names (balances_told book.0)) books

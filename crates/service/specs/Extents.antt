@@ -3,13 +3,13 @@ use Rattle.std.specs.Prelude.{ℕ, ◌-◌, ◌*◌, ◌/◌, ◌^◌, ◌||◌,
 use Rattle.service.specs.declared.running.plan.Plan.{Plan}
 
 -- whether each tenant's running period is closed at the end: for an audit, or for its statement
-abbrev pub closes : Plan → Bool
-closes plan = plan.report.audit || is_some plan.statements
+abbrev pub closes_at_end : Plan → Bool
+closes_at_end plan = plan.report.audit || is_some plan.statements
 
 -- so many connections in all: so many rounds for each worker; without rounds as many as can be counted
-abbrev pub total_of : (workers : ℕ) → (rounds : Option ℕ) → ℕ
-total_of workers (Some rounds) = workers * rounds
-total_of workers None = 2 ^ 64 - 1
+abbrev pub connection_total : (workers : ℕ) → (rounds : Option ℕ) → ℕ
+connection_total workers (Some rounds) = workers * rounds
+connection_total workers None = 2 ^ 64 - 1
 
 -- so many packets of each tenant may wait for a place: an equal part of half of the connections beyond the places
 abbrev pub most_waiting_of : (connections places tenants : ℕ) → ℕ

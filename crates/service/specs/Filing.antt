@@ -5,13 +5,13 @@ use Rattle.tenant_core.specs.declared.period.PeriodParts.{PeriodParts}
 use Rattle.statements.specs.Statement.{IsStatement}
 
 -- a statement to keep: whose, of which period, and its text
-pub record Stated : Type 0 where
+pub record StatementToKeep : Type 0 where
   pub name : List ℕ
   pub period : ℕ
   pub text : List ℕ
 
 -- it is the statement of that closed period
-pub record IsStatedOf (p : PeriodParts) (s : Stated) : Type 0 where
+pub record IsStatedOf (p : PeriodParts) (s : StatementToKeep) : Type 0 where
   pub name : s.name ≡ p.opening.name
   pub period : s.period ≡ p.opening.period
   pub text : IsStatement s.text p
@@ -22,18 +22,18 @@ Telling S = S → List ℕ → ℕ → Option Bool → S → Type 0
 
 -- what a store does: it keeps a statement, or does not
 abbrev pub Keeping : Type 0 → Type 1
-Keeping S = S → Stated → Bool → S → Type 0
+Keeping S = S → StatementToKeep → Bool → S → Type 0
 
 -- the store said that it has no statement of the period; then that was handed to it
 pub record WasHanded {S : Type 0} (Tells : Telling S) (Keeps : Keeping S) (p : PeriodParts) (kept : Bool) (before after : S) : Type 0 where
-  pub statement : Stated
+  pub statement : StatementToKeep
   pub is_of : IsStatedOf p statement
   pub between : S
   pub is_new : Tells before p.opening.name p.opening.period (Some false) between
   pub handed : Keeps between statement kept after
 
 -- the store was asked, and did not say that it has none; nothing was handed to it
-pub record WasAsked {S : Type 0} (Tells : Telling S) (p : PeriodParts) (before after : S) : Type 0 where
+pub record WasStatementAsked {S : Type 0} (Tells : Telling S) (p : PeriodParts) (before after : S) : Type 0 where
   pub answer : Option Bool
   pub is_known : answer ≢ Some false
   pub told : Tells before p.opening.name p.opening.period answer after
@@ -43,7 +43,7 @@ pub record WasAsked {S : Type 0} (Tells : Telling S) (p : PeriodParts) (before a
 abbrev pub IsFiled : {S : Type 0} → Telling S → Keeping S → PeriodParts → (kept : Bool) → (before after : S) → Type 0
 IsFiled Tells Keeps p true before after = WasHanded Tells Keeps p true before after
 IsFiled Tells Keeps p false before after =
-    WasHanded Tells Keeps p false before after ⊎ (WasAsked Tells p before after ⊎ (after ≡ before))
+    WasHanded Tells Keeps p false before after ⊎ (WasStatementAsked Tells p before after ⊎ (after ≡ before))
 
 -- the line of a period whose statement is not kept
 unfoldable pub missing_line : PeriodParts → List ℕ

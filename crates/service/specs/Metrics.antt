@@ -16,21 +16,21 @@ use Rattle.service.specs.declared.host.metrics.TenantCounts.{TenantCounts}
 -- ---- families
 
 -- the name of a family of numbers
-abbrev pub name_of : Family → List ℕ
-name_of Accepts = codes "ilpd_accepts_connections"
-name_of Open = codes "ilpd_connections_open"
-name_of Waiting = codes "ilpd_threads_waiting"
-name_of Answers = codes "ilpd_answers_total"
-name_of LinkFaults = codes "ilpd_link_faults_total"
-name_of RefusedTokens = codes "ilpd_operator_tokens_refused_total"
-name_of PlacesShare = codes "ilpd_places_share"
-name_of PlacesUsed = codes "ilpd_places_used"
-name_of PlacesAwaited = codes "ilpd_places_awaited"
-name_of Period = codes "ilpd_period"
-name_of Entries = codes "ilpd_journal_entries"
-name_of JournalPlaces = codes "ilpd_journal_places"
-name_of OpenHolds = codes "ilpd_holds_open"
-name_of StatementsWaiting = codes "ilpd_statements_waiting"
+abbrev pub family_name : Family → List ℕ
+family_name Accepts = codes "ilpd_accepts_connections"
+family_name Open = codes "ilpd_connections_open"
+family_name Waiting = codes "ilpd_threads_waiting"
+family_name Answers = codes "ilpd_answers_total"
+family_name LinkFaults = codes "ilpd_link_faults_total"
+family_name RefusedTokens = codes "ilpd_operator_tokens_refused_total"
+family_name PlacesShare = codes "ilpd_places_share"
+family_name PlacesUsed = codes "ilpd_places_used"
+family_name PlacesAwaited = codes "ilpd_places_awaited"
+family_name Period = codes "ilpd_period"
+family_name Entries = codes "ilpd_journal_entries"
+family_name JournalPlaces = codes "ilpd_journal_places"
+family_name OpenHolds = codes "ilpd_holds_open"
+family_name StatementsWaiting = codes "ilpd_statements_waiting"
 
 -- what it is, in words
 abbrev pub help_of : Family → List ℕ
@@ -57,10 +57,10 @@ type_of RefusedTokens = codes "counter"
 type_of _ = codes "gauge"
 
 -- the lines before the numbers of a family
-unfoldable pub head_of : Family → List ℕ
-head_of family =
-    codes "# HELP " ++ name_of family ++ codes " " ++ help_of family
-    ++ codes "\n# TYPE " ++ name_of family ++ codes " " ++ type_of family ++ codes "\n"
+unfoldable pub family_head : Family → List ℕ
+family_head family =
+    codes "# HELP " ++ family_name family ++ codes " " ++ help_of family
+    ++ codes "\n# TYPE " ++ family_name family ++ codes " " ++ type_of family ++ codes "\n"
 
 -- ---- lines
 
@@ -70,15 +70,15 @@ number_text number = codes " " ++ decimal number ++ codes "\n"
 
 -- a family of one number
 unfoldable pub single_text : Family → ℕ → List ℕ
-single_text family number = head_of family ++ name_of family ++ number_text number
+single_text family number = family_head family ++ family_name family ++ number_text number
 
 -- whose number it is
 unfoldable pub label_of : Family → List ℕ → List ℕ
-label_of family tenant = name_of family ++ codes "{tenant=\"" ++ tenant ++ codes "\""
+label_of family tenant = family_name family ++ codes "{tenant=\"" ++ tenant ++ codes "\""
 
 -- the line of a tenant's number
-unfoldable pub line_of : Family → List ℕ → ℕ → List ℕ
-line_of family tenant number = label_of family tenant ++ codes "}" ++ number_text number
+unfoldable pub family_line : Family → List ℕ → ℕ → List ℕ
+family_line family tenant number = label_of family tenant ++ codes "}" ++ number_text number
 
 -- the line that says how many answers to a tenant's packets and commands had a status
 unfoldable pub answer_line : List ℕ → List ℕ → ℕ → List ℕ
@@ -109,11 +109,11 @@ answers_of counts =
 
 -- the answers of all tenants
 unfoldable pub all_answers : List TenantCounts → List ℕ
-all_answers all = head_of Answers ++ flat_map answers_of all
+all_answers all = family_head Answers ++ flat_map answers_of all
 
 -- a family of numbers of the tenants
 unfoldable pub each_text : Family → List TenantCounts → List ℕ
-each_text family all = head_of family ++ flat_map (λ counts. line_of family counts.name.now (figure_of family counts)) all
+each_text family all = family_head family ++ flat_map (λ counts. family_line family counts.name.now (figure_of family counts)) all
 
 -- 1 or 0
 abbrev pub bit : Bool → ℕ

@@ -21,10 +21,10 @@ time_for Idle Stopping = 1
 time_for Busy Stopping = 5000
 
 -- what is left of that; in a service that stops, only the milliseconds since the stop count
-abbrev pub left_of : Activity → Rush → (spent stopping : ℕ) → ℕ
-left_of activity Calm spent stopping = time_for activity Calm - spent
-left_of activity Crowded spent stopping = time_for activity Crowded - spent
-left_of activity Stopping spent stopping = time_for activity Stopping - stopping
+abbrev pub time_left : Activity → Rush → (spent stopping : ℕ) → ℕ
+time_left activity Calm spent stopping = time_for activity Calm - spent
+time_left activity Crowded spent stopping = time_for activity Crowded - spent
+time_left activity Stopping spent stopping = time_for activity Stopping - stopping
 
 -- only for others that wait: at once after an answer 400 or 401, and after a second in all
 abbrev pub yields : Rush → (status served : ℕ) → Bool

@@ -21,7 +21,7 @@ pub record WereHanded {S : Type 0} (Tells : TellingReceipts S) (Keeps : KeepingR
   pub handed : Keeps between (receipts_text (lists_of shares)) kept after
 
 -- the store was asked, and did not say that it has none; nothing was handed to it
-pub record WasAsked {S : Type 0} (Tells : TellingReceipts S) (before after : S) : Type 0 where
+pub record WereReceiptsAsked {S : Type 0} (Tells : TellingReceipts S) (before after : S) : Type 0 where
   pub answer : Option Bool
   pub is_known : answer ≢ Some false
   pub told : Tells before answer after
@@ -31,4 +31,4 @@ pub record WasAsked {S : Type 0} (Tells : TellingReceipts S) (before after : S) 
 abbrev pub AreReceiptsFiled : {S : Type 0} → TellingReceipts S → KeepingReceipts S → List ShareView → (kept : Bool) → (before after : S) → Type 0
 AreReceiptsFiled Tells Keeps shares true before after = WereHanded Tells Keeps shares true before after
 AreReceiptsFiled Tells Keeps shares false before after =
-    WereHanded Tells Keeps shares false before after ⊎ (WasAsked Tells before after ⊎ (after ≡ before))
+    WereHanded Tells Keeps shares false before after ⊎ (WereReceiptsAsked Tells before after ⊎ (after ≡ before))

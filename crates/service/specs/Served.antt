@@ -19,8 +19,8 @@ told_text Admin reply printed = printed
 
 -- the line of a tenant: how many packets and commands were answered with which status, and how often a peer gave no
 -- answer
-unfoldable pub line_of : List ℕ → ℕ → TotalsState → List ℕ
-line_of name tenant totals =
+unfoldable pub served_line : List ℕ → ℕ → TotalsState → List ℕ
+served_line name tenant totals =
     name ++ codes " 200 " ++ decimal (total_of tenant kind.Answered totals)
     ++ codes " 4xx " ++ decimal (total_of tenant kind.ClientError totals)
     ++ codes " 503 " ++ decimal (total_of tenant kind.Unavailable totals)
@@ -29,4 +29,4 @@ line_of name tenant totals =
 -- the lines of the tenants below a number
 abbrev pub lines_upto : ℕ → List (List ℕ) → TotalsState → List ℕ
 lines_upto zero names totals = []
-lines_upto (suc n) names totals = lines_upto n names totals ++ line_of (slice_index_or names n []) n totals
+lines_upto (suc n) names totals = lines_upto n names totals ++ served_line (slice_index_or names n []) n totals

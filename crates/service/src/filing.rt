@@ -2,7 +2,7 @@
 
 ghost use Rattle.std.specs.Prelude.{◌≡◌, ◌++◌, Bool, List, Option, OnOk, ℕ};
 ghost use Rattle.std.specs.Fmt.{decimal};
-ghost use Rattle.service.specs.Filing.{AreFiled, IsFiled, Stated, line_unless, missing_line};
+ghost use Rattle.service.specs.Filing.{AreFiled, IsFiled, StatementToKeep, line_unless, missing_line};
 
 pub mod disk;
 pub mod folder;
@@ -27,7 +27,7 @@ pub trait StatementStore {
     ghost tells: { Self → List ℕ → ℕ → Option Bool → Self → Type 0 };
 
     /// What keeping does: the store before, the statement, whether it is kept now, and the store after.
-    ghost keeps: { Self → Stated → Bool → Self → Type 0 };
+    ghost keeps: { Self → StatementToKeep → Bool → Self → Type 0 };
 
     /// Whether there is a statement of a tenant's period; `None` if that is not known.
     fn has(&mut self, name: &Name, period: u64) -> Option<bool>

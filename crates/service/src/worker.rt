@@ -1,7 +1,7 @@
 //! A worker, and what it answers to requests.
 
 ghost use Rattle.std.specs.Prelude.{◌≡◌, [], nat_lt};
-ghost use Rattle.workers.specs.Replies.{code_of};
+ghost use Rattle.workers.specs.Replies.{http_code};
 ghost use Rattle.http_link.specs.declared.request.RequestKind.TheVariants.{Admin};
 ghost use Rattle.service.specs.Answering.{HasAnswered, HasHeard, HasServed, WasOrdered};
 ghost use Rattle.service.specs.Served.{tenant_named, told_text};
@@ -155,7 +155,7 @@ impl<H: Wait + Net<Stream = TcpStream> + std::time::Clock + Disk, C: Clock, J: R
         ensures clock { self.new.clock ≡ self.old.clock }
         ensures kind { self.new.desk.told ≡ self.old.desk.told }
         ensures ordered { WasOrdered (C.gives self.old.clock.now) (nat_lt tenant self.old.office.now.books.tenants) self.old.office.now
-            (record { kind = Admin; tenant = tenant; token = token.now; body = body.now; status = code_of result }) self.old.desk result self.new.desk }
+            (record { kind = Admin; tenant = tenant; token = token.now; body = body.now; status = http_code result }) self.old.desk result self.new.desk }
     {
         let office = self.office;
         let Some(terms) = office.terms.get(tenant) else {

@@ -6,7 +6,7 @@ use Rattle.std.proofs.lemmas.List.{append-nil, append_assoc}
 use Rattle.std.proofs.lemmas.List.Sums.{fold_push, sum_by_push}
 use Rattle.std.proofs.lemmas.List.Elements.{All-nil, All-push}
 use Rattle.std.proofs.lemmas.Slice.Zip.{all_zipped_more}
-use Rattle.statements.specs.Chain.{AreDone, AreJoined, Continues, Done, IsChain, IsRun, Link, Opens}
+use Rattle.statements.specs.Chain.{AreDone, AreChained, Continues, Done, IsChain, IsRun, Link, Opens}
 use Rattle.statements.specs.Chain.{due_behind, lines_behind, lines_done, links_of, records_of}
 use Rattle.statements.specs.Chain.Link.{Begun, Stated}
 use Rattle.statements.specs.Due.{Start, due_after, due_by}
@@ -19,8 +19,8 @@ use Rattle.statements.specs.declared.line.Line.{Line}
 use Rattle.tenant_core.specs.Closing.{IsPeriod}
 use Rattle.tenant_core.specs.declared.period.PeriodParts.{PeriodParts}
 
-joined_more : (due : Due) (ps : List PeriodParts) (p : PeriodParts) → AreJoined due ps → Opens (due_after due ps) p
-    → AreJoined due (ps ++ p ∷ [])
+joined_more : (due : Due) (ps : List PeriodParts) (p : PeriodParts) → AreChained due ps → Opens (due_after due ps) p
+    → AreChained due (ps ++ p ∷ [])
 joined_more due [] p joined opens = (opens, tt)
 joined_more due (q ∷ qs) p joined opens = (joined.0, joined_more (Ending q.ending) qs p joined.1 opens)
 

@@ -4,7 +4,7 @@ use Rattle.std.specs.Prelude.{Some, None, option_map, get_or}
 use Rattle.std.specs.List.{slice_get}
 use Rattle.std.proofs.lemmas.List.{drop_all}
 use Rattle.std.proofs.lemmas.Option.{slice_get-map, slice_get_read}
-use Rattle.statements.specs.Known.{anew}
+use Rattle.statements.specs.Known.{number_in_next}
 use Rattle.tenant_core.specs.declared.peer.Peer.{Peer}
 
 one_of : {B : Type 0} (x y : B) → Some x ≡ Some y → x ≡ y
@@ -19,10 +19,10 @@ alike_at f xs ys k x y same inside within at there =
     one_of (f x) (f y)
     (sym one ∙ (sym (slice_get-map f xs k) ∙ (ap (λ zs. slice_get zs k) same ∙ (slice_get-map f ys k ∙ two))))
 
-anew_none : (ps : List Peer) (n : ℕ) → anew ps [] n ≡ None
+anew_none : (ps : List Peer) (n : ℕ) → number_in_next ps [] n ≡ None
 anew_none [] n = refl
 anew_none (p ∷ ps) n = refl
 
 -- nobody has a number at a place where there is nobody
-pub anew_past : (ps qs : List Peer) (k n : ℕ) → length qs ≤ k → anew (drop k ps) (drop k qs) n ≡ None
-anew_past ps qs k n past = ap (λ (rest : List Peer). anew (drop k ps) rest n) (drop_all k qs past) ∙ anew_none (drop k ps) n
+pub anew_past : (ps qs : List Peer) (k n : ℕ) → length qs ≤ k → number_in_next (drop k ps) (drop k qs) n ≡ None
+anew_past ps qs k n past = ap (λ (rest : List Peer). number_in_next (drop k ps) rest n) (drop_all k qs past) ∙ anew_none (drop k ps) n

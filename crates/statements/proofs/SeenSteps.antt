@@ -5,7 +5,7 @@ use Rattle.std.specs.List.{slice_get}
 use Rattle.std.proofs.lemmas.List.{append-nil, append_assoc, take_more}
 use Rattle.std.proofs.lemmas.List.Sums.{fold_push}
 use Rattle.std.proofs.lemmas.Option.{slice_get_within, get_or_from_slice_get}
-use Rattle.statements.specs.Seen.{seen_by, seen_among}
+use Rattle.statements.specs.Seen.{seen_added, seen_among}
 use Rattle.statements.specs.declared.seen.PeerSeen.{PeerSeen}
 use Rattle.tenant_core.specs.Peers.{next_by}
 use Rattle.tenant_core.specs.declared.journal.Record.{Record}
@@ -15,11 +15,11 @@ abbrev pub next_after : ℕ → List Record → ℕ
 next_after n rs = fold (λ k r. next_by k r.entry) n rs
 
 among_more : (n : ℕ) (rs : List Record) (r : Record)
-    → seen_among n (rs ++ r ∷ []) ≡ seen_among n rs ++ seen_by (next_after n rs) r.entry
-among_more n [] r = append-nil (seen_by n r.entry)
+    → seen_among n (rs ++ r ∷ []) ≡ seen_among n rs ++ seen_added (next_after n rs) r.entry
+among_more n [] r = append-nil (seen_added n r.entry)
 among_more n (q ∷ rs) r =
-    ap (λ (xs : List PeerSeen). seen_by n q.entry ++ xs) (among_more (next_by n q.entry) rs r)
-    ∙ sym (append_assoc (seen_by n q.entry) (seen_among (next_by n q.entry) rs) (seen_by (next_after (next_by n q.entry) rs) r.entry))
+    ap (λ (xs : List PeerSeen). seen_added n q.entry ++ xs) (among_more (next_by n q.entry) rs r)
+    ∙ sym (append_assoc (seen_added n q.entry) (seen_among (next_by n q.entry) rs) (seen_added (next_after (next_by n q.entry) rs) r.entry))
 
 one_more_record : (rs : List Record) (k : ℕ) (r : Record) → slice_get rs k ≡ Some r → take (k + 1) rs ≡ take k rs ++ r ∷ []
 one_more_record rs k r at =
@@ -31,5 +31,5 @@ next_more n rs k r at =
     ap (next_after n) (one_more_record rs k r at) ∙ fold_push (λ m x. next_by m x.entry) n (take k rs) r
 
 pub seen_more : (n : ℕ) (rs : List Record) (k : ℕ) (r : Record) → slice_get rs k ≡ Some r
-    → seen_among n (take (k + 1) rs) ≡ seen_among n (take k rs) ++ seen_by (next_after n (take k rs)) r.entry
+    → seen_among n (take (k + 1) rs) ≡ seen_among n (take k rs) ++ seen_added (next_after n (take k rs)) r.entry
 seen_more n rs k r at = ap (seen_among n) (one_more_record rs k r at) ∙ among_more n (take k rs) r

@@ -2,7 +2,7 @@
 -- the next one opens as the first period of a setup does, which has what the one before it ended with.
 use Rattle.std.specs.Prelude.{ℕ, ◌≡◌, List, [], ◌∷◌, ◌++◌, All, fold, map, length, sum_by}
 use Rattle.std.specs.List.{AllZip, flat_map}
-use Rattle.statements.specs.Known.{GoesOn, IsStatedAs}
+use Rattle.statements.specs.Known.{IsSameSetup, IsStatedAs}
 use Rattle.statements.specs.Line.{line_anew, lines_after}
 use Rattle.statements.specs.Due.{Start, due_after, due_by, opening_due, peers_of}
 use Rattle.statements.specs.Statement.{IsStatement}
@@ -30,24 +30,24 @@ Opens (Ending before) p = p.opening ≡ before
 Opens (Setup first) p = IsStatedAs p.opening first
 
 -- the first of the periods opens with what is due, and each other one with what the one before it ended with
-abbrev pub AreJoined : Due → List PeriodParts → Type 0
-AreJoined due [] = Unit {0}
-AreJoined due (p ∷ ps) = Opens due p × AreJoined (Ending p.ending) ps
+abbrev pub AreChained : Due → List PeriodParts → Type 0
+AreChained due [] = Unit {0}
+AreChained due (p ∷ ps) = Opens due p × AreChained (Ending p.ending) ps
 
 -- there are closed periods, one for each text, which states it word for word; a roll closes each of them. The first
 -- opens with what is due, and each other one with what the one before it ended with
 pub record IsRun (due : Due) (texts : List (List ℕ)) (ps : List PeriodParts) : Type 0 where
   pub stated : AllZip IsStatement texts ps
   pub closed : All IsPeriod ps
-  pub joined : AreJoined due ps
+  pub joined : AreChained due ps
 
 -- ---- one run of the service after another
 
 -- the setup has what is due of the tenant, as a running service would write it
 abbrev pub Continues : Due → Start → Type 0
 Continues Anything s = Unit {0}
-Continues (Ending o) s = GoesOn (present_setup (opened o) s.setup.admin) s.setup
-Continues (Setup o) s = GoesOn (present_setup (opened o) s.setup.admin) s.setup
+Continues (Ending o) s = IsSameSetup (present_setup (opened o) s.setup.admin) s.setup
+Continues (Setup o) s = IsSameSetup (present_setup (opened o) s.setup.admin) s.setup
 
 -- the statements of a run of the service, their periods, and the setup that it began with again
 pub record Done : Type 0 where

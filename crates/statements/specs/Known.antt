@@ -37,12 +37,12 @@ known p =
     }
 
 -- the same under its number, with what its bucket holds: all that a statement has of a peer
-pub record Stated : Type 0 where
+pub record KnownByNumber : Type 0 where
   pub number : ℕ
   pub known : Known
   pub level : Level
 
-abbrev pub stated : Peer → Stated
+abbrev pub stated : Peer → KnownByNumber
 stated p = record { number = p.number; known = known p; level = p.bucket }
 
 -- two openings are the same, but for the tokens and the targets of peers
@@ -64,13 +64,13 @@ pub record IsStatedAs (o other : Opening) : Type 0 where
 -- ---- numbered anew
 
 -- the number of the other peer that is at the place of the peer of that number, if there is one
-abbrev pub anew : List Peer → List Peer → ℕ → Option ℕ
-anew (p ∷ ps) (q ∷ qs) n = if p.number == n then Some q.number else anew ps qs n
-anew ps qs n = None
+abbrev pub number_in_next : List Peer → List Peer → ℕ → Option ℕ
+number_in_next (p ∷ ps) (q ∷ qs) n = if p.number == n then Some q.number else number_in_next ps qs n
+number_in_next ps qs n = None
 
 -- the same; 0 if none of these has that number
 abbrev pub anew_or : List Peer → List Peer → ℕ → ℕ
-anew_or ps qs n = unwrap_or (anew ps qs n) 0
+anew_or ps qs n = unwrap_or (number_in_next ps qs n) 0
 
 -- a route with its peer numbered so
 abbrev pub led : (ℕ → ℕ) → Route → Route
@@ -88,7 +88,7 @@ pub record AreLed (to : ℕ → ℕ) (routes others : RouteMap) : Type 0 where
 
 -- one setup of a tenant says what the other one does, but for the tokens, the targets and the numbers of peers, and what their
 -- buckets hold
-pub record GoesOn (t other : TenantTerms) : Type 0 where
+pub record IsSameSetup (t other : TenantTerms) : Type 0 where
   pub name : t.name ≡ other.name
   pub address : t.address ≡ other.address
   pub journal : t.journal ≡ other.journal

@@ -2,12 +2,12 @@
 use Rattle.std.specs.Prelude.{ℕ, ℤ, pos, ◌+◌, List, [], ◌∷◌, ◌++◌, map, sum_by, Option, Some, None, option_and_then}
 use Rattle.std.specs.List.{flat_map}
 use Rattle.statements.specs.Due.{due_after, opening_due}
-use Rattle.statements.specs.Known.{anew}
+use Rattle.statements.specs.Known.{number_in_next}
 use Rattle.statements.specs.Seen.{seen_before, seen_during}
 use Rattle.statements.specs.Totals.{came_from, fees_from, fulfilled_from, fulfilled_to, settled_from, settled_to, went_to}
 use Rattle.statements.specs.declared.due.Due.{Due}
 use Rattle.statements.specs.declared.line.Line.{Line}
-use Rattle.statements.specs.declared.line.Told.{Told}
+use Rattle.statements.specs.declared.line.PeerSums.{PeerSums}
 use Rattle.statements.specs.declared.seen.PeerSeen.{PeerSeen}
 use Rattle.tenant_core.specs.Network.{peer_numbered}
 use Rattle.tenant_core.specs.Purse.{opening_balance}
@@ -21,7 +21,7 @@ balance_in None n = pos 0
 balance_in (Some ending) n = opening_balance (peer_numbered n ending.network.peers)
 
 -- the sums of periods for a peer, if that is due after them
-abbrev pub told_of : Due → List PeriodParts → ℕ → Told
+abbrev pub told_of : Due → List PeriodParts → ℕ → PeerSums
 told_of due ps n =
     record {
       ended = balance_in (opening_due due) n;
@@ -35,7 +35,7 @@ told_of due ps n =
     }
 
 -- the sums before and after, together: of both, with what is owed after both
-abbrev pub told_both : Told → Told → Told
+abbrev pub told_both : PeerSums → PeerSums → PeerSums
 told_both before after =
     record {
       ended = after.ended;
@@ -49,16 +49,16 @@ told_both before after =
     }
 
 -- the line of a peer that a run of the service has for the first time, with these sums
-abbrev pub line_of : (ℕ → Told) → PeerSeen → Line
+abbrev pub line_of : (ℕ → PeerSums) → PeerSeen → Line
 line_of told s = record { seen = s; here = Some s.number; told = told s.number }
 
 -- the line of a peer that was there before, after a run in which it has that number, or in which it is not there any
 -- more
-abbrev pub line_under : (ℕ → Told) → Line → Option ℕ → Line
+abbrev pub line_under : (ℕ → PeerSums) → Line → Option ℕ → Line
 line_under told l None = l
 line_under told l (Some n) = record l { told = told_both l.told (told n) }
 
-abbrev pub line_with : (ℕ → Told) → Line → Line
+abbrev pub line_with : (ℕ → PeerSums) → Line → Line
 line_with told l = line_under told l l.here
 
 -- the peers that have no line yet: those that a run added, and, if nobody had one, those that it began with
@@ -67,7 +67,7 @@ newcomers [] first added = first ++ added
 newcomers (l ∷ ls) first added = added
 
 -- the lines after a run with these sums
-abbrev pub lines_with : (ℕ → Told) → List Line → (first added : List PeerSeen) → List Line
+abbrev pub lines_with : (ℕ → PeerSums) → List Line → (first added : List PeerSeen) → List Line
 lines_with told ls first added = map (line_with told) ls ++ map (line_of told) (newcomers ls first added)
 
 -- the lines after a run of these periods, which began with what was due
@@ -77,4 +77,4 @@ lines_after ls due ps = lines_with (told_of (due_after due ps) ps) ls (seen_befo
 -- a line once the service began again, whose peers have the numbers of the others from then on; no number if its peer
 -- is gone
 abbrev pub line_anew : List Peer → List Peer → Line → Line
-line_anew peers others l = record l { here = option_and_then (anew peers others) l.here }
+line_anew peers others l = record l { here = option_and_then (number_in_next peers others) l.here }

@@ -20,14 +20,14 @@ seen_in next (PeerAdded t) = (record { number = next; name = t.name; began = pos
 seen_in next _ = []
 
 -- the peer that an entry adds
-abbrev pub seen_by : ℕ → Entry → List PeerSeen
-seen_by next (Change c) = seen_in next c.change
-seen_by next _ = []
+abbrev pub seen_added : ℕ → Entry → List PeerSeen
+seen_added next (Change c) = seen_in next c.change
+seen_added next _ = []
 
 -- the peers that records add, of which the first gets that number
 abbrev pub seen_among : ℕ → List Record → List PeerSeen
 seen_among next [] = []
-seen_among next (r ∷ rs) = seen_by next r.entry ++ seen_among (next_by next r.entry) rs
+seen_among next (r ∷ rs) = seen_added next r.entry ++ seen_among (next_by next r.entry) rs
 
 -- the peers that a period added
 abbrev pub seen_during : PeriodParts → List PeerSeen

@@ -6,10 +6,10 @@ ghost use Rattle.statements.specs.Chain.{Continues, IsApart, IsChain, Link, Open
 ghost use Rattle.statements.specs.Chain.Link.{Begun, Stated};
 ghost use Rattle.statements.specs.Due.{opening_due, peers_of, start_at};
 ghost use Rattle.statements.specs.Gone.{IsGone};
-ghost use Rattle.statements.specs.Known.{GoesOn};
+ghost use Rattle.statements.specs.Known.{IsSameSetup};
 ghost use Rattle.statements.specs.Line.{line_anew};
 ghost use Rattle.statements.specs.Statement.{IsStatement};
-ghost use Rattle.statements.specs.Summary.{lines_of};
+ghost use Rattle.statements.specs.Summary.{chain_lines};
 ghost use Rattle.statements.specs.declared.chain.ChainFault.TheVariants as fault;
 ghost use Rattle.tenant_core.specs.PresentSetup.{present_setup};
 ghost use Rattle.tenant_core.specs.State.{opened};
@@ -96,7 +96,7 @@ pub fn present(
 
 // Whether a setup has what a tenant has whose next period opens so.
 fn has(alloc: Global, opening: &Opening, setup: &TenantSetup) -> Result<bool, ReadError<ChainFault>>
-    ensures { IfOk result (λ has. IsTrue has → GoesOn (present_setup (opened opening.now) setup.now.admin) setup.now) }
+    ensures { IfOk result (λ has. IsTrue has → IsSameSetup (present_setup (opened opening.now) setup.now.admin) setup.now) }
 {
     let present = present(alloc, opening, setup.terms().admin.copy())?;
     Ok(goes_on(alloc, present.terms(), setup.terms())?)
@@ -156,7 +156,7 @@ impl Chain {
     fn past_anew(&self, alloc: Global, setup: &TenantSetup) -> Summed<Past>
         ensures { IfOk result (λ past. (past.periods ≡ self.now.past.periods + self.now.totals.periods)
             × (past.entries ≡ self.now.past.entries + self.now.totals.entries)
-            × (past.lines.items ≡ map (line_anew (peers_of (opening_due self.now.due)) setup.now.network.peers) (lines_of self.now))) }
+            × (past.lines.items ≡ map (line_anew (peers_of (opening_due self.now.due)) setup.now.network.peers) (chain_lines self.now))) }
     {
         let lines = lines_of(alloc, self)?;
         let peers = peers_of(self.due.opening());

@@ -1,7 +1,7 @@
 //! What two descriptions of a tenant have in common.
 
 ghost use Rattle.std.specs.Prelude.{◌≡◌, ◌↔◌, IfOk, IsTrue, map};
-ghost use Rattle.statements.specs.Known.{anew, anew_or, known, led, rated, stated, AreLed, GoesOn, IsStatedAs};
+ghost use Rattle.statements.specs.Known.{number_in_next, anew_or, known, led, rated, stated, AreLed, IsSameSetup, IsStatedAs};
 
 use route_table::{Route, Routes};
 use std::alloc::{AllocError, Global};
@@ -89,7 +89,7 @@ pub fn opens_as(opening: &Opening, other: &Opening) -> bool
 
 /// The number of the other peer that is at the place of the peer of that number. `None` if there is none.
 pub fn anew(peers: &[Peer], others: &[Peer], number: PeerNo) -> Option<PeerNo>
-    ensures { result ≡ anew peers.now others.now number }
+    ensures { result ≡ number_in_next peers.now others.now number }
 {
     for place in 0..peers.len() {
         let other = others.get(place)?;
@@ -179,7 +179,7 @@ fn agree_the_same(terms: &TenantTerms, other: &TenantTerms) -> bool
 /// Whether one setup of a tenant says what the other one does, but for the tokens, the targets and the numbers of
 /// peers, and what their buckets hold. Fails only if it is out of memory.
 pub fn goes_on(alloc: Global, terms: &TenantTerms, other: &TenantTerms) -> Result<bool, AllocError>
-    ensures { IfOk result (λ same. IsTrue same → GoesOn terms.now other.now) }
+    ensures { IfOk result (λ same. IsTrue same → IsSameSetup terms.now other.now) }
 {
     let (before, after) = (&terms.network, &other.network);
     let same = agree_the_same(terms, other)

@@ -23,7 +23,7 @@ mod written;
 pub use chain::{Chain, ChainFault};
 pub use checked::{StatementFault, check_statement, first_difference};
 pub use entry::entry_in;
-pub use line::{Line, Told};
+pub use line::{Line, PeerSums};
 pub use put::put_number;
 pub use seen::PeerSeen;
 pub use shown::{SetupLines, line_at, line_of, ruled};

@@ -2,7 +2,7 @@
 
 ghost use Rattle.std.specs.Prelude.{◌≡◌, ◌+◌, ◌++◌, ◌∷◌, [], IfOk, OnOk, map, option_copied};
 ghost use Rattle.statements.specs.Line.{balance_in, line_anew, line_of, line_with, told_both};
-ghost use Rattle.statements.specs.Summary.{lines_of, told_by};
+ghost use Rattle.statements.specs.Summary.{chain_lines, told_by};
 
 use crate::chain::Chain;
 use crate::known::anew;
@@ -13,7 +13,7 @@ use tenant_core::{Opening, Peer, PeerNo};
 
 /// The sums of a peer, in its units: what it owes at the end, what came in from it and went out to it, and the fees.
 #[derive(Clone, Copy, Debug, PartialEq, Eq)]
-pub struct Told {
+pub struct PeerSums {
     pub ended: i64,
     pub came: u128,
     pub fulfilled_in: u128,
@@ -29,7 +29,7 @@ pub struct Told {
 pub struct Line {
     pub seen: PeerSeen,
     pub here: Option<PeerNo>,
-    pub told: Told,
+    pub told: PeerSums,
 }
 
 // What the peer of that number owes at that ending.
@@ -46,11 +46,11 @@ fn balance_in(ending: Option<&Opening>, peer: PeerNo) -> i64
 }
 
 // The sums of a chain for a peer since the service began last.
-fn told_by(chain: &Chain, peer: PeerNo) -> Told
+fn told_by(chain: &Chain, peer: PeerNo) -> PeerSums
     ensures { result ≡ told_by chain.now peer }
 {
     let totals = chain.totals();
-    Told {
+    PeerSums {
         ended: balance_in(chain.opening_due(), peer),
         came: totals.came.get(peer),
         fulfilled_in: totals.fulfilled_in.get(peer),
@@ -68,10 +68,10 @@ fn plus(sum: u128, more: u128) -> Summed<u128>
     sum.checked_add(more).ok_or(LONG)
 }
 
-fn told_both(before: &Told, after: &Told) -> Summed<Told>
+fn told_both(before: &PeerSums, after: &PeerSums) -> Summed<PeerSums>
     ensures { IfOk result (λ told. told ≡ told_both before.now after.now) }
 {
-    Ok(Told {
+    Ok(PeerSums {
         ended: after.ended,
         came: plus(before.came, after.came)?,
         fulfilled_in: plus(before.fulfilled_in, after.fulfilled_in)?,
@@ -83,7 +83,7 @@ fn told_both(before: &Told, after: &Told) -> Summed<Told>
     })
 }
 
-fn told_with(chain: &Chain, line: &Line) -> Summed<Told>
+fn told_with(chain: &Chain, line: &Line) -> Summed<PeerSums>
     ensures { IfOk result (λ told. told ≡ (line_with (told_by chain.now) line.now).told) }
 {
     match line.here {
@@ -133,7 +133,7 @@ fn put_lines_of(out: &mut Vec<Line>, chain: &Chain, peers: &[PeerSeen]) -> Summe
 
 /// The lines of a chain: the sums of each peer that was there. `Long` if a sum has no room.
 pub fn lines_of(alloc: Global, chain: &Chain) -> Summed<Vec<Line>>
-    ensures { IfOk result (λ lines. lines.items ≡ lines_of chain.now) }
+    ensures { IfOk result (λ lines. lines.items ≡ chain_lines chain.now) }
 {
     let past = chain.past_lines();
     let totals = chain.totals();

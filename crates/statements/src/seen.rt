@@ -2,7 +2,7 @@
 
 ghost use Rattle.std.specs.Prelude.{◌≡◌, ◌++◌, ◌∷◌, [], IfOk, OnOk, map, Some, if◌then◌else◌};
 ghost use Rattle.std.specs.List.{slice_get};
-ghost use Rattle.statements.specs.Seen.{seen_at_first, seen_by, seen_among, seen_during};
+ghost use Rattle.statements.specs.Seen.{seen_at_first, seen_added, seen_among, seen_during};
 ghost use Rattle.tenant_core.specs.Peers.{next_by};
 ghost use Rattle.tenant_core.specs.Views.{entry_of};
 ghost use Rattle.tenant_core.specs.declared.journal.Record.{Record};
@@ -68,7 +68,7 @@ fn put_all_first(out: &mut Vec<PeerSeen>, peers: &[Peer]) -> Result<(), AllocErr
 
 // Puts the peer that an entry adds, if it adds one, which gets that number; and gives the number of the next one.
 fn put_added(out: &mut Vec<PeerSeen>, entry: &EntryView<'_>, next: PeerNo) -> Summed<PeerNo>
-    ensures { IfOk result (λ after. (out.new.items ≡ out.old.items ++ seen_by next (entry_of entry.now)) × (after ≡ next_by next (entry_of entry.now))) }
+    ensures { IfOk result (λ after. (out.new.items ≡ out.old.items ++ seen_added next (entry_of entry.now)) × (after ≡ next_by next (entry_of entry.now))) }
 {
     let EntryView::Change(entry) = entry else {
         return Ok(next);
@@ -91,7 +91,7 @@ fn put_added_at(
     next: PeerNo,
 ) -> Summed<PeerNo>
     ensures { IfOk result (λ after. (r : Record) → slice_get records.now place ≡ Some r
-        → (out.new.items ≡ out.old.items ++ seen_by next r.entry) × (after ≡ next_by next r.entry)) }
+        → (out.new.items ≡ out.old.items ++ seen_added next r.entry) × (after ≡ next_by next r.entry)) }
 {
     match records.get(place) {
         Some(view) => put_added(out, &view.entry, next),

@@ -3,11 +3,11 @@
 ghost use Rattle.std.specs.Prelude.{◌≡◌, ◌++◌, IfOk, List, OnOk};
 ghost use Rattle.std.specs.List.{flat_map};
 ghost use Rattle.statements.specs.Chain.{IsChain, Link};
-ghost use Rattle.statements.specs.Summary.{chain_text, good_line, in_words, keyed, keyed_signed, line_text};
+ghost use Rattle.statements.specs.Summary.{chain_text, good_line, in_words, keyed, keyed_signed, summary_line};
 ghost use Rattle.statements.specs.Summary.{out_words, seen_words, summary_text, told_line};
 
 use crate::chain::Chain;
-use crate::line::{Line, Told, lines_of};
+use crate::line::{Line, PeerSums, lines_of};
 use crate::put::{put_number, put_signed, put_word};
 use crate::seen::PeerSeen;
 use crate::tally::Summed;
@@ -32,7 +32,7 @@ fn put_keyed_signed(out: &mut Vec<u8>, key: &[u8], value: i64) -> Result<(), All
 }
 
 #[tactic(auto, unfolding(crate::specs::Summary::in_words))]
-fn put_in(out: &mut Vec<u8>, told: &Told) -> Result<(), AllocError>
+fn put_in(out: &mut Vec<u8>, told: &PeerSums) -> Result<(), AllocError>
     ensures { OnOk result (out.new.items ≡ out.old.items ++ in_words told.now) }
 {
     put_keyed(out, b"packets-in", told.came)?;
@@ -41,7 +41,7 @@ fn put_in(out: &mut Vec<u8>, told: &Told) -> Result<(), AllocError>
 }
 
 #[tactic(auto, unfolding(crate::specs::Summary::out_words))]
-fn put_out(out: &mut Vec<u8>, told: &Told) -> Result<(), AllocError>
+fn put_out(out: &mut Vec<u8>, told: &PeerSums) -> Result<(), AllocError>
     ensures { OnOk result (out.new.items ≡ out.old.items ++ out_words told.now) }
 {
     put_keyed(out, b"packets-out", told.went)?;
@@ -50,7 +50,7 @@ fn put_out(out: &mut Vec<u8>, told: &Told) -> Result<(), AllocError>
 }
 
 #[tactic(auto, unfolding(crate::specs::Summary::seen_words))]
-fn put_words(out: &mut Vec<u8>, seen: &PeerSeen, told: &Told) -> Result<(), AllocError>
+fn put_words(out: &mut Vec<u8>, seen: &PeerSeen, told: &PeerSums) -> Result<(), AllocError>
     ensures { OnOk result (out.new.items ≡ out.old.items ++ seen_words seen.now told.now) }
 {
     out.extend_from_slice(b"peer")?;
@@ -61,7 +61,7 @@ fn put_words(out: &mut Vec<u8>, seen: &PeerSeen, told: &Told) -> Result<(), Allo
 }
 
 #[tactic(auto, unfolding(crate::specs::Summary::told_line))]
-fn put_line(out: &mut Vec<u8>, seen: &PeerSeen, told: &Told) -> Result<(), AllocError>
+fn put_line(out: &mut Vec<u8>, seen: &PeerSeen, told: &PeerSums) -> Result<(), AllocError>
     ensures { OnOk result (out.new.items ≡ out.old.items ++ told_line seen.now told.now) }
 {
     put_words(out, seen, told)?;
@@ -72,7 +72,7 @@ fn put_line(out: &mut Vec<u8>, seen: &PeerSeen, told: &Told) -> Result<(), Alloc
 }
 
 fn put_lines(out: &mut Vec<u8>, lines: &[Line]) -> Result<(), AllocError>
-    ensures { OnOk result (out.new.items ≡ out.old.items ++ flat_map line_text lines.now) }
+    ensures { OnOk result (out.new.items ≡ out.old.items ++ flat_map summary_line lines.now) }
 {
     for line in lines {
         put_line(out, &line.seen, &line.told)?;

@@ -26,7 +26,7 @@ use Rattle.floor_core.specs.Work.{Job, Work, Called, answer_call, decide_call, f
 use Rattle.floor_core.specs.World.{answer_key, key_in}
 use Rattle.floor_core.specs.declared.parts.Got.{Got}
 use Rattle.floor_core.specs.declared.parts.Turn.TheVariants as turns
-use Rattle.floor_core.specs.declared.step.Given.{Given}
+use Rattle.floor_core.specs.declared.step.PeerAnswer.{PeerAnswer}
 use Rattle.one_list.specs.Holds.{HoldLaws, IsAnsweredByAnother, is_numbered}
 use Rattle.one_list.specs.Steps.{done, done_by, next_place, of_tenant, of_worker}
 use Rattle.one_list.specs.declared.step.Done.{Done}
@@ -96,7 +96,7 @@ not_awaited : (w : Work) (s : State) (now : ℕ) (came : Got) (t hold : ℕ) (fr
 not_awaited w s now came t hold frame waits own turned =
     by_own (eqb s.opening.tenant t) (eq-eqb s.opening.tenant t own) (ap (λ (j : Job). (job_answered j w s now given).turn) (sym waits) ∙ turned)
   where
-    given : Given
+    given : PeerAnswer
     given = given_by w.room came
 
     key : AnswerKey

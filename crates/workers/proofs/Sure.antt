@@ -15,7 +15,7 @@ use Rattle.floor_core.specs.Work.{Called, Job, Work, IsWaiting, answer_call, dec
 use Rattle.floor_core.specs.World.{answer_key}
 use Rattle.floor_core.specs.declared.parts.Got.{Got}
 use Rattle.floor_core.specs.declared.parts.Turn.TheVariants as turns
-use Rattle.floor_core.specs.declared.step.Given.{Given}
+use Rattle.floor_core.specs.declared.step.PeerAnswer.{PeerAnswer}
 use Rattle.one_list.specs.Holds.{AreOwnAnswers, HoldLaws, OwnAnswerLaws}
 use Rattle.one_list.specs.Steps.{Place, done, done_by, next_place, of_tenant, of_worker}
 use Rattle.one_list.specs.declared.step.Done.{Done}
@@ -46,7 +46,7 @@ replies w s now came t hold frame waits own awaited =
     ap (λ (j : Job). (job_answered j w s now given).turn) waits
     ∙ by_own (eqb s.opening.tenant t) (eq-eqb s.opening.tenant t own)
   where
-    given : Given
+    given : PeerAnswer
     given = given_by w.room came
 
     key : AnswerKey

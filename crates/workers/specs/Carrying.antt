@@ -8,7 +8,7 @@ use Rattle.tenant_core.specs.declared.command.Command.{Command}
 use Rattle.tenant_core.specs.declared.faults.CommandFault.{CommandFault}
 use Rattle.tenant_core.specs.declared.journal.Record.{Record}
 use Rattle.tenant_core.specs.declared.opening.Opening.{Opening}
-use Rattle.floor_core.specs.Work.{Job, Work, Called, answer_call, carrying, decide_call, frame_of}
+use Rattle.floor_core.specs.Work.{Job, Work, Called, answer_call, carrying, decide_call, job_frame}
 use Rattle.floor_core.specs.declared.parts.Got.{Got}
 use Rattle.floor_core.specs.declared.parts.Turn.{Turn}
 use Rattle.floor_core.specs.declared.parts.Turn.TheVariants as turn
@@ -16,9 +16,9 @@ use Rattle.one_list.specs.Holds.{BeginsHold, IsAnsweredByAnother}
 use Rattle.one_list.specs.Steps.{Place, done_by, next_place, of_tenant, of_worker}
 use Rattle.one_list.specs.declared.step.Done.{Done}
 use Rattle.books_shared.specs.Rises.{command_rise, rise_of}
-use Rattle.books_shared.specs.Shares.{ShareView, has_met}
-use Rattle.books_shared.specs.Traced.{IsLedTo, counted}
-use Rattle.books_shared.specs.declared.rise.Rise.{Rise}
+use Rattle.books_shared.specs.Shares.{ShareView, share_met}
+use Rattle.books_shared.specs.Traced.{IsLedTo, share_counted}
+use Rattle.books_shared.specs.declared.rise.CallCounts.{CallCounts}
 use Rattle.workers.specs.Replies.{Sending}
 use Rattle.workers.specs.declared.governing.GovernFault.{GovernFault}
 use Rattle.workers.specs.declared.governing.GovernFault.TheVariants.{Spent, Memory, Stray, Refused}
@@ -73,13 +73,13 @@ AreAlike one other = other ≡ record one { room = other.room }
 
 -- the share, once its worker has met the steps that led to the book
 abbrev pub meeting : {under : Circumstances} → Found under → ShareView → ShareView
-meeting found s = has_met found.book.opening.tenant found.steps s
+meeting found s = share_met found.book.opening.tenant found.steps s
 
 -- The share has grown by one call with the book: by the steps that it has met, by that rise, and by that record at the
 -- book's next place. The one list's steps of the tenant begin with those that it has met. So each book that is asked
 -- is one to which the tenant's steps in the one list led.
-abbrev pub HasGrown : {under : Circumstances} → Found under → Rise → Option Record → Growth → Type 0
-HasGrown found rise made g = AreAlike (counted rise (next_place found.book) made (meeting found g.before)) g.after
+abbrev pub HasGrown : {under : Circumstances} → Found under → CallCounts → Option Record → Growth → Type 0
+HasGrown found rise made g = AreAlike (share_counted rise (next_place found.book) made (meeting found g.before)) g.after
 
 -- it has met the steps that led to the book, and nothing else changed
 abbrev pub HasMet : {under : Circumstances} → Found under → Growth → Type 0
@@ -124,7 +124,7 @@ pub record WasExchanged (owner : ℕ) (before : Work) (came : Got) (after : Work
   pub sending : Sending
   pub tenant : sending.tenant ≡ owner
   pub target : Some sending.target ≡ before.target
-  pub frame : sending.frame ≡ frame_of before.job
+  pub frame : sending.frame ≡ job_frame before.job
   pub expiry : Some sending.expiry ≡ before.expiry
   pub got : sending.got ≡ came
   pub so : So sending
@@ -208,11 +208,11 @@ IsAnswered under turn.Reply g came before after = WasCalled under g (answer_with
 IsAnswered under _ g came before after = WasMissed under g before came × (after ≡ before)
 
 -- the slot at the end: if the answer is unavailable (503), the call is dropped
-abbrev pub closed : Reply → Work → Work
-closed reply.Spent left = carrying Job.NoJob left.room
-closed reply.Memory left = carrying Job.NoJob left.room
-closed (reply.Lost got) left = carrying Job.NoJob left.room
-closed _ left = left
+abbrev pub slot_closed : Reply → Work → Work
+slot_closed reply.Spent left = carrying Job.NoJob left.room
+slot_closed reply.Memory left = carrying Job.NoJob left.room
+slot_closed (reply.Lost got) left = carrying Job.NoJob left.room
+slot_closed _ left = left
 
 -- ---- a command
 

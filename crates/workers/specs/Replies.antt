@@ -11,11 +11,11 @@ use Rattle.workers.specs.declared.reply.Status.{Status}
 use Rattle.workers.specs.declared.reply.Status.TheVariants as status
 
 -- the number of a status (RFC 9110, 15)
-abbrev pub code_of : Status → ℕ
-code_of status.Answered = 200
-code_of status.Malformed = 400
-code_of status.Unauthorized = 401
-code_of status.Unavailable = 503
+abbrev pub http_code : Status → ℕ
+http_code status.Answered = 200
+http_code status.Malformed = 400
+http_code status.Unauthorized = 401
+http_code status.Unavailable = 503
 
 -- what an answer with that status is counted as
 abbrev pub kind_of : Status → Kind
@@ -70,11 +70,11 @@ IsSentSo (Lost got) tenant So Same = WasSent got tenant So
 IsSentSo _ tenant So Same = Same
 
 -- the call is over, unless the answer is unavailable (503)
-abbrev pub IsOver : Reply → Job → Type 0
-IsOver Spent job = Unit {0}
-IsOver Memory job = Unit {0}
-IsOver (Lost got) job = Unit {0}
-IsOver _ job = job ≡ Job.NoJob
+abbrev pub IsCallOver : Reply → Job → Type 0
+IsCallOver Spent job = Unit {0}
+IsCallOver Memory job = Unit {0}
+IsCallOver (Lost got) job = Unit {0}
+IsCallOver _ job = job ≡ Job.NoJob
 
 -- the frame was a Prepare, and the token well formed
 abbrev pub IsOfPrepare : Reply → Type 0

@@ -6,10 +6,10 @@ ghost use Rattle.ilp_view.specs.Reading.{prepare_at};
 ghost use Rattle.floor_core.specs.Work.{IsWaiting, loaded, tenant_in};
 ghost use Rattle.floor_core.specs.Work.Job.{NoJob};
 ghost use Rattle.floor_core.specs.declared.parts.Turn.TheVariants as turn;
-ghost use Rattle.books_shared.specs.Turns.{IsEnded, IsLeft, IsLoaded};
-ghost use Rattle.workers.specs.Carrying.{IsAnswered, IsCarried, IsDecided, IsOwnCall, WasExchanged, circumstances, closed, growth};
+ghost use Rattle.books_shared.specs.Turns.{IsEnded, IsSlotLeft, IsLoaded};
+ghost use Rattle.workers.specs.Carrying.{IsAnswered, IsCarried, IsDecided, IsOwnCall, WasExchanged, circumstances, slot_closed, growth};
 ghost use Rattle.workers.specs.Counting.{IsSpent, reply_tallied, tallied};
-ghost use Rattle.workers.specs.Replies.{IsOfPrepare, IsOver, IsSentSo, WasSent, sends_of};
+ghost use Rattle.workers.specs.Replies.{IsOfPrepare, IsCallOver, IsSentSo, WasSent, sends_of};
 ghost use Rattle.workers.specs.declared.reply.Reply.TheVariants as reply;
 
 use crate::reply::{Reply, Status};
@@ -112,7 +112,7 @@ pub fn carry<J: Run, R: Wait, L: Link, G: Gate, C: Clock>(
 
 // Drops the call of the slot if the answer is unavailable (503).
 fn close(slot: &mut Slot, reply: Reply)
-    ensures { slot.new ≡ closed reply slot.old }
+    ensures { slot.new ≡ slot_closed reply slot.old }
 {
     if reply.status() == Status::Unavailable {
         slot.clear();
@@ -151,9 +151,9 @@ fn carried<J: Run, R: Wait, L: Link, G: Gate, C: Clock>(
     ensures sent { IsSentSo result job.entry.tenant
         (λ sending. L.sends_so link.old sending link.new) (link.new ≡ link.old) }
     ensures carried { IsCarried (circumstances J.openings (C.gives tools.now.clock.now)) result (growth job.entry.tenant share.old share.new)
-        (loaded slot.old job.entry.tenant job.entry.token.now job.entry.frame.now) (closed result slot.new)
+        (loaded slot.old job.entry.tenant job.entry.token.now job.entry.frame.now) (slot_closed result slot.new)
         (λ sending. L.sends_so link.old sending link.new) }
-    ensures over { IsOver result slot.new.job }
+    ensures over { IsCallOver result slot.new.job }
 {
     match slot.load(job.tenant, job.token, job.frame) {
         Ok(()) => {}
@@ -184,9 +184,9 @@ fn exchanged<J: Run, R: Wait, L: Link, G: Gate, C: Clock>(
     ensures sends { L.sent link.new ≡ L.sent link.old + sends_of result }
     ensures sent { IsSentSo result tenant
         (λ sending. L.sends_so link.old sending link.new) (link.new ≡ link.old) }
-    ensures carried { IsCarried (circumstances J.openings (C.gives tools.now.clock.now)) result (growth tenant share.old share.new) slot.old (closed result slot.new)
+    ensures carried { IsCarried (circumstances J.openings (C.gives tools.now.clock.now)) result (growth tenant share.old share.new) slot.old (slot_closed result slot.new)
         (λ sending. L.sends_so link.old sending link.new) }
-    ensures over { IsOver result slot.new.job }
+    ensures over { IsCallOver result slot.new.job }
 {
     one_list::laws::answered_holds();
     if link.sends() >= MAX_SENDS {
@@ -228,7 +228,7 @@ fn decide<J: Run, R: Wait, C: Clock>(
     requires tenant { tenant_in slot.old.job ≡ Some tenant }
     requires room { 1 < share.old.room }
     ensures decided { IsDecided (circumstances J.openings (C.gives tools.now.clock.now)) result (growth tenant share.old share.new) slot.old slot.new }
-    ensures left { IsLeft result slot.old slot.new }
+    ensures left { IsSlotLeft result slot.old slot.new }
     ensures room { 0 < share.new.room }
 {
     slot.is_work();

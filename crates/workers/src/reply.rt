@@ -18,11 +18,11 @@ pub enum Status {
 
 impl Status {
     ghost use Rattle.std.specs.Prelude.{◌≡◌};
-    ghost use Rattle.workers.specs.Replies.{code_of, kind_of};
+    ghost use Rattle.workers.specs.Replies.{http_code, kind_of};
 
     /// Its number.
     pub fn code(self) -> u16
-        ensures { result ≡ code_of self }
+        ensures { result ≡ http_code self }
     {
         match self {
             Status::Answered => 200,

@@ -1,7 +1,7 @@
 //! How long a connection may do what, and when it gives up its thread.
 
 ghost use Rattle.std.specs.Prelude.{◌≡◌};
-ghost use Rattle.service.specs.Pace.{left_of, rush_of, time_for, yields};
+ghost use Rattle.service.specs.Pace.{time_left, rush_of, time_for, yields};
 
 /// What a service's connections have to hurry for.
 #[derive(Clone, Copy, Debug, PartialEq, Eq)]
@@ -54,7 +54,7 @@ pub fn time_for(activity: Activity, rush: Rush) -> u64
 /// For how many more milliseconds a connection may do what it does. It has done it for `spent` milliseconds, the last
 /// `stopping` of them in a service that stops.
 pub fn left_of(activity: Activity, rush: Rush, spent: u64, stopping: u64) -> u64
-    ensures { result ≡ left_of activity rush spent stopping }
+    ensures { result ≡ time_left activity rush spent stopping }
 {
     let gone = if rush == Rush::Stopping {
         stopping

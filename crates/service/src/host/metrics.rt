@@ -5,8 +5,8 @@ ghost use Rattle.std.specs.List.{slice_get};
 ghost use Rattle.atomic_table.specs.Seated.{TableId};
 ghost use Rattle.meters.specs.declared.kind.Kind as meter;
 ghost use Rattle.service.specs.declared.host.metrics.TenantCounts as told;
-ghost use Rattle.service.specs.Metrics.{AreRead, all_answers, answer_line, answers_of, bit, each_text, figure_of, figures_of, head_of};
-ghost use Rattle.service.specs.Metrics.{help_of, label_of, line_of, metrics_text, name_of, number_text, service_text, single_text, statements_text};
+ghost use Rattle.service.specs.Metrics.{AreRead, all_answers, answer_line, answers_of, bit, each_text, figure_of, figures_of, family_head};
+ghost use Rattle.service.specs.Metrics.{help_of, label_of, family_line, metrics_text, family_name, number_text, service_text, single_text, statements_text};
 ghost use Rattle.service.specs.Metrics.{tenants_text, type_of};
 
 use common_types::Name;
@@ -189,7 +189,7 @@ enum Family {
 
 impl Family {
     fn name(self) -> &'static [u8]
-        ensures { result.now ≡ name_of self }
+        ensures { result.now ≡ family_name self }
     {
         match self {
             Family::Accepts => b"ilpd_accepts_connections",
@@ -267,9 +267,9 @@ impl TenantCounts<'_> {
 }
 
 // The lines before the numbers of a family.
-#[tactic(auto, unfolding(crate::specs::Metrics::head_of))]
+#[tactic(auto, unfolding(crate::specs::Metrics::family_head))]
 fn put_head(text: &mut Vec<u8>, family: Family) -> Result<(), AllocError>
-    ensures { OnOk result (text.new.items ≡ text.old.items ++ head_of family) }
+    ensures { OnOk result (text.new.items ≡ text.old.items ++ family_head family) }
 {
     text.extend_from_slice(b"# HELP ")?;
     text.extend_from_slice(family.name())?;
@@ -319,7 +319,7 @@ fn put_label(text: &mut Vec<u8>, family: Family, tenant: &Name) -> Result<(), Al
 }
 
 // The line of a tenant's number.
-#[tactic(auto, unfolding(crate::specs::Metrics::line_of))]
+#[tactic(auto, unfolding(crate::specs::Metrics::family_line))]
 fn put_line(
     alloc: Global,
     text: &mut Vec<u8>,
@@ -327,7 +327,7 @@ fn put_line(
     tenant: &Name,
     number: u64,
 ) -> Result<(), AllocError>
-    ensures { OnOk result (text.new.items ≡ text.old.items ++ line_of family tenant.now number) }
+    ensures { OnOk result (text.new.items ≡ text.old.items ++ family_line family tenant.now number) }
 {
     put_label(text, family, tenant)?;
     text.extend_from_slice(b"}")?;

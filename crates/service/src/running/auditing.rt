@@ -4,7 +4,7 @@ ghost use Rattle.std.specs.Prelude.{◌≡◌, ◌<◌, [], List, map, vec_len, 
 ghost use Rattle.books_shared.specs.Shares.{receipts_told};
 ghost use Rattle.receipts.specs.declared.fault.AuditFault.TheVariants as faults;
 ghost use Rattle.tenant_core.specs.declared.period.PeriodParts.{PeriodParts};
-ghost use Rattle.service.specs.Auditing.{AreLacking, HadMemory, HaveClosed, HaveEnded, HaveRolled, IsAudited, IsCount, IsFound, IsWrong, WasRolled};
+ghost use Rattle.service.specs.Auditing.{AreLacking, HadMemory, HaveClosed, HaveEnded, HaveRolled, IsAudited, IsCount, IsAuditText, IsWrong, WasRolled};
 ghost use Rattle.service.specs.Auditing.{audit_line, closed_also, fault_word, lists_of};
 ghost use Rattle.service.specs.Lines.{audit_told};
 ghost use Rattle.workers.specs.Carrying.{circumstances};
@@ -169,18 +169,18 @@ fn count_audited<J: Run>(
 
 /// What an audit found.
 #[derive(Drop)]
-pub struct Found {
+pub struct AuditReport {
     /// The line that reports it: empty without an audit, or if it was out of memory for it.
     pub line: Vec<u8>,
     pub end: AuditEnd,
 }
 
 /// Nothing, since it was out of memory.
-pub fn lacked(alloc: Global) -> Found
+pub fn lacked(alloc: Global) -> AuditReport
     ensures end { result.end ≡ AuditEnd.Lacked }
     ensures line { result.line.items ≡ [] }
 {
-    Found {
+    AuditReport {
         line: Vec::new(alloc),
         end: AuditEnd::Lacked,
     }
@@ -192,22 +192,22 @@ pub fn audited<J: Run>(
     wanted: bool,
     periods: &[Period],
     shares: &[Share<J>],
-) -> Result<Found, AllocError>
+) -> Result<AuditReport, AllocError>
     ensures good { IfOk result (λ found. found.end ≡ AuditEnd.Good → IsAudited wanted shares.now found.line.items) }
-    ensures found { IfOk result (λ found. IsFound wanted periods.now shares.now found.end found.line.items) }
+    ensures found { IfOk result (λ found. IsAuditText wanted periods.now shares.now found.end found.line.items) }
 {
     if !wanted {
-        return Ok(Found {
+        return Ok(AuditReport {
             line: Vec::new(alloc),
             end: AuditEnd::Good,
         });
     }
     match count_audited(alloc, periods, shares) {
-        Ok(receipts) => Ok(Found {
+        Ok(receipts) => Ok(AuditReport {
             line: good_line(alloc, receipts)?,
             end: AuditEnd::Good,
         }),
-        Err(fault) => Ok(Found {
+        Err(fault) => Ok(AuditReport {
             line: audit_told(alloc, word_of(&fault)?)?,
             end: AuditEnd::Bad,
         }),

@@ -2,7 +2,7 @@
 
 ghost use Rattle.std.specs.Prelude.{◌≡◌, [], ◌++◌, if◌then◌else◌, IfOk, OnOk};
 ghost use Rattle.std.specs.List.{flat_map};
-ghost use Rattle.replay_text.specs.Printed.{line_of};
+ghost use Rattle.replay_text.specs.Printed.{output_line};
 ghost use Rattle.service.specs.Balances.{balance_lines, balances_told};
 
 use common_types::Name;
@@ -42,14 +42,14 @@ fn put_all(
     Ok(())
 }
 
-#[tactic(auto, unfolding(replay_text::specs::Printed::line_of))]
+#[tactic(auto, unfolding(replay_text::specs::Printed::output_line))]
 fn put_balances(
     alloc: Global,
     names: &[Name],
     book: Book,
     text: &mut Vec<u8>,
 ) -> Result<(), AllocError>
-    ensures { OnOk result (text.new.items ≡ text.old.items ++ line_of names.now (balances_told book)) }
+    ensures { OnOk result (text.new.items ≡ text.old.items ++ output_line names.now (balances_told book)) }
 {
     let Some(moment) = Moment::new(0) else {
         unreachable!();

@@ -2,8 +2,8 @@
 
 ghost use Rattle.std.specs.Prelude.{◌≡◌, ◌≢◌, ◌<◌, ◌++◌, [], List, vec_len, true, false, IfOk, OnOk};
 ghost use Rattle.tenant_core.specs.declared.period.PeriodParts.{PeriodParts};
-ghost use Rattle.service.specs.Auditing.{HaveEnded, IsAudited, IsFound};
-ghost use Rattle.service.specs.Extents.{closes};
+ghost use Rattle.service.specs.Auditing.{HaveEnded, IsAudited, IsAuditText};
+ghost use Rattle.service.specs.Extents.{closes_at_end};
 ghost use Rattle.workers.specs.Carrying.{circumstances};
 
 use crate::filing::disk::Disk;
@@ -11,7 +11,7 @@ use crate::filing::file_each;
 use crate::filing::folder::Folder;
 use crate::filing::receipt_store::file_receipts;
 use crate::office::Office;
-use crate::running::auditing::{Found, audited, lacked, roll_all};
+use crate::running::auditing::{AuditReport, audited, lacked, roll_all};
 use crate::running::ending::AuditEnd;
 use crate::running::plan::Plan;
 use crate::system::System;
@@ -27,7 +27,7 @@ use workers::Clock;
 #[derive(Drop)]
 pub struct Last {
     pub missing: Vec<u8>,
-    pub audit: Found,
+    pub audit: AuditReport,
 }
 
 /// Periods and more of them, if there is memory to put them together.
@@ -110,12 +110,12 @@ fn finished<J: Run, H: Wait + Disk, C: Clock>(
     periods: Option<Vec<Period>>,
 ) -> Result<Last, AllocError>
     requires { 0 < vec_len shares.old }
-    ensures ended { OnOk result (HaveEnded (circumstances J.openings (C.gives system.now.clock.now)) (closes plan.entry)
+    ensures ended { OnOk result (HaveEnded (circumstances J.openings (C.gives system.now.clock.now)) (closes_at_end plan.entry)
         office.now.books.tenants shares.old.items shares.new.items) }
     ensures audited { IfOk result (λ last. last.audit.end ≡ AuditEnd.Good
         → IsAudited plan.entry.report.audit shares.new.items last.audit.line.items) }
     ensures found { IfOk result (λ last. (closed : List PeriodParts)
-        × IsFound plan.entry.report.audit closed shares.new.items last.audit.end last.audit.line.items) }
+        × IsAuditText plan.entry.report.audit closed shares.new.items last.audit.end last.audit.line.items) }
 {
     let mut late = waiting_periods(system, office)?;
     roll_all(system, plan.closes(), office, shares, &mut late)?;
@@ -139,10 +139,10 @@ pub fn finish<J: Run, H: Wait + Disk, C: Clock>(
 ) -> Last
     requires { 0 < vec_len shares.old }
     ensures ended { result.audit.end ≡ AuditEnd.Good → HaveEnded (circumstances J.openings (C.gives system.now.clock.now))
-        (closes plan.entry) office.now.books.tenants shares.old.items shares.new.items }
+        (closes_at_end plan.entry) office.now.books.tenants shares.old.items shares.new.items }
     ensures audited { result.audit.end ≡ AuditEnd.Good → IsAudited plan.entry.report.audit shares.new.items result.audit.line.items }
     ensures found { (closed : List PeriodParts)
-        × IsFound plan.entry.report.audit closed shares.new.items result.audit.end result.audit.line.items }
+        × IsAuditText plan.entry.report.audit closed shares.new.items result.audit.end result.audit.line.items }
 {
     match finished(system, plan, office, shares, periods) {
         Ok(last) => last,

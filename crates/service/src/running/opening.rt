@@ -7,7 +7,7 @@ ghost use Rattle.meters.specs.Seats.{count_of, empty_seat};
 ghost use Rattle.meters.specs.declared.kind.Kind as meter;
 ghost use Rattle.books_shared.specs.Gathers.{max_workers};
 ghost use Rattle.books_shared.specs.Traced.{openings_of};
-ghost use Rattle.service.specs.Answering.{IsFresh, IsOfficeOf};
+ghost use Rattle.service.specs.Answering.{IsUncounted, IsOfficeOf};
 
 use crate::connection::door::Door;
 use crate::filing::Filing;
@@ -51,7 +51,7 @@ pub fn open_office<J: Run>(
     ensures first { IfOk result (λ begun. begun.first ≡ empty_seat begun.office.meters.id true) }
     ensures zero { IfOk result (λ begun. (tenant : ℕ) (kind : meter.Kind) → count_of tenant kind begun.first ≡ 0) }
     ensures each { IfOk result (λ begun. vec_len begun.shares ≡ plan.entry.extent.connections) }
-    ensures fresh { IfOk result (λ begun. All IsFresh begun.shares.items) }
+    ensures fresh { IfOk result (λ begun. All IsUncounted begun.shares.items) }
 {
     let Plan {
         extent,

@@ -2,7 +2,7 @@
 
 ghost use Rattle.std.specs.Prelude.{◌≡◌, ◌≤◌};
 ghost use Rattle.allotment.specs.Loans.{max_places};
-ghost use Rattle.service.specs.Extents.{closes, most_waiting_of, total_of};
+ghost use Rattle.service.specs.Extents.{closes_at_end, most_waiting_of, connection_total};
 
 /// How many threads serve, how many packets are exchanged with next peers at once, and how many connections are served.
 #[derive(Clone, Copy)]
@@ -36,7 +36,7 @@ pub struct Plan<'a> {
 impl Plan<'_> {
     /// Whether each tenant's running period is closed at the end: for an audit, or for its statement.
     pub fn closes(&self) -> bool
-        ensures { result ≡ closes self.now }
+        ensures { result ≡ closes_at_end self.now }
     {
         self.report.audit || self.statements.is_some()
     }
@@ -45,7 +45,7 @@ impl Plan<'_> {
 /// How many connections are served in all: so many rounds for each worker, or as many as can be counted.
 pub fn total_of(extent: Extent) -> u64
     requires { extent.workers ≤ max_places }
-    ensures { result ≡ total_of extent.workers extent.rounds }
+    ensures { result ≡ connection_total extent.workers extent.rounds }
 {
     match extent.rounds {
         Some(rounds) => extent.workers as u64 * u64::from(rounds),

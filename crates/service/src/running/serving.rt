@@ -10,11 +10,11 @@ ghost use Rattle.tenant_core.specs.Limits.{max_tenants};
 ghost use Rattle.std.specs.Fmt.{decimal};
 ghost use Rattle.meters.specs.Seats.{count_of, max_splits};
 ghost use Rattle.meters.specs.declared.kind.Kind as meter;
-ghost use Rattle.service.specs.Answering.{HasToldCounts, HasToldCountsIn, HasWorked, HaveCounted, IsFresh, IsNew};
+ghost use Rattle.service.specs.Answering.{HasToldCounts, HasToldCountsIn, HasWorked, HaveCounted, IsUncounted, IsNewDesk};
 ghost use Rattle.service.specs.Ending.{EndsTold, ungathered_end, ungathered_line};
-ghost use Rattle.service.specs.Extents.{closes};
+ghost use Rattle.service.specs.Extents.{closes_at_end};
 ghost use Rattle.service.specs.Hosting.{HasStayed, IsIdle, seats_in};
-ghost use Rattle.service.specs.Served.{line_of, lines_upto};
+ghost use Rattle.service.specs.Served.{served_line, lines_upto};
 
 use crate::connection::door::Door;
 use crate::filing::disk::Disk;
@@ -74,14 +74,14 @@ fn hired<
     requires first { first.old.first ≡ true }
     requires whole { first.old.splits ≡ 0 }
     requires few { vec_len shares ≤ max_workers }
-    requires new { All IsFresh shares.items }
+    requires new { All IsUncounted shares.items }
     ensures here { first.new.meters ≡ office.now.meters.id }
     ensures first { first.new.first ≡ true }
     ensures joins { first.new.joins ≡ first.old.joins }
     ensures counts { first.new.counts ≡ first.old.counts }
     ensures split { IfOk result (λ lanes. vec_len lanes ≡ first.new.splits) }
     ensures each { IfOk result (λ lanes. vec_len lanes ≡ vec_len shares) }
-    ensures new { IfOk result (λ lanes. All (λ lane. IsNew lane.desk) lanes.items) }
+    ensures new { IfOk result (λ lanes. All (λ lane. IsNewDesk lane.desk) lanes.items) }
     ensures office { IfOk result (λ lanes. All (λ lane. lane.office.now ≡ office.now) lanes.items) }
     ensures clock { IfOk result (λ lanes. All (λ lane. lane.clock.now ≡ system.now.clock.now) lanes.items) }
 {
@@ -250,7 +250,7 @@ fn work_all<
     lanes: &mut [Worker<'_, H, C, J>],
     porter: &mut Option<Porter<'_, H, J>>,
 ) -> Result<(), ServeFault>
-    requires new { All (λ lane. IsNew lane.desk) lanes.old }
+    requires new { All (λ lane. IsNewDesk lane.desk) lanes.old }
     requires office { All (λ lane. lane.office.now ≡ office.now) lanes.old }
     requires clock { All (λ lane. lane.clock.now ≡ clock.now) lanes.old }
     ensures office { All (λ lane. lane.office.now ≡ office.now) lanes.new }
@@ -290,7 +290,7 @@ pub fn run_all<
     requires none { first.old.joins ≡ 0 }
     requires nothing { (tenant : ℕ) (kind : meter.Kind) → count_of tenant kind first.old ≡ 0 }
     requires few { vec_len shares ≤ max_workers }
-    requires new { All IsFresh shares.items }
+    requires new { All IsUncounted shares.items }
     ensures here { first.new.meters ≡ office.now.meters.id }
     ensures joined { OnOk result (first.new.joins ≡ first.new.splits) }
     ensures each { IfOk result (λ done. vec_len done.shares ≡ vec_len shares) }
@@ -324,7 +324,7 @@ fn lines_of(alloc: Global, names: &[Name], totals: &Totals) -> Result<Vec<u8>, A
     Ok(text)
 }
 
-#[tactic(auto, unfolding(crate::specs::Served::line_of))]
+#[tactic(auto, unfolding(crate::specs::Served::served_line))]
 fn put_line(
     alloc: Global,
     text: &mut Vec<u8>,
@@ -333,7 +333,7 @@ fn put_line(
     totals: &Totals,
 ) -> Result<(), AllocError>
     requires { tenant < totals.now.tenants }
-    ensures { OnOk result (text.new.items ≡ text.old.items ++ line_of name.now tenant totals.now) }
+    ensures { OnOk result (text.new.items ≡ text.old.items ++ served_line name.now tenant totals.now) }
 {
     text.extend_from_slice(name)?;
     put_count(alloc, text, b" 200 ", totals.get(tenant, Kind::Answered))?;
@@ -434,7 +434,7 @@ pub fn serve<
     requires tenants { (1 ≤ length setup.now.tenants) × (length setup.now.tenants ≤ max_tenants) }
     requires workers { (1 ≤ plan.extent.workers) × (plan.extent.workers ≤ max_places) }
     requires connections { (1 ≤ plan.extent.connections) × (plan.extent.connections ≤ max_workers) }
-    ensures { OnOk result (HasToldCounts (C.gives clock.now) setup.now plan.entry.extent.connections plan.entry.report (closes plan.entry) (W.contents writer.old) (W.contents writer.new)) }
+    ensures { OnOk result (HasToldCounts (C.gives clock.now) setup.now plan.entry.extent.connections plan.entry.report (closes_at_end plan.entry) (W.contents writer.old) (W.contents writer.new)) }
 {
     let system = System {
         handle,
@@ -471,7 +471,7 @@ fn serve_run<
     requires tenants { (1 ≤ length setup.now.tenants) × (length setup.now.tenants ≤ max_tenants) }
     requires workers { (1 ≤ plan.extent.workers) × (plan.extent.workers ≤ max_places) }
     requires connections { (1 ≤ plan.extent.connections) × (plan.extent.connections ≤ max_workers) }
-    ensures { OnOk result (HasToldCountsIn J.Run (C.gives system.entry.clock.now) setup.now plan.entry.extent.connections plan.entry.report (closes plan.entry)
+    ensures { OnOk result (HasToldCountsIn J.Run (C.gives system.entry.clock.now) setup.now plan.entry.extent.connections plan.entry.report (closes_at_end plan.entry)
         (W.contents writer.old) (W.contents writer.new)) }
 {
     let (alloc, report) = (system.alloc, plan.report);

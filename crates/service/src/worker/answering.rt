@@ -2,7 +2,7 @@
 
 ghost use Rattle.std.specs.Prelude.{◌≡◌, ◌<◌};
 ghost use Rattle.admin_text.specs.Commands.{command_in};
-ghost use Rattle.service.specs.Answering.{IsPrinted, IsTold, IsUntouched, WasCarried, WasGoverned, WasObeyed, command_line};
+ghost use Rattle.service.specs.Answering.{IsPrinted, IsCommandAnswer, IsUntouched, WasCarried, WasGoverned, WasObeyed, command_line};
 
 use crate::filing::disk::Disk;
 use crate::filing::file;
@@ -224,7 +224,7 @@ fn tell<J: Run>(
     answer: Result<Answered, GovernFault>,
     printed: &mut Vec<u8>,
 ) -> (Status, Option<Period>)
-    ensures { IsTold office.now tenant answer result.0 printed.new.items }
+    ensures { IsCommandAnswer office.now tenant answer result.0 printed.new.items }
 {
     match answer {
         Ok(answered) => print(alloc, office, tenant, Ok(answered), printed),

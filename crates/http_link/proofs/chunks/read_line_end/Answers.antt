@@ -1,7 +1,7 @@
 use Rattle.std.proofs.Common.{◌≡◌, ◌∷◌, List, ℕ, [], Bool, false, Option, refl, subst, arith}
 use Rattle.std.specs.Bool.{IsTrue}
 use Rattle.httparse.specs.Ascii.{crlf_bytes}
-use Rattle.http_link.specs.BodyReading.{Takes, TakesAll}
+use Rattle.http_link.specs.BodyReading.{Takes, TakesEveryByte}
 use Rattle.http_link.specs.Running.{held_in}
 use Rattle.http_link.proofs.Heads.{not_both}
 use Rattle.http_link.proofs.Takes.{takes_all_then, takes_then}
@@ -12,7 +12,7 @@ pub returns-in_default-2-clause-taken : goal.returns-in_default-2-clause-taken
 returns-in_default-2-clause-taken g c =
     let one : Takes (held_in c.args.room.now c.args.intake.now.held) (g.R.Read.remaining c.args.r.now) (g.R.Read.remaining c.next_byte.new.r) (c.in-Some.first ∷ []) (held_in c.next_byte.new.room c.next_byte.new.intake.held) =
     rw c.in-Some.is at c.in_ok-first.ensures.taken in
-    let none : TakesAll (held_in c.next_byte.new.room c.next_byte.new.intake.held) (g.R.Read.remaining c.next_byte.new.r) (g.R.Read.remaining c.next_byte-2.new.r) [] (held_in c.next_byte-2.new.room c.next_byte-2.new.intake.held) =
+    let none : TakesEveryByte (held_in c.next_byte.new.room c.next_byte.new.intake.held) (g.R.Read.remaining c.next_byte.new.r) (g.R.Read.remaining c.next_byte-2.new.r) [] (held_in c.next_byte-2.new.room c.next_byte-2.new.intake.held) =
     rw c.in_default-2.is at c.in_ok-second.ensures.taken in
     (c.in-Some.first ∷ [], omega arith, takes_all_then _ _ _ _ (c.in-Some.first ∷ []) [] _ _ one none)
 

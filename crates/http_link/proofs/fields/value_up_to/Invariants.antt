@@ -1,5 +1,5 @@
 use Rattle.std.proofs.Common.{◌≡◌, min, take}
-use Rattle.http_link.specs.Fields.{value_of}
+use Rattle.common_types.specs.Numerals.{value_of}
 use Rattle.http_link.proofs.fields.value_up_to.Given as goal
 
 abbrev pub invariant-loop-digit : goal.invariant-loop-digit

@@ -1,7 +1,7 @@
 use Rattle.std.proofs.Common.{rules, inl, inr, ◌≡◌, ◌+◌, ◌≤◌, ◌++◌, [], List, ℕ, length, take, drop, refl, sym, ap, subst, ◌∙◌, arith, append-nil, length-take, take-take, take_all}
 use Rattle.std.proofs.KnownBytes.{Consumes-nil}
 use Rattle.http_link.specs.Limits.{max_head}
-use Rattle.http_link.specs.Reading.{GoesOn, Sees, SeesFurther}
+use Rattle.http_link.specs.Reading.{IsHeadBegun, Sees, SeesFurther}
 use Rattle.http_link.specs.declared.grammar.Offered.TheVariants.{Malformed, Partial, Whole}
 use Rattle.std.proofs.lemmas.List.{take-append-le}
 use Rattle.http_link.proofs.Heads.{all_goes_on, looked_at, none_begins_all, none_yet, nothing_goes_on, stands_whole, too_long}
@@ -124,7 +124,7 @@ loop-spans-preserved g c =
           omega (arith, length-take end room);
       at_once = inr (none_yet g.H.HeadSpans.grammar c.args.r.now c.loop-spans.r c.loop-spans.room (take c.args.intake.now.held.to c.args.room.now) c.loop-spans.intake.held.to c.min-end.result c.scan.new.seen (length c.loop-spans.lines) (length c.args.lines.now) (length c.args.lines.now) c.scan.new.lines c.scan.result
           (omega arith) refl (omega arith) c.in-Partial.is c.scan.ensures.sees c.loop-spans.invariant.at_once);
-      goes_on = subst (λ (t : List ℕ). GoesOn g.H.HeadSpans.grammar t (length c.scan.new.lines)) (sym same) (subst (λ (room : ℕ). GoesOn g.H.HeadSpans.grammar (take seen (take end c.loop-spans.room)) room) lines sees.0);
+      goes_on = subst (λ (t : List ℕ). IsHeadBegun g.H.HeadSpans.grammar t (length c.scan.new.lines)) (sym same) (subst (λ (room : ℕ). IsHeadBegun g.H.HeadSpans.grammar (take seen (take end c.loop-spans.room)) room) lines sees.0);
       unfailed = search rules;
       made = search rules;
     }

@@ -2,7 +2,7 @@ use Rattle.std.proofs.Common.{◌≡◌, ◌≤◌, ◌+◌, ◌-◌, ◌++◌, 
 use Rattle.std.specs.Io.KnownBytes.{Consumes}
 use Rattle.http_link.specs.Limits.{max_head}
 use Rattle.http_link.specs.Counts.{Spends}
-use Rattle.http_link.specs.Reading.{BeginsNot, GoesOn}
+use Rattle.http_link.specs.Reading.{BeginsNot, IsHeadBegun}
 use Rattle.http_link.specs.declared.intake.Reach.TheVariants.{Needed}
 use Rattle.http_link.proofs.head.find_head.Given as goal
 
@@ -16,7 +16,7 @@ invariant-loop-spans g l = record {
   seen : l.seen ≤ l.intake.held.to;
   few : l.seen ≤ max_head;
   exact : l.manner.reach ≡ Needed → l.fn.intake.held.to ≡ 0 → l.intake.held.to ≤ l.seen + 1;
-  goes_on : GoesOn g.H.HeadSpans.grammar (take l.seen l.room) (length l.lines);
+  goes_on : IsHeadBegun g.H.HeadSpans.grammar (take l.seen l.room) (length l.lines);
   at_once : ((l.r ≡ l.fn.r) × (take l.intake.held.to l.room ≡ take l.fn.intake.held.to l.fn.room)) ⊎ BeginsNot g.H.HeadSpans.grammar (take l.fn.intake.held.to l.fn.room) (length l.fn.lines);
   unfailed : g.R.Device.failure_count l.r ≤ l.manner.before;
   made : Spends g.R.Source.was_read l.fn.r l.r l.fn.intake.turns l.intake.turns;

@@ -1,11 +1,11 @@
 use Rattle.std.proofs.Common.{◌≡◌, ℕ, length, take, subst, arith}
-use Rattle.http_link.specs.Reading.{GoesOn}
+use Rattle.http_link.specs.Reading.{IsHeadBegun}
 use Rattle.http_link.proofs.Heads.{ends_there}
 use Rattle.http_link.proofs.head.scan.Goals as goal
 
 pub returns-in-Whole : goal.returns-in-Whole
 returns-in-Whole g c =
-    let on : GoesOn g.H.HeadSpans.grammar (take c.loop-seen.seen c.args.text.now) (length c.loop-seen.lines) = c.loop-seen.invariant.goes_on in
+    let on : IsHeadBegun g.H.HeadSpans.grammar (take c.loop-seen.seen c.args.text.now) (length c.loop-seen.lines) = c.loop-seen.invariant.goes_on in
     record {
       lines = omega arith;
       seen = omega arith;
@@ -19,6 +19,6 @@ returns-in-Whole g c =
 pub returns-clause-sees : goal.returns-clause-sees
 returns-clause-sees g c =
     let same : length c.loop-seen.lines ≡ length c.args.lines.now = omega arith in (
-      subst (λ (room : ℕ). GoesOn g.H.HeadSpans.grammar (take c.loop-seen.seen c.args.text.now) room) same c.loop-seen.invariant.goes_on,
+      subst (λ (room : ℕ). IsHeadBegun g.H.HeadSpans.grammar (take c.loop-seen.seen c.args.text.now) room) same c.loop-seen.invariant.goes_on,
       omega arith,
     )

@@ -1,5 +1,5 @@
 use Rattle.std.proofs.Common.{rules, ◌≡◌, ◌⊎◌, ◌∷◌, List, ℕ, [], true, false, take, ◌∙◌, arith, ◌+◌, length, slice_set}
-use Rattle.http_link.specs.BodyReading.{Takes, TakesAll, ends_sought, no_more}
+use Rattle.http_link.specs.BodyReading.{Takes, TakesEveryByte, ends_sought, no_more}
 use Rattle.http_link.specs.Running.{held_in}
 use Rattle.http_link.proofs.Takes.{ends_now, takes_byte, text_cut, unended_yet}
 use Rattle.http_link.proofs.Sparing.{text_spares}
@@ -7,7 +7,7 @@ use Rattle.http_link.proofs.intake.read_text.Goals as goal
 
 pub returns-in_default-clause-taken : goal.returns-in_default-clause-taken
 returns-in_default-clause-taken g c =
-    let all : TakesAll (held_in c.loop-n.room c.loop-n.intake.held) (g.R.Read.remaining c.loop-n.r) (g.R.Read.remaining c.next_byte.new.r) [] (held_in c.next_byte.new.room c.next_byte.new.intake.held) =
+    let all : TakesEveryByte (held_in c.loop-n.room c.loop-n.intake.held) (g.R.Read.remaining c.loop-n.r) (g.R.Read.remaining c.next_byte.new.r) [] (held_in c.next_byte.new.room c.next_byte.new.intake.held) =
     rw c.in_default.is at c.in_ok-b.ensures.taken in
     text_cut (ends_sought c.args.sought) _ _ _ _ c.loop-n.text c.loop-n.n _ _ (omega arith) c.loop-n.invariant.unended c.loop-n.invariant.takes all
 
@@ -48,7 +48,7 @@ returns-in_default-clause-at_once g c =
     let had : List ℕ = held_in c.args.room.now c.args.intake.now.held in
     let held : List ℕ = held_in c.loop-n.room c.loop-n.intake.held in
     let has : List ℕ = held_in c.next_byte.new.room c.next_byte.new.intake.held in
-    let alone : ((c.next_byte.new.r ≡ c.loop-n.r) × TakesAll held no_more no_more [] has) ⊎ (held ≡ []) = rw c.in_default.is at c.in_ok-b.ensures.at_once in
+    let alone : ((c.next_byte.new.r ≡ c.loop-n.r) × TakesEveryByte held no_more no_more [] has) ⊎ (held ≡ []) = rw c.in_default.is at c.in_ok-b.ensures.at_once in
     text_spares c.args.r.now c.loop-n.r c.next_byte.new.r (ends_sought c.args.sought) had c.loop-n.text held c.loop-n.n (length c.args.text.now) (omega arith) (omega arith) c.loop-n.invariant.unended c.loop-n.invariant.at_once alone
     (text_cut (ends_sought c.args.sought) had no_more no_more no_more c.loop-n.text c.loop-n.n held has (omega arith) c.loop-n.invariant.unended)
 

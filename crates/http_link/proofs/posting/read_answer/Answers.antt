@@ -4,7 +4,7 @@ use Rattle.http_link.specs.declared.posting.AnswerFraming.{AnswerFraming}
 use Rattle.http_link.specs.declared.posting.PostFault.{PostFault}
 use Rattle.http_link.specs.declared.posting.PostFault.TheVariants.{Head, Cut}
 use Rattle.http_link.specs.Lines.{lines_at}
-use Rattle.http_link.specs.Grammars.{replies}
+use Rattle.http_link.specs.Grammars.{answer_heads}
 use Rattle.http_link.specs.Reading.{HeadIsFound}
 use Rattle.http_link.specs.Running.{held_in}
 use Rattle.http_link.specs.Client.{Means, MeansAs, given}
@@ -56,8 +56,8 @@ loop-heads-preserved g c =
     let there = c.find_head.new.intake.held.to in
     let lines = c.find_head.new.lines in
     let spans = c.in-Whole.spans in
-    let found : HeadIsFound replies had (g.R.Read.remaining c.loop-heads.r) (g.R.Read.remaining c.find_head.new.r) (take there room) lines (Whole spans) =
-    subst (λ (h : List ℕ). HeadIsFound replies h (g.R.Read.remaining c.loop-heads.r) (g.R.Read.remaining c.find_head.new.r) (take there room) lines (Whole spans)) c.move_to_front.ensures.same (rw c.in-Whole.is at c.in_ok-find_head.ensures.found) in
+    let found : HeadIsFound answer_heads had (g.R.Read.remaining c.loop-heads.r) (g.R.Read.remaining c.find_head.new.r) (take there room) lines (Whole spans) =
+    subst (λ (h : List ℕ). HeadIsFound answer_heads h (g.R.Read.remaining c.loop-heads.r) (g.R.Read.remaining c.find_head.new.r) (take there room) lines (Whole spans)) c.move_to_front.ensures.same (rw c.in-Whole.is at c.in_ok-find_head.ensures.found) in
     let bound = found.stands.0 in
     record {
       means = λ stream e.

@@ -1,6 +1,6 @@
 use Rattle.std.proofs.Common.{◌≡◌, ◌+◌, ◌*◌, ◌<◌, ℕ, true, false, List, [], ◌∷◌, ◌++◌, length, nat_le, replicate, refl, sym, subst, arith, slice_index}
 use Rattle.joint_order.specs.Orders.{list_at}
-use Rattle.joint_order.specs.Steps.{IsGoing, Progress, left_of, next_at}
+use Rattle.joint_order.specs.Steps.{IsGoing, Progress, points_left, next_at}
 use Rattle.joint_order.proofs.Looks.{can_go_on}
 use Rattle.joint_order.proofs.Going.{all_counted, all_end, look_on, look_smaller, no_elements, stands_still, starts}
 use Rattle.joint_order.proofs.joining.join.Goals as goal
@@ -27,7 +27,7 @@ loop-i-smaller c =
     let after : Progress = record { taken = c.look.new.taken.items; done = c.look.new.done.items; order = c.look.new.order.items; waiting = c.look.new.waiting.items } in
     let less = look_smaller lists holders g i (next_at lists g.taken g.done i) refl
     (λ p e. can_go_on lists holders g.taken g.done i p c.loop-i.invariant.wide c.requires c.lists_are_short.ensures c.holders_are_short.ensures e) in
-    let M : Progress → Type 0 = λ h. 2 * left_of lists h.taken + length h.waiting < 2 * left_of lists g.taken + (length g.waiting + 1) in
+    let M : Progress → Type 0 = λ h. 2 * points_left lists h.taken + length h.waiting < 2 * points_left lists g.taken + (length g.waiting + 1) in
     let there : M after = subst M (sym c.in_ok-look.ensures) less in
     let popped = c.in-Some.ensures.len in
     omega arith

@@ -1,7 +1,7 @@
 use Rattle.std.proofs.Common.{List, Some, sym, ◌∙◌, ap, map}
 use Rattle.joint_order.specs.Orders.{list_at, point}
 use Rattle.joint_order.specs.declared.point.ListPoint.{ListPoint}
-use Rattle.receipts.specs.Audits.{place_of}
+use Rattle.receipts.specs.Audits.{journal_place}
 use Rattle.receipts.specs.declared.receipt.Receipt.{Receipt}
 use Rattle.receipts.proofs.Naming.{noted_next, point_at, refused_is_fault}
 use Rattle.receipts.proofs.check.note_at.Goals as goal
@@ -15,7 +15,7 @@ returns-in-Ok-clause-noted c =
 pub returns-in-Ok-clause-is : goal.returns-in-Ok-clause-is
 returns-in-Ok-clause-is c =
     let lists : List (List Receipt) = map (λ list. list.now) c.args.lists.now in
-    point_at (λ r. point r.tenant (place_of c.args.laid.now.periods.now r)) (list_at lists c.args.i) c.args.n c.args.receipt.now c.requires.there
+    point_at (λ r. point r.tenant (journal_place c.args.laid.now.periods.now r)) (list_at lists c.args.i) c.args.n c.args.receipt.now c.requires.there
     ∙ ap (λ (p : ListPoint). Some p) (sym c.in-Ok.ensures.noted.is)
 
 pub returns-in-Err-clause-fault : goal.returns-in-Err-clause-fault

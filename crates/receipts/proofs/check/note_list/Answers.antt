@@ -2,7 +2,7 @@ use Rattle.std.proofs.Common.{◌≡◌, List, [], ◌∷◌, ◌++◌, Option, 
 use Rattle.std.proofs.lemmas.Option.{slice_get_read}
 use Rattle.joint_order.specs.Orders.{list_at, point}
 use Rattle.joint_order.specs.declared.point.ListPoint.{ListPoint}
-use Rattle.receipts.specs.Audits.{place_of}
+use Rattle.receipts.specs.Audits.{journal_place}
 use Rattle.receipts.specs.Layout.{points_in}
 use Rattle.receipts.specs.declared.receipt.Receipt.{Receipt}
 use Rattle.receipts.proofs.Naming.{all_points, list_noted, point_at, point_more}
@@ -20,7 +20,7 @@ loop-n-preserved c =
     let periods = c.args.laid.now.periods.now in
     let below = c.loop-n-test.true in
     let at = slice_get_read c.args.list.now (length c.args.list.now) c.loop-n.n c.index-list-n.result refl (omega arith) c.index-list-n.is in
-    let f : Receipt → ListPoint = λ r. point r.tenant (place_of periods r) in
+    let f : Receipt → ListPoint = λ r. point r.tenant (journal_place periods r) in
     let one : ◌≡◌ {A = Option ListPoint} (Some (f c.index-list-n.result)) (Some c.in_ok-point.point)
     = sym (point_at f c.args.list.now c.loop-n.n c.index-list-n.result at)
     ∙ ap (λ (l : List Receipt). slice_get (points_in periods l) c.loop-n.n) c.requires.list
@@ -51,5 +51,5 @@ returns-clause-noted c =
 pub returns-clause-points : goal.returns-clause-points
 returns-clause-points c =
     let past = c.loop-n-test.false in
-    let shown = shown_length (λ r. point r.tenant (place_of c.args.laid.now.periods.now r)) c.args.list.now in
+    let shown = shown_length (λ r. point r.tenant (journal_place c.args.laid.now.periods.now r)) c.args.list.now in
     c.loop-n.invariant.2 ∙ all_points (points_in c.args.laid.now.periods.now c.args.list.now) c.loop-n.n (omega arith)

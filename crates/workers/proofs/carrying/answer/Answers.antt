@@ -1,6 +1,6 @@
 use Rattle.std.proofs.Common.{ap, sym, subst, ◌∙◌}
 use Rattle.floor_core.specs.Work.{answer_call}
-use Rattle.books_shared.specs.Kept.{Kept}
+use Rattle.books_shared.specs.Kept.{LockedBook}
 use Rattle.books_shared.specs.Shares.{ShareView}
 use Rattle.books_shared.specs.Turns.{IsSentBy}
 use Rattle.workers.specs.Carrying.{answer_with, growth}
@@ -21,7 +21,7 @@ pub answer-requires-clause-sent : goal.answer-requires-clause-sent
 answer-requires-clause-sent g c own =
     let k = c.enter-guard.result in
     let job = c.args.slot.now.job in
-    subst (λ (x : Kept). IsSentBy c.meet.new.share.worker job x.steps) (sym c.meet.ensures.book)
+    subst (λ (x : LockedBook). IsSentBy c.meet.new.share.worker job x.steps) (sym c.meet.ensures.book)
     (subst (λ (x : ShareView). IsSentBy x.worker job k.steps) (sym c.meet.ensures.share)
     (sent_by c.answered_holds.ensures job c.args.share.now c.args.tenant k.state.opening.tenant g.J.Run.openings k.state k.steps c.requires.sent c.enter-guard.ensures.own
     c.meet.ensures.shared c.enter-guard.ensures.led))
@@ -30,6 +30,6 @@ pub returns-clause-sure : goal.returns-clause-sure
 returns-clause-sure g c own =
     let k = c.enter-guard.result in
     c.answer.ensures.turn
-    ∙ (ap (λ (x : Kept). (answer_call c.args.slot.now x.state c.now.result c.args.got).turn) c.meet.ensures.book
+    ∙ (ap (λ (x : LockedBook). (answer_call c.args.slot.now x.state c.now.result c.args.got).turn) c.meet.ensures.book
     ∙ settles c.own_answers.ensures c.args.slot.now c.args.share.now c.args.tenant g.J.Run.openings k.state k.steps c.now.result c.args.got c.requires.waits c.requires.tenant c.requires.sent
     c.enter-guard.ensures.own c.meet.ensures.shared c.enter-guard.ensures.led (c.enter-guard.ensures.answers own))

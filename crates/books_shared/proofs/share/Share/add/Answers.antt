@@ -2,7 +2,7 @@ use Rattle.std.proofs.Common.{ℕ, ◌≡◌, ◌<◌, ◌+◌, ◌-◌, ◌++�
 use Rattle.one_list.specs.Steps.{WorkerView}
 use Rattle.one_list.specs.declared.step.Done.{Done}
 use Rattle.books_shared.specs.ShareKept.{AreTallied, IsLedgerOf}
-use Rattle.books_shared.specs.Tracing.{told_by}
+use Rattle.books_shared.specs.Tracing.{steps_appended}
 use Rattle.books_shared.proofs.Counted.{known_more}
 use Rattle.books_shared.proofs.Keeping.{kept_more, tally_more}
 use Rattle.books_shared.proofs.share.Share.add.Goals as goal
@@ -11,7 +11,7 @@ pub invariant_of-self : goal.invariant_of-self
 invariant_of-self g c =
     let counts : List ℕ = c.self.inside.counts in
     let inside : c.args.tenant.now.number < length counts = search rules in
-    let told : List Done = told_by c.args.rise.entries c.self.inside.part.number c.args.tenant.now.number c.args.period c.args.journal.now.records in
+    let told : List Done = steps_appended c.args.rise.entries c.self.inside.part.number c.args.tenant.now.number c.args.period c.args.journal.now.records in
     let steps_after : c.self.inside.part.steps ++ told ≡ c.tell.new.worker.steps = sym (ap (λ (p : WorkerView). p.steps) c.tell.ensures.worker) in
     record {
       roomy = search rules;

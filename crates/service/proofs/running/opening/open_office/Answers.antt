@@ -1,6 +1,6 @@
 use Rattle.std.proofs.Common.{◌≡◌, ◌∙◌, rules, All, ap, length, sym, subst}
 use Rattle.books_shared.specs.Gathers.{BooksView}
-use Rattle.service.specs.Answering.{IsFresh}
+use Rattle.service.specs.Answering.{IsUncounted}
 use Rattle.service.proofs.Fresh.{count_fresh, all_fresh}
 use Rattle.service.proofs.running.opening.open_office.Goals as goal
 
@@ -14,4 +14,4 @@ pub returns-clause-each : goal.returns-clause-each
 returns-clause-each g c = search (rules, count_fresh)
 
 pub returns-clause-fresh : goal.returns-clause-fresh
-returns-clause-fresh g c = subst (All IsFresh) (sym c.in_ok-books.ensures.shares) (all_fresh c.args.plan.report.audit c.args.plan.extent.connections)
+returns-clause-fresh g c = subst (All IsUncounted) (sym c.in_ok-books.ensures.shares) (all_fresh c.args.plan.report.audit c.args.plan.extent.connections)

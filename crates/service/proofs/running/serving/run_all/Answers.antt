@@ -3,13 +3,13 @@ use Rattle.std.specs.List.{sum_by}
 use Rattle.std.proofs.Math.Seq.{take-append_seam}
 use Rattle.std.proofs.lemmas.List.Elements.{All-map}
 use Rattle.meters.specs.Seats.{count_of}
-use Rattle.service.specs.Answering.{HasWorked, IsNew}
+use Rattle.service.specs.Answering.{HasWorked, IsNewDesk}
 use Rattle.service.proofs.Sums.{length_map, map_map, sum_by_map}
 use Rattle.service.proofs.running.serving.run_all.Goals as goal
 
 pub work_all-requires-clause-new : goal.work_all-requires-clause-new
 work_all-requires-clause-new g c κs within =
-    subst (λ lanes. All (λ lane. IsNew lane.desk) lanes) (sym c.as_mut_slice.ensures.value) c.in_ok-lanes.ensures.new
+    subst (λ lanes. All (λ lane. IsNewDesk lane.desk) lanes) (sym c.as_mut_slice.ensures.value) c.in_ok-lanes.ensures.new
 
 pub dismissed-requires-clause-same : goal.dismissed-requires-clause-same
 dismissed-requires-clause-same g c =

@@ -3,7 +3,7 @@ use Rattle.std.proofs.lemmas.Result.{on_ok_weaker}
 use Rattle.std.specs.Io.KnownBytes.{Appends}
 use Rattle.workers.specs.Carrying.{circumstances}
 use Rattle.service.specs.Auditing.{HaveEnded}
-use Rattle.service.specs.Extents.{closes}
+use Rattle.service.specs.Extents.{closes_at_end}
 use Rattle.service.specs.declared.running.ending.AuditEnd.TheVariants.{Good}
 use Rattle.service.specs.Served.{lines_upto}
 use Rattle.service.specs.Balances.{balance_lines}
@@ -41,7 +41,7 @@ returns-in-Ok g c =
         sums = λ tenant kind below. exact tenant kind (search rules) ∙ counted.sums tenant kind below;
       };
       shares = finish.new.shares.items;
-      ended = subst (λ (n : ℕ). HaveEnded (circumstances g.J.Run.openings (g.C.Clock.gives c.args.system.clock.now)) (closes c.args.plan) n c.in_ok-done.done.shares.items finish.new.shares.items)
+      ended = subst (λ (n : ℕ). HaveEnded (circumstances g.J.Run.openings (g.C.Clock.gives c.args.system.clock.now)) (closes_at_end c.args.plan) n c.in_ok-done.done.shares.items finish.new.shares.items)
           known.books (finish.ensures.ended good.0);
       books = c.in-Ok.gathered.items;
       audit = found;

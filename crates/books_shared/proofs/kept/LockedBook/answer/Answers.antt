@@ -4,18 +4,18 @@ use Rattle.tenant_core.specs.declared.opening.Opening.{Opening}
 use Rattle.floor_core.specs.Work.{Called, answer_call}
 use Rattle.one_list.specs.Holds.{AreOwnAnswers}
 use Rattle.one_list.specs.Steps.{done_by, next_place}
-use Rattle.books_shared.specs.Kept.{Kept, most_entries}
+use Rattle.books_shared.specs.Kept.{LockedBook, most_entries}
 use Rattle.books_shared.specs.Rises.{IsSmall, entries_of, rise_of}
-use Rattle.books_shared.specs.Traced.{counted}
-use Rattle.books_shared.specs.Tracing.{told_by}
+use Rattle.books_shared.specs.Traced.{share_counted}
+use Rattle.books_shared.specs.Tracing.{steps_appended}
 use Rattle.books_shared.specs.Turns.{IsSentBy}
-use Rattle.books_shared.specs.declared.rise.Rise.{Rise}
+use Rattle.books_shared.specs.declared.rise.CallCounts.{CallCounts}
 use Rattle.books_shared.proofs.Entries.{entries_told, small}
 use Rattle.books_shared.proofs.Causes.{answer_cause}
 use Rattle.books_shared.proofs.Owning.{answer_answers, own_on}
 use Rattle.books_shared.proofs.Tracing.{answer_stays, place_at, share_told, steps_told, told_call, traced_call}
-use Rattle.books_shared.proofs.kept.Kept.answer.Goals as goal
-use Rattle.books_shared.proofs.kept.Kept.answer.Given.{Over}
+use Rattle.books_shared.proofs.kept.LockedBook.answer.Goals as goal
+use Rattle.books_shared.proofs.kept.LockedBook.answer.Given.{Over}
 
 pub trace-requires-clause-tenant : goal.trace-requires-clause-tenant
 trace-requires-clause-tenant g c =
@@ -26,16 +26,16 @@ trace-requires-clause-tenant g c =
 pub trace-requires-clause-small : goal.trace-requires-clause-small
 trace-requires-clause-small g c =
     let call = answer_call c.args.slot.now c.self.inside.book c.args.now c.args.got in
-    subst (λ (r : Rise). IsSmall r) (sym c.answer_in-turn.ensures.rise) (small call.turn call.made)
+    subst (λ (r : CallCounts). IsSmall r) (sym c.answer_in-turn.ensures.rise) (small call.turn call.made)
 
 abbrev call : (g : Over) → goal.After-trace g → Called
 call g c = answer_call c.args.slot.now c.self.inside.book c.args.now c.args.got
 
 many : (g : Over) (c : goal.After-trace g) → c.answer_in-turn.result.1.entries ≡ entries_of (call g c).made
-many g c = ap (λ (r : Rise). r.entries) c.answer_in-turn.ensures.rise ∙ entries_told (call g c).turn (entries_of (call g c).made)
+many g c = ap (λ (r : CallCounts). r.entries) c.answer_in-turn.ensures.rise ∙ entries_told (call g c).turn (entries_of (call g c).made)
 
 told : (g : Over) (c : goal.After-trace g)
-    → told_by c.answer_in-turn.result.1.entries c.args.share.now.worker c.self.inside.part.number c.answer_in-turn.new.book.opening.period c.answer_in-turn.new.book.records
+    → steps_appended c.answer_in-turn.result.1.entries c.args.share.now.worker c.self.inside.part.number c.answer_in-turn.new.book.opening.period c.answer_in-turn.new.book.records
     ≡ done_by c.args.share.now.worker (place_at c.self.inside.part.number c.self.inside.book) (call g c).made
 told g c =
     told_call c.histories.ensures c.self.inside.book c.answer_in-turn.new.book (call g c).made c.answer_in-turn.result.1.entries c.args.share.now.worker c.self.inside.part.number
@@ -50,7 +50,7 @@ grown_steps g c =
 
 -- the worker has sent the packet on, by the steps so far
 sent_inside : (g : Over) (c : goal.After-trace g) → g.J.Run.own ≡ true → IsSentBy c.args.share.now.worker c.args.slot.now.job c.self.inside.part.steps
-sent_inside g c own = subst (λ (k : Kept). IsSentBy c.args.share.now.worker c.args.slot.now.job k.steps) (sym c.self.view_is) (c.requires.sent own)
+sent_inside g c own = subst (λ (k : LockedBook). IsSentBy c.args.share.now.worker c.args.slot.now.job k.steps) (sym c.self.view_is) (c.requires.sent own)
 
 pub invariant_of-self : goal.invariant_of-self
 invariant_of-self g c = (
@@ -66,13 +66,13 @@ invariant_of-self g c = (
 
 pub returns-clause-steps : goal.returns-clause-steps
 returns-clause-steps g c =
-    subst (λ (k : Kept). c.trace.new.part.steps ≡ k.steps ++ done_by c.args.share.now.worker (next_place k.state) (answer_call c.args.slot.now k.state c.args.now c.args.got).made)
+    subst (λ (k : LockedBook). c.trace.new.part.steps ≡ k.steps ++ done_by c.args.share.now.worker (next_place k.state) (answer_call c.args.slot.now k.state c.args.now c.args.got).made)
     c.self.view_is
     (grown_steps g c)
 
 pub returns-clause-share : goal.returns-clause-share
 returns-clause-share g c =
-    subst (λ (k : Kept). c.trace.new.share ≡ counted (rise_of (answer_call c.args.slot.now k.state c.args.now c.args.got)) (next_place k.state) (answer_call c.args.slot.now k.state c.args.now c.args.got).made c.args.share.now)
+    subst (λ (k : LockedBook). c.trace.new.share ≡ share_counted (rise_of (answer_call c.args.slot.now k.state c.args.now c.args.got)) (next_place k.state) (answer_call c.args.slot.now k.state c.args.now c.args.got).made c.args.share.now)
     c.self.view_is
     (share_told c.args.share.now c.trace.new.share _ (rise_of (call g c)) c.self.inside.part.number c.self.inside.book (call g c).made _ c.trace.ensures.share
     (told g c) c.self.invariant.1.number c.answer_in-turn.ensures.rise)

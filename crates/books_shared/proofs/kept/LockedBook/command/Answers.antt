@@ -3,14 +3,14 @@ use Rattle.tenant_core.specs.Governed.{made_by}
 use Rattle.tenant_core.specs.Limits.{max_tenants}
 use Rattle.one_list.specs.Holds.{AreOwnAnswers}
 use Rattle.one_list.specs.Steps.{done_by, next_place}
-use Rattle.books_shared.specs.Kept.{Kept}
+use Rattle.books_shared.specs.Kept.{LockedBook}
 use Rattle.books_shared.specs.Rises.{command_rise}
-use Rattle.books_shared.specs.Traced.{counted}
-use Rattle.books_shared.specs.Tracing.{told_of}
+use Rattle.books_shared.specs.Traced.{share_counted}
+use Rattle.books_shared.specs.Tracing.{steps_of_command}
 use Rattle.books_shared.proofs.Owning.{governed_answers, own_on}
 use Rattle.books_shared.proofs.Tracing.{governed_tenant, governed_told, place_at, share_told, steps_told, traced_command}
-use Rattle.books_shared.proofs.kept.Kept.command.Goals as goal
-use Rattle.books_shared.proofs.kept.Kept.command.Given.{Over}
+use Rattle.books_shared.proofs.kept.LockedBook.command.Goals as goal
+use Rattle.books_shared.proofs.kept.LockedBook.command.Given.{Over}
 
 pub trace_command-requires-clause-tenant : goal.trace_command-requires-clause-tenant
 trace_command-requires-clause-tenant g c =
@@ -20,7 +20,7 @@ trace_command-requires-clause-tenant g c =
     (governed_tenant c.calls.ensures c.command_in-answer.result.0 c.args.command.now c.self.inside.book c.command_in-answer.new.book c.args.now c.command_in-answer.ensures.answer ∙ sym own) sound
 
 told : (g : Over) (c : goal.After-trace_command g)
-    → told_of c.command_in-answer.result.0 c.args.share.now.worker c.self.inside.part.number c.command_in-answer.new.book
+    → steps_of_command c.command_in-answer.result.0 c.args.share.now.worker c.self.inside.part.number c.command_in-answer.new.book
     ≡ done_by c.args.share.now.worker (place_at c.self.inside.part.number c.self.inside.book) (made_by c.command_in-answer.result.0 c.self.inside.book c.args.command.now c.args.now)
 told g c =
     governed_told c.histories.ensures c.command_in-answer.result.0 c.args.command.now c.self.inside.book c.command_in-answer.new.book c.args.now c.args.share.now.worker c.self.inside.part.number
@@ -46,13 +46,13 @@ invariant_of-self g c = (
 
 pub returns-clause-steps : goal.returns-clause-steps
 returns-clause-steps g c =
-    subst (λ (k : Kept). c.trace_command.new.part.steps ≡ k.steps ++ done_by c.args.share.now.worker (next_place k.state) (made_by c.command_in-answer.result.0 k.state c.args.command.now c.args.now))
+    subst (λ (k : LockedBook). c.trace_command.new.part.steps ≡ k.steps ++ done_by c.args.share.now.worker (next_place k.state) (made_by c.command_in-answer.result.0 k.state c.args.command.now c.args.now))
     c.self.view_is
     (grown_steps g c)
 
 pub returns-clause-share : goal.returns-clause-share
 returns-clause-share g c =
-    subst (λ (k : Kept). c.trace_command.new.share ≡ counted (command_rise c.command_in-answer.result.0) (next_place k.state) (made_by c.command_in-answer.result.0 k.state c.args.command.now c.args.now) c.args.share.now)
+    subst (λ (k : LockedBook). c.trace_command.new.share ≡ share_counted (command_rise c.command_in-answer.result.0) (next_place k.state) (made_by c.command_in-answer.result.0 k.state c.args.command.now c.args.now) c.args.share.now)
     c.self.view_is
     (share_told c.args.share.now c.trace_command.new.share _ (command_rise c.command_in-answer.result.0) c.self.inside.part.number c.self.inside.book
     (made_by c.command_in-answer.result.0 c.self.inside.book c.args.command.now c.args.now) _ c.trace_command.ensures.share
