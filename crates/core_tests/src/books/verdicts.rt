@@ -19,6 +19,17 @@ struct Packets {
     entries: usize,
 }
 
+// Two packets alike, of which only the first goes on.
+const FIRST_ALONE: &[(u64, u64, u64, Wanted)] = &[
+    (1_000, 30_000, 0, Wanted::Forwarded(0, 1_500, 29_000)),
+    (
+        1_000,
+        30_000,
+        0,
+        Wanted::Refused(RejectCode::InsufficientLiquidity),
+    ),
+];
+
 static PACKETS: [Packets; 9] = [
     Packets {
         title: "a packet is priced and held, and two places of four stay for answers",
@@ -101,15 +112,7 @@ static PACKETS: [Packets; 9] = [
             ..USUAL
         },
         start: START,
-        steps: &[
-            (1_000, 30_000, 0, Wanted::Forwarded(0, 1_500, 29_000)),
-            (
-                1_000,
-                30_000,
-                0,
-                Wanted::Refused(RejectCode::InsufficientLiquidity),
-            ),
-        ],
+        steps: FIRST_ALONE,
         entries: 2,
     },
     Packets {
@@ -121,15 +124,7 @@ static PACKETS: [Packets; 9] = [
             ..USUAL
         },
         start: START,
-        steps: &[
-            (1_000, 30_000, 0, Wanted::Forwarded(0, 1_500, 29_000)),
-            (
-                1_000,
-                30_000,
-                0,
-                Wanted::Refused(RejectCode::InsufficientLiquidity),
-            ),
-        ],
+        steps: FIRST_ALONE,
         entries: 2,
     },
     Packets {
