@@ -2,28 +2,10 @@
 
 use crate::auditing::{Statements, tell_audit};
 use crate::ending::{Ending, exit_status};
+use crate::tests::{NEXT, STATEMENT};
 use std::alloc::Global;
 use std::process::Abort;
 use std::test::Fail;
-
-const ACME: &str = "statement 1
-tenant 0 acme g.acme 1024 1000 30000
-period 0 1893456000000 0 0
-1893456000001 tick = 0
-1893456000002 roll
-ending
-tenant 0 acme g.acme 1024 1000 30000
-period 1 1893456000002 0 0
-";
-
-const ACME_NEXT: &str = "statement 1
-tenant 0 acme g.acme 1024 1000 30000
-period 1 1893456000002 0 0
-1893456000003 roll
-ending
-tenant 0 acme g.acme 1024 1000 30000
-period 2 1893456000003 0 0
-";
 
 const BETA: &str = "statement 1
 tenant 1 beta g.beta 1024 1000 30000
@@ -36,11 +18,11 @@ period 1 1893456000001 0 0
 
 const RECEIPTS: &str = "receipts 1
 worker 2
-0 0 0 1893456000001 tick = 0
-1 0 0 1893456000001 roll
+0 0 0 1893456000001 roll
+0 1 0 1893456000001 tick = 0
 worker 2
-0 0 1 1893456000002 roll
-0 1 0 1893456000003 roll
+1 0 0 1893456000001 roll
+0 1 1 1893456000002 roll
 ";
 
 const SETUP: &str = "version = 1
@@ -57,22 +39,22 @@ admin = \"root-b\"
 
 // The statements, in their order, the receipts, what is said of them, and the exit status.
 static AUDITED: [(&[&str], &str, &str, u8); 7] = [
-    (&[ACME, ACME_NEXT, BETA], RECEIPTS, "audit ok 4\n", 0),
-    (&[BETA, ACME, ACME_NEXT], RECEIPTS, "audit ok 4\n", 0),
-    (&[ACME, BETA], RECEIPTS, "audit no-period\n", 6),
+    (&[STATEMENT, NEXT, BETA], RECEIPTS, "audit ok 4\n", 0),
+    (&[BETA, STATEMENT, NEXT], RECEIPTS, "audit ok 4\n", 0),
+    (&[STATEMENT, BETA], RECEIPTS, "audit no-period\n", 6),
     (
-        &[ACME, BETA, ACME_NEXT],
-        "receipts 1\nworker 1\n0 0 0 1893456000001 tick = 0\nworker 2\n0 0 1 1893456000002 roll\n0 1 0 1893456000003 roll\n",
+        &[STATEMENT, BETA, NEXT],
+        "receipts 1\nworker 1\n0 0 0 1893456000001 roll\nworker 2\n0 1 0 1893456000001 tick = 0\n0 1 1 1893456000002 roll\n",
         "audit missing\n",
         6,
     ),
     (
-        &[ACME, BETA, ACME],
+        &[STATEMENT, BETA, STATEMENT],
         RECEIPTS,
-        "c: line 3: not what the statement before it ended with\nit says: period 0 1893456000000 0 0\nit has to say: period 1 1893456000002 0 0\n",
+        "c: line 3: not what the statement before it ended with\nit says: period 0 1893456000000 0 0\nit has to say: period 1 1893456000001 0 0\n",
         4,
     ),
-    (&[ACME, "", BETA], RECEIPTS, "b: no opening\n", 4),
+    (&[STATEMENT, "", BETA], RECEIPTS, "b: no opening\n", 4),
     (
         &[BETA],
         "receipts 1\nworker 1\n1 0 0 1893456000001 rolled\n",

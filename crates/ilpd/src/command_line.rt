@@ -36,6 +36,9 @@ const CONNECTIONS: usize = 256;
 /// The most connections for each worker before a service ends.
 const MAX_ROUNDS: u32 = 1_000_000;
 
+/// All of the entries that a period has room for, in hundredths.
+const WHOLE: u8 = 100;
+
 /// The address of the host's door, and the file of the token that is shown there.
 #[derive(Clone, Copy, Debug, PartialEq, Eq)]
 pub struct HostWords<'a> {
@@ -62,6 +65,8 @@ pub struct CommandLine<'a> {
     pub first: Option<&'a str>,
     /// The file of the receipts to audit by them.
     pub receipts: Option<&'a str>,
+    /// At how many hundredths of its entries, 1 to 100, a service closes a tenant's period by itself, if it does.
+    pub roll_at: Option<u8>,
 }
 
 /// The address that a service listens on where the command line names none.
@@ -74,7 +79,7 @@ const USAGE: &str =
     "ilpd replay SETUP [--workers W] [--statements DIR] < SCRIPT\n       ilpd check SETUP [SCRIPT [--workers W]]\n       \
 ilpd verify [--setup SETUP] [--receipts FILE] FILE..\n       \
 ilpd serve SETUP --workers W [--connections C] [--rounds N] [--balances] [--audit] [--listen ADDR]\n                  \
-[--host ADDR --host-token FILE] [--statements DIR]";
+[--host ADDR --host-token FILE] [--statements DIR] [--roll-at PERCENT]";
 
 const WHERE: &str =
     "docs/FORMATS.md describes setups, scripts and what is printed; examples/ has some of each";
@@ -282,17 +287,29 @@ fn folder_of<'a>(alloc: Global) -> Arg<'a> {
         .action(ArgAction::Set)
 }
 
+fn roll_at<'a>(alloc: Global) -> Arg<'a> {
+    Arg::new(alloc, "roll-at")
+        .long("roll-at")
+        .value_name("PERCENT")
+        .help(
+            "To close a tenant's period, as the command roll does, once it is so full and no packet awaits its answer, 1 to 100",
+        )
+        .value_parser(value_parser!(u64))
+}
+
 fn serve_of<'a>(alloc: Global) -> Result<Command<'a>, AllocError> {
     let serve = Command::new(alloc, "serve")
         .about(
             "Serves packets and commands over HTTP, and prints in the end how many were answered how",
         )
         .override_usage(
-            "ilpd serve SETUP --workers W [--connections C] [--rounds N] [--balances] [--audit] [--listen ADDR]\n                  [--host ADDR --host-token FILE] [--statements DIR]",
+            "ilpd serve SETUP --workers W [--connections C] [--rounds N] [--balances] [--audit] [--listen ADDR]\n                  [--host ADDR --host-token FILE] [--statements DIR] [--roll-at PERCENT]",
         )
         .after_help("Example: ilpd serve examples/serve.toml --workers 4");
     let serve = with_reports(alloc, with_extent(alloc, serve)?)?;
-    with_host(alloc, serve.arg(listen_of(alloc))?)?.arg(folder_of(alloc))
+    with_host(alloc, serve.arg(listen_of(alloc))?)?
+        .arg(folder_of(alloc))?
+        .arg(roll_at(alloc))
 }
 
 // How many workers there are, 1 where nothing is said.
@@ -327,6 +344,16 @@ fn rounds_of(words: &ArgMatches<'_>) -> Option<u32>
     }
 }
 
+// At how many hundredths of its entries a period is closed, where that is said.
+fn roll_at_of(words: &ArgMatches<'_>) -> Option<u8>
+    ensures { IfSome result (λ percent. (1 ≤ percent) × (percent ≤ WHOLE)) }
+{
+    match words.get_one::<u8>("roll-at") {
+        Some(percent) if 1 <= percent && percent <= WHOLE => Some(percent),
+        _ => None,
+    }
+}
+
 // The host's door, where both of its words are there.
 fn host_of<'a>(words: &ArgMatches<'a>) -> Option<HostWords<'a>> {
     Some(HostWords {
@@ -356,6 +383,7 @@ fn line_of<'a>(
         statements: None,
         first: words.get_str("setup"),
         receipts: words.get_str("receipts"),
+        roll_at: None,
     }
 }
 
@@ -381,6 +409,7 @@ fn line_in<'a>(matches: &ArgMatches<'a>) -> CommandLine<'a>
             CommandLine {
                 host: host_of(serve),
                 folder: serve.get_str("statements"),
+                roll_at: roll_at_of(serve),
                 ..line_of(task, serve, workers_of(serve), address)
             }
         }
@@ -400,7 +429,7 @@ struct Limited {
     most: u64,
 }
 
-const LIMITED: [Limited; 3] = [
+const LIMITED: [Limited; 4] = [
     Limited {
         name: "workers",
         shown: "--workers <W>",
@@ -415,6 +444,11 @@ const LIMITED: [Limited; 3] = [
         name: "rounds",
         shown: "--rounds <N>",
         most: MAX_ROUNDS as u64,
+    },
+    Limited {
+        name: "roll-at",
+        shown: "--roll-at <PERCENT>",
+        most: WHOLE as u64,
     },
 ];
 
@@ -470,10 +504,10 @@ fn all_within_limits(alloc: Global, matches: &ArgMatches<'_>) -> Result<(), Erro
 /// Reads the words of `ilpd replay SETUP [--workers W] [--statements DIR]`, `ilpd check SETUP [SCRIPT [--workers W]]`,
 /// `ilpd verify [--setup SETUP] [--receipts FILE] FILE..` or
 /// `ilpd serve SETUP --workers W [--connections C] [--rounds N] [--balances] [--audit] [--listen ADDR] [--host ADDR
-/// --host-token FILE] [--statements DIR]`, the program's name first.
+/// --host-token FILE] [--statements DIR] [--roll-at PERCENT]`, the program's name first.
 ///
-/// W is 1 to 64, and 1 for a script by default. C is 1 to 4,096, and 256 by default. N is 1 to 1,000,000. The ADDR to listen on
-/// is 127.0.0.1:7768 by default. There is a host's door only if both of its words are there.
+/// W is 1 to 64, and 1 for a script by default. C is 1 to 4,096, and 256 by default. N is 1 to 1,000,000. PERCENT is 1 to 100.
+/// The ADDR to listen on is 127.0.0.1:7768 by default. There is a host's door only if both of its words are there.
 ///
 /// The error has the text for people, also for a request for help or the version, or it is out of memory.
 pub fn arguments<'a>(alloc: Global, words: &'a [String]) -> Result<CommandLine<'a>, Error>

@@ -540,6 +540,7 @@ fn run<
                 extent,
                 report,
                 statements: line.folder,
+                roll_at: line.roll_at,
             };
             serve_at(rt, setup.as_slice(), plan, line.address, line.host)
         }

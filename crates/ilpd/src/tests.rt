@@ -58,6 +58,9 @@ serve s1.toml --workers 1 --connections 0 -> error: invalid value '0' for '--con
 serve s1.toml --workers 1 --connections 4097 -> error: invalid value '4097' for '--connections <C>': 1 to 4096
 serve s1.toml --workers 1 --rounds 0 -> error: invalid value '0' for '--rounds <N>': 1 to 1000000
 serve s1.toml --workers 1 --rounds 1000001 -> error: invalid value '1000001' for '--rounds <N>': 1 to 1000000
+serve s1.toml --workers 1 --roll-at 80 -> s1.toml 1 serve 256 - rolls at 80
+serve s1.toml --workers 1 --roll-at 0 -> error: invalid value '0' for '--roll-at <PERCENT>': 1 to 100
+serve s1.toml --workers 1 --roll-at 101 -> error: invalid value '101' for '--roll-at <PERCENT>': 1 to 100
 --help -> A connector
 --version -> ilpd 0.1.0
 -V -> ilpd 0.1.0
@@ -125,10 +128,18 @@ fn host_told(alloc: Global, host: Option<HostWords<'_>>) -> Result<String, Fail>
     }
 }
 
+fn roll_at_told(alloc: Global, percent: Option<u8>) -> Result<String, Fail> {
+    match percent {
+        Some(percent) => Ok([" rolls at ", percent.to_string(alloc)?.as_str()].concat(alloc)?),
+        None => Ok(String::new(alloc)),
+    }
+}
+
 fn told(alloc: Global, line: &CommandLine<'_>) -> Result<String, Fail> {
     let workers = line.workers.to_string(alloc)?;
     let task = task_told(alloc, line.task)?;
     let host = host_told(alloc, line.host)?;
+    let roll_at = roll_at_told(alloc, line.roll_at)?;
     Ok([
         line.setup,
         " ",
@@ -136,6 +147,7 @@ fn told(alloc: Global, line: &CommandLine<'_>) -> Result<String, Fail> {
         " ",
         task.as_str(),
         host.as_str(),
+        roll_at.as_str(),
     ]
     .concat(alloc)?)
 }
@@ -251,8 +263,8 @@ fn statements_to_verify(rt: HostRuntime) -> Result<(), Fail> {
     Ok(())
 }
 
-// The first period of the tenant of `SETUP`, in which nothing happened but the roll.
-const STATEMENT: &str = "statement 1
+/// The first period of the tenant of `SETUP`, in which nothing happened but the roll.
+pub const STATEMENT: &str = "statement 1
 tenant 0 acme g.acme 1024 1000 30000
 period 0 1893456000000 0 0
 1893456000001 roll
@@ -261,8 +273,8 @@ tenant 0 acme g.acme 1024 1000 30000
 period 1 1893456000001 0 0
 ";
 
-// The period after it.
-const NEXT: &str = "statement 1
+/// The period after it.
+pub const NEXT: &str = "statement 1
 tenant 0 acme g.acme 1024 1000 30000
 period 1 1893456000001 0 0
 1893456000001 tick = 0

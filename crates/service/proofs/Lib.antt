@@ -8,3 +8,4 @@ pub mod Exchanged
 pub mod Audits
 pub mod Presents
 pub mod Filings
+pub mod Asked

@@ -104,7 +104,7 @@ office_sync J r books meters network =
     let filing = filing_sync network in
     let fields = struct_sync (shape (Office.the_type J r)) (
       search (sendable, std.crosses, name_sync) depth 40,
-      (search (sendable, std.crosses, terms_sync) depth 40, (books, (meters, (places_sync, (door_sync, (search (sendable, std.crosses, filing) depth 40, (search (sendable, std.crosses) depth 40, (search (sendable, std.crosses) depth 40, tt)))))))),
+      (search (sendable, std.crosses, terms_sync) depth 40, (books, (meters, (places_sync, (door_sync, (search (sendable, std.crosses, filing) depth 40, (search (sendable, std.crosses) depth 40, (search (sendable, std.crosses) depth 40, (search (sendable, std.crosses) depth 40, tt))))))))),
     ) in
     search (recorded_sync, fields) depth 10
 

@@ -50,13 +50,7 @@ use Rattle.service.specs.declared.worker.Over.{Over}
 use Rattle.service.specs.declared.worker.Over.TheVariants.{Ended, Closed, Yielded}
 use Rattle.service.specs.Served.{lines_upto, tenant_named}
 use Rattle.service.specs.Balances.{balance_lines}
-
--- nothing is counted, sent or carried
-pub record IsUntouched {J : Type 0} {r : Ghosts J} (before after : Desk J r) : Type 0 where
-  pub share : after.share ≡ before.share
-  pub seat : after.seat ≡ before.seat
-  pub slot : after.slot ≡ before.slot
-  pub sent : after.sent ≡ before.sent
+use Rattle.service.specs.Rolling.{IsTidied, IsUntouched}
 
 -- ---- a packet
 
@@ -135,10 +129,12 @@ WasObeyed Gives (Err fault) office before tenant told after =
 abbrev pub operator_token : {J : Type 0} {r : Ghosts J} → Office J r → ℕ → List ℕ
 operator_token office tenant = (slice_index_or office.terms.items tenant (record { admin = []; hold = 0 })).admin
 
--- a packet of a tenant that is there is carried
-abbrev pub WasAskedPacket : {J : Type 0} {r : Ghosts J} → (Gives : ℕ → Type 0) → Bool → Asked → Desk J r → Status → Desk J r → Type 0
-WasAskedPacket Gives true asked before told after = WasCarried Gives before asked.tenant asked.token asked.body told after
-WasAskedPacket Gives false asked before told after = (told ≡ status.Unavailable) × IsUntouched before after
+-- a packet of a tenant that is there is carried; then the tenant's period is closed if the service closes ripe ones and it is ripe
+abbrev pub WasAskedPacket : {J : Type 0} {r : Ghosts J} → (Gives : ℕ → Type 0) → Bool → Office J r → Asked → Desk J r → Status → Desk J r → Type 0
+WasAskedPacket {J} {r} Gives true office asked before told after =
+    (between : Desk J r) × WasCarried Gives before asked.tenant asked.token asked.body told between
+    × IsTidied Gives office.roll_at office between asked.tenant after
+WasAskedPacket Gives false office asked before told after = (told ≡ status.Unavailable) × IsUntouched before after
 
 -- a command under the operator's token is obeyed, one under another is not (401)
 abbrev pub WasAskedCommand : {J : Type 0} {r : Ghosts J} → (Gives : ℕ → Type 0) → Bool → Office J r → Asked → Desk J r → Status → Desk J r → Type 0
@@ -155,7 +151,7 @@ WasOrdered Gives false office asked before told after = (told ≡ status.Unavail
 -- what is asked, by its kind
 abbrev pub WasAsked : {J : Type 0} {r : Ghosts J} → (Gives : ℕ → Type 0) → RequestKind → Office J r → Asked → Desk J r → Status → Desk J r → Type 0
 WasAsked Gives Ilp office asked before told after =
-    WasAskedPacket Gives (nat_lt asked.tenant office.books.tenants) asked before told after
+    WasAskedPacket Gives (nat_lt asked.tenant office.books.tenants) office asked before told after
 WasAsked Gives Admin office asked before told after =
     WasOrdered Gives (nat_lt asked.tenant office.books.tenants) office asked before told after
 

@@ -13,3 +13,4 @@ pub mod Ending
 pub mod Extents
 pub mod Filing
 pub mod ReceiptFiling
+pub mod Rolling

@@ -36,6 +36,8 @@ pub struct Office<J: Run> {
     pub door: Door,
     /// Where the statements of closed periods are kept, if they are.
     pub filing: Option<Filing>,
+    /// At how many hundredths of its entries a tenant's period is closed by itself, if it is.
+    pub roll_at: Option<u8>,
     /// How many commands came for each tenant under a token that is not its operator's.
     pub refused_tokens: Vec<AtomicU64>,
     /// The moment at which the tenants' clocks began.

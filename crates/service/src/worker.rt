@@ -123,6 +123,7 @@ impl<H: Wait + Net<Stream = TcpStream> + std::time::Clock + Disk, C: Clock, J: R
         };
         let system = self.system();
         self.status = self.desk.carry(&system, office, job).code();
+        self.desk.tidy(&system, office, tenant);
         self.status
     }
 

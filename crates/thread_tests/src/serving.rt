@@ -92,6 +92,7 @@ where
             extent,
             report,
             statements: None,
+            roll_at: None,
         },
         Doors {
             packets: listener,

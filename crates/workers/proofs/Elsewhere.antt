@@ -90,11 +90,12 @@ goes_on w s now to hold is = by_job w.job w s now to hold is
 
 -- ---- an answer
 
--- a book that misses the hold of the slot does not await it
-not_awaited : (w : Work) (s : State) (now : ℕ) (came : Got) (t hold : ℕ) (frame : List ℕ) → w.job ≡ Job.Waits t hold frame → s.opening.tenant ≡ t
-    → (answer_call w s now came).turn ≡ turns.Stray → is_awaited s hold ≡ false
-not_awaited w s now came t hold frame waits own turned =
-    by_own (eqb s.opening.tenant t) (eq-eqb s.opening.tenant t own) (ap (λ (j : Job). (job_answered j w s now given).turn) (sym waits) ∙ turned)
+-- a book answers the packet of the slot exactly where it awaits its hold
+pub answer_turn : (w : Work) (s : State) (now : ℕ) (came : Got) (t hold : ℕ) (frame : List ℕ) → w.job ≡ Job.Waits t hold frame → s.opening.tenant ≡ t
+    → (answer_call w s now came).turn ≡ cond (is_awaited s hold) turns.Reply turns.Stray
+answer_turn w s now came t hold frame waits own =
+    ap (λ (j : Job). (job_answered j w s now given).turn) waits
+    ∙ by_own (eqb s.opening.tenant t) (eq-eqb s.opening.tenant t own)
   where
     given : PeerAnswer
     given = given_by w.room came
@@ -105,13 +106,23 @@ not_awaited w s now came t hold frame waits own turned =
     made : Option Record
     made = answer_made s hold now key
 
-    by_hold : (o : Option Hold) → (settled_call w s given made (settled o (max (clock_of s) now) key)).turn ≡ turns.Stray → is_some o ≡ false
-    by_hold None is = refl
-    by_hold (Some h) is = absurd cc
+    by_hold : (o : Option Hold) → (settled_call w s given made (settled o (max (clock_of s) now) key)).turn ≡ cond (is_some o) turns.Reply turns.Stray
+    by_hold None = refl
+    by_hold (Some h) = refl
 
-    by_own : (e : Bool) → e ≡ true → (cond e (settled_call w s given made (settled (open_hold s hold) (max (clock_of s) now) key)) (only turns.Stray w)).turn ≡ turns.Stray → is_awaited s hold ≡ false
-    by_own true at is = by_hold (open_hold s hold) is
-    by_own false at is = absurd cc
+    by_own : (e : Bool) → e ≡ true
+        → (cond e (settled_call w s given made (settled (open_hold s hold) (max (clock_of s) now) key)) (only turns.Stray w)).turn ≡ cond (is_awaited s hold) turns.Reply turns.Stray
+    by_own true at = by_hold (open_hold s hold)
+    by_own false at = absurd cc
+
+-- a book that gives no answer does not await the hold
+not_awaited : (w : Work) (s : State) (now : ℕ) (came : Got) (t hold : ℕ) (frame : List ℕ) → w.job ≡ Job.Waits t hold frame → s.opening.tenant ≡ t
+    → (answer_call w s now came).turn ≡ turns.Stray → is_awaited s hold ≡ false
+not_awaited w s now came t hold frame waits own turned = by (is_awaited s hold) (sym (answer_turn w s now came t hold frame waits own) ∙ turned)
+  where
+    by : (awaited : Bool) → cond awaited turns.Reply turns.Stray ≡ turns.Stray → awaited ≡ false
+    by false is = refl
+    by true is = absurd cc
 
 -- ---- a packet that was lost
 

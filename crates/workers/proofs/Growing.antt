@@ -1,11 +1,12 @@
 -- What a worker's share grows by: what a call under a lock has counted, with room made before.
-use Rattle.std.proofs.Common.{◌≡◌, ℕ, List, Option, None, Result, add-zero, append-nil, get_or, refl, sym, ap, subst, ◌∙◌}
+use Rattle.std.proofs.Common.{◌≡◌, ℕ, false, true, List, Option, None, Result, add-zero, append-nil, get_or, refl, sym, ap, subst, ◌∙◌}
 use Rattle.std.proofs.lemmas.List.{set-get_or}
 use Rattle.tenant_core.specs.Governed.{IsGoverned, made_by}
 use Rattle.tenant_core.specs.Sound.{IsSound}
 use Rattle.tenant_core.specs.State.{State}
 use Rattle.tenant_core.specs.declared.command.Answered.{Answered}
 use Rattle.tenant_core.specs.declared.command.Command.{Command}
+use Rattle.tenant_core.specs.declared.command.Command.TheVariants.{Roll}
 use Rattle.tenant_core.specs.declared.faults.CommandFault.{CommandFault}
 use Rattle.tenant_core.specs.declared.journal.Record.{Record}
 use Rattle.floor_core.specs.Work.{Called, Work}
@@ -17,6 +18,7 @@ use Rattle.books_shared.specs.Shares.{ShareView, added, share_met}
 use Rattle.books_shared.specs.Traced.{IsLedTo, share_counted}
 use Rattle.books_shared.specs.declared.rise.CallCounts.{CallCounts}
 use Rattle.workers.specs.Carrying.{AreAlike, Circumstances, Found, Growth, HasGrown, HasMet, WasCalled, WasCommanded, growth, meeting}
+use Rattle.workers.specs.Rolling.{WasRipe, WasUnripe, is_ripe}
 
 -- ---- a call
 
@@ -97,3 +99,28 @@ was_commanded {under} t k met now given answer left s roomy ready after same roo
           (counted_grows found (command_rise answer) (made_by answer k.state given now) t roomy after
           (grew ∙ (λ i. share_counted (command_rise answer) (next_place (same i).state) (made_by answer (same i).state given now) (alike i))));
     }
+
+-- a book that was looked at under a lock, once room was made, and left alone
+pub was_unripe : {under : Circumstances} (t percent : ℕ) (k met : LockedBook) (now : ℕ) (s roomy ready : ShareView) → met ≡ k → roomy ≡ record s { room = 2 }
+    → ready ≡ share_met k.state.opening.tenant k.steps roomy → IsSound k.state → IsLedTo under.openings k.state k.steps → under.Gives now → k.state.opening.tenant ≡ t
+    → of_worker roomy.worker k.steps ≡ of_tenant k.state.opening.tenant roomy.steps → is_ripe percent met.state ≡ false → WasUnripe under percent (growth t s ready)
+was_unripe {under} t percent k met now s roomy ready same room alike sound led gave own mine unripe = record {
+  found = record { book = k.state; steps = k.steps; now = now; sound = sound; led = led; gave = gave };
+  own = own;
+  mine = subst (λ (r : ShareView). of_worker r.worker k.steps ≡ of_tenant t r.steps) room (mine ∙ ap (λ n. of_tenant n roomy.steps) own);
+  unripe = ap (λ (z : LockedBook). is_ripe percent z.state) (sym same) ∙ unripe;
+  none = subst (λ (r : ShareView). r ≡ record (share_met k.state.opening.tenant k.steps s) { room = r.room })
+      (sym (alike ∙ ap (share_met k.state.opening.tenant k.steps) room)) refl;
+}
+
+-- a book that was found ripe under a lock, once room was made, got the command to roll, and answered so
+pub was_ripe : {under : Circumstances} (t percent : ℕ) (k met : LockedBook) (now : ℕ) (came answer : Result Answered CommandFault) (left : State) (s roomy ready after : ShareView)
+    → came ≡ answer → met ≡ k → roomy ≡ record s { room = 2 } → ready ≡ share_met k.state.opening.tenant k.steps roomy → IsSound k.state → IsLedTo under.openings k.state k.steps → under.Gives now
+    → k.state.opening.tenant ≡ t → of_worker roomy.worker k.steps ≡ of_tenant k.state.opening.tenant roomy.steps → IsGoverned came Roll met.state left now
+    → after ≡ share_counted (command_rise came) (next_place met.state) (made_by came met.state Roll now) ready → is_ripe percent met.state ≡ true → WasRipe under percent (growth t s after) answer
+unfolding was_commanded
+was_ripe {under} t percent k met now came answer left s roomy ready after is same room alike sound led gave own mine governed grew ripe =
+    subst (λ (a : Result Answered CommandFault). WasRipe under percent (growth t s after) a) is (record {
+      rolled = was_commanded t k met now Roll came left s roomy ready after same room alike sound led gave own mine governed grew;
+      ripe = ap (λ (z : LockedBook). is_ripe percent z.state) (sym same) ∙ ripe;
+    })

@@ -1,29 +1,21 @@
 -- A packet that a worker sent on is awaited until that worker answers it, where workers answer only what they sent on.
-use Rattle.std.proofs.Common.{◌≡◌, ◌==◌, ℕ, Bool, true, false, cond, eqb, List, [], ◌∷◌, ◌++◌, refl, sym, ap, subst, ◌∙◌}
+use Rattle.std.proofs.Common.{◌≡◌, ◌==◌, ℕ, Bool, cond, List, [], ◌∷◌, ◌++◌, refl, sym, ap, subst, ◌∙◌}
 use Rattle.std.proofs.lemmas.Bool.{eq-eqb}
 use Rattle.std.proofs.lemmas.List.Elements.{filter-append}
-use Rattle.std.specs.Prelude.{Option, Some, None, is_some, max}
-use Rattle.tenant_core.specs.Answer.{answer_made, settled}
-use Rattle.tenant_core.specs.Holds.{open_hold}
-use Rattle.tenant_core.specs.OpenHolds.{is_awaited}
-use Rattle.tenant_core.specs.State.{State, clock_of}
-use Rattle.tenant_core.specs.declared.hold.Hold.{Hold}
-use Rattle.tenant_core.specs.declared.journal.AnswerKey.{AnswerKey}
-use Rattle.tenant_core.specs.declared.journal.Record.{Record}
+use Rattle.std.specs.Prelude.{Some}
+use Rattle.tenant_core.specs.State.{State}
 use Rattle.tenant_core.specs.declared.opening.Opening.{Opening}
-use Rattle.floor_core.specs.Work.{Called, Job, Work, IsWaiting, answer_call, decide_call, given_by, job_answered, only, settled_call, tenant_in}
-use Rattle.floor_core.specs.World.{answer_key}
+use Rattle.floor_core.specs.Work.{Job, Work, IsWaiting, answer_call, decide_call, tenant_in}
 use Rattle.floor_core.specs.declared.parts.Got.{Got}
 use Rattle.floor_core.specs.declared.parts.Turn.TheVariants as turns
-use Rattle.floor_core.specs.declared.step.PeerAnswer.{PeerAnswer}
 use Rattle.one_list.specs.Holds.{AreOwnAnswers, HoldLaws, OwnAnswerLaws}
-use Rattle.one_list.specs.Steps.{Place, done, done_by, next_place, of_tenant, of_worker}
+use Rattle.one_list.specs.Steps.{done, done_by, next_place, of_tenant, of_worker}
 use Rattle.one_list.specs.declared.step.Done.{Done}
 use Rattle.books_shared.specs.Shares.{ShareView}
 use Rattle.books_shared.specs.Traced.{IsLedTo}
 use Rattle.books_shared.specs.Turns.{IsSentBy}
 use Rattle.workers.specs.Carrying.{Circumstances, HasSentOn, IsOwnCall, WasCalled, growth}
-use Rattle.workers.proofs.Elsewhere.{goes_on}
+use Rattle.workers.proofs.Elsewhere.{answer_turn, goes_on}
 
 -- the worker's steps of the tenant are the tenant's by the worker, the last of which sent the packet on
 mine : {share : ShareView} {tenant hold : ℕ} (sent : HasSentOn share tenant hold) (steps : List Done) (number : ℕ) → number ≡ tenant
@@ -39,30 +31,6 @@ sent_by laws (Job.Carries t token frame) share tenant number openings s steps se
 sent_by laws (Job.Waits t hold frame) share tenant number openings s steps sent own shared led =
     laws.held led.first steps sent.before sent.step s hold led.history (mine sent steps number own shared) sent.begins ∙ ap Some sent.by_it
 
--- a book that awaits the hold of the slot settles it
-replies : (w : Work) (s : State) (now : ℕ) (came : Got) (t hold : ℕ) (frame : List ℕ) → w.job ≡ Job.Waits t hold frame → s.opening.tenant ≡ t → is_awaited s hold ≡ true
-    → (answer_call w s now came).turn ≡ turns.Reply
-replies w s now came t hold frame waits own awaited =
-    ap (λ (j : Job). (job_answered j w s now given).turn) waits
-    ∙ by_own (eqb s.opening.tenant t) (eq-eqb s.opening.tenant t own)
-  where
-    given : PeerAnswer
-    given = given_by w.room came
-
-    key : AnswerKey
-    key = answer_key given
-
-    made : Option Record
-    made = answer_made s hold now key
-
-    by_hold : (o : Option Hold) → is_some o ≡ true → (settled_call w s given made (settled o (max (clock_of s) now) key)).turn ≡ turns.Reply
-    by_hold None is = absurd cc
-    by_hold (Some h) is = refl
-
-    by_own : (e : Bool) → e ≡ true → (cond e (settled_call w s given made (settled (open_hold s hold) (max (clock_of s) now) key)) (only turns.Stray w)).turn ≡ turns.Reply
-    by_own true at = by_hold (open_hold s hold) awaited
-    by_own false at = absurd cc
-
 -- the tenant's book settles the packet of the slot
 pub settles : OwnAnswerLaws → (w : Work) (share : ShareView) (tenant : ℕ) (openings : List Opening) (s : State) (steps : List Done) (now : ℕ) (came : Got)
     → IsWaiting w.job → tenant_in w.job ≡ Some tenant → IsOwnCall share tenant w.job → s.opening.tenant ≡ tenant → of_worker share.worker steps ≡ of_tenant s.opening.tenant share.steps
@@ -74,7 +42,8 @@ settles laws w share tenant openings s steps now came waits of sent own shared l
     by (Job.Carries t token frame) is waits of sent = absurd waits
     by (Job.Waits t hold frame) is waits of sent =
         let same : t ≡ tenant = cc in
-        replies w s now came t hold frame is (own ∙ sym same)
+        answer_turn w s now came t hold frame is (own ∙ sym same)
+        ∙ ap (λ (b : Bool). cond b turns.Reply turns.Stray)
         (laws.awaited led.first steps sent.before sent.step s hold led.history answers (mine sent steps s.opening.tenant own shared) sent.begins)
 
 -- a packet that was sent on is the last that the worker did for the tenant

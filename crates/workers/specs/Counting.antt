@@ -1,5 +1,5 @@
 -- When a worker can count no more, and what a seat of the meters counts of a packet or a command.
-use Rattle.std.specs.Prelude.{ℕ, ◌≡◌, ◌≤◌, ◌⊎◌, ◌^◌, nat_lt, true, Option, Some, Result, Ok, Err, if◌then◌else◌}
+use Rattle.std.specs.Prelude.{ℕ, ◌≡◌, ◌≤◌, ◌⊎◌, ◌^◌, nat_lt, true, false, Option, Some, Result, Ok, Err, if◌then◌else◌}
 use Rattle.meters.specs.Seats.{SeatState, count_of, counted}
 use Rattle.meters.specs.declared.kind.Kind.{Kind}
 use Rattle.meters.specs.declared.kind.Kind.TheVariants as kind
@@ -18,6 +18,14 @@ use Rattle.workers.specs.declared.reply.Reply.{Reply}
 -- no more may be counted or sent: one of the share's counts is full, or so many packets were sent
 abbrev pub IsSpent : ShareView → (sent : ℕ) → Type 0
 IsSpent share sent = (is_spent share ≡ true) ⊎ (2 ^ 62 ≤ sent)
+
+-- room is made in a share for a command, unless one of its counts is full, or it is out of memory for a receipt
+abbrev pub IsRoomMade : Result (Unit {0}) GovernFault → (before after : ShareView) → Type 0
+IsRoomMade (Ok made) before after = (is_spent before ≡ false) × (after ≡ record before { room = 2 })
+IsRoomMade (Err govern.Spent) before after = (is_spent before ≡ true) × (after ≡ before)
+IsRoomMade (Err govern.Memory) before after = (is_spent before ≡ false) × (before.audited ≡ true) × (after ≡ before)
+IsRoomMade (Err govern.Stray) before after = ⊥
+IsRoomMade (Err (govern.Refused fault)) before after = ⊥
 
 -- ---- a seat of the meters
 

@@ -1,3 +1,4 @@
 pub mod Replies
 pub mod Counting
 pub mod Carrying
+pub mod Rolling

@@ -3,7 +3,7 @@
 ghost use Rattle.std.specs.Prelude.{◌≡◌, ◌<◌, ◌↔◌, true, Err};
 ghost use Rattle.books_shared.specs.Shares.{is_spent};
 ghost use Rattle.workers.specs.Carrying.{IsDone, circumstances, growth};
-ghost use Rattle.workers.specs.Counting.{command_kind, tallied};
+ghost use Rattle.workers.specs.Counting.{IsRoomMade, command_kind, tallied};
 ghost use Rattle.workers.specs.declared.governing.GovernFault.TheVariants as governing;
 
 use crate::carrying::tally;
@@ -100,6 +100,21 @@ fn kind_of(answer: &Result<Answered, GovernFault>) -> Kind
     }
 }
 
+// Makes room for a command, before the lock is taken.
+pub(crate) fn make_room<J: Run>(
+    alloc: Global,
+    share: &mut Share<J>,
+    command: &Command,
+) -> Result<(), GovernFault>
+    ensures { IsRoomMade result share.old share.new }
+{
+    match share.make_room(alloc, Some(command)) {
+        Ok(()) => Ok(()),
+        Err(RoomFault::Spent) => Err(GovernFault::Spent),
+        Err(RoomFault::Memory) => Err(GovernFault::Memory),
+    }
+}
+
 fn commanded<J: Run, R: Wait, C: Clock>(
     tools: &Tools<'_, J, R, C>,
     share: &mut Share<J>,
@@ -111,11 +126,7 @@ fn commanded<J: Run, R: Wait, C: Clock>(
     ensures spent { result ≡ Err governing.Spent ↔ is_spent share.old ≡ true }
     ensures memory { result ≡ Err governing.Memory → share.old.audited ≡ true }
 {
-    match share.make_room(tools.alloc, Some(command)) {
-        Ok(()) => {}
-        Err(RoomFault::Spent) => return Err(GovernFault::Spent),
-        Err(RoomFault::Memory) => return Err(GovernFault::Memory),
-    }
+    make_room(tools.alloc, share, command)?;
     let mut guard = tools.books.enter(tools.rt, tenant);
     guard.meet(share);
     let answer = guard.command(tools.alloc, share, command, tools.clock.now());

@@ -8,6 +8,7 @@ mod governing;
 mod lanes;
 mod places;
 mod reply;
+mod rolling;
 mod tools;
 mod traits;
 
@@ -17,4 +18,6 @@ pub use governing::{GovernFault, govern};
 pub use lanes::{Lane, StartFault, run_workers};
 pub use places::{Place, PlaceUse, Places};
 pub use reply::{Reply, Status};
+pub use rolling::{is_ripe, roll_if_ripe};
+pub use tools::Tools;
 pub use traits::{Clock, Gate, Link, Outgoing, Point};

@@ -57,6 +57,7 @@ pub fn open_office<J: Run>(
         extent,
         report,
         statements,
+        roll_at,
     } = plan;
     let (tenants, workers) = (setup.tenants.as_slice(), extent.connections);
     let (books, shares) = Books::new(alloc, opened, tenants, setup.start, workers, report.audit)?;
@@ -71,6 +72,7 @@ pub fn open_office<J: Run>(
         filing: filing_of(alloc, statements, tenants.len())?,
         refused_tokens: counters(alloc, tenants.len())?,
         start: setup.start,
+        roll_at,
     };
     Ok(Begun {
         office,

@@ -24,13 +24,14 @@ pub struct Report {
     pub audit: bool,
 }
 
-/// What a service does: how much it serves, what it prints at the end, and in which folder it keeps the statements of
-/// closed periods, if in any.
+/// What a service does: how much it serves, and what it prints at the end. It may keep the statements of closed periods in a
+/// folder. It may close a tenant's period by itself, at so many hundredths of its entries, 1 to 100.
 #[derive(Clone, Copy)]
 pub struct Plan<'a> {
     pub extent: Extent,
     pub report: Report,
     pub statements: Option<&'a str>,
+    pub roll_at: Option<u8>,
 }
 
 impl Plan<'_> {

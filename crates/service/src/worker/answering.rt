@@ -1,8 +1,9 @@
 //! The answers of a worker to a packet and to a command.
 
-ghost use Rattle.std.specs.Prelude.{◌≡◌, ◌<◌};
+ghost use Rattle.std.specs.Prelude.{◌≡◌, ◌<◌, OnErr, is_some, true};
 ghost use Rattle.admin_text.specs.Commands.{command_in};
-ghost use Rattle.service.specs.Answering.{IsPrinted, IsCommandAnswer, IsUntouched, WasCarried, WasGoverned, WasObeyed, command_line};
+ghost use Rattle.service.specs.Answering.{IsPrinted, IsCommandAnswer, WasCarried, WasGoverned, WasObeyed, command_line};
+ghost use Rattle.service.specs.Rolling.{IsTidied, IsUntouched, WasRolledRipe};
 
 use crate::filing::disk::Disk;
 use crate::filing::file;
@@ -19,7 +20,10 @@ use std::alloc::{AllocError, Global};
 use std::net::{Net, TcpStream};
 use std::sync::Wait;
 use tenant_core::{Answered, Command, CommandFault, Period};
-use workers::{BacklogRoom, Clock, Gate, GovernFault, Job, Link, Point, Status, carry, govern};
+use workers::{
+    BacklogRoom, Clock, Gate, GovernFault, Job, Link, Point, Status, Tools, carry, govern, is_ripe,
+    roll_if_ripe,
+};
 
 /// A gate that is always open.
 struct NoGate;
@@ -66,6 +70,7 @@ impl<J: Run> Desk<J> {
     // Makes room for the period that a command may close, if the run is audited. Fails only if it is out of memory.
     fn make_room(&mut self) -> Result<(), AllocError>
         ensures untouched { IsUntouched self.old self.new }
+        ensures err { OnErr result (self.old.share.audited ≡ true) }
         ensures told { self.new.told ≡ self.old.told }
         ensures printed { self.new.printed ≡ self.old.printed }
     {
@@ -174,6 +179,59 @@ impl<J: Run> Desk<J> {
         status
     }
 
+    /// Closes the running period of a tenant of the office if it is ripe and the service closes ripe ones, and has its statement
+    /// written where statements are kept.
+    pub fn tidy<H: Wait + Disk, C: Clock>(
+        &mut self,
+        system: &System<'_, H, C>,
+        office: &Office<J>,
+        tenant: usize,
+    )
+        requires tenant { tenant < office.now.books.tenants }
+        ensures tidied { IsTidied (C.gives system.now.clock.now) office.now.roll_at office.now self.old tenant self.new }
+        ensures told { self.new.told ≡ self.old.told }
+    {
+        let Some(percent) = office.roll_at else {
+            return;
+        };
+        if !is_ripe(office.books.enter(system.handle, tenant).book(), percent) {
+            return;
+        }
+        if self.make_room().is_err() {
+            return;
+        }
+        let Ok(room) = backlog_room(system.handle, office, tenant, &Command::Roll) else {
+            return;
+        };
+        let closed = self.roll(system, office, tenant, percent);
+        self.close(system, office, closed, room);
+    }
+
+    // Closes the period of a tenant of the office if it is ripe, and gives it.
+    fn roll<H: Wait, C: Clock>(
+        &mut self,
+        system: &System<'_, H, C>,
+        office: &Office<J>,
+        tenant: usize,
+        percent: u8,
+    ) -> Option<Period>
+        requires tenant { tenant < office.now.books.tenants }
+        ensures rolled { WasRolledRipe (C.gives system.now.clock.now) percent self.old tenant self.new }
+        ensures told { self.new.told ≡ self.old.told }
+        ensures printed { self.new.printed ≡ self.old.printed }
+    {
+        let tools = Tools {
+            rt: system.handle,
+            alloc: system.alloc,
+            books: &office.books,
+            clock: system.clock,
+        };
+        match roll_if_ripe(&tools, &mut self.share, tenant, percent) {
+            Ok(Some(Answered::Rolled(period))) => Some(period),
+            _ => None,
+        }
+    }
+
     // Governs a tenant of the office, keeps what is printed of the answer, and gives the status, and the period that was closed.
     fn govern<H: Wait, C: Clock>(
         &mut self,
@@ -209,7 +267,9 @@ fn backlog_room<'a, H: Wait, J: Run>(
     office: &'a Office<J>,
     tenant: usize,
     command: &Command,
-) -> Result<Option<BacklogRoom<'a>>, AllocError> {
+) -> Result<Option<BacklogRoom<'a>>, AllocError>
+    ensures { OnErr result (is_some office.now.filing ≡ true) }
+{
     match (&office.filing, command) {
         (Some(filing), Command::Roll) => Ok(Some(filing.backlog.make_room(handle, tenant)?)),
         _ => Ok(None),

@@ -65,6 +65,7 @@ where
         extent,
         report: NOTHING_MORE,
         statements: None,
+        roll_at: None,
     };
     let doors = Doors {
         packets,

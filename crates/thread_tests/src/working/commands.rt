@@ -7,7 +7,7 @@ use one_list::Run;
 use std::sync::Wait;
 use std::test::Fail;
 use tenant_core::{Answered, Command, CommandFault, Order, Period};
-use workers::{GovernFault, govern};
+use workers::{GovernFault, Tools, govern, roll_if_ripe};
 
 // The outcome of a command of acme's operator, which the meters have counted as answered.
 fn governed<J: Run, R: Wait + AllocGlobal>(
@@ -100,5 +100,45 @@ fn closes_all<J: Run, R: Wait + AllocGlobal>(rt: &R, team: &mut Team<J>) -> Resu
 #[test]
 fn commands_are_done_and_refused(rt: HostRuntime) -> Result<(), Fail> {
     assert!(rt; on_two_books(&rt, "64", &Commands)?);
+    Ok(())
+}
+
+/// A period of 8 entries at most, one of which is there, is closed at 12 hundredths and not at 13.
+struct Ripeness;
+
+impl Trial for Ripeness {
+    fn act<J: Run, R: Wait + AllocGlobal>(&self, rt: &R, mut team: Team<J>) -> Result<bool, Fail> {
+        let is_removed = is_removed_once(rt, &mut team)?;
+        let is_unripe = looked_at(rt, &mut team, 13)?.is_none();
+        let is_closed = looked_at(rt, &mut team, 12)? == Some(2);
+        Ok(is_removed && is_unripe && is_closed && looked_at(rt, &mut team, 12)?.is_none())
+    }
+}
+
+// How many entries acme's period has, with its roll, if it is closed at so many hundredths.
+fn looked_at<J: Run, R: Wait + AllocGlobal>(
+    rt: &R,
+    team: &mut Team<J>,
+    percent: u8,
+) -> Result<Option<usize>, Fail> {
+    if team.books.tenants() == 0 {
+        return Err("a tenant".into());
+    }
+    let tools = Tools {
+        rt,
+        alloc: rt.alloc(),
+        books: &team.books,
+        clock: &FixedClock(start()?),
+    };
+    match roll_if_ripe(&tools, &mut team.first, 0, percent) {
+        Ok(Some(Answered::Rolled(period))) => Ok(Some(period.len())),
+        Ok(None) => Ok(None),
+        _ => Err("a look".into()),
+    }
+}
+
+#[test]
+fn a_period_is_closed_once_it_is_ripe(rt: HostRuntime) -> Result<(), Fail> {
+    assert!(rt; on_two_books(&rt, "8", &Ripeness)?);
     Ok(())
 }

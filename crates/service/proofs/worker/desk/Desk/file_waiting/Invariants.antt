@@ -1,5 +1,5 @@
 use Rattle.std.proofs.Common.{◌≡◌}
-use Rattle.service.specs.Answering.{IsUntouched}
+use Rattle.service.specs.Rolling.{IsUntouched}
 use Rattle.service.proofs.worker.desk.Desk.file_waiting.Given as goal
 
 abbrev pub invariant-loop : goal.invariant-loop
