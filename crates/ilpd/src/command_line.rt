@@ -57,6 +57,8 @@ pub struct CommandLine<'a> {
     pub workers: usize,
     pub address: &'a str,
     pub host: Option<HostWords<'a>>,
+    /// The address of the operators' door.
+    pub operators: Option<&'a str>,
     /// The folder where the statements of closed periods are kept.
     pub folder: Option<&'a str>,
     /// The files of the statements to verify.
@@ -79,7 +81,7 @@ const USAGE: &str =
     "ilpd replay SETUP [--workers W] [--statements DIR] < SCRIPT\n       ilpd check SETUP [SCRIPT [--workers W]]\n       \
 ilpd verify [--setup SETUP] [--receipts FILE] FILE..\n       \
 ilpd serve SETUP --workers W [--connections C] [--rounds N] [--balances] [--audit] [--listen ADDR]\n                  \
-[--host ADDR --host-token FILE] [--statements DIR] [--roll-at PERCENT]";
+[--host ADDR --host-token FILE] [--operators ADDR] [--statements DIR] [--roll-at PERCENT]";
 
 const WHERE: &str =
     "docs/FORMATS.md describes setups, scripts and what is printed; examples/ has some of each";
@@ -277,6 +279,16 @@ fn with_host<'a>(alloc: Global, serve: Command<'a>) -> Result<Command<'a>, Alloc
     serve.arg(host_address(alloc)?)?.arg(host_token(alloc)?)
 }
 
+fn operators_address<'a>(alloc: Global) -> Arg<'a> {
+    Arg::new(alloc, "operators")
+        .long("operators")
+        .value_name("ADDR")
+        .help(
+            "The address at which each operator asks for its own setup, metrics and statements, and why a packet would be refused",
+        )
+        .action(ArgAction::Set)
+}
+
 fn folder_of<'a>(alloc: Global) -> Arg<'a> {
     Arg::new(alloc, "statements")
         .long("statements")
@@ -303,11 +315,12 @@ fn serve_of<'a>(alloc: Global) -> Result<Command<'a>, AllocError> {
             "Serves packets and commands over HTTP, and prints in the end how many were answered how",
         )
         .override_usage(
-            "ilpd serve SETUP --workers W [--connections C] [--rounds N] [--balances] [--audit] [--listen ADDR]\n                  [--host ADDR --host-token FILE] [--statements DIR] [--roll-at PERCENT]",
+            "ilpd serve SETUP --workers W [--connections C] [--rounds N] [--balances] [--audit] [--listen ADDR]\n                  [--host ADDR --host-token FILE] [--operators ADDR] [--statements DIR] [--roll-at PERCENT]",
         )
         .after_help("Example: ilpd serve examples/serve.toml --workers 4");
     let serve = with_reports(alloc, with_extent(alloc, serve)?)?;
     with_host(alloc, serve.arg(listen_of(alloc))?)?
+        .arg(operators_address(alloc))?
         .arg(folder_of(alloc))?
         .arg(roll_at(alloc))
 }
@@ -379,6 +392,7 @@ fn line_of<'a>(
         workers,
         address,
         host: None,
+        operators: None,
         folder: None,
         statements: None,
         first: words.get_str("setup"),
@@ -408,6 +422,7 @@ fn line_in<'a>(matches: &ArgMatches<'a>) -> CommandLine<'a>
             let address = serve.get_str("listen").unwrap_or(ADDRESS);
             CommandLine {
                 host: host_of(serve),
+                operators: serve.get_str("operators"),
                 folder: serve.get_str("statements"),
                 roll_at: roll_at_of(serve),
                 ..line_of(task, serve, workers_of(serve), address)

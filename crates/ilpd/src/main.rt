@@ -25,7 +25,7 @@ use admin_text::{Setup, read_setup};
 use auditing::{Statements, tell_audit};
 use checking::{Script, check, ending_of, printing};
 use clock::SystemClock;
-use command_line::{HostWords, Task, arguments};
+use command_line::{CommandLine, Task, arguments};
 use common_types::{Name, ReadError, Token};
 use ending::{Ending, asks_version, exit_status, words_refused};
 pub use filing::{Filer, replay_filing};
@@ -33,8 +33,8 @@ use oer_core::Counted;
 use reasons::reason_of;
 pub use replay_text::{ReplayFault, replay};
 use service::{
-    Disk, Doors, Extent, Folder, HostDoor, Plan, ServeFault, can_open, files_of, serve,
-    without_line_feed,
+    Disk, Doors, Extent, Folder, HostDoor, OperatorDoor, Plan, ServeFault, can_open, files_of,
+    serve, without_line_feed,
 };
 use statements::Chain;
 use std::alloc::{AllocError, AllocFailed, Global};
@@ -433,13 +433,7 @@ fn serve_at<
         + Eprint
         + AllocGlobal
         + Sync,
->(
-    rt: &R,
-    setup: &[u8],
-    plan: Plan<'_>,
-    address: &str,
-    host: Option<HostWords<'_>>,
-) -> Result<(), Ending>
+>(rt: &R, setup: &[u8], plan: Plan<'_>, line: &CommandLine<'_>) -> Result<(), Ending>
     requires workers { (1 ≤ plan.extent.workers) × (plan.extent.workers ≤ max_places) }
     requires connections { (1 ≤ plan.extent.connections) × (plan.extent.connections ≤ max_workers) }
 {
@@ -447,23 +441,19 @@ fn serve_at<
     if let Some(path) = plan.statements {
         expect_folder(rt, path, &setup, plan.report.audit)?;
     }
-    let Some(words) = host else {
-        let packets = listener_on(rt, address)?;
-        expect_files(rt, &packets, files_of(plan.extent, false))?;
-        println!(rt; "listening {address}").map_err(printing)?;
-        return serve_by(rt, &setup, plan, &packets, None);
+    let Some(words) = line.host else {
+        let packets = listener_on(rt, line.address)?;
+        return serve_with(rt, &setup, plan, line, &packets, None);
     };
     let token = token_in(rt, words.token_file)?;
-    let packets = listener_on(rt, address)?;
+    let packets = listener_on(rt, line.address)?;
     let listener = listener_on(rt, words.address)?;
     let door = HostDoor::new(&listener, &token, &packets).map_err(printing)?;
-    expect_files(rt, &packets, files_of(plan.extent, true))?;
-    println!(rt; "listening {address}\nhost {}", words.address).map_err(printing)?;
-    serve_by(rt, &setup, plan, &packets, Some(door))
+    serve_with(rt, &setup, plan, line, &packets, Some(door))
 }
 
-// Serves the setup at these doors, by the system's clock.
-fn serve_by<
+// Serves the setup at the doors of packets and of the host, and at that of operators if the command line names one.
+fn serve_with<
     R: Net<Listener = TcpListener, Stream = TcpStream>
         + Disk
         + Threads
@@ -477,6 +467,7 @@ fn serve_by<
     rt: &R,
     setup: &Setup,
     plan: Plan<'_>,
+    line: &CommandLine<'_>,
     packets: &TcpListener,
     host: Option<HostDoor<'_>>,
 ) -> Result<(), Ending>
@@ -484,10 +475,60 @@ fn serve_by<
     requires workers { (1 ≤ plan.extent.workers) × (plan.extent.workers ≤ max_places) }
     requires connections { (1 ≤ plan.extent.connections) × (plan.extent.connections ≤ max_workers) }
 {
+    let doors = u8::from(host.is_some());
+    let Some(address) = line.operators else {
+        expect_files(rt, packets, files_of(plan.extent, doors))?;
+        say_doors(rt, line)?;
+        let doors = Doors {
+            packets,
+            host,
+            operators: None,
+        };
+        return serve_by(rt, setup, plan, doors);
+    };
+    let listener = listener_on(rt, address)?;
+    let operators = OperatorDoor::new(&listener).map_err(printing)?;
+    expect_files(rt, packets, files_of(plan.extent, doors + 1))?;
+    say_doors(rt, line)?;
+    let doors = Doors {
+        packets,
+        host,
+        operators: Some(operators),
+    };
+    serve_by(rt, setup, plan, doors)
+}
+
+// A line for each door.
+fn say_doors(rt: &impl Print, line: &CommandLine<'_>) -> Result<(), Ending> {
+    println!(rt; "listening {}", line.address).map_err(printing)?;
+    if let Some(words) = line.host {
+        println!(rt; "host {}", words.address).map_err(printing)?;
+    }
+    if let Some(address) = line.operators {
+        println!(rt; "operators {address}").map_err(printing)?;
+    }
+    Ok(())
+}
+
+// Serves the setup at these doors, by the system's clock.
+fn serve_by<
+    R: Net<Listener = TcpListener, Stream = TcpStream>
+        + Disk
+        + Threads
+        + Wait
+        + Clock
+        + Print
+        + Eprint
+        + AllocGlobal
+        + Sync,
+>(rt: &R, setup: &Setup, plan: Plan<'_>, doors: Doors<'_>) -> Result<(), Ending>
+    requires tenants { (1 ≤ length setup.now.tenants) × (length setup.now.tenants ≤ max_tenants) }
+    requires workers { (1 ≤ plan.extent.workers) × (plan.extent.workers ≤ max_places) }
+    requires connections { (1 ≤ plan.extent.connections) × (plan.extent.connections ≤ max_workers) }
+{
     warn(rt, plan.extent, setup.tenants.as_slice().len());
     let clock = SystemClock::new(rt);
     let mut writer = io::writer(rt);
-    let doors = Doors { packets, host };
     serve(rt, rt.alloc(), setup, plan, doors, &clock, &mut writer).map_err(Ending::Served)
 }
 
@@ -542,7 +583,7 @@ fn run<
                 statements: line.folder,
                 roll_at: line.roll_at,
             };
-            serve_at(rt, setup.as_slice(), plan, line.address, line.host)
+            serve_at(rt, setup.as_slice(), plan, &line)
         }
         Task::Replay => replay_at(rt, setup.as_slice(), line.workers, line.folder),
     }

@@ -21,8 +21,8 @@ admin = \"root-a\"
 ";
 
 // The words after the program's name, and what they ask for: the file of the setup, the number of workers, and the
-// task. For a service come its connections, its rounds, what it reports, and the host's address and token file. Or the
-// words, and how the text begins that refuses them.
+// task. For a service come its connections, its rounds, what it reports, the host's address and token file, and the
+// operators' address. Or the words, and how the text begins that refuses them.
 static LINES: &str = "\
 replay s1.toml -> s1.toml 1 replay
 replay s1.toml --workers 2 -> s1.toml 2 replay
@@ -53,6 +53,11 @@ serve s1.toml --workers 1 --audit -> s1.toml 1 serve 256 - audit
 serve s1.toml --workers 1 --host 127.0.0.1:7769 --host-token host.token -> s1.toml 1 serve 256 - at 127.0.0.1:7769 by host.token
 serve s1.toml --workers 1 --host 127.0.0.1:7769 -> error:
 serve s1.toml --workers 1 --host-token host.token -> error:
+serve s1.toml --workers 1 --operators 127.0.0.1:7770 -> s1.toml 1 serve 256 - operators 127.0.0.1:7770
+serve s1.toml --workers 1 --operators 127.0.0.1:7770 --host 127.0.0.1:7769 --host-token host.token -> s1.toml 1 serve 256 - at 127.0.0.1:7769 by host.token operators 127.0.0.1:7770
+serve s1.toml --workers 1 --operators -> error:
+serve s1.toml --workers 1 --operators 127.0.0.1:7770 --operators 127.0.0.1:7771 -> error:
+replay s1.toml --operators 127.0.0.1:7770 -> error:
 serve s1.toml --workers 65 -> error: invalid value '65' for '--workers <W>': 1 to 64
 serve s1.toml --workers 1 --connections 0 -> error: invalid value '0' for '--connections <C>': 1 to 4096
 serve s1.toml --workers 1 --connections 4097 -> error: invalid value '4097' for '--connections <C>': 1 to 4096
@@ -135,10 +140,18 @@ fn roll_at_told(alloc: Global, percent: Option<u8>) -> Result<String, Fail> {
     }
 }
 
+fn operators_told(alloc: Global, operators: Option<&str>) -> Result<String, Fail> {
+    match operators {
+        Some(address) => Ok([" operators ", address].concat(alloc)?),
+        None => Ok(String::new(alloc)),
+    }
+}
+
 fn told(alloc: Global, line: &CommandLine<'_>) -> Result<String, Fail> {
     let workers = line.workers.to_string(alloc)?;
     let task = task_told(alloc, line.task)?;
     let host = host_told(alloc, line.host)?;
+    let operators = operators_told(alloc, line.operators)?;
     let roll_at = roll_at_told(alloc, line.roll_at)?;
     Ok([
         line.setup,
@@ -147,6 +160,7 @@ fn told(alloc: Global, line: &CommandLine<'_>) -> Result<String, Fail> {
         " ",
         task.as_str(),
         host.as_str(),
+        operators.as_str(),
         roll_at.as_str(),
     ]
     .concat(alloc)?)

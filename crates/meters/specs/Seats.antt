@@ -6,7 +6,7 @@ use Rattle.meters.specs.Counts.{count_in, one_more, both_rows}
 
 -- how often a first seat is split at most: so many threads may count, or read
 abbrev pub max_splits : ℕ
-max_splits = 4_097
+max_splits = 4_098
 
 -- meters: which they are, and for how many tenants they count
 pub record MetersState : Type 0 where

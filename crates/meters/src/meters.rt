@@ -117,7 +117,7 @@ impl Meters {
     }
 
     /// How many of a kind all threads have counted for a tenant by now: no fewer than the seat itself, and at most
-    /// 4,098 * 2^40. The seat is one of these meters, and the tenant is below their number of tenants.
+    /// 4,099 * 2^40. The seat is one of these meters, and the tenant is below their number of tenants.
     pub fn read(&self, seat: &mut MeterSeat, tenant: usize, kind: Kind) -> u64
         requires here { seat.old.meters ≡ self.now.id }
         requires tenant { tenant < self.now.tenants }
@@ -131,7 +131,7 @@ impl Meters {
     }
 
     /// A seat for another thread, with all counts at zero, from the seat of these meters that came from `new` and was
-    /// split fewer than 4,097 times. It allocates nothing.
+    /// split fewer than 4,098 times. It allocates nothing.
     pub fn split(&self, seat: &mut MeterSeat) -> MeterSeat
         requires here { seat.old.meters ≡ self.now.id }
         requires first { IsTrue seat.old.first }

@@ -1,4 +1,7 @@
 pub mod Sending
+pub mod Parting
+pub mod Zeros
+pub mod Operated
 pub mod Fresh
 pub mod Leading
 pub mod Sums

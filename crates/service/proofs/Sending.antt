@@ -29,6 +29,8 @@ use Rattle.workers.specs.contracts.places.Places as Places
 use Rattle.workers.specs.contracts.backlog.Backlog as Backlog
 use Rattle.workers.specs.contracts.backlog.Waiting as Waiting
 use Rattle.service.specs.contracts.filing.Filing as Filing
+use Rattle.service.specs.contracts.operators.answering.Operators as Operators
+use Rattle.service.specs.contracts.host.callers.Porter as Porter
 
 opening_send : IsSend Network.the_row → IsSend Opening.the_field.row
 opening_send network = struct_send (shape Opening.the_type) (
@@ -117,3 +119,14 @@ pub worker_send : (κ : NamedLft) (H C J : RattleType) (r : Run.Ghosts J.Denot) 
 worker_send κ H C J r h c office network seat =
     recorded_send _ _ _ (Worker.the_type κ H C J r).to_one (struct_send (shape (Worker.the_type κ H C J r))
     (search (sendable, std.crosses, h) depth 40, (search (sendable, std.crosses) depth 40, (search (sendable, std.crosses, office) depth 40, (search (sendable, std.crosses, c) depth 40, (search (sendable, std.crosses) depth 40, (search (sendable, std.crosses) depth 40, (search (sendable, std.crosses) depth 40, (desk_send J r network seat, tt)))))))))
+
+pub operators_send : (κ : NamedLft) (H C J : RattleType) (r : Run.Ghosts J.Denot) → IsSync H → IsSync C
+    → IsSync (Office.the_row J r) → IsSend MeterSeat.the_row → IsSend (Operators.the_row κ H C J r)
+operators_send κ H C J r h c office seat =
+    recorded_send _ _ _ (Operators.the_type κ H C J r).to_one (struct_send (shape (Operators.the_type κ H C J r))
+    (search (sendable, std.crosses, h) depth 40, (search (sendable, std.crosses) depth 40, (search (sendable, std.crosses, c) depth 40, (search (sendable, std.crosses, office) depth 40, (seat, (search (sendable, std.crosses) depth 40, tt)))))))
+
+pub porter_send : (κ : NamedLft) (H K : RattleType) → IsSync H → IsSend K → IsSend (Porter.the_row κ H K)
+porter_send κ H K h k =
+    recorded_send _ _ _ (Porter.the_type κ H K).to_one (struct_send (shape (Porter.the_type κ H K))
+    (search (sendable, std.crosses, h) depth 40, (search (sendable, std.crosses) depth 40, (search (sendable, std.crosses, door_sync) depth 40, (k, (search (sendable, std.crosses) depth 40, tt))))))

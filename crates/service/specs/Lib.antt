@@ -14,3 +14,7 @@ pub mod Extents
 pub mod Filing
 pub mod ReceiptFiling
 pub mod Rolling
+pub mod Questions
+pub mod Hidden
+pub mod Explaining
+pub mod Operating

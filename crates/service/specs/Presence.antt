@@ -1,5 +1,5 @@
 -- The setup of a service as it is now.
-use Rattle.std.specs.Prelude.{ℕ, ◌≡◌, List, length, map, Some, Ok}
+use Rattle.std.specs.Prelude.{ℕ, ◌≡◌, List, [], ◌∷◌, length, map, Some, Ok}
 use Rattle.std.specs.List.{slice_get}
 use Rattle.admin_text.specs.Anew.{anew, AreTenants}
 use Rattle.admin_text.specs.Setup.{setup_of}
@@ -32,3 +32,10 @@ pub record IsPresentText {J : Type 0} {r : Ghosts J} (openings : List Opening) (
   pub setups : List TenantTerms
   pub present : ArePresent openings office setups
   pub read : AreTenants setups → setup_of text ≡ Ok (record { start = office.start; tenants = map anew setups })
+
+-- the text of the setup of one tenant, as its book was at some moment, in which the clock begins as it did before: it is read as
+-- this tenant
+pub record IsTenantText {J : Type 0} {r : Ghosts J} (openings : List Opening) (office : Office J r) (tenant : ℕ) (text : List ℕ) : Type 0 where
+  pub setup : TenantTerms
+  pub present : IsPresent openings office tenant setup
+  pub read : AreTenants (setup ∷ []) → setup_of text ≡ Ok (record { start = office.start; tenants = anew setup ∷ [] })

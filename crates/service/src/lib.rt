@@ -1,4 +1,4 @@
-//! The service that answers packets of peers and commands of operators over HTTP, and the door of its host.
+//! The service that answers packets of peers and commands of operators over HTTP, and the doors of its host and of the operators.
 //!
 //! - `connection`: what a connection is: how many may come, how long each may do what, and when it gives way to
 //!   others.
@@ -6,6 +6,7 @@
 //! - `link`: the way out to the next peers.
 //! - `filing`: the statements of closed periods: where they are kept, and which could not be written.
 //! - `host`: the host's door: who waits there, and the answers that the host gets.
+//! - `operators`: the operators' door, which only reads: what an operator may ask about its tenant, and the answers.
 //! - `running`: how a service begins, runs and ends.
 //! - `office`: what all of them share.
 //! - `system`: what all of them run on.
@@ -16,6 +17,7 @@ mod filing;
 mod host;
 mod link;
 mod office;
+mod operators;
 mod running;
 mod system;
 mod worker;
@@ -24,6 +26,7 @@ pub use filing::disk::Disk;
 pub use filing::folder::Folder;
 pub use filing::{StatementStore, file};
 pub use host::hosting::HostDoor;
+pub use operators::answering::OperatorDoor;
 pub use running::auditing::{audit_told, good_line, word_of};
 pub use running::ending::ServeFault;
 pub use running::files::{can_open, files_of};

@@ -8,6 +8,7 @@ mod crowd;
 mod host;
 mod hurry;
 mod neighbours;
+mod operators;
 mod patience;
 pub mod wire;
 
@@ -97,6 +98,7 @@ where
         Doors {
             packets: listener,
             host: None,
+            operators: None,
         },
         &FixedClock,
         lines,

@@ -18,6 +18,9 @@ use std::time::{Clock, Duration, Instant};
 /// For how many milliseconds a read or write waits at most before it looks whether it may go on.
 const SLICE: u64 = 250;
 
+/// How many milliseconds the host's or an operator's answer may take to be written.
+pub const PATIENCE: u64 = 5_000;
+
 /// For how long something was done, and for how much of that the service was to stop.
 #[derive(Clone, Copy)]
 struct Spent {

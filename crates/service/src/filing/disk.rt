@@ -1,7 +1,8 @@
 //! What statements need of a file system.
 
+use std::alloc::Global;
 use std::fs::{File, Files, OpenFile, OpenOptions};
-use std::io::{ErrorKind, Write};
+use std::io::{ErrorKind, Read, Write};
 use std::os::unix::fs::OpenOptionsExt;
 use std::{fs, io};
 
@@ -9,6 +10,9 @@ use std::{fs, io};
 pub trait Disk {
     /// Whether there is a file at that path.
     fn has(&self, path: &str) -> io::Result<bool>;
+
+    /// The bytes of the file at that path.
+    fn read_file(&self, alloc: Global, path: &str) -> io::Result<Vec<u8>>;
 
     /// Writes a text to a new file at that path, which only its owner may read, and on to the disk. A file that was
     /// left there before is removed.
@@ -32,6 +36,12 @@ fn remove_if_there(files: &impl Files, path: &str) -> io::Result<()> {
 impl<R: Files> Disk for R {
     fn has(&self, path: &str) -> io::Result<bool> {
         fs::exists(self, path)
+    }
+
+    fn read_file(&self, alloc: Global, path: &str) -> io::Result<Vec<u8>> {
+        let mut text = Vec::new(alloc);
+        File::open(self, path)?.read_to_end(&mut text)?;
+        Ok(text)
     }
 
     fn write_anew(&self, path: &str, text: &[u8]) -> io::Result<()> {

@@ -57,6 +57,13 @@ impl<D: Disk> Folder<'_, D> {
         self.disk.has(self.path_of(file.as_slice(), b"")?.as_str())
     }
 
+    /// The bytes of the file of a statement.
+    pub fn statement(&self, name: &Name, period: u64) -> io::Result<Vec<u8>> {
+        let file = self.file_of(name, period)?;
+        let path = self.path_of(file.as_slice(), b"")?;
+        self.disk.read_file(self.alloc, path.as_str())
+    }
+
     /// Whether there is a file for receipts.
     pub fn has_receipts_file(&self) -> io::Result<bool> {
         self.disk.has(self.path_of(RECEIPTS, b"")?.as_str())

@@ -1,11 +1,11 @@
-//! The connections at the host's door whose requests have not come whole.
+//! The connections at the host's or the operators' door whose requests have not come whole.
 
 ghost use Rattle.std.specs.Prelude.{◌≡◌};
 ghost use Rattle.service.specs.Pace.{reading_time};
 
+use crate::connection::door::Door;
 use crate::connection::timed::{is_pause, millis_of};
-use crate::host::hosting::Host;
-use one_list::Run;
+use meters::MeterSeat;
 use std::alloc::{AllocError, Global};
 use std::net::{Net, TcpListener, TcpStream};
 use std::sync::Wait;
@@ -151,44 +151,61 @@ pub trait Beside {
         ensures { stays self.old self.new };
 }
 
-/// The host, and those who wait at its door: who brings no request keeps nobody from being answered.
+/// Who answers at a door: one request of each connection.
+pub trait Answering {
+    ghost use Rattle.std.specs.Prelude.{◌≡◌};
+    ghost use Rattle.meters.specs.Seats.{SeatState};
+
+    /// The seat at which it reads the meters.
+    ghost seat: { Self → SeatState };
+
+    /// Answers the one request of a connection, which may take so long to come.
+    fn serve_connection(&mut self, stream: &TcpStream, time: Duration)
+        ensures { seat self.new ≡ seat self.old };
+
+    /// Its seat at the meters.
+    fn into_seat(self) -> MeterSeat
+        ensures { result ≡ seat self };
+}
+
+/// One who answers at a door, and those who wait there. A caller who sends no request keeps nobody from being answered.
 #[derive(Drop)]
-pub struct Porter<'a, H, J: Run> {
-    pub host: Host<'a, H, J>,
+pub struct Porter<'a, H, K> {
+    pub handle: &'a H,
+    /// Where callers come.
+    pub listener: &'a TcpListener,
+    /// Where packets come: once nobody serves them any more, nobody is answered.
+    pub packets: &'a Door,
+    pub answering: K,
     pub callers: Callers,
 }
 
-impl<H: Wait + Net<Stream = TcpStream> + Clock, J: Run> Porter<'_, H, J> {
+impl<H: Wait + Net<Stream = TcpStream> + Clock, K: Answering> Porter<'_, H, K> {
     // Answers the request of a connection, which may be read for so long.
     fn answer(&mut self, stream: &TcpStream, time: Duration)
-        ensures seat { self.new.host.seat ≡ self.old.host.seat }
-        ensures office { self.new.host.office ≡ self.old.host.office }
+        ensures { K.seat self.new.answering ≡ K.seat self.old.answering }
     {
         if stream.set_nonblocking(false).is_ok() {
-            self.host.serve_connection(stream, time);
+            self.answering.serve_connection(stream, time);
         }
     }
 
     // Lets those wait who have come, and answers those whose requests have: first of those who were there before, since one
     // who comes may take the place of another.
     fn attend(&mut self)
-        ensures seat { self.new.host.seat ≡ self.old.host.seat }
-        ensures office { self.new.host.office ≡ self.old.host.office }
+        ensures { K.seat self.new.answering ≡ K.seat self.old.answering }
     {
         self.answer_due();
-        let (listener, clock) = (self.host.listener(), self.host.clock());
-        self.callers.admit_all(listener, clock);
+        self.callers.admit_all(self.listener, self.handle);
         self.answer_due();
     }
 
     // Answers those whose requests have come.
     fn answer_due(&mut self)
-        ensures seat { self.new.host.seat ≡ self.old.host.seat }
-        ensures office { self.new.host.office ≡ self.old.host.office }
+        ensures { K.seat self.new.answering ≡ K.seat self.old.answering }
     {
-        let clock = self.host.clock();
         for _ in 0..MAX_CALLERS {
-            let Ok(now) = Instant::now(clock) else {
+            let Ok(now) = Instant::now(self.handle) else {
                 return;
             };
             let Some((stream, time)) = self.callers.next_due(now) else {
@@ -199,14 +216,14 @@ impl<H: Wait + Net<Stream = TcpStream> + Clock, J: Run> Porter<'_, H, J> {
     }
 }
 
-impl<H: Wait + Net<Stream = TcpStream> + Clock, J: Run> Beside for Porter<'_, H, J> {
-    ghost stays = { λ before after. (after.host.seat ≡ before.host.seat) × (after.host.office ≡ before.host.office) };
+impl<H: Wait + Net<Stream = TcpStream> + Clock, K: Answering> Beside for Porter<'_, H, K> {
+    ghost stays = { λ before after. K.seat after.answering ≡ K.seat before.answering };
 
     // Answers at the door until nobody serves packets any more.
     fn stay(&mut self) {
-        let clock = self.host.clock();
+        let clock = self.handle;
         for _ in clock.forever() {
-            if self.host.is_deserted() {
+            if self.packets.is_deserted() {
                 return;
             }
             self.attend();

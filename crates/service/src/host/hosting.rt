@@ -6,8 +6,9 @@ ghost use Rattle.service.specs.Metrics.{IsBookOf, IsMetricsOf};
 ghost use Rattle.service.specs.Presence.{IsPresentText};
 
 use crate::connection::door::Deserted;
-use crate::connection::timed::Timed;
+use crate::connection::timed::{PATIENCE, Timed};
 use crate::host::asking::{Hosted, Untold, told_to_host};
+use crate::host::callers::Answering;
 use crate::host::metrics::{
     BookFigures, Gauges, ServiceCounts, all_counts, figures_of, metrics_text,
 };
@@ -52,14 +53,16 @@ impl<'a> HostDoor<'a> {
         })
     }
 
+    /// Where the host asks.
+    pub fn listener(&self) -> &'a TcpListener {
+        self.listener
+    }
+
     // Refuses all who come from now on, and wakes the threads that wait for them.
     fn shut(&self) {
         let _ = self.packets.shutdown(Shutdown::Both);
     }
 }
-
-/// How many milliseconds an answer may take to go.
-const PATIENCE: u64 = 5_000;
 
 /// How many milliseconds lie between two looks whether all threads have ended.
 const PAUSE: u64 = 20;
@@ -93,7 +96,6 @@ impl<'a, H, J: Run> Host<'a, H, J> {
     ) -> Host<'a, H, J>
         requires { seat.meters ≡ office.now.meters.id }
         ensures seat { result.seat ≡ seat }
-        ensures office { result.office.now ≡ office.now }
     {
         Host {
             handle,
@@ -104,29 +106,13 @@ impl<'a, H, J: Run> Host<'a, H, J> {
             told: Vec::new(alloc),
         }
     }
+}
 
-    /// Where callers come.
-    pub fn listener(&self) -> &'a TcpListener {
-        self.door.listener
-    }
-
-    /// The clock that it goes by.
-    pub fn clock(&self) -> &'a H {
-        self.handle
-    }
-
-    /// Whether nobody serves packets any more.
-    pub fn is_deserted(&self) -> bool {
-        self.office.door.is_deserted()
-    }
-
-    /// Its seat at the meters.
-    pub fn into_seat(self) -> MeterSeat
-        ensures { result ≡ self.entry.seat }
-    {
-        let Host { seat, .. } = self;
-        seat
-    }
+/// The numbers of the tenants of an office.
+#[derive(Drop)]
+pub struct Gauged<'a, H, J: Run> {
+    pub handle: &'a H,
+    pub office: &'a Office<J>,
 }
 
 /// A service, as its host asks it.
@@ -138,7 +124,7 @@ struct Inspected<'a, H, J: Run> {
     door: &'a HostDoor<'a>,
 }
 
-impl<H: Wait, J: Run> Gauges for Inspected<'_, H, J> {
+impl<H: Wait, J: Run> Gauges for Gauged<'_, H, J> {
     ghost tenants = { λ s. s.office.now.books.tenants };
 
     ghost meters = { λ s. s.office.now.meters.id };
@@ -205,7 +191,11 @@ impl<H: Wait + Clock, J: Run> Hosted for Inspected<'_, H, J> {
 
     fn metrics(&self, seat: &mut MeterSeat) -> Result<Vec<u8>, AllocError> {
         let office = self.office;
-        let all = all_counts(self.alloc, self, seat, office.names.as_slice())?;
+        let gauges = Gauged {
+            handle: self.handle,
+            office,
+        };
+        let all = all_counts(self.alloc, &gauges, seat, office.names.as_slice())?;
         let service = ServiceCounts {
             accepts: office.door.lets_in(),
             open: office.door.open(),
@@ -259,15 +249,20 @@ impl<H: Wait + Net<Stream = TcpStream> + Clock, J: Run> Host<'_, H, J> {
             Err(Untold::Closed | Untold::Memory) => Status::Unavailable.code(),
         }
     }
+}
 
-    /// Answers the one request of a connection, which may take so long to come.
-    pub fn serve_connection(&mut self, stream: &TcpStream, time: Duration)
-        ensures seat { self.new.seat ≡ self.old.seat }
-        ensures office { self.new.office ≡ self.old.office }
-    {
+impl<H: Wait + Net<Stream = TcpStream> + Clock, J: Run> Answering for Host<'_, H, J> {
+    ghost seat = { λ h. h.seat };
+
+    fn serve_connection(&mut self, stream: &TcpStream, time: Duration) {
         let mut reader = Timed::within(stream, self.handle, time);
         let mut writer = Timed::within(stream, self.handle, Duration::from_millis(PATIENCE));
         let _ = serve_host(&mut reader, &mut writer, self);
+    }
+
+    fn into_seat(self) -> MeterSeat {
+        let Host { seat, .. } = self;
+        seat
     }
 }
 

@@ -1,6 +1,6 @@
 //! The counts of a service that runs, in the text format of Prometheus (version 0.0.4).
 
-ghost use Rattle.std.specs.Prelude.{◌≡◌, ◌++◌, ◌<◌, ◌≤◌, ℕ, length, vec_len, Some, IfOk, OnOk};
+ghost use Rattle.std.specs.Prelude.{◌≡◌, ◌++◌, ◌∷◌, [], ◌<◌, ◌≤◌, ℕ, length, vec_len, Some, IfOk, OnOk};
 ghost use Rattle.std.specs.List.{slice_get};
 ghost use Rattle.atomic_table.specs.Seated.{TableId};
 ghost use Rattle.meters.specs.declared.kind.Kind as meter;
@@ -115,8 +115,8 @@ pub fn figures_of(book: &Book) -> BookFigures
     }
 }
 
-// The counts of a tenant of that name.
-fn counts_of<'a, G: Gauges>(
+/// The counts of the tenant with that number and name.
+pub fn counts_of<'a, G: Gauges>(
     gauges: &G,
     seat: &mut MeterSeat,
     tenant: usize,
@@ -463,5 +463,21 @@ pub fn metrics_text(
     put_service(alloc, &mut text, service)?;
     put_tenants(alloc, &mut text, all)?;
     put_statements(alloc, &mut text, service.states, all)?;
+    Ok(text)
+}
+
+/// The metrics of one tenant: its rows of the service's metrics, also of statements if the service keeps some. Fails only if it is
+/// out of memory.
+pub fn tenant_metrics_text(
+    alloc: Global,
+    states: bool,
+    counts: TenantCounts<'_>,
+) -> Result<Vec<u8>, AllocError>
+    ensures { IfOk result (λ text. text.items ≡ tenants_text (counts.entry ∷ []) ++ statements_text states (counts.entry ∷ [])) }
+{
+    let mut text = Vec::new(alloc);
+    let all = [counts];
+    put_tenants(alloc, &mut text, &all)?;
+    put_statements(alloc, &mut text, states, &all)?;
     Ok(text)
 }

@@ -1,7 +1,7 @@
 //! The present setup of a service.
 
 ghost use Rattle.std.specs.Prelude.{◌≡◌, ◌<◌, ◌≤◌, ℕ, IfOk};
-ghost use Rattle.service.specs.Presence.{ArePresent, IsPresent, IsPresentText};
+ghost use Rattle.service.specs.Presence.{ArePresent, IsPresent, IsPresentText, IsTenantText};
 
 use crate::office::Office;
 use admin_text::write_setup;
@@ -56,5 +56,20 @@ pub fn present_text<J: Run>(
 {
     let setups = present_setups(handle, alloc, office)?;
     let text = write_setup(alloc, office.start, setups.as_slice())?;
+    Ok(text.into_bytes())
+}
+
+/// The text of the present setup of one tenant, as `present_text` writes it. Fails only if it is out of memory.
+pub fn tenant_text<J: Run>(
+    handle: &impl Wait,
+    alloc: Global,
+    office: &Office<J>,
+    tenant: usize,
+) -> Result<Vec<u8>, AllocError>
+    requires { tenant < office.now.books.tenants }
+    ensures { IfOk result (λ text. IsTenantText J.openings office.now tenant text.items) }
+{
+    let setup = present_setup(handle, alloc, office, tenant)?;
+    let text = write_setup(alloc, office.start, &[setup])?;
     Ok(text.into_bytes())
 }

@@ -1,6 +1,6 @@
 //! How many files a service may have open at once.
 
-ghost use Rattle.std.specs.Prelude.{◌≡◌, ◌+◌, ◌≤◌, if◌then◌else◌};
+ghost use Rattle.std.specs.Prelude.{◌≡◌, ◌≤◌};
 ghost use Rattle.allotment.specs.Loans.{max_places};
 ghost use Rattle.books_shared.specs.Gathers.{max_workers};
 ghost use Rattle.service.specs.Files.{files_of};
@@ -17,13 +17,13 @@ const OTHERS: usize = 8;
 const BEFORE: usize = 6;
 
 /// The most files that a process with this extent has open at once. There is one for each connection, each exchange
-/// with a peer, and each caller at the host's door, if there is one. Eight more are for the rest.
-pub fn files_of(extent: Extent, has_host: bool) -> usize
+/// with a peer, and each of 16 callers at each door beside that of the packets. Eight more are for the rest.
+pub fn files_of(extent: Extent, doors: u8) -> usize
     requires workers { extent.workers ≤ max_places }
     requires connections { extent.connections ≤ max_workers }
-    ensures { result ≡ files_of extent.connections extent.workers has_host }
+    ensures { result ≡ files_of extent.connections extent.workers doors }
 {
-    let callers = if has_host { MAX_CALLERS } else { 0 };
+    let callers = MAX_CALLERS * doors as usize;
     extent.connections + extent.workers + callers + OTHERS
 }
 

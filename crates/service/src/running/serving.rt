@@ -18,9 +18,10 @@ ghost use Rattle.service.specs.Served.{served_line, lines_upto};
 
 use crate::connection::door::Door;
 use crate::filing::disk::Disk;
-use crate::host::callers::{Beside, Callers, Porter};
+use crate::host::callers::{Answering, Beside, Callers, Porter};
 use crate::host::hosting::{Host, HostDoor};
 use crate::office::Office;
+use crate::operators::answering::{OperatorDoor, Operators};
 use crate::running::auditing::audit_told;
 use crate::running::balances::balance_lines;
 use crate::running::ended::{Ended, work_to_the_end};
@@ -140,50 +141,89 @@ fn dismissed<H, C, J: Run>(
     }
 }
 
-// The host at that door, who reads the meters through a seat of its own, and room for those who wait at the door.
-fn host_at<'a, H, J: Run>(
-    handle: &'a H,
-    alloc: Global,
+// Where the host answers: it reads the meters through a seat of its own, and has room for those who wait.
+fn host_at<'a, H, C, J: Run>(
+    system: &'a System<'_, H, C>,
     office: &'a Office<J>,
     first: &mut MeterSeat,
     door: Option<HostDoor<'a>>,
-) -> Result<Option<Porter<'a, H, J>>, AllocError>
+) -> Result<Option<Porter<'a, H, Host<'a, H, J>>>, AllocError>
     requires here { first.old.meters ≡ office.now.meters.id }
     requires first { first.old.first ≡ true }
     requires few { first.old.splits < max_splits }
-    ensures idle { IfOk result (λ porter. IsIdle office.now.meters.id (option_map (λ porter. porter.host.seat) porter)) }
+    ensures idle { IfOk result (λ porter. IsIdle office.now.meters.id (option_map (λ porter. porter.answering.seat) porter)) }
     ensures here { first.new.meters ≡ first.old.meters }
     ensures first { first.new.first ≡ true }
-    ensures splits { IfOk result (λ porter. first.new.splits ≡ first.old.splits + seats_in (option_map (λ porter. porter.host.seat) porter)) }
+    ensures splits { IfOk result (λ porter. first.new.splits ≡ first.old.splits + seats_in (option_map (λ porter. porter.answering.seat) porter)) }
     ensures joins { first.new.joins ≡ first.old.joins }
     ensures counts { first.new.counts ≡ first.old.counts }
 {
     let Some(door) = door else {
         return Ok(None);
     };
-    let callers = Callers::new(alloc)?;
+    let (handle, alloc) = (system.handle, system.alloc);
+    let (listener, callers) = (door.listener(), Callers::new(alloc)?);
     let seat = office.meters.split(first);
-    let host = Host::new(handle, alloc, office, door, seat);
-    Ok(Some(Porter { host, callers }))
+    let answering = Host::new(handle, alloc, office, door, seat);
+    Ok(Some(Porter {
+        handle,
+        listener,
+        packets: &office.door,
+        answering,
+        callers,
+    }))
 }
 
-// Takes the host's seat back, at which nothing was counted.
-fn host_leaves<H, J: Run>(
+// Where operators are answered: as for the host, with a seat of its own and room for those who wait.
+fn operators_at<'a, H, C: workers::Clock, J: Run>(
+    system: &'a System<'_, H, C>,
+    office: &'a Office<J>,
+    first: &mut MeterSeat,
+    door: Option<OperatorDoor<'a>>,
+) -> Result<Option<Porter<'a, H, Operators<'a, H, C, J>>>, AllocError>
+    requires here { first.old.meters ≡ office.now.meters.id }
+    requires first { first.old.first ≡ true }
+    requires few { first.old.splits < max_splits }
+    ensures idle { IfOk result (λ porter. IsIdle office.now.meters.id (option_map (λ porter. porter.answering.seat) porter)) }
+    ensures here { first.new.meters ≡ first.old.meters }
+    ensures first { first.new.first ≡ true }
+    ensures splits { IfOk result (λ porter. first.new.splits ≡ first.old.splits + seats_in (option_map (λ porter. porter.answering.seat) porter)) }
+    ensures joins { first.new.joins ≡ first.old.joins }
+    ensures counts { first.new.counts ≡ first.old.counts }
+{
+    let Some(door) = door else {
+        return Ok(None);
+    };
+    let (handle, alloc) = (system.handle, system.alloc);
+    let callers = Callers::new(alloc)?;
+    let seat = office.meters.split(first);
+    let answering = Operators::new(handle, alloc, system.clock, office, seat);
+    Ok(Some(Porter {
+        handle,
+        listener: door.listener(),
+        packets: &office.door,
+        answering,
+        callers,
+    }))
+}
+
+// Takes back the seat of one who answered at a door, at which nothing was counted.
+fn leaves<H, K: Answering, J: Run>(
     office: &Office<J>,
     first: &mut MeterSeat,
-    porter: Option<Porter<'_, H, J>>,
+    porter: Option<Porter<'_, H, K>>,
 )
     requires here { first.old.meters ≡ office.now.meters.id }
-    requires idle { IsIdle office.now.meters.id (option_map (λ porter. porter.host.seat) porter) }
+    requires idle { IsIdle office.now.meters.id (option_map (λ porter. K.seat porter.answering) porter) }
     ensures here { first.new.meters ≡ first.old.meters }
     ensures first { first.new.first ≡ first.old.first }
     ensures splits { first.new.splits ≡ first.old.splits }
-    ensures joins { first.new.joins ≡ first.old.joins + seats_in (option_map (λ porter. porter.host.seat) porter.entry) }
+    ensures joins { first.new.joins ≡ first.old.joins + seats_in (option_map (λ porter. K.seat porter.answering) porter.entry) }
     ensures counts { (tenant : ℕ) (kind : meter.Kind) → count_of tenant kind first.new ≡ count_of tenant kind first.old }
 {
     if let Some(porter) = porter {
-        let Porter { host, .. } = porter;
-        office.meters.join(first, host.into_seat());
+        let Porter { answering, .. } = porter;
+        office.meters.join(first, answering.into_seat());
     }
 }
 
@@ -196,22 +236,33 @@ fn can_start<R: Threads + Wait + Sync>(rt: &R) -> bool {
     )
 }
 
-// Lets each lane work on a thread of its own, and the other, where there is one, stay beside them until all have ended. None of
-// them works where the other has no thread.
-fn run_beside<H: Threads + Wait + std::time::Clock + Sync, W: Lane, B: Beside>(
+// Stays, if there is one who does.
+fn stay<B: Beside>(other: &mut Option<B>)
+    ensures { HasStayed B.stays other.old other.new }
+{
+    if let Some(other) = other {
+        other.stay();
+    }
+}
+
+// Lets each lane work on its own thread, and up to two others stay beside them, each on its own thread, until all lanes have
+// ended. None of them works if there is no thread for the others. If there is only one, the second stays after the first.
+fn run_beside<H: Threads + Wait + std::time::Clock + Sync, W: Lane, A: Beside, B: Beside + Send>(
     handle: &H,
     door: &Door,
     lanes: &mut [W],
+    one: &mut Option<A>,
     other: &mut Option<B>,
 ) -> Result<(), StartFault>
     ensures ok { OnOk result ((i : ℕ) (d : W) → i < length lanes.old
         → W.works (slice_index_or lanes.old i d) (slice_index_or lanes.new i d)) }
     ensures err { OnErr result (lanes.new ≡ lanes.old) }
+    ensures one { HasStayed A.stays one.old one.new ⊎ (one.new ≡ one.old) }
     ensures other { HasStayed B.stays other.old other.new ⊎ (other.new ≡ other.old) }
 {
-    let Some(other) = other else {
+    if one.is_none() && other.is_none() {
         return run_workers(handle, lanes);
-    };
+    }
     if !can_start(handle) {
         return Err(StartFault);
     }
@@ -227,13 +278,13 @@ fn run_beside<H: Threads + Wait + std::time::Clock + Sync, W: Lane, B: Beside>(
             if let Err(missed) = meeting.attend(handle) {
                 door.desert(Ended::before_it_began(missed));
             }
-            other.stay();
+            join_mut(handle, &mut || stay(other), &mut || stay(one));
         },
     );
     started
 }
 
-// Lets all workers serve, on threads, and the host, where there is one, answer until they have ended.
+// Lets all workers serve, on threads, and those who answer at the other doors until they have ended.
 fn work_all<
     J: Run + Send + Sync,
     H: Threads
@@ -248,19 +299,22 @@ fn work_all<
     office: &Office<J>,
     clock: &C,
     lanes: &mut [Worker<'_, H, C, J>],
-    porter: &mut Option<Porter<'_, H, J>>,
+    host: &mut Option<Porter<'_, H, Host<'_, H, J>>>,
+    operators: &mut Option<Porter<'_, H, Operators<'_, H, C, J>>>,
 ) -> Result<(), ServeFault>
     requires new { All (λ lane. IsNewDesk lane.desk) lanes.old }
     requires office { All (λ lane. lane.office.now ≡ office.now) lanes.old }
     requires clock { All (λ lane. lane.clock.now ≡ clock.now) lanes.old }
     ensures office { All (λ lane. lane.office.now ≡ office.now) lanes.new }
     ensures worked { OnOk result (All (λ lane. HasWorked (C.gives clock.now) office.now lane.desk) lanes.new) }
-    ensures seat { option_map (λ porter. porter.host.seat) porter.new ≡ option_map (λ porter. porter.host.seat) porter.old }
+    ensures host { option_map (λ porter. porter.answering.seat) host.new ≡ option_map (λ porter. porter.answering.seat) host.old }
+    ensures operators { option_map (λ porter. porter.answering.seat) operators.new
+        ≡ option_map (λ porter. porter.answering.seat) operators.old }
 {
     meters::laws::meters_are_shared();
     books_shared::laws::books_are_shared::<J>();
     books_shared::laws::networks_cross();
-    match run_beside(handle, &office.door, lanes, porter) {
+    match run_beside(handle, &office.door, lanes, host, operators) {
         Ok(()) => Ok(()),
         Err(_) => Err(ServeFault::Device),
     }
@@ -305,9 +359,18 @@ pub fn run_all<
     } = *system;
     let room = Vec::with_capacity(alloc, shares.len())?;
     let mut lanes = hired(system, office, first, shares, doors.packets)?;
-    let mut porter = host_at(handle, alloc, office, first, doors.host)?;
-    work_all(handle, office, clock, lanes.as_mut_slice(), &mut porter)?;
-    host_leaves(office, first, porter);
+    let mut host = host_at(system, office, first, doors.host)?;
+    let mut operators = operators_at(system, office, first, doors.operators)?;
+    work_all(
+        handle,
+        office,
+        clock,
+        lanes.as_mut_slice(),
+        &mut host,
+        &mut operators,
+    )?;
+    leaves(office, first, host);
+    leaves(office, first, operators);
     Ok(dismissed(alloc, office, first, lanes, room))
 }
 
@@ -379,6 +442,8 @@ pub struct Doors<'a> {
     pub packets: &'a TcpListener,
     /// Where the host asks, if anywhere.
     pub host: Option<HostDoor<'a>>,
+    /// Where operators ask, if anywhere.
+    pub operators: Option<OperatorDoor<'a>>,
 }
 
 /// Serves connections, each on a thread of its own, and joins the threads once the planned number was served. Then it writes, if

@@ -5,7 +5,7 @@ use super::wire::{FixedClock, is_reply, packet_by, request};
 use super::{NOTHING_MORE, asked};
 use admin_text::read_setup;
 use common_types::Token;
-use service::{Disk, Doors, Extent, HostDoor, Plan, ServeFault, serve};
+use service::{Disk, Doors, Extent, HostDoor, OperatorDoor, Plan, ServeFault, serve};
 use std::alloc::Global;
 use std::net::{Net, OpenListener, SocketAddr, TcpListener, TcpStream};
 use std::process::Abort;
@@ -28,7 +28,7 @@ pub const STOP: &[u8] = b"POST /stop HTTP/1.1\r\nAuthorization: Bearer host\r\n\
 // Under another token.
 const STRANGER: &[u8] = b"POST /stop HTTP/1.1\r\nAuthorization: Bearer root\r\n\r\n";
 
-const UNAUTHORIZED: &[u8] =
+pub const UNAUTHORIZED: &[u8] =
     b"HTTP/1.1 401 Unauthorized\r\nWWW-Authenticate: Bearer\r\nContent-Length: 0\r\nConnection: close\r\n\r\n";
 
 const UNAUTHORIZED_HEAD: &[u8] = b"HTTP/1.1 401 Unauthorized\r\n";
@@ -36,12 +36,19 @@ const UNAUTHORIZED_HEAD: &[u8] = b"HTTP/1.1 401 Unauthorized\r\n";
 pub const HEALTHY: &[u8] =
     b"HTTP/1.1 200 OK\r\nContent-Type: text/plain\r\nContent-Length: 3\r\nConnection: close\r\n\r\nok\n";
 
-// Serves the setup of that text, with a host's door.
-pub fn serve_with_host<'a, R>(
+/// Where packets come, where the host asks, and where operators do, if anywhere.
+#[derive(Clone, Copy)]
+pub struct Listeners<'a> {
+    pub packets: &'a TcpListener,
+    pub host: &'a TcpListener,
+    pub operators: Option<&'a TcpListener>,
+}
+
+/// Serves the setup of that text at these doors.
+pub fn serve_with_host<R>(
     rt: &R,
     text: &str,
-    packets: &'a TcpListener,
-    door: &'a TcpListener,
+    at: Listeners<'_>,
     lines: &mut Vec<u8>,
 ) -> Result<(), ServeFault>
 where
@@ -53,8 +60,12 @@ where
     else {
         return Err(ServeFault::Device);
     };
-    let Ok(host) = HostDoor::new(door, &token, packets) else {
+    let Ok(host) = HostDoor::new(at.host, &token, at.packets) else {
         return Err(ServeFault::Device);
+    };
+    let operators = match at.operators {
+        Some(listener) => OperatorDoor::new(listener).ok(),
+        None => None,
     };
     let extent = Extent {
         workers: 4,
@@ -68,8 +79,9 @@ where
         roll_at: None,
     };
     let doors = Doors {
-        packets,
+        packets: at.packets,
         host: Some(host),
+        operators,
     };
     serve(rt, rt.alloc(), &setup, plan, doors, &FixedClock, lines)
 }
@@ -134,15 +146,22 @@ fn told_setup(alloc: Global, text: &str) -> Result<Vec<u8>, Fail> {
     Ok(whole.into_bytes())
 }
 
-/// The addresses for packets and for the host.
+/// The addresses for packets, for the host and for operators.
 #[derive(Clone, Copy)]
 pub struct Addresses {
     pub packets: SocketAddr,
     pub host: SocketAddr,
+    pub operators: SocketAddr,
 }
 
 /// The outcome of requests to a service with a host's door, for the setup of that text, and what it prints at the end.
-pub fn served_with_host<R, T, F>(rt: &R, text: &str, ask: F) -> Result<(T, Vec<u8>), Fail>
+/// With `has_operators` it has an operators' door.
+pub fn served_with_host<R, T, F>(
+    rt: &R,
+    text: &str,
+    has_operators: bool,
+    ask: F,
+) -> Result<(T, Vec<u8>), Fail>
 where
     R: Threads + Wait + Clock + Disk + AllocGlobal + Sync,
     R: Net<Listener = TcpListener, Stream = TcpStream>,
@@ -151,17 +170,20 @@ where
     requires asks { (to : _) → F.pre ask to }
 {
     let packets = TcpListener::bind(rt, "127.0.0.1:0")?;
-    let door = TcpListener::bind(rt, "127.0.0.1:0")?;
+    let host = TcpListener::bind(rt, "127.0.0.1:0")?;
+    let operators = TcpListener::bind(rt, "127.0.0.1:0")?;
     let to = Addresses {
         packets: packets.local_addr()?,
-        host: door.local_addr()?,
+        host: host.local_addr()?,
+        operators: operators.local_addr()?,
+    };
+    let at = Listeners {
+        packets: &packets,
+        host: &host,
+        operators: has_operators.then_some(&operators),
     };
     let mut lines = Vec::new(rt.alloc());
-    let (end, came) = join(
-        rt,
-        || serve_with_host(rt, text, &packets, &door, &mut lines),
-        || ask(to),
-    );
+    let (end, came) = join(rt, || serve_with_host(rt, text, at, &mut lines), || ask(to));
     let came = came?;
     end?;
     Ok((came, lines))
@@ -199,7 +221,7 @@ where
     let ask = |to: Addresses| {
         Ok(told_in_turn(rt, alloc, to, packet.as_slice(), command.as_slice())?)
     };
-    served_with_host(rt, text.as_str(), ask)
+    served_with_host(rt, text.as_str(), false, ask)
 }
 
 // Lines of the metrics after one packet of acme's was answered, and a command for beta refused.
@@ -223,7 +245,7 @@ ilpd_holds_open{tenant=\"acme\"} 0
 ilpd_holds_open{tenant=\"beta\"} 0
 ";
 
-fn has_line(text: &str, wanted: &str) -> bool {
+pub fn has_line(text: &str, wanted: &str) -> bool {
     for line in text.lines() {
         if line == wanted {
             return true;
@@ -388,7 +410,7 @@ where
         other: 0,
     });
     let ask = |to: Addresses| stopped_under_load(rt, rt.alloc(), to, &mut clients);
-    let run = || served_with_host(rt, text.as_str(), ask);
+    let run = || served_with_host(rt, text.as_str(), false, ask);
     let ((answer, lines), fulfilled) = beside_peer(rt, &peer, run)?;
     Ok(Stop {
         fulfilled,

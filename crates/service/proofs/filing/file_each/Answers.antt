@@ -1,6 +1,6 @@
-use Rattle.std.proofs.Common.{◌≡◌, ◌++◌, ◌+◌, List, ℕ, Some, slice_get, take, rules, subst, sym}
+use Rattle.std.proofs.Common.{◌≡◌, ◌+◌, List, ℕ, Some, slice_get, take, rules, subst, sym}
 use Rattle.std.proofs.lemmas.Option.{slice_get_read}
-use Rattle.service.specs.Filing.{AreFiled, line_unless}
+use Rattle.service.specs.Filing.{AreFiled}
 use Rattle.service.proofs.Filings.{filed_next}
 use Rattle.service.proofs.filing.file_each.Goals as goal
 

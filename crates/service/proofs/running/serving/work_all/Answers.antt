@@ -3,8 +3,10 @@ use Rattle.service.specs.Answering.{HasServed}
 use denote.Param.{param}
 use denote.Param.Send.{IsSend, sendable}
 use denote.Ref.{NamedLft}
+use Rattle.service.specs.contracts.host.callers.Porter as Porter
+use Rattle.service.specs.contracts.operators.answering.Operators as Operators
 use Rattle.service.specs.contracts.worker.Worker as Worker
-use Rattle.service.proofs.Sending.{office_sync, worker_send}
+use Rattle.service.proofs.Sending.{office_sync, operators_send, porter_send, worker_send}
 use Rattle.service.proofs.running.serving.work_all.Goals as goal
 
 pub run_beside-requires-send-W : goal.run_beside-requires-send-W
@@ -15,6 +17,16 @@ run_beside-requires-send-W g c κs within =
     = λ κ. worker_send κ (param 1 g.row.H) (param 2 g.row.C) (param 0 g.row.J) g.J.Run c.type_bounds.sync-H c.type_bounds.sync-C office
     c.networks_cross.ensures seat in
     search (sendable, lane) depth 60
+
+pub run_beside-requires-send-B : goal.run_beside-requires-send-B
+run_beside-requires-send-B g c κs within =
+    let office = office_sync (param 0 g.row.J) g.J.Run c.books_are_shared.ensures c.meters_are_shared.ensures.shared c.networks_cross.ensures in
+    let seat = c.meters_are_shared.ensures.sent in
+    let operators : (κ : NamedLft) → IsSend (Operators.the_row κ (param 1 g.row.H) (param 2 g.row.C) (param 0 g.row.J) g.J.Run)
+    = λ κ. operators_send κ (param 1 g.row.H) (param 2 g.row.C) (param 0 g.row.J) g.J.Run c.type_bounds.sync-H c.type_bounds.sync-C office seat in
+    let porter : (κ μ : NamedLft) → IsSend (Porter.the_row κ (param 1 g.row.H) (Operators.the_row μ (param 1 g.row.H) (param 2 g.row.C) (param 0 g.row.J) g.J.Run))
+    = λ κ μ. porter_send κ (param 1 g.row.H) (Operators.the_row μ (param 1 g.row.H) (param 2 g.row.C) (param 0 g.row.J) g.J.Run) c.type_bounds.sync-H (operators μ) in
+    search (sendable, porter) depth 60
 
 pub returns-in-Ok-clause-worked : goal.returns-in-Ok-clause-worked
 returns-in-Ok-clause-worked g c k d below =

@@ -1,4 +1,4 @@
-use Rattle.std.proofs.Common.{◌≡◌, ◌∙◌, ℕ, false, ap, subst, sym, refl, inl, rules}
+use Rattle.std.proofs.Common.{◌≡◌, ◌∙◌, ℕ, ap, subst, sym, refl, inl, rules}
 use Rattle.std.specs.Prelude.{Option}
 use Rattle.workers.specs.Rolling.{is_ripe}
 use Rattle.service.specs.Rolling.{IsTidied}

@@ -1,6 +1,6 @@
 use Rattle.std.proofs.Common.{◌≡◌, ◌∙◌, rules, ap}
 use Rattle.service.specs.Metrics.{figures_of}
-use Rattle.service.proofs.host.hosting.InspectedGauges.book.Goals as goal
+use Rattle.service.proofs.host.hosting.GaugedGauges.book.Goals as goal
 
 pub returns : goal.returns
 returns g c =

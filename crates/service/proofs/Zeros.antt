@@ -1,0 +1,10 @@
+-- The SHA-256 of 32 zero bytes.
+use Rattle.std.proofs.Common.{◌≡◌, [], ◌∷◌, refl}
+use Rattle.sha2.specs.Sha256.{first_words, schedule, rounds, compress, hash_after, digest_bytes, sha256}
+use Rattle.ildcp_core.specs.Request.{config_condition}
+
+pub digest_of_zeros : config_condition ≡
+    0x66 ∷ 0x68 ∷ 0x7a ∷ 0xad ∷ 0xf8 ∷ 0x62 ∷ 0xbd ∷ 0x77 ∷ 0x6c ∷ 0x8f ∷ 0xc1 ∷ 0x8b ∷ 0x8e ∷ 0x9f ∷ 0x8e ∷ 0x20 ∷
+    0x08 ∷ 0x97 ∷ 0x14 ∷ 0x85 ∷ 0x6e ∷ 0xe2 ∷ 0x33 ∷ 0xb3 ∷ 0x90 ∷ 0x2a ∷ 0x59 ∷ 0x1d ∷ 0x0d ∷ 0x5f ∷ 0x29 ∷ 0x25 ∷ []
+unfolding first_words schedule rounds compress hash_after digest_bytes sha256 config_condition
+digest_of_zeros = refl

@@ -1,0 +1,105 @@
+-- The answers at the operators' door, which only reads.
+use Rattle.std.specs.Prelude.{ℕ, ◌≡◌, ◌↔◌, ◌⊎◌, true, false, Bool, List, [], ◌∷◌, ◌++◌, Option, Some, None, is_some, Result, Ok, Err}
+use Rattle.std.specs.List.{slice_get}
+use Rattle.std.specs.Str.{bytes_eq}
+use Rattle.books_shared.specs.Traced.{IsLedTo}
+use Rattle.common_types.specs.declared.numerals.NumberFault.{NumberFault}
+use Rattle.http_link.specs.OperatorDoor.{OperatorAsked}
+use Rattle.http_link.specs.declared.operator_request.OperatorRequest.{OperatorRequest}
+use Rattle.http_link.specs.declared.operator_request.OperatorRequest.TheVariants.{Setup, Metrics, Statement, Explain}
+use Rattle.one_list.specs.declared.run.Run.{Ghosts}
+use Rattle.one_list.specs.declared.step.Done.{Done}
+use Rattle.tenant_core.specs.State.{State}
+use Rattle.tenant_core.specs.declared.opening.Opening.{Opening}
+use Rattle.service.specs.Answering.{operator_token}
+use Rattle.service.specs.Explaining.{explanation}
+use Rattle.service.specs.Hidden.{hidden_text}
+use Rattle.service.specs.Metrics.{IsBookOf, statements_text, tenants_text}
+use Rattle.service.specs.Presence.{IsTenantText}
+use Rattle.service.specs.Questions.{Question, fault_line, question_in}
+use Rattle.service.specs.Served.{tenant_named}
+use Rattle.service.specs.declared.host.metrics.TenantCounts.{TenantCounts}
+use Rattle.service.specs.declared.office.Office.{Office}
+use Rattle.service.specs.declared.operators.asking.Unanswered.{Unanswered}
+use Rattle.service.specs.declared.operators.asking.Unanswered.TheVariants as unanswered
+use Rattle.service.specs.declared.operators.question.QuestionFault.{QuestionFault}
+
+-- ---- by request
+
+-- the answer is such a one, unless an allocation fails
+abbrev pub OrMemory : {V : Type 0} → (V → Type 0) → Result V Unanswered → Type 0
+OrMemory Told (Ok value) = Told value
+OrMemory Told (Err fault) = fault ≡ unanswered.Memory
+
+-- the answer is such a one, or there is no such statement
+abbrev pub OrMissing : {V : Type 0} → (V → Type 0) → Result V Unanswered → Type 0
+OrMissing Told (Ok value) = Told value
+OrMissing Told (Err fault) = fault ≡ unanswered.Statement
+
+-- A question gets such an answer, unless an allocation fails. Words that are not a question get their fault.
+abbrev pub Explains : {V : Type 0} → Result Question QuestionFault → (Question → V → Type 0) → Result V Unanswered → Type 0
+Explains (Ok question) Told result = OrMemory (Told question) result
+Explains (Err fault) Told result = result ≡ Err (unanswered.Question fault)
+
+-- The number of a period gets such a statement, if there is one. Words that are not a number name no statement.
+abbrev pub States : {V : Type 0} → Result ℕ NumberFault → (ℕ → V → Type 0) → Result V Unanswered → Type 0
+States (Ok period) Told result = OrMissing (Told period) result
+States (Err fault) Told result = result ≡ Err unanswered.Statement
+
+-- the status of an answer, and the text that is kept of it
+abbrev pub IsKept : {V : Type 0} → (V → List ℕ) → Result V Unanswered → (status : ℕ) → (text : List ℕ) → Type 0
+IsKept items (Ok value) status text = (status ≡ 200) × (text ≡ items value)
+IsKept items (Err (unanswered.Question fault)) status text = ((status ≡ 400) × (text ≡ fault_line fault)) ⊎ (status ≡ 503)
+IsKept items (Err unanswered.Token) status text = status ≡ 401
+IsKept items (Err unanswered.Tenant) status text = status ≡ 404
+IsKept items (Err unanswered.Statement) status text = status ≡ 404
+IsKept items (Err unanswered.Memory) status text = status ≡ 503
+
+-- ---- of a service
+
+-- the setup of one tenant, as its book was at some moment, with its tokens hidden
+abbrev pub IsHiddenSetup : {J : Type 0} {r : Ghosts J} → List Opening → Office J r → ℕ → List ℕ → Type 0
+IsHiddenSetup openings office tenant text = (whole : List ℕ) × IsTenantText openings office tenant whole × (text ≡ hidden_text whole)
+
+-- the metrics of one tenant, by its own book: its rows of the host's metrics, also those of statements if some are kept
+abbrev pub IsTenantMetrics : (states : Bool) → (tenant : ℕ) → (name : Option (List ℕ)) → List ℕ → Type 0
+IsTenantMetrics states tenant name text =
+    (counts : TenantCounts) × (name ≡ Some counts.name.now) × IsBookOf tenant counts.book
+    × (text ≡ tenants_text (counts ∷ []) ++ statements_text states (counts ∷ []))
+
+-- the explanation of a packet by the tenant's book as it was at some moment, and by a moment that the clock gave
+pub record IsExplained (openings : List Opening) (Gives : ℕ → Type 0) (tenant : ℕ) (question : Question) (text : List ℕ) : Type 0 where
+  pub book : State
+  pub steps : List Done
+  pub own : book.opening.tenant ≡ tenant
+  pub led : IsLedTo openings book steps
+  pub now : ℕ
+  pub given : Gives now
+  pub told : text ≡ explanation book question now
+
+-- the text of a 200 about a tenant
+abbrev pub IsToldOperator : {J : Type 0} {r : Ghosts J} → List Opening → (ℕ → Type 0) → Office J r → ℕ → List ℕ → OperatorRequest → List ℕ → Type 0
+IsToldOperator openings Gives office tenant words Setup text = IsHiddenSetup openings office tenant text
+IsToldOperator openings Gives office tenant words Metrics text = IsTenantMetrics (is_some office.filing) tenant (slice_get office.names.items tenant) text
+IsToldOperator openings Gives office tenant words Statement text = Unit {0}
+IsToldOperator openings Gives office tenant words Explain text =
+    (question : Question) × (question_in words ≡ Ok question) × IsExplained openings Gives tenant question text
+
+-- A request is refused with 401 exactly if its name is a tenant's and its token not that tenant's. An unknown name is refused with
+-- 404. So is a request for a statement that is not there, and no other. The text of a 200 is about the tenant of that name, whose
+-- token was shown, and of the requested kind. That of a 400 says why the words are not a question.
+pub record HasToldOperator {J : Type 0} {r : Ghosts J} (openings : List Opening) (Gives : ℕ → Type 0) (office : Office J r) (asked : OperatorAsked)
+    (text : List ℕ) : Type 0 where
+  pub refused : asked.status ≡ 401
+      ↔ ((tenant : ℕ) × (tenant_named office.names.items asked.wanted.tenant ≡ Some tenant)
+      × (bytes_eq (operator_token office tenant) asked.wanted.token ≡ false))
+  pub unknown : tenant_named office.names.items asked.wanted.tenant ≡ None → asked.status ≡ 404
+  pub missing : asked.status ≡ 404
+      → (tenant_named office.names.items asked.wanted.tenant ≡ None) ⊎ (asked.wanted.request ≡ Statement)
+  pub told : asked.status ≡ 200
+      → (tenant : ℕ) × (tenant_named office.names.items asked.wanted.tenant ≡ Some tenant)
+      × (bytes_eq (operator_token office tenant) asked.wanted.token ≡ true)
+      × IsToldOperator openings Gives office tenant asked.wanted.words asked.wanted.request text
+  pub why : asked.status ≡ 400
+      → (fault : QuestionFault) × (asked.wanted.request ≡ Explain) × (question_in asked.wanted.words ≡ Err fault)
+      × (text ≡ fault_line fault)
