@@ -454,6 +454,7 @@ fn serve_at<
 
 // Serves the setup at the doors of packets and of the host, and at that of operators if the command line names one.
 fn serve_with<
+    'd,
     R: Net<Listener = TcpListener, Stream = TcpStream>
         + Disk
         + Threads
@@ -468,8 +469,8 @@ fn serve_with<
     setup: &Setup,
     plan: Plan<'_>,
     line: &CommandLine<'_>,
-    packets: &TcpListener,
-    host: Option<HostDoor<'_>>,
+    packets: &'d TcpListener,
+    host: Option<HostDoor<'d>>,
 ) -> Result<(), Ending>
     requires tenants { (1 ≤ length setup.now.tenants) × (length setup.now.tenants ≤ max_tenants) }
     requires workers { (1 ≤ plan.extent.workers) × (plan.extent.workers ≤ max_places) }
