@@ -454,7 +454,6 @@ fn serve_at<
 
 // Serves the setup at the doors of packets and of the host, and at that of operators if the command line names one.
 fn serve_with<
-    'd,
     R: Net<Listener = TcpListener, Stream = TcpStream>
         + Disk
         + Threads
@@ -469,8 +468,8 @@ fn serve_with<
     setup: &Setup,
     plan: Plan<'_>,
     line: &CommandLine<'_>,
-    packets: &'d TcpListener,
-    host: Option<HostDoor<'d>>,
+    packets: &TcpListener,
+    host: Option<HostDoor<'_>>,
 ) -> Result<(), Ending>
     requires tenants { (1 ≤ length setup.now.tenants) × (length setup.now.tenants ≤ max_tenants) }
     requires workers { (1 ≤ plan.extent.workers) × (plan.extent.workers ≤ max_places) }
@@ -480,23 +479,13 @@ fn serve_with<
     let Some(address) = line.operators else {
         expect_files(rt, packets, files_of(plan.extent, doors))?;
         say_doors(rt, line)?;
-        let doors = Doors {
-            packets,
-            host,
-            operators: None,
-        };
-        return serve_by(rt, setup, plan, doors);
+        return serve_by(rt, setup, plan, packets, host, None);
     };
     let listener = listener_on(rt, address)?;
     let operators = OperatorDoor::new(&listener).map_err(printing)?;
     expect_files(rt, packets, files_of(plan.extent, doors + 1))?;
     say_doors(rt, line)?;
-    let doors = Doors {
-        packets,
-        host,
-        operators: Some(operators),
-    };
-    serve_by(rt, setup, plan, doors)
+    serve_by(rt, setup, plan, packets, host, Some(operators))
 }
 
 // A line for each door.
@@ -522,7 +511,14 @@ fn serve_by<
         + Eprint
         + AllocGlobal
         + Sync,
->(rt: &R, setup: &Setup, plan: Plan<'_>, doors: Doors<'_>) -> Result<(), Ending>
+>(
+    rt: &R,
+    setup: &Setup,
+    plan: Plan<'_>,
+    packets: &TcpListener,
+    host: Option<HostDoor<'_>>,
+    operators: Option<OperatorDoor<'_>>,
+) -> Result<(), Ending>
     requires tenants { (1 ≤ length setup.now.tenants) × (length setup.now.tenants ≤ max_tenants) }
     requires workers { (1 ≤ plan.extent.workers) × (plan.extent.workers ≤ max_places) }
     requires connections { (1 ≤ plan.extent.connections) × (plan.extent.connections ≤ max_workers) }
@@ -530,6 +526,11 @@ fn serve_by<
     warn(rt, plan.extent, setup.tenants.as_slice().len());
     let clock = SystemClock::new(rt);
     let mut writer = io::writer(rt);
+    let doors = Doors {
+        packets,
+        host,
+        operators,
+    };
     serve(rt, rt.alloc(), setup, plan, doors, &clock, &mut writer).map_err(Ending::Served)
 }
 

@@ -36,19 +36,13 @@ const UNAUTHORIZED_HEAD: &[u8] = b"HTTP/1.1 401 Unauthorized\r\n";
 pub const HEALTHY: &[u8] =
     b"HTTP/1.1 200 OK\r\nContent-Type: text/plain\r\nContent-Length: 3\r\nConnection: close\r\n\r\nok\n";
 
-/// Where packets come, where the host asks, and where operators do, if anywhere.
-#[derive(Clone, Copy)]
-pub struct Listeners<'a> {
-    pub packets: &'a TcpListener,
-    pub host: &'a TcpListener,
-    pub operators: Option<&'a TcpListener>,
-}
-
 /// Serves the setup of that text at these doors.
-pub fn serve_with_host<R>(
+pub fn serve_with_host<'a, R>(
     rt: &R,
     text: &str,
-    at: Listeners<'_>,
+    packets: &'a TcpListener,
+    door: &'a TcpListener,
+    operators: Option<&'a TcpListener>,
     lines: &mut Vec<u8>,
 ) -> Result<(), ServeFault>
 where
@@ -60,10 +54,10 @@ where
     else {
         return Err(ServeFault::Device);
     };
-    let Ok(host) = HostDoor::new(at.host, &token, at.packets) else {
+    let Ok(host) = HostDoor::new(door, &token, packets) else {
         return Err(ServeFault::Device);
     };
-    let operators = match at.operators {
+    let operators = match operators {
         Some(listener) => OperatorDoor::new(listener).ok(),
         None => None,
     };
@@ -79,7 +73,7 @@ where
         roll_at: None,
     };
     let doors = Doors {
-        packets: at.packets,
+        packets,
         host: Some(host),
         operators,
     };
@@ -177,13 +171,19 @@ where
         host: host.local_addr()?,
         operators: operators.local_addr()?,
     };
-    let at = Listeners {
-        packets: &packets,
-        host: &host,
-        operators: has_operators.then_some(&operators),
-    };
     let mut lines = Vec::new(rt.alloc());
-    let (end, came) = join(rt, || serve_with_host(rt, text, at, &mut lines), || ask(to));
+    let (end, came) = join(
+        rt,
+        || {
+            let beside = if has_operators {
+                Some(&operators)
+            } else {
+                None
+            };
+            serve_with_host(rt, text, &packets, &host, beside, &mut lines)
+        },
+        || ask(to),
+    );
     let came = came?;
     end?;
     Ok((came, lines))

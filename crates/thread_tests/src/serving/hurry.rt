@@ -1,9 +1,7 @@
 //! What a connection gets while others wait, and when the service stops; and idle callers at the host's door.
 
 use super::crowd::{connected, setup_text};
-use super::host::{
-    Addresses, HEALTH, HEALTHY, Listeners, METRICS, STOP, serve_with_host, served_with_host,
-};
+use super::host::{Addresses, HEALTH, HEALTHY, METRICS, STOP, serve_with_host, served_with_host};
 use super::wire::{good_reply, good_text, one_tenant, packet_by, peer_answer, posted, request};
 use super::{ALONE, NOTHING, NOTHING_MORE, answer_of, asked, next_request, served_while, usual};
 use service::{Disk, Extent};
@@ -129,15 +127,10 @@ fn a_stop_is_clean_after_an_accept_that_failed(rt: HostRuntime) -> Result<(), Fa
     let door = TcpListener::bind(&rt, "127.0.0.1:0")?;
     let host = door.local_addr()?;
     packets.set_nonblocking(true)?;
-    let at = Listeners {
-        packets: &packets,
-        host: &door,
-        operators: None,
-    };
     let mut lines = Vec::new(alloc);
     let (end, seen) = join(
         &rt,
-        || serve_with_host(&rt, text.as_str(), at, &mut lines),
+        || serve_with_host(&rt, text.as_str(), &packets, &door, None, &mut lines),
         || watched(&rt, alloc, &packets, &host),
     );
     assert!(rt; end == Ok(()));
