@@ -29,34 +29,25 @@ use std::process::ExitCode;
 use std::rt::{Env, Files};
 use std::{env, fs, str};
 
-// A setup and a script, as bytes.
-fn read_both(
-    rt: &(impl Files + AllocGlobal),
-    setup: &str,
-    script: &str,
-) -> Result<(Vec<u8>, Vec<u8>), Fault> {
-    Ok((fs::read(rt, setup)?, fs::read(rt, script)?))
-}
-
-fn text_of(script: &[u8]) -> Result<&str, Fault> {
-    match str::from_utf8(script) {
-        Ok(script) => Ok(script),
-        Err(_) => Err(Fault::Steps),
-    }
-}
-
 // Runs a script's steps, and says on standard error after which of them an allocation failed.
 fn run_steps(
     rt: &(impl Files + Print + Eprint + AllocGlobal),
     setup: &str,
     script: &str,
 ) -> Result<(), Fault> {
-    let (setup, script) = read_both(rt, setup, script)?;
-    let told = steps::tell(rt.alloc(), setup.as_slice(), text_of(script.as_slice())?)?;
+    let setup = fs::read(rt, setup)?;
+    let script = fs::read(rt, script)?;
+    let Ok(script) = str::from_utf8(script.as_slice()) else {
+        return Err(Fault::Steps);
+    };
+    let told = steps::tell(rt.alloc(), setup.as_slice(), script)?;
     if let Some(done) = told.refused_after {
         eprintln!(rt; "refused after {done}")?;
     }
-    print_lines(rt, told.lines.as_slice())
+    match str::from_utf8(told.lines.as_slice()) {
+        Ok(lines) => Ok(rt.print(lines)?),
+        Err(_) => Err(Fault::Steps),
+    }
 }
 
 fn run_crowd(
@@ -107,7 +98,8 @@ fn run_closed(
     setup: &str,
     script: &str,
 ) -> Result<(), Fault> {
-    let (setup, script) = read_both(rt, setup, script)?;
+    let setup = fs::read(rt, setup)?;
+    let script = fs::read(rt, script)?;
     let texts = verified::statements_of(rt.alloc(), setup.as_slice(), script.as_slice())?;
     for text in &texts {
         print_lines(rt, text.as_slice())?;
@@ -116,7 +108,10 @@ fn run_closed(
 }
 
 fn print_lines(rt: &impl Print, text: &[u8]) -> Result<(), Fault> {
-    Ok(rt.print(text_of(text)?)?)
+    match str::from_utf8(text) {
+        Ok(lines) => Ok(rt.print(lines)?),
+        Err(_) => Err(Fault::Steps),
+    }
 }
 
 // Writes the statements of a script's periods so many times, or checks them, for bench/periods.
@@ -129,14 +124,18 @@ fn run_again(
     let Ok(times) = times.parse::<u32>() else {
         return Err(Fault::Words);
     };
-    let (setup, script) = read_both(rt, setup, script)?;
+    let setup = fs::read(rt, setup)?;
+    let script = fs::read(rt, script)?;
     let (setup, script) = (setup.as_slice(), script.as_slice());
     if trial == "check" {
         let records = verified::check_again(rt.alloc(), setup, script, times)?;
         println!(rt; "{records} records checked")?;
         return Ok(());
     }
-    let bytes = verified::write_again(rt.alloc(), setup, text_of(script)?, times)?;
+    let Ok(script) = str::from_utf8(script) else {
+        return Err(Fault::Steps);
+    };
+    let bytes = verified::write_again(rt.alloc(), setup, script, times)?;
     println!(rt; "{bytes} bytes written")?;
     Ok(())
 }
@@ -147,8 +146,12 @@ fn run_receipts(
     setup: &str,
     script: &str,
 ) -> Result<(), Fault> {
-    let (setup, script) = read_both(rt, setup, script)?;
-    let closed = steps::periods(rt.alloc(), setup.as_slice(), text_of(script.as_slice())?)?;
+    let setup = fs::read(rt, setup)?;
+    let script = fs::read(rt, script)?;
+    let Ok(script) = str::from_utf8(script.as_slice()) else {
+        return Err(Fault::Steps);
+    };
+    let closed = steps::periods(rt.alloc(), setup.as_slice(), script)?;
     let text = audited::receipts_of(rt.alloc(), closed.as_slice())?;
     print_lines(rt, text.as_slice())
 }
