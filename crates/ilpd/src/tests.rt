@@ -134,10 +134,11 @@ fn host_told(alloc: Global, host: Option<HostWords<'_>>) -> Result<String, Fail>
 }
 
 fn roll_at_told(alloc: Global, percent: Option<u8>) -> Result<String, Fail> {
-    match percent {
-        Some(percent) => Ok([" rolls at ", percent.to_string(alloc)?.as_str()].concat(alloc)?),
-        None => Ok(String::new(alloc)),
-    }
+    let Some(percent) = percent else {
+        return Ok(String::new(alloc));
+    };
+    let percent = percent.to_string(alloc)?;
+    Ok([" rolls at ", percent.as_str()].concat(alloc)?)
 }
 
 fn operators_told(alloc: Global, operators: Option<&str>) -> Result<String, Fail> {
