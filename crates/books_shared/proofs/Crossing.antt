@@ -18,6 +18,7 @@ use Rattle.one_list.specs.contracts.chronicle.Chronicle as Chronicle
 use Rattle.one_list.proofs.parts.TenantPart.TheSendSync as of_part
 use Rattle.one_list.proofs.chronicle.Chronicle.TheSendSync as of_chronicle
 use Rattle.books_shared.specs.contracts.kept.LockedBook as LockedBook
+use Rattle.books_shared.specs.contracts.outcomes.TenantLog as TenantLog
 use Rattle.books_shared.specs.contracts.books.Books as Books
 
 routes_send : IsSend Routes.the_row
@@ -32,8 +33,11 @@ book_send = search (sendable, std.crosses, network_send, of_small.the_send, of_h
 part_send : (J : RattleType) (r : Run.Ghosts J.Denot) → IsSend (TenantPart.the_row J r)
 part_send J r = search (sendable, std.crosses, of_part.the_send) depth 40
 
+log_send : (J : RattleType) (r : Run.Ghosts J.Denot) → IsSend (TenantLog.the_row J r)
+log_send J r = search (sendable, std.crosses, part_send) depth 40
+
 kept_send : (J : RattleType) (r : Run.Ghosts J.Denot) → IsSend (LockedBook.the_row J r)
-kept_send J r = search (sendable, std.crosses, book_send, part_send) depth 40
+kept_send J r = search (sendable, std.crosses, book_send, log_send) depth 40
 
 chronicle_sync : (J : RattleType) (r : Run.Ghosts J.Denot) → IsSync (Chronicle.the_row J r)
 chronicle_sync J r = search (sendable, std.crosses, of_chronicle.the_sync) depth 40

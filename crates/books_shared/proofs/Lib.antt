@@ -9,3 +9,4 @@ pub mod Gathering
 pub mod Keeping
 pub mod Elements
 pub mod Complete
+pub mod Recounting

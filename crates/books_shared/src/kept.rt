@@ -12,6 +12,7 @@ ghost use Rattle.books_shared.specs.Kept.{most_entries};
 ghost use Rattle.books_shared.specs.Shares.{share_met, share_raised, with_steps};
 ghost use Rattle.books_shared.specs.Tracing.{HasAppended, steps_appended, steps_of_command};
 
+use crate::outcomes::{PacketCounts, TenantLog};
 use crate::rise::{CallCounts, command_rise, entries_closed, rise_of_turn, tick_rise};
 use crate::share::Share;
 use floor_core::{Got, Slot, Turn};
@@ -21,13 +22,14 @@ use std::alloc::Global;
 use std::marker::Model;
 use tenant_core::{Answered, Book, BookFault, Command, CommandFault};
 
-/// A tenant's book, how many entries its closed periods had, and the tenant's part of the one list. Contracts see it as a
-/// `LockedBook`.
+/// A tenant's book, how many entries its closed periods had, how many packets found its journal full, and the tenant's part of
+/// the one list, counted. Contracts see it as a `LockedBook`.
 #[derive(Drop)]
 pub struct LockedBook<J: Run> {
     book: Book,
     closed: u64,
-    part: TenantPart<J>,
+    full: u64,
+    part: TenantLog<J>,
 }
 
 impl<J: Run> Model for LockedBook<J> {
@@ -42,7 +44,7 @@ impl<J: Run> Model for LockedBook<J> {
 
     ghost coded = { Prim.hlevel (codes, routes.the_row.coded) };
 
-    ghost view = { λ k. record { state = k.book; closed = k.closed; steps = k.part.steps } };
+    ghost view = { λ k. record { state = k.book; closed = k.closed; full = k.full; steps = k.part.steps } };
 
     ghost invariant = { λ k. (k.closed ≤ most_entries k.book.opening.period) × IsTraced J.openings k.book k.part
         × (J.own ≡ true → AreOwnAnswers k.part.steps) };
@@ -56,7 +58,8 @@ impl<J: Run> LockedBook<J> {
     ghost use Rattle.tenant_core.specs.Answer.{tick_made, tick_result, ticked};
     ghost use Rattle.tenant_core.specs.Governed.{IsGoverned, made_by};
     ghost use Rattle.tenant_core.specs.State.{opened, recorded};
-    ghost use Rattle.books_shared.specs.Kept.{LockInvariant, entries_appended};
+    ghost use Rattle.books_shared.specs.Kept.{LockInvariant, entries_appended, full_risen};
+    ghost use Rattle.books_shared.specs.Outcomes.{AreCounted};
     ghost use Rattle.books_shared.specs.Rises.{command_rise, entries_closed, rise_of, tick_rise};
     ghost use Rattle.books_shared.specs.Traced.{IsLedTo, IsTraced, share_counted};
     ghost use Rattle.one_list.specs.Steps.{done_by, next_place, of_tenant, of_worker};
@@ -64,13 +67,15 @@ impl<J: Run> LockedBook<J> {
     /// A book in which nothing has happened, and the part of the one list of its tenant.
     pub fn new(book: Book, part: TenantPart<J>) -> LockedBook<J>
         requires traced { IsTraced J.openings book part }
+        requires none { part.steps ≡ [] }
         requires answers { J.own ≡ true → AreOwnAnswers part.steps }
-        ensures { result ≡ record { state = book; closed = 0; steps = part.steps } }
+        ensures { result ≡ record { state = book; closed = 0; full = 0; steps = part.steps } }
     {
         LockedBook {
             book,
             closed: 0,
-            part,
+            full: 0,
+            part: TenantLog::new(part),
         }
     }
 
@@ -100,6 +105,20 @@ impl<J: Run> LockedBook<J> {
         self.closed + self.book.entries() as u64
     }
 
+    /// How many packets had each outcome, by the steps.
+    pub fn packets(&self) -> PacketCounts
+        ensures { AreCounted result self.now.steps }
+    {
+        self.part.packets()
+    }
+
+    /// How many packets found the journal full.
+    pub fn full_journals(&self) -> u64
+        ensures { result ≡ self.now.full }
+    {
+        self.full
+    }
+
     /// The tenant's steps have what the share's worker did to the book, and nothing more of this worker. The share
     /// keeps that it has met these steps. Nothing else changes.
     pub fn meet(&mut self, chronicle: &Chronicle<J>, share: &mut Share<J>)
@@ -117,7 +136,7 @@ impl<J: Run> LockedBook<J> {
     {
         let number = self.number();
         let LockedBook { book, part, .. } = self;
-        ((book, number), part)
+        ((book, number), part.into_part())
     }
 
     /// What `Slot::decide` does, counted.
@@ -133,6 +152,7 @@ impl<J: Run> LockedBook<J> {
         ensures slot { slot.new ≡ (decide_call slot.old self.old.state now).work }
         ensures book { self.new.state ≡ recorded self.old.state (decide_call slot.old self.old.state now).made }
         ensures closed { self.new.closed ≡ self.old.closed }
+        ensures full { self.new.full ≡ full_risen (rise_of (decide_call slot.old self.old.state now)) self.old.full }
         ensures steps { self.new.steps ≡ self.old.steps
             ++ done_by share.old.worker (next_place self.old.state) (decide_call slot.old self.old.state now).made }
         ensures share { share.new ≡ share_counted (rise_of (decide_call slot.old self.old.state now)) (next_place self.old.state)
@@ -145,6 +165,7 @@ impl<J: Run> LockedBook<J> {
         slot.is_work();
         let (turn, rise) = decide_in(&mut self.book, slot, now);
         tenant_core::laws::book_is_sound(&self.book);
+        self.full = self.full.saturating_add(rise.full);
         trace(chronicle, &mut self.part, share, &self.book, rise);
         turn
     }
@@ -164,6 +185,7 @@ impl<J: Run> LockedBook<J> {
         ensures slot { slot.new ≡ (answer_call slot.old self.old.state now got).work }
         ensures book { self.new.state ≡ recorded self.old.state (answer_call slot.old self.old.state now got).made }
         ensures closed { self.new.closed ≡ self.old.closed }
+        ensures full { self.new.full ≡ self.old.full }
         ensures steps { self.new.steps ≡ self.old.steps
             ++ done_by share.old.worker (next_place self.old.state) (answer_call slot.old self.old.state now got).made }
         ensures share { share.new ≡ share_counted (rise_of (answer_call slot.old self.old.state now got)) (next_place self.old.state)
@@ -190,6 +212,7 @@ impl<J: Run> LockedBook<J> {
         ensures count { result ≡ tick_result self.old.state now }
         ensures book { self.new.state ≡ ticked self.old.state now }
         ensures closed { self.new.closed ≡ self.old.closed }
+        ensures full { self.new.full ≡ self.old.full }
         ensures steps { self.new.steps ≡ self.old.steps
             ++ done_by share.old.worker (next_place self.old.state) (tick_made self.old.state now) }
         ensures share { share.new ≡ share_counted (tick_rise result) (next_place self.old.state)
@@ -218,6 +241,7 @@ impl<J: Run> LockedBook<J> {
         ensures answer { IsGoverned result command.now self.old.state self.new.state now }
         ensures closed { self.new.closed
             ≡ self.old.closed + entries_closed result (length self.old.state.records) }
+        ensures full { self.new.full ≡ self.old.full }
         ensures steps { self.new.steps ≡ self.old.steps
             ++ done_by share.old.worker (next_place self.old.state) (made_by result self.old.state command.now now) }
         ensures share { share.new ≡ share_counted (command_rise result) (next_place self.old.state)
@@ -239,7 +263,7 @@ impl<J: Run> LockedBook<J> {
 // Counts what a call added to a book. If it appended an entry, the book's last record is a step of the one list.
 fn trace<J: Run>(
     chronicle: &Chronicle<J>,
-    part: &mut TenantPart<J>,
+    part: &mut TenantLog<J>,
     share: &mut Share<J>,
     book: &Book,
     rise: CallCounts,
@@ -260,7 +284,7 @@ fn trace<J: Run>(
 // closed.
 fn trace_command<J: Run>(
     chronicle: &Chronicle<J>,
-    part: &mut TenantPart<J>,
+    part: &mut TenantLog<J>,
     share: &mut Share<J>,
     book: &Book,
     answer: &Result<Answered, CommandFault>,

@@ -6,11 +6,13 @@ mod gather;
 mod guard;
 mod kept;
 pub mod laws;
+mod outcomes;
 mod rise;
 mod share;
 
 pub use books::{Books, MAX_WORKERS};
 pub use gather::GatherFault;
 pub use guard::Guard;
+pub use outcomes::{PacketCounts, PacketOutcome};
 pub use receipts::{AuditFault, Audited, Receipt, audit};
 pub use share::{RoomFault, Share};

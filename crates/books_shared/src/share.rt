@@ -7,8 +7,9 @@ ghost use Rattle.books_shared.specs.ShareKept.{HasKept, HasMadeRoom, IsLedgerOf}
 ghost use Rattle.books_shared.specs.Shares.{has_full, receipts_told};
 ghost use Rattle.books_shared.specs.Tracing.{steps_appended};
 
+use crate::outcomes::TenantLog;
 use crate::rise::CallCounts;
-use one_list::{Chronicle, Run, TenantPart, WorkerPart};
+use one_list::{Chronicle, Run, WorkerPart};
 use receipts::{Ledger, Receipt};
 use std::alloc::{AllocError, Global};
 use std::marker::Model;
@@ -182,7 +183,7 @@ impl<J: Run> Share<J> {
     pub(crate) fn add(
         &mut self,
         chronicle: &Chronicle<J>,
-        tenant: &mut TenantPart<J>,
+        tenant: &mut TenantLog<J>,
         rise: CallCounts,
         period: u64,
         journal: &Journal,
@@ -217,12 +218,12 @@ impl<J: Run> Share<J> {
     }
 
     // The tenant's steps by the worker are the worker's steps of the tenant; and the worker has met the tenant's.
-    pub(crate) fn meet(&mut self, chronicle: &Chronicle<J>, tenant: &mut TenantPart<J>)
+    pub(crate) fn meet(&mut self, chronicle: &Chronicle<J>, tenant: &mut TenantLog<J>)
         ensures tenant { tenant.new ≡ tenant.old }
         ensures share { self.new ≡ share_met tenant.old.number tenant.old.steps self.old }
         ensures shared { of_worker self.old.worker tenant.old.steps ≡ of_tenant tenant.old.number self.old.steps }
     {
-        chronicle.meet(tenant, &mut self.part);
+        tenant.meet(chronicle, &mut self.part);
     }
 
     // The worker's part of the one list.
@@ -270,7 +271,7 @@ fn keep(ledger: &mut Option<Ledger>, tenant: usize, period: u64, journal: &Journ
 // if receipts are kept.
 fn tell<J: Run>(
     chronicle: &Chronicle<J>,
-    tenant: &mut TenantPart<J>,
+    tenant: &mut TenantLog<J>,
     worker: &mut WorkerPart<J>,
     ledger: &mut Option<Ledger>,
     entries: u64,
@@ -287,7 +288,7 @@ fn tell<J: Run>(
 {
     if entries != 0 {
         let number = tenant.number() as usize;
-        chronicle.record(tenant, worker, period, journal);
+        tenant.record(chronicle, worker, period, journal);
         keep(ledger, number, period, journal);
     }
 }

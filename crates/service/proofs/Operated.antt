@@ -169,7 +169,7 @@ module _ {V : Type 0} (items : V → List ℕ) (P M : ℕ → List ℕ → Type 
 
 module _ {J : Type 0} {r : Ghosts J} (openings : List Opening) (Gives : ℕ → Type 0) (office : Office J r) (words : List ℕ) where
   same_told : (tenant : ℕ) (request : OperatorRequest) (text : List ℕ)
-      → IsTold (IsHiddenSetup openings office) (λ tenant. IsTenantMetrics (is_some office.filing) tenant (slice_get office.names.items tenant))
+      → IsTold (IsHiddenSetup openings office) (λ tenant. IsTenantMetrics openings (is_some office.filing) tenant (slice_get office.names.items tenant))
       (IsExplained openings Gives) (question_in words) tenant request text
       → IsToldOperator openings Gives office tenant words request text
   same_told tenant Setup text told = told
@@ -186,7 +186,7 @@ pub operator_answered : {J V : Type 0} {r : Ghosts J} (openings : List Opening) 
     → bytes_eq (operator_token office tenant) wanted.token ≡ true → OrMemory (λ v. IsHiddenSetup openings office tenant (items v)) result)
     → ((tenant : ℕ) → tenant_named office.names.items wanted.tenant ≡ Some tenant → wanted.request ≡ Metrics
     → bytes_eq (operator_token office tenant) wanted.token ≡ true
-    → OrMemory (λ v. IsTenantMetrics (is_some office.filing) tenant (slice_get office.names.items tenant) (items v)) result)
+    → OrMemory (λ v. IsTenantMetrics openings (is_some office.filing) tenant (slice_get office.names.items tenant) (items v)) result)
     → ((tenant : ℕ) → tenant_named office.names.items wanted.tenant ≡ Some tenant → wanted.request ≡ Explain
     → bytes_eq (operator_token office tenant) wanted.token ≡ true
     → Explains (question_in wanted.words) (λ question v. IsExplained openings Gives tenant question (items v)) result)
@@ -197,9 +197,9 @@ pub operator_answered : {J V : Type 0} {r : Ghosts J} (openings : List Opening) 
     → HasToldOperator openings Gives office (operator_asking wanted status) text
 operator_answered openings Gives office wanted items result status text unknown refused setup metrics explain statement kept =
     let named = tenant_named office.names.items wanted.tenant in
-    let h : HasTold (IsHiddenSetup openings office) (λ tenant. IsTenantMetrics (is_some office.filing) tenant (slice_get office.names.items tenant))
+    let h : HasTold (IsHiddenSetup openings office) (λ tenant. IsTenantMetrics openings (is_some office.filing) tenant (slice_get office.names.items tenant))
     (IsExplained openings Gives) (question_in wanted.words) named (λ tenant. bytes_eq (operator_token office tenant) wanted.token) wanted.request status text
-    = answered items (IsHiddenSetup openings office) (λ tenant. IsTenantMetrics (is_some office.filing) tenant (slice_get office.names.items tenant))
+    = answered items (IsHiddenSetup openings office) (λ tenant. IsTenantMetrics openings (is_some office.filing) tenant (slice_get office.names.items tenant))
     (IsExplained openings Gives) (λ tenant. bytes_eq (operator_token office tenant) wanted.token) named status text (question_in wanted.words)
     (number_in 0 (2 ^ 64 - 1) wanted.words) wanted.request result unknown refused setup metrics explain statement kept in
     record {

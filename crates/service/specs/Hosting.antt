@@ -23,7 +23,7 @@ wants_token Stop = true
 -- the text of an answer: a word; the metrics; the tenants as their books were
 abbrev pub IsToldOf : {J : Type 0} {r : Ghosts J} → List Opening → Office J r → HostRequest → List ℕ → Type 0
 IsToldOf openings office Health text = text ≡ codes "ok\n"
-IsToldOf openings office Metrics text = IsMetricsOf office.names.items text
+IsToldOf openings office Metrics text = IsMetricsOf openings office.names.items text
 IsToldOf openings office Setup text = IsPresentText openings office text
 IsToldOf openings office Stop text = IsPresentText openings office text
 

@@ -1,15 +1,26 @@
 -- What the metrics of a service say, in the text format of Prometheus (version 0.0.4).
-use Rattle.std.specs.Prelude.{ℕ, ◌≡◌, Bool, true, false, List, [], ◌++◌, codes, length, Some}
+use Rattle.std.specs.Prelude.{ℕ, ◌≡◌, Bool, true, false, List, [], ◌∷◌, ◌++◌, codes, length, Some}
 use Rattle.std.specs.Fmt.{decimal}
 use Rattle.std.specs.List.{flat_map, slice_get}
+use Rattle.tenant_core.specs.Codes.{code_of}
 use Rattle.tenant_core.specs.Holds.{open_holds}
 use Rattle.tenant_core.specs.State.{State}
+use Rattle.tenant_core.specs.declared.opening.Opening.{Opening}
+use Rattle.tenant_core.specs.declared.verdict.RejectCode.TheVariants.{BadRequest, Unreachable, InvalidAmount, WrongCondition, AmountTooLarge}
+use Rattle.tenant_core.specs.declared.verdict.RejectCode.TheVariants.{PeerUnreachable, Busy, InsufficientLiquidity, RateLimited}
+use Rattle.tenant_core.specs.declared.verdict.RejectCode.TheVariants.{TimedOut, InsufficientSource, InsufficientTimeout}
+use Rattle.books_shared.specs.Kept.{LockedBook}
+use Rattle.books_shared.specs.Outcomes.{AreCounted, count_at}
+use Rattle.books_shared.specs.Traced.{IsLedTo}
+use Rattle.books_shared.specs.declared.outcomes.PacketOutcome.{PacketOutcome}
+use Rattle.books_shared.specs.declared.outcomes.PacketOutcome.TheVariants.{Fulfilled, Rejected, Configured, Refused}
 use Rattle.meters.specs.declared.kind.Kind.{Kind}
 use Rattle.meters.specs.declared.kind.Kind.TheVariants as kind
 use Rattle.workers.specs.declared.places.PlaceUse.{PlaceUse}
 use Rattle.service.specs.declared.host.metrics.BookFigures.{BookFigures}
 use Rattle.service.specs.declared.host.metrics.Family.{Family}
-use Rattle.service.specs.declared.host.metrics.Family.TheVariants.{Accepts, Open, Waiting, Answers, LinkFaults, RefusedTokens, PlacesShare, PlacesUsed, PlacesAwaited, Period, Entries, JournalPlaces, OpenHolds, StatementsWaiting}
+use Rattle.service.specs.declared.host.metrics.Family.TheVariants.{Accepts, Open, Waiting, Answers, Packets, LinkFaults, RefusedTokens, PlacesShare, PlacesUsed, PlacesAwaited, Period, Entries, JournalPlaces, OpenHolds, StatementsWaiting}
+use Rattle.service.specs.declared.host.metrics.PacketFigures.{PacketFigures}
 use Rattle.service.specs.declared.host.metrics.ServiceCounts.{ServiceCounts}
 use Rattle.service.specs.declared.host.metrics.TenantCounts.{TenantCounts}
 
@@ -21,6 +32,7 @@ family_name Accepts = codes "ilpd_accepts_connections"
 family_name Open = codes "ilpd_connections_open"
 family_name Waiting = codes "ilpd_threads_waiting"
 family_name Answers = codes "ilpd_answers_total"
+family_name Packets = codes "ilpd_packets_total"
 family_name LinkFaults = codes "ilpd_link_faults_total"
 family_name RefusedTokens = codes "ilpd_operator_tokens_refused_total"
 family_name PlacesShare = codes "ilpd_places_share"
@@ -38,6 +50,7 @@ help_of Accepts = codes "Whether connections are accepted: 1 or 0."
 help_of Open = codes "Connections that are open."
 help_of Waiting = codes "Threads that wait for a connection."
 help_of Answers = codes "Packets and commands that were answered, by the status of the answer."
+help_of Packets = codes "Packets that the tenant decided, by what became of them."
 help_of LinkFaults = codes "Packets for which a peer gave no usable answer, or for which no place was free in time."
 help_of RefusedTokens = codes "Commands under a token that is not the operator's."
 help_of PlacesShare = codes "Places of which the tenant is sure."
@@ -52,6 +65,7 @@ help_of StatementsWaiting = codes "Closed periods whose statements are still to 
 -- whether its numbers only grow
 abbrev pub type_of : Family → List ℕ
 type_of Answers = codes "counter"
+type_of Packets = codes "counter"
 type_of LinkFaults = codes "counter"
 type_of RefusedTokens = codes "counter"
 type_of _ = codes "gauge"
@@ -85,6 +99,18 @@ unfoldable pub answer_line : List ℕ → List ℕ → ℕ → List ℕ
 answer_line tenant status number =
     label_of Answers tenant ++ codes ",status=\"" ++ status ++ codes "\"}" ++ number_text number
 
+-- the word for an outcome: its code, if the packet was refused (RFC 0027, "Error Codes")
+abbrev pub outcome_word : PacketOutcome → List ℕ
+outcome_word Fulfilled = codes "fulfilled"
+outcome_word Rejected = codes "rejected"
+outcome_word Configured = codes "configured"
+outcome_word (Refused code) = code_of code
+
+-- the line that says how many of a tenant's packets had an outcome
+unfoldable pub outcome_line : List ℕ → List ℕ → ℕ → List ℕ
+outcome_line tenant outcome number =
+    label_of Packets tenant ++ codes ",outcome=\"" ++ outcome ++ codes "\"}" ++ number_text number
+
 -- ---- numbers
 
 -- the number of a tenant that a family has
@@ -111,6 +137,27 @@ answers_of counts =
 unfoldable pub all_answers : List TenantCounts → List ℕ
 all_answers all = family_head Answers ++ flat_map answers_of all
 
+-- the lines of a tenant's packets that had these outcomes
+unfoldable pub outcomes_text : TenantCounts → List PacketOutcome → List ℕ
+outcomes_text counts outcomes =
+    flat_map (λ o. outcome_line counts.name.now (outcome_word o) (count_at o counts.packets.outcomes)) outcomes
+
+-- all outcomes that a journal has
+abbrev pub all_outcomes : List PacketOutcome
+all_outcomes =
+    Fulfilled ∷ Rejected ∷ Configured ∷ Refused BadRequest ∷ Refused Unreachable ∷ Refused InvalidAmount ∷ Refused WrongCondition
+    ∷ Refused AmountTooLarge ∷ Refused PeerUnreachable ∷ Refused Busy ∷ Refused InsufficientLiquidity ∷ Refused RateLimited
+    ∷ Refused TimedOut ∷ Refused InsufficientSource ∷ Refused InsufficientTimeout ∷ []
+
+-- what became of a tenant's packets, and of how many it had no room in its journal
+unfoldable pub packets_of : TenantCounts → List ℕ
+packets_of counts =
+    outcomes_text counts all_outcomes ++ outcome_line counts.name.now (codes "journal_full") counts.packets.full_journals
+
+-- what became of the packets of all tenants
+unfoldable pub all_packets : List TenantCounts → List ℕ
+all_packets all = family_head Packets ++ flat_map packets_of all
+
 -- a family of numbers of the tenants
 unfoldable pub each_text : Family → List TenantCounts → List ℕ
 each_text family all = family_head family ++ flat_map (λ counts. family_line family counts.name.now (figure_of family counts)) all
@@ -128,7 +175,7 @@ service_text service =
 -- the metrics of the tenants, by family
 unfoldable pub tenants_text : List TenantCounts → List ℕ
 tenants_text all =
-    all_answers all ++ each_text LinkFaults all ++ each_text RefusedTokens all ++ each_text PlacesShare all ++ each_text PlacesUsed all
+    all_answers all ++ all_packets all ++ each_text LinkFaults all ++ each_text RefusedTokens all ++ each_text PlacesShare all ++ each_text PlacesUsed all
     ++ each_text PlacesAwaited all ++ each_text Period all ++ each_text Entries all ++ each_text JournalPlaces all ++ each_text OpenHolds all
 
 -- the metrics of the statements of closed periods, if some are kept
@@ -155,10 +202,19 @@ figures_of book = record {
 abbrev pub IsBookOf : ℕ → BookFigures → Type 0
 IsBookOf tenant figures = (book : State) × (book.opening.tenant ≡ tenant) × (figures ≡ figures_of book)
 
--- these counts of a tenant are what was read: so often each kind, so many refused tokens, these places, this book, and
--- so many statements that wait
-pub record AreRead (Answered : Kind → ℕ → Type 0) (Tokens : ℕ → Type 0) (Places : PlaceUse → Type 0) (Book : BookFigures → Type 0)
-    (Statements : ℕ → Type 0)
+-- these figures are of a book of the tenant: as many packets had each outcome as records of the steps that led to it from the
+-- tenant's first opening say, and so many found its journal full
+pub record ArePacketsOf (openings : List Opening) (tenant : ℕ) (figures : PacketFigures) : Type 0 where
+  pub locked : LockedBook
+  pub own : locked.state.opening.tenant ≡ tenant
+  pub led : IsLedTo openings locked.state locked.steps
+  pub counted : AreCounted figures.outcomes locked.steps
+  pub full : figures.full_journals ≡ locked.full
+
+-- these counts of a tenant are what was read: so often each kind, so many refused tokens, these places, what became of these
+-- packets, this book, and so many statements that wait
+pub record AreRead (Answered : Kind → ℕ → Type 0) (Tokens : ℕ → Type 0) (Places : PlaceUse → Type 0) (Packets : PacketFigures → Type 0)
+    (Book : BookFigures → Type 0) (Statements : ℕ → Type 0)
     (counts : TenantCounts) : Type 0 where
   pub answered : Answered kind.Answered counts.answered
   pub refused : Answered kind.ClientError counts.refused
@@ -166,13 +222,14 @@ pub record AreRead (Answered : Kind → ℕ → Type 0) (Tokens : ℕ → Type 0
   pub link_faults : Answered kind.LinkFault counts.link_faults
   pub refused_tokens : Tokens counts.refused_tokens
   pub places : Places counts.places
+  pub packets : Packets counts.packets
   pub book : Book counts.book
   pub statements : Statements counts.statements
 
--- the text is the metrics of the tenants of these names, each of its own book
-abbrev pub IsMetricsOf : List (List ℕ) → List ℕ → Type 0
-IsMetricsOf names text =
+-- the text is the metrics of the tenants of these names, each of its own book and packets
+abbrev pub IsMetricsOf : List Opening → List (List ℕ) → List ℕ → Type 0
+IsMetricsOf openings names text =
     (service : ServiceCounts) × (all : List TenantCounts) × (length all ≡ length names)
     × ((tenant : ℕ) (counts : TenantCounts) → slice_get all tenant ≡ Some counts
-    → (slice_get names tenant ≡ Some counts.name.now) × IsBookOf tenant counts.book)
+    → (slice_get names tenant ≡ Some counts.name.now) × IsBookOf tenant counts.book × ArePacketsOf openings tenant counts.packets)
     × (text ≡ metrics_text service all)

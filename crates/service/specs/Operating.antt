@@ -14,7 +14,7 @@ use Rattle.tenant_core.specs.declared.opening.Opening.{Opening}
 use Rattle.service.specs.Answering.{operator_token}
 use Rattle.service.specs.Explaining.{explanation}
 use Rattle.service.specs.Hidden.{hidden_text}
-use Rattle.service.specs.Metrics.{IsBookOf, statements_text, tenants_text}
+use Rattle.service.specs.Metrics.{ArePacketsOf, IsBookOf, statements_text, tenants_text}
 use Rattle.service.specs.Presence.{IsTenantText}
 use Rattle.service.specs.Questions.{Question, fault_line, question_in}
 use Rattle.service.specs.Served.{tenant_named}
@@ -61,10 +61,11 @@ IsKept items (Err unanswered.Memory) status text = status ≡ 503
 abbrev pub IsHiddenSetup : {J : Type 0} {r : Ghosts J} → List Opening → Office J r → ℕ → List ℕ → Type 0
 IsHiddenSetup openings office tenant text = (whole : List ℕ) × IsTenantText openings office tenant whole × (text ≡ hidden_text whole)
 
--- the metrics of one tenant, by its own book: its rows of the host's metrics, also those of statements if some are kept
-abbrev pub IsTenantMetrics : (states : Bool) → (tenant : ℕ) → (name : Option (List ℕ)) → List ℕ → Type 0
-IsTenantMetrics states tenant name text =
-    (counts : TenantCounts) × (name ≡ Some counts.name.now) × IsBookOf tenant counts.book
+-- the metrics of one tenant, by its own book and packets: its rows of the host's metrics, also those of statements if some are
+-- kept
+abbrev pub IsTenantMetrics : List Opening → (states : Bool) → (tenant : ℕ) → (name : Option (List ℕ)) → List ℕ → Type 0
+IsTenantMetrics openings states tenant name text =
+    (counts : TenantCounts) × (name ≡ Some counts.name.now) × IsBookOf tenant counts.book × ArePacketsOf openings tenant counts.packets
     × (text ≡ tenants_text (counts ∷ []) ++ statements_text states (counts ∷ []))
 
 -- the explanation of a packet by the tenant's book as it was at some moment, and by a moment that the clock gave
@@ -80,7 +81,7 @@ pub record IsExplained (openings : List Opening) (Gives : ℕ → Type 0) (tenan
 -- the text of a 200 about a tenant
 abbrev pub IsToldOperator : {J : Type 0} {r : Ghosts J} → List Opening → (ℕ → Type 0) → Office J r → ℕ → List ℕ → OperatorRequest → List ℕ → Type 0
 IsToldOperator openings Gives office tenant words Setup text = IsHiddenSetup openings office tenant text
-IsToldOperator openings Gives office tenant words Metrics text = IsTenantMetrics (is_some office.filing) tenant (slice_get office.names.items tenant) text
+IsToldOperator openings Gives office tenant words Metrics text = IsTenantMetrics openings (is_some office.filing) tenant (slice_get office.names.items tenant) text
 IsToldOperator openings Gives office tenant words Statement text = Unit {0}
 IsToldOperator openings Gives office tenant words Explain text =
     (question : Question) × (question_in words ≡ Ok question) × IsExplained openings Gives tenant question text

@@ -2,7 +2,7 @@
 
 ghost use Rattle.std.specs.Prelude.{◌≡◌, ◌<◌, ◌⊎◌, IfOk, MatchResult};
 ghost use Rattle.service.specs.Hosting.{HasTold, IsToldOf};
-ghost use Rattle.service.specs.Metrics.{IsBookOf, IsMetricsOf};
+ghost use Rattle.service.specs.Metrics.{ArePacketsOf, IsBookOf, IsMetricsOf};
 ghost use Rattle.service.specs.Presence.{IsPresentText};
 
 use crate::connection::door::Deserted;
@@ -10,7 +10,7 @@ use crate::connection::timed::{PATIENCE, Timed};
 use crate::host::asking::{Hosted, Untold, told_to_host};
 use crate::host::callers::Answering;
 use crate::host::metrics::{
-    BookFigures, Gauges, ServiceCounts, all_counts, figures_of, metrics_text,
+    BookFigures, Gauges, PacketFigures, ServiceCounts, all_counts, figures_of, metrics_text,
 };
 use crate::host::presence::present_text;
 use crate::office::Office;
@@ -136,6 +136,8 @@ impl<H: Wait, J: Run> Gauges for Gauged<'_, H, J> {
 
     ghost tells_places = { λ _ _ _. Unit {0} };
 
+    ghost tells_packets = { λ _ tenant figures. ArePacketsOf J.openings tenant figures };
+
     ghost tells_book = { λ _ tenant figures. IsBookOf tenant figures };
 
     ghost tells_statements = { λ _ _ _. Unit {0} };
@@ -156,6 +158,14 @@ impl<H: Wait, J: Run> Gauges for Gauged<'_, H, J> {
         }
     }
 
+    fn packets(&self, tenant: usize) -> PacketFigures {
+        let guard = self.office.books.enter(self.handle, tenant);
+        PacketFigures {
+            outcomes: guard.packets(),
+            full_journals: guard.full_journals(),
+        }
+    }
+
     fn book(&self, tenant: usize) -> BookFigures {
         let guard = self.office.books.enter(self.handle, tenant);
         figures_of(guard.book())
@@ -173,7 +183,7 @@ impl<H: Wait + Clock, J: Run> Hosted for Inspected<'_, H, J> {
     // The door may be closed or opened the next moment.
     ghost admits = { λ _ _. Unit {0} };
 
-    ghost measures = { λ s text. IsMetricsOf s.office.now.names.items text };
+    ghost measures = { λ s text. IsMetricsOf J.openings s.office.now.names.items text };
 
     ghost presents = { λ s text. IsPresentText J.openings s.office.now text };
 

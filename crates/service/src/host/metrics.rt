@@ -5,14 +5,15 @@ ghost use Rattle.std.specs.List.{slice_get};
 ghost use Rattle.atomic_table.specs.Seated.{TableId};
 ghost use Rattle.meters.specs.declared.kind.Kind as meter;
 ghost use Rattle.service.specs.declared.host.metrics.TenantCounts as told;
-ghost use Rattle.service.specs.Metrics.{AreRead, all_answers, answer_line, answers_of, bit, each_text, figure_of, figures_of, family_head};
-ghost use Rattle.service.specs.Metrics.{help_of, label_of, family_line, metrics_text, family_name, number_text, service_text, single_text, statements_text};
-ghost use Rattle.service.specs.Metrics.{tenants_text, type_of};
+ghost use Rattle.service.specs.Metrics.{AreRead, all_answers, all_packets, answer_line, answers_of, bit, each_text, figure_of, figures_of, family_head};
+ghost use Rattle.service.specs.Metrics.{help_of, label_of, family_line, metrics_text, family_name, number_text, outcome_line, outcome_word, outcomes_text};
+ghost use Rattle.service.specs.Metrics.{packets_of, service_text, single_text, statements_text, tenants_text, type_of};
 
+use books_shared::{PacketCounts, PacketOutcome};
 use common_types::Name;
 use meters::{Kind, MeterSeat};
 use std::alloc::{AllocError, Global};
-use tenant_core::Book;
+use tenant_core::{Book, RejectCode};
 use workers::PlaceUse;
 
 /// The figures of a tenant's book.
@@ -24,6 +25,15 @@ pub struct BookFigures {
     pub journal_places: u64,
     /// How many packets await their answers.
     pub open_holds: u64,
+}
+
+/// What became of a tenant's packets since the service began.
+#[derive(Clone, Copy)]
+pub struct PacketFigures {
+    /// By what the journal says.
+    pub outcomes: PacketCounts,
+    /// How many packets found the journal full. They are no entries.
+    pub full_journals: u64,
 }
 
 /// What is counted of a tenant, at one moment.
@@ -39,6 +49,7 @@ pub struct TenantCounts<'a> {
     /// How many commands came under a token that is not the operator's.
     pub refused_tokens: u64,
     pub places: PlaceUse,
+    pub packets: PacketFigures,
     pub book: BookFigures,
     /// How many closed periods wait for their statements to be written.
     pub statements: u64,
@@ -60,19 +71,22 @@ pub struct ServiceCounts {
 pub trait Gauges {
     ghost use Rattle.workers.specs.declared.places.PlaceUse.{PlaceUse};
     ghost use Rattle.service.specs.declared.host.metrics.BookFigures.{BookFigures};
+    ghost use Rattle.service.specs.declared.host.metrics.PacketFigures.{PacketFigures};
 
     /// How many tenants there are, and which meters are read.
     ghost tenants: { Self → ℕ };
 
     ghost meters: { Self → TableId };
 
-    /// That it told that number: of a tenant and a kind, of its refused tokens, of its places, of its book,
+    /// That it told that number: of a tenant and a kind, of its refused tokens, of its places, of its packets, of its book,
     /// and of its statements that wait.
     ghost tells: { Self → ℕ → meter.Kind → ℕ → Type 0 };
 
     ghost tells_tokens: { Self → ℕ → ℕ → Type 0 };
 
     ghost tells_places: { Self → ℕ → PlaceUse → Type 0 };
+
+    ghost tells_packets: { Self → ℕ → PacketFigures → Type 0 };
 
     ghost tells_book: { Self → ℕ → BookFigures → Type 0 };
 
@@ -92,6 +106,11 @@ pub trait Gauges {
     /// The places of a tenant: its share, those in use, and the packets that wait.
     fn places(&self, tenant: usize) -> PlaceUse
         ensures { tells_places self.now tenant result };
+
+    /// What became of a tenant's packets.
+    fn packets(&self, tenant: usize) -> PacketFigures
+        requires { tenant < tenants self.now }
+        ensures { tells_packets self.now tenant result };
 
     /// The figures of a tenant's book.
     fn book(&self, tenant: usize) -> BookFigures
@@ -127,7 +146,7 @@ pub fn counts_of<'a, G: Gauges>(
     ensures same { seat.new ≡ seat.old }
     ensures name { result.name.now ≡ name.now }
     ensures read { AreRead (G.tells gauges.now tenant) (G.tells_tokens gauges.now tenant) (G.tells_places gauges.now tenant)
-        (G.tells_book gauges.now tenant) (G.tells_statements gauges.now tenant) result }
+        (G.tells_packets gauges.now tenant) (G.tells_book gauges.now tenant) (G.tells_statements gauges.now tenant) result }
 {
     TenantCounts {
         name,
@@ -137,6 +156,7 @@ pub fn counts_of<'a, G: Gauges>(
         link_faults: gauges.counted(seat, tenant, Kind::LinkFault),
         refused_tokens: gauges.refused_tokens(tenant),
         places: gauges.places(tenant),
+        packets: gauges.packets(tenant),
         book: gauges.book(tenant),
         statements: gauges.statements(tenant),
     }
@@ -156,7 +176,7 @@ pub fn all_counts<'a, G: Gauges>(
     ensures read { IfOk result (λ all. (tenant : ℕ) (counts : told.TenantCounts) → slice_get all.items tenant ≡ Some counts
         → (slice_get names.now tenant ≡ Some counts.name.now)
         × AreRead (G.tells gauges.now tenant) (G.tells_tokens gauges.now tenant) (G.tells_places gauges.now tenant)
-        (G.tells_book gauges.now tenant) (G.tells_statements gauges.now tenant) counts) }
+        (G.tells_packets gauges.now tenant) (G.tells_book gauges.now tenant) (G.tells_statements gauges.now tenant) counts) }
 {
     let mut all = Vec::with_capacity(alloc, names.len())?;
     for tenant in 0..names.len() {
@@ -174,6 +194,8 @@ enum Family {
     Waiting,
     /// Of each tenant, three by the status of the answer.
     Answers,
+    /// Of each tenant, sixteen by what became of the packet.
+    Packets,
     /// Of each tenant, one.
     LinkFaults,
     RefusedTokens,
@@ -196,6 +218,7 @@ impl Family {
             Family::Open => b"ilpd_connections_open",
             Family::Waiting => b"ilpd_threads_waiting",
             Family::Answers => b"ilpd_answers_total",
+            Family::Packets => b"ilpd_packets_total",
             Family::LinkFaults => b"ilpd_link_faults_total",
             Family::RefusedTokens => b"ilpd_operator_tokens_refused_total",
             Family::PlacesShare => b"ilpd_places_share",
@@ -218,6 +241,7 @@ impl Family {
             Family::Waiting => b"Threads that wait for a connection.",
             Family::Answers =>
                 b"Packets and commands that were answered, by the status of the answer.",
+            Family::Packets => b"Packets that the tenant decided, by what became of them.",
             Family::LinkFaults =>
                 b"Packets for which a peer gave no usable answer, or for which no place was free in time.",
             Family::RefusedTokens => b"Commands under a token that is not the operator's.",
@@ -239,7 +263,8 @@ impl Family {
         ensures { result.now ≡ type_of self }
     {
         match self {
-            Family::Answers | Family::LinkFaults | Family::RefusedTokens => b"counter",
+            Family::Answers | Family::Packets | Family::LinkFaults | Family::RefusedTokens =>
+                b"counter",
             _ => b"gauge",
         }
     }
@@ -261,7 +286,8 @@ impl TenantCounts<'_> {
             Family::JournalPlaces => self.book.journal_places,
             Family::OpenHolds => self.book.open_holds,
             Family::StatementsWaiting => self.statements,
-            Family::Accepts | Family::Open | Family::Waiting | Family::Answers => 0,
+            Family::Accepts | Family::Open | Family::Waiting | Family::Answers | Family::Packets =>
+                0,
         }
     }
 }
@@ -382,6 +408,100 @@ fn put_all_answers(
     Ok(())
 }
 
+// The word for an outcome: its code, if the packet was refused.
+fn outcome_word(outcome: PacketOutcome) -> &'static [u8]
+    ensures { result.now ≡ outcome_word outcome }
+{
+    match outcome {
+        PacketOutcome::Fulfilled => b"fulfilled",
+        PacketOutcome::Rejected => b"rejected",
+        PacketOutcome::Configured => b"configured",
+        PacketOutcome::Refused(code) => code.letters(),
+    }
+}
+
+// How many packets of a tenant had an outcome.
+#[tactic(auto, unfolding(crate::specs::Metrics::outcome_line))]
+fn put_outcome(
+    alloc: Global,
+    text: &mut Vec<u8>,
+    tenant: &Name,
+    outcome: &[u8],
+    number: u64,
+) -> Result<(), AllocError>
+    ensures { OnOk result (text.new.items ≡ text.old.items ++ outcome_line tenant.now outcome.now number) }
+{
+    put_label(text, Family::Packets, tenant)?;
+    text.extend_from_slice(b",outcome=\"")?;
+    text.extend_from_slice(outcome)?;
+    text.extend_from_slice(b"\"}")?;
+    put_number(alloc, text, number)
+}
+
+// How many packets of a tenant had each of these outcomes.
+#[tactic(auto, unfolding(crate::specs::Metrics::outcomes_text))]
+fn put_outcomes(
+    alloc: Global,
+    text: &mut Vec<u8>,
+    counts: &TenantCounts<'_>,
+    outcomes: &[PacketOutcome],
+) -> Result<(), AllocError>
+    ensures { OnOk result (text.new.items ≡ text.old.items ++ outcomes_text counts.now outcomes.now) }
+{
+    for outcome in outcomes {
+        let number = counts.packets.outcomes.get(*outcome);
+        put_outcome(alloc, text, counts.name, outcome_word(*outcome), number)?;
+    }
+    Ok(())
+}
+
+// What became of a tenant's packets.
+#[tactic(auto, unfolding(crate::specs::Metrics::packets_of))]
+fn put_packets(
+    alloc: Global,
+    text: &mut Vec<u8>,
+    counts: &TenantCounts<'_>,
+) -> Result<(), AllocError>
+    ensures { OnOk result (text.new.items ≡ text.old.items ++ packets_of counts.now) }
+{
+    let outcomes = [
+        PacketOutcome::Fulfilled,
+        PacketOutcome::Rejected,
+        PacketOutcome::Configured,
+        PacketOutcome::Refused(RejectCode::BadRequest),
+        PacketOutcome::Refused(RejectCode::Unreachable),
+        PacketOutcome::Refused(RejectCode::InvalidAmount),
+        PacketOutcome::Refused(RejectCode::WrongCondition),
+        PacketOutcome::Refused(RejectCode::AmountTooLarge),
+        PacketOutcome::Refused(RejectCode::PeerUnreachable),
+        PacketOutcome::Refused(RejectCode::Busy),
+        PacketOutcome::Refused(RejectCode::InsufficientLiquidity),
+        PacketOutcome::Refused(RejectCode::RateLimited),
+        PacketOutcome::Refused(RejectCode::TimedOut),
+        PacketOutcome::Refused(RejectCode::InsufficientSource),
+        PacketOutcome::Refused(RejectCode::InsufficientTimeout),
+    ];
+    put_outcomes(alloc, text, counts, &outcomes)?;
+    let full = counts.packets.full_journals;
+    put_outcome(alloc, text, counts.name, b"journal_full", full)
+}
+
+// What became of the packets of all tenants.
+#[tactic(auto, unfolding(crate::specs::Metrics::all_packets))]
+fn put_all_packets(
+    alloc: Global,
+    text: &mut Vec<u8>,
+    all: &[TenantCounts<'_>],
+) -> Result<(), AllocError>
+    ensures { OnOk result (text.new.items ≡ text.old.items ++ all_packets all.now) }
+{
+    put_head(text, Family::Packets)?;
+    for counts in all {
+        put_packets(alloc, text, counts)?;
+    }
+    Ok(())
+}
+
 // A number of each tenant.
 #[tactic(auto, unfolding(crate::specs::Metrics::each_text))]
 fn put_each(
@@ -425,6 +545,7 @@ fn put_tenants(
     ensures { OnOk result (text.new.items ≡ text.old.items ++ tenants_text all.now) }
 {
     put_all_answers(alloc, text, all)?;
+    put_all_packets(alloc, text, all)?;
     put_each(alloc, text, Family::LinkFaults, all)?;
     put_each(alloc, text, Family::RefusedTokens, all)?;
     put_each(alloc, text, Family::PlacesShare, all)?;

@@ -134,7 +134,7 @@ impl<H: Wait + Disk, C: Clock, J: Run> Operated for Consulted<'_, H, C, J> {
 
     ghost presents = { λ s tenant text. IsHiddenSetup J.openings s.office.now tenant text };
 
-    ghost measures = { λ s tenant text. IsTenantMetrics (is_some s.office.now.filing) tenant (slice_get s.office.now.names.items tenant) text };
+    ghost measures = { λ s tenant text. IsTenantMetrics J.openings (is_some s.office.now.filing) tenant (slice_get s.office.now.names.items tenant) text };
 
     ghost explains = { λ s tenant question text. IsExplained J.openings (C.gives s.clock.now) tenant question text };
 

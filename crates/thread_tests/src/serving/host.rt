@@ -231,6 +231,11 @@ ilpd_answers_total{tenant=\"acme\",status=\"200\"} 1
 ilpd_answers_total{tenant=\"acme\",status=\"4xx\"} 0
 ilpd_answers_total{tenant=\"acme\",status=\"503\"} 0
 ilpd_answers_total{tenant=\"beta\",status=\"200\"} 0
+ilpd_packets_total{tenant=\"acme\",outcome=\"configured\"} 1
+ilpd_packets_total{tenant=\"acme\",outcome=\"fulfilled\"} 0
+ilpd_packets_total{tenant=\"acme\",outcome=\"F08\"} 0
+ilpd_packets_total{tenant=\"acme\",outcome=\"journal_full\"} 0
+ilpd_packets_total{tenant=\"beta\",outcome=\"configured\"} 0
 ilpd_link_faults_total{tenant=\"acme\"} 0
 ilpd_operator_tokens_refused_total{tenant=\"acme\"} 0
 ilpd_operator_tokens_refused_total{tenant=\"beta\"} 1

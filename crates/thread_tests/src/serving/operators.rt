@@ -47,6 +47,7 @@ static ROWS: [Row; 10] = [
         lines: &[
             "ilpd_journal_entries{tenant=\"beta\"} 0",
             "ilpd_answers_total{tenant=\"beta\",status=\"200\"} 0",
+            "ilpd_packets_total{tenant=\"beta\",outcome=\"fulfilled\"} 0",
         ],
         none: &["acme", "ilpd_connections_open"],
     },

@@ -5,7 +5,7 @@ use super::{
     on_two_books,
 };
 use crate::START;
-use books_shared::{Books, GatherFault, Share};
+use books_shared::{Books, GatherFault, PacketOutcome, Share};
 use floor_core::{Got, Slot};
 use ilp_addr::Moment;
 use meters::Meters;
@@ -14,7 +14,7 @@ use std::alloc::Global;
 use std::sync::Wait;
 use std::sync::atomic::{AtomicU64, Ordering};
 use std::test::Fail;
-use tenant_core::Book;
+use tenant_core::{Book, RejectCode};
 use test_texts::frame;
 use workers::{Clock, Gate, Job, Link, Outgoing, Point, Reply, carry};
 
@@ -42,6 +42,8 @@ pub(super) struct Packet {
     entries: u64,
     strangers: u64,
     full_journals: u64,
+    // What the book counts that became of it, and how often.
+    outcome: (PacketOutcome, u64),
     // The balances and the number of acme's book at the end.
     gathered: (i64, i64, u64, u64, u64),
 }
@@ -60,6 +62,7 @@ pub(super) const FULFILLED: Packet = Packet {
     entries: 2,
     strangers: 0,
     full_journals: 0,
+    outcome: (PacketOutcome::Fulfilled, 1),
     gathered: (1_000, -1_500, 0, 0, 2),
 };
 
@@ -67,6 +70,7 @@ const LATE: Packet = Packet {
     title: "fulfilled when its time is over",
     step: 10_000,
     told: "{R00}",
+    outcome: (PacketOutcome::Refused(RejectCode::TimedOut), 1),
     gathered: (0, 0, 0, 0, 2),
     ..FULFILLED
 };
@@ -80,6 +84,7 @@ const UNANSWERED: Packet = Packet {
         faults: 1,
         ..ONE_ANSWERED
     },
+    outcome: (PacketOutcome::Refused(RejectCode::PeerUnreachable), 1),
     gathered: (0, 0, 0, 0, 2),
     ..FULFILLED
 };
@@ -107,6 +112,7 @@ const NO_PREPARE: Packet = Packet {
     },
     sends: 0,
     entries: 0,
+    outcome: (PacketOutcome::Fulfilled, 0),
     gathered: (0, 0, 0, 0, 0),
     ..FULFILLED
 };
@@ -203,7 +209,12 @@ pub(super) fn is_carried<J: Run, R: Wait + AllocGlobal>(
     };
     let is_settled = is_settled(rt, team, &mut link, packet)?;
     let is_sent = link.sends == packet.sends && link.is_right == (packet.sends == 1);
-    Ok(is_settled && is_sent && is_counted(&team.first, packet))
+    Ok(
+        is_settled
+            && is_sent
+            && is_counted(&team.first, packet)
+            && is_known(rt, &team.books, packet),
+    )
 }
 
 // The same, with its bytes and those of the reply to the sender.
@@ -230,6 +241,16 @@ fn is_counted<J: Run>(share: &Share<J>, packet: &Packet) -> bool {
     entries_of(share) == Some(packet.entries)
         && share.strangers(0) == packet.strangers
         && share.full_journals(0) == packet.full_journals
+}
+
+// Whether the book has counted what became of the packet.
+fn is_known<J: Run, R: Wait>(rt: &R, books: &Books<J>, packet: &Packet) -> bool {
+    if books.tenants() == 0 {
+        return false;
+    }
+    let guard = books.enter(rt, 0);
+    let (outcome, times) = packet.outcome;
+    guard.packets().get(outcome) == times && guard.full_journals() == packet.full_journals
 }
 
 // The reply to a job, whether the sender gets what it should, and what the meters have counted, by a clock that goes
