@@ -519,7 +519,7 @@ fn all_within_limits(alloc: Global, matches: &ArgMatches<'_>) -> Result<(), Erro
 /// Reads the words of `ilpd replay SETUP [--workers W] [--statements DIR]`, `ilpd check SETUP [SCRIPT [--workers W]]`,
 /// `ilpd verify [--setup SETUP] [--receipts FILE] FILE..` or
 /// `ilpd serve SETUP --workers W [--connections C] [--rounds N] [--balances] [--audit] [--listen ADDR] [--host ADDR
-/// --host-token FILE] [--statements DIR] [--roll-at PERCENT]`, the program's name first.
+/// --host-token FILE] [--operators ADDR] [--statements DIR] [--roll-at PERCENT]`, the program's name first.
 ///
 /// W is 1 to 64, and 1 for a script by default. C is 1 to 4,096, and 256 by default. N is 1 to 1,000,000. PERCENT is 1 to 100.
 /// The ADDR to listen on is 127.0.0.1:7768 by default. There is a host's door only if both of its words are there.

@@ -58,14 +58,14 @@ impl<J: Run> Office<J> {
             .position(|known| known.as_bytes() == name)
     }
 
-    /// Counts a command for the tenant under a token that is not its operator's.
+    /// Counts a command or a question for the tenant under a token that is not its operator's.
     pub fn refuse_token(&self, tenant: usize) {
         if let Some(count) = self.refused_tokens.get(tenant) {
             count.fetch_add(1, Ordering::SeqCst);
         }
     }
 
-    /// How many such commands came for the tenant.
+    /// How many of them came for the tenant.
     pub fn refused_tokens(&self, tenant: usize) -> u64 {
         match self.refused_tokens.get(tenant) {
             Some(count) => count.load(Ordering::SeqCst),

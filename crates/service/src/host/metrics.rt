@@ -46,7 +46,7 @@ pub struct TenantCounts<'a> {
     pub unavailable: u64,
     /// How often a peer gave no usable answer, or no place was free in time.
     pub link_faults: u64,
-    /// How many commands came under a token that is not the operator's.
+    /// How many commands and questions came under a token that is not the operator's.
     pub refused_tokens: u64,
     pub places: PlaceUse,
     pub packets: PacketFigures,
@@ -99,7 +99,7 @@ pub trait Gauges {
         ensures told { tells self.now tenant kind result }
         ensures same { seat.new ≡ seat.old };
 
-    /// How many commands came for a tenant under a token that is not its operator's.
+    /// How many commands and questions came for a tenant under a token that is not its operator's.
     fn refused_tokens(&self, tenant: usize) -> u64
         ensures { tells_tokens self.now tenant result };
 
@@ -244,7 +244,8 @@ impl Family {
             Family::Packets => b"Packets that the tenant decided, by what became of them.",
             Family::LinkFaults =>
                 b"Packets for which a peer gave no usable answer, or for which no place was free in time.",
-            Family::RefusedTokens => b"Commands under a token that is not the operator's.",
+            Family::RefusedTokens =>
+                b"Commands and questions under a token that is not the operator's.",
             Family::PlacesShare => b"Places of which the tenant is sure.",
             Family::PlacesUsed =>
                 b"Places that the tenant uses: its packets that are with a next peer.",

@@ -148,7 +148,11 @@ impl<H: Wait + Disk, C: Clock, J: Run> Operated for Consulted<'_, H, C, J> {
     }
 
     fn is_operator(&self, tenant: usize, shown: &[u8]) -> bool {
-        self.office.terms[tenant].admin.as_bytes() == shown
+        let is_operator = self.office.terms[tenant].admin.as_bytes() == shown;
+        if !is_operator {
+            self.office.refuse_token(tenant);
+        }
+        is_operator
     }
 
     fn present(&self, tenant: usize) -> Result<Vec<u8>, AllocError> {
