@@ -1,4 +1,11 @@
 pub mod RecordLines
+pub mod WordLaws
+pub mod ReadBack
+pub mod EntryBack
+pub mod WordBytes
+pub mod LinesBack
+pub mod RecordsBack
+pub mod OpeningsBack
 pub mod ZeroSums
 pub mod RecordSums
 pub mod FeeSteps

@@ -1,4 +1,7 @@
 pub mod Statement
+pub mod Reading
+pub mod ReadOpening
+pub mod ReadBack
 pub mod Fees
 pub mod Gone
 pub mod Sums

@@ -38,7 +38,15 @@ use Rattle.tenant_core.specs.declared.verdict.Verdict.TheVariants.{Unknown, NoRo
 abbrev pub word : List ℕ → List ℕ
 word w = 32 ∷ w
 
--- a number in decimal digits
+-- words, each after a space
+abbrev pub spaced : List (List ℕ) → List ℕ
+spaced words = flat_map word words
+
+-- a line: its first word, and the others
+abbrev pub line : List ℕ → List (List ℕ) → List ℕ
+line first others = first ++ spaced others ++ 10 ∷ []
+
+-- a number in decimal digits, after a space
 abbrev pub number : ℕ → List ℕ
 number n = word (decimal n)
 
@@ -55,51 +63,56 @@ prefix_word [] = codes "*"
 prefix_word (b ∷ bytes) = b ∷ bytes
 
 -- the cap, the ceiling and the credit
-unfoldable pub limits_words : PeerLimits → List ℕ
-limits_words l = number l.cap ++ number l.ceiling ++ number l.credit
+unfoldable pub limits_words : PeerLimits → List (List ℕ)
+limits_words l = decimal l.cap ∷ decimal l.ceiling ∷ decimal l.credit ∷ []
 
 -- how many packets at once, and how many a second
-abbrev pub bucket_words : BucketTerms → List ℕ
-bucket_words b = number b.burst ++ number b.per_second
+abbrev pub bucket_words : BucketTerms → List (List ℕ)
+bucket_words b = decimal b.burst ∷ decimal b.per_second ∷ []
 
 -- what is agreed with a peer, as in the command that adds one, without its token and its target
-unfoldable pub terms_words : PeerTerms → List ℕ
+unfoldable pub terms_words : PeerTerms → List (List ℕ)
 terms_words t =
-    word t.name ++ word (role_word t.role) ++ word t.asset ++ number t.scale ++ limits_words t.limits
-    ++ bucket_words t.bucket
+    t.name ∷ role_word t.role ∷ t.asset ∷ decimal t.scale ∷ [] ++ limits_words t.limits ++ bucket_words t.bucket
 
 -- a route: its prefix, the number of its peer, and the fee
-abbrev pub hop_words : List ℕ → ℕ → ℕ → List ℕ
-hop_words prefix peer fee = word (prefix_word prefix) ++ number peer ++ number fee
+abbrev pub hop_words : List ℕ → ℕ → ℕ → List (List ℕ)
+hop_words prefix peer fee = prefix_word prefix ∷ decimal peer ∷ decimal fee ∷ []
 
 -- a rate: the numbers of its two peers, and the fraction
-abbrev pub rate_words : RateTerms → List ℕ
-rate_words r = number r.from ++ number r.to ++ number r.rate.numerator ++ number r.rate.denominator
+abbrev pub rate_words : RateTerms → List (List ℕ)
+rate_words r = decimal r.from ∷ decimal r.to ∷ decimal r.rate.numerator ∷ decimal r.rate.denominator ∷ []
 
 -- the tenant's place, its own terms
+unfoldable pub tenant_words : Opening → List (List ℕ)
+tenant_words o =
+    decimal o.tenant ∷ o.name ∷ o.address ∷ decimal o.journal ∷ decimal o.margin ∷ decimal o.hold ∷ []
+
 unfoldable pub tenant_line : Opening → List ℕ
-tenant_line o =
-    codes "tenant" ++ number o.tenant ++ word o.name ++ word o.address ++ number o.journal ++ number o.margin
-    ++ number o.hold ++ 10 ∷ []
+tenant_line o = line (codes "tenant") (tenant_words o)
 
 -- the number of the period, its clock, the numbers of the next hold and of the next peer
+unfoldable pub period_words : Opening → List (List ℕ)
+period_words o = decimal o.period ∷ decimal o.clock ∷ decimal o.next_hold ∷ decimal o.network.next_peer ∷ []
+
 unfoldable pub period_line : Opening → List ℕ
-period_line o =
-    codes "period" ++ number o.period ++ number o.clock ++ number o.next_hold ++ number o.network.next_peer ++ 10 ∷ []
+period_line o = line (codes "period") (period_words o)
 
 -- a peer under its number, what it owes, and what its bucket holds
+unfoldable pub peer_words : Peer → List (List ℕ)
+peer_words p =
+    decimal p.number ∷ [] ++ terms_words p.terms ++ signed_decimal p.balance ∷ decimal p.bucket.credit ∷ []
+
 unfoldable pub peer_line : Peer → List ℕ
-peer_line p =
-    codes "peer" ++ number p.number ++ terms_words p.terms ++ word (signed_decimal p.balance) ++ number p.bucket.credit
-    ++ 10 ∷ []
+peer_line p = line (codes "peer") (peer_words p)
 
 -- a route on a line of its own
 unfoldable pub route_line : Route → List ℕ
-route_line r = codes "route" ++ hop_words r.prefix r.hop.peer r.hop.fee ++ 10 ∷ []
+route_line r = line (codes "route") (hop_words r.prefix r.hop.peer r.hop.fee)
 
 -- a rate on a line of its own
 unfoldable pub rate_line : RateTerms → List ℕ
-rate_line r = codes "rate" ++ rate_words r ++ 10 ∷ []
+rate_line r = line (codes "rate") (rate_words r)
 
 -- an opening, whose routes are these
 unfoldable pub opening_text : List Route → Opening → List ℕ
@@ -110,74 +123,74 @@ opening_text routes o =
 -- ---- a record
 
 -- the verdict on a packet, or on the answer to it
-unfoldable pub verdict_words : Verdict → List ℕ
-verdict_words Unknown = codes " unknown"
-verdict_words NoRoom = codes " full"
-verdict_words (Refuse code None) = codes " refuse" ++ word (code_of code)
+unfoldable pub verdict_words : Verdict → List (List ℕ)
+verdict_words Unknown = codes "unknown" ∷ []
+verdict_words NoRoom = codes "full" ∷ []
+verdict_words (Refuse code None) = codes "refuse" ∷ code_of code ∷ []
 verdict_words (Refuse code (Some amounts)) =
-    codes " refuse" ++ word (code_of code) ++ number amounts.0 ++ number amounts.1
-verdict_words Fulfil = codes " fulfil"
+    codes "refuse" ∷ code_of code ∷ decimal amounts.0 ∷ decimal amounts.1 ∷ []
+verdict_words Fulfil = codes "fulfil" ∷ []
 verdict_words (Forward hold peer amount expiry) =
-    codes " forward" ++ number hold ++ number peer ++ number amount ++ number expiry
-verdict_words Relay = codes " relay"
+    codes "forward" ∷ decimal hold ∷ decimal peer ∷ decimal amount ∷ decimal expiry ∷ []
+verdict_words Relay = codes "relay" ∷ []
 
 -- what an entry led to
-abbrev pub outcome_words : Outcome → List ℕ
-outcome_words (Packet v) = codes " =" ++ verdict_words v
-outcome_words (Ticked count) = codes " =" ++ number count
+abbrev pub outcome_words : Outcome → List (List ℕ)
+outcome_words (Packet v) = codes "=" ∷ verdict_words v
+outcome_words (Ticked count) = codes "=" ∷ decimal count ∷ []
 outcome_words Done = []
 outcome_words Rolled = []
 
 -- what came back for the hold of that number
-abbrev pub answer_words : ℕ → AnswerKey → List ℕ
-answer_words hold (Fulfilled fulfillment) = codes " fulfill" ++ number hold ++ word (encode_lower fulfillment)
-answer_words hold Rejected = codes " reject" ++ number hold
-answer_words hold Fault = codes " fault" ++ number hold
+abbrev pub answer_words : ℕ → AnswerKey → List (List ℕ)
+answer_words hold (Fulfilled fulfillment) = codes "fulfill" ∷ decimal hold ∷ encode_lower fulfillment ∷ []
+answer_words hold Rejected = codes "reject" ∷ decimal hold ∷ []
+answer_words hold Fault = codes "fault" ∷ decimal hold ∷ []
 
 -- the words of the command that makes a change
-unfoldable pub change_verb : Changed → List ℕ
-change_verb (PeerAdded t) = codes " peer add"
-change_verb (PeerRemoved n) = codes " peer remove"
-change_verb (LimitsSet n limits) = codes " peer limits"
-change_verb (BucketSet n bucket) = codes " peer bucket"
-change_verb (RouteAdded prefix hop) = codes " route add"
-change_verb (RouteRemoved prefix) = codes " route remove"
-change_verb (RateSet r) = codes " rate set"
-change_verb (Settled n In amount) = codes " settle in"
-change_verb (Settled n Out amount) = codes " settle out"
+unfoldable pub change_verb : Changed → List (List ℕ)
+change_verb (PeerAdded t) = codes "peer" ∷ codes "add" ∷ []
+change_verb (PeerRemoved n) = codes "peer" ∷ codes "remove" ∷ []
+change_verb (LimitsSet n limits) = codes "peer" ∷ codes "limits" ∷ []
+change_verb (BucketSet n bucket) = codes "peer" ∷ codes "bucket" ∷ []
+change_verb (RouteAdded prefix hop) = codes "route" ∷ codes "add" ∷ []
+change_verb (RouteRemoved prefix) = codes "route" ∷ codes "remove" ∷ []
+change_verb (RateSet r) = codes "rate" ∷ codes "set" ∷ []
+change_verb (Settled n In amount) = codes "settle" ∷ codes "in" ∷ []
+change_verb (Settled n Out amount) = codes "settle" ∷ codes "out" ∷ []
 
 -- what it changes, peers by their numbers
-abbrev pub change_parts : Changed → List ℕ
+abbrev pub change_parts : Changed → List (List ℕ)
 change_parts (PeerAdded t) = terms_words t
-change_parts (PeerRemoved n) = number n
-change_parts (LimitsSet n limits) = number n ++ limits_words limits
-change_parts (BucketSet n bucket) = number n ++ bucket_words bucket
+change_parts (PeerRemoved n) = decimal n ∷ []
+change_parts (LimitsSet n limits) = decimal n ∷ limits_words limits
+change_parts (BucketSet n bucket) = decimal n ∷ bucket_words bucket
 change_parts (RouteAdded prefix hop) = hop_words prefix hop.peer hop.fee
-change_parts (RouteRemoved prefix) = word (prefix_word prefix)
+change_parts (RouteRemoved prefix) = prefix_word prefix ∷ []
 change_parts (RateSet r) = rate_words r
-change_parts (Settled n side amount) = number n ++ number amount
+change_parts (Settled n side amount) = decimal n ∷ decimal amount ∷ []
 
 -- what an operator changed
-abbrev pub change_words : Changed → List ℕ
+abbrev pub change_words : Changed → List (List ℕ)
 change_words c = change_verb c ++ change_parts c
 
 -- a Prepare: who sent it, its amount, its expiry, its condition and its destination
-unfoldable pub decide_words : DecideEntry → List ℕ
+unfoldable pub decide_words : DecideEntry → List (List ℕ)
 decide_words d =
-    codes " prepare" ++ number d.peer ++ number d.amount ++ number d.expiry ++ word (encode_lower d.condition)
-    ++ word d.destination
+    codes "prepare" ∷ decimal d.peer ∷ decimal d.amount ∷ decimal d.expiry ∷ encode_lower d.condition ∷ d.destination
+    ∷ []
 
 -- what happened
-abbrev pub entry_words : Entry → List ℕ
+abbrev pub entry_words : Entry → List (List ℕ)
 entry_words (Decide d) = decide_words d
 entry_words (Answer a) = answer_words a.hold a.key
-entry_words (Tick t) = codes " tick"
+entry_words (Tick t) = codes "tick" ∷ []
 entry_words (Change c) = change_words c.change
-entry_words (Roll r) = codes " roll"
+entry_words (Roll r) = codes "roll" ∷ []
 
 -- the moment, what happened, and what it led to
 unfoldable pub record_line : Record → List ℕ
-record_line r = decimal (entered_at r.entry) ++ entry_words r.entry ++ outcome_words r.outcome ++ 10 ∷ []
+record_line r = line (decimal (entered_at r.entry)) (entry_words r.entry ++ outcome_words r.outcome)
 
 -- ---- a statement
 

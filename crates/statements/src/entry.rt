@@ -1,5 +1,11 @@
 //! The entry of a record's line. Its outcome is not read, since the checker computes it again.
 
+ghost use Rattle.std.specs.Prelude.{◌≡◌, IfOk};
+ghost use Rattle.common_types.specs.Words.{words_of};
+ghost use Rattle.statements.specs.Reading.{answer_read, change_read, decide_read, entry_read, fulfill_read, happened_read};
+ghost use Rattle.statements.specs.Reading.{peer_change_read, peers_change_read, rate_change_read, route_change_read};
+ghost use Rattle.statements.specs.Reading.{settle_change_read, side_named};
+
 use crate::terms::{bucket_in, hop_in, limits_in, prefix_in, rate_in, terms_in};
 use crate::words::LineWords;
 use common_types::Bytes;
@@ -9,11 +15,14 @@ use tenant_core::{
     TickEntry,
 };
 
+#[tactic(auto, unfolding(crate::specs::Reading::decide_read))]
 fn decide_in(
     alloc: Global,
     words: &mut LineWords<'_>,
     now: u64,
-) -> Result<Option<Entry>, AllocError> {
+) -> Result<Option<Entry>, AllocError>
+    ensures { IfOk result (λ entry. entry ≡ decide_read now words.old) }
+{
     let (Some(peer), Some(amount), Some(expiry)) = (words.peer(), words.number(), words.number())
     else {
         return Ok(None);
@@ -31,23 +40,27 @@ fn decide_in(
     })))
 }
 
-fn fulfill_in(words: &mut LineWords<'_>, now: u64) -> Option<Entry> {
+#[tactic(auto, unfolding(crate::specs::Reading::fulfill_read))]
+fn fulfill_in(words: &mut LineWords<'_>, now: u64) -> Option<Entry>
+    ensures { result ≡ fulfill_read now words.old }
+{
     let hold = words.number()?;
     let key = AnswerKey::Fulfilled(words.hash()?);
     Some(Entry::Answer(AnswerEntry { hold, now, key }))
 }
 
-fn answer_in(words: &mut LineWords<'_>, now: u64, key: AnswerKey) -> Option<Entry> {
+#[tactic(auto, unfolding(crate::specs::Reading::answer_read))]
+fn answer_in(words: &mut LineWords<'_>, now: u64, key: AnswerKey) -> Option<Entry>
+    ensures { result ≡ answer_read key now words.old }
+{
     let hold = words.number()?;
     Some(Entry::Answer(AnswerEntry { hold, now, key }))
 }
 
-// The next peer that is added gets that number.
-fn peer_change_in(words: &mut LineWords<'_>, next_peer: PeerNo) -> Option<Change> {
-    let verb = words.next()?;
-    if verb == b"add".as_slice() {
-        return Some(Change::PeerAdded(terms_in(words, next_peer)?));
-    }
+#[tactic(auto, unfolding(crate::specs::Reading::peer_change_read))]
+fn peer_change_in(words: &mut LineWords<'_>, verb: &[u8]) -> Option<Change>
+    ensures { result ≡ peer_change_read verb.now words.old }
+{
     let peer = words.peer()?;
     if verb == b"remove".as_slice() {
         Some(Change::PeerRemoved(peer))
@@ -60,7 +73,23 @@ fn peer_change_in(words: &mut LineWords<'_>, next_peer: PeerNo) -> Option<Change
     }
 }
 
-fn route_change_in(alloc: Global, words: &mut LineWords<'_>) -> Result<Option<Change>, AllocError> {
+// The next peer that is added gets that number.
+#[tactic(auto, unfolding(crate::specs::Reading::peers_change_read))]
+fn peers_change_in(words: &mut LineWords<'_>, next_peer: PeerNo) -> Option<Change>
+    ensures { result ≡ peers_change_read next_peer words.old }
+{
+    let verb = words.next()?;
+    if verb == b"add".as_slice() {
+        Some(Change::PeerAdded(terms_in(words, next_peer)?))
+    } else {
+        peer_change_in(words, verb)
+    }
+}
+
+#[tactic(auto, unfolding(crate::specs::Reading::route_change_read))]
+fn route_change_in(alloc: Global, words: &mut LineWords<'_>) -> Result<Option<Change>, AllocError>
+    ensures { IfOk result (λ change. change ≡ route_change_read words.old) }
+{
     let (Some(verb), Some(word)) = (words.next(), words.next()) else {
         return Ok(None);
     };
@@ -76,17 +105,29 @@ fn route_change_in(alloc: Global, words: &mut LineWords<'_>) -> Result<Option<Ch
     }
 }
 
-fn rate_change_in(words: &mut LineWords<'_>) -> Option<Change> {
+#[tactic(auto, unfolding(crate::specs::Reading::rate_change_read))]
+fn rate_change_in(words: &mut LineWords<'_>) -> Option<Change>
+    ensures { result ≡ rate_change_read words.old }
+{
     words.next()?;
     Some(Change::RateSet(rate_in(words)?))
 }
 
-fn settle_change_in(words: &mut LineWords<'_>) -> Option<Change> {
-    let side = if words.next()? == b"in".as_slice() {
+fn side_in(verb: &[u8]) -> Side
+    ensures { result ≡ side_named verb.now }
+{
+    if verb == b"in".as_slice() {
         Side::In
     } else {
         Side::Out
-    };
+    }
+}
+
+#[tactic(auto, unfolding(crate::specs::Reading::settle_change_read))]
+fn settle_change_in(words: &mut LineWords<'_>) -> Option<Change>
+    ensures { result ≡ settle_change_read words.old }
+{
+    let side = side_in(words.next()?);
     Some(Change::Settled {
         peer: words.peer()?,
         side,
@@ -94,14 +135,17 @@ fn settle_change_in(words: &mut LineWords<'_>) -> Option<Change> {
     })
 }
 
+#[tactic(auto, unfolding(crate::specs::Reading::change_read))]
 fn change_in(
     alloc: Global,
     verb: &[u8],
     words: &mut LineWords<'_>,
     next_peer: PeerNo,
-) -> Result<Option<Change>, AllocError> {
+) -> Result<Option<Change>, AllocError>
+    ensures { IfOk result (λ change. change ≡ change_read next_peer verb.now words.old) }
+{
     if verb == b"peer".as_slice() {
-        Ok(peer_change_in(words, next_peer))
+        Ok(peers_change_in(words, next_peer))
     } else if verb == b"route".as_slice() {
         route_change_in(alloc, words)
     } else if verb == b"rate".as_slice() {
@@ -113,30 +157,43 @@ fn change_in(
     }
 }
 
-/// The entry of a line, if the next peer that is added gets that number.
-pub fn entry_in(
+// What happened at that moment, after a verb.
+#[tactic(auto, unfolding(crate::specs::Reading::happened_read))]
+fn happened_in(
     alloc: Global,
-    line: &[u8],
+    now: u64,
+    verb: &[u8],
+    words: &mut LineWords<'_>,
     next_peer: PeerNo,
-) -> Result<Option<Entry>, AllocError> {
-    let mut words = LineWords::of(line);
-    let (Some(now), Some(verb)) = (words.number(), words.next()) else {
-        return Ok(None);
-    };
+) -> Result<Option<Entry>, AllocError>
+    ensures { IfOk result (λ entry. entry ≡ happened_read next_peer now verb.now words.old) }
+{
     if verb == b"prepare".as_slice() {
-        decide_in(alloc, &mut words, now)
+        decide_in(alloc, words, now)
     } else if verb == b"fulfill".as_slice() {
-        Ok(fulfill_in(&mut words, now))
+        Ok(fulfill_in(words, now))
     } else if verb == b"reject".as_slice() {
-        Ok(answer_in(&mut words, now, AnswerKey::Rejected))
+        Ok(answer_in(words, now, AnswerKey::Rejected))
     } else if verb == b"fault".as_slice() {
-        Ok(answer_in(&mut words, now, AnswerKey::Fault))
+        Ok(answer_in(words, now, AnswerKey::Fault))
     } else if verb == b"tick".as_slice() {
         Ok(Some(Entry::Tick(TickEntry { now })))
     } else if verb == b"roll".as_slice() {
         Ok(Some(Entry::Roll(RollEntry { now })))
     } else {
-        let change = change_in(alloc, verb, &mut words, next_peer)?;
+        let change = change_in(alloc, verb, words, next_peer)?;
         Ok(change.map(|change| Entry::Change(ChangeEntry { change, now })))
     }
+}
+
+/// The entry of a line, if the next peer that is added gets that number.
+#[tactic(auto, unfolding(crate::specs::Reading::entry_read))]
+pub fn entry_in(alloc: Global, line: &[u8], next_peer: PeerNo) -> Result<Option<Entry>, AllocError>
+    ensures { IfOk result (λ entry. entry ≡ entry_read next_peer (words_of line.now)) }
+{
+    let mut words = LineWords::of(line);
+    let (Some(now), Some(verb)) = (words.number(), words.next()) else {
+        return Ok(None);
+    };
+    happened_in(alloc, now, verb, &mut words, next_peer)
 }

@@ -8,6 +8,7 @@ mod counting;
 mod due;
 mod entry;
 mod known;
+pub mod laws;
 mod line;
 mod opening;
 mod put;

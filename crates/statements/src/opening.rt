@@ -1,13 +1,16 @@
 //! What a period begins with, as it is taken off lines.
 
+ghost use Rattle.std.specs.Prelude.{◌≡◌, IfOk};
+ghost use Rattle.statements.specs.ReadOpening.{amount_spelled, balance_spelled, peer_read, route_read, start_read, tenant_read};
+
 use crate::checked::StatementFault;
 use crate::terms::{hop_in, prefix_in, rate_in, terms_in};
 use crate::words::{LineWords, Lines};
-use common_types::{Name, ReadError};
+use common_types::{Name, ReadError, number_in};
 use ilp_addr::OwnAddress;
-use std::alloc::Global;
-use tenant_core::limits::MAX_MONEY;
-use tenant_core::{Balance, CommandFault, Level, Network, Opening, PeerNo, PeerTerms};
+use route_table::Route;
+use std::alloc::{AllocError, Global};
+use tenant_core::{Balance, CommandFault, Level, Money, Network, Opening, PeerNo, PeerTerms};
 
 type Read<T> = Result<T, ReadError<StatementFault>>;
 
@@ -16,15 +19,22 @@ const MOST_LINES: usize = 256 + 4_096 + 4_096;
 
 const BAD: ReadError<StatementFault> = ReadError::Fault(StatementFault::Opening);
 
+fn amount_in(digits: &[u8]) -> Option<Money>
+    ensures { result ≡ amount_spelled digits.now }
+{
+    number_in(digits).ok()
+}
+
 // A balance: digits, after a `-` where it is below 0.
-fn balance_in(word: &[u8]) -> Option<Balance> {
-    let (digits, is_below) = match word {
-        [b'-', digits @ ..] => (digits, true),
-        digits => (digits, false),
-    };
-    let amount = common_types::number_in::<0, { MAX_MONEY }>(digits).ok()?;
-    let amount = amount.get() as i64;
-    Balance::new(if is_below { -amount } else { amount })
+#[tactic(auto, unfolding(crate::specs::ReadOpening::balance_spelled))]
+fn balance_in(word: &[u8]) -> Option<Balance>
+    ensures { result ≡ balance_spelled word.now }
+{
+    match word {
+        [] => None,
+        [b'-', digits @ ..] => Balance::new(-(amount_in(digits)?.get() as i64)),
+        digits => Balance::new(amount_in(digits)?.get() as i64),
+    }
 }
 
 #[derive(Drop)]
@@ -35,7 +45,10 @@ struct StatedPeer {
     credit: u64,
 }
 
-fn peer_in(words: &mut LineWords<'_>) -> Option<StatedPeer> {
+#[tactic(auto, unfolding(crate::specs::ReadOpening::peer_read))]
+fn peer_in(words: &mut LineWords<'_>) -> Option<StatedPeer>
+    ensures { result ≡ peer_read words.old }
+{
     let number = words.peer()?;
     Some(StatedPeer {
         number,
@@ -67,10 +80,21 @@ fn add_peer(network: &mut Network, clock: u64, words: &mut LineWords<'_>) -> Rea
         .map_err(refused)
 }
 
+#[tactic(auto, unfolding(crate::specs::ReadOpening::route_read))]
+fn route_in(alloc: Global, words: &mut LineWords<'_>) -> Result<Option<Route>, AllocError>
+    ensures { IfOk result (λ route. route ≡ route_read words.old) }
+{
+    let Some(word) = words.next() else {
+        return Ok(None);
+    };
+    match (prefix_in(alloc, word)?, hop_in(words)) {
+        (Some(prefix), Some(hop)) => Ok(Some(Route { prefix, hop })),
+        _ => Ok(None),
+    }
+}
+
 fn add_route(alloc: Global, network: &mut Network, words: &mut LineWords<'_>) -> Read<()> {
-    let word = words.next().ok_or(BAD)?;
-    let prefix = prefix_in(alloc, word)?.ok_or(BAD)?;
-    let hop = hop_in(words).ok_or(BAD)?;
+    let Route { prefix, hop } = route_in(alloc, words)?.ok_or(BAD)?;
     if network.place_numbered(hop.peer).is_none() {
         return Err(BAD);
     }
@@ -129,7 +153,10 @@ struct StatedTenant {
     hold: u64,
 }
 
-fn tenant_in(words: &mut LineWords<'_>) -> Option<StatedTenant> {
+#[tactic(auto, unfolding(crate::specs::ReadOpening::tenant_read))]
+fn tenant_in(words: &mut LineWords<'_>) -> Option<StatedTenant>
+    ensures { result ≡ tenant_read words.old }
+{
     words.next()?;
     Some(StatedTenant {
         tenant: words.number()? as usize,
@@ -150,7 +177,10 @@ struct StatedStart {
     next_peer: PeerNo,
 }
 
-fn start_in(words: &mut LineWords<'_>) -> Option<StatedStart> {
+#[tactic(auto, unfolding(crate::specs::ReadOpening::start_read))]
+fn start_in(words: &mut LineWords<'_>) -> Option<StatedStart>
+    ensures { result ≡ start_read words.old }
+{
     words.next()?;
     Some(StatedStart {
         period: words.number()?,

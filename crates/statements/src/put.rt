@@ -3,7 +3,7 @@
 ghost use Rattle.std.specs.Prelude.{◌≡◌, ◌++◌, OnOk};
 ghost use Rattle.hex.specs.Hex.{encode_lower};
 ghost use Rattle.std.specs.Fmt.{signed_decimal};
-ghost use Rattle.statements.specs.Statement.{word, number, role_word, prefix_word, limits_words, bucket_words, terms_words, hop_words};
+ghost use Rattle.statements.specs.Statement.{word, spaced, number, role_word, prefix_word, limits_words, bucket_words, terms_words, hop_words};
 ghost use Rattle.statements.specs.Statement.{rate_words, verdict_words, outcome_words, answer_words, change_verb, change_parts, change_words};
 
 use ilp_addr::Prefix;
@@ -72,7 +72,7 @@ pub fn put_prefix(out: &mut Vec<u8>, prefix: &Prefix) -> Result<(), AllocError>
 
 #[tactic(auto, unfolding(crate::specs::Statement::limits_words))]
 pub fn put_limits(out: &mut Vec<u8>, limits: &PeerLimits) -> Result<(), AllocError>
-    ensures { OnOk result (out.new.items ≡ out.old.items ++ limits_words limits.now) }
+    ensures { OnOk result (out.new.items ≡ out.old.items ++ spaced (limits_words limits.now)) }
 {
     put_number(out, limits.cap.get())?;
     put_number(out, limits.ceiling.get())?;
@@ -80,7 +80,7 @@ pub fn put_limits(out: &mut Vec<u8>, limits: &PeerLimits) -> Result<(), AllocErr
 }
 
 pub fn put_bucket(out: &mut Vec<u8>, bucket: &BucketTerms) -> Result<(), AllocError>
-    ensures { OnOk result (out.new.items ≡ out.old.items ++ bucket_words bucket.now) }
+    ensures { OnOk result (out.new.items ≡ out.old.items ++ spaced (bucket_words bucket.now)) }
 {
     put_number(out, bucket.burst.get())?;
     put_number(out, bucket.per_second.get())
@@ -88,7 +88,7 @@ pub fn put_bucket(out: &mut Vec<u8>, bucket: &BucketTerms) -> Result<(), AllocEr
 
 #[tactic(auto, unfolding(crate::specs::Statement::terms_words))]
 pub fn put_terms(out: &mut Vec<u8>, terms: &PeerTerms) -> Result<(), AllocError>
-    ensures { OnOk result (out.new.items ≡ out.old.items ++ terms_words terms.now) }
+    ensures { OnOk result (out.new.items ≡ out.old.items ++ spaced (terms_words terms.now)) }
 {
     put_word(out, terms.name.as_bytes())?;
     put_word(out, role_word(terms.role))?;
@@ -99,7 +99,7 @@ pub fn put_terms(out: &mut Vec<u8>, terms: &PeerTerms) -> Result<(), AllocError>
 }
 
 pub fn put_hop(out: &mut Vec<u8>, prefix: &Prefix, hop: &Hop) -> Result<(), AllocError>
-    ensures { OnOk result (out.new.items ≡ out.old.items ++ hop_words prefix.now hop.now.peer hop.now.fee) }
+    ensures { OnOk result (out.new.items ≡ out.old.items ++ spaced (hop_words prefix.now hop.now.peer hop.now.fee)) }
 {
     put_prefix(out, prefix)?;
     put_number(out, hop.peer as u64)?;
@@ -107,7 +107,7 @@ pub fn put_hop(out: &mut Vec<u8>, prefix: &Prefix, hop: &Hop) -> Result<(), Allo
 }
 
 pub fn put_rate(out: &mut Vec<u8>, rate: &RateTerms) -> Result<(), AllocError>
-    ensures { OnOk result (out.new.items ≡ out.old.items ++ rate_words rate.now) }
+    ensures { OnOk result (out.new.items ≡ out.old.items ++ spaced (rate_words rate.now)) }
 {
     put_number(out, rate.from as u64)?;
     put_number(out, rate.to as u64)?;
@@ -117,7 +117,7 @@ pub fn put_rate(out: &mut Vec<u8>, rate: &RateTerms) -> Result<(), AllocError>
 
 #[tactic(auto, unfolding(crate::specs::Statement::verdict_words))]
 fn put_verdict(out: &mut Vec<u8>, verdict: Verdict) -> Result<(), AllocError>
-    ensures { OnOk result (out.new.items ≡ out.old.items ++ verdict_words verdict) }
+    ensures { OnOk result (out.new.items ≡ out.old.items ++ spaced (verdict_words verdict)) }
 {
     match verdict {
         Verdict::Unknown => out.extend_from_slice(b" unknown"),
@@ -156,7 +156,7 @@ fn put_verdict(out: &mut Vec<u8>, verdict: Verdict) -> Result<(), AllocError>
 }
 
 pub fn put_outcome(out: &mut Vec<u8>, outcome: Outcome) -> Result<(), AllocError>
-    ensures { OnOk result (out.new.items ≡ out.old.items ++ outcome_words outcome) }
+    ensures { OnOk result (out.new.items ≡ out.old.items ++ spaced (outcome_words outcome)) }
 {
     match outcome {
         Outcome::Packet(verdict) => {
@@ -172,7 +172,7 @@ pub fn put_outcome(out: &mut Vec<u8>, outcome: Outcome) -> Result<(), AllocError
 }
 
 pub fn put_answer(out: &mut Vec<u8>, hold: u64, key: &AnswerKey) -> Result<(), AllocError>
-    ensures { OnOk result (out.new.items ≡ out.old.items ++ answer_words hold key.now) }
+    ensures { OnOk result (out.new.items ≡ out.old.items ++ spaced (answer_words hold key.now)) }
 {
     match key {
         AnswerKey::Fulfilled(fulfillment) => {
@@ -193,7 +193,7 @@ pub fn put_answer(out: &mut Vec<u8>, hold: u64, key: &AnswerKey) -> Result<(), A
 
 #[tactic(auto, unfolding(crate::specs::Statement::change_verb))]
 fn change_verb(change: &Change) -> &'static [u8]
-    ensures { result.now ≡ change_verb change.now }
+    ensures { result.now ≡ spaced (change_verb change.now) }
 {
     match change {
         Change::PeerAdded(_) => b" peer add",
@@ -212,7 +212,7 @@ fn change_verb(change: &Change) -> &'static [u8]
 }
 
 fn put_change_parts(out: &mut Vec<u8>, change: &Change) -> Result<(), AllocError>
-    ensures { OnOk result (out.new.items ≡ out.old.items ++ change_parts change.now) }
+    ensures { OnOk result (out.new.items ≡ out.old.items ++ spaced (change_parts change.now)) }
 {
     match change {
         Change::PeerAdded(terms) => put_terms(out, terms),
@@ -236,7 +236,7 @@ fn put_change_parts(out: &mut Vec<u8>, change: &Change) -> Result<(), AllocError
 }
 
 pub fn put_change(out: &mut Vec<u8>, change: &Change) -> Result<(), AllocError>
-    ensures { OnOk result (out.new.items ≡ out.old.items ++ change_words change.now) }
+    ensures { OnOk result (out.new.items ≡ out.old.items ++ spaced (change_words change.now)) }
 {
     out.extend_from_slice(change_verb(change))?;
     put_change_parts(out, change)

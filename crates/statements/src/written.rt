@@ -2,7 +2,8 @@
 
 ghost use Rattle.std.specs.Prelude.{◌≡◌, ◌++◌, IfOk, OnOk, Some};
 ghost use Rattle.std.specs.List.{flat_map, slice_get};
-ghost use Rattle.statements.specs.Statement.{decide_words, entry_words, record_line, tenant_line, period_line, peer_line, route_line, rate_line};
+ghost use Rattle.statements.specs.Statement.{spaced, decide_words, entry_words, record_line, tenant_line, period_line, peer_line, route_line, rate_line};
+ghost use Rattle.statements.specs.Statement.{tenant_words, period_words, peer_words};
 ghost use Rattle.statements.specs.Statement.{opening_text, version_line, head_text, ending_text, statement_text, IsHead, IsStatement};
 ghost use Rattle.std.specs.Fmt.{decimal};
 ghost use Rattle.tenant_core.specs.State.{entered_at};
@@ -20,7 +21,7 @@ use tenant_core::{DecideView, EntryView, Opening, Peer, Period, RateTerms, Recor
 
 #[tactic(auto, unfolding(crate::specs::Statement::decide_words))]
 fn put_decide(out: &mut Vec<u8>, decide: &DecideView<'_>) -> Result<(), AllocError>
-    ensures { OnOk result (out.new.items ≡ out.old.items ++ decide_words (decide_of decide.entry.now)) }
+    ensures { OnOk result (out.new.items ≡ out.old.items ++ spaced (decide_words (decide_of decide.entry.now))) }
 {
     out.extend_from_slice(b" prepare")?;
     put_number(out, decide.peer as u64)?;
@@ -31,7 +32,7 @@ fn put_decide(out: &mut Vec<u8>, decide: &DecideView<'_>) -> Result<(), AllocErr
 }
 
 fn put_entry(out: &mut Vec<u8>, entry: &EntryView<'_>) -> Result<(), AllocError>
-    ensures { OnOk result (out.new.items ≡ out.old.items ++ entry_words (entry_of entry.now)) }
+    ensures { OnOk result (out.new.items ≡ out.old.items ++ spaced (entry_words (entry_of entry.now))) }
 {
     match entry {
         EntryView::Decide(decide) => put_decide(out, decide),
@@ -90,18 +91,35 @@ fn put_records(out: &mut Vec<u8>, records: &Records) -> Result<(), AllocError>
     Ok(())
 }
 
-#[tactic(auto, unfolding(crate::specs::Statement::tenant_line))]
-fn put_tenant(out: &mut Vec<u8>, opening: &Opening) -> Result<(), AllocError>
-    ensures { OnOk result (out.new.items ≡ out.old.items ++ tenant_line opening.now) }
+#[tactic(auto, unfolding(crate::specs::Statement::tenant_words))]
+fn put_tenant_words(out: &mut Vec<u8>, opening: &Opening) -> Result<(), AllocError>
+    ensures { OnOk result (out.new.items ≡ out.old.items ++ spaced (tenant_words opening.now)) }
 {
-    out.extend_from_slice(b"tenant")?;
     put_number(out, opening.tenant as u64)?;
     put_word(out, opening.name.as_bytes())?;
     put_word(out, opening.address.as_bytes())?;
     put_number(out, opening.journal)?;
     put_number(out, opening.margin)?;
-    put_number(out, opening.hold)?;
+    put_number(out, opening.hold)
+}
+
+#[tactic(auto, unfolding(crate::specs::Statement::tenant_line))]
+fn put_tenant(out: &mut Vec<u8>, opening: &Opening) -> Result<(), AllocError>
+    ensures { OnOk result (out.new.items ≡ out.old.items ++ tenant_line opening.now) }
+{
+    out.extend_from_slice(b"tenant")?;
+    put_tenant_words(out, opening)?;
     Ok(out.push(b'\n')?)
+}
+
+#[tactic(auto, unfolding(crate::specs::Statement::period_words))]
+fn put_period_words(out: &mut Vec<u8>, opening: &Opening) -> Result<(), AllocError>
+    ensures { OnOk result (out.new.items ≡ out.old.items ++ spaced (period_words opening.now)) }
+{
+    put_number(out, opening.period)?;
+    put_number(out, opening.clock)?;
+    put_number(out, opening.next_hold)?;
+    put_number(out, opening.network.next_peer() as u64)
 }
 
 #[tactic(auto, unfolding(crate::specs::Statement::period_line))]
@@ -109,11 +127,18 @@ fn put_period(out: &mut Vec<u8>, opening: &Opening) -> Result<(), AllocError>
     ensures { OnOk result (out.new.items ≡ out.old.items ++ period_line opening.now) }
 {
     out.extend_from_slice(b"period")?;
-    put_number(out, opening.period)?;
-    put_number(out, opening.clock)?;
-    put_number(out, opening.next_hold)?;
-    put_number(out, opening.network.next_peer() as u64)?;
+    put_period_words(out, opening)?;
     Ok(out.push(b'\n')?)
+}
+
+#[tactic(auto, unfolding(crate::specs::Statement::peer_words))]
+fn put_peer_words(out: &mut Vec<u8>, peer: &Peer) -> Result<(), AllocError>
+    ensures { OnOk result (out.new.items ≡ out.old.items ++ spaced (peer_words peer.now)) }
+{
+    put_number(out, peer.number as u64)?;
+    put_terms(out, &peer.terms)?;
+    put_signed(out, peer.balance.get())?;
+    put_number(out, peer.bucket.credit)
 }
 
 #[tactic(auto, unfolding(crate::specs::Statement::peer_line))]
@@ -121,10 +146,7 @@ fn put_peer(out: &mut Vec<u8>, peer: &Peer) -> Result<(), AllocError>
     ensures { OnOk result (out.new.items ≡ out.old.items ++ peer_line peer.now) }
 {
     out.extend_from_slice(b"peer")?;
-    put_number(out, peer.number as u64)?;
-    put_terms(out, &peer.terms)?;
-    put_signed(out, peer.balance.get())?;
-    put_number(out, peer.bucket.credit)?;
+    put_peer_words(out, peer)?;
     Ok(out.push(b'\n')?)
 }
 
