@@ -1,19 +1,18 @@
 //! What `verify` says of receipts, and of the statements of all tenants that they are audited by.
 
-ghost use Rattle.std.specs.Prelude.{◌≡◌, IfOk, IsErr, OnOk};
+ghost use Rattle.std.specs.Prelude.{IsErr, OnOk};
 ghost use Rattle.ilpd.specs.Auditing.{TellsAudit};
-ghost use Rattle.statements.specs.Statement.{IsStatement};
 
 use crate::ending::Ending;
 use crate::verifying::{
-    begin, begun, fault_words, memory_refused, name_in, put_place, refuse, take, write,
+    begin, begun, good_in, join, memory_refused, name_in, put_place, refuse, write,
 };
 use common_types::ReadError;
 use receipt_text::{ReceiptsFault, TextFault, check_receipts};
 use receipts::AuditFault;
 use replay_text::ReplayFault;
 use service::{audit_told, good_line, word_of};
-use statements::{Chain, ChainFault, check_statement};
+use statements::Chain;
 use std::alloc::{AllocError, Global};
 use std::io::Write;
 use tenant_core::Period;
@@ -24,36 +23,6 @@ use tenant_core::limits::MAX_TENANTS;
 pub struct Statements {
     chains: Vec<Chain>,
     periods: Vec<Period>,
-}
-
-// The period that the text of a file states. If it states none, it says why, and the run ends.
-fn stated<W: Write>(
-    alloc: Global,
-    file: &str,
-    text: &[u8],
-    writer: &mut W,
-) -> Result<Period, Ending>
-    ensures stated { IfOk result (IsStatement text.now) }
-    ensures silent { OnOk result (writer.new ≡ writer.old) }
-{
-    match check_statement(alloc, text) {
-        Ok(period) => Ok(period),
-        Err(ReadError::Memory) => Err(Ending::Fault(ReplayFault::Memory)),
-        Err(ReadError::Fault(fault)) => {
-            let chain = Chain::new(alloc);
-            let fault = ChainFault::Statement(fault);
-            let words = fault_words(alloc, &chain, file, text, fault).map_err(memory_refused)?;
-            Err(refusal(writer, words.as_slice()))
-        }
-    }
-}
-
-// Says what is wrong, and returns how the run ends.
-fn refusal<W: Write>(writer: &mut W, words: &[u8]) -> Ending {
-    match refuse(writer, words) {
-        Ok(()) => Ending::NotGood,
-        Err(ending) => ending,
-    }
 }
 
 impl Statements {
@@ -96,15 +65,15 @@ impl Statements {
         ensures silent { OnOk result (writer.new ≡ writer.old) }
     {
         self.periods.reserve(1).map_err(memory_refused)?;
-        let period = stated(alloc, file, text, writer)?;
-        let Some(chain) = self.chains.get_mut(period.tenant()) else {
+        let good = good_in(alloc, file, text, writer)?;
+        let Some(chain) = self.chains.get_mut(good.period().tenant()) else {
             return Err(Ending::NotGood);
         };
         if let (None, Some(setup)) = (chain.opening_due(), setup) {
             begin(alloc, chain, setup, name_in(text), file, writer)?;
         }
-        take(alloc, chain, file, text, writer)?;
-        self.periods.push_reserved(period);
+        join(alloc, chain, file, &good, writer)?;
+        self.periods.push_reserved(good.into_period());
         Ok(())
     }
 }

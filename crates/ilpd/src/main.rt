@@ -46,7 +46,7 @@ use std::sync::Wait;
 use std::thread::Threads;
 use std::time::Clock;
 use std::{env, fs, io};
-use verifying::{begin, memory_refused, name_in, take, tell};
+use verifying::{begin, good_in, join, memory_refused, name_in, take, tell};
 
 // Says on standard error that there are only so many of something for so many others, and the effect.
 fn complain(
@@ -165,12 +165,12 @@ fn take_first<W: Write>(
     writer: &mut W,
 ) -> Result<(), Ending> {
     let (file, text) = (statement.file, statement.text.as_slice());
-    take(alloc, &mut Chain::new(alloc), file, text, writer)?;
+    let good = good_in(alloc, file, text, writer)?;
     for setup in setups {
         let setup = setup.text.as_slice();
         begin(alloc, chain, setup, name_in(text), file, writer)?;
     }
-    take(alloc, chain, file, text, writer)
+    join(alloc, chain, file, &good, writer)
 }
 
 // Takes a setup for the tenant whose statements came before it.

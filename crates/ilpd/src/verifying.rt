@@ -4,6 +4,7 @@ ghost use Rattle.std.specs.Prelude.{◌≡◌, [], ◌∷◌, ◌++◌, List, Ok
 ghost use Rattle.admin_text.specs.Setup.{setup_of};
 ghost use Rattle.statements.specs.Chain.{IsChain, Link};
 ghost use Rattle.statements.specs.Chain.Link.{Stated};
+ghost use Rattle.statements.specs.Gone.{IsGood};
 ghost use Rattle.ilpd.specs.Verifying.{GoesOnBy, IsSummaryOf, TellsSummary};
 ghost use Rattle.std.specs.Io.KnownBytes.{Appends};
 
@@ -12,7 +13,7 @@ use crate::ending::Ending;
 use admin_text::{Setup, read_setup};
 use common_types::ReadError;
 use replay_text::ReplayFault;
-use statements::{Chain, ChainFault, Long, StatementFault, line_at, line_of, ruled};
+use statements::{Chain, ChainFault, GoodStatement, Long, StatementFault, line_at, line_of, ruled};
 use std::alloc::{AllocError, Global};
 use std::io::Write;
 use tenant_core::TenantSetup;
@@ -105,8 +106,8 @@ fn right_text(
     }
 }
 
-/// What is said of a text that does not go on with a chain.
-pub fn fault_words(
+// What is said of a text that does not go on with a chain.
+fn fault_words(
     alloc: Global,
     chain: &Chain,
     file: &str,
@@ -126,6 +127,69 @@ pub fn fault_words(
     Ok(out)
 }
 
+/// What the text of a file states, if it is good. Otherwise it says why it is not, and the run ends.
+pub fn good_in<'a, W: Write>(
+    alloc: Global,
+    file: &str,
+    text: &'a [u8],
+    writer: &mut W,
+) -> Result<GoodStatement<'a>, Ending>
+    ensures text { IfOk result (λ good. good.text.now ≡ text.now) }
+    ensures good { IfOk result IsGood }
+    ensures silent { OnOk result (writer.new ≡ writer.old) }
+{
+    match GoodStatement::of(alloc, text) {
+        Ok(good) => Ok(good),
+        Err(ReadError::Memory) => Err(Ending::Fault(ReplayFault::Memory)),
+        Err(ReadError::Fault(fault)) => {
+            let chain = Chain::new(alloc);
+            let fault = ChainFault::Statement(fault);
+            Err(refusal(alloc, &chain, file, text, fault, writer))
+        }
+    }
+}
+
+// Says why the text of a file does not go on with a chain, and returns how the run ends.
+fn refusal<W: Write>(
+    alloc: Global,
+    chain: &Chain,
+    file: &str,
+    text: &[u8],
+    fault: ChainFault,
+    writer: &mut W,
+) -> Ending {
+    let told = match fault_words(alloc, chain, file, text, fault) {
+        Ok(words) => refuse(writer, words.as_slice()),
+        Err(error) => Err(memory_refused(error)),
+    };
+    match told {
+        Ok(()) => Ending::NotGood,
+        Err(ending) => ending,
+    }
+}
+
+/// Takes the next statement of a chain, which is in that file. If it does not go on, it says so, with the line as it is
+/// written and as it has to be, and the run ends.
+pub fn join<W: Write>(
+    alloc: Global,
+    chain: &mut Chain,
+    file: &str,
+    good: &GoodStatement<'_>,
+    writer: &mut W,
+) -> Result<(), Ending>
+    requires { IsGood good.now }
+    ensures chain { OnOk result ((links : List Link) → IsChain links chain.old → IsChain (links ++ Stated good.now.text.now ∷ []) chain.new) }
+    ensures silent { OnOk result (writer.new ≡ writer.old) }
+{
+    match chain.join(alloc, good) {
+        Ok(()) => Ok(()),
+        Err(ReadError::Memory) => Err(Ending::Fault(ReplayFault::Memory)),
+        Err(ReadError::Fault(fault)) => {
+            Err(refusal(alloc, chain, file, good.text(), fault, writer))
+        }
+    }
+}
+
 /// Takes the text of a file as the next statement of a chain. If it is not good, or does not go on, it says so, with
 /// the line as it is written and as it has to be, and the run ends.
 pub fn take<W: Write>(
@@ -138,14 +202,8 @@ pub fn take<W: Write>(
     ensures chain { OnOk result ((links : List Link) → IsChain links chain.old → IsChain (links ++ Stated text.now ∷ []) chain.new) }
     ensures silent { OnOk result (writer.new ≡ writer.old) }
 {
-    match chain.add(alloc, text) {
-        Ok(()) => Ok(()),
-        Err(ReadError::Memory) => Err(Ending::Fault(ReplayFault::Memory)),
-        Err(ReadError::Fault(fault)) => {
-            let words = fault_words(alloc, chain, file, text, fault).map_err(memory_refused)?;
-            refuse(writer, words.as_slice())
-        }
-    }
+    let good = good_in(alloc, file, text, writer)?;
+    join(alloc, chain, file, &good, writer)
 }
 
 // The summary of a chain's statements.

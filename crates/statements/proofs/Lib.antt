@@ -7,6 +7,7 @@ pub mod LinesBack
 pub mod RecordsBack
 pub mod OpeningsBack
 pub mod ZeroSums
+pub mod LineFeeds
 pub mod RecordSums
 pub mod FeeSteps
 pub mod SeenSteps

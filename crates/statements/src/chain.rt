@@ -5,17 +5,17 @@ ghost use Rattle.common_types.specs.declared.read_error.ReadError.TheVariants as
 ghost use Rattle.statements.specs.Chain.{Continues, IsApart, IsChain, Link, Opens};
 ghost use Rattle.statements.specs.Chain.Link.{Begun, Stated};
 ghost use Rattle.statements.specs.Due.{opening_due, peers_of, start_at};
-ghost use Rattle.statements.specs.Gone.{IsGone};
+ghost use Rattle.statements.specs.Gone.{IsGood};
 ghost use Rattle.statements.specs.Known.{IsSameSetup};
 ghost use Rattle.statements.specs.Line.{line_anew};
-ghost use Rattle.statements.specs.Statement.{IsStatement};
 ghost use Rattle.statements.specs.Summary.{chain_lines};
 ghost use Rattle.statements.specs.declared.chain.ChainFault.TheVariants as fault;
 ghost use Rattle.tenant_core.specs.PresentSetup.{present_setup};
 ghost use Rattle.tenant_core.specs.State.{opened};
 
-use crate::checked::{Gone, StatementFault, checked, first_difference};
+use crate::checked::{StatementFault, first_difference};
 use crate::due::Due;
+use crate::good::GoodStatement;
 use crate::known::{goes_on, opens_as};
 use crate::line::{Line, lines_anew, lines_of};
 use crate::tally::{Long, Summed};
@@ -66,14 +66,14 @@ pub struct Chain {
     totals: Totals,
 }
 
-// The period of a good text.
-fn gone_of(alloc: Global, text: &[u8]) -> Result<Gone, ReadError<ChainFault>>
-    ensures stated { IfOk result (λ gone. IsStatement text.now gone.period) }
-    ensures gone { IfOk result IsGone }
+// What a good text states.
+fn good_in(alloc: Global, text: &[u8]) -> Result<GoodStatement<'_>, ReadError<ChainFault>>
+    ensures text { IfOk result (λ good. good.text.now ≡ text.now) }
+    ensures good { IfOk result IsGood }
     ensures not { (line : ℕ) → result ≢ Err (read_error.Fault (fault.Apart line)) }
 {
-    match checked(alloc, text) {
-        Ok(gone) => Ok(gone),
+    match GoodStatement::of(alloc, text) {
+        Ok(good) => Ok(good),
         Err(ReadError::Memory) => Err(ReadError::Memory),
         Err(ReadError::Fault(fault)) => Err(ReadError::Fault(ChainFault::Statement(fault))),
     }
@@ -218,24 +218,29 @@ impl Chain {
         Ok((periods, entries))
     }
 
-    /// Takes the next statement of the tenant. It must be good, and begin with what the one before it ended with, or
-    /// as the first period of the setup before it does.
+    /// Takes the next statement of the tenant, as [`GoodStatement::of`] gives it. It must begin with what the one before it ended with, or as the first
+    /// period of the setup before it does.
     ///
     /// So there are closed periods of one tenant, one for each text so far. Each of them is what the rules lead to
     /// from its opening on. Each goes on where the one before it ended, or begins as the setup between them, which has
-    /// what the one before it ended with. If the text is refused, nothing has changed.
-    pub fn add(&mut self, alloc: Global, text: &[u8]) -> Result<(), ReadError<ChainFault>>
-        ensures chain { OnOk result ((links : List Link) → IsChain links self.old → IsChain (links ++ Stated text.now ∷ []) self.new) }
-        ensures apart { (line : ℕ) → result ≡ Err (read_error.Fault (fault.Apart line)) → IsApart text.now self.old.due }
+    /// what the one before it ended with. If the statement is refused, nothing has changed.
+    pub fn join(
+        &mut self,
+        alloc: Global,
+        good: &GoodStatement<'_>,
+    ) -> Result<(), ReadError<ChainFault>>
+        requires { IsGood good.now }
+        ensures chain { OnOk result ((links : List Link) → IsChain links self.old → IsChain (links ++ Stated good.now.text.now ∷ []) self.new) }
+        ensures apart { (line : ℕ) → result ≡ Err (read_error.Fault (fault.Apart line)) → IsApart good.now.text.now self.old.due }
         ensures err { OnErr result (self.new ≡ self.old) }
     {
-        let gone = gone_of(alloc, text)?;
+        let gone = &good.gone;
         laws::period_is_kept(&gone.period);
         if !self.is_followed(&gone.period) {
-            return Err(ReadError::Fault(self.apart(alloc, text)?));
+            return Err(ReadError::Fault(self.apart(alloc, good.text)?));
         }
         let ending = gone.period.ending().copy(alloc)?;
-        match self.totals.with(alloc, &gone) {
+        match self.totals.with(alloc, gone) {
             Ok(totals) => {
                 self.totals = totals;
                 self.due = Due::Ending(ending);
@@ -244,6 +249,16 @@ impl Chain {
             Err(ReadError::Memory) => Err(ReadError::Memory),
             Err(ReadError::Fault(Long)) => Err(ReadError::Fault(ChainFault::Long)),
         }
+    }
+
+    /// Takes a text as the next statement of the tenant, as [`join`](Chain::join) does, if it is good.
+    pub fn add(&mut self, alloc: Global, text: &[u8]) -> Result<(), ReadError<ChainFault>>
+        ensures chain { OnOk result ((links : List Link) → IsChain links self.old → IsChain (links ++ Stated text.now ∷ []) self.new) }
+        ensures apart { (line : ℕ) → result ≡ Err (read_error.Fault (fault.Apart line)) → IsApart text.now self.old.due }
+        ensures err { OnErr result (self.new ≡ self.old) }
+    {
+        let good = good_in(alloc, text)?;
+        self.join(alloc, &good)
     }
 
     /// Takes a setup that the service began with, which has the tenant at that place and starts at that moment. If

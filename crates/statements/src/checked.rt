@@ -9,7 +9,7 @@ ghost use Rattle.tenant_core.specs.Reopening.{is_roll, opening_fault};
 use crate::entry::entry_in;
 use crate::opening::opening_in;
 use crate::words::Lines;
-use crate::written::write_statement;
+use crate::written::written_in_room;
 use common_types::ReadError;
 use ilp_addr::{Address, Moment};
 use std::alloc::Global;
@@ -204,7 +204,7 @@ pub fn checked(alloc: Global, text: &[u8]) -> Checked<Gone>
 {
     let gone = gone_over(alloc, text)?;
     laws::period_is_kept(&gone.period);
-    let written = write_statement(alloc, &gone.period)?;
+    let written = written_in_room(alloc, &gone.period, text.len())?;
     if written.as_slice() == text {
         Ok(gone)
     } else {

@@ -6,6 +6,7 @@ ghost use Rattle.common_types.specs.Words.{words_of};
 ghost use Rattle.statements.specs.Reading.{IsReadOff, hash_read, line_read, text_lines, number_read, peer_number_read, word_read};
 
 use common_types::{Between, first_word, number_in};
+use memchr::memchr;
 use std::marker::Model;
 use tenant_core::PeerNo;
 
@@ -18,7 +19,7 @@ pub struct Lines<'a> {
 fn first_line_feed(text: &[u8]) -> Option<usize>
     ensures { result ≡ position (λ b. b == 10) text.now }
 {
-    text.iter().position(|byte| *byte == b'\n')
+    memchr(b'\n', text)
 }
 
 impl<'a> Lines<'a> {

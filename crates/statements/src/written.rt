@@ -254,13 +254,21 @@ pub fn write_head(alloc: Global, opening: &Opening) -> Result<Vec<u8>, AllocErro
     Ok(out)
 }
 
-/// The text of a closed period. Fails only if it is out of memory.
-pub fn write_statement(alloc: Global, period: &Period) -> Result<Vec<u8>, AllocError>
+/// The text of a closed period, in room for so many bytes, which grows if they are too few. Fails only if it is out of
+/// memory.
+pub fn written_in_room(alloc: Global, period: &Period, room: usize) -> Result<Vec<u8>, AllocError>
     ensures { IfOk result (λ text. IsStatement text.items period.now) }
 {
     let routes = period.opening().network.routes().list(alloc)?;
     let next = period.ending().network.routes().list(alloc)?;
-    let mut out = Vec::new(alloc);
+    let mut out = Vec::with_capacity(alloc, room)?;
     put_statement(&mut out, routes.as_slice(), next.as_slice(), period)?;
     Ok(out)
+}
+
+/// The text of a closed period. Fails only if it is out of memory.
+pub fn write_statement(alloc: Global, period: &Period) -> Result<Vec<u8>, AllocError>
+    ensures { IfOk result (λ text. IsStatement text.items period.now) }
+{
+    written_in_room(alloc, period, 0)
 }
