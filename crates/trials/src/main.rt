@@ -29,18 +29,36 @@ use std::process::ExitCode;
 use std::rt::{Env, Files};
 use std::{env, fs, str};
 
+// A setup and a script, as files have them.
+#[derive(Drop)]
+struct Inputs {
+    setup: Vec<u8>,
+    script: Vec<u8>,
+}
+
+fn read(rt: &(impl Files + AllocGlobal), setup: &str, script: &str) -> Result<Inputs, Fault> {
+    Ok(Inputs {
+        setup: fs::read(rt, setup)?,
+        script: fs::read(rt, script)?,
+    })
+}
+
+impl Inputs {
+    fn script(&self) -> Result<&str, Fault> {
+        str::from_utf8(self.script.as_slice())
+            .ok()
+            .ok_or(Fault::Steps)
+    }
+}
+
 // Runs a script's steps, and says on standard error after which of them an allocation failed.
 fn run_steps(
     rt: &(impl Files + Print + Eprint + AllocGlobal),
     setup: &str,
     script: &str,
 ) -> Result<(), Fault> {
-    let setup = fs::read(rt, setup)?;
-    let script = fs::read(rt, script)?;
-    let Ok(script) = str::from_utf8(script.as_slice()) else {
-        return Err(Fault::Steps);
-    };
-    let told = steps::tell(rt.alloc(), setup.as_slice(), script)?;
+    let inputs = read(rt, setup, script)?;
+    let told = steps::tell(rt.alloc(), inputs.setup.as_slice(), inputs.script()?)?;
     if let Some(done) = told.refused_after {
         eprintln!(rt; "refused after {done}")?;
     }
@@ -98,9 +116,9 @@ fn run_closed(
     setup: &str,
     script: &str,
 ) -> Result<(), Fault> {
-    let setup = fs::read(rt, setup)?;
-    let script = fs::read(rt, script)?;
-    let texts = verified::statements_of(rt.alloc(), setup.as_slice(), script.as_slice())?;
+    let inputs = read(rt, setup, script)?;
+    let (setup, script) = (inputs.setup.as_slice(), inputs.script.as_slice());
+    let texts = verified::statements_of(rt.alloc(), setup, script)?;
     for text in &texts {
         print_lines(rt, text.as_slice())?;
     }
@@ -124,18 +142,14 @@ fn run_again(
     let Ok(times) = times.parse::<u32>() else {
         return Err(Fault::Words);
     };
-    let setup = fs::read(rt, setup)?;
-    let script = fs::read(rt, script)?;
-    let (setup, script) = (setup.as_slice(), script.as_slice());
+    let inputs = read(rt, setup, script)?;
+    let setup = inputs.setup.as_slice();
     if trial == "check" {
-        let records = verified::check_again(rt.alloc(), setup, script, times)?;
+        let records = verified::check_again(rt.alloc(), setup, inputs.script.as_slice(), times)?;
         println!(rt; "{records} records checked")?;
         return Ok(());
     }
-    let Ok(script) = str::from_utf8(script) else {
-        return Err(Fault::Steps);
-    };
-    let bytes = verified::write_again(rt.alloc(), setup, script, times)?;
+    let bytes = verified::write_again(rt.alloc(), setup, inputs.script()?, times)?;
     println!(rt; "{bytes} bytes written")?;
     Ok(())
 }
@@ -146,12 +160,8 @@ fn run_receipts(
     setup: &str,
     script: &str,
 ) -> Result<(), Fault> {
-    let setup = fs::read(rt, setup)?;
-    let script = fs::read(rt, script)?;
-    let Ok(script) = str::from_utf8(script.as_slice()) else {
-        return Err(Fault::Steps);
-    };
-    let closed = steps::periods(rt.alloc(), setup.as_slice(), script)?;
+    let inputs = read(rt, setup, script)?;
+    let closed = steps::periods(rt.alloc(), inputs.setup.as_slice(), inputs.script()?)?;
     let text = audited::receipts_of(rt.alloc(), closed.as_slice())?;
     print_lines(rt, text.as_slice())
 }
