@@ -48,6 +48,10 @@ pub trait Peers {
         ensures len { length out.new ≡ length out.old };
 }
 
+/// The most bytes of a frame that certainly goes out in one write with its head, whatever the target: no later write
+/// waits for its receipt.
+const SHORT: usize = 400;
+
 /// Sockets, by which peers are reached.
 #[derive(Drop)]
 pub struct Sockets<'a, H> {
@@ -100,9 +104,7 @@ fn exchange_time(hold: u64, expiry: u64, now: u64) -> u64
 impl<H: Net<Stream = TcpStream> + Clock> Sockets<'_, H> {
     fn connect_to(&self, ip: IpAddr, port: u16, until: Instant) -> io::Result<TcpStream> {
         let left = until.saturating_duration_since(Instant::now(self.handle)?);
-        let stream = TcpStream::connect_timeout(self.handle, &SocketAddr::new(ip, port), left)?;
-        stream.set_nodelay(true)?;
-        Ok(stream)
+        TcpStream::connect_timeout(self.handle, &SocketAddr::new(ip, port), left)
     }
 }
 
@@ -131,6 +133,9 @@ impl<H: Wait + Net<Stream = TcpStream> + Clock> Peers for Sockets<'_, H> {
         until: Instant,
         out: &mut [u8],
     ) -> Got {
+        if packet.frame.len() > SHORT && connection.set_nodelay(true).is_err() {
+            return Got::Fault;
+        }
         let mut reader = Timed::until(&connection, self.handle, until);
         let mut writer = Timed::until(&connection, self.handle, until);
         match post(&mut reader, &mut writer, packet.target, packet.frame, out) {
