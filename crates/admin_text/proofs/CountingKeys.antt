@@ -2,8 +2,10 @@
 use Rattle.std.proofs.Common.{◌≡◌, Option, Some, None, refl, ap, ◌∙◌}
 use Rattle.toml.specs.Data.{Members}
 use Rattle.tenant_core.specs.Network.{Net}
-use Rattle.admin_text.specs.Keys.{string_under, under, address_under, integer_under, number_under, between_under}
-use Rattle.admin_text.specs.Keys.{integer_or, number_or, array_under, items_under, peer_terms_of, starting_balance}
+use Rattle.admin_text.specs.Keys.{string_under, address_under, integer_under, number_under, between_under}
+use Rattle.admin_text.specs.Under.{under}
+use Rattle.admin_text.specs.Keys.{integer_or, number_or, array_under, items_under}
+use Rattle.admin_text.specs.Under.{peer_terms_of, starting_balance}
 use Rattle.admin_text.specs.KeyLaws.{AgreeAt, KeyLaws}
 use Rattle.admin_text.specs.Networks.{network_in_table, peer_under, fee_of, rate_of, with_peer_of, with_route_of, with_rate_of}
 use Rattle.admin_text.specs.Setup.{setup_by, setup_of_table, version_of}

@@ -23,8 +23,11 @@ use Rattle.tenant_core.specs.declared.limits.TheConstants.{MAX_BURST, MAX_PER_SE
 use Rattle.tenant_core.specs.declared.terms.BucketTerms.{BucketTerms}
 use Rattle.tenant_core.specs.declared.terms.PeerLimits.{PeerLimits}
 use Rattle.admin_text.specs.Prefixes.{written_prefix}
-use Rattle.admin_text.specs.Fields.{Field, WORD, NUMBER, ROLE, PREFIX, TARGET, PAIR, FEE, LIMITS, BUCKET, Said, AllSaid, IsSpelled, SpellFields, role_word, limits_with, bucket_with}
-use Rattle.admin_text.specs.Fields.{argument, number_or_fault, role_in, pair_in, with_others, of_one, of_two, number_taken, field_taken, ended, all_taken}
+use Rattle.admin_text.specs.Fields.{Field, WORD, NUMBER, ROLE, PREFIX, TARGET, PAIR, FEE, LIMITS, BUCKET, Said, AllSaid, IsSpelled, SpellFields, role_word}
+use Rattle.admin_text.specs.Limits.{limits_with}
+use Rattle.admin_text.specs.Bucket.{bucket_with}
+use Rattle.admin_text.specs.Taken.{argument, number_or_fault, with_others, of_one, of_two, number_taken, ended}
+use Rattle.admin_text.specs.Fields.{role_of, role_in, pair_in, field_taken, all_taken}
 use Rattle.admin_text.specs.declared.commands.TextFault.{TextFault}
 use Rattle.admin_text.specs.declared.commands.TextFault.TheVariants.{Argument}
 
@@ -83,7 +86,7 @@ number_is (Err Malformed) n h = absurd cc
 number_is (Err Outside) n h = absurd cc
 
 role_is : (word : List ℕ) (a b : Bool) (role : Role) → bytes_eq word (codes "child") ≡ a → bytes_eq word (codes "peer") ≡ b
-    → cond a (Ok Child) (cond b (Ok Peer) (Err Argument)) ≡ Ok role → word ≡ role_word role
+    → cond a (Some Child) (cond b (Some Peer) None) ≡ Some role → word ≡ role_word role
 role_is word true b Child e f h = (bytes_eq-Decides word (codes "child")).0 e
 role_is word true b Peer e f h = absurd cc
 role_is word false true Child e f h = absurd cc
@@ -149,7 +152,8 @@ field_is laws BUCKET small words r h =
     (x.0 ∙ ap (λ (ws : List (List ℕ)). decimal a.0.0 ∷ ws) y.0, (x.1, y.1))
 field_is laws ROLE small words r h =
     let k = one role_in words r h in
-    let e = role_is k.0 (bytes_eq k.0 (codes "child")) (bytes_eq k.0 (codes "peer")) r.0 refl refl k.2 in
+    let m = given (role_of k.0) r.0 k.2 in
+    let e = role_is k.0 (bytes_eq k.0 (codes "child")) (bytes_eq k.0 (codes "peer")) r.0 refl refl m in
     (k.1 ∙ ap (λ (w : List ℕ). w ∷ r.1) e, tt)
 field_is laws PREFIX small words r h =
     let k = one _ words r h in

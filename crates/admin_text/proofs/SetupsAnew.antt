@@ -21,7 +21,8 @@ use Rattle.tenant_core.specs.declared.faults.CommandFault.{CommandFault}
 use Rattle.tenant_core.specs.declared.peer.Peer.{Peer}
 use Rattle.tenant_core.specs.declared.terms.RateTerms.{RateTerms}
 use Rattle.admin_text.specs.Anew.{peers_from, number_anew, hop_anew, routes_anew, rate_anew, net_anew}
-use Rattle.admin_text.specs.Keys.{string_under, name_under, number_under, items_under, peer_terms_of, starting_balance}
+use Rattle.admin_text.specs.Keys.{string_under, number_under, items_under}
+use Rattle.admin_text.specs.Under.{name_under, peer_terms_of, starting_balance}
 use Rattle.admin_text.specs.Networks.{no_level, unless, peer_under, fee_of, with_peer_in, with_peer_of, with_peers_of, with_route_of, with_route_in, with_routes_of, rate_of, with_rate_of, with_rate_in, with_rates_of, network_in_table}
 use Rattle.admin_text.specs.Prefixes.{written_prefix}
 use Rattle.admin_text.specs.declared.version.Version.{Version}

@@ -1,5 +1,5 @@
 -- Words without a space, one more behind others.
-use Rattle.std.proofs.Common.{◌≡◌, ◌<◌, ◌^◌, ◌∷◌, ◌++◌, [], ℕ, Bool, true, false, not, eqb, List, length, inl, inr, refl, sym, ap, ◌∙◌, subst, append_assoc, arith}
+use Rattle.std.proofs.Common.{◌≡◌, ◌<◌, ◌^◌, ◌∷◌, ◌++◌, [], ℕ, Bool, true, false, not, eqb, List, Result, Ok, Err, OnOk, length, inl, inr, refl, sym, ap, ◌∙◌, subst, append_assoc, arith}
 use Rattle.std.specs.List.{list_all, onto_first}
 use Rattle.std.specs.Fmt.{decimal}
 use Rattle.std.proofs.lemmas.Bool.{and_parts, cases_Bool, eqb-true}
@@ -73,3 +73,15 @@ target_token_spaceless t is = token_spaceless t.token is.is_token
 
 pub number_spaceless : NumeralLaws → (n : ℕ) → n < 2 ^ 64 → is_spaceless (decimal n) ≡ true
 number_spaceless laws n small = of_kind is_digit refl (decimal n) (laws.numeral_has_digits n small)
+
+-- ---- words behind words
+
+-- some words after a text's, and then others
+pub also_after : {some all : List (List ℕ)} (text words others : List (List ℕ)) → some ≡ text ++ words → all ≡ some ++ others → all ≡ text ++ (words ++ others)
+also_after {some} {all} text words others first second =
+    second ∙ ap (λ (ws : List (List ℕ)). ws ++ others) first ∙ append_assoc text words others
+
+-- a fact where nothing failed, and what follows from it
+pub then_ok : {X E : Type 0} (r : Result X E) (P Q : Type 0) → OnOk r P → (P → Q) → OnOk r Q
+then_ok (Ok x) P Q h so = so h
+then_ok (Err e) P Q h so = tt

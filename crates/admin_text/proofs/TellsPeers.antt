@@ -25,7 +25,9 @@ use Rattle.tenant_core.specs.declared.peer.Peer.{Peer}
 use Rattle.tenant_core.specs.declared.terms.PeerTerms.{PeerTerms}
 use Rattle.admin_text.specs.Anew.{peers_from}
 use Rattle.admin_text.specs.Fields.{role_word}
-use Rattle.admin_text.specs.Keys.{string_under, integer_under, number_under, between_under, integer_or, role_of, under, peer_terms_of, starting_balance}
+use Rattle.admin_text.specs.Keys.{string_under, integer_under, number_under, between_under, integer_or}
+use Rattle.admin_text.specs.Fields.{role_of}
+use Rattle.admin_text.specs.Under.{under, peer_terms_of, starting_balance}
 use Rattle.admin_text.specs.Made.{peer_members, number_data}
 use Rattle.admin_text.specs.Networks.{no_level, with_peers_of}
 use Rattle.admin_text.specs.Told.{AllTold, IsKnown, TellsPeer}

@@ -36,7 +36,8 @@ use Rattle.tenant_core.specs.Places.{pair, pair_cmp, ArePairsApart}
 use Rattle.tenant_core.specs.declared.peer.Peer.{Peer}
 use Rattle.tenant_core.specs.declared.terms.RateTerms.{RateTerms}
 use Rattle.admin_text.specs.Anew.{peers_from, number_anew, hop_anew, routes_anew, rate_anew}
-use Rattle.admin_text.specs.Keys.{under, number_or}
+use Rattle.admin_text.specs.Under.{under}
+use Rattle.admin_text.specs.Keys.{number_or}
 use Rattle.admin_text.specs.Made.{route_members, rate_members}
 use Rattle.admin_text.specs.Networks.{peer_under, fee_of, with_route_of, with_routes_of, rate_of, with_rate_of, with_rates_of}
 use Rattle.admin_text.specs.Prefixes.{prefix_word}

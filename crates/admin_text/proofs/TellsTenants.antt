@@ -23,14 +23,15 @@ use Rattle.tenant_core.specs.declared.peer.Peer.{Peer}
 use Rattle.tenant_core.specs.declared.terms.RateTerms.{RateTerms}
 use Rattle.tenant_core.specs.declared.terms.TenantTerms.{TenantTerms}
 use Rattle.admin_text.specs.Anew.{peers_from, routes_anew, net_anew, anew, AreTenants}
-use Rattle.admin_text.specs.Keys.{items_under, array_under, address_under, under, number_or}
+use Rattle.admin_text.specs.Keys.{items_under, array_under, address_under, number_or}
+use Rattle.admin_text.specs.Under.{under}
 use Rattle.admin_text.specs.Made.{peer_members, route_members, rate_members, tenant_members, setup_members, number_data}
 use Rattle.admin_text.specs.Networks.{network_in_table}
 use Rattle.admin_text.specs.Setup.{setup_of, setup_of_table}
 use Rattle.admin_text.specs.TenantTable.{own_terms_of, tenant_of_table}
 use Rattle.admin_text.specs.Tenants.{is_there, next_tenant, tenants_of_items, tenants_of_array}
 use Rattle.admin_text.specs.Told.{AllTold, TellsPeer, TellsRoute, TellsRate, TellsNetwork, TellsTenant}
-use Rattle.admin_text.specs.declared.setup.OwnTerms.{OwnTerms}
+use Rattle.admin_text.specs.declared.fields.tenant.OwnTerms.{OwnTerms}
 use Rattle.admin_text.specs.declared.version.Version.TheVariants.{Two}
 use Rattle.toml.specs.Parse.{parse_document}
 use Rattle.admin_text.proofs.Texts.{setup_of-document}

@@ -2,7 +2,6 @@
 use Rattle.std.specs.Prelude.{◌≡◌, ℕ, Bool, true, false, List, [], ◌∷◌, ◌++◌, ◌&&◌, ◌⊎◌, ◌==◌, not, map, if◌then◌else◌, codes}
 use Rattle.std.specs.Prelude.{Option, Some, None, Result, Ok, Err}
 use Rattle.std.specs.Fmt.{decimal}
-use Rattle.std.specs.List.{AllByRecursion}
 use Rattle.std.specs.Str.{bytes_eq}
 use Rattle.common_types.specs.Names.{is_name, is_asset_code}
 use Rattle.common_types.specs.Numbers.{is_between}
@@ -10,8 +9,6 @@ use Rattle.common_types.specs.Numerals.{number_in}
 use Rattle.common_types.specs.ResultChain.{◌>>=◌}
 use Rattle.common_types.specs.Token.{is_token}
 use Rattle.common_types.specs.Words.{words_of}
-use Rattle.common_types.specs.declared.numerals.NumberFault.{NumberFault}
-use Rattle.common_types.specs.declared.numerals.NumberFault.TheVariants.{Malformed, Outside}
 use Rattle.ildcp_core.specs.declared.child.Role.{Role}
 use Rattle.ildcp_core.specs.declared.child.Role.TheVariants.{Child, Peer}
 use Rattle.ilp_addr.specs.Address.{IsPrefix}
@@ -19,12 +16,14 @@ use Rattle.ilp_addr.specs.Target.{Parts, IsTarget, target_in}
 use Rattle.money_core.specs.declared.purse.TheConstants.{MAX_MONEY}
 use Rattle.money_core.specs.declared.rate.TheConstants.Rate.{MAX_TERM}
 use Rattle.tenant_core.specs.Commands.{Ends}
-use Rattle.tenant_core.specs.declared.limits.TheConstants.{MAX_BURST, MAX_PER_SECOND}
 use Rattle.tenant_core.specs.declared.terms.BucketTerms.{BucketTerms}
 use Rattle.tenant_core.specs.declared.terms.PeerLimits.{PeerLimits}
+use Rattle.admin_text.specs.Bucket.{bucket_numbers, IsBucketWithin, bucket_taken}
+use Rattle.admin_text.specs.Limits.{limit_numbers, AreLimitsWithin, limits_taken}
 use Rattle.admin_text.specs.Prefixes.{written_prefix, prefix_word}
+use Rattle.admin_text.specs.Taken.{argument, number_or_fault, of_one, of_two, of_any, number_taken, ended}
 use Rattle.admin_text.specs.declared.commands.TextFault.{TextFault}
-use Rattle.admin_text.specs.declared.commands.TextFault.TheVariants.{Argument, Range}
+use Rattle.admin_text.specs.declared.commands.TextFault.TheVariants.{Argument}
 
 -- ---- what a field is
 
@@ -79,20 +78,6 @@ abbrev pub role_word : Role → List ℕ
 role_word Child = codes "child"
 role_word Peer = codes "peer"
 
--- the numbers of limits, and the limits of three numbers
-abbrev pub limit_numbers : PeerLimits → List ℕ
-limit_numbers l = l.cap ∷ l.ceiling ∷ l.credit ∷ []
-
-abbrev pub limits_with : (cap ceiling credit : ℕ) → PeerLimits
-limits_with cap ceiling credit = record { cap = cap; ceiling = ceiling; credit = credit }
-
--- the numbers of a bucket, and the bucket of two numbers
-abbrev pub bucket_numbers : BucketTerms → List ℕ
-bucket_numbers b = b.burst ∷ b.per_second ∷ []
-
-abbrev pub bucket_with : (burst per_second : ℕ) → BucketTerms
-bucket_with burst per_second = record { burst = burst; per_second = per_second }
-
 -- the words that are written for it, a prefix without a dot at its end
 abbrev pub field_words : (f : Field) → Said f → List (List ℕ)
 field_words (WORD test) word = word ∷ []
@@ -113,8 +98,8 @@ IsWithinField ROLE r = Unit {0}
 IsWithinField PREFIX p = IsPrefix p
 IsWithinField TARGET t = IsTarget t.url t.token t
 IsWithinField (FEE high) n = is_between 0 high n ≡ true
-IsWithinField LIMITS l = AllByRecursion (λ n. is_between 0 MAX_MONEY n ≡ true) (limit_numbers l)
-IsWithinField BUCKET b = (is_between 1 MAX_BURST b.burst ≡ true) × (is_between 0 MAX_PER_SECOND b.per_second ≡ true)
+IsWithinField LIMITS l = AreLimitsWithin l
+IsWithinField BUCKET b = IsBucketWithin b
 IsWithinField PAIR p = (is_name p.from ≡ true) × (is_name p.to ≡ true) × (bytes_eq p.from p.to ≡ false)
 
 -- words begin with a spelling of it, and the others follow: a prefix has one spelling more, with a dot at its end, and so has a
@@ -160,6 +145,11 @@ SpellFields (f ∷ fields) values words =
 abbrev pub IsPut : (f : Field) → Said f → List ℕ → List ℕ → Type 0
 IsPut f value before after = (words_of after ≡ words_of before ++ field_words f value) × IsWithinField f value
 
+-- so it is with several
+abbrev pub ArePut : (fields : List Field) → AllSaid fields → List ℕ → List ℕ → Type 0
+ArePut fields values before after =
+    (words_of after ≡ words_of before ++ all_words fields values) × AreWithin fields values
+
 -- ---- what is read of words
 
 -- the value of the only field
@@ -167,69 +157,20 @@ abbrev pub only_one : {A : Type 0} → Result A TextFault → Result (A × Unit 
 only_one (Ok value) = Ok (value, tt)
 only_one (Err fault) = Err fault
 
--- a value, or a malformed argument
-abbrev pub argument : {A : Type 0} → Option A → Result A TextFault
-argument (Some value) = Ok value
-argument None = Err Argument
-
--- a number, which is malformed or outside its limits
-abbrev pub number_or_fault : Result ℕ NumberFault → Result ℕ TextFault
-number_or_fault (Ok n) = Ok n
-number_or_fault (Err Malformed) = Err Argument
-number_or_fault (Err Outside) = Err Range
+-- the role that a word names
+abbrev pub role_of : List ℕ → Option Role
+role_of word =
+    if bytes_eq word (codes "child") then Some Child
+    else (if bytes_eq word (codes "peer") then Some Peer else None)
 
 -- a role
 abbrev pub role_in : List ℕ → Result Role TextFault
-role_in word =
-    if bytes_eq word (codes "child") then Ok Child
-    else (if bytes_eq word (codes "peer") then Ok Peer else Err Argument)
+role_in word = argument (role_of word)
 
 -- the names of two different peers
 abbrev pub pair_in : List ℕ → List ℕ → Result Ends TextFault
 pair_in from to =
     if is_name from && is_name to && not (bytes_eq from to) then Ok (record { from = from; to = to }) else Err Argument
-
--- the value that was read, and the words after it
-abbrev pub with_others : {A : Type 0} → List (List ℕ) → Result A TextFault → Result (A × List (List ℕ)) TextFault
-with_others others (Ok value) = Ok (value, others)
-with_others others (Err fault) = Err fault
-
--- what the first word says
-abbrev pub of_one : {A : Type 0} → (List ℕ → Result A TextFault) → List (List ℕ)
-    → Result (A × List (List ℕ)) TextFault
-of_one read [] = Err Argument
-of_one read (word ∷ words) = with_others words (read word)
-
--- what the first two say
-abbrev pub of_two : {A : Type 0} → (List ℕ → List ℕ → Result A TextFault) → List (List ℕ)
-    → Result (A × List (List ℕ)) TextFault
-of_two read (first ∷ second ∷ words) = with_others words (read first second)
-of_two read _ = Err Argument
-
--- what the first word says, or the default if there is none
-abbrev pub of_any : {A : Type 0} → A → (List ℕ → Result A TextFault) → List (List ℕ)
-    → Result (A × List (List ℕ)) TextFault
-of_any default read [] = Ok (default, [])
-of_any default read (word ∷ words) = with_others words (read word)
-
--- the number at the front of words, and the words after it
-unfoldable pub number_taken : (low high : ℕ) → List (List ℕ) → Result (ℕ × List (List ℕ)) TextFault
-number_taken low high words = of_one (λ word. number_or_fault (number_in low high word)) words
-
--- the limits at the front of words
-abbrev pub limits_taken : List (List ℕ) → Result (PeerLimits × List (List ℕ)) TextFault
-limits_taken words = do
-  first ← number_taken 0 MAX_MONEY words
-  second ← number_taken 0 MAX_MONEY first.1
-  third ← number_taken 0 MAX_MONEY second.1
-  Ok (limits_with first.0 second.0 third.0, third.1)
-
--- the bucket at the front of words
-abbrev pub bucket_taken : List (List ℕ) → Result (BucketTerms × List (List ℕ)) TextFault
-bucket_taken words = do
-  first ← number_taken 1 MAX_BURST words
-  second ← number_taken 0 MAX_PER_SECOND first.1
-  Ok (bucket_with first.0 second.0, second.1)
 
 -- the value of a field at the front of words, and the words after it
 unfoldable pub field_taken : (f : Field) → List (List ℕ) → Result (Said f × List (List ℕ)) TextFault
@@ -242,11 +183,6 @@ field_taken PAIR words = of_two pair_in words
 field_taken (FEE high) words = of_any 0 (λ word. number_or_fault (number_in 0 high word)) words
 field_taken LIMITS words = limits_taken words
 field_taken BUCKET words = bucket_taken words
-
--- no word is left
-unfoldable pub ended : List (List ℕ) → Result (Unit {0}) TextFault
-ended [] = Ok tt
-ended (word ∷ words) = Err Argument
 
 -- what all of the words say, or the fault of the first that fails
 abbrev pub all_taken : (fields : List Field) → List (List ℕ) → Result (AllSaid fields) TextFault

@@ -11,8 +11,12 @@ pub mod Shown
 pub mod Notes
 pub mod Wrong
 pub mod Spaces
+pub mod Taken
+pub mod Limits
+pub mod Bucket
 pub mod Fields
 pub mod PeerFields
+pub mod Under
 pub mod Commands
 pub mod Made
 pub mod Anew

@@ -1,5 +1,5 @@
 -- Tables as they are made for a setup: key by key.
-use Rattle.std.specs.Prelude.{◌≡◌, ℕ, pos, List, [], ◌∷◌, ◌++◌, map, codes, fold, zip}
+use Rattle.std.specs.Prelude.{◌≡◌, ℕ, pos, List, [], ◌∷◌, ◌++◌, map, fold, zip}
 use Rattle.std.specs.Ordering.{nat_cmp, match_ordering}
 use Rattle.std.specs.Cmp.Lexicographic.{slice_cmp}
 use Rattle.toml.specs.Data.{Data, string, integer, array, Items, Members, no_members, member}
@@ -7,8 +7,10 @@ use Rattle.money_core.specs.Fraction.{Fraction}
 use Rattle.tenant_core.specs.declared.peer.Peer.{Peer}
 use Rattle.tenant_core.specs.declared.terms.TenantTerms.{TenantTerms}
 use Rattle.admin_text.specs.Fields.{Field, WORD, NUMBER, ROLE, PREFIX, TARGET, PAIR, FEE, LIMITS, BUCKET}
-use Rattle.admin_text.specs.Fields.{Said, AllSaid, role_word, limit_numbers, bucket_numbers, IsWithinField}
-use Rattle.admin_text.specs.PeerFields.{Row, fields_of, peer_rows, peer_values}
+use Rattle.admin_text.specs.Fields.{Said, AllSaid, role_word, IsWithinField}
+use Rattle.admin_text.specs.Limits.{limit_numbers}
+use Rattle.admin_text.specs.Bucket.{bucket_numbers}
+use Rattle.admin_text.specs.PeerFields.{Row, fields_of, peer_rows, peer_values, balance_key}
 use Rattle.admin_text.specs.Prefixes.{prefix_word}
 use Rattle.admin_text.specs.Versions.{top_keys, keys_of}
 use Rattle.admin_text.specs.declared.places.TableKind.TheVariants.{Tenant, Route, Rate}
@@ -63,7 +65,7 @@ IsSet f keys value before after =
 
 -- the table of a peer
 unfoldable pub peer_members : Peer → Members
-peer_members p = made (all_pairs peer_rows (peer_values p.terms) ++ (codes "balance", integer p.balance) ∷ [])
+peer_members p = made (all_pairs peer_rows (peer_values p.terms) ++ (balance_key, integer p.balance) ∷ [])
 
 -- the table of a route to the peer of that name
 unfoldable pub route_members : List ℕ → List ℕ → ℕ → Members

@@ -10,7 +10,8 @@ use Rattle.tenant_core.specs.declared.faults.CommandFault.{CommandFault}
 use Rattle.tenant_core.specs.declared.peer.Level.{Level}
 use Rattle.tenant_core.specs.declared.terms.RateTerms.{RateTerms}
 use Rattle.common_types.specs.OptionChain.{◌>>=◌}
-use Rattle.admin_text.specs.Keys.{string_under, name_under, number_under, number_or, within, items_under, peer_terms_of, starting_balance}
+use Rattle.admin_text.specs.Keys.{string_under, number_under, number_or, within, items_under}
+use Rattle.admin_text.specs.Under.{name_under, peer_terms_of, starting_balance}
 use Rattle.admin_text.specs.Prefixes.{written_prefix}
 use Rattle.admin_text.specs.Versions.{has_fees}
 use Rattle.admin_text.specs.declared.version.Version.{Version}

@@ -1,7 +1,10 @@
 -- What is agreed with a peer, field by field: in the words of a command, and at the keys of a setup's table.
-use Rattle.std.specs.Prelude.{ℕ, List, [], ◌∷◌, map, codes}
+use Rattle.std.specs.Prelude.{ℕ, List, [], ◌∷◌, ◌++◌, map, codes}
+use Rattle.std.specs.List.{flat_map}
 use Rattle.tenant_core.specs.declared.terms.PeerTerms.{PeerTerms}
+use Rattle.admin_text.specs.Bucket.{bucket_keys}
 use Rattle.admin_text.specs.Fields.{Field, NAME, ROLE, TOKEN, TARGET, ASSET, SCALE, LIMITS, BUCKET, AllSaid, ◌&◌}
+use Rattle.admin_text.specs.Limits.{limit_keys}
 
 -- a field, and its keys in a table
 abbrev pub Row : Type 0
@@ -11,15 +14,9 @@ Row = List (List ℕ) × Field
 abbrev pub fields_of : List Row → List Field
 fields_of rows = map (λ row. row.1) rows
 
--- the keys of a target, of limits and of a bucket
+-- the keys of a target
 abbrev pub target_keys : List (List ℕ)
 target_keys = codes "url" ∷ codes "out_token" ∷ []
-
-abbrev pub limit_keys : List (List ℕ)
-limit_keys = codes "cap" ∷ codes "ceiling" ∷ codes "credit" ∷ []
-
-abbrev pub bucket_keys : List (List ℕ)
-bucket_keys = codes "burst" ∷ codes "per_second" ∷ []
 
 -- the fields of a peer
 abbrev pub peer_rows : List Row
@@ -33,6 +30,14 @@ peer_rows =
     ∷ (limit_keys, LIMITS)
     ∷ (bucket_keys, BUCKET)
     ∷ []
+
+-- the key of what it owes
+abbrev pub balance_key : List ℕ
+balance_key = codes "balance"
+
+-- all keys of a peer
+abbrev pub peer_keys : List (List ℕ)
+peer_keys = flat_map (λ row. row.0) peer_rows ++ balance_key ∷ []
 
 -- what is agreed with a peer whose fields say that
 abbrev pub peer_with : AllSaid (fields_of peer_rows) → PeerTerms

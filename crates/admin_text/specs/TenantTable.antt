@@ -5,9 +5,10 @@ use Rattle.tenant_core.specs.Limits.{max_journal, max_margin, max_hold}
 use Rattle.tenant_core.specs.Network.{Net}
 use Rattle.tenant_core.specs.declared.terms.TenantTerms.{TenantTerms}
 use Rattle.common_types.specs.OptionChain.{◌>>=◌}
-use Rattle.admin_text.specs.Keys.{name_under, address_under, token_under, number_or, within}
+use Rattle.admin_text.specs.Under.{name_under, token_under}
+use Rattle.admin_text.specs.Keys.{address_under, number_or, within}
 use Rattle.admin_text.specs.Networks.{network_in_table}
-use Rattle.admin_text.specs.declared.setup.OwnTerms.{OwnTerms}
+use Rattle.admin_text.specs.declared.fields.tenant.OwnTerms.{OwnTerms}
 use Rattle.admin_text.specs.declared.version.Version.{Version}
 
 -- what its own keys say, but for whom it deals with: each within its limits

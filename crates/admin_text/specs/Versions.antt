@@ -1,7 +1,6 @@
 -- Versions of setups: which of their keys count.
-use Rattle.std.specs.Prelude.{ℕ, Bool, true, false, ◌==◌, List, [], ◌∷◌, ◌++◌, codes, Option, Some, None, if◌then◌else◌}
-use Rattle.std.specs.List.{flat_map}
-use Rattle.admin_text.specs.PeerFields.{peer_rows}
+use Rattle.std.specs.Prelude.{ℕ, Bool, true, false, ◌==◌, List, [], ◌∷◌, codes, Option, Some, None, if◌then◌else◌}
+use Rattle.admin_text.specs.PeerFields.{peer_keys}
 use Rattle.admin_text.specs.declared.places.TableKind.{TableKind}
 use Rattle.admin_text.specs.declared.places.TableKind.TheVariants.{Tenant, Peer, Route, Rate}
 use Rattle.admin_text.specs.declared.version.Version.{Version}
@@ -25,7 +24,7 @@ abbrev pub keys_of : Version → TableKind → List (List ℕ)
 keys_of version Tenant =
     codes "name" ∷ codes "address" ∷ codes "admin" ∷ codes "journal" ∷ codes "margin" ∷ codes "hold"
     ∷ codes "peer" ∷ codes "route" ∷ codes "rate" ∷ []
-keys_of version Peer = flat_map (λ row. row.0) peer_rows ++ codes "balance" ∷ []
+keys_of version Peer = peer_keys
 keys_of version Route =
     codes "prefix" ∷ codes "peer" ∷ (if has_fees version then codes "fee" ∷ [] else [])
 keys_of version Rate = codes "from" ∷ codes "to" ∷ codes "num" ∷ codes "den" ∷ []

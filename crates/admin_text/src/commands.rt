@@ -1,23 +1,26 @@
 //! Commands: lines of text by which an operator governs a tenant.
 
-ghost use Rattle.std.specs.Prelude.{◌≡◌, [], ◌∷◌, ◌&&◌, Ok, IsOk, IfOk, IsOkAnd};
+ghost use Rattle.std.specs.Prelude.{◌≡◌, ◌∷◌, ◌&&◌, Ok, IfOk, IsOkAnd};
 ghost use Rattle.std.specs.Str.{bytes_eq};
 ghost use Rattle.common_types.specs.Outcomes.{GivesUnlessMemory, OnMemory};
 ghost use Rattle.common_types.specs.Words.{words_of};
 ghost use Rattle.tenant_core.specs.declared.command.Command as spec;
-ghost use Rattle.admin_text.specs.Fields.{NAME, TOKEN, ASSET, NUMBER, ROLE, PREFIX, TARGET, PAIR, FEE, LIMITS, BUCKET};
-ghost use Rattle.admin_text.specs.Fields.{role_in, only_one, field_taken, all_taken, ended};
 ghost use Rattle.admin_text.specs.Commands.{two_word_verbs, verb_among, verb_taken, command_behind, command_among};
 ghost use Rattle.admin_text.specs.Commands.{command_in, IsCommandText, TakesMemory, BeginsWithPrefix};
 ghost use Rattle.admin_text.specs.declared.commands.Verb.TheVariants as verb;
 
-use crate::prefixes::written_prefix;
-use common_types::{AssetCode, Between, Name, NumberFault, ReadError, Token, Words, number_in};
-use ilp_addr::{Prefix, Target};
+use crate::fields::bucket::next_bucket;
+use crate::fields::limits::next_limits;
+use crate::fields::names::next_name;
+use crate::fields::peer::peer_terms_in;
+use crate::fields::prefix::next_prefix;
+use crate::fields::rate::next_pair;
+use crate::fields::route::last_fee;
+use crate::words::{end, next_number};
+use common_types::{ReadError, Words};
 use money_core::Rate;
 use std::alloc::Global;
-use tenant_core::limits::MAX_MONEY;
-use tenant_core::{BucketTerms, Command, Fee, Order, Pair, PeerLimits, PeerTerms, Role, Side};
+use tenant_core::{Command, Order, Side};
 use thiserror::Error;
 
 /// What is wrong with a command.
@@ -50,158 +53,12 @@ enum Verb {
     SettleOut,
 }
 
-#[tactic(auto, unfolding(crate::specs::Fields::field_taken))]
-fn next_name(words: Words<'_>) -> Result<(Name, Words<'_>), TextFault>
-    ensures { result ≡ field_taken NAME words.entry }
-{
-    let (word, words) = words.split_first().ok_or(TextFault::Argument)?;
-    let name = Name::new(word).ok_or(TextFault::Argument)?;
-    Ok((name, words))
-}
-
-#[tactic(auto, unfolding(crate::specs::Fields::field_taken))]
-fn next_token(words: Words<'_>) -> Result<(Token, Words<'_>), TextFault>
-    ensures { result ≡ field_taken TOKEN words.entry }
-{
-    let (word, words) = words.split_first().ok_or(TextFault::Argument)?;
-    let token = Token::new(word).ok_or(TextFault::Argument)?;
-    Ok((token, words))
-}
-
-#[tactic(auto, unfolding(crate::specs::Fields::field_taken))]
-fn next_asset(words: Words<'_>) -> Result<(AssetCode, Words<'_>), TextFault>
-    ensures { result ≡ field_taken ASSET words.entry }
-{
-    let (word, words) = words.split_first().ok_or(TextFault::Argument)?;
-    let asset = AssetCode::new(word).ok_or(TextFault::Argument)?;
-    Ok((asset, words))
-}
-
-fn role_of(word: &[u8]) -> Result<Role, TextFault>
-    ensures { result ≡ role_in word.now }
-{
-    if word == b"child".as_slice() {
-        Ok(Role::Child)
-    } else if word == b"peer".as_slice() {
-        Ok(Role::Peer)
-    } else {
-        Err(TextFault::Argument)
-    }
-}
-
-#[tactic(auto, unfolding(crate::specs::Fields::field_taken))]
-fn next_role(words: Words<'_>) -> Result<(Role, Words<'_>), TextFault>
-    ensures { result ≡ field_taken ROLE words.entry }
-{
-    let (word, words) = words.split_first().ok_or(TextFault::Argument)?;
-    Ok((role_of(word)?, words))
-}
-
-#[tactic(auto, unfolding(crate::specs::Fields::field_taken))]
-fn next_target(words: Words<'_>) -> Result<(Target, Words<'_>), TextFault>
-    ensures { result ≡ field_taken TARGET words.entry }
-{
-    let (url, words) = words.split_first().ok_or(TextFault::Argument)?;
-    let (token, words) = words.split_first().ok_or(TextFault::Argument)?;
-    let target = Target::new(url, token).ok_or(TextFault::Argument)?;
-    Ok((target, words))
-}
-
-#[tactic(auto, unfolding(crate::specs::Fields::field_taken))]
-fn next_pair(words: Words<'_>) -> Result<(Pair, Words<'_>), TextFault>
-    ensures { result ≡ field_taken PAIR words.entry }
-{
-    let (from, words) = next_name(words)?;
-    let (to, words) = next_name(words)?;
-    let pair = Pair::new(from, to).ok_or(TextFault::Argument)?;
-    Ok((pair, words))
-}
-
-#[tactic(auto, unfolding(crate::specs::Fields::field_taken, crate::specs::Fields::number_taken))]
-fn next_number<const LOW: u64, const HIGH: u64>(
-    words: Words<'_>,
-) -> Result<(Between<LOW, HIGH>, Words<'_>), TextFault>
-    ensures { result ≡ field_taken (NUMBER LOW HIGH) words.entry }
-{
-    let (word, words) = words.split_first().ok_or(TextFault::Argument)?;
-    match number_in(word) {
-        Ok(number) => Ok((number, words)),
-        Err(NumberFault::Malformed) => Err(TextFault::Argument),
-        Err(NumberFault::Outside) => Err(TextFault::Range),
-    }
-}
-
-#[tactic(auto, unfolding(crate::specs::Fields::field_taken))]
-fn next_limits(words: Words<'_>) -> Result<(PeerLimits, Words<'_>), TextFault>
-    ensures { result ≡ field_taken LIMITS words.entry }
-{
-    let (cap, words) = next_number(words)?;
-    let (ceiling, words) = next_number(words)?;
-    let (credit, words) = next_number(words)?;
-    let limits = PeerLimits {
-        cap,
-        ceiling,
-        credit,
-    };
-    Ok((limits, words))
-}
-
-#[tactic(auto, unfolding(crate::specs::Fields::field_taken))]
-fn next_bucket(words: Words<'_>) -> Result<(BucketTerms, Words<'_>), TextFault>
-    ensures { result ≡ field_taken BUCKET words.entry }
-{
-    let (burst, words) = next_number(words)?;
-    let (per_second, words) = next_number(words)?;
-    Ok((BucketTerms { burst, per_second }, words))
-}
-
-#[tactic(auto, unfolding(crate::specs::Fields::field_taken))]
-fn next_prefix(alloc: Global, words: Words<'_>) -> Result<(Prefix, Words<'_>), ReadError<TextFault>>
-    ensures exact { GivesUnlessMemory (λ p. p) result (field_taken PREFIX words.entry) }
-    ensures memory { OnMemory result (IsOk (field_taken PREFIX words.entry)) }
-{
-    let Some((word, words)) = words.split_first() else {
-        return Err(ReadError::Fault(TextFault::Argument));
-    };
-    match written_prefix(alloc, word)? {
-        Some(prefix) => Ok((prefix, words)),
-        None => Err(ReadError::Fault(TextFault::Argument)),
-    }
-}
-
-#[tactic(auto, unfolding(crate::specs::Fields::ended))]
-fn end(words: Words<'_>) -> Result<(), TextFault>
-    ensures { result ≡ ended words.entry }
-{
-    match words.split_first() {
-        None => Ok(()),
-        Some(_) => Err(TextFault::Argument),
-    }
-}
-
 #[tactic(auto, unfolding(crate::specs::Commands::command_behind))]
 fn added_peer(words: Words<'_>) -> Result<Command, TextFault>
     ensures { result ≡ command_behind verb.PeerAdd words.entry }
 {
-    let (name, words) = next_name(words)?;
-    let (role, words) = next_role(words)?;
-    let (token, words) = next_token(words)?;
-    let (target, words) = next_target(words)?;
-    let (asset, words) = next_asset(words)?;
-    let (scale, words) = next_number::<0, 255>(words)?;
-    let (limits, words) = next_limits(words)?;
-    let (bucket, words) = next_bucket(words)?;
-    end(words)?;
-    Ok(Command::Order(Order::AddPeer(PeerTerms {
-        name,
-        role,
-        token,
-        target,
-        asset,
-        scale: scale.get() as u8,
-        limits,
-        bucket,
-    })))
+    let terms = peer_terms_in(words)?;
+    Ok(Command::Order(Order::AddPeer(terms)))
 }
 
 #[tactic(auto, unfolding(crate::specs::Commands::command_behind))]
@@ -293,24 +150,6 @@ fn given<T>(read: Result<T, TextFault>) -> Result<T, ReadError<TextFault>>
     match read {
         Ok(value) => Ok(value),
         Err(fault) => Err(ReadError::Fault(fault)),
-    }
-}
-
-// The fee at the end of the words, 0 if none is left.
-#[tactic(auto, unfolding(crate::specs::Fields::field_taken, crate::specs::Fields::ended))]
-fn last_fee(words: Words<'_>) -> Result<Fee, TextFault>
-    ensures { only_one result ≡ all_taken (FEE MAX_MONEY ∷ []) words.entry }
-{
-    let Some((word, words)) = words.split_first() else {
-        return Ok(Fee::new(0).unwrap());
-    };
-    match number_in(word) {
-        Ok(fee) => {
-            end(words)?;
-            Ok(fee)
-        }
-        Err(NumberFault::Malformed) => Err(TextFault::Argument),
-        Err(NumberFault::Outside) => Err(TextFault::Range),
     }
 }
 
@@ -421,11 +260,12 @@ fn command_among(alloc: Global, words: Words<'_>) -> Result<Command, ReadError<T
 
 /// The command that a text spells.
 ///
-/// A text is words with one space between two: `peer add NAME ROLE TOKEN URL OUTTOKEN ASSET SCALE CAP CEILING CREDIT
-/// BURST PERSECOND`, `peer remove NAME`, `peer limits NAME CAP CEILING CREDIT`, `peer bucket NAME BURST PERSECOND`,
-/// `route add PREFIX PEER [FEE]`, `route remove PREFIX`, `rate set FROM TO NUM DEN`, `settle in NAME AMOUNT`,
-/// `settle out NAME AMOUNT`, `balances` or `roll`. A role is `child` or `peer`, the empty prefix `*`, a fee that is left
-/// out 0, and a number `0` or digits without a zero in front.
+/// A text is words with one space between two: `peer add NAME ROLE TOKEN URL OUTTOKEN ASSET SCALE LIMITS BUCKET`,
+/// `peer remove NAME`, `peer limits NAME LIMITS`, `peer bucket NAME BUCKET`, `route add PREFIX PEER [FEE]`,
+/// `route remove PREFIX`, `rate set FROM TO NUM DEN`, `settle in NAME AMOUNT`, `settle out NAME AMOUNT`, `balances` or
+/// `roll`. A role is `child` or `peer`, the empty prefix `*`, a fee that is left out 0, and a number `0` or digits without
+/// a zero in front. LIMITS and BUCKET are the numbers of [`PeerLimits`](tenant_core::PeerLimits) and of
+/// [`BucketTerms`](tenant_core::BucketTerms), in the order of their fields.
 ///
 /// The first word that fails decides: the first one or two with `Verb`, a number outside its limits with `Range`, any
 /// other and one that is missing or too many with `Argument`. `Memory` comes only for a text that begins with `route add` or

@@ -10,19 +10,16 @@ ghost use Rattle.admin_text.specs.Ignored.{items_of, is_key, table_place, ignore
 ghost use Rattle.admin_text.specs.Ignored.{ignored_in_parts, ignored_in_tenant, ignored_in_tenant_value, ignored_in_tenants, ignored_in_value};
 ghost use Rattle.admin_text.specs.Ignored.{ignored_in_document};
 ghost use Rattle.admin_text.specs.IgnoredKeys.{seen};
-ghost use Rattle.admin_text.specs.Versions.{top_keys, keys_of};
+ghost use Rattle.admin_text.specs.Versions.{keys_of};
 
 use crate::expected::Shown;
-use crate::key_names::{
-    ADDRESS, ADMIN, ASSET, BALANCE, BURST, CAP, CEILING, CREDIT, DEN, FEE, FROM, HOLD, JOURNAL,
-    MARGIN, NAME, NUM, OUT_TOKEN, PEER, PER_SECOND, PREFIX, RATE, ROLE, ROUTE, SCALE, START,
-    TENANT, TO, TOKEN, URL, VERSION,
-};
-use crate::keys::{items_under, version_of};
+use crate::fields::top::version_of;
+use crate::fields::{peer, rate, route, tenant, top};
+use crate::keys::{is_among, items_under};
 use crate::places::{Place, Spot, TableKind, TablePlace};
 use crate::secrets::ShownValue;
 use crate::setup::{document_of, setup_of_table};
-use crate::version::{Version, has_fees};
+use crate::version::Version;
 use common_types::{Items, ReadError};
 use std::alloc::{AllocError, Global};
 use std::fmt;
@@ -38,26 +35,14 @@ pub struct IgnoredKey {
     pub words: String,
 }
 
-fn is_top_key(key: &str) -> bool
-    ensures { result ≡ list_any (λ known. bytes_eq key.now known) top_keys }
-{
-    matches!(key, VERSION | START | TENANT)
-}
-
 fn is_key_of(version: Version, kind: TableKind, key: &str) -> bool
     ensures { result ≡ list_any (λ known. bytes_eq key.now known) (keys_of version kind) }
 {
     match kind {
-        TableKind::Tenant => {
-            let is_own = matches!(key, NAME | ADDRESS | ADMIN | JOURNAL | MARGIN | HOLD);
-            is_own || matches!(key, PEER | ROUTE | RATE)
-        }
-        TableKind::Peer => {
-            let is_named = matches!(key, NAME | ROLE | TOKEN | URL | OUT_TOKEN | ASSET | SCALE);
-            is_named || matches!(key, CAP | CEILING | CREDIT | BURST | PER_SECOND | BALANCE)
-        }
-        TableKind::Route => matches!(key, PREFIX | PEER) || (has_fees(version) && key == FEE),
-        TableKind::Rate => matches!(key, FROM | TO | NUM | DEN),
+        TableKind::Tenant => is_among(key, &tenant::KEYS),
+        TableKind::Peer => peer::is_key(key),
+        TableKind::Route => route::is_key(version, key),
+        TableKind::Rate => is_among(key, &rate::KEYS),
     }
 }
 
@@ -66,7 +51,7 @@ fn is_key(version: Version, place: TablePlace, key: &str) -> bool
     ensures { result ≡ is_key version place key.now }
 {
     match place {
-        TablePlace::Top => is_top_key(key),
+        TablePlace::Top => is_among(key, &top::KEYS),
         TablePlace::Tenant(_) => is_key_of(version, TableKind::Tenant, key),
         TablePlace::Part(_, kind, _) => is_key_of(version, kind, key),
     }
@@ -227,9 +212,9 @@ fn put_tenant(
     ensures { OnOk result (seen found.new.items ≡ seen found.old.items
         ++ ignored_in_tenant version tenant.entry.number (table_view table.now)) }
 {
-    let peers = items_of(table, PEER, TableKind::Peer);
-    let routes = items_of(table, ROUTE, TableKind::Route);
-    let rates = items_of(table, RATE, TableKind::Rate);
+    let peers = items_of(table, tenant::PEER, TableKind::Peer);
+    let routes = items_of(table, tenant::ROUTE, TableKind::Route);
+    let rates = items_of(table, tenant::RATE, TableKind::Rate);
     put_table(alloc, version, Spot::Tenant(tenant), table, found)?;
     put_parts(alloc, version, tenant, TableKind::Peer, peers, found)?;
     put_parts(alloc, version, tenant, TableKind::Route, routes, found)?;
@@ -276,7 +261,7 @@ fn ignored_by(alloc: Global, version: Version, table: &Table) -> Result<Vec<Igno
 {
     let mut found = Vec::new(alloc);
     put_table(alloc, version, Spot::Top, table, &mut found)?;
-    let tenants = items_of(table, TENANT, TableKind::Tenant);
+    let tenants = items_of(table, top::TENANT, TableKind::Tenant);
     put_tenants(alloc, version, tenants, &mut found)?;
     Ok(found)
 }

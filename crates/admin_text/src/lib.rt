@@ -4,19 +4,19 @@
 mod commands;
 mod expected;
 mod explained;
+mod fields;
 mod ignored;
-mod key_names;
 mod keys;
 pub mod laws;
 mod networks;
 mod noted;
 mod places;
-mod prefixes;
 mod secrets;
 mod setup;
 mod setup_text;
 mod tables;
 mod version;
+mod words;
 mod written;
 mod wrong;
 

@@ -1,33 +1,26 @@
 //! Whom a tenant deals with at the start, as its setup says: peers, routes and rates in the order given, each by the rules
 //! of the commands.
 
-ghost use Rattle.std.specs.Prelude.{◌≡◌, ◌==◌, codes, false, option_and_then, IfOk, IfSome, IsSome};
-ghost use Rattle.std.specs.Result.{result_ok};
-ghost use Rattle.money_core.specs.Price.{rate_at};
+ghost use Rattle.std.specs.Prelude.{◌≡◌, IfSome};
 ghost use Rattle.toml.specs.View.{view, items_view, table_view};
-ghost use Rattle.tenant_core.specs.Network.{peer_numbered};
-ghost use Rattle.admin_text.specs.Networks.{with_peer_in, with_peers_of, peer_under, rate_of};
-ghost use Rattle.admin_text.specs.Networks.{fee_of, with_route_in, with_routes_of};
+ghost use Rattle.admin_text.specs.Networks.{with_peer_in, with_peers_of};
+ghost use Rattle.admin_text.specs.Networks.{with_route_in, with_routes_of};
 ghost use Rattle.admin_text.specs.Networks.{with_rate_in, with_rates_of, network_in_table};
 ghost use Rattle.admin_text.specs.Outcomes.{known_value};
-ghost use Rattle.admin_text.specs.Keys.{string_under};
-ghost use Rattle.admin_text.specs.Prefixes.{written_prefix};
 
-use crate::expected::Expected;
-use crate::key_names::{DEN, FEE, FROM, NAME, NUM, PEER, PREFIX, RATE, ROUTE, TO, TOKEN};
-use crate::keys::{
-    balance_of, between_or, items_under, name_under, peer_terms_of, string_under, table_in,
-    text_under, u64_under,
-};
+use crate::fields::names::peer_under;
+use crate::fields::peer::{self, balance_of, peer_terms_of};
+use crate::fields::prefix::prefix_under;
+use crate::fields::rate::rate_of;
+use crate::fields::route::{self, fee_of};
+use crate::fields::tenant;
+use crate::keys::{items_under, string_under, table_in};
 use crate::places::{Place, TableKind};
-use crate::prefixes::written_prefix;
-use crate::version::{Version, has_fees};
+use crate::version::Version;
 use crate::wrong::{Key, TenantWrong, Wrong};
 use common_types::ReadError;
-use ilp_addr::Prefix;
-use money_core::{Rate, RateFault};
 use std::alloc::Global;
-use tenant_core::{CommandFault, Fee, Hop, Level, Network, PeerNo, RateTerms, number_named};
+use tenant_core::{CommandFault, Hop, Level, Network};
 use toml::{Table, Value};
 
 // What a bucket holds before a period begins.
@@ -118,7 +111,8 @@ fn with_peer_in<'a>(
         Ok(()) => Ok(network),
         Err(CommandFault::Memory) => Err(ReadError::Memory),
         Err(fault) => {
-            let wrong = refused(fault, before, table, TableKind::Peer, &[NAME, TOKEN]);
+            let keys = [peer::NAME, peer::TOKEN];
+            let wrong = refused(fault, before, table, TableKind::Peer, &keys);
             Err(ReadError::Fault(wrong))
         }
     }
@@ -136,41 +130,6 @@ fn with_peers_of(network: Network, values: &[Value]) -> Result<Network, ReadErro
     Ok(network)
 }
 
-#[tactic(auto, unfolding(crate::specs::Networks::peer_under))]
-fn peer_under<'a>(network: &Network, table: &'a Table, key: &'a str) -> Result<PeerNo, Wrong<'a>>
-    ensures exact { result_ok result ≡ peer_under network.now key.now (table_view table.now) }
-    ensures present { IfOk result (λ n. IsSome (peer_numbered n network.now.peers)) }
-{
-    let name = name_under(table, key, Expected::PeerName)?;
-    match number_named(network, &name) {
-        Some(number) => Ok(number),
-        None => Err(Wrong::NoPeer(Key::of(table, key))),
-    }
-}
-
-fn prefix_of(alloc: Global, table: &Table) -> Result<Prefix, ReadError<Wrong<'_>>>
-    ensures { IfSome (known_value result) (λ prefix. prefix ≡
-        option_and_then written_prefix (string_under (codes "prefix") (table_view table.now))) }
-{
-    let text = text_under(table, PREFIX, Expected::Prefix)?;
-    match written_prefix(alloc, text.as_bytes())? {
-        Some(prefix) => Ok(prefix),
-        None => Err(ReadError::Fault(Wrong::at(table, PREFIX, Expected::Prefix))),
-    }
-}
-
-// The fee of a route's table, 0 if nothing is said or the key doesn't count.
-#[tactic(auto, unfolding(crate::specs::Networks::fee_of))]
-fn fee_of(version: Version, table: &Table) -> Result<Fee, Wrong<'_>>
-    ensures { result_ok result ≡ fee_of version (table_view table.now) }
-{
-    if has_fees(version) {
-        between_or(0, table, FEE)
-    } else {
-        Ok(Fee::new(0).unwrap())
-    }
-}
-
 #[tactic(auto, unfolding(crate::specs::Networks::with_route_of))]
 fn with_route_in<'a>(
     alloc: Global,
@@ -182,14 +141,14 @@ fn with_route_in<'a>(
     ensures { IfSome (known_value result) (λ more. more ≡ with_route_in version network (view value.now)) }
 {
     let table = table_in(value, TableKind::Route)?;
-    let prefix = prefix_of(alloc, table)?;
-    let peer = peer_under(&network, table, PEER)?;
+    let prefix = prefix_under(alloc, table, route::PREFIX)?;
+    let peer = peer_under(&network, table, route::PEER)?;
     let fee = fee_of(version, table)?;
     match network.add_route(prefix, Hop { peer, fee }) {
         Ok(()) => Ok(network),
         Err(CommandFault::Memory) => Err(ReadError::Memory),
         Err(fault) => {
-            let wrong = refused(fault, before, table, TableKind::Route, &[PREFIX]);
+            let wrong = refused(fault, before, table, TableKind::Route, &[route::PREFIX]);
             Err(ReadError::Fault(wrong))
         }
     }
@@ -210,43 +169,6 @@ fn with_routes_of(
         network = at_part(more, TableKind::Route, at, value)?;
     }
     Ok(network)
-}
-
-// A term of a rate.
-const TERM: Expected = Expected::Whole(1, Rate::MAX_TERM);
-
-// The rate of a table's two numbers.
-fn rate_between(table: &Table, num: u64, den: u64) -> Result<Rate, Wrong<'_>>
-    ensures { result_ok result ≡ result_ok (rate_at num den) }
-{
-    let first_wrong = if (1..=Rate::MAX_TERM).contains(&num) {
-        DEN
-    } else {
-        NUM
-    };
-    match Rate::new(num, den) {
-        Ok(rate) => Ok(rate),
-        Err(RateFault::Zero | RateFault::Limit) => Err(Wrong::at(table, first_wrong, TERM)),
-    }
-}
-
-#[tactic(auto, unfolding(crate::specs::Networks::rate_of))]
-fn rate_of<'a>(network: &Network, table: &'a Table) -> Result<RateTerms, Wrong<'a>>
-    ensures exact { result_ok result ≡ rate_of network.now (table_view table.now) }
-    ensures from { IfOk result (λ r. IsSome (peer_numbered r.from network.now.peers)) }
-    ensures to { IfOk result (λ r. IsSome (peer_numbered r.to network.now.peers)) }
-    ensures apart { IfOk result (λ r. (r.from == r.to) ≡ false) }
-{
-    let from = peer_under(network, table, FROM)?;
-    let to = peer_under(network, table, TO)?;
-    let num = u64_under(table, NUM, TERM)?;
-    let den = u64_under(table, DEN, TERM)?;
-    let rate = rate_between(table, num, den)?;
-    if from == to {
-        Err(Wrong::SamePeer(Key::of(table, TO)))
-    } else {
-        Ok(RateTerms { from, to, rate })
-    }
 }
 
 #[tactic(auto, unfolding(crate::specs::Networks::with_rate_of))]
@@ -283,9 +205,9 @@ pub(crate) fn network_of(
 ) -> Result<Network, ReadError<TenantWrong<'_>>>
     ensures { IfSome (known_value result) (λ network. network ≡ network_in_table version (table_view table.now)) }
 {
-    let peers = items_under(table, PEER, TableKind::Peer)?;
-    let routes = items_under(table, ROUTE, TableKind::Route)?;
-    let rates = items_under(table, RATE, TableKind::Rate)?;
+    let peers = items_under(table, tenant::PEER, TableKind::Peer)?;
+    let routes = items_under(table, tenant::ROUTE, TableKind::Route)?;
+    let rates = items_under(table, tenant::RATE, TableKind::Rate)?;
     let network = with_peers_of(Network::new(alloc), peers)?;
     let network = with_routes_of(alloc, version, network, routes)?;
     with_rates_of(network, rates)

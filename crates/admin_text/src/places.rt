@@ -5,7 +5,7 @@ ghost use Rattle.std.specs.Prelude.{◌≡◌};
 ghost use Rattle.admin_text.specs.Ignored.{table_place};
 
 use crate::expected::Shown;
-use crate::key_names::{FROM, NAME, PREFIX, TO};
+use crate::fields::{peer, rate, route, tenant};
 use crate::keys::string_under;
 use std::fmt;
 use toml::{Table, Value};
@@ -43,12 +43,13 @@ impl TableKind {
     // Writes the names that one gives itself.
     fn write_names<W: fmt::Write>(self, f: &mut fmt::Formatter<W>, table: &Table) -> fmt::Result {
         match self {
-            TableKind::Tenant | TableKind::Peer => write_word(f, table, NAME),
-            TableKind::Route => write_word(f, table, PREFIX),
+            TableKind::Tenant => write_word(f, table, tenant::NAME),
+            TableKind::Peer => write_word(f, table, peer::NAME),
+            TableKind::Route => write_word(f, table, route::PREFIX),
             TableKind::Rate => {
-                write_word(f, table, FROM)?;
+                write_word(f, table, rate::FROM)?;
                 f.write_str(" to")?;
-                write_word(f, table, TO)
+                write_word(f, table, rate::TO)
             }
         }
     }

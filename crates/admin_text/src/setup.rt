@@ -1,7 +1,6 @@
 //! Setups: what a TOML document says of the tenants.
 
 ghost use Rattle.std.specs.Prelude.{◌≡◌, ◌≢◌, ◌∷◌, ◌++◌, [], Some, None, Err, MatchResult, codes, option_and_then, IfSome};
-ghost use Rattle.std.specs.Result.{result_ok};
 ghost use Rattle.std.specs.Str.{bytes_eq};
 ghost use Rattle.toml.specs.Data.{as_table};
 ghost use Rattle.toml.specs.View.{view, items_view, table_view};
@@ -10,25 +9,24 @@ ghost use Rattle.common_types.specs.Outcomes.{GivesUnlessMemory};
 ghost use Rattle.admin_text.specs.Ignored.{document_in};
 ghost use Rattle.admin_text.specs.Keys.{array_under};
 ghost use Rattle.admin_text.specs.Outcomes.{known_value};
-ghost use Rattle.admin_text.specs.TenantTable.{own_terms_of, terms_with, tenant_of_table};
+ghost use Rattle.admin_text.specs.TenantTable.{tenant_of_table};
 ghost use Rattle.admin_text.specs.Tenants.{is_there, unless_there, some_tenants, next_tenant, with_one_more, tenants_of_items, tenants_of_array};
 ghost use Rattle.admin_text.specs.Setup.{setup_of_table, setup_of};
 ghost use Rattle.admin_text.specs.Wrong.{fault_alone};
 
 use crate::expected::Expected;
-use crate::key_names::{ADDRESS, ADMIN, HOLD, JOURNAL, MARGIN, NAME, TENANT};
-use crate::keys::{
-    address_under, array_under, between_or, name_under, start_of, table_in, token_under, version_of,
-};
+use crate::fields::tenant::{NAME, own_terms_of};
+use crate::fields::top::{TENANT, start_of, version_of};
+use crate::keys::{array_under, table_in};
 use crate::networks::network_of;
 use crate::places::{Place, TableKind};
 use crate::version::Version;
 use crate::wrong::{Key, SetupWrong, TenantWrong, Wrong};
-use common_types::{Between, Items, Name, ReadError, Token};
-use ilp_addr::{Moment, OwnAddress};
+use common_types::{Items, Name, ReadError};
+use ilp_addr::Moment;
 use std::alloc::{AllocError, Global};
-use tenant_core::limits::{MAX_HOLD, MAX_JOURNAL, MAX_MARGIN, MAX_TENANTS};
-use tenant_core::{Network, TenantSetup, TenantTerms};
+use tenant_core::TenantSetup;
+use tenant_core::limits::MAX_TENANTS;
 use thiserror::Error;
 use toml::{Table, Value};
 
@@ -69,48 +67,6 @@ impl Setup {
             names.push_reserved(tenant.terms().name.copy());
         }
         Ok(names)
-    }
-}
-
-// What the keys of a tenant's table say, except for its peers, routes and rates.
-#[derive(Drop)]
-struct OwnTerms {
-    name: Name,
-    address: OwnAddress,
-    admin: Token,
-    journal: Between<2, { MAX_JOURNAL }>,
-    margin: Between<0, { MAX_MARGIN }>,
-    hold: Between<1, { MAX_HOLD }>,
-}
-
-fn own_terms_of(table: &Table) -> Result<OwnTerms, Wrong<'_>>
-    ensures { result_ok result ≡ own_terms_of (table_view table.now) }
-{
-    Ok(OwnTerms {
-        name: name_under(table, NAME, Expected::Name)?,
-        address: address_under(table, ADDRESS)?,
-        admin: token_under(table, ADMIN)?,
-        journal: between_or(1024, table, JOURNAL)?,
-        margin: between_or(1000, table, MARGIN)?,
-        hold: between_or(30_000, table, HOLD)?,
-    })
-}
-
-impl OwnTerms {
-    // The setup of the tenant that deals with these.
-    fn with(self, network: Network) -> TenantSetup
-        ensures { result ≡ terms_with self network }
-    {
-        let terms = TenantTerms {
-            name: self.name,
-            address: self.address,
-            admin: self.admin,
-            journal: self.journal.get(),
-            margin: self.margin.get(),
-            hold: self.hold.get(),
-            network,
-        };
-        TenantSetup::new(terms).unwrap()
     }
 }
 
@@ -272,8 +228,9 @@ pub(crate) fn document_of(alloc: Global, text: &[u8]) -> Result<Table, ReadError
 ///   of 1 to 64 tables.
 /// - A tenant: `name`, `address` and `admin`; `journal` (default 1024), `margin` (default 1000) and `hold`
 ///   (default 30000); arrays of tables `peer`, `route` and `rate`, each empty by default.
-/// - A peer: `name`, `role` (`child` or `peer`), `token`, `url`, `out_token`, `asset`, `scale`, `cap`,
-///   `ceiling`, `credit`, `burst`, `per_second`, and `balance` (default 0).
+/// - A peer: `name`, `role` (`child` or `peer`), `token`, `url`, `out_token`, `asset`, `scale`, the fields of
+///   [`PeerLimits`](tenant_core::PeerLimits) and of [`BucketTerms`](tenant_core::BucketTerms), each by its name, and
+///   `balance` (default 0).
 /// - A route: `prefix`, whose dot at the end is dropped and which is `*` for the empty one, and `peer`, a
 ///   peer's name. In version 2 also `fee`, from 0 to 2^62 (default 0). No two have the same prefix.
 /// - A rate: `from` and `to`, peers' names, `num` and `den`. Of two for the same ordered pair the later counts.

@@ -17,7 +17,7 @@ pub(crate) fn no_keys(alloc: Global) -> Table
 }
 
 // Another value at a key.
-fn put(alloc: Global, table: &mut Table, key: &str, value: Value) -> Result<(), AllocError>
+fn set(alloc: Global, table: &mut Table, key: &str, value: Value) -> Result<(), AllocError>
     ensures { OnOk result (table_view table.new ≡ with_member key.now (view value) (table_view table.old)) }
 {
     let key = String::from_str(alloc, key)?;
@@ -38,7 +38,7 @@ fn string_of(alloc: Global, bytes: &[u8]) -> Result<Value, AllocError>
 }
 
 /// The text of these bytes, which are UTF-8, at a key.
-pub(crate) fn put_text(
+pub(crate) fn set_text(
     alloc: Global,
     table: &mut Table,
     key: &str,
@@ -47,7 +47,7 @@ pub(crate) fn put_text(
     ensures { OnOk result (table_view table.new ≡ with_member key.now (string bytes.now) (table_view table.old)) }
 {
     let value = string_of(alloc, bytes)?;
-    put(alloc, table, key, value)
+    set(alloc, table, key, value)
 }
 
 fn integer_of(owed: i64) -> Value
@@ -57,7 +57,7 @@ fn integer_of(owed: i64) -> Value
 }
 
 /// The integer at a key.
-pub(crate) fn put_integer(
+pub(crate) fn set_integer(
     alloc: Global,
     table: &mut Table,
     key: &str,
@@ -65,11 +65,11 @@ pub(crate) fn put_integer(
 ) -> Result<(), AllocError>
     ensures { OnOk result (table_view table.new ≡ with_member key.now (integer value) (table_view table.old)) }
 {
-    put(alloc, table, key, integer_of(value))
+    set(alloc, table, key, integer_of(value))
 }
 
 /// The number, which is below 2^63, at a key.
-pub(crate) fn put_number(
+pub(crate) fn set_number(
     alloc: Global,
     table: &mut Table,
     key: &str,
@@ -78,7 +78,7 @@ pub(crate) fn put_number(
     ensures { OnOk result (table_view table.new ≡ with_member key.now (number_data value) (table_view table.old)) }
 {
     match i64::try_from(value) {
-        Ok(integer) => put_integer(alloc, table, key, integer),
+        Ok(integer) => set_integer(alloc, table, key, integer),
         Err(_) => Err(AllocError),
     }
 }
@@ -90,7 +90,7 @@ fn tables_of(tables: Vec<Value>) -> Value
 }
 
 /// The tables at a key.
-pub(crate) fn put_tables(
+pub(crate) fn set_tables(
     alloc: Global,
     table: &mut Table,
     key: &str,
@@ -99,5 +99,5 @@ pub(crate) fn put_tables(
     ensures { OnOk result
         (table_view table.new ≡ with_member key.now (array (items_view tables.items)) (table_view table.old)) }
 {
-    put(alloc, table, key, tables_of(tables))
+    set(alloc, table, key, tables_of(tables))
 }

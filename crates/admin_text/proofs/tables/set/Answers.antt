@@ -2,7 +2,7 @@ use Rattle.std.proofs.Common.{◌∙◌, ap}
 use Rattle.toml.specs.View.{view, table_view, members_view}
 use Rattle.admin_text.specs.Made.{with_member}
 use Rattle.admin_text.proofs.MadeTables.{inserted}
-use Rattle.admin_text.proofs.tables.put.Goals as goal
+use Rattle.admin_text.proofs.tables.set.Goals as goal
 
 pub returns-in-Ok : goal.returns-in-Ok
 returns-in-Ok c =

@@ -1,7 +1,7 @@
 use Rattle.std.proofs.Common.{rules, ◌≡◌}
 use Rattle.std.specs.Fmt.{decimal}
 use Rattle.admin_text.proofs.Spaces.{number_spaceless}
-use Rattle.admin_text.proofs.written.put_number.Goals as goal
+use Rattle.admin_text.proofs.words.put_number.Goals as goal
 
 pub put_word-requires : goal.put_word-requires
 put_word-requires c =

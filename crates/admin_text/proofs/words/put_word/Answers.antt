@@ -1,5 +1,5 @@
 use Rattle.admin_text.proofs.Spaces.{one_more}
-use Rattle.admin_text.proofs.written.put_word.Goals as goal
+use Rattle.admin_text.proofs.words.put_word.Goals as goal
 
 pub returns : goal.returns
 returns c =
