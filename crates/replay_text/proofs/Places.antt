@@ -1,5 +1,8 @@
 -- First places, and tests of all bytes.
-use Rattle.std.proofs.Common.{rules, arith, ap, sym, refl, ◌≡◌, ℕ, List, [], ◌∷◌, length, Option, Some, None, Bool, true, false, not, ltb, suc, inl, inr, MatchBool}
+use Rattle.std.proofs.Common.{rules, arith, ap, sym, refl, ◌≡◌, ℕ, List, [], ◌∷◌, length, map, Option, Some, None, Bool, true, false, not, cond, eqb, ltb, suc, inl, inr, MatchBool}
+use lib.Count.{count_trailing_zeros}
+use lib.Lanes.{mask_l}
+use Rattle.std.proofs.lemmas.Simd.{first_set_mask_l}
 use Rattle.std.proofs.lemmas.Bool.{lt-ltb, le-ltb, cases_lt}
 use Rattle.std.proofs.lemmas.List.{get_or_past}
 use Rattle.std.specs.List.{position, position_or_len, list_all}
@@ -31,3 +34,8 @@ ascii_test xs false h = elim (cases_lt h.0 (length xs)) [
   | inl inside ↦ sym (list_all_at (λ b. ltb b 128) xs h.0 0 inside (le-ltb _ _ h.1))
   | inr past ↦ absurd (omega (arith, h.1, get_or_past xs h.0 0 past))
 ]
+
+-- the lowest bit that is set in the marks of 16 bytes is the place of the first that is marked
+pub place_marked : (byte mask : ℕ) (bytes : List ℕ) → length bytes ≡ 16 → mask ≡ mask_l (map (λ b. eqb b byte) bytes)
+    → cond (eqb mask 0) 16 (count_trailing_zeros 64 mask) ≡ position_or_len (λ b. eqb b byte) bytes
+place_marked byte mask bytes long is = rw is (first_set_mask_l (λ b. eqb b byte) bytes 16 long (omega arith))

@@ -4,7 +4,7 @@ ghost use Rattle.std.specs.Prelude.{◌≡◌, ◌≢◌, ◌<◌, ◌∷◌, []
 ghost use Rattle.common_types.specs.Words.{words_of, words_left};
 ghost use Rattle.replay_text.specs.Script.{lines_of};
 
-use crate::scans::place_of;
+use crate::scans::{near_place_of, place_of};
 
 /// The first line of a text that is not empty, without its end, and what follows it.
 pub(crate) fn first_line(text: &[u8]) -> (&[u8], &[u8])
@@ -22,7 +22,7 @@ pub(crate) fn first_line(text: &[u8]) -> (&[u8], &[u8])
 pub(crate) fn first_word(text: &[u8]) -> (&[u8], Option<&[u8]>)
     ensures value { words_of text.now ≡ result.0.now ∷ words_left (option_copied result.1) }
 {
-    match place_of(b' ', text) {
+    match near_place_of(b' ', text) {
         Some(end) => (&text[..end], Some(&text[end + 1..])),
         None => (text, None),
     }

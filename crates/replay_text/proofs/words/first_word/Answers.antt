@@ -5,8 +5,8 @@ use Rattle.replay_text.proofs.words.first_word.Goals as goal
 
 pub returns-in-Some : goal.returns-in-Some
 returns-in-Some c = record {
-  value = rw (take_rest c.args.text.now (c.in-Some.end + 1)) (split_found _ c.args.text.now c.in-Some.end (sym c.place_of.ensures ∙ c.in-Some.is));
+  value = rw (take_rest c.args.text.now (c.in-Some.end + 1)) (split_found _ c.args.text.now c.in-Some.end (sym c.near_place_of.ensures ∙ c.in-Some.is));
 }
 
 pub returns-in-None : goal.returns-in-None
-returns-in-None c = record { value = split_none _ c.args.text.now (sym c.place_of.ensures ∙ c.in-None.is) }
+returns-in-None c = record { value = split_none _ c.args.text.now (sym c.near_place_of.ensures ∙ c.in-None.is) }
