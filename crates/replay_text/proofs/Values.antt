@@ -1,5 +1,6 @@
 -- Values of digits.
-use Rattle.std.proofs.Common.{arith, sym, refl, ◌≡◌, ◌+◌, ◌-◌, ◌*◌, ◌^◌, ◌==◌, ◌<◌, ◌≤◌, ℕ, suc, List, [], ◌∷◌, true, not, length, fold}
+use Rattle.std.proofs.Common.{arith, sym, ap, refl, ◌≡◌, ◌+◌, ◌-◌, ◌*◌, ◌%◌, ◌^◌, ◌==◌, ◌<◌, ◌≤◌, ℕ, suc, List, [], ◌∷◌, Bool, true, false, not, length, fold, Some, None}
+use Rattle.std.specs.Prelude.{if◌then◌else◌}
 use Rattle.std.specs.List.{list_all}
 use Rattle.std.proofs.Math.Nat.{mul-le-mul_right, mul_assoc, pow-succ', pow-le-pow_right}
 use Rattle.std.proofs.lemmas.Bool.{and_parts}
@@ -32,3 +33,14 @@ short_is_small word h short =
     let less = below 0 word (are_digits word h) in
     let most : 10 ^ length word ≤ 10 ^ 19 = pow-le-pow_right (omega arith) short in
     omega (arith, less, most)
+
+-- a short numeral is worth what its digits are
+pub short_value : (word : List ℕ) → is_numeral word ≡ list_all is_digit word → length word ≤ 19
+    → (if list_all is_digit word then Some (value_of word % 2 ^ 64) else None) ≡ (if is_numeral word then Some (value_of word) else None)
+short_value word same short = rw (← same) (by (is_numeral word) refl)
+  where
+    by : (b : Bool) → is_numeral word ≡ b → (if b then Some (value_of word % 2 ^ 64) else None) ≡ (if b then Some (value_of word) else None)
+    by true is =
+        let small = short_is_small word is short in
+        ap Some (omega (arith, small))
+    by false is = refl

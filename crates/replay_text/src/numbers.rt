@@ -1,7 +1,8 @@
 //! Numbers that words spell.
 
 ghost use Rattle.std.specs.Prelude.{◌≡◌, ◌%◌, ◌^◌, ◌≤◌, ◌<◌, length, IsTrue, ℕ, Option, Some, None, List, ◌&&◌, nat_lt, if◌then◌else◌};
-ghost use Rattle.common_types.specs.Numerals.{is_numeral, value_of};
+ghost use Rattle.std.specs.List.{list_all};
+ghost use Rattle.common_types.specs.Numerals.{is_digit, is_numeral, value_of};
 ghost use Rattle.replay_text.specs.Script.{number_below};
 
 use common_types::{is_numeral, value_of};
@@ -9,45 +10,60 @@ use common_types::{is_numeral, value_of};
 /// The value of so many digits is below 2^64.
 const SHORT: usize = 19;
 
-// The value of digits, without what lies above 64 bits.
-fn low_value_of(digits: &[u8]) -> u64
-    ensures { result ≡ value_of digits.now % 2 ^ 64 }
+// The value of a word of digits, without what lies above 64 bits. It goes on after a byte that is not a digit.
+fn low_value_of(word: &[u8]) -> Option<u64>
+    ensures { result ≡ (if list_all is_digit word.now then Some (value_of word.now % 2 ^ 64) else None) }
 {
     let mut value: u64 = 0;
-    for digit in digits {
-        value = value
-            .wrapping_mul(10)
-            .wrapping_add(digit.saturating_sub(b'0') as u64);
+    let mut fine = true;
+    for byte in word {
+        let digit = byte.wrapping_sub(b'0');
+        value = value.wrapping_mul(10).wrapping_add(digit as u64);
+        fine &= digit < 10;
     }
-    value
+    fine.then_some(value)
 }
 
-fn long_value_of(digits: &[u8]) -> Option<u64>
-    ensures { result ≡ (if nat_lt (value_of digits.now) (2 ^ 64) then Some (value_of digits.now) else None) }
+// Whether a word of digits is one of a number.
+fn begins_number(word: &[u8]) -> bool
+    ensures { is_numeral word.now ≡ (result && list_all is_digit word.now) }
 {
-    u64::try_from(value_of(digits)).ok()
+    match word {
+        [] => false,
+        [_] => true,
+        [first, ..] => *first != b'0',
+    }
 }
 
-// The value of a numeral, if it is below 2^64.
-fn value_in_64_bits(numeral: &[u8]) -> Option<u64>
-    requires { IsTrue (is_numeral numeral.now) }
-    ensures { result ≡ (if nat_lt (value_of numeral.now) (2 ^ 64) then Some (value_of numeral.now) else None) }
+// The value of a short numeral.
+fn short_value_of(word: &[u8]) -> Option<u64>
+    requires { length word.now ≤ SHORT }
+    ensures { result ≡ (if is_numeral word.now then Some (value_of word.now) else None) }
 {
-    if numeral.len() > SHORT {
-        return long_value_of(numeral);
+    if !begins_number(word) {
+        return None;
     }
-    Some(low_value_of(numeral))
+    low_value_of(word)
+}
+
+// The value of a numeral that is below 2^64.
+fn long_value_of(word: &[u8]) -> Option<u64>
+    ensures { result ≡ (if is_numeral word.now && nat_lt (value_of word.now) (2 ^ 64) then Some (value_of word.now) else None) }
+{
+    if !is_numeral(word) {
+        return None;
+    }
+    u64::try_from(value_of(word)).ok()
 }
 
 /// The number that a word spells, if it does and the number is below the bound.
 pub(crate) fn number_below(bound: u64, word: &[u8]) -> Option<u64>
     ensures { result ≡ number_below bound word.now }
 {
-    if !is_numeral(word) {
-        return None;
-    }
-    match value_in_64_bits(word) {
-        Some(value) if value < bound => Some(value),
-        _ => None,
-    }
+    let value = if word.len() <= SHORT {
+        short_value_of(word)
+    } else {
+        long_value_of(word)
+    };
+    value.filter(|value| *value < bound)
 }

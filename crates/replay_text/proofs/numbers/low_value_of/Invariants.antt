@@ -1,6 +1,10 @@
-use Rattle.std.proofs.Common.{◌≡◌, ◌%◌, ◌^◌, take}
-use Rattle.common_types.specs.Numerals.{value_of}
+use Rattle.std.proofs.Common.{◌≡◌, ◌%◌, ◌^◌, take, true}
+use Rattle.std.specs.List.{list_all}
+use Rattle.common_types.specs.Numerals.{is_digit, value_of}
 use Rattle.replay_text.proofs.numbers.low_value_of.Given as goal
 
-abbrev pub invariant-loop-digit : goal.invariant-loop-digit
-invariant-loop-digit l = l.value ≡ value_of (take l.digit-index l.digits) % 2 ^ 64
+abbrev pub invariant-loop-byte : goal.invariant-loop-byte
+invariant-loop-byte l = record {
+  digits : l.fine ≡ list_all is_digit (take l.byte-index l.word);
+  value : l.fine ≡ true → l.value ≡ value_of (take l.byte-index l.word) % 2 ^ 64;
+}
