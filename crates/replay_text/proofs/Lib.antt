@@ -3,6 +3,7 @@ pub mod Splits
 pub mod Fronts
 pub mod Scripts
 pub mod Governs
+pub mod Goods
 pub mod Known
 pub mod Octets
 pub mod Fits

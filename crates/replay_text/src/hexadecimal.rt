@@ -69,21 +69,18 @@ fn decode_into(text: &[u8], out: &mut [u8])
     }
 }
 
-/// The bytes that digits in either case spell, in a buffer of their own. `None` if the number of digits is odd, or if
-/// a character is not a digit.
-pub(crate) fn decode<'a>(text: &[u8], room: &'a mut Vec<u8>) -> Result<Option<&'a [u8]>, AllocError>
-    ensures { IfOk result (λ bytes. option_map (λ b. b.now) bytes ≡ result_ok (decode_of text.now)) }
+/// The bytes that digits in either case spell, in the room.
+pub(crate) fn decode<'a>(text: &[u8], room: &'a mut Vec<u8>) -> Result<&'a [u8], AllocError>
+    requires { IsTrue (is_some (result_ok (decode_of text.now))) }
+    ensures { IfOk result (λ bytes. decode_of text.now ≡ Ok bytes.now) }
 {
-    if !spells_bytes(text) {
-        return Ok(None);
-    }
     let size = text.len() / 2;
     if room.len() < size {
         room.resize(size, 0)?;
     }
     let bytes = &mut room.as_mut_slice()[..size];
     decode_into(text, bytes);
-    Ok(Some(bytes))
+    Ok(bytes)
 }
 
 fn digit_of(value: u8) -> u8

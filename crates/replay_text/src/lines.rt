@@ -1,12 +1,12 @@
 //! What a line of a script spells, or why it is bad.
 
-ghost use Rattle.std.specs.Prelude.{◌≡◌, is_none, is_some, option_and_then, option_copied, IfOk};
+ghost use Rattle.std.specs.Prelude.{◌≡◌, is_none, is_some, option_and_then, option_copied, IfOk, IsTrue, Some};
 ghost use Rattle.std.specs.Result.{result_ok};
 ghost use Rattle.common_types.specs.Words.{words_left};
 ghost use Rattle.admin_text.specs.Commands.{command_in};
 ghost use Rattle.replay_text.specs.Script.{load_of, decide_step, answer_of, tick_of, govern_of, step_behind};
 ghost use Rattle.replay_text.specs.Script.{is_bad, is_skipped, meaning_of};
-ghost use Rattle.replay_text.specs.Spelled.{meaning_read, step_of_spelled};
+ghost use Rattle.replay_text.specs.Spelled.{meaning_of_words, meaning_read, step_of_spelled};
 ghost use Rattle.replay_text.specs.Words.{two_of, three_of, four_of};
 
 use crate::causes::{LineFault, Operand, Verb};
@@ -181,8 +181,25 @@ fn is_skipped(line: &[u8]) -> bool
     }
 }
 
-/// What a line spells, `None` if it is skipped; or why it is bad. A last word that takes room is not read yet. The
-/// first wrong word decides, unless one is missing.
+/// What the words of a line spell, `None` if it is skipped; or why it is bad. A last word that takes room is not read
+/// yet. The first wrong word decides, unless one is missing.
+pub(crate) fn read_words<'a>(
+    parties: Parties<'_>,
+    line: &'a [u8],
+) -> Result<Option<Spelled<'a>>, LineFault<'a>>
+    ensures { meaning_read result ≡ meaning_of_words parties.entry.names.now parties.entry.workers line.now }
+{
+    if is_skipped(line) {
+        return Ok(None);
+    }
+    let (verb, words) = first_word(line);
+    match read_behind(parties, verb, words) {
+        Ok(spelled) => Ok(Some(spelled)),
+        Err(fault) => Err(fault),
+    }
+}
+
+/// The same, after the tests of the whole line.
 #[tactic(auto, unfolding(crate::specs::Script::meaning_of))]
 pub(crate) fn read_line<'a>(
     parties: Parties<'_>,
@@ -196,14 +213,7 @@ pub(crate) fn read_line<'a>(
     if !is_ascii(line) {
         return Err(LineFault::NoAscii);
     }
-    if is_skipped(line) {
-        return Ok(None);
-    }
-    let (verb, words) = first_word(line);
-    match read_behind(parties, verb, words) {
-        Ok(spelled) => Ok(Some(spelled)),
-        Err(fault) => Err(fault),
-    }
+    read_words(parties, line)
 }
 
 // ---- the last word
@@ -219,8 +229,11 @@ fn command_in(alloc: Global, text: &[u8]) -> Result<Result<Command, TextFault>, 
     }
 }
 
-// What is wrong with the last word, if it was left as text. Frames are not stored.
-fn last_fault<'a>(alloc: Global, spelled: &Spelled<'a>) -> Result<Option<LineFault<'a>>, AllocError>
+/// What is wrong with the last word, if it was left as text. Frames are not stored.
+pub(crate) fn last_fault<'a>(
+    alloc: Global,
+    spelled: &Spelled<'a>,
+) -> Result<Option<LineFault<'a>>, AllocError>
     ensures { IfOk result (λ fault. is_none fault ≡ is_some (step_of_spelled spelled.now)) }
 {
     match *spelled {
@@ -267,14 +280,14 @@ pub fn line_fault<'a>(
     Ok(fault.map(|fault| told(line, fault)))
 }
 
-/// The step that was spelled, a frame's bytes in the room; `None` if the last word is bad. Fails only if it is out of
-/// memory.
+/// The step that was spelled, a frame's bytes in the room. Fails only if it is out of memory.
 pub(crate) fn step_of<'a>(
     alloc: Global,
     spelled: &Spelled<'a>,
     room: &'a mut Vec<u8>,
-) -> Result<Option<Step<'a>>, AllocError>
-    ensures { IfOk result (λ step. step ≡ step_of_spelled spelled.now) }
+) -> Result<Step<'a>, AllocError>
+    requires { IsTrue (is_some (step_of_spelled spelled.now)) }
+    ensures { IfOk result (λ step. step_of_spelled spelled.now ≡ Some step) }
 {
     match *spelled {
         Spelled::Load {
@@ -282,32 +295,30 @@ pub(crate) fn step_of<'a>(
             tenant,
             token,
             frame,
-        } => match frame_of(frame, room)? {
-            Some(bytes) => Ok(Some(Step::Load {
-                worker,
-                tenant,
-                token: Octets::of(token),
-                bytes,
-            })),
-            None => Ok(None),
-        },
-        Spelled::Decide { worker, now } => Ok(Some(Step::Decide { worker, now })),
-        Spelled::Answer { worker, now, frame } => match given_of(frame, room)? {
-            Some(given) => Ok(Some(Step::Answer { worker, now, given })),
-            None => Ok(None),
-        },
-        Spelled::Tick { tenant, now } => Ok(Some(Step::Tick { tenant, now })),
+        } => Ok(Step::Load {
+            worker,
+            tenant,
+            token: Octets::of(token),
+            bytes: frame_of(frame, room)?,
+        }),
+        Spelled::Decide { worker, now } => Ok(Step::Decide { worker, now }),
+        Spelled::Answer { worker, now, frame } => Ok(Step::Answer {
+            worker,
+            now,
+            given: given_of(frame, room)?,
+        }),
+        Spelled::Tick { tenant, now } => Ok(Step::Tick { tenant, now }),
         Spelled::Govern {
             tenant,
             now,
             command,
         } => match command_in(alloc, command)? {
-            Ok(command) => Ok(Some(Step::Govern {
+            Ok(command) => Ok(Step::Govern {
                 tenant,
                 now,
                 command: Boxed::new(alloc, command)?,
-            })),
-            Err(_) => Ok(None),
+            }),
+            Err(_) => unreachable!(),
         },
     }
 }

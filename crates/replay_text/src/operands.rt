@@ -1,6 +1,6 @@
 //! The words after a verb: what each says, or why it is wrong.
 
-ghost use Rattle.std.specs.Prelude.{◌≡◌, is_ok, is_some, option_and_then, option_copied, IfOk};
+ghost use Rattle.std.specs.Prelude.{◌≡◌, is_ok, is_some, option_and_then, option_copied, IfOk, IsTrue, Some};
 ghost use Rattle.std.specs.List.{position};
 ghost use Rattle.std.specs.Result.{result_ok};
 ghost use Rattle.std.specs.Str.{bytes_eq};
@@ -135,27 +135,25 @@ pub(crate) fn check_frame(verb: Verb, operand: Operand, word: &[u8]) -> Result<(
 }
 
 /// The bytes that a word spells, in the room.
-pub(crate) fn frame_of<'a>(
-    word: &[u8],
-    room: &'a mut Vec<u8>,
-) -> Result<Option<Octets<'a>>, AllocError>
-    ensures { IfOk result (λ frame. frame ≡ frame_word word.now) }
+#[tactic(auto, unfolding(hex::specs::Hex::decode_pairs))]
+pub(crate) fn frame_of<'a>(word: &[u8], room: &'a mut Vec<u8>) -> Result<Octets<'a>, AllocError>
+    requires { IsTrue (is_some (frame_word word.now)) }
+    ensures { IfOk result (λ frame. frame_word word.now ≡ Some frame) }
 {
-    let Some(digits) = digits_of(word) else {
-        return Ok(None);
-    };
-    Ok(decode(digits, room)?.map(Octets::of))
+    let digits: &[u8] = if word == b"-".as_slice() { &[] } else { word };
+    Ok(Octets::of(decode(digits, room)?))
 }
 
-/// What came back: the bytes that a word spells, in the buffer, or a fault if there is no word.
+/// What came back: the bytes that a word spells, in the room, or a fault if there is no word.
 pub(crate) fn given_of<'a>(
     word: Option<&[u8]>,
     room: &'a mut Vec<u8>,
-) -> Result<Option<PeerAnswer<'a>>, AllocError>
-    ensures { IfOk result (λ given. given ≡ given_spelled (option_copied word.entry)) }
+) -> Result<PeerAnswer<'a>, AllocError>
+    requires { IsTrue (is_some (given_spelled (option_copied word))) }
+    ensures { IfOk result (λ given. given_spelled (option_copied word.entry) ≡ Some given) }
 {
     match word {
-        Some(word) => Ok(frame_of(word, room)?.map(PeerAnswer::Bytes)),
-        None => Ok(Some(PeerAnswer::Fault)),
+        Some(word) => Ok(PeerAnswer::Bytes(frame_of(word, room)?)),
+        None => Ok(PeerAnswer::Fault),
     }
 }

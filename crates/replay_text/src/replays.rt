@@ -13,7 +13,7 @@ ghost use Rattle.replay_text.specs.Closed.{Closes, ClosesAll, TakesClosed, Takes
 
 use crate::keeping::{LetGo, PeriodKeeper, hand_over};
 use crate::printed::put_told;
-use crate::script::{MAX_SCRIPT, Meaning, ScriptFault, check_script, meaning_of};
+use crate::script::{MAX_SCRIPT, Meaning, ScriptFault, check_script, meaning_of_good};
 use crate::streams::{StreamFault, read_script, write_text};
 use crate::words::first_line;
 use admin_text::{Setup, SetupFault, read_setup};
@@ -151,7 +151,7 @@ fn run_line<K: PeriodKeeper>(
     ensures room { (n : ℕ) → HasRoom floor.old (1 + n) → HasRoom floor.new n }
 {
     floor_core::laws::outputs_are_there();
-    let Ok(meaning) = meaning_of(alloc, cast.names, cast.workers, line, room) else {
+    let Ok(meaning) = meaning_of_good(alloc, cast.names, cast.workers, line, room) else {
         return Err(Refusal::Before);
     };
     match meaning {

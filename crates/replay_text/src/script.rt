@@ -3,12 +3,12 @@
 ghost use Rattle.std.specs.Prelude.{◌≡◌, ◌<◌, ◌≤◌, ◌↔◌, ℕ, List, Ok, Err, length, option_map, IfOk, OnOk};
 ghost use Rattle.std.specs.Result.{result_err};
 ghost use Rattle.replay_text.specs.Script.{lines_of, meaning_of, steps_from, steps_of_script};
-ghost use Rattle.replay_text.specs.Script.{AreSteps, IsCheckedAs, IsFirstBad};
+ghost use Rattle.replay_text.specs.Script.{AreSteps, IsBad, IsCheckedAs, IsFirstBad};
 ghost use Rattle.replay_text.specs.ScriptWrong.{script_fault_alone, script_fault_of};
 ghost use Rattle.floor_core.specs.declared.step.Step.{Step};
 
 use crate::causes::LineFault;
-use crate::lines::{line_fault, read_line, step_of};
+use crate::lines::{last_fault, line_fault, read_line, read_words, step_of};
 use crate::operands::Parties;
 use crate::words::first_line;
 use common_types::{Name, ReadError};
@@ -91,13 +91,32 @@ pub fn meaning_of<'a>(
     ensures { IfOk result (λ meaning. meaning ≡ meaning_of names.now workers line.now) }
 {
     Ok(match read_line(Parties { names, workers }, line) {
-        Ok(Some(spelled)) => match step_of(alloc, &spelled, room)? {
-            Some(step) => Meaning::Runs(step),
-            None => Meaning::Bad,
+        Ok(Some(spelled)) => match last_fault(alloc, &spelled)? {
+            Some(_) => Meaning::Bad,
+            None => Meaning::Runs(step_of(alloc, &spelled, room)?),
         },
         Ok(None) => Meaning::Skipped,
         Err(_) => Meaning::Bad,
     })
+}
+
+/// The same of a line that was found good. What was tested of the whole line and of its last word is not tested again.
+#[tactic(auto, using(crate::proofs::Goods::good_words))]
+pub(crate) fn meaning_of_good<'a>(
+    alloc: Global,
+    names: &[Name],
+    workers: usize,
+    line: &'a [u8],
+    room: &'a mut Vec<u8>,
+) -> Result<Meaning<'a>, AllocError>
+    requires { ¬ (IsBad names.now workers line.now) }
+    ensures { IfOk result (λ meaning. meaning ≡ meaning_of names.now workers line.now) }
+{
+    match read_words(Parties { names, workers }, line) {
+        Ok(Some(spelled)) => Ok(Meaning::Runs(step_of(alloc, &spelled, room)?)),
+        Ok(None) => Ok(Meaning::Skipped),
+        Err(_) => Ok(Meaning::Bad),
+    }
 }
 
 // Whether no line of a text is bad.
