@@ -1,8 +1,9 @@
 # Writes a script, and to the file `want` how many packets it has and what is to be printed for it, in the words of
-# seen.awk. All packets are alice's, and those that go on go to bob.
+# seen.awk. All packets are alice's, except those of `spread`, and those that go on go to bob.
 #
-# Set by -v: want; tenants, peers and journal, as in the setup; and
-#   kind    strangers, bad, full, passed (forwarded and fulfilled), mix, balances or rolls
+# Set by -v: want; tenants, peers and journal, and for `spread` routes, as in the setup; and
+#   kind    strangers, bad, full, passed (forwarded and fulfilled), spread (the same, of all tenants and peers, by all routes),
+#           mix, balances or rolls
 #   n       how many packets, or commands; about, where periods are rounded
 #   data    how many bytes of data each packet has
 #   ticks   how many ticks follow each packet
@@ -110,6 +111,26 @@ function passed(    each, done, i, w, j) {
   }
 }
 
+# Each tenant's packets in turn, of all peers but bob, which have a rate to him. Periods end as those of `passed` do.
+function spread(    each, i, k, route, digit, to) {
+  each = int(journal / 2)
+  for (i = 0; i < n; i++) {
+    tenant = named(i % tenants + 1)
+    k = int(i / tenants)
+    route = sprintf("%04d", 1 + k * 7 % (routes - 1))
+    to = "672e61636d652e72"
+    for (digit = 1; digit <= 4; digit++) to = to "3" substr(route, digit, 1)
+    if (!bare) {
+      now++
+      load(0, k % (peers - 1) ? sprintf("p%03d", k % (peers - 1) - 1) : "alice", prepare("00000000000003e8", 600000, to "2e78", data),
+        "loaded")
+      decide(0, "send")
+      answer(0, fulfill, "fulfilled")
+    }
+    if (k % each == each - 1) command("roll", "rolled")
+  }
+}
+
 # Sixteen packets a round, and fewer than 34 entries.
 function mix(    i, k, frame) {
   for (i = 0; i < n / 16; i++) {
@@ -186,6 +207,7 @@ BEGIN {
   usual = prepare("00000000000003e8", 600000, bob, data)
   if (kind == "full") full()
   else if (kind == "passed") passed()
+  else if (kind == "spread") spread()
   else if (kind == "rolls") rolls()
   else if (!bare) {
     if (kind == "strangers") strangers()
