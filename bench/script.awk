@@ -112,7 +112,7 @@ function passed(    each, done, i, w, j) {
 }
 
 # Each tenant's packets in turn, of all peers but bob, which have a rate to him. Periods end as those of `passed` do.
-function spread(    each, i, k, route, digit, to) {
+function spread(    each, i, k, route, digit, to, from) {
   each = int(journal / 2)
   for (i = 0; i < n; i++) {
     tenant = named(i % tenants + 1)
@@ -122,8 +122,8 @@ function spread(    each, i, k, route, digit, to) {
     for (digit = 1; digit <= 4; digit++) to = to "3" substr(route, digit, 1)
     if (!bare) {
       now++
-      load(0, k % (peers - 1) ? sprintf("p%03d", k % (peers - 1) - 1) : "alice", prepare("00000000000003e8", 600000, to "2e78", data),
-        "loaded")
+      from = k % (peers - 1)
+      load(0, from ? sprintf("p%03d", from - 1) : "alice", prepare("00000000000003e8", 600000, to "2e78", data), "loaded")
       decide(0, "send")
       answer(0, fulfill, "fulfilled")
     }

@@ -462,7 +462,15 @@ impl Book {
 
     /// The verdict on a packet that came with that token.
     #[inline(always)]
-    pub fn decide(&mut self, hash: u64, token: &[u8], p: &Prepare, condition: &[u8; 32], destination: &[u8], now: u64) -> Verdict {
+    pub fn decide(
+        &mut self,
+        hash: u64,
+        token: &[u8],
+        p: &Prepare,
+        condition: &[u8; 32],
+        destination: &[u8],
+        now: u64,
+    ) -> Verdict {
         let Some(from) = self.with_token(hash, token) else {
             return Verdict::Stranger;
         };

@@ -209,7 +209,8 @@ unsafe fn by_instructions(message: &[u8; 32]) -> [u8; 32] {
     let [mut abef, mut cdgh] = start;
     for i in 0..16 {
         if i >= 4 {
-            let sum = _mm_add_epi32(_mm_sha256msg1_epu32(x[i % 4], x[(i + 1) % 4]), _mm_alignr_epi8::<4>(x[(i + 3) % 4], x[(i + 2) % 4]));
+            let seventh = _mm_alignr_epi8::<4>(x[(i + 3) % 4], x[(i + 2) % 4]);
+            let sum = _mm_add_epi32(_mm_sha256msg1_epu32(x[i % 4], x[(i + 1) % 4]), seventh);
             x[i % 4] = _mm_sha256msg2_epu32(sum, x[(i + 3) % 4]);
         }
         let kw = _mm_add_epi32(x[i % 4], k(i));
