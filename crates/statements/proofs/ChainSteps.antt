@@ -1,18 +1,24 @@
 -- A chain of one link more.
 use Rattle.std.proofs.Common.{◌≡◌, ℕ, ◌+◌, List, [], ◌∷◌, ◌++◌, length, map, refl, ap, sym, subst, ◌∙◌, arith}
+use Rattle.std.specs.Prelude.{Err, IfErr, Ok, Result}
 use Rattle.std.specs.List.{flat_map}
 use Rattle.std.proofs.lemmas.Grind.{flat_map-append}
 use Rattle.std.proofs.lemmas.List.{append-nil, append_assoc}
 use Rattle.std.proofs.lemmas.List.Sums.{fold_push, sum_by_push}
 use Rattle.std.proofs.lemmas.List.Elements.{All-nil, All-push}
 use Rattle.std.proofs.lemmas.Slice.Zip.{all_zipped_more}
+use Rattle.common_types.specs.declared.read_error.ReadError.{ReadError}
+use Rattle.common_types.specs.declared.read_error.ReadError.TheVariants.{Fault, Memory}
 use Rattle.statements.specs.Chain.{AreDone, AreChained, Continues, Done, IsChain, IsRun, Link, Opens}
 use Rattle.statements.specs.Chain.{due_behind, lines_behind, lines_done, links_of, records_of}
 use Rattle.statements.specs.Chain.Link.{Begun, Stated}
 use Rattle.statements.specs.Due.{Start, due_after, due_by}
+use Rattle.statements.specs.Refused.{IsNotAdded, IsNotJoined}
 use Rattle.statements.specs.Statement.{IsStatement}
 use Rattle.statements.specs.Totals.{AreTotals}
 use Rattle.statements.specs.declared.chain.Chain.{Chain}
+use Rattle.statements.specs.declared.chain.ChainFault.{ChainFault}
+use Rattle.statements.specs.declared.chain.ChainFault.TheVariants as fault
 use Rattle.statements.specs.declared.due.Due.{Due}
 use Rattle.statements.specs.declared.due.Due.TheVariants.{Anything, Ending}
 use Rattle.statements.specs.declared.line.Line.{Line}
@@ -103,3 +109,15 @@ chain_begun links before after s continues due periods entries past totals chain
       past_lines = past chain ∙ sym (lines_more [] Anything ds d);
       totals = totals;
     }
+
+-- ---- what is not taken
+
+pub fault_of_text : (c : Chain) (text : List ℕ) (p : PeriodParts) (r : Result (Unit {0}) (ReadError ChainFault)) → IsStatement text p → IsPeriod p
+    → IfErr r (IsNotJoined c p) → IfErr r (IsNotAdded c text)
+fault_of_text c text p (Ok x) stated closed was = tt
+fault_of_text c text p (Err Memory) stated closed was = tt
+fault_of_text c text p (Err (Fault (fault.Statement f))) stated closed was = tt
+fault_of_text c text p (Err (Fault (fault.Apart line))) stated closed was = (p, stated, closed, was)
+fault_of_text c text p (Err (Fault (fault.Unlike line))) stated closed was = (p, stated, closed, was)
+fault_of_text c text p (Err (Fault fault.Changed)) stated closed was = (p, stated, closed, was)
+fault_of_text c text p (Err (Fault fault.Long)) stated closed was = (p, stated, closed, was)

@@ -26,3 +26,11 @@ anew_none (p ∷ ps) n = refl
 -- nobody has a number at a place where there is nobody
 pub anew_past : (ps qs : List Peer) (k n : ℕ) → length qs ≤ k → number_in_next (drop k ps) (drop k qs) n ≡ None
 anew_past ps qs k n past = ap (λ (rest : List Peer). number_in_next (drop k ps) rest n) (drop_all k qs past) ∙ anew_none (drop k ps) n
+
+-- what is told of one list is the other one, so it is at each place
+pub told_at : {A : Type 0} (f : A → A) (xs ys : List A) (k : ℕ) (x y : A) → map f xs ≡ ys → k < length xs → k < length ys
+    → x ≡ get_or xs k x → y ≡ get_or ys k y → f x ≡ y
+told_at f xs ys k x y same inside within at there =
+    let one : option_map f (slice_get xs k) ≡ Some (f x) = ap (option_map f) (slice_get_read xs (length xs) k x refl inside at) in
+    let two : slice_get ys k ≡ Some y = slice_get_read ys (length ys) k y refl within there in
+    one_of (f x) y (sym one ∙ (sym (slice_get-map f xs k) ∙ (ap (λ zs. slice_get zs k) same ∙ two)))

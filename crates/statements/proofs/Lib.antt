@@ -12,6 +12,7 @@ pub mod RecordSums
 pub mod FeeSteps
 pub mod SeenSteps
 pub mod TotalSteps
+pub mod OverSteps
 pub mod ChainSteps
 pub mod SummarySteps
 pub mod KnownSteps

@@ -1,18 +1,14 @@
 -- Peers that one record more adds.
 use Rattle.std.proofs.Common.{◌≡◌, ℕ, ◌+◌, List, [], ◌∷◌, ◌++◌, take, ap, sym, ◌∙◌}
-use Rattle.std.specs.Prelude.{Some, fold}
+use Rattle.std.specs.Prelude.{Some}
 use Rattle.std.specs.List.{slice_get}
 use Rattle.std.proofs.lemmas.List.{append-nil, append_assoc, take_more}
 use Rattle.std.proofs.lemmas.List.Sums.{fold_push}
 use Rattle.std.proofs.lemmas.Option.{slice_get_within, get_or_from_slice_get}
-use Rattle.statements.specs.Seen.{seen_added, seen_among}
+use Rattle.statements.specs.Seen.{next_after, seen_added, seen_among}
 use Rattle.statements.specs.declared.seen.PeerSeen.{PeerSeen}
 use Rattle.tenant_core.specs.Peers.{next_by}
 use Rattle.tenant_core.specs.declared.journal.Record.{Record}
-
--- the number of the next peer after records
-abbrev pub next_after : ℕ → List Record → ℕ
-next_after n rs = fold (λ k r. next_by k r.entry) n rs
 
 among_more : (n : ℕ) (rs : List Record) (r : Record)
     → seen_among n (rs ++ r ∷ []) ≡ seen_among n rs ++ seen_added (next_after n rs) r.entry

@@ -1,7 +1,7 @@
 -- What two descriptions of a tenant have in common: all but the tokens and the targets of its peers, which no
 -- statement has. If one of them is a setup, the numbers of its peers and what their buckets hold do not count either,
 -- since no setup has them.
-use Rattle.std.specs.Prelude.{ℕ, ℤ, ◌≡◌, ◌==◌, List, ◌∷◌, map, Option, Some, None, unwrap_or, if◌then◌else◌}
+use Rattle.std.specs.Prelude.{ℕ, ℤ, ◌≡◌, ◌⊎◌, ◌==◌, List, ◌∷◌, map, Option, Some, None, unwrap_or, if◌then◌else◌}
 use Rattle.ildcp_core.specs.declared.child.Role.{Role}
 use Rattle.route_table.specs.Routes.{RouteMap}
 use Rattle.route_table.specs.declared.route.Route.{Route}
@@ -97,3 +97,18 @@ pub record IsSameSetup (t other : TenantTerms) : Type 0 where
   pub peers : map known t.network.peers ≡ map known other.network.peers
   pub routes : AreLed (anew_or t.network.peers other.network.peers) t.network.routes other.network.routes
   pub rates : map (rated (anew_or t.network.peers other.network.peers)) t.network.rates ≡ other.network.rates
+
+-- lists of the routes of both, of which one is not the other with its peers numbered so
+pub record AreLedApart (to : ℕ → ℕ) (routes others : RouteMap) : Type 0 where
+  pub listed : List Route
+  pub listed_others : List Route
+  pub before : AreRoutesOf routes listed
+  pub after : AreRoutesOf others listed_others
+  pub apart : ¬ (map (led to) listed ≡ listed_others)
+
+-- one setup does not say what the other one does, or some lists of their routes differ, which have no order by these
+-- definitions
+abbrev pub IsOtherSetup : TenantTerms → TenantTerms → Type 0
+IsOtherSetup t other =
+    ¬ (IsSameSetup t other)
+    ⊎ AreLedApart (anew_or t.network.peers other.network.peers) t.network.routes other.network.routes

@@ -12,3 +12,4 @@ pub mod Due
 pub mod Line
 pub mod Chain
 pub mod Summary
+pub mod Refused

@@ -1,6 +1,6 @@
 -- The sums of each peer that was there, over all runs of the service.
-use Rattle.std.specs.Prelude.{ℕ, ℤ, pos, ◌+◌, List, [], ◌∷◌, ◌++◌, map, sum_by, Option, Some, None, option_and_then}
-use Rattle.std.specs.List.{flat_map}
+use Rattle.std.specs.Prelude.{ℕ, ℤ, ◌≡◌, ◌≤◌, ◌^◌, pos, ◌+◌, List, [], ◌∷◌, ◌++◌, map, sum_by, Option, Some, None, option_and_then}
+use Rattle.std.specs.List.{flat_map, slice_get}
 use Rattle.statements.specs.Due.{due_after, opening_due}
 use Rattle.statements.specs.Known.{number_in_next}
 use Rattle.statements.specs.Seen.{seen_before, seen_during}
@@ -47,6 +47,24 @@ told_both before after =
       settled_out = before.settled_out + after.settled_out;
       fees = before.fees + after.fees;
     }
+
+-- one of the sums before and after has no room together
+pub data AreOver (before after : PeerSums) : Type 0 where
+  Came : 2 ^ 128 ≤ before.came + after.came → AreOver before after
+  FulfilledIn : 2 ^ 128 ≤ before.fulfilled_in + after.fulfilled_in → AreOver before after
+  SettledIn : 2 ^ 128 ≤ before.settled_in + after.settled_in → AreOver before after
+  Went : 2 ^ 128 ≤ before.went + after.went → AreOver before after
+  FulfilledOut : 2 ^ 128 ≤ before.fulfilled_out + after.fulfilled_out → AreOver before after
+  SettledOut : 2 ^ 128 ≤ before.settled_out + after.settled_out → AreOver before after
+  Fees : 2 ^ 128 ≤ before.fees + after.fees → AreOver before after
+
+-- the sums of a line after a run have no room
+abbrev pub IsLineOver : (ℕ → PeerSums) → Line → Type 0
+IsLineOver told l = (n : ℕ) × (l.here ≡ Some n) × AreOver l.told (told n)
+
+-- those of one of the lines have none
+abbrev pub AreLinesOver : (ℕ → PeerSums) → List Line → Type 0
+AreLinesOver told ls = (k : ℕ) × (l : Line) × (slice_get ls k ≡ Some l) × IsLineOver told l
 
 -- the line of a peer that a run of the service has for the first time, with these sums
 abbrev pub line_of : (ℕ → PeerSums) → PeerSeen → Line

@@ -1,5 +1,5 @@
 -- The peers that were there during some periods.
-use Rattle.std.specs.Prelude.{ℕ, pos, List, [], ◌∷◌, ◌++◌, map}
+use Rattle.std.specs.Prelude.{ℕ, ◌≤◌, ◌^◌, pos, List, [], ◌∷◌, ◌++◌, fold, map, take}
 use Rattle.statements.specs.declared.seen.PeerSeen.{PeerSeen}
 use Rattle.tenant_core.specs.Peers.{next_by}
 use Rattle.tenant_core.specs.declared.journal.Change.{Change as Changed}
@@ -28,6 +28,14 @@ seen_added next _ = []
 abbrev pub seen_among : ℕ → List Record → List PeerSeen
 seen_among next [] = []
 seen_among next (r ∷ rs) = seen_added next r.entry ++ seen_among (next_by next r.entry) rs
+
+-- the number of the next peer after records
+abbrev pub next_after : ℕ → List Record → ℕ
+next_after next rs = fold (λ n r. next_by n r.entry) next rs
+
+-- the records add a peer for whose successor there is no number
+abbrev pub IsOutOfNumbers : ℕ → List Record → Type 0
+IsOutOfNumbers next rs = (k : ℕ) × (2 ^ 16 ≤ next_after next (take k rs))
 
 -- the peers that a period added
 abbrev pub seen_during : PeriodParts → List PeerSeen

@@ -1,6 +1,6 @@
 -- The text of a closed period: its opening, a line for each record, and the opening of the next period. It has no
 -- secret: the tokens of peers and their targets are left out, so one text can state several periods.
-use Rattle.std.specs.Prelude.{ℕ, ◌≡◌, List, [], ◌∷◌, ◌++◌, map, codes, Some, None}
+use Rattle.std.specs.Prelude.{ℕ, ◌≡◌, List, [], ◌∷◌, ◌++◌, map, codes, Option, Some, None}
 use Rattle.std.specs.FinMap.{from_entries}
 use Rattle.std.specs.Fmt.{decimal, signed_decimal}
 use Rattle.std.specs.List.{flat_map}
@@ -227,3 +227,8 @@ pub record IsHead (text : List ℕ) (o : Opening) : Type 0 where
   pub routes : List Route
   pub listed : AreRoutesOf o.network.routes routes
   pub written : text ≡ head_text routes o
+
+-- the text is the one of that opening; empty if there is none
+abbrev pub IsNextHead : Option Opening → List ℕ → Type 0
+IsNextHead None text = text ≡ []
+IsNextHead (Some o) text = IsHead text o

@@ -1,10 +1,10 @@
 -- The summary of statements, in lines.
-use Rattle.std.specs.Prelude.{ℕ, ℤ, ◌+◌, List, [], ◌∷◌, ◌++◌, codes, length}
+use Rattle.std.specs.Prelude.{ℕ, ℤ, ◌≤◌, ◌^◌, ◌+◌, List, [], ◌∷◌, ◌++◌, codes, length}
 use Rattle.std.specs.Fmt.{signed_decimal}
 use Rattle.std.specs.List.{flat_map}
 use Rattle.statements.specs.Chain.{Done, due_behind, lines_behind, periods_in, records_in, records_of}
 use Rattle.statements.specs.Due.{opening_due}
-use Rattle.statements.specs.Line.{balance_in, lines_after, lines_with}
+use Rattle.statements.specs.Line.{AreLinesOver, balance_in, lines_after, lines_with}
 use Rattle.statements.specs.Statement.{number, word}
 use Rattle.statements.specs.Sums.{sum_at}
 use Rattle.statements.specs.declared.chain.Chain.{Chain}
@@ -31,6 +31,12 @@ told_by c n =
 -- the lines of a chain
 abbrev pub chain_lines : Chain → List Line
 chain_lines c = lines_with (told_by c) c.past.lines.items c.totals.first.items c.totals.added.items
+
+-- the sums of all runs have no room
+pub data IsLongPast (c : Chain) : Type 0 where
+  Periods : 2 ^ 64 ≤ c.past.periods + c.totals.periods → IsLongPast c
+  Entries : 2 ^ 64 ≤ c.past.entries + c.totals.entries → IsLongPast c
+  Lines : AreLinesOver (told_by c) c.past.lines.items → IsLongPast c
 
 -- a number under its key
 unfoldable pub keyed : List ℕ → ℕ → List ℕ

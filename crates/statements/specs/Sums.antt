@@ -1,5 +1,8 @@
 -- Sums for the numbers of peers.
-use Rattle.std.specs.Prelude.{ℕ, ◌≡◌, ◌+◌, ◌==◌, ◌&&◌, Option, Some, None, slice_index, if◌then◌else◌}
+use Rattle.std.specs.Prelude.{ℕ, ◌≡◌, ◌≤◌, ◌+◌, ◌^◌, ◌==◌, ◌&&◌, Option, Some, None, Result, Err, slice_index, if◌then◌else◌}
+use Rattle.common_types.specs.declared.read_error.ReadError.{ReadError}
+use Rattle.common_types.specs.declared.read_error.ReadError.TheVariants as read_error
+use Rattle.statements.specs.declared.tally.Long.{Long}
 use Rattle.statements.specs.declared.tally.Tally.{Tally}
 use Rattle.statements.specs.declared.counting.OfHold.{OfHold}
 use Rattle.statements.specs.declared.counting.OfHold.TheVariants as of_hold
@@ -25,6 +28,15 @@ counted_for (Some counted) n = if counted.0 == n then counted.1 else 0
 -- so much was added to the sums
 abbrev pub IsAdded : Tally → Tally → (ℕ → ℕ) → Type 0
 IsAdded before after more = (n : ℕ) → sum_at after n ≡ sum_at before n + more n
+
+-- so much more has no room in the sum of a peer
+abbrev pub IsOver : Tally → (ℕ → ℕ) → Type 0
+IsOver before more = (n : ℕ) × (2 ^ 128 ≤ sum_at before n + more n)
+
+-- the fact holds if something had no room
+abbrev pub OnLong : {X : Type 0} → Result X (ReadError Long) → Type 0 → Type 0
+OnLong (Err (read_error.Fault long)) fact = fact
+OnLong _ fact = Unit {0}
 
 -- a record says that a packet came from the peer of that number
 abbrev pub came_by : ℕ → Record → ℕ

@@ -1,9 +1,9 @@
 -- The sums of closed periods for each peer, in its units.
-use Rattle.std.specs.Prelude.{ℕ, ◌≡◌, List, length, sum_by}
+use Rattle.std.specs.Prelude.{ℕ, ◌≡◌, ◌≤◌, ◌+◌, ◌^◌, List, length, sum_by}
 use Rattle.std.specs.List.{flat_map, zip}
 use Rattle.statements.specs.Fees.{fees_of}
-use Rattle.statements.specs.Seen.{seen_before, seen_during}
-use Rattle.statements.specs.Sums.{came_by, fee_by, sum_at, went_by}
+use Rattle.statements.specs.Seen.{IsOutOfNumbers, seen_before, seen_during}
+use Rattle.statements.specs.Sums.{IsOver, came_by, fee_by, sum_at, went_by}
 use Rattle.statements.specs.declared.tally.Tally.{Tally}
 use Rattle.statements.specs.declared.totals.Totals.{Totals}
 use Rattle.tenant_core.specs.Closing.{state_before_roll}
@@ -56,3 +56,16 @@ pub record AreTotals (ps : List PeriodParts) (t : Totals) : Type 0 where
   pub settled_in : IsSum t.settled_in settled_from ps
   pub settled_out : IsSum t.settled_out settled_to ps
   pub fees : IsSum t.fees fees_from ps
+
+-- what a period adds has no room in the totals
+pub data IsTooLong (t : Totals) (p : PeriodParts) : Type 0 where
+  Periods : 2 ^ 64 ≤ t.periods + 1 → IsTooLong t p
+  Entries : 2 ^ 64 ≤ t.entries + length p.records → IsTooLong t p
+  Added : IsOutOfNumbers p.opening.network.next_peer p.records → IsTooLong t p
+  Came : IsOver t.came (λ n. came_from n p) → IsTooLong t p
+  Went : IsOver t.went (λ n. went_to n p) → IsTooLong t p
+  FulfilledIn : IsOver t.fulfilled_in (λ n. fulfilled_from n p) → IsTooLong t p
+  FulfilledOut : IsOver t.fulfilled_out (λ n. fulfilled_to n p) → IsTooLong t p
+  SettledIn : IsOver t.settled_in (λ n. settled_from n p) → IsTooLong t p
+  SettledOut : IsOver t.settled_out (λ n. settled_to n p) → IsTooLong t p
+  Fees : IsOver t.fees (λ n. fees_from n p) → IsTooLong t p

@@ -1,6 +1,6 @@
 //! Chains of statements.
 
-ghost use Rattle.std.specs.Prelude.{◌≡◌, ◌≢◌, ◌+◌, ◌∷◌, ◌++◌, [], ℕ, ◌↔◌, Err, IfOk, IsTrue, List, OnErr, OnOk, map, option_copied};
+ghost use Rattle.std.specs.Prelude.{◌≡◌, ◌+◌, ◌∷◌, ◌++◌, [], ℕ, ◌↔◌, false, Err, IfErr, IfOk, IsTrue, List, OnErr, OnOk, map, option_copied};
 ghost use Rattle.common_types.specs.declared.read_error.ReadError.TheVariants as read_error;
 ghost use Rattle.statements.specs.Chain.{Continues, IsApart, IsChain, Link, Opens};
 ghost use Rattle.statements.specs.Chain.Link.{Begun, Stated};
@@ -8,7 +8,9 @@ ghost use Rattle.statements.specs.Due.{opening_due, peers_of, start_at};
 ghost use Rattle.statements.specs.Gone.{IsGood};
 ghost use Rattle.statements.specs.Known.{IsSameSetup};
 ghost use Rattle.statements.specs.Line.{line_anew};
-ghost use Rattle.statements.specs.Summary.{chain_lines};
+ghost use Rattle.statements.specs.Refused.{IsApartFrom, IsChanged, IsNotAdded, IsNotBegun, IsNotContinued, IsNotGood, IsNotJoined, IsUnlike, IsUnopened};
+ghost use Rattle.statements.specs.Summary.{IsLongPast, chain_lines};
+ghost use Rattle.statements.specs.Sums.{OnLong};
 ghost use Rattle.statements.specs.declared.chain.ChainFault.TheVariants as fault;
 ghost use Rattle.tenant_core.specs.PresentSetup.{present_setup};
 ghost use Rattle.tenant_core.specs.State.{opened};
@@ -70,7 +72,7 @@ pub struct Chain {
 fn good_in(alloc: Global, text: &[u8]) -> Result<GoodStatement<'_>, ReadError<ChainFault>>
     ensures text { IfOk result (λ good. good.text.now ≡ text.now) }
     ensures good { IfOk result IsGood }
-    ensures not { (line : ℕ) → result ≢ Err (read_error.Fault (fault.Apart line)) }
+    ensures not { IfErr result IsNotGood }
 {
     match GoodStatement::of(alloc, text) {
         Ok(good) => Ok(good),
@@ -85,7 +87,8 @@ pub fn present(
     opening: &Opening,
     admin: Token,
 ) -> Result<TenantSetup, ReadError<ChainFault>>
-    ensures { IfOk result (λ setup. setup ≡ present_setup (opened opening.now) admin) }
+    ensures present { IfOk result (λ setup. setup ≡ present_setup (opened opening.now) admin) }
+    ensures fault { IfErr result (IsUnopened opening.now) }
 {
     match Book::reopened(alloc, opening.copy(alloc)?) {
         Ok(book) => Ok(book.present_setup(alloc, admin)?),
@@ -96,7 +99,9 @@ pub fn present(
 
 // Whether a setup has what a tenant has whose next period opens so.
 fn has(alloc: Global, opening: &Opening, setup: &TenantSetup) -> Result<bool, ReadError<ChainFault>>
-    ensures { IfOk result (λ has. IsTrue has → IsSameSetup (present_setup (opened opening.now) setup.now.admin) setup.now) }
+    ensures has { IfOk result (λ has. IsTrue has → IsSameSetup (present_setup (opened opening.now) setup.now.admin) setup.now) }
+    ensures not { IfOk result (λ has. has ≡ false → IsUnlike opening.now setup.now) }
+    ensures fault { IfErr result (IsUnopened opening.now) }
 {
     let present = present(alloc, opening, setup.terms().admin.copy())?;
     Ok(goes_on(alloc, present.terms(), setup.terms())?)
@@ -129,7 +134,9 @@ impl Chain {
         alloc: Global,
         setup: &TenantSetup,
     ) -> Result<bool, ReadError<ChainFault>>
-        ensures { IfOk result (λ is. (place clock : ℕ) → IsTrue is → Continues self.now.due (start_at place setup.now clock)) }
+        ensures is { IfOk result (λ is. (place clock : ℕ) → IsTrue is → Continues self.now.due (start_at place setup.now clock)) }
+        ensures not { IfOk result (λ is. is ≡ false → IsChanged self.now.due setup.now) }
+        ensures fault { IfErr result (IsNotContinued self.now.due setup.now) }
     {
         match &self.due {
             Due::Anything => Ok(true),
@@ -138,7 +145,9 @@ impl Chain {
     }
 
     // From which line on a text does not begin with what is due, and which fault that is.
-    fn apart(&self, alloc: Global, text: &[u8]) -> Result<ChainFault, AllocError> {
+    fn apart(&self, alloc: Global, text: &[u8]) -> Result<ChainFault, AllocError>
+        ensures { IfOk result (IsApartFrom self.now.due) }
+    {
         match &self.due {
             Due::Anything => Ok(ChainFault::Apart(1)),
             Due::Ending(ending) => Ok(ChainFault::Apart(first_difference(
@@ -154,9 +163,10 @@ impl Chain {
 
     // The sums of all runs when the service begins again, with the numbers that peers have by that setup.
     fn past_anew(&self, alloc: Global, setup: &TenantSetup) -> Summed<Past>
-        ensures { IfOk result (λ past. (past.periods ≡ self.now.past.periods + self.now.totals.periods)
+        ensures past { IfOk result (λ past. (past.periods ≡ self.now.past.periods + self.now.totals.periods)
             × (past.entries ≡ self.now.past.entries + self.now.totals.entries)
             × (past.lines.items ≡ map (line_anew (peers_of (opening_due self.now.due)) setup.now.network.peers) (chain_lines self.now))) }
+        ensures long { OnLong result (IsLongPast self.now) }
     {
         let lines = lines_of(alloc, self)?;
         let peers = peers_of(self.due.opening());
@@ -210,8 +220,9 @@ impl Chain {
 
     /// How many periods and records there are.
     pub fn counts(&self) -> Summed<(u64, u64)>
-        ensures { IfOk result (λ counts. (counts.0 ≡ self.now.past.periods + self.now.totals.periods)
+        ensures counts { IfOk result (λ counts. (counts.0 ≡ self.now.past.periods + self.now.totals.periods)
             × (counts.1 ≡ self.now.past.entries + self.now.totals.entries)) }
+        ensures long { OnLong result (IsLongPast self.now) }
     {
         let periods = raised(self.past.periods, self.totals.periods)?;
         let entries = raised(self.past.entries, self.totals.entries)?;
@@ -223,13 +234,18 @@ impl Chain {
     ///
     /// So there are closed periods of one tenant, one for each text so far. Each of them is what the rules lead to
     /// from its opening on. Each goes on where the one before it ended, or begins as the setup between them, which has
-    /// what the one before it ended with. If the statement is refused, nothing has changed.
+    /// what the one before it ended with.
+    ///
+    /// `Apart` comes exactly if the period does not open so, after a setup `Unlike`; `Long` only if it does, and a sum has
+    /// no room. No other fault comes, but it may be out of memory. If the statement is refused, nothing has changed.
     pub fn join(
         &mut self,
         alloc: Global,
         good: &GoodStatement<'_>,
     ) -> Result<(), ReadError<ChainFault>>
         requires { IsGood good.now }
+        ensures opens { OnOk result (Opens self.old.due good.now.gone.period) }
+        ensures fault { IfErr result (IsNotJoined self.old good.now.gone.period) }
         ensures chain { OnOk result ((links : List Link) → IsChain links self.old → IsChain (links ++ Stated good.now.text.now ∷ []) self.new) }
         ensures apart { (line : ℕ) → result ≡ Err (read_error.Fault (fault.Apart line)) → IsApart good.now.text.now self.old.due }
         ensures err { OnErr result (self.new ≡ self.old) }
@@ -253,18 +269,22 @@ impl Chain {
 
     /// Takes a text as the next statement of the tenant, as [`join`](Chain::join) does, if it is good.
     pub fn add(&mut self, alloc: Global, text: &[u8]) -> Result<(), ReadError<ChainFault>>
+        ensures fault { IfErr result (IsNotAdded self.old text.now) }
         ensures chain { OnOk result ((links : List Link) → IsChain links self.old → IsChain (links ++ Stated text.now ∷ []) self.new) }
         ensures apart { (line : ℕ) → result ≡ Err (read_error.Fault (fault.Apart line)) → IsApart text.now self.old.due }
         ensures err { OnErr result (self.new ≡ self.old) }
     {
         let good = good_in(alloc, text)?;
+        laws::period_is_kept(&good.gone.period);
         self.join(alloc, &good)
     }
 
     /// Takes a setup that the service began with, which has the tenant at that place and starts at that moment. If
     /// anything came before, the setup must have what was due of the tenant, as a running service writes it. It must
-    /// have the same terms, peers with the same balances, routes and rates. Tokens and targets are not compared. If it
-    /// is refused, nothing has changed.
+    /// have the same terms, peers with the same balances, routes and rates. Tokens and targets are not compared.
+    ///
+    /// `Changed` comes only if the setup does not have that, or the lists of routes differ, whose order no clause says;
+    /// `Long` only if it has it, and a sum has no room. If the setup is refused, nothing has changed.
     pub fn begin(
         &mut self,
         alloc: Global,
@@ -272,6 +292,7 @@ impl Chain {
         setup: &TenantSetup,
         start: Moment,
     ) -> Result<(), ReadError<ChainFault>>
+        ensures fault { IfErr result (IsNotBegun self.old (start_at place setup.now start)) }
         ensures chain { OnOk result ((links : List Link) → IsChain links self.old → IsChain (links ++ Begun (start_at place setup.now start) ∷ []) self.new) }
         ensures err { OnErr result (self.new ≡ self.old) }
     {

@@ -2,7 +2,7 @@
 
 ghost use Rattle.std.specs.Prelude.{◌≡◌, ◌<◌, ℕ, IfOk, OnOk, Some, length, slice_index, slice_index_or, sum_by};
 ghost use Rattle.std.specs.List.{slice_get, zip};
-ghost use Rattle.statements.specs.Sums.{by_change, by_hold, by_record, counted_for, fee_by, IsAdded};
+ghost use Rattle.statements.specs.Sums.{by_change, by_hold, by_record, counted_for, fee_by, IsAdded, IsOver, OnLong};
 ghost use Rattle.tenant_core.specs.Views.{record_of};
 ghost use Rattle.tenant_core.specs.declared.hold.Hold.{Hold};
 ghost use Rattle.tenant_core.specs.declared.journal.Record.{Record};
@@ -80,7 +80,8 @@ fn hold_counts(hold: &Hold, what: OfHold) -> Option<(PeerNo, u64)>
 }
 
 fn add_record_at(tally: &mut Tally, records: &Records, place: usize, what: OfRecord) -> Summed<()>
-    ensures { OnOk result ((r : Record) → slice_get records.now place ≡ Some r → IsAdded tally.old tally.new (λ n. by_record what n r)) }
+    ensures added { OnOk result ((r : Record) → slice_get records.now place ≡ Some r → IsAdded tally.old tally.new (λ n. by_record what n r)) }
+    ensures long { OnLong result ((r : Record) → slice_get records.now place ≡ Some r → IsOver tally.old (λ n. by_record what n r)) }
 {
     match records.get(place) {
         Some(record) => tally.add(record_counts(&record, what)),
@@ -89,7 +90,8 @@ fn add_record_at(tally: &mut Tally, records: &Records, place: usize, what: OfRec
 }
 
 fn add_records(tally: &mut Tally, records: &Records, what: OfRecord) -> Summed<()>
-    ensures { OnOk result (IsAdded tally.old tally.new (λ n. sum_by (by_record what n) records.now)) }
+    ensures added { OnOk result (IsAdded tally.old tally.new (λ n. sum_by (by_record what n) records.now)) }
+    ensures long { OnLong result (IsOver tally.old (λ n. sum_by (by_record what n) records.now)) }
 {
     for place in 0..records.len() {
         add_record_at(tally, records, place, what)?;
@@ -98,7 +100,8 @@ fn add_records(tally: &mut Tally, records: &Records, what: OfRecord) -> Summed<(
 }
 
 fn add_holds(tally: &mut Tally, holds: &[Hold], what: OfHold) -> Summed<()>
-    ensures { OnOk result (IsAdded tally.old tally.new (λ n. sum_by (by_hold what n) holds.now)) }
+    ensures added { OnOk result (IsAdded tally.old tally.new (λ n. sum_by (by_hold what n) holds.now)) }
+    ensures long { OnLong result (IsOver tally.old (λ n. sum_by (by_hold what n) holds.now)) }
 {
     for hold in holds {
         tally.add(hold_counts(hold, what))?;
@@ -106,31 +109,22 @@ fn add_holds(tally: &mut Tally, holds: &[Hold], what: OfHold) -> Summed<()>
     Ok(())
 }
 
-// How many numbers of peers a period has seen.
-fn peers_of(period: &Period) -> usize {
-    period.ending().network.next_peer() as usize
-}
-
 /// The sums, and what the period's records count.
 pub fn with_records(alloc: Global, tally: &Tally, period: &Period, what: OfRecord) -> Summed<Tally>
-    ensures { IfOk result (λ sums. IsAdded tally.now sums (λ n. sum_by (by_record what n) period.now.records)) }
+    ensures added { IfOk result (λ sums. IsAdded tally.now sums (λ n. sum_by (by_record what n) period.now.records)) }
+    ensures long { OnLong result (IsOver tally.now (λ n. sum_by (by_record what n) period.now.records)) }
 {
-    let mut sums = tally.copy(alloc, peers_of(period))?;
+    let mut sums = tally.copy(alloc)?;
     add_records(&mut sums, period.records(), what)?;
     Ok(sums)
 }
 
 /// The sums, and what the packets of the period count that went on.
-pub fn with_holds(
-    alloc: Global,
-    tally: &Tally,
-    period: &Period,
-    holds: &[Hold],
-    what: OfHold,
-) -> Summed<Tally>
-    ensures { IfOk result (λ sums. IsAdded tally.now sums (λ n. sum_by (by_hold what n) holds.now)) }
+pub fn with_holds(alloc: Global, tally: &Tally, holds: &[Hold], what: OfHold) -> Summed<Tally>
+    ensures added { IfOk result (λ sums. IsAdded tally.now sums (λ n. sum_by (by_hold what n) holds.now)) }
+    ensures long { OnLong result (IsOver tally.now (λ n. sum_by (by_hold what n) holds.now)) }
 {
-    let mut sums = tally.copy(alloc, peers_of(period))?;
+    let mut sums = tally.copy(alloc)?;
     add_holds(&mut sums, holds, what)?;
     Ok(sums)
 }
@@ -147,13 +141,15 @@ fn fee_counts(hold: &Hold, fee: u64) -> Option<(PeerNo, u64)>
 fn add_fee_at(tally: &mut Tally, holds: &[Hold], fees: &[u64], place: usize) -> Summed<()>
     requires holds { place < length holds.now }
     requires fees { place < length fees.now }
-    ensures { OnOk result ((h : Hold) → IsAdded tally.old tally.new (λ n. fee_by n (slice_index_or holds.now place h, slice_index fees.now place))) }
+    ensures added { OnOk result ((h : Hold) → IsAdded tally.old tally.new (λ n. fee_by n (slice_index_or holds.now place h, slice_index fees.now place))) }
+    ensures long { OnLong result ((h : Hold) → IsOver tally.old (λ n. fee_by n (slice_index_or holds.now place h, slice_index fees.now place))) }
 {
     tally.add(fee_counts(&holds[place], fees[place]))
 }
 
 fn add_fees(tally: &mut Tally, holds: &[Hold], fees: &[u64]) -> Summed<()>
-    ensures { OnOk result (IsAdded tally.old tally.new (λ n. sum_by (fee_by n) (zip holds.now fees.now))) }
+    ensures added { OnOk result (IsAdded tally.old tally.new (λ n. sum_by (fee_by n) (zip holds.now fees.now))) }
+    ensures long { OnLong result (IsOver tally.old (λ n. sum_by (fee_by n) (zip holds.now fees.now))) }
 {
     for place in 0..holds.len().min(fees.len()) {
         add_fee_at(tally, holds, fees, place)?;
@@ -163,9 +159,10 @@ fn add_fees(tally: &mut Tally, holds: &[Hold], fees: &[u64]) -> Summed<()>
 
 /// The sums, and the fees of the period's packets that went on.
 pub fn with_fees(alloc: Global, tally: &Tally, gone: &Gone) -> Summed<Tally>
-    ensures { IfOk result (λ sums. IsAdded tally.now sums (λ n. sum_by (fee_by n) (zip gone.now.holds.items gone.now.fees.items))) }
+    ensures added { IfOk result (λ sums. IsAdded tally.now sums (λ n. sum_by (fee_by n) (zip gone.now.holds.items gone.now.fees.items))) }
+    ensures long { OnLong result (IsOver tally.now (λ n. sum_by (fee_by n) (zip gone.now.holds.items gone.now.fees.items))) }
 {
-    let mut sums = tally.copy(alloc, peers_of(&gone.period))?;
+    let mut sums = tally.copy(alloc)?;
     add_fees(&mut sums, gone.holds.as_slice(), gone.fees.as_slice())?;
     Ok(sums)
 }

@@ -1,7 +1,8 @@
 //! What two descriptions of a tenant have in common.
 
-ghost use Rattle.std.specs.Prelude.{◌≡◌, ◌↔◌, IfOk, IsTrue, map};
-ghost use Rattle.statements.specs.Known.{number_in_next, anew_or, known, led, rated, stated, AreLed, IsSameSetup, IsStatedAs};
+ghost use Rattle.std.specs.Prelude.{◌≡◌, ◌↔◌, false, IfOk, IsTrue, map};
+ghost use Rattle.statements.specs.Known.{number_in_next, anew_or, known, led, rated, stated, AreLed, AreLedApart};
+ghost use Rattle.statements.specs.Known.{IsOtherSetup, IsSameSetup, IsStatedAs};
 
 use route_table::{Route, Routes};
 use std::alloc::{AllocError, Global};
@@ -107,7 +108,7 @@ fn anew_or(before: &Network, after: &Network, number: PeerNo) -> PeerNo
 }
 
 fn is_led(before: &Network, after: &Network, route: &Route, other: &Route) -> bool
-    ensures { IsTrue result → led (anew_or before.now.peers after.now.peers) route.now ≡ other.now }
+    ensures { IsTrue result ↔ (led (anew_or before.now.peers after.now.peers) route.now ≡ other.now) }
 {
     route.prefix.bytes() == other.prefix.bytes()
         && anew_or(before, after, route.hop.peer) == other.hop.peer
@@ -115,7 +116,7 @@ fn is_led(before: &Network, after: &Network, route: &Route, other: &Route) -> bo
 }
 
 fn are_led(before: &Network, after: &Network, routes: &[Route], others: &[Route]) -> bool
-    ensures { IsTrue result → map (led (anew_or before.now.peers after.now.peers)) routes.now ≡ others.now }
+    ensures { IsTrue result ↔ (map (led (anew_or before.now.peers after.now.peers)) routes.now ≡ others.now) }
 {
     if routes.len() != others.len() {
         return false;
@@ -129,7 +130,8 @@ fn are_led(before: &Network, after: &Network, routes: &[Route], others: &[Route]
 }
 
 fn lead_the_same(alloc: Global, before: &Network, after: &Network) -> Result<bool, AllocError>
-    ensures { IfOk result (λ same. IsTrue same → AreLed (anew_or before.now.peers after.now.peers) before.now.routes after.now.routes) }
+    ensures same { IfOk result (λ same. IsTrue same → AreLed (anew_or before.now.peers after.now.peers) before.now.routes after.now.routes) }
+    ensures other { IfOk result (λ same. same ≡ false → AreLedApart (anew_or before.now.peers after.now.peers) before.now.routes after.now.routes) }
 {
     let routes = before.routes().list(alloc)?;
     let others = after.routes().list(alloc)?;
@@ -137,7 +139,7 @@ fn lead_the_same(alloc: Global, before: &Network, after: &Network) -> Result<boo
 }
 
 fn is_rated(before: &Network, after: &Network, rate: &RateTerms, other: &RateTerms) -> bool
-    ensures { IsTrue result → rated (anew_or before.now.peers after.now.peers) rate.now ≡ other.now }
+    ensures { IsTrue result ↔ (rated (anew_or before.now.peers after.now.peers) rate.now ≡ other.now) }
 {
     anew_or(before, after, rate.from) == other.from
         && anew_or(before, after, rate.to) == other.to
@@ -146,7 +148,7 @@ fn is_rated(before: &Network, after: &Network, rate: &RateTerms, other: &RateTer
 }
 
 fn are_rated(before: &Network, after: &Network, rates: &[RateTerms], others: &[RateTerms]) -> bool
-    ensures { IsTrue result → map (rated (anew_or before.now.peers after.now.peers)) rates.now ≡ others.now }
+    ensures { IsTrue result ↔ (map (rated (anew_or before.now.peers after.now.peers)) rates.now ≡ others.now) }
 {
     if rates.len() != others.len() {
         return false;
@@ -160,13 +162,13 @@ fn are_rated(before: &Network, after: &Network, rates: &[RateTerms], others: &[R
 }
 
 fn rate_the_same(before: &Network, after: &Network) -> bool
-    ensures { IsTrue result → map (rated (anew_or before.now.peers after.now.peers)) before.now.rates ≡ after.now.rates }
+    ensures { IsTrue result ↔ (map (rated (anew_or before.now.peers after.now.peers)) before.now.rates ≡ after.now.rates) }
 {
     are_rated(before, after, before.rates(), after.rates())
 }
 
 fn agree_the_same(terms: &TenantTerms, other: &TenantTerms) -> bool
-    ensures { IsTrue result → (terms.now.name ≡ other.now.name) × (terms.now.address ≡ other.now.address) × (terms.now.journal ≡ other.now.journal)
+    ensures { IsTrue result ↔ (terms.now.name ≡ other.now.name) × (terms.now.address ≡ other.now.address) × (terms.now.journal ≡ other.now.journal)
         × (terms.now.margin ≡ other.now.margin) × (terms.now.hold ≡ other.now.hold) }
 {
     terms.name.as_bytes() == other.name.as_bytes()
@@ -179,7 +181,8 @@ fn agree_the_same(terms: &TenantTerms, other: &TenantTerms) -> bool
 /// Whether one setup of a tenant says what the other one does, but for the tokens, the targets and the numbers of
 /// peers, and what their buckets hold. Fails only if it is out of memory.
 pub fn goes_on(alloc: Global, terms: &TenantTerms, other: &TenantTerms) -> Result<bool, AllocError>
-    ensures { IfOk result (λ same. IsTrue same → IsSameSetup terms.now other.now) }
+    ensures same { IfOk result (λ same. IsTrue same → IsSameSetup terms.now other.now) }
+    ensures other { IfOk result (λ same. same ≡ false → IsOtherSetup terms.now other.now) }
 {
     let (before, after) = (&terms.network, &other.network);
     let same = agree_the_same(terms, other)

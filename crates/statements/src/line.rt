@@ -1,14 +1,15 @@
 //! The sums of each peer that was there.
 
-ghost use Rattle.std.specs.Prelude.{◌≡◌, ◌+◌, ◌++◌, ◌∷◌, [], IfOk, OnOk, map, option_copied};
-ghost use Rattle.statements.specs.Line.{balance_in, line_anew, line_of, line_with, told_both};
+ghost use Rattle.std.specs.Prelude.{◌≡◌, ◌≤◌, ◌+◌, ◌^◌, ◌++◌, ◌∷◌, [], IfOk, OnOk, map, option_copied};
+ghost use Rattle.statements.specs.Line.{AreLinesOver, AreOver, IsLineOver, balance_in, line_anew, line_of, line_with, told_both};
+ghost use Rattle.statements.specs.Sums.{OnLong};
 ghost use Rattle.statements.specs.Summary.{chain_lines, told_by};
 
 use crate::chain::Chain;
 use crate::known::anew;
 use crate::seen::{PeerSeen, copy_of};
 use crate::tally::{LONG, Summed};
-use std::alloc::Global;
+use std::alloc::{AllocError, Global};
 use tenant_core::{Opening, Peer, PeerNo};
 
 /// The sums of a peer, in its units: what it owes at the end, what came in from it and went out to it, and the fees.
@@ -63,13 +64,15 @@ fn told_by(chain: &Chain, peer: PeerNo) -> PeerSums
 }
 
 fn plus(sum: u128, more: u128) -> Summed<u128>
-    ensures { IfOk result (λ both. both ≡ sum + more) }
+    ensures sum { IfOk result (λ both. both ≡ sum + more) }
+    ensures long { OnLong result (2 ^ 128 ≤ sum + more) }
 {
     sum.checked_add(more).ok_or(LONG)
 }
 
 fn told_both(before: &PeerSums, after: &PeerSums) -> Summed<PeerSums>
-    ensures { IfOk result (λ told. told ≡ told_both before.now after.now) }
+    ensures told { IfOk result (λ told. told ≡ told_both before.now after.now) }
+    ensures long { OnLong result (AreOver before.now after.now) }
 {
     Ok(PeerSums {
         ended: after.ended,
@@ -84,7 +87,8 @@ fn told_both(before: &PeerSums, after: &PeerSums) -> Summed<PeerSums>
 }
 
 fn told_with(chain: &Chain, line: &Line) -> Summed<PeerSums>
-    ensures { IfOk result (λ told. told ≡ (line_with (told_by chain.now) line.now).told) }
+    ensures told { IfOk result (λ told. told ≡ (line_with (told_by chain.now) line.now).told) }
+    ensures long { OnLong result (IsLineOver (told_by chain.now) line.now) }
 {
     match line.here {
         Some(peer) => told_both(&line.told, &told_by(chain, peer)),
@@ -93,7 +97,8 @@ fn told_with(chain: &Chain, line: &Line) -> Summed<PeerSums>
 }
 
 fn put_line_with(out: &mut Vec<Line>, chain: &Chain, line: &Line) -> Summed<()>
-    ensures { OnOk result (out.new.items ≡ out.old.items ++ line_with (told_by chain.now) line.now ∷ []) }
+    ensures put { OnOk result (out.new.items ≡ out.old.items ++ line_with (told_by chain.now) line.now ∷ []) }
+    ensures long { OnLong result (IsLineOver (told_by chain.now) line.now) }
 {
     let told = told_with(chain, line)?;
     Ok(out.push(Line {
@@ -104,7 +109,8 @@ fn put_line_with(out: &mut Vec<Line>, chain: &Chain, line: &Line) -> Summed<()>
 }
 
 fn put_lines_with(out: &mut Vec<Line>, chain: &Chain, lines: &[Line]) -> Summed<()>
-    ensures { OnOk result (out.new.items ≡ out.old.items ++ map (line_with (told_by chain.now)) lines.now) }
+    ensures put { OnOk result (out.new.items ≡ out.old.items ++ map (line_with (told_by chain.now)) lines.now) }
+    ensures long { OnLong result (AreLinesOver (told_by chain.now) lines.now) }
 {
     for line in lines {
         put_line_with(out, chain, line)?;
@@ -112,7 +118,7 @@ fn put_lines_with(out: &mut Vec<Line>, chain: &Chain, lines: &[Line]) -> Summed<
     Ok(())
 }
 
-fn put_line_of(out: &mut Vec<Line>, chain: &Chain, seen: &PeerSeen) -> Summed<()>
+fn put_line_of(out: &mut Vec<Line>, chain: &Chain, seen: &PeerSeen) -> Result<(), AllocError>
     ensures { OnOk result (out.new.items ≡ out.old.items ++ line_of (told_by chain.now) seen.now ∷ []) }
 {
     Ok(out.push(Line {
@@ -122,7 +128,7 @@ fn put_line_of(out: &mut Vec<Line>, chain: &Chain, seen: &PeerSeen) -> Summed<()
     })?)
 }
 
-fn put_lines_of(out: &mut Vec<Line>, chain: &Chain, peers: &[PeerSeen]) -> Summed<()>
+fn put_lines_of(out: &mut Vec<Line>, chain: &Chain, peers: &[PeerSeen]) -> Result<(), AllocError>
     ensures { OnOk result (out.new.items ≡ out.old.items ++ map (line_of (told_by chain.now)) peers.now) }
 {
     for seen in peers {
@@ -133,7 +139,8 @@ fn put_lines_of(out: &mut Vec<Line>, chain: &Chain, peers: &[PeerSeen]) -> Summe
 
 /// The lines of a chain: the sums of each peer that was there. `Long` if a sum has no room.
 pub fn lines_of(alloc: Global, chain: &Chain) -> Summed<Vec<Line>>
-    ensures { IfOk result (λ lines. lines.items ≡ chain_lines chain.now) }
+    ensures lines { IfOk result (λ lines. lines.items ≡ chain_lines chain.now) }
+    ensures long { OnLong result (AreLinesOver (told_by chain.now) chain.now.past.lines.items) }
 {
     let past = chain.past_lines();
     let totals = chain.totals();
@@ -146,7 +153,12 @@ pub fn lines_of(alloc: Global, chain: &Chain) -> Summed<Vec<Line>>
     Ok(lines)
 }
 
-fn put_line_anew(out: &mut Vec<Line>, peers: &[Peer], others: &[Peer], line: &Line) -> Summed<()>
+fn put_line_anew(
+    out: &mut Vec<Line>,
+    peers: &[Peer],
+    others: &[Peer],
+    line: &Line,
+) -> Result<(), AllocError>
     ensures { OnOk result (out.new.items ≡ out.old.items ++ line_anew peers.now others.now line.now ∷ []) }
 {
     let here = match line.here {
@@ -167,7 +179,7 @@ pub fn lines_anew(
     peers: &[Peer],
     others: &[Peer],
     lines: &[Line],
-) -> Summed<Vec<Line>>
+) -> Result<Vec<Line>, AllocError>
     ensures { IfOk result (λ anew. anew.items ≡ map (line_anew peers.now others.now) lines.now) }
 {
     let mut out = Vec::new(alloc);

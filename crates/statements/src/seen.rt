@@ -1,8 +1,9 @@
 //! Peers that were there.
 
-ghost use Rattle.std.specs.Prelude.{◌≡◌, ◌++◌, ◌∷◌, [], IfOk, OnOk, map, Some, if◌then◌else◌};
+ghost use Rattle.std.specs.Prelude.{◌≡◌, ◌≤◌, ◌^◌, ◌++◌, ◌∷◌, [], IfOk, OnOk, map, Some, if◌then◌else◌};
 ghost use Rattle.std.specs.List.{slice_get};
-ghost use Rattle.statements.specs.Seen.{seen_at_first, seen_added, seen_among, seen_during};
+ghost use Rattle.statements.specs.Seen.{IsOutOfNumbers, seen_at_first, seen_added, seen_among, seen_during};
+ghost use Rattle.statements.specs.Sums.{OnLong};
 ghost use Rattle.tenant_core.specs.Peers.{next_by};
 ghost use Rattle.tenant_core.specs.Views.{entry_of};
 ghost use Rattle.tenant_core.specs.declared.journal.Record.{Record};
@@ -68,7 +69,8 @@ fn put_all_first(out: &mut Vec<PeerSeen>, peers: &[Peer]) -> Result<(), AllocErr
 
 // Puts the peer that an entry adds, if it adds one, which gets that number; and gives the number of the next one.
 fn put_added(out: &mut Vec<PeerSeen>, entry: &EntryView<'_>, next: PeerNo) -> Summed<PeerNo>
-    ensures { IfOk result (λ after. (out.new.items ≡ out.old.items ++ seen_added next (entry_of entry.now)) × (after ≡ next_by next (entry_of entry.now))) }
+    ensures after { IfOk result (λ after. (out.new.items ≡ out.old.items ++ seen_added next (entry_of entry.now)) × (after ≡ next_by next (entry_of entry.now))) }
+    ensures long { OnLong result (2 ^ 16 ≤ next_by next (entry_of entry.now)) }
 {
     let EntryView::Change(entry) = entry else {
         return Ok(next);
@@ -90,8 +92,9 @@ fn put_added_at(
     place: usize,
     next: PeerNo,
 ) -> Summed<PeerNo>
-    ensures { IfOk result (λ after. (r : Record) → slice_get records.now place ≡ Some r
+    ensures after { IfOk result (λ after. (r : Record) → slice_get records.now place ≡ Some r
         → (out.new.items ≡ out.old.items ++ seen_added next r.entry) × (after ≡ next_by next r.entry)) }
+    ensures long { OnLong result ((r : Record) → slice_get records.now place ≡ Some r → 2 ^ 16 ≤ next_by next r.entry) }
 {
     match records.get(place) {
         Some(view) => put_added(out, &view.entry, next),
@@ -100,7 +103,8 @@ fn put_added_at(
 }
 
 fn put_all_added(out: &mut Vec<PeerSeen>, records: &Records, first: PeerNo) -> Summed<()>
-    ensures { OnOk result (out.new.items ≡ out.old.items ++ seen_among first records.now) }
+    ensures added { OnOk result (out.new.items ≡ out.old.items ++ seen_among first records.now) }
+    ensures long { OnLong result (IsOutOfNumbers first records.now) }
 {
     let mut next = first;
     for place in 0..records.len() {
@@ -115,20 +119,22 @@ pub fn first_with(
     first: &[PeerSeen],
     is_first: bool,
     period: &Period,
-) -> Summed<Vec<PeerSeen>>
+) -> Result<Vec<PeerSeen>, AllocError>
     ensures { IfOk result (λ all. all.items ≡ (if is_first then map seen_at_first period.now.opening.network.peers else first.now)) }
 {
     if !is_first {
-        return Ok(copied(alloc, first)?);
+        return copied(alloc, first);
     }
     let mut all = Vec::new(alloc);
     put_all_first(&mut all, period.opening().network.peers())?;
     Ok(all)
 }
 
-/// The peers that were added, and those that the next period added.
+/// The peers that were added, and those that the next period added. `Long` if the next peer after one of these would get
+/// no number.
 pub fn added_with(alloc: Global, added: &[PeerSeen], period: &Period) -> Summed<Vec<PeerSeen>>
-    ensures { IfOk result (λ all. all.items ≡ added.now ++ seen_during period.now) }
+    ensures all { IfOk result (λ all. all.items ≡ added.now ++ seen_during period.now) }
+    ensures long { OnLong result (IsOutOfNumbers period.now.opening.network.next_peer period.now.records) }
 {
     let mut all = copied(alloc, added)?;
     put_all_added(

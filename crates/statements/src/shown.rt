@@ -1,6 +1,10 @@
 //! Where a text is not good, for people: which line, and what the rules lead to there. No clause says which line is
 //! shown.
 
+ghost use Rattle.std.specs.Prelude.{IfOk};
+ghost use Rattle.statements.specs.Due.{opening_due};
+ghost use Rattle.statements.specs.Statement.{IsNextHead};
+
 use crate::chain::{Chain, ChainFault, present};
 use crate::checked::{StatementFault, first_difference, gone_over};
 use crate::put::{put_number, put_prefix, put_signed, put_terms, put_word};
@@ -129,7 +133,9 @@ fn line_in(alloc: Global, text: &[u8], line: usize) -> Result<Vec<u8>, AllocErro
 impl Chain {
     /// How the next statement must begin: all that comes before its records; empty if nothing came before it. Fails
     /// only if it is out of memory.
-    pub fn next_head(&self, alloc: Global) -> Result<Vec<u8>, AllocError> {
+    pub fn next_head(&self, alloc: Global) -> Result<Vec<u8>, AllocError>
+        ensures { IfOk result (λ text. IsNextHead (opening_due self.now.due) text.items) }
+    {
         match self.opening_due() {
             Some(opening) => write_head(alloc, opening),
             None => Ok(Vec::new(alloc)),

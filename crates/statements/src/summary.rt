@@ -3,7 +3,8 @@
 ghost use Rattle.std.specs.Prelude.{◌≡◌, ◌++◌, IfOk, List, OnOk};
 ghost use Rattle.std.specs.List.{flat_map};
 ghost use Rattle.statements.specs.Chain.{IsChain, Link};
-ghost use Rattle.statements.specs.Summary.{chain_text, good_line, in_words, keyed, keyed_signed, summary_line};
+ghost use Rattle.statements.specs.Sums.{OnLong};
+ghost use Rattle.statements.specs.Summary.{IsLongPast, chain_text, good_line, in_words, keyed, keyed_signed, summary_line};
 ghost use Rattle.statements.specs.Summary.{out_words, seen_words, summary_text, told_line};
 
 use crate::chain::Chain;
@@ -92,7 +93,8 @@ fn put_good(out: &mut Vec<u8>, periods: u64, entries: u64) -> Result<(), AllocEr
 
 // The lines, by the chain's own sums.
 fn chain_text(alloc: Global, chain: &Chain) -> Summed<Vec<u8>>
-    ensures { IfOk result (λ text. text.items ≡ chain_text chain.now) }
+    ensures text { IfOk result (λ text. text.items ≡ chain_text chain.now) }
+    ensures long { OnLong result (IsLongPast chain.now) }
 {
     let (periods, entries) = chain.counts()?;
     let lines = lines_of(alloc, chain)?;
@@ -108,7 +110,8 @@ impl Chain {
     /// the fees. Fails if a sum has no room, or if it is out of memory.
     #[tactic(auto, using(crate::proofs::SummarySteps::chain_text_is))]
     pub fn summary(&self, alloc: Global) -> Summed<Vec<u8>>
-        ensures { IfOk result (λ text. (links : List Link) (chain : IsChain links self.now) → text.items ≡ summary_text chain.done chain.periods) }
+        ensures long { OnLong result (IsLongPast self.now) }
+        ensures summary { IfOk result (λ text. (links : List Link) (chain : IsChain links self.now) → text.items ≡ summary_text chain.done chain.periods) }
     {
         chain_text(alloc, self)
     }

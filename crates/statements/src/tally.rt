@@ -1,7 +1,7 @@
 //! Sums for the numbers of peers.
 
-ghost use Rattle.std.specs.Prelude.{◌≡◌, ◌+◌, ℕ, IfOk, OnOk};
-ghost use Rattle.statements.specs.Sums.{counted_for, IsAdded, sum_at};
+ghost use Rattle.std.specs.Prelude.{◌≡◌, ◌<◌, ◌+◌, ℕ, IfOk, OnOk, vec_len};
+ghost use Rattle.statements.specs.Sums.{counted_for, IsAdded, IsOver, OnLong, sum_at};
 
 use common_types::ReadError;
 use std::alloc::{AllocError, Global};
@@ -42,29 +42,38 @@ impl Tally {
         }
     }
 
-    #[tactic(auto, using(crate::proofs::ZeroSums::zero_more))]
-    /// A copy of the sums, with room for those of so many peers. Fails only if it is out of memory.
-    pub fn copy(&self, alloc: Global, peers: usize) -> Result<Tally, AllocError>
+    /// A copy of the sums. Fails only if it is out of memory.
+    pub fn copy(&self, alloc: Global) -> Result<Tally, AllocError>
         ensures { IfOk result (λ copy. (n : ℕ) → sum_at copy n ≡ sum_at self.now n) }
     {
-        let mut sums = Vec::from_slice(alloc, self.sums.as_slice())?;
-        for _ in self.sums.len()..peers {
-            sums.push(0)?;
-        }
-        Ok(Tally { sums })
+        Ok(Tally {
+            sums: Vec::from_slice(alloc, self.sums.as_slice())?,
+        })
     }
 
-    /// Adds so much for that peer, if there is anything to add.
+    // Makes room for the sum of that peer. Fails only if it is out of memory.
+    #[tactic(auto, using(crate::proofs::ZeroSums::zero_more))]
+    fn reach(&mut self, peer: PeerNo) -> Result<(), AllocError>
+        ensures same { OnOk result ((n : ℕ) → sum_at self.new n ≡ sum_at self.old n) }
+        ensures there { OnOk result (peer < vec_len self.new.sums) }
+    {
+        for count in self.sums.len()..peer as usize + 1 {
+            self.sums.push(0)?;
+        }
+        Ok(())
+    }
+
+    /// Adds so much for that peer, if there is anything to add. `Long` if its sum has no room for it.
     pub fn add(&mut self, counted: Option<(PeerNo, u64)>) -> Summed<()>
-        ensures { OnOk result (IsAdded self.old self.new (counted_for counted)) }
+        ensures added { OnOk result (IsAdded self.old self.new (counted_for counted)) }
+        ensures long { OnLong result (IsOver self.old (counted_for counted)) }
     {
         let Some((peer, amount)) = counted else {
             return Ok(());
         };
-        let place = peer as usize;
-        let sum = self.sums.get(place).ok_or(LONG)?;
-        let more = sum.checked_add(amount as u128).ok_or(LONG)?;
-        self.sums[place] = more;
+        let more = self.get(peer).checked_add(amount as u128).ok_or(LONG)?;
+        self.reach(peer)?;
+        self.sums[peer as usize] = more;
         Ok(())
     }
 }

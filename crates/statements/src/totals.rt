@@ -1,8 +1,9 @@
 //! The sums of closed periods, for each peer.
 
-ghost use Rattle.std.specs.Prelude.{◌≡◌, ◌+◌, ◌++◌, ◌∷◌, [], IfOk, List};
+ghost use Rattle.std.specs.Prelude.{◌≡◌, ◌≤◌, ◌+◌, ◌^◌, ◌++◌, ◌∷◌, [], IfOk, List};
 ghost use Rattle.statements.specs.Gone.{IsGone};
-ghost use Rattle.statements.specs.Totals.{AreTotals};
+ghost use Rattle.statements.specs.Sums.{OnLong};
+ghost use Rattle.statements.specs.Totals.{AreTotals, IsTooLong};
 ghost use Rattle.tenant_core.specs.declared.period.PeriodParts.{PeriodParts};
 
 use crate::checked::Gone;
@@ -31,7 +32,8 @@ pub struct Totals {
 
 // A count and so many more.
 pub fn raised(count: u64, more: u64) -> Summed<u64>
-    ensures { IfOk result (λ sum. sum ≡ count + more) }
+    ensures sum { IfOk result (λ sum. sum ≡ count + more) }
+    ensures long { OnLong result (2 ^ 64 ≤ count + more) }
 {
     count.checked_add(more).ok_or(LONG)
 }
@@ -56,10 +58,11 @@ impl Totals {
         }
     }
 
-    /// The sums with those of the next period.
+    /// The sums with those of the next period. `Long` if one of them has no room.
     pub fn with(&self, alloc: Global, gone: &Gone) -> Summed<Totals>
         requires { IsGone gone.now }
-        ensures { IfOk result (λ totals. (ps : List PeriodParts) → AreTotals ps self.now → AreTotals (ps ++ gone.now.period ∷ []) totals) }
+        ensures totals { IfOk result (λ totals. (ps : List PeriodParts) → AreTotals ps self.now → AreTotals (ps ++ gone.now.period ∷ []) totals) }
+        ensures long { OnLong result (IsTooLong self.now gone.now.period) }
     {
         let period = &gone.period;
         let holds = gone.holds.as_slice();
@@ -69,9 +72,9 @@ impl Totals {
             first: first_with(alloc, self.first.as_slice(), self.periods == 0, period)?,
             added: added_with(alloc, self.added.as_slice(), period)?,
             came: with_records(alloc, &self.came, period, OfRecord::Came)?,
-            went: with_holds(alloc, &self.went, period, holds, OfHold::Went)?,
-            fulfilled_in: with_holds(alloc, &self.fulfilled_in, period, holds, OfHold::Brought)?,
-            fulfilled_out: with_holds(alloc, &self.fulfilled_out, period, holds, OfHold::CameTo)?,
+            went: with_holds(alloc, &self.went, holds, OfHold::Went)?,
+            fulfilled_in: with_holds(alloc, &self.fulfilled_in, holds, OfHold::Brought)?,
+            fulfilled_out: with_holds(alloc, &self.fulfilled_out, holds, OfHold::CameTo)?,
             settled_in: with_records(alloc, &self.settled_in, period, OfRecord::Paid)?,
             settled_out: with_records(alloc, &self.settled_out, period, OfRecord::WasPaid)?,
             fees: with_fees(alloc, &self.fees, gone)?,

@@ -1,6 +1,5 @@
 use Rattle.std.proofs.Common.{◌≡◌, ◌++◌, take}
-use Rattle.statements.specs.Seen.{seen_among}
-use Rattle.statements.proofs.SeenSteps.{next_after}
+use Rattle.statements.specs.Seen.{next_after, seen_among}
 use Rattle.statements.proofs.seen.put_all_added.Given as goal
 
 abbrev pub invariant-loop-place : goal.invariant-loop-place

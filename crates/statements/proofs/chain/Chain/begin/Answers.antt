@@ -16,9 +16,9 @@ pub returns-in-Ok-clause-chain : goal.returns-in-Ok-clause-chain
 returns-in-Ok-clause-chain c = λ links chain.
     let before : Chain = c.args.self.now in
     let others : List Peer = c.args.setup.now.network.peers in
-    let past = c.in-Ok.ensures in
+    let past = c.in-Ok.ensures.past in
     chain_begun links before _ (start_at c.args.place c.args.setup.now c.args.start)
-    (c.in_ok-is_continued.ensures c.args.place c.args.start c.if-not-branch.false)
+    (c.in_ok-is_continued.ensures.is c.args.place c.args.start c.if-not-branch.false)
     (ap Setup c.in_ok-opening.ensures) past.0 past.1
     (λ is. past.2
     ∙ (ap (λ (d : Due). map (line_anew (peers_of (opening_due d)) others) (chain_lines before)) is.due

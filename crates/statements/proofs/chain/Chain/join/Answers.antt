@@ -19,4 +19,4 @@ pub returns-in-Ok-clause-chain : goal.returns-in-Ok-clause-chain
 returns-in-Ok-clause-chain c = λ links chain.
     let p : PeriodParts = c.args.good.now.gone.period in
     chain_more links c.args.self.now _ c.args.good.now.text.now p c.requires.stated c.period_is_kept.ensures
-    (c.is_followed.ensures.0 c.if-not-is_followed.false) (ap Ending (c.in_ok-ending.ensures ∙ c.ending.ensures)) refl c.in-Ok.ensures chain
+    (c.is_followed.ensures.0 c.if-not-is_followed.false) (ap Ending (c.in_ok-ending.ensures ∙ c.ending.ensures)) refl c.in-Ok.ensures.totals chain
