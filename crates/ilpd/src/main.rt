@@ -1,40 +1,25 @@
 //! The connector's program.
 #![tactic(auto)]
 
-ghost use Rattle.std.specs.Prelude.{◌≡◌, ◌≤◌, length, IfOk};
+ghost use Rattle.std.specs.Prelude.{◌≤◌, length, IfOk};
 ghost use Rattle.allotment.specs.Loans.{max_places};
 ghost use Rattle.books_shared.specs.Gathers.{max_workers};
 ghost use Rattle.floor_core.specs.FloorView.{max_seats};
-ghost use Rattle.ilpd.specs.CommandLine.{token_in_file};
 ghost use Rattle.tenant_core.specs.Limits.{max_tenants};
 
-#[cfg(test)]
-mod audit_tests;
-mod auditing;
-mod checking;
-mod clock;
-mod command_line;
-mod ending;
-mod filing;
-mod reasons;
-#[cfg(test)]
-mod tests;
-mod verifying;
-
 use admin_text::{Setup, read_setup};
-use auditing::{Statements, tell_audit};
-use checking::{Script, check, ending_of, printing};
-use clock::SystemClock;
-use command_line::{CommandLine, Task, arguments};
+pub use command_line::arguments;
+use command_line::{
+    CommandLine, Ending, Filer, Script, Statements, SystemClock, Task, asks_version, begin, check,
+    ending_of, exit_status, good_in, join, memory_refused, name_in, printing, reason_of,
+    replay_filing, take, tell, tell_audit, token_of, words_refused,
+};
 use common_types::{Name, ReadError, Token};
-use ending::{Ending, asks_version, exit_status, words_refused};
-pub use filing::{Filer, replay_filing};
 use oer_core::Counted;
-use reasons::reason_of;
 pub use replay_text::{ReplayFault, replay};
 use service::{
     Disk, Doors, Extent, Folder, HostDoor, OperatorDoor, Plan, ServeFault, can_open, files_of,
-    serve, without_line_feed,
+    serve,
 };
 use statements::Chain;
 use std::alloc::{AllocError, AllocFailed, Global};
@@ -46,7 +31,6 @@ use std::sync::Wait;
 use std::thread::Threads;
 use std::time::Clock;
 use std::{env, fs, io};
-use verifying::{begin, good_in, join, memory_refused, name_in, take, tell};
 
 // Says on standard error that there are only so many of something for so many others, and the effect.
 fn complain(
@@ -274,13 +258,6 @@ fn token_in(rt: &(impl Files + Print + AllocGlobal), file: &str) -> Result<Token
         return Err(Ending::NoToken);
     };
     Ok(token)
-}
-
-// The token of a text, which a line feed may end.
-fn token_of(text: &[u8]) -> Option<Token>
-    ensures { result ≡ token_in_file text.now }
-{
-    Token::new(without_line_feed(text))
 }
 
 // Says in a line on standard output what to do if so many files can't be open at once.

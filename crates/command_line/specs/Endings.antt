@@ -1,0 +1,20 @@
+-- The exit status of the program.
+use Rattle.std.specs.Prelude.{ℕ, Result, Ok, Err}
+use Rattle.replay_text.specs.Replay.{replay_status}
+use Rattle.service.specs.declared.running.ending.ServeFault.TheVariants as service
+use Rattle.command_line.specs.declared.ending.Ending.{Ending}
+use Rattle.command_line.specs.declared.ending.Ending.TheVariants.{Usage, Fault, Served, NoToken, NotGood, Audit}
+
+-- 0 if nothing went wrong, 2 for a bad command line or token, 4 for a bad statement or text of receipts, 6 for an
+-- audit that found a fault. Otherwise it depends on what went wrong: a replay, a file, or a service
+abbrev pub exit_status : Result (Unit {0}) Ending → ℕ
+exit_status (Ok done) = 0
+exit_status (Err (Usage error)) = 2
+exit_status (Err (Fault fault)) = replay_status fault
+exit_status (Err (Served service.Memory)) = 1
+exit_status (Err (Served service.Device)) = 5
+exit_status (Err (Served service.Differs)) = 6
+exit_status (Err (Served service.Audit)) = 6
+exit_status (Err NoToken) = 2
+exit_status (Err NotGood) = 4
+exit_status (Err Audit) = 6

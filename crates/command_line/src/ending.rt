@@ -1,0 +1,61 @@
+//! How the program ends.
+
+ghost use Rattle.std.specs.Prelude.{◌≡◌, ◌≢◌, ◌↔◌, IsTrue};
+ghost use Rattle.clap.specs.Values.{kind_of};
+ghost use Rattle.clap.specs.declared.error.kind.ErrorKind.TheVariants.{DisplayVersion, OutOfMemory};
+ghost use Rattle.command_line.specs.Endings.{exit_status};
+
+use clap::error::ErrorKind;
+use replay_text::ReplayFault;
+use service::ServeFault;
+
+/// Why the program ended early.
+#[derive(Drop)]
+pub enum Ending {
+    /// The command line is not valid, or asks for help.
+    Usage(clap::Error),
+    Fault(ReplayFault),
+    /// A service ended so.
+    Served(ServeFault),
+    /// The file of the host's token has no token, as a line has said.
+    NoToken,
+    /// A statement is not good, or does not go on from the one before it, or a text is not one of receipts. Lines have
+    /// said so.
+    NotGood,
+    /// An audit of receipts found a fault, as a line has said.
+    Audit,
+}
+
+/// How a run ends whose words were not accepted: out of memory if that is the error's kind, otherwise with the text
+/// for people.
+pub fn words_refused(error: clap::Error) -> Ending
+    ensures memory { kind_of error ≡ OutOfMemory → result ≡ Ending.Fault ReplayFault.Memory }
+    ensures text { kind_of error ≢ OutOfMemory → result ≡ Ending.Usage error }
+{
+    if error.kind() == ErrorKind::OutOfMemory {
+        return Ending::Fault(ReplayFault::Memory);
+    }
+    Ending::Usage(error)
+}
+
+/// Whether the words asked for the version, which the error's text has, and only for that.
+pub fn asks_version(error: &clap::Error) -> bool
+    ensures { IsTrue result ↔ (kind_of error.now ≡ DisplayVersion) }
+{
+    error.kind() == ErrorKind::DisplayVersion
+}
+
+/// The exit status of a run that ended so: 0 only if nothing went wrong.
+pub fn exit_status(ended: &Result<(), Ending>) -> u8
+    ensures { result ≡ exit_status ended.now }
+{
+    match ended {
+        Ok(()) => 0,
+        Err(Ending::Usage(_) | Ending::NoToken) => 2,
+        Err(Ending::NotGood) => 4,
+        Err(Ending::Fault(fault)) => fault.status(),
+        Err(Ending::Served(ServeFault::Memory)) => 1,
+        Err(Ending::Served(ServeFault::Device)) => 5,
+        Err(Ending::Served(ServeFault::Differs | ServeFault::Audit) | Ending::Audit) => 6,
+    }
+}

@@ -1,0 +1,548 @@
+//! The command line.
+
+ghost use Rattle.std.specs.Prelude.{◌≡◌, ◌≤◌, IfOk, IfSome};
+ghost use Rattle.books_shared.specs.Gathers.{max_workers};
+ghost use Rattle.floor_core.specs.FloorView.{max_seats};
+ghost use Rattle.command_line.specs.CommandLine.{IsBounded};
+
+use books_shared::MAX_WORKERS;
+use clap::error::ErrorKind;
+use clap::{Arg, ArgAction, ArgMatches, Command, Error, value_parser};
+use floor_core::MAX_SEATS;
+use service::Report;
+use std::alloc::{AllocError, Global};
+
+/// What the program is to do.
+#[derive(Clone, Copy, Debug, PartialEq, Eq)]
+pub enum Task {
+    /// To replay the script on standard input.
+    Replay,
+    /// To say whether it is good, and whether a script for it is.
+    Check,
+    /// To say whether statements are good and continue one another, and their sums.
+    Verify,
+    /// To serve so many connections at once, each on a thread of its own, and to end once as many were served for each worker,
+    /// if it is to end; and what to tell then.
+    Serve {
+        connections: usize,
+        rounds: Option<u32>,
+        report: Report,
+    },
+}
+
+/// How many connections there are at once where the command line does not say.
+const CONNECTIONS: usize = 256;
+
+/// The most connections for each worker before a service ends.
+const MAX_ROUNDS: u32 = 1_000_000;
+
+/// All of the entries that a period has room for, in hundredths.
+const WHOLE: u8 = 100;
+
+/// The address of the host's door, and the file of the token that is shown there.
+#[derive(Clone, Copy, Debug, PartialEq, Eq)]
+pub struct HostWords<'a> {
+    pub address: &'a str,
+    pub token_file: &'a str,
+}
+
+/// What the command line asks for, the file of the setup, how many workers there are, the address that a service listens on,
+/// and the host's door, if it has one.
+#[derive(Drop)]
+pub struct CommandLine<'a> {
+    pub task: Task,
+    pub setup: &'a str,
+    /// The file of the script to check.
+    pub script: Option<&'a str>,
+    pub workers: usize,
+    pub address: &'a str,
+    pub host: Option<HostWords<'a>>,
+    /// The address of the operators' door.
+    pub operators: Option<&'a str>,
+    /// The folder where the statements of closed periods are kept.
+    pub folder: Option<&'a str>,
+    /// The files of the statements to verify.
+    pub statements: Option<Vec<&'a str>>,
+    /// The file of the setup with which the first of them must begin.
+    pub first: Option<&'a str>,
+    /// The file of the receipts to audit by them.
+    pub receipts: Option<&'a str>,
+    /// At how many hundredths of its entries, 1 to 100, a service closes a tenant's period by itself, if it does.
+    pub roll_at: Option<u8>,
+}
+
+/// The address that a service listens on where the command line names none.
+const ADDRESS: &str = "127.0.0.1:7768";
+
+/// The version of the program. No revision and no date of its sources are known to it.
+const VERSION: &str = "0.1.0";
+
+const USAGE: &str =
+    "ilpd replay SETUP [--workers W] [--statements DIR] < SCRIPT\n       ilpd check SETUP [SCRIPT [--workers W]]\n       \
+ilpd verify [--setup SETUP] [--receipts FILE] FILE..\n       \
+ilpd serve SETUP --workers W [--connections C] [--rounds N] [--balances] [--audit] [--listen ADDR]\n                  \
+[--host ADDR --host-token FILE] [--operators ADDR] [--statements DIR] [--roll-at PERCENT]";
+
+const WHERE: &str =
+    "docs/FORMATS.md describes setups, scripts and what is printed; examples/ has some of each";
+
+fn setup_of<'a>(alloc: Global) -> Arg<'a> {
+    Arg::new(alloc, "SETUP")
+        .help("The file of the setup, in TOML")
+        .required(true)
+        .action(ArgAction::Set)
+}
+
+// How many workers a script has.
+fn script_workers<'a>(alloc: Global) -> Arg<'a> {
+    Arg::new(alloc, "workers")
+        .long("workers")
+        .value_name("W")
+        .help("How many workers the script has, 1 to 64")
+        .default_value("1")
+        .value_parser(value_parser!(u64))
+}
+
+fn replay_of<'a>(alloc: Global) -> Result<Command<'a>, AllocError> {
+    Command::new(alloc, "replay")
+        .about("Runs the script on standard input, and prints what each of its steps gives")
+        .override_usage("ilpd replay SETUP [--workers W] [--statements DIR] < SCRIPT")
+        .after_help("Example: ilpd replay examples/s1.toml < examples/forward.script")
+        .arg(setup_of(alloc))?
+        .arg(script_workers(alloc))?
+        .arg(script_folder(alloc))
+}
+
+fn script_folder<'a>(alloc: Global) -> Arg<'a> {
+    Arg::new(alloc, "statements")
+        .long("statements")
+        .value_name("DIR")
+        .help(
+            "The folder that gets the statement of each period that the script closes, and has none of these tenants yet",
+        )
+        .action(ArgAction::Set)
+}
+
+fn check_of<'a>(alloc: Global) -> Result<Command<'a>, AllocError> {
+    Command::new(alloc, "check")
+        .about("Says whether a setup is good, and a script for it, and else what is wrong")
+        .override_usage("ilpd check SETUP [SCRIPT [--workers W]]")
+        .after_help("Example: ilpd check examples/s1.toml examples/forward.script")
+        .arg(setup_of(alloc))?
+        .arg(script_of(alloc))?
+        .arg(script_workers(alloc).requires_arg("SCRIPT")?)
+}
+
+fn script_of<'a>(alloc: Global) -> Arg<'a> {
+    Arg::new(alloc, "SCRIPT")
+        .help("The file of a script for the setup's tenants")
+        .action(ArgAction::Set)
+}
+
+fn verify_of<'a>(alloc: Global) -> Result<Command<'a>, AllocError> {
+    Command::new(alloc, "verify")
+        .about(
+            "Says whether statements are good and go on, and what they come to, or what is wrong",
+        )
+        .override_usage("ilpd verify [--setup SETUP] [--receipts FILE] FILE..")
+        .after_help(
+            "Example: ilpd verify --setup examples/fees.toml examples/acme.0.statement examples/acme.1.statement",
+        )
+        .arg(first_setup(alloc))?
+        .arg(receipts_of(alloc))?
+        .arg(statements_of(alloc))
+}
+
+fn receipts_of<'a>(alloc: Global) -> Arg<'a> {
+    Arg::new(alloc, "receipts")
+        .long("receipts")
+        .value_name("FILE")
+        .help(
+            "The file of the receipts of all workers that are to be audited: then each FILE is a statement of any tenant",
+        )
+        .action(ArgAction::Set)
+}
+
+fn first_setup<'a>(alloc: Global) -> Arg<'a> {
+    Arg::new(alloc, "setup")
+        .long("setup")
+        .value_name("SETUP")
+        .help("The file of the setup that the first statement is to begin with")
+        .action(ArgAction::Set)
+}
+
+fn statements_of<'a>(alloc: Global) -> Arg<'a> {
+    Arg::new(alloc, "FILE")
+        .help(
+            "The files of a tenant's statements, one period after another, and .toml files: the setups that the service started with again",
+        )
+        .required(true)
+        .num_args(1..)
+        .action(ArgAction::Append)
+}
+
+// The files of the statements that the words of `verify` name.
+fn files_of<'a>(
+    alloc: Global,
+    matches: &ArgMatches<'a>,
+) -> Result<Option<Vec<&'a str>>, AllocError> {
+    let Some(("verify", words)) = matches.subcommand() else {
+        return Ok(None);
+    };
+    match words.get_strs("FILE") {
+        Some(files) => Ok(Some(Vec::from_slice(alloc, files)?)),
+        None => Ok(None),
+    }
+}
+
+fn service_workers<'a>(alloc: Global) -> Arg<'a> {
+    Arg::new(alloc, "workers")
+        .long("workers")
+        .value_name("W")
+        .help("How many packets may be on their way to next peers at once, 1 to 64")
+        .required(true)
+        .value_parser(value_parser!(u64))
+}
+
+fn service_connections<'a>(alloc: Global) -> Arg<'a> {
+    Arg::new(alloc, "connections")
+        .long("connections")
+        .value_name("C")
+        .help("How many connections may be open at once, each on a thread of its own, 1 to 4096")
+        .default_value("256")
+        .value_parser(value_parser!(u64))
+}
+
+fn service_rounds<'a>(alloc: Global) -> Arg<'a> {
+    Arg::new(alloc, "rounds")
+        .long("rounds")
+        .value_name("N")
+        .help("To end once W times N connections were served; N is 1 to 1000000")
+        .value_parser(value_parser!(u64))
+}
+
+fn flag_of<'a>(alloc: Global, name: &'static str, help: &'static str) -> Arg<'a> {
+    Arg::new(alloc, name)
+        .long(name)
+        .help(help)
+        .action(ArgAction::SetTrue)
+}
+
+fn listen_of<'a>(alloc: Global) -> Arg<'a> {
+    Arg::new(alloc, "listen")
+        .long("listen")
+        .value_name("ADDR")
+        .help("The address to listen on: an IP address and a port")
+        .default_value(ADDRESS)
+}
+
+// How many there are of what a service has.
+fn with_extent<'a>(alloc: Global, serve: Command<'a>) -> Result<Command<'a>, AllocError> {
+    serve
+        .arg(setup_of(alloc))?
+        .arg(service_workers(alloc))?
+        .arg(service_connections(alloc))?
+        .arg(service_rounds(alloc))
+}
+
+// What a service prints at the end.
+fn with_reports<'a>(alloc: Global, serve: Command<'a>) -> Result<Command<'a>, AllocError> {
+    let balances = "To print in the end what each peer owes, as the command balances does";
+    let audit = "To keep a receipt of all that is done, and to audit the receipts in the end";
+    serve
+        .arg(flag_of(alloc, "balances", balances))?
+        .arg(flag_of(alloc, "audit", audit))
+}
+
+fn host_address<'a>(alloc: Global) -> Result<Arg<'a>, AllocError> {
+    Arg::new(alloc, "host")
+        .long("host")
+        .value_name("ADDR")
+        .help(
+            "The address at which whoever runs the process asks for health, metrics and the present setup, and stops it",
+        )
+        .action(ArgAction::Set)
+        .requires_arg("host-token")
+}
+
+fn host_token<'a>(alloc: Global) -> Result<Arg<'a>, AllocError> {
+    Arg::new(alloc, "host-token")
+        .long("host-token")
+        .value_name("FILE")
+        .help("The file of the token that is shown there")
+        .action(ArgAction::Set)
+        .requires_arg("host")
+}
+
+// The words of the host's door, each of which needs the other.
+fn with_host<'a>(alloc: Global, serve: Command<'a>) -> Result<Command<'a>, AllocError> {
+    serve.arg(host_address(alloc)?)?.arg(host_token(alloc)?)
+}
+
+fn operators_address<'a>(alloc: Global) -> Arg<'a> {
+    Arg::new(alloc, "operators")
+        .long("operators")
+        .value_name("ADDR")
+        .help(
+            "The address at which each operator asks for its own setup, metrics and statements, and why a packet would be refused",
+        )
+        .action(ArgAction::Set)
+}
+
+fn folder_of<'a>(alloc: Global) -> Arg<'a> {
+    Arg::new(alloc, "statements")
+        .long("statements")
+        .value_name("DIR")
+        .help(
+            "The folder that gets the statement of each period that is closed: one of its own for each start",
+        )
+        .action(ArgAction::Set)
+}
+
+fn roll_at<'a>(alloc: Global) -> Arg<'a> {
+    Arg::new(alloc, "roll-at")
+        .long("roll-at")
+        .value_name("PERCENT")
+        .help(
+            "To close a tenant's period, as the command roll does, once it is so full and no packet awaits its answer, 1 to 100",
+        )
+        .value_parser(value_parser!(u64))
+}
+
+fn serve_of<'a>(alloc: Global) -> Result<Command<'a>, AllocError> {
+    let serve = Command::new(alloc, "serve")
+        .about(
+            "Serves packets and commands over HTTP, and prints in the end how many were answered how",
+        )
+        .override_usage(
+            "ilpd serve SETUP --workers W [--connections C] [--rounds N] [--balances] [--audit] [--listen ADDR]\n                  [--host ADDR --host-token FILE] [--operators ADDR] [--statements DIR] [--roll-at PERCENT]",
+        )
+        .after_help("Example: ilpd serve examples/serve.toml --workers 4");
+    let serve = with_reports(alloc, with_extent(alloc, serve)?)?;
+    with_host(alloc, serve.arg(listen_of(alloc))?)?
+        .arg(operators_address(alloc))?
+        .arg(folder_of(alloc))?
+        .arg(roll_at(alloc))
+}
+
+// How many workers there are, 1 where nothing is said.
+fn workers_of(words: &ArgMatches<'_>) -> usize
+    ensures least { 1 ≤ result }
+    ensures most { result ≤ max_seats }
+{
+    match words.get_one::<usize>("workers") {
+        Some(workers) if 1 <= workers && workers <= MAX_SEATS => workers,
+        _ => 1,
+    }
+}
+
+// How many connections may be open at once.
+fn connections_of(words: &ArgMatches<'_>) -> usize
+    ensures least { 1 ≤ result }
+    ensures most { result ≤ max_workers }
+{
+    match words.get_one::<usize>("connections") {
+        Some(connections) if 1 <= connections && connections <= MAX_WORKERS => connections,
+        _ => CONNECTIONS,
+    }
+}
+
+// How many connections are served for each worker, where that is said.
+fn rounds_of(words: &ArgMatches<'_>) -> Option<u32>
+    ensures { IfSome result (λ rounds. (1 ≤ rounds) × (rounds ≤ MAX_ROUNDS)) }
+{
+    match words.get_one::<u32>("rounds") {
+        Some(rounds) if 1 <= rounds && rounds <= MAX_ROUNDS => Some(rounds),
+        _ => None,
+    }
+}
+
+// At how many hundredths of its entries a period is closed, where that is said.
+fn roll_at_of(words: &ArgMatches<'_>) -> Option<u8>
+    ensures { IfSome result (λ percent. (1 ≤ percent) × (percent ≤ WHOLE)) }
+{
+    match words.get_one::<u8>("roll-at") {
+        Some(percent) if 1 <= percent && percent <= WHOLE => Some(percent),
+        _ => None,
+    }
+}
+
+// The host's door, where both of its words are there.
+fn host_of<'a>(words: &ArgMatches<'a>) -> Option<HostWords<'a>> {
+    Some(HostWords {
+        address: words.get_str("host")?,
+        token_file: words.get_str("host-token")?,
+    })
+}
+
+// A line with the setup that the words name.
+fn line_of<'a>(
+    task: Task,
+    words: &ArgMatches<'a>,
+    workers: usize,
+    address: &'a str,
+) -> CommandLine<'a>
+    ensures task { result.task ≡ task }
+    ensures workers { result.workers ≡ workers }
+{
+    CommandLine {
+        task,
+        setup: words.get_str("SETUP").unwrap_or(""),
+        script: words.get_str("SCRIPT"),
+        workers,
+        address,
+        host: None,
+        operators: None,
+        folder: None,
+        statements: None,
+        first: words.get_str("setup"),
+        receipts: words.get_str("receipts"),
+        roll_at: None,
+    }
+}
+
+// What the words of a subcommand ask for.
+fn line_in<'a>(matches: &ArgMatches<'a>) -> CommandLine<'a>
+    ensures least { 1 ≤ result.workers }
+    ensures most { result.workers ≤ max_seats }
+    ensures bounded { IsBounded result.task }
+{
+    match matches.subcommand() {
+        Some(("check", check)) => line_of(Task::Check, check, workers_of(check), ADDRESS),
+        Some(("verify", verify)) => line_of(Task::Verify, verify, 1, ADDRESS),
+        Some(("serve", serve)) => {
+            let task = Task::Serve {
+                connections: connections_of(serve),
+                rounds: rounds_of(serve),
+                report: Report {
+                    balances: serve.get_flag("balances"),
+                    audit: serve.get_flag("audit"),
+                },
+            };
+            let address = serve.get_str("listen").unwrap_or(ADDRESS);
+            CommandLine {
+                host: host_of(serve),
+                operators: serve.get_str("operators"),
+                folder: serve.get_str("statements"),
+                roll_at: roll_at_of(serve),
+                ..line_of(task, serve, workers_of(serve), address)
+            }
+        }
+        Some((_, replay)) => CommandLine {
+            folder: replay.get_str("statements"),
+            ..line_of(Task::Replay, replay, workers_of(replay), ADDRESS)
+        },
+        None => line_of(Task::Replay, matches, 1, ADDRESS),
+    }
+}
+
+// A number that must be from 1 to a greatest one.
+#[derive(Clone, Copy)]
+struct Limited {
+    name: &'static str,
+    shown: &'static str,
+    most: u64,
+}
+
+const LIMITED: [Limited; 4] = [
+    Limited {
+        name: "workers",
+        shown: "--workers <W>",
+        most: MAX_SEATS as u64,
+    },
+    Limited {
+        name: "connections",
+        shown: "--connections <C>",
+        most: MAX_WORKERS as u64,
+    },
+    Limited {
+        name: "rounds",
+        shown: "--rounds <N>",
+        most: MAX_ROUNDS as u64,
+    },
+    Limited {
+        name: "roll-at",
+        shown: "--roll-at <PERCENT>",
+        most: WHOLE as u64,
+    },
+];
+
+impl Limited {
+    // Whether the words have such a number that is not from 1 to the greatest one.
+    fn is_passed(&self, words: &ArgMatches<'_>) -> bool {
+        match words.get_one::<u64>(self.name) {
+            Some(number) => number < 1 || number > self.most,
+            None => false,
+        }
+    }
+
+    // What is said of such a number.
+    fn refusal(&self, alloc: Global, given: &str) -> Result<String, AllocError> {
+        let most = self.most.to_string(alloc)?;
+        let mut said = String::from_str(alloc, "invalid value '")?;
+        said.push_str(given)?;
+        said.push_str("' for '")?;
+        said.push_str(self.shown)?;
+        said.push_str("': 1 to ")?;
+        said.push_str(most.as_str())?;
+        Ok(said)
+    }
+}
+
+// That each number which the words of a subcommand have is within its limits.
+fn within_limits(
+    alloc: Global,
+    mut command: Command<'_>,
+    words: &ArgMatches<'_>,
+) -> Result<(), Error> {
+    for limited in &LIMITED {
+        if limited.is_passed(words) {
+            let given = words.get_str(limited.name).unwrap_or("");
+            let said = limited.refusal(alloc, given)?;
+            return Err(command.error(ErrorKind::ValueValidation, said.as_str())?);
+        }
+    }
+    Ok(())
+}
+
+// That each number is within its limits.
+fn all_within_limits(alloc: Global, matches: &ArgMatches<'_>) -> Result<(), Error> {
+    match matches.subcommand() {
+        Some(("check", words)) => within_limits(alloc, check_of(alloc)?, words),
+        Some(("verify", _)) => Ok(()),
+        Some(("serve", words)) => within_limits(alloc, serve_of(alloc)?, words),
+        Some((_, words)) => within_limits(alloc, replay_of(alloc)?, words),
+        None => Ok(()),
+    }
+}
+
+/// Reads the words of `ilpd replay SETUP [--workers W] [--statements DIR]`, `ilpd check SETUP [SCRIPT [--workers W]]`,
+/// `ilpd verify [--setup SETUP] [--receipts FILE] FILE..` or
+/// `ilpd serve SETUP --workers W [--connections C] [--rounds N] [--balances] [--audit] [--listen ADDR] [--host ADDR
+/// --host-token FILE] [--operators ADDR] [--statements DIR] [--roll-at PERCENT]`, the program's name first.
+///
+/// W is 1 to 64, and 1 for a script by default. C is 1 to 4,096, and 256 by default. N is 1 to 1,000,000. PERCENT is 1 to 100.
+/// The ADDR to listen on is 127.0.0.1:7768 by default. There is a host's door only if both of its words are there.
+///
+/// The error has the text for people, also for a request for help or the version, or it is out of memory.
+pub fn arguments<'a>(alloc: Global, words: &'a [String]) -> Result<CommandLine<'a>, Error>
+    ensures least { IfOk result (λ line. 1 ≤ line.workers) }
+    ensures most { IfOk result (λ line. line.workers ≤ max_seats) }
+    ensures bounded { IfOk result (λ line. IsBounded line.task) }
+{
+    let command = Command::new(alloc, "ilpd")
+        .version(VERSION)
+        .about("A connector of the Interledger Protocol v4 for many operators")
+        .override_usage(USAGE)
+        .after_help(WHERE)
+        .subcommand_required(true)
+        .subcommand(replay_of(alloc)?)?
+        .subcommand(check_of(alloc)?)?
+        .subcommand(verify_of(alloc)?)?
+        .subcommand(serve_of(alloc)?)?;
+    let matches = command.try_get_matches_from(words)?;
+    all_within_limits(alloc, &matches)?;
+    let mut line = line_in(&matches);
+    line.statements = files_of(alloc, &matches)?;
+    Ok(line)
+}
