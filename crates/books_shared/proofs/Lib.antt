@@ -10,3 +10,4 @@ pub mod Keeping
 pub mod Elements
 pub mod Complete
 pub mod Recounting
+pub mod PeerOutcomes

@@ -10,3 +10,4 @@ pub mod Faults
 pub mod ShareKept
 pub mod BooksKept
 pub mod Complete
+pub mod PeerOutcomes

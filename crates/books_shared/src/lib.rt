@@ -7,6 +7,7 @@ mod guard;
 mod kept;
 pub mod laws;
 mod outcomes;
+mod peer_outcomes;
 mod rise;
 mod share;
 
@@ -14,5 +15,6 @@ pub use books::{Books, MAX_WORKERS};
 pub use gather::GatherFault;
 pub use guard::Guard;
 pub use outcomes::{PacketCounts, PacketOutcome};
+pub use peer_outcomes::PeerPackets;
 pub use receipts::{AuditFault, Audited, Receipt, audit};
 pub use share::{RoomFault, Share};

@@ -61,8 +61,8 @@ fn code_place(code: RejectCode) -> usize
     }
 }
 
-// What became of a packet by that record, if it says so.
-fn outcome_of(made: &RecordView<'_>) -> Option<PacketOutcome>
+/// What became of a packet by that record, if it says so.
+pub fn outcome_of(made: &RecordView<'_>) -> Option<PacketOutcome>
     ensures { result ≡ outcome_in (record_of made.now) }
 {
     match made.outcome {
@@ -93,15 +93,29 @@ pub struct PacketCounts {
 }
 
 impl PacketCounts {
-    ghost use Rattle.std.specs.Prelude.{◌≡◌};
+    ghost use Rattle.std.specs.Prelude.{◌≡◌, Some};
     ghost use Rattle.tenant_core.specs.Journals.{last_of};
-    ghost use Rattle.books_shared.specs.Outcomes.{count_at, record_counted};
+    ghost use Rattle.books_shared.specs.Outcomes.{count_at, counted, record_counted};
+
+    /// No packet was counted.
+    pub const NONE: PacketCounts = PacketCounts {
+        counts: [0; OUTCOMES],
+    };
 
     /// How many packets had that outcome.
     pub fn get(&self, outcome: PacketOutcome) -> u64
         ensures { result ≡ count_at outcome self.now }
     {
         self.counts[outcome.place()]
+    }
+
+    /// The counts with one packet more of that outcome.
+    pub fn counted(mut self, outcome: PacketOutcome) -> PacketCounts
+        ensures { result ≡ counted (Some outcome) self }
+    {
+        let place = outcome.place();
+        self.counts[place] = self.counts[place].saturating_add(1);
+        self
     }
 
     // Counts what became of a packet by the last record of the journal.
@@ -111,8 +125,7 @@ impl PacketCounts {
         if let Some(made) = journal.last()
             && let Some(outcome) = outcome_of(&made)
         {
-            let place = outcome.place();
-            self.counts[place] = self.counts[place].saturating_add(1);
+            *self = self.counted(outcome);
         }
     }
 }
@@ -147,9 +160,7 @@ impl<J: Run> TenantLog<J> {
     {
         TenantLog {
             part,
-            packets: PacketCounts {
-                counts: [0; OUTCOMES],
-            },
+            packets: PacketCounts::NONE,
         }
     }
 

@@ -5,7 +5,7 @@ ghost use Rattle.std.specs.List.{slice_get};
 ghost use Rattle.atomic_table.specs.Seated.{TableId};
 ghost use Rattle.meters.specs.declared.kind.Kind as meter;
 ghost use Rattle.service.specs.declared.host.metrics.TenantCounts as told;
-ghost use Rattle.service.specs.Metrics.{AreRead, all_answers, all_packets, answer_line, answers_of, bit, each_text, figure_of, figures_of, family_head};
+ghost use Rattle.service.specs.Metrics.{AreRead, all_answers, all_outcomes, all_packets, answer_line, answers_of, bit, each_text, figure_of, figures_of, family_head};
 ghost use Rattle.service.specs.Metrics.{help_of, label_of, family_line, metrics_text, family_name, number_text, outcome_line, outcome_word, outcomes_text};
 ghost use Rattle.service.specs.Metrics.{packets_of, service_text, single_text, statements_text, tenants_text, type_of};
 
@@ -309,8 +309,8 @@ fn put_head(text: &mut Vec<u8>, family: Family) -> Result<(), AllocError>
     text.extend_from_slice(b"\n")
 }
 
-// The number that ends a line.
-fn put_number(alloc: Global, text: &mut Vec<u8>, number: u64) -> Result<(), AllocError>
+/// The number that ends a line.
+pub fn put_number(alloc: Global, text: &mut Vec<u8>, number: u64) -> Result<(), AllocError>
     ensures { OnOk result (text.new.items ≡ text.old.items ++ number_text number) }
 {
     text.extend_from_slice(b" ")?;
@@ -409,8 +409,8 @@ fn put_all_answers(
     Ok(())
 }
 
-// The word for an outcome: its code, if the packet was refused.
-fn outcome_word(outcome: PacketOutcome) -> &'static [u8]
+/// The word for an outcome: its code, if the packet was refused.
+pub fn outcome_word(outcome: PacketOutcome) -> &'static [u8]
     ensures { result.now ≡ outcome_word outcome }
 {
     match outcome {
@@ -419,6 +419,29 @@ fn outcome_word(outcome: PacketOutcome) -> &'static [u8]
         PacketOutcome::Configured => b"configured",
         PacketOutcome::Refused(code) => code.letters(),
     }
+}
+
+/// All outcomes that a journal has.
+pub fn all_outcomes() -> [PacketOutcome; 15]
+    ensures { result ≡ all_outcomes }
+{
+    [
+        PacketOutcome::Fulfilled,
+        PacketOutcome::Rejected,
+        PacketOutcome::Configured,
+        PacketOutcome::Refused(RejectCode::BadRequest),
+        PacketOutcome::Refused(RejectCode::Unreachable),
+        PacketOutcome::Refused(RejectCode::InvalidAmount),
+        PacketOutcome::Refused(RejectCode::WrongCondition),
+        PacketOutcome::Refused(RejectCode::AmountTooLarge),
+        PacketOutcome::Refused(RejectCode::PeerUnreachable),
+        PacketOutcome::Refused(RejectCode::Busy),
+        PacketOutcome::Refused(RejectCode::InsufficientLiquidity),
+        PacketOutcome::Refused(RejectCode::RateLimited),
+        PacketOutcome::Refused(RejectCode::TimedOut),
+        PacketOutcome::Refused(RejectCode::InsufficientSource),
+        PacketOutcome::Refused(RejectCode::InsufficientTimeout),
+    ]
 }
 
 // How many packets of a tenant had an outcome.
@@ -465,24 +488,7 @@ fn put_packets(
 ) -> Result<(), AllocError>
     ensures { OnOk result (text.new.items ≡ text.old.items ++ packets_of counts.now) }
 {
-    let outcomes = [
-        PacketOutcome::Fulfilled,
-        PacketOutcome::Rejected,
-        PacketOutcome::Configured,
-        PacketOutcome::Refused(RejectCode::BadRequest),
-        PacketOutcome::Refused(RejectCode::Unreachable),
-        PacketOutcome::Refused(RejectCode::InvalidAmount),
-        PacketOutcome::Refused(RejectCode::WrongCondition),
-        PacketOutcome::Refused(RejectCode::AmountTooLarge),
-        PacketOutcome::Refused(RejectCode::PeerUnreachable),
-        PacketOutcome::Refused(RejectCode::Busy),
-        PacketOutcome::Refused(RejectCode::InsufficientLiquidity),
-        PacketOutcome::Refused(RejectCode::RateLimited),
-        PacketOutcome::Refused(RejectCode::TimedOut),
-        PacketOutcome::Refused(RejectCode::InsufficientSource),
-        PacketOutcome::Refused(RejectCode::InsufficientTimeout),
-    ];
-    put_outcomes(alloc, text, counts, &outcomes)?;
+    put_outcomes(alloc, text, counts, &all_outcomes())?;
     let full = counts.packets.full_journals;
     put_outcome(alloc, text, counts.name, b"journal_full", full)
 }

@@ -5,7 +5,7 @@ use super::{
     on_two_books,
 };
 use crate::START;
-use books_shared::{Books, GatherFault, PacketOutcome, Share};
+use books_shared::{Books, GatherFault, PacketOutcome, PeerPackets, Share};
 use floor_core::{Got, Slot};
 use ilp_addr::Moment;
 use meters::Meters;
@@ -14,12 +14,17 @@ use std::alloc::Global;
 use std::sync::Wait;
 use std::sync::atomic::{AtomicU64, Ordering};
 use std::test::Fail;
-use tenant_core::{Book, RejectCode};
+use tenant_core::{Book, PeerNo, RejectCode};
 use test_texts::frame;
 use workers::{Clock, Gate, Job, Link, Outgoing, Point, Reply, carry};
 
 // The URL for bob's packets.
 const BOB_URL: &[u8] = b"http://127.0.0.1:7802/ilp";
+
+// The numbers of acme's peers.
+const ALICE: PeerNo = 0;
+
+const BOB: PeerNo = 1;
 
 // When what goes on expires: nine seconds after the start.
 const SENT_EXPIRY: u64 = START + 9_000;
@@ -42,8 +47,9 @@ pub(super) struct Packet {
     entries: u64,
     strangers: u64,
     full_journals: u64,
-    // What the book counts that became of it, and how often.
+    // What the book counts that became of it, how often, and the number of the peer that it counts for.
     outcome: (PacketOutcome, u64),
+    peer: PeerNo,
     // The balances and the number of acme's book at the end.
     gathered: (i64, i64, u64, u64, u64),
 }
@@ -63,6 +69,7 @@ pub(super) const FULFILLED: Packet = Packet {
     strangers: 0,
     full_journals: 0,
     outcome: (PacketOutcome::Fulfilled, 1),
+    peer: ALICE,
     gathered: (1_000, -1_500, 0, 0, 2),
 };
 
@@ -71,6 +78,7 @@ const LATE: Packet = Packet {
     step: 10_000,
     told: "{R00}",
     outcome: (PacketOutcome::Refused(RejectCode::TimedOut), 1),
+    peer: BOB,
     gathered: (0, 0, 0, 0, 2),
     ..FULFILLED
 };
@@ -85,6 +93,7 @@ const UNANSWERED: Packet = Packet {
         ..ONE_ANSWERED
     },
     outcome: (PacketOutcome::Refused(RejectCode::PeerUnreachable), 1),
+    peer: BOB,
     gathered: (0, 0, 0, 0, 2),
     ..FULFILLED
 };
@@ -213,7 +222,7 @@ pub(super) fn is_carried<J: Run, R: Wait + AllocGlobal>(
         is_settled
             && is_sent
             && is_counted(&team.first, packet)
-            && is_known(rt, &team.books, packet),
+            && is_known(rt, &team.books, packet)?,
     )
 }
 
@@ -244,13 +253,19 @@ fn is_counted<J: Run>(share: &Share<J>, packet: &Packet) -> bool {
 }
 
 // Whether the book has counted what became of the packet.
-fn is_known<J: Run, R: Wait>(rt: &R, books: &Books<J>, packet: &Packet) -> bool {
+fn is_known<J: Run, R: Wait + AllocGlobal>(
+    rt: &R,
+    books: &Books<J>,
+    packet: &Packet,
+) -> Result<bool, Fail> {
     if books.tenants() == 0 {
-        return false;
+        return Ok(false);
     }
     let guard = books.enter(rt, 0);
     let (outcome, times) = packet.outcome;
-    guard.packets().get(outcome) == times && guard.full_journals() == packet.full_journals
+    let is_peers = PeerPackets::of(rt.alloc(), guard.book())?.get(packet.peer, outcome) == times;
+    let is_counted = guard.packets().get(outcome) == times;
+    Ok(is_peers && is_counted && guard.full_journals() == packet.full_journals)
 }
 
 // The reply to a job, whether the sender gets what it should, and what the meters have counted, by a clock that goes
