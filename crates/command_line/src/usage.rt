@@ -59,6 +59,8 @@ pub struct CommandLine<'a> {
     pub host: Option<HostWords<'a>>,
     /// The address of the operators' door.
     pub operators: Option<&'a str>,
+    /// Whether commands come where packets come, too.
+    pub admin: bool,
     /// The folder where the statements of closed periods are kept.
     pub folder: Option<&'a str>,
     /// The files of the statements to verify.
@@ -81,7 +83,7 @@ const USAGE: &str =
     "ilpd replay SETUP [--workers W] [--statements DIR] < SCRIPT\n       ilpd check SETUP [SCRIPT [--workers W]]\n       \
 ilpd verify [--setup SETUP] [--receipts FILE] FILE..\n       \
 ilpd serve SETUP --workers W [--connections C] [--rounds N] [--balances] [--audit] [--listen ADDR]\n                  \
-[--host ADDR --host-token FILE] [--operators ADDR] [--statements DIR] [--roll-at PERCENT]";
+[--host ADDR --host-token FILE] [--operators ADDR [--no-admin]] [--statements DIR] [--roll-at PERCENT]";
 
 const WHERE: &str =
     "docs/FORMATS.md describes setups, scripts and what is printed; examples/ has some of each";
@@ -284,9 +286,14 @@ fn operators_address<'a>(alloc: Global) -> Arg<'a> {
         .long("operators")
         .value_name("ADDR")
         .help(
-            "The address at which each operator asks for its own setup, metrics and statements, and why a packet would be refused",
+            "The address at which each operator sends commands, and asks for its own setup, metrics and statements, and why a packet would be refused",
         )
         .action(ArgAction::Set)
+}
+
+fn no_admin<'a>(alloc: Global) -> Result<Arg<'a>, AllocError> {
+    let help = "To take no commands where packets come: /admin/NAME is then 404";
+    flag_of(alloc, "no-admin", help).requires_arg("operators")
 }
 
 fn folder_of<'a>(alloc: Global) -> Arg<'a> {
@@ -315,12 +322,13 @@ fn serve_of<'a>(alloc: Global) -> Result<Command<'a>, AllocError> {
             "Serves packets and commands over HTTP, and prints in the end how many were answered how",
         )
         .override_usage(
-            "ilpd serve SETUP --workers W [--connections C] [--rounds N] [--balances] [--audit] [--listen ADDR]\n                  [--host ADDR --host-token FILE] [--operators ADDR] [--statements DIR] [--roll-at PERCENT]",
+            "ilpd serve SETUP --workers W [--connections C] [--rounds N] [--balances] [--audit] [--listen ADDR]\n                  [--host ADDR --host-token FILE] [--operators ADDR [--no-admin]] [--statements DIR] [--roll-at PERCENT]",
         )
         .after_help("Example: ilpd serve examples/serve.toml --workers 4");
     let serve = with_reports(alloc, with_extent(alloc, serve)?)?;
     with_host(alloc, serve.arg(listen_of(alloc))?)?
         .arg(operators_address(alloc))?
+        .arg(no_admin(alloc)?)?
         .arg(folder_of(alloc))?
         .arg(roll_at(alloc))
 }
@@ -393,6 +401,7 @@ fn line_of<'a>(
         address,
         host: None,
         operators: None,
+        admin: true,
         folder: None,
         statements: None,
         first: words.get_str("setup"),
@@ -423,6 +432,7 @@ fn line_in<'a>(matches: &ArgMatches<'a>) -> CommandLine<'a>
             CommandLine {
                 host: host_of(serve),
                 operators: serve.get_str("operators"),
+                admin: !serve.get_flag("no-admin"),
                 folder: serve.get_str("statements"),
                 roll_at: roll_at_of(serve),
                 ..line_of(task, serve, workers_of(serve), address)
@@ -519,7 +529,7 @@ fn all_within_limits(alloc: Global, matches: &ArgMatches<'_>) -> Result<(), Erro
 /// Reads the words of `ilpd replay SETUP [--workers W] [--statements DIR]`, `ilpd check SETUP [SCRIPT [--workers W]]`,
 /// `ilpd verify [--setup SETUP] [--receipts FILE] FILE..` or
 /// `ilpd serve SETUP --workers W [--connections C] [--rounds N] [--balances] [--audit] [--listen ADDR] [--host ADDR
-/// --host-token FILE] [--operators ADDR] [--statements DIR] [--roll-at PERCENT]`, the program's name first.
+/// --host-token FILE] [--operators ADDR [--no-admin]] [--statements DIR] [--roll-at PERCENT]`, the program's name first.
 ///
 /// W is 1 to 64, and 1 for a script by default. C is 1 to 4,096, and 256 by default. N is 1 to 1,000,000. PERCENT is 1 to 100.
 /// The ADDR to listen on is 127.0.0.1:7768 by default. There is a host's door only if both of its words are there.

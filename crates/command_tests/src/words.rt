@@ -21,7 +21,7 @@ admin = \"root-a\"
 
 // The words after the program's name, and what they ask for: the file of the setup, the number of workers, and the
 // task. For a service come its connections, its rounds, what it reports, the host's address and token file, and the
-// operators' address. Or the words, and how the text begins that refuses them.
+// operators' address, and whether commands come at that door only. Or the words, and how the text begins that refuses them.
 static LINES: &str = "\
 replay s1.toml -> s1.toml 1 replay
 replay s1.toml --workers 2 -> s1.toml 2 replay
@@ -57,6 +57,8 @@ serve s1.toml --workers 1 --operators 127.0.0.1:7770 --host 127.0.0.1:7769 --hos
 serve s1.toml --workers 1 --operators -> error:
 serve s1.toml --workers 1 --operators 127.0.0.1:7770 --operators 127.0.0.1:7771 -> error:
 replay s1.toml --operators 127.0.0.1:7770 -> error:
+serve s1.toml --workers 1 --operators 127.0.0.1:7770 --no-admin -> s1.toml 1 serve 256 - operators 127.0.0.1:7770 no admin
+serve s1.toml --workers 1 --no-admin -> error:
 serve s1.toml --workers 65 -> error: invalid value '65' for '--workers <W>': 1 to 64
 serve s1.toml --workers 1 --connections 0 -> error: invalid value '0' for '--connections <C>': 1 to 4096
 serve s1.toml --workers 1 --connections 4097 -> error: invalid value '4097' for '--connections <C>': 1 to 4096
@@ -147,11 +149,16 @@ fn operators_told(alloc: Global, operators: Option<&str>) -> Result<String, Fail
     }
 }
 
+fn admin_told(alloc: Global, admin: bool) -> Result<String, Fail> {
+    Ok(String::from_str(alloc, word_where(!admin, " no admin"))?)
+}
+
 fn told(alloc: Global, line: &CommandLine<'_>) -> Result<String, Fail> {
     let workers = line.workers.to_string(alloc)?;
     let task = task_told(alloc, line.task)?;
     let host = host_told(alloc, line.host)?;
     let operators = operators_told(alloc, line.operators)?;
+    let admin = admin_told(alloc, line.admin)?;
     let roll_at = roll_at_told(alloc, line.roll_at)?;
     Ok([
         line.setup,
@@ -161,6 +168,7 @@ fn told(alloc: Global, line: &CommandLine<'_>) -> Result<String, Fail> {
         task.as_str(),
         host.as_str(),
         operators.as_str(),
+        admin.as_str(),
         roll_at.as_str(),
     ]
     .concat(alloc)?)

@@ -5,6 +5,7 @@ use Rattle.httparse.specs.declared.spans.HeaderSpan.{HeaderSpan}
 use Rattle.httparse.specs.declared.spans.RequestSpans.{RequestSpans}
 use Rattle.httparse.specs.Grammar.{RequestHead, print_request}
 use Rattle.httparse.proofs.GrammarLemmas.{ReadsRequest-append}
+use Rattle.http_link.specs.declared.request.RequestKind.{RequestKind}
 use Rattle.http_link.specs.Limits.{max_lines}
 use Rattle.http_link.specs.Answers.{refusal_text}
 use Rattle.http_link.specs.Connections.{AreAskedBy, AreTooFew, AsksIt, AsksNext, IsAskedBy, IsCutBehind, ServesNext}
@@ -27,7 +28,7 @@ in_all : (had has one other : List ℕ) → has ≡ had ++ one → has ++ other 
 in_all had has one other e = ap (λ (w : List ℕ). w ++ other) e ∙ append_assoc had one other
 
 -- the head that was found begins all that came
-found_begins : (had : List ℕ) (old mid : Option (List ℕ)) (has other : List ℕ) (lines : List HeaderSpan) (spans : RequestSpans) → length lines ≡ max_lines
+pub found_begins : (had : List ℕ) (old mid : Option (List ℕ)) (has other : List ℕ) (lines : List HeaderSpan) (spans : RequestSpans) → length lines ≡ max_lines
     → (found : HeadIsFound requests had old mid has lines (Whole spans)) → BeginsWith (had ++ (found.came ++ other)) found.stands.2.head (drop spans.len has ++ other)
 found_begins had old mid has other lines spans room found =
     subst (λ (w : List ℕ). BeginsWith w found.stands.2.head (drop spans.len has ++ other)) (in_all had has found.came other found.grew)
@@ -38,7 +39,7 @@ front_of_front : (room : List ℕ) (there n : ℕ) → n ≤ length (take there 
 front_of_front room there n le = sym (take-take n there room (omega (arith, length-take there room)))
 
 -- what it says, where it stands in a room
-found_says : (had : List ℕ) (old mid : Option (List ℕ)) (room : List ℕ) (there : ℕ) (lines : List HeaderSpan) (spans : RequestSpans)
+pub found_says : (had : List ℕ) (old mid : Option (List ℕ)) (room : List ℕ) (there : ℕ) (lines : List HeaderSpan) (spans : RequestSpans)
     → (found : HeadIsFound requests had old mid (take there room) lines (Whole spans)) → head_in (take spans.len room) lines spans ≡ head_of found.stands.2.head
 found_says had old mid room there lines spans found =
     let front = front_of_front room there spans.len found.stands.0 in
@@ -46,7 +47,7 @@ found_says had old mid room there lines spans found =
     (ap (λ (t : List ℕ). head_in t lines spans) front) found.stands.2.at
 
 -- what is done with the head that was found is what serving the next request does
-pub found_next : (r : Result Served LinkFault) (tenant_of : List ℕ → Option ℕ) (had : List ℕ) (old mid new : Option (List ℕ)) (room : List ℕ) (there : ℕ) (lines : List HeaderSpan)
+pub found_next : (r : Result Served LinkFault) (tenant_of : RequestKind → List ℕ → Option ℕ) (had : List ℕ) (old mid new : Option (List ℕ)) (room : List ℕ) (there : ℕ) (lines : List HeaderSpan)
     (spans : RequestSpans) (traces : Traces) → length lines ≡ max_lines → HeadIsFound requests had old mid (take there room) lines (Whole spans)
     → IfOk r (RunsOnHead (wanted_of tenant_of (head_in (take spans.len room) lines spans)) (head_in (take spans.len room) lines spans) (drop spans.len (take there room)) mid new traces) → IfOk r (ServesNext tenant_of had old new traces)
 found_next (Err fault) tenant_of had old mid new room there lines spans traces lined found runs = tt
@@ -64,7 +65,7 @@ found_next (Ok served) tenant_of had old mid new room there lines spans traces l
     }
 
 -- where none was found, it is turned away
-pub none_found : (r : Result Served LinkFault) (tenant_of : List ℕ → Option ℕ) (had : List ℕ) (old mid : Option (List ℕ)) (has : List ℕ) (lines : List HeaderSpan) (traces : Traces)
+pub none_found : (r : Result Served LinkFault) (tenant_of : RequestKind → List ℕ → Option ℕ) (had : List ℕ) (old mid : Option (List ℕ)) (has : List ℕ) (lines : List HeaderSpan) (traces : Traces)
     → length lines ≡ max_lines → HeadIsFound requests had old mid has lines Malformed → traces.Unasked → IfOk r (λ served. (served ≡ Closed) × traces.Writes (refusal_text 400))
     → IfOk r (ServesNext tenant_of had old mid traces)
 none_found (Err fault) tenant_of had old mid has lines traces room found unasked refused = tt
@@ -84,7 +85,7 @@ none_found (Ok served) tenant_of had old mid has lines traces room found unasked
     not_ended e = absurd cc
 
 -- where the stream has ended and none was found, nothing is asked or written
-pub partial_found : (tenant_of : List ℕ → Option ℕ) (had : List ℕ) (old mid : Option (List ℕ)) (has : List ℕ) (lines : List HeaderSpan) (traces : Traces)
+pub partial_found : (tenant_of : RequestKind → List ℕ → Option ℕ) (had : List ℕ) (old mid : Option (List ℕ)) (has : List ℕ) (lines : List HeaderSpan) (traces : Traces)
     → length lines ≡ max_lines → HeadIsFound requests had old mid has lines Partial → traces.Unasked → traces.Writes [] → ServesNext tenant_of had old mid traces Ended
 partial_found tenant_of had old mid has lines traces room found unasked written = record {
   came = found.came;
@@ -99,7 +100,7 @@ partial_found tenant_of had old mid has lines traces room found unasked written 
 }
 
 -- and what is asked for it is what the next request asks
-pub found_asks : (tenant_of : List ℕ → Option ℕ) (had : List ℕ) (old mid new : Option (List ℕ)) (room : List ℕ) (there : ℕ) (lines : List HeaderSpan) (spans : RequestSpans)
+pub found_asks : (tenant_of : RequestKind → List ℕ → Option ℕ) (had : List ℕ) (old mid new : Option (List ℕ)) (room : List ℕ) (there : ℕ) (lines : List HeaderSpan) (spans : RequestSpans)
     (Unasked : Type 0) (Asks : Asked → Type 0) → length lines ≡ max_lines → HeadIsFound requests had old mid (take there room) lines (Whole spans)
     → AsksWanted (wanted_of tenant_of (head_in (take spans.len room) lines spans)) (drop spans.len (take there room)) mid new Unasked Asks → AsksNext tenant_of had old new Unasked Asks
 found_asks tenant_of had old mid new room there lines spans Unasked Asks lined found (inl none) = inl none
@@ -132,7 +133,7 @@ found_asks tenant_of had old mid new room there lines spans Unasked Asks lined f
     }
 
 -- a request asks the same where more bytes follow
-asked_more : (tenant_of : List ℕ → Option ℕ) (bytes more : List ℕ) (asked : Asked) (left : List ℕ) (last : Bool) → IsAskedBy tenant_of bytes asked left last
+asked_more : (tenant_of : RequestKind → List ℕ → Option ℕ) (bytes more : List ℕ) (asked : Asked) (left : List ℕ) (last : Bool) → IsAskedBy tenant_of bytes asked left last
     → IsAskedBy tenant_of (bytes ++ more) asked (left ++ more) last
 asked_more tenant_of bytes more asked left last h =
     record {
@@ -148,7 +149,7 @@ asked_more tenant_of bytes more asked left last h =
     }
 
 -- and so do many
-pub all_asked_more : (tenant_of : List ℕ → Option ℕ) (bytes more : List ℕ) (questions : List Asked) (left : List ℕ) (last : Bool)
+pub all_asked_more : (tenant_of : RequestKind → List ℕ → Option ℕ) (bytes more : List ℕ) (questions : List Asked) (left : List ℕ) (last : Bool)
     → AreAskedBy tenant_of bytes questions left last → AreAskedBy tenant_of (bytes ++ more) questions (left ++ more) last
 all_asked_more tenant_of bytes more [] left last h = (ap (λ (w : List ℕ). w ++ more) h.0, h.1)
 all_asked_more tenant_of bytes more (asked ∷ earlier) left last h =
@@ -157,17 +158,17 @@ all_asked_more tenant_of bytes more (asked ∷ earlier) left last h =
 -- ---- what is read only where what there was is too little
 
 -- no head begins what there was
-none_begins : (tenant_of : List ℕ → Option ℕ) (had : List ℕ) (lines : ℕ) → lines ≡ max_lines → BeginsNot requests had lines → AreTooFew tenant_of had
+none_begins : (tenant_of : RequestKind → List ℕ → Option ℕ) (had : List ℕ) (lines : ℕ) → lines ≡ max_lines → BeginsNot requests had lines → AreTooFew tenant_of had
 none_begins tenant_of had lines room none =
     inl (λ head rest begins. none (print_request head) rest (begun_is had head rest lines room begins) begins.reads.1 begins.short)
 
-pub none_there : {D : Type 0} (old new : D) (tenant_of : List ℕ → Option ℕ) (had has : List ℕ) (lines : ℕ) → lines ≡ max_lines
+pub none_there : {D : Type 0} (old new : D) (tenant_of : RequestKind → List ℕ → Option ℕ) (had has : List ℕ) (lines : ℕ) → lines ≡ max_lines
     → ((new ≡ old) × (has ≡ had)) ⊎ BeginsNot requests had lines → (new ≡ old) ⊎ AreTooFew tenant_of had
 none_there old new tenant_of had has lines room (inl same) = inl same.0
 none_there old new tenant_of had has lines room (inr none) = inr (none_begins tenant_of had lines room none)
 
 -- or one does, and the body behind it is cut
-pub cut_there : {D : Type 0} (old mid new : D) (tenant_of : List ℕ → Option ℕ) (had : List ℕ) (before after : Option (List ℕ)) (room : List ℕ) (there : ℕ) (lines : List HeaderSpan)
+pub cut_there : {D : Type 0} (old mid new : D) (tenant_of : RequestKind → List ℕ → Option ℕ) (had : List ℕ) (before after : Option (List ℕ)) (room : List ℕ) (there : ℕ) (lines : List HeaderSpan)
     (spans : RequestSpans) → length lines ≡ max_lines → HeadIsFound requests had before after (take there room) lines (Whole spans)
     → ((mid ≡ old) × (take there room ≡ had)) ⊎ BeginsNot requests had (length lines)
     → (new ≡ mid) ⊎ IsCutBehind (wanted_of tenant_of (head_in (take spans.len room) lines spans)) (drop spans.len (take there room)) → (new ≡ old) ⊎ AreTooFew tenant_of had

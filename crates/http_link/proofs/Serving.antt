@@ -7,6 +7,7 @@ use Rattle.httparse.specs.declared.spans.RequestSpans.{RequestSpans}
 use Rattle.httparse.specs.Grammar.{RequestHead, print_request}
 use Rattle.httparse.proofs.GrammarLemmas.{request_unique}
 use Rattle.httparse.specs.Spans.{IsRequestAt}
+use Rattle.http_link.specs.declared.request.RequestKind.{RequestKind}
 use Rattle.http_link.specs.Limits.{max_head, max_lines}
 use Rattle.http_link.specs.Heads.{BeginsWith, Head, head_of}
 use Rattle.http_link.specs.Grammars.{IsRequest, IsRequestText, requests}
@@ -189,7 +190,7 @@ none_here old new room stream there lines spans lined within ends found e none =
     none found.stands.2.head front.0 front.2
 
 -- what is done with the head that was found is what serving the stream does
-pub head_served : (result : Result Served LinkFault) (tenant_of : List ℕ → Option ℕ) (said : Head) (new left : Option (List ℕ)) (traces : Traces) (head : RequestHead) (rest : List ℕ)
+pub head_served : (result : Result Served LinkFault) (tenant_of : RequestKind → List ℕ → Option ℕ) (said : Head) (new left : Option (List ℕ)) (traces : Traces) (head : RequestHead) (rest : List ℕ)
     → traces.left ≡ Some [] → (said ≡ head_of head) × (new ≡ Some rest) → IfOk result (RunsOnHead (wanted_of tenant_of said) said [] new left traces)
     → IfOk result (IsServed (wanted_of tenant_of (head_of head)) (head_of head) rest (leaving left traces))
 head_served (Ok served) tenant_of said new left traces head rest none is runs =
@@ -199,7 +200,7 @@ head_served (Ok served) tenant_of said new left traces head rest none is runs =
 head_served (Err fault) tenant_of said new left traces head rest none is runs = tt
 
 -- what is asked for the head that was found is what the stream's head wants
-pub head_asked : (tenant_of : List ℕ → Option ℕ) (said : Head) (new left : Option (List ℕ)) (Unasked : Type 0) (Asks : Asked → Type 0) (head : RequestHead) (rest : List ℕ)
+pub head_asked : (tenant_of : RequestKind → List ℕ → Option ℕ) (said : Head) (new left : Option (List ℕ)) (Unasked : Type 0) (Asks : Asked → Type 0) (head : RequestHead) (rest : List ℕ)
     → (said ≡ head_of head) × (new ≡ Some rest) → AsksWanted (wanted_of tenant_of said) [] new left Unasked Asks → IsAskedOnly (wanted_of tenant_of (head_of head)) rest Unasked Asks
 head_asked tenant_of said new left Unasked Asks head rest is asks =
     asks_only (wanted_of tenant_of (head_of head)) rest left Unasked Asks
@@ -304,7 +305,7 @@ pub whole_asks : (wanted : Wanted) (had : List ℕ) (old new : Option (List ℕ)
 whole_asks wanted had old new has room n Unasked Asks read asked = inr (read.came, read.consumed, inr (take n room, has, read.so, asked))
 
 -- what is done is the same where head, bytes and what is left are told otherwise
-pub told_runs : (r : Result Served LinkFault) (tenant_of : List ℕ → Option ℕ) (said other : Head) (had there : List ℕ) (old new : Option (List ℕ)) (left now : List ℕ)
+pub told_runs : (r : Result Served LinkFault) (tenant_of : RequestKind → List ℕ → Option ℕ) (said other : Head) (had there : List ℕ) (old new : Option (List ℕ)) (left now : List ℕ)
     (Unasked : Type 0) (Asks : Asked → Type 0) (answer : List ℕ) (Writes : List ℕ → Type 0)
     → other ≡ said → there ≡ had → now ≡ left → IfOk r (RunsOnHead (wanted_of tenant_of other) other there old new (traced Unasked Asks answer Writes now))
     → IfOk r (RunsOnHead (wanted_of tenant_of said) said had old new (traced Unasked Asks answer Writes left))
@@ -313,13 +314,13 @@ told_runs r tenant_of said other had there old new left now Unasked Asks answer 
     (subst (λ (w : List ℕ). IfOk r (RunsOnHead (wanted_of tenant_of said) said w old new (traced Unasked Asks answer Writes now))) same_bytes
     (subst (λ (h : Head). IfOk r (RunsOnHead (wanted_of tenant_of h) h there old new (traced Unasked Asks answer Writes now))) same_head runs))
 
-pub told_asks : (tenant_of : List ℕ → Option ℕ) (said other : Head) (had there : List ℕ) (old new : Option (List ℕ)) (Unasked : Type 0) (Asks : Asked → Type 0)
+pub told_asks : (tenant_of : RequestKind → List ℕ → Option ℕ) (said other : Head) (had there : List ℕ) (old new : Option (List ℕ)) (Unasked : Type 0) (Asks : Asked → Type 0)
     → other ≡ said → there ≡ had → AsksWanted (wanted_of tenant_of other) there old new Unasked Asks → AsksWanted (wanted_of tenant_of said) had old new Unasked Asks
 told_asks tenant_of said other had there old new Unasked Asks same_head same_bytes asks =
     subst (λ (w : List ℕ). AsksWanted (wanted_of tenant_of said) w old new Unasked Asks) same_bytes
     (subst (λ (h : Head). AsksWanted (wanted_of tenant_of h) there old new Unasked Asks) same_head asks)
 
-pub told_cut : {D : Type 0} (old new : D) (tenant_of : List ℕ → Option ℕ) (said other : Head) (had there : List ℕ)
+pub told_cut : {D : Type 0} (old new : D) (tenant_of : RequestKind → List ℕ → Option ℕ) (said other : Head) (had there : List ℕ)
     → other ≡ said → there ≡ had → (new ≡ old) ⊎ IsCutBehind (wanted_of tenant_of other) there → (new ≡ old) ⊎ IsCutBehind (wanted_of tenant_of said) had
 told_cut old new tenant_of said other had there same_head same_bytes few =
     subst (λ (w : List ℕ). (new ≡ old) ⊎ IsCutBehind (wanted_of tenant_of said) w) same_bytes

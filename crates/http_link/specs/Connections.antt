@@ -2,6 +2,7 @@
 use Rattle.std.specs.Prelude.{◌≡◌, ◌<◌, ◌⊎◌, ℕ, List, [], ◌∷◌, ◌++◌, length, Bool, true, false, Option, Result, Ok, Err}
 use Rattle.std.specs.Io.KnownBytes.{Consumes, IsAtEnd}
 use Rattle.httparse.specs.Grammar.{RequestHead}
+use Rattle.http_link.specs.declared.request.RequestKind.{RequestKind}
 use Rattle.http_link.specs.declared.bodies.BodyFault.{BodyFault}
 use Rattle.http_link.specs.declared.serve.Served.{Served}
 use Rattle.http_link.specs.declared.serve.Served.TheVariants.{Closed, Ended, Kept}
@@ -13,7 +14,7 @@ use Rattle.http_link.specs.Serving.{Asked, Traces, IsServed, WritesNothingOr400,
 -- ---- one request
 
 -- bytes begin with a head within the limits, which was served
-pub record HeadServed (tenant_of : List ℕ → Option ℕ) (bytes : List ℕ) (traces : Traces) (served : Served) : Type 0 where
+pub record HeadServed (tenant_of : RequestKind → List ℕ → Option ℕ) (bytes : List ℕ) (traces : Traces) (served : Served) : Type 0 where
   pub head : RequestHead
   pub rest : List ℕ
   pub begins : BeginsWith bytes head rest
@@ -27,7 +28,7 @@ pub record TurnedAway (bytes : List ℕ) (traces : Traces) (served : Served) : T
 
 -- More bytes came on a connection after those that were held, and the request at the front of all of them was served.
 -- If that request isn't whole, no more bytes are left.
-pub record ServesNext (tenant_of : List ℕ → Option ℕ) (had : List ℕ) (old new : Option (List ℕ)) (traces : Traces) (served : Served) : Type 0 where
+pub record ServesNext (tenant_of : RequestKind → List ℕ → Option ℕ) (had : List ℕ) (old new : Option (List ℕ)) (traces : Traces) (served : Served) : Type 0 where
   pub came : List ℕ
   pub taken : Consumes old new came
   pub so : HeadServed tenant_of (had ++ came) traces served ⊎ TurnedAway (had ++ came) traces served
@@ -41,7 +42,7 @@ IsCutBehind (Err status) rest = ⊥
 IsCutBehind (Ok wanted) rest = IsBody wanted.framing rest cut
 
 -- bytes are too few for a request: no head within the limits begins them, or one whose body they cut
-abbrev pub AreTooFew : (List ℕ → Option ℕ) → List ℕ → Type 0
+abbrev pub AreTooFew : (RequestKind → List ℕ → Option ℕ) → List ℕ → Type 0
 AreTooFew tenant_of bytes =
     ((head : RequestHead) (rest : List ℕ) → BeginsWith bytes head rest → ⊥)
     ⊎ ((head : RequestHead) × (rest : List ℕ) × BeginsWith bytes head rest
@@ -51,7 +52,7 @@ AreTooFew tenant_of bytes =
 
 -- Bytes begin with a whole request that is accepted: it asks this, and `left` follows it. It may be the last one of
 -- its connection.
-pub record IsAskedBy (tenant_of : List ℕ → Option ℕ) (bytes : List ℕ) (asked : Asked) (left : List ℕ) (last : Bool) : Type 0 where
+pub record IsAskedBy (tenant_of : RequestKind → List ℕ → Option ℕ) (bytes : List ℕ) (asked : Asked) (left : List ℕ) (last : Bool) : Type 0 where
   pub head : RequestHead
   pub rest : List ℕ
   pub begins : BeginsWith bytes head rest
@@ -63,7 +64,7 @@ pub record IsAskedBy (tenant_of : List ℕ → Option ℕ) (bytes : List ℕ) (a
   pub is_last : last ≡ closes (head_of head)
 
 -- the request at the front of the bytes was asked, after more of them had come
-pub record AsksIt (tenant_of : List ℕ → Option ℕ) (had : List ℕ) (old new : Option (List ℕ)) (Asks : Asked → Type 0) : Type 0 where
+pub record AsksIt (tenant_of : RequestKind → List ℕ → Option ℕ) (had : List ℕ) (old new : Option (List ℕ)) (Asks : Asked → Type 0) : Type 0 where
   pub came : List ℕ
   pub taken : Consumes old new came
   pub asked : Asked
@@ -73,12 +74,12 @@ pub record AsksIt (tenant_of : List ℕ → Option ℕ) (had : List ℕ) (old ne
   pub asks : Asks asked
 
 -- at most that
-abbrev pub AsksNext : (tenant_of : List ℕ → Option ℕ) → (had : List ℕ) → (old new : Option (List ℕ)) → Type 0 → (Asked → Type 0) → Type 0
+abbrev pub AsksNext : (tenant_of : RequestKind → List ℕ → Option ℕ) → (had : List ℕ) → (old new : Option (List ℕ)) → Type 0 → (Asked → Type 0) → Type 0
 AsksNext tenant_of had old new Unasked Asks = Unasked ⊎ AsksIt tenant_of had old new Asks
 
 -- The questions, the latest first, are those of the requests at the front of a connection's bytes. Each request
 -- follows the one before it, none is passed over, and none follows the last one. `left` follows the latest.
-abbrev pub AreAskedBy : (tenant_of : List ℕ → Option ℕ) → (bytes : List ℕ) → List Asked → (left : List ℕ) → (last : Bool) → Type 0
+abbrev pub AreAskedBy : (tenant_of : RequestKind → List ℕ → Option ℕ) → (bytes : List ℕ) → List Asked → (left : List ℕ) → (last : Bool) → Type 0
 AreAskedBy tenant_of bytes [] left last = (left ≡ bytes) × (last ≡ false)
 AreAskedBy tenant_of bytes (asked ∷ earlier) left last =
     (before : List ℕ) × AreAskedBy tenant_of bytes earlier before false × IsAskedBy tenant_of before asked left last
@@ -91,7 +92,7 @@ IsRequestRefused (Err status) rest = Unit {0}
 IsRequestRefused (Ok wanted) rest = (fault : BodyFault) × IsBody wanted.framing rest (bad fault)
 
 -- what bytes begin with is no head within the limits, or one that is refused, or whose body is
-abbrev pub IsTurnedAway : (List ℕ → Option ℕ) → List ℕ → Type 0
+abbrev pub IsTurnedAway : (RequestKind → List ℕ → Option ℕ) → List ℕ → Type 0
 IsTurnedAway tenant_of bytes =
     ((head : RequestHead) (rest : List ℕ) → BeginsWith bytes head rest → ⊥)
     ⊎ ((head : RequestHead) × (rest : List ℕ) × BeginsWith bytes head rest
@@ -99,7 +100,7 @@ IsTurnedAway tenant_of bytes =
 
 -- How a connection with these bytes left ended: no more bytes came; or its last request closed it, or the next one was
 -- turned away.
-abbrev pub IsConnectionOver : (List ℕ → Option ℕ) → Served → (left : List ℕ) → (last : Bool) → Option (List ℕ) → Type 0
+abbrev pub IsConnectionOver : (RequestKind → List ℕ → Option ℕ) → Served → (left : List ℕ) → (last : Bool) → Option (List ℕ) → Type 0
 IsConnectionOver tenant_of Ended left last known = IsAtEnd known
 IsConnectionOver tenant_of Closed left last known = (last ≡ true) ⊎ IsTurnedAway tenant_of left
 IsConnectionOver tenant_of Kept left last known = ⊥

@@ -33,16 +33,16 @@ abbrev pub or_refused : {A E : Type 0} → E → Option A → Result A E
 or_refused refusal (Some value) = Ok value
 or_refused refusal None = Err refusal
 
--- the tenant of a name
-abbrev pub door_named : (List ℕ → Option ℕ) → RequestKind → List ℕ → Option (RequestKind × ℕ)
-door_named tenant_of kind name = with_kind (tenant_of name)
+-- the tenant of a name that takes requests of that kind
+abbrev pub door_named : (RequestKind → List ℕ → Option ℕ) → RequestKind → List ℕ → Option (RequestKind × ℕ)
+door_named tenant_of kind name = with_kind (tenant_of kind name)
   where
     with_kind : Option ℕ → Option (RequestKind × ℕ)
     with_kind (Some tenant) = Some (kind, tenant)
     with_kind None = None
 
 -- `/ilp/NAME` or `/admin/NAME`, exactly (RFC 9112, 3.2.1)
-abbrev pub door_at : (List ℕ → Option ℕ) → List ℕ → Option (RequestKind × ℕ)
+abbrev pub door_at : (RequestKind → List ℕ → Option ℕ) → List ℕ → Option (RequestKind × ℕ)
 door_at tenant_of target =
     if bytes_eq (take 5 target) (codes "/ilp/") then door_named tenant_of Ilp (drop 5 target)
     else (if bytes_eq (take 7 target) (codes "/admin/") then door_named tenant_of Admin (drop 7 target) else None)
@@ -87,12 +87,16 @@ token_in repeated = None
 abbrev pub coding_of : List Line → Occurrence
 coding_of lines = occurrence (codes "Transfer-Encoding") lines
 
+-- how the body of a head is framed
+abbrev pub framing_in : RequestKind → Head → Result Framing ℕ
+framing_in kind head = framing_of kind head.minor (coding_of head.lines) (occurrence (codes "Content-Length") head.lines)
+
 -- what a head asks for, or the status of the first check that refuses it
-abbrev pub wanted_of : (List ℕ → Option ℕ) → Head → Result Wanted ℕ
+abbrev pub wanted_of : (RequestKind → List ℕ → Option ℕ) → Head → Result Wanted ℕ
 wanted_of tenant_of head = do
   posted ← if bytes_eq head.method (codes "POST") then Ok head.method else Err 405
   place ← or_refused 404 (door_at tenant_of head.target)
-  framing ← framing_of place.0 head.minor (coding_of head.lines) (occurrence (codes "Content-Length") head.lines)
+  framing ← framing_in place.0 head
   token ← or_refused 401 (token_in (occurrence (codes "Authorization") head.lines))
   Ok (record { kind = place.0; tenant = place.1; token = token; framing = framing })
 

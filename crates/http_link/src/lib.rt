@@ -38,7 +38,7 @@ pub use host_request::HostRequest;
 pub use host_serve::serve_host;
 pub use host_service::HostService;
 pub use inbox::{Inbox, serve_next};
-pub use operator_request::{OperatorRequest, OperatorWanted, parted};
+pub use operator_request::{OperatorRequest, OperatorWanted, Topic, parted};
 pub use operator_serve::serve_operator;
 pub use operator_service::OperatorService;
 pub use posting::{MAX_PEER_ANSWER, PostFault, post};

@@ -1,31 +1,52 @@
 //! One request of an operator.
 
-ghost use Rattle.std.specs.Prelude.{◌≡◌, ◌≢◌, ◌↔◌, ◌<◌, ◌≤◌, ◌⊎◌, List, ℕ, length, Some, Err, IfOk};
+ghost use Rattle.std.specs.Prelude.{◌≡◌, ◌≢◌, ◌↔◌, ◌<◌, ◌≤◌, ◌⊎◌, [], ◌++◌, List, ℕ, length, codes, Some, Ok, Err, IfOk};
 ghost use Rattle.std.specs.Io.KnownBytes.{Appends};
 ghost use Rattle.httparse.specs.Grammar as grammar;
-ghost use Rattle.http_link.specs.Counts.{MadeAll};
+ghost use Rattle.http_link.specs.Bodies.{most_of};
+ghost use Rattle.http_link.specs.Answers.{line};
+ghost use Rattle.http_link.specs.Counts.{MadeAll, Spends};
 ghost use Rattle.http_link.specs.Telling.{TellsWrites};
 ghost use Rattle.http_link.specs.Heads.{BeginsWith, head_of};
-ghost use Rattle.http_link.specs.Doors.{IsServedAtDoor};
-ghost use Rattle.http_link.specs.OperatorDoor.{AnswersOperator, IsOperatorAskedOnly, operator_media_line, operator_asking, operator_media};
-ghost use Rattle.http_link.specs.OperatorDoor.{operator_refusal_text, operator_text, operator_wanted_at, operator_wanted_of};
-ghost use Rattle.http_link.specs.Serving.{AsksAtMostOnce, WritesNothingOr400};
+ghost use Rattle.http_link.specs.Limits.{max_command};
+ghost use Rattle.http_link.specs.Lines.{head_at};
+ghost use Rattle.http_link.specs.OperatorDoor.{AsksOperatorCame, AsksOperatorSought, IsOperatorAskedOnly, IsOperatorServed, RunsOnOperatorHead};
+ghost use Rattle.http_link.specs.OperatorDoor.{operator_asking, operator_interim, operator_media, operator_media_line, operator_method, operator_refusal_text};
+ghost use Rattle.http_link.specs.OperatorDoor.{operator_sought_at, operator_sought_of, operator_text, operator_wanted_at};
+ghost use Rattle.http_link.specs.Serving.{WritesNothingOr400};
 
+use crate::bodies::{BodyRead, read_body};
 use crate::devices::{Sink, Source};
-use crate::door::{Answers, serve_door, write_closing};
-use crate::operator_request::{OperatorRequest, OperatorWanted, operator_wanted_of};
+use crate::door::write_closing;
+use crate::grammar::Offered;
+use crate::head::{MAX_HEAD, MAX_LINES, find_head};
+use crate::intake::{Intake, NOTHING, Reach};
+use crate::operator_request::{
+    OperatorRefusal, OperatorRequest, OperatorSought, OperatorWanted, Topic, operator_sought_of,
+};
 use crate::operator_service::OperatorService;
-use crate::request::RequestHead;
-use crate::serve::{Served, refuse};
-use crate::streams::LinkFault;
+use crate::request::{MAX_COMMAND, RequestHead, waits};
+use crate::serve::{Before, Served, continue_text, head_in, refusal_of, refuse};
+use crate::streams::{LinkFault, write_all};
+use httparse::spans::{EMPTY_HEADER_SPAN, RequestSpans};
+
+/// A request that nothing refuses: its head, and what it asks for.
+#[derive(Clone, Copy)]
+struct OperatorAsks<'b> {
+    head: RequestHead<'b>,
+    sought: OperatorSought<'b>,
+}
 
 /// Reads one request of an operator, asks the service where nothing refuses it, and writes the answer, after which the
 /// connection is closed. (RFC 9112, 2 and 9.6)
 ///
-/// A request has at most 8,192 bytes and 64 field lines in its head. Nothing after its head is taken from the reader: a body is
-/// not looked at. Where the stream ends before a whole head, nothing is written, and the result is `Ended`. Otherwise the first
-/// check that fails decides: 400 for no head or one over the limits, 404 for another target, 405 for another method than GET,
-/// and 401 where no token is shown. (RFC 9110, 15.5)
+/// A request has at most 8,192 bytes and 64 field lines in its head, and at most 2,048 bytes in the body of a command. Nothing
+/// after the request is taken from the reader: the body of another request than a command is not looked at. Where the stream ends
+/// before a whole request, nothing is asked, and the result is `Ended`.
+///
+/// Otherwise the first check that fails decides: 400 for no head or one over the limits, 404 for another target, and 405 for
+/// another method. A command gets 411, 400 or 413 for a body of no length, a malformed or too long one. 401 is for no token. (RFC
+/// 9110, 15.5)
 ///
 /// Errors: `Read` and `Write` where the device failed in this call, and `Turns` where 50,000 reads or writes did not
 /// suffice. Before a `Write` or a `Turns` the service may have been asked, before a `Read` not.
@@ -34,25 +55,31 @@ pub fn serve_operator<R: Source, W: Sink, S: OperatorService>(
     w: &mut W,
     service: &mut S,
 ) -> Result<Served, LinkFault>
-    // A stream that begins with a head within the limits is served as the head asks, however it is cut.
+    // A stream that begins with a head within the limits is served by the request in the head, however it is cut into
+    // reads.
     ensures exact { (stream : List ℕ) (head : grammar.RequestHead) (rest : List ℕ)
         → R.remaining r.old ≡ Some stream → BeginsWith stream head rest
-        → IfOk result (IsServedAtDoor rest (R.remaining r.new)
-        (AnswersOperator (operator_wanted_of (head_of head)) (service.new ≡ service.old)
-        (λ question. S.asks service.old question service.new) (S.answer service.new))
-        (λ text. Appends (W.contents w.old) (W.contents w.new) text)) }
-    // Only the question of the head is asked, also on an error.
+        → IfOk result (IsOperatorServed (operator_sought_of (head_of head)) (head_of head) rest
+        (record {
+          Unasked = service.new ≡ service.old;
+          Asks = λ question. S.asks service.old question service.new;
+          answer = S.answer service.new;
+          left = R.remaining r.new;
+          Writes = λ text. Appends (W.contents w.old) (W.contents w.new) text;
+        })) }
+    // Only the request of the head is asked, also on an error.
     ensures asked_only { (stream : List ℕ) (head : grammar.RequestHead) (rest : List ℕ)
         → R.remaining r.old ≡ Some stream → BeginsWith stream head rest
-        → IsOperatorAskedOnly (operator_wanted_of (head_of head)) (service.new ≡ service.old)
+        → IsOperatorAskedOnly (operator_sought_of (head_of head)) rest (service.new ≡ service.old)
         (λ question. S.asks service.old question service.new) }
     // A stream that begins with no such head is turned away.
     ensures turned_away { (stream : List ℕ) → R.remaining r.old ≡ Some stream
         → ((head : grammar.RequestHead) (rest : List ℕ) → ¬ (BeginsWith stream head rest))
         → (service.new ≡ service.old)
         × IfOk result (WritesNothingOr400 (λ text. Appends (W.contents w.old) (W.contents w.new) text)) }
-    ensures asked_once { AsksAtMostOnce (service.new ≡ service.old)
-        (λ question. S.asks service.old question service.new) }
+    // At most one question is asked: that of the request that came.
+    ensures asked_once { (service.new ≡ service.old)
+        ⊎ AsksOperatorCame (R.remaining r.old) (R.remaining r.new) (λ question. S.asks service.old question service.new) }
     ensures unread { result ≡ Err LinkFault.Read → service.new ≡ service.old }
 
     // A device's fault is reported exactly where the device failed.
@@ -62,47 +89,129 @@ pub fn serve_operator<R: Source, W: Sink, S: OperatorService>(
     ensures turns { result ≡ Err LinkFault.Turns
         → MadeAll R.was_read r.old r.new ⊎ MadeAll W.was_written w.old w.new }
 {
-    serve_door::<_, _, S, OperatorAnswers>(r, w, service)
-}
-
-/// Answers what operators ask.
-struct OperatorAnswers;
-
-impl<S: OperatorService> Answers<S> for OperatorAnswers {
-    ghost asks = { λ head before after. IsOperatorAskedOnly (operator_wanted_of head) (after ≡ before)
-        (λ question. S.asks before question after) };
-
-    ghost answers = { λ head before after text. AnswersOperator (operator_wanted_of head) (after ≡ before)
-        (λ question. S.asks before question after) (S.answer after) text };
-
-    fn answer<W: Sink>(
-        w: &mut W,
-        service: &mut S,
-        head: &RequestHead,
-        before: u64,
-    ) -> Result<Served, LinkFault> {
-        match operator_wanted_of(head) {
-            Ok(wanted) => ask_operator(w, service, &wanted, before),
-            Err(status) => refuse_operator(w, status, before),
+    let before = Before::one(r, w);
+    let mut intake = NOTHING;
+    let mut text = [0u8; MAX_HEAD];
+    let mut lines = [EMPTY_HEADER_SPAN; MAX_LINES];
+    match find_head::<RequestSpans, _>(r, &mut text, &mut intake, &mut lines, before.manner)? {
+        Offered::Partial => Ok(Served::Ended),
+        Offered::Malformed => refuse(w, 400, before.writes),
+        Offered::Whole(spans) => {
+            let head = head_in(&text[..spans.len], &lines, spans);
+            intake.held = NOTHING.held;
+            serve_after_head(r, w, service, &mut intake, &head, before)
         }
     }
 }
 
-// Asks the service for what nothing refuses, and writes the answer.
+// Serves a request after its head, of whose body nothing has come.
+fn serve_after_head<R: Source, W: Sink, S: OperatorService>(
+    r: &mut R,
+    w: &mut W,
+    service: &mut S,
+    intake: &mut Intake,
+    head: &RequestHead,
+    before: Before,
+) -> Result<Served, LinkFault>
+    requires held { intake.old.held ≡ record { from = 0; to = 0 } }
+    requires needed { before.manner.reach ≡ Reach.Needed }
+    requires reads { R.failure_count r.old ≤ before.manner.before }
+    requires writes { W.failure_count w.old ≤ before.writes }
+    ensures runs { IfOk result (RunsOnOperatorHead (operator_sought_of (head_at head.now)) (head_at head.now)
+        (R.remaining r.old) (R.remaining r.new) (record {
+          Unasked = service.new ≡ service.old;
+          Asks = λ question. S.asks service.old question service.new;
+          answer = S.answer service.new;
+          left = Some [];
+          Writes = λ text. Appends (W.contents w.old) (W.contents w.new) text;
+        })) }
+    ensures asks { AsksOperatorSought (operator_sought_of (head_at head.now)) (R.remaining r.old) (R.remaining r.new)
+        (service.new ≡ service.old) (λ question. S.asks service.old question service.new) }
+    ensures unread { result ≡ Err LinkFault.Read → service.new ≡ service.old }
+    ensures read { (result ≡ Err LinkFault.Read) ↔ (before.manner.before < R.failure_count r.new) }
+    ensures write { (result ≡ Err LinkFault.Write) ↔ (before.writes < W.failure_count w.new) }
+    ensures turns { result ≡ Err LinkFault.Turns
+        → Spends R.was_read r.old r.new intake.old.turns 0 ⊎ MadeAll W.was_written w.old w.new }
+{
+    match operator_sought_of(head) {
+        Ok(sought) => {
+            let request = OperatorAsks {
+                head: *head,
+                sought,
+            };
+            serve_sought(r, w, service, intake, request, before)
+        }
+        Err(refusal) => refuse_operator(w, refusal, before.writes),
+    }
+}
+
+// Serves a request that nothing refuses.
+fn serve_sought<R: Source, W: Sink, S: OperatorService>(
+    r: &mut R,
+    w: &mut W,
+    service: &mut S,
+    intake: &mut Intake,
+    request: OperatorAsks<'_>,
+    before: Before,
+) -> Result<Served, LinkFault>
+    requires size { most_of request.sought.framing ≤ max_command }
+    requires held { intake.old.held ≡ record { from = 0; to = 0 } }
+    requires needed { before.manner.reach ≡ Reach.Needed }
+    requires reads { R.failure_count r.old ≤ before.manner.before }
+    requires writes { W.failure_count w.old ≤ before.writes }
+    ensures runs { IfOk result (RunsOnOperatorHead (Ok (operator_sought_at request.entry.sought)) (head_at request.entry.head)
+        (R.remaining r.old) (R.remaining r.new) (record {
+          Unasked = service.new ≡ service.old;
+          Asks = λ question. S.asks service.old question service.new;
+          answer = S.answer service.new;
+          left = Some [];
+          Writes = λ text. Appends (W.contents w.old) (W.contents w.new) text;
+        })) }
+    ensures asks { AsksOperatorSought (Ok (operator_sought_at request.entry.sought)) (R.remaining r.old) (R.remaining r.new)
+        (service.new ≡ service.old) (λ question. S.asks service.old question service.new) }
+    ensures unread { result ≡ Err LinkFault.Read → service.new ≡ service.old }
+    ensures read { (result ≡ Err LinkFault.Read) ↔ (before.manner.before < R.failure_count r.new) }
+    ensures write { (result ≡ Err LinkFault.Write) ↔ (before.writes < W.failure_count w.new) }
+    ensures turns { result ≡ Err LinkFault.Turns
+        → Spends R.was_read r.old r.new intake.old.turns 0 ⊎ MadeAll W.was_written w.old w.new }
+{
+    let OperatorAsks { head, sought } = request;
+    let mut room = [0u8; MAX_COMMAND];
+    write_all(w, interim(sought.wanted.request, &head), before.writes)?;
+    match read_body(r, &mut room, intake, sought.framing, before.manner)? {
+        BodyRead::Whole(size) => {
+            ask_operator(w, service, &sought.wanted, &room[..size], before.writes)
+        }
+        BodyRead::Cut => Ok(Served::Ended),
+        BodyRead::Bad(fault) => refuse(w, refusal_of(fault), before.writes),
+    }
+}
+
+fn interim(request: OperatorRequest, head: &RequestHead) -> &'static [u8]
+    ensures { result.now ≡ operator_interim request (head_at head.now) }
+{
+    match request {
+        OperatorRequest::Command => continue_text(waits(head)),
+        OperatorRequest::Ask(_) => b"",
+    }
+}
+
+// Asks the service for what nothing refuses, with its body, and writes the answer.
 fn ask_operator<W: Sink, S: OperatorService>(
     w: &mut W,
     service: &mut S,
     wanted: &OperatorWanted,
+    body: &[u8],
     before: u64,
 ) -> Result<Served, LinkFault>
     requires unfailed { W.failure_count w.old ≤ before }
     ensures answered { IfOk result (λ served. (served ≡ Served.Closed)
-        × ((status : ℕ) × S.asks service.old (operator_asking (operator_wanted_at wanted.now) status) service.new
+        × ((status : ℕ) × S.asks service.old (operator_asking (operator_wanted_at wanted.now) body.now status) service.new
         × Appends (W.contents w.old) (W.contents w.new) (operator_text wanted.now.request status (S.answer service.new)))) }
-    ensures asked { (status : ℕ) × S.asks service.old (operator_asking (operator_wanted_at wanted.now) status) service.new }
+    ensures asked { (status : ℕ) × S.asks service.old (operator_asking (operator_wanted_at wanted.now) body.now status) service.new }
     ensures told { TellsWrites W.failure_count W.was_written before w.old w.new result }
 {
-    let status = service.operator(wanted);
+    let status = service.operator(wanted, body);
     write_told(w, wanted.request, status, service.body(), before)
 }
 
@@ -127,16 +236,22 @@ fn write_told<W: Sink>(
     }
 }
 
-// Writes the answer that refuses a request.
-fn refuse_operator<W: Sink>(w: &mut W, status: u16, before: u64) -> Result<Served, LinkFault>
+// Writes the answer that refuses a head.
+fn refuse_operator<W: Sink>(
+    w: &mut W,
+    refusal: OperatorRefusal,
+    before: u64,
+) -> Result<Served, LinkFault>
     requires unfailed { W.failure_count w.old ≤ before }
     ensures refused { IfOk result (λ served. (served ≡ Served.Closed)
-        × Appends (W.contents w.old) (W.contents w.new) (operator_refusal_text status)) }
+        × Appends (W.contents w.old) (W.contents w.new) (operator_refusal_text refusal)) }
     ensures told { TellsWrites W.failure_count W.was_written before w.old w.new result }
 {
-    match status {
-        405 => write_closing(w, b"Allow: GET\r\n", 405, b"", before),
-        _ => refuse(w, status, before),
+    match refusal {
+        OperatorRefusal::Method(request) => {
+            write_closing(w, allow_line(request), 405, b"", before)
+        }
+        OperatorRefusal::Status(status) => refuse(w, status, before),
     }
 }
 
@@ -145,8 +260,20 @@ fn media_line(request: OperatorRequest) -> &'static [u8]
     ensures short { length result.now ≤ 50 }
 {
     match request {
-        OperatorRequest::Setup => b"Content-Type: application/toml\r\n",
-        OperatorRequest::Metrics => b"Content-Type: text/plain; version=0.0.4\r\n",
-        OperatorRequest::Statement | OperatorRequest::Explain => b"Content-Type: text/plain\r\n",
+        OperatorRequest::Ask(Topic::Setup) => b"Content-Type: application/toml\r\n",
+        OperatorRequest::Ask(Topic::Metrics) => b"Content-Type: text/plain; version=0.0.4\r\n",
+        OperatorRequest::Command | OperatorRequest::Ask(Topic::Statement | Topic::Explain) => {
+            b"Content-Type: text/plain\r\n"
+        }
+    }
+}
+
+fn allow_line(request: OperatorRequest) -> &'static [u8]
+    ensures line { result.now ≡ line (codes "Allow: " ++ operator_method request) }
+    ensures short { length result.now ≤ 50 }
+{
+    match request {
+        OperatorRequest::Command => b"Allow: POST\r\n",
+        OperatorRequest::Ask(_) => b"Allow: GET\r\n",
     }
 }

@@ -14,9 +14,10 @@ pub trait OperatorService {
     /// The bytes of the last answer of status 200 or 400.
     ghost answer: { Self → List ℕ };
 
-    /// Takes a request, and gives the status of its answer: 200, 400, 401, 404 or 503. Any other is written as 503.
-    fn operator(&mut self, wanted: &OperatorWanted<'_>) -> u16
-        ensures { asks self.old (operator_asking (operator_wanted_at wanted.now) result) self.new };
+    /// Takes a request, whose body is the text of a command or empty, and gives the status of its answer: 200, 400, 401, 404 or
+    /// 503. Any other is written as 503.
+    fn operator(&mut self, wanted: &OperatorWanted<'_>, body: &[u8]) -> u16
+        ensures { asks self.old (operator_asking (operator_wanted_at wanted.now) body.now result) self.new };
 
     /// The bytes of the last answer of status 200, or the line that says why it was 400.
     fn body(&self) -> &[u8]

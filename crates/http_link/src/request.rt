@@ -8,7 +8,7 @@ ghost use Rattle.common_types.specs.Outcomes.{Gives};
 ghost use Rattle.http_link.specs.Bodies.{most_of};
 ghost use Rattle.common_types.specs.Numerals.{value_of};
 ghost use Rattle.http_link.specs.Lines.{lines_at, occurrence_at, head_at, wanted_at};
-ghost use Rattle.http_link.specs.Requests.{door_at, door_named, framing_of, within_limit, body_limit};
+ghost use Rattle.http_link.specs.Requests.{door_at, door_named, framing_in, framing_of, within_limit, body_limit};
 ghost use Rattle.http_link.specs.Requests.{bearer_token, token_in, wanted_of, waits, closes};
 ghost use Rattle.http_link.specs.Limits.{max_body};
 
@@ -33,7 +33,7 @@ pub enum RequestKind {
 pub const MAX_BODY: usize = MAX_FRAME;
 
 /// The most bytes of a command's body.
-const MAX_COMMAND: usize = 2048;
+pub(crate) const MAX_COMMAND: usize = 2048;
 
 /// The parts of a request's head.
 #[derive(Clone, Copy)]
@@ -79,7 +79,11 @@ fn tenant_named<S: Service>(
 ) -> Option<(RequestKind, usize)>
     ensures { result ≡ door_named (S.tenant_of service.now) kind name.now }
 {
-    match service.tenant(name) {
+    let named = match kind {
+        RequestKind::Ilp => service.tenant(name),
+        RequestKind::Admin => service.commanded_tenant(name),
+    };
+    match named {
         Some(tenant) => Some((kind, tenant)),
         None => None,
     }
@@ -105,6 +109,7 @@ fn framing_of(
 ) -> Result<Framing, u16>
     ensures value { result ≡ framing_of kind minor (occurrence_at coded.entry) (occurrence_at length.entry) }
     ensures bound { IfOk result (λ framing. most_of framing ≤ max_body) }
+    ensures limit { IfOk result (λ framing. most_of framing ≤ body_limit kind) }
 {
     match (coded, length) {
         (FieldValue::Missing, FieldValue::Missing) => Err(411),
@@ -119,6 +124,7 @@ fn framing_of(
 fn stated_size(kind: RequestKind, text: &[u8]) -> Result<Framing, u16>
     ensures value { result ≡ within_limit kind (value_of text.now) }
     ensures bound { IfOk result (λ framing. most_of framing ≤ max_body) }
+    ensures limit { IfOk result (λ framing. most_of framing ≤ body_limit kind) }
 {
     let size = value_up_to(text, MAX_BODY as u64 + 1) as usize;
     if size > body_limit(kind) {
@@ -158,6 +164,16 @@ pub(crate) fn token_in(found: FieldValue<'_>) -> Option<&[u8]>
     }
 }
 
+/// How the body of a head is framed, or the status that refuses it.
+pub(crate) fn framing_in(kind: RequestKind, head: &RequestHead) -> Result<Framing, u16>
+    ensures value { result ≡ framing_in kind (head_at head.now) }
+    ensures bound { IfOk result (λ framing. most_of framing ≤ max_body) }
+    ensures limit { IfOk result (λ framing. most_of framing ≤ body_limit kind) }
+{
+    let coded = head.lines.find(b"Transfer-Encoding");
+    framing_of(kind, head.minor, coded, head.lines.find(b"Content-Length"))
+}
+
 /// What a head asks for, or the status of the first check that refuses it. (RFC 9110, 15.5)
 pub(crate) fn wanted_of<'b, S: Service>(
     service: &S,
@@ -172,8 +188,7 @@ pub(crate) fn wanted_of<'b, S: Service>(
     let Some((kind, tenant)) = place_of(service, head.target) else {
         return Err(404);
     };
-    let coded = head.lines.find(b"Transfer-Encoding");
-    let framing = framing_of(kind, head.minor, coded, head.lines.find(b"Content-Length"))?;
+    let framing = framing_in(kind, head)?;
     let Some(token) = token_in(head.lines.find(b"Authorization")) else {
         return Err(401);
     };

@@ -288,8 +288,8 @@ fn answer<W: Sink, S: Service>(
     Ok(kept_unless(closed))
 }
 
-// The status that refuses a body.
-fn refusal_of(fault: BodyFault) -> u16
+/// The status that refuses a body.
+pub(crate) fn refusal_of(fault: BodyFault) -> u16
     ensures { result ≡ body_status fault }
 {
     match fault {
@@ -298,7 +298,8 @@ fn refusal_of(fault: BodyFault) -> u16
     }
 }
 
-fn continue_text(waits: bool) -> &'static [u8]
+/// The interim answer to a client, if it waits for one before it sends a body.
+pub(crate) fn continue_text(waits: bool) -> &'static [u8]
     ensures { result.now ≡ continue_text waits }
 {
     if waits {

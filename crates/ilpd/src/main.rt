@@ -561,6 +561,7 @@ fn run<
                 report,
                 statements: line.folder,
                 roll_at: line.roll_at,
+                admin: line.admin,
             };
             serve_at(rt, setup.as_slice(), plan, &line)
         }

@@ -3,6 +3,7 @@ use Rattle.std.proofs.Common.{ℕ, ◌≡◌, ◌⊎◌, inl, inr, ◌++◌, ◌
 use Rattle.std.proofs.KnownBytes.{Consumes-nil, Consumes-trans}
 use Rattle.std.specs.Io.KnownBytes.{Consumes, IsAtEnd}
 use Rattle.one_list.specs.declared.run.Run.{Ghosts}
+use Rattle.http_link.specs.declared.request.RequestKind.{RequestKind}
 use Rattle.http_link.specs.Connections.{AreAskedBy, AsksNext, Awaits, HeadServed, IsAskedBy, IsConnectionOver, IsRequestRefused, IsTurnedAway, ServesNext, TurnedAway}
 use Rattle.http_link.specs.Bodies.{Body, IsBody, bad, cut, whole}
 use Rattle.http_link.specs.Heads.{head_of}
@@ -20,7 +21,7 @@ use Rattle.service.specs.declared.office.Office.{Office}
 -- ---- one request
 
 -- one was asked, and what follows it is left
-pub record OneAsked (tenant_of : List ℕ → Option ℕ) (bytes : List ℕ) (traces : Traces) (served : Served) : Type 0 where
+pub record OneAsked (tenant_of : RequestKind → List ℕ → Option ℕ) (bytes : List ℕ) (traces : Traces) (served : Served) : Type 0 where
   pub asked : Asked
   pub left : List ℕ
   pub last : Bool
@@ -30,18 +31,18 @@ pub record OneAsked (tenant_of : List ℕ → Option ℕ) (bytes : List ℕ) (tr
   pub so : served ≡ kept_unless last
 
 -- none was asked: it was turned away, or no more is left
-abbrev pub NoneAsked : (List ℕ → Option ℕ) → List ℕ → Traces → Served → Option (List ℕ) → Type 0
+abbrev pub NoneAsked : (RequestKind → List ℕ → Option ℕ) → List ℕ → Traces → Served → Option (List ℕ) → Type 0
 NoneAsked tenant_of bytes traces served known =
     traces.Unasked × (((served ≡ Closed) × IsTurnedAway tenant_of bytes) ⊎ ((served ≡ Ended) × IsAtEnd known))
 
 -- what serving the next request comes to
-pub record Stepped (tenant_of : List ℕ → Option ℕ) (had : List ℕ) (old new : Option (List ℕ)) (traces : Traces) (served : Served) : Type 0 where
+pub record Stepped (tenant_of : RequestKind → List ℕ → Option ℕ) (had : List ℕ) (old new : Option (List ℕ)) (traces : Traces) (served : Served) : Type 0 where
   pub came : List ℕ
   pub taken : Consumes old new came
   pub step : OneAsked tenant_of (had ++ came) traces served ⊎ NoneAsked tenant_of (had ++ came) traces served new
 
 -- a head within the limits
-stepped_head : (tenant_of : List ℕ → Option ℕ) (bytes : List ℕ) (known : Option (List ℕ)) (traces : Traces) (served : Served) → (served ≡ Ended → IsAtEnd known)
+stepped_head : (tenant_of : RequestKind → List ℕ → Option ℕ) (bytes : List ℕ) (known : Option (List ℕ)) (traces : Traces) (served : Served) → (served ≡ Ended → IsAtEnd known)
     → HeadServed tenant_of bytes traces served → OneAsked tenant_of bytes traces served ⊎ NoneAsked tenant_of bytes traces served known
 stepped_head tenant_of bytes known traces served ended h = by_wanted (wanted_of tenant_of (head_of h.head)) refl h.is_served
   where
@@ -76,7 +77,7 @@ stepped_head tenant_of bytes known traces served ended h = by_wanted (wanted_of 
             })
 
 -- and none within them
-stepped_away : (tenant_of : List ℕ → Option ℕ) (bytes : List ℕ) (known : Option (List ℕ)) (traces : Traces) (served : Served) → (served ≡ Ended → IsAtEnd known)
+stepped_away : (tenant_of : RequestKind → List ℕ → Option ℕ) (bytes : List ℕ) (known : Option (List ℕ)) (traces : Traces) (served : Served) → (served ≡ Ended → IsAtEnd known)
     → TurnedAway bytes traces served → NoneAsked tenant_of bytes traces served known
 stepped_away tenant_of bytes known traces served ended h = (h.unasked, by_answer h.written)
   where
@@ -84,7 +85,7 @@ stepped_away tenant_of bytes known traces served ended h = (h.unasked, by_answer
     by_answer (inl over) = inr (over.0, ended over.0)
     by_answer (inr refused) = inl (refused.0, inl h.none)
 
-pub stepped : (tenant_of : List ℕ → Option ℕ) (had : List ℕ) (old new : Option (List ℕ)) (traces : Traces) (served : Served) → ServesNext tenant_of had old new traces served
+pub stepped : (tenant_of : RequestKind → List ℕ → Option ℕ) (had : List ℕ) (old new : Option (List ℕ)) (traces : Traces) (served : Served) → ServesNext tenant_of had old new traces served
     → Stepped tenant_of had old new traces served
 stepped tenant_of had old new traces served h = record { came = h.came; taken = h.taken; step = by_head h.so }
   where
@@ -97,7 +98,7 @@ stepped tenant_of had old new traces served h = record { came = h.came; taken = 
 
 -- more bytes may come
 abbrev pub MoreMayCome : Type 0
-MoreMayCome = (tenant_of : List ℕ → Option ℕ) (bytes more : List ℕ) (questions : List Asked) (left : List ℕ) (last : Bool)
+MoreMayCome = (tenant_of : RequestKind → List ℕ → Option ℕ) (bytes more : List ℕ) (questions : List Asked) (left : List ℕ) (last : Bool)
     → AreAskedBy tenant_of bytes questions left last → AreAskedBy tenant_of (bytes ++ more) questions (left ++ more) last
 
 -- what was heard so far, of which that is left

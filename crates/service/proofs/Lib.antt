@@ -12,3 +12,8 @@ pub mod Audits
 pub mod Presents
 pub mod Filings
 pub mod Asked
+pub mod Repeating
+pub mod Counting
+pub mod Commanded
+pub mod PeerLines
+pub mod Desks

@@ -106,7 +106,7 @@ office_sync J r books meters network =
     let filing = filing_sync network in
     let fields = struct_sync (shape (Office.the_type J r)) (
       search (sendable, std.crosses, name_sync) depth 40,
-      (search (sendable, std.crosses, terms_sync) depth 40, (books, (meters, (places_sync, (door_sync, (search (sendable, std.crosses, filing) depth 40, (search (sendable, std.crosses) depth 40, (search (sendable, std.crosses) depth 40, (search (sendable, std.crosses) depth 40, tt))))))))),
+      (search (sendable, std.crosses, terms_sync) depth 40, (books, (meters, (places_sync, (door_sync, (search (sendable, std.crosses, filing) depth 40, (search (sendable, std.crosses) depth 40, (search (sendable, std.crosses) depth 40, (search (sendable, std.crosses) depth 40, (search (sendable, std.crosses) depth 40, tt)))))))))),
     ) in
     search (recorded_sync, fields) depth 10
 
@@ -121,10 +121,10 @@ worker_send κ H C J r h c office network seat =
     (search (sendable, std.crosses, h) depth 40, (search (sendable, std.crosses) depth 40, (search (sendable, std.crosses, office) depth 40, (search (sendable, std.crosses, c) depth 40, (search (sendable, std.crosses) depth 40, (search (sendable, std.crosses) depth 40, (search (sendable, std.crosses) depth 40, (desk_send J r network seat, tt)))))))))
 
 pub operators_send : (κ : NamedLft) (H C J : RattleType) (r : Run.Ghosts J.Denot) → IsSync H → IsSync C
-    → IsSync (Office.the_row J r) → IsSend MeterSeat.the_row → IsSend (Operators.the_row κ H C J r)
-operators_send κ H C J r h c office seat =
+    → IsSync (Office.the_row J r) → IsSend Network.the_row → IsSend MeterSeat.the_row → IsSend (Operators.the_row κ H C J r)
+operators_send κ H C J r h c office network seat =
     recorded_send _ _ _ (Operators.the_type κ H C J r).to_one (struct_send (shape (Operators.the_type κ H C J r))
-    (search (sendable, std.crosses, h) depth 40, (search (sendable, std.crosses) depth 40, (search (sendable, std.crosses, c) depth 40, (search (sendable, std.crosses, office) depth 40, (seat, (search (sendable, std.crosses) depth 40, tt)))))))
+    (search (sendable, std.crosses, h) depth 40, (search (sendable, std.crosses) depth 40, (search (sendable, std.crosses, c) depth 40, (search (sendable, std.crosses, office) depth 40, (desk_send J r network seat, (search (sendable, std.crosses) depth 40, tt)))))))
 
 pub porter_send : (κ : NamedLft) (H K : RattleType) → IsSync H → IsSend K → IsSend (Porter.the_row κ H K)
 porter_send κ H K h k =

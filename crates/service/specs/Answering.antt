@@ -1,6 +1,6 @@
 -- What a worker answers to a question, what it counts with it, and what connections leave of a worker.
 use Rattle.std.specs.Prelude.{ℕ, ◌≡◌, ◌≢◌, ◌+◌, ◌<◌, ◌-◌, ◌==◌, ◌⊎◌, ◌↔◌, true, false, Bool, List, [], ◌∷◌, ◌++◌, length, take, map, nat_lt}
-use Rattle.std.specs.Prelude.{slice_index_or, if◌then◌else◌, Option, Result, Ok, Err, IfOk, is_ok}
+use Rattle.std.specs.Prelude.{slice_index_or, if◌then◌else◌, Option, None, Result, Ok, Err, IfOk, is_ok}
 use Rattle.std.specs.List.{flat_map, sum_by}
 use Rattle.std.specs.Prelude.{All}
 use Rattle.std.specs.Str.{bytes_eq}
@@ -115,6 +115,11 @@ pub record WasGoverned {J : Type 0} {r : Ghosts J} (Gives : ℕ → Type 0) (off
   pub sent : after.sent ≡ before.sent
   pub told_so : IsCommandAnswer office tenant answer told after.printed.items
 
+-- the status of a command that was obeyed, or whose text has a fault
+abbrev pub obeyed_status : Result Status TextFault → Status
+obeyed_status (Ok told) = told
+obeyed_status (Err fault) = status.Malformed
+
 -- A text that spells a command is done, and any other is malformed (400). If it is out of memory to read it, nothing
 -- happens (503).
 abbrev pub WasObeyed : {J : Type 0} {r : Ghosts J} → (Gives : ℕ → Type 0) → Result Command TextFault → Office J r → Desk J r → ℕ → Status → Desk J r → Type 0
@@ -177,13 +182,14 @@ pub record Connection : Type 0 where
   pub came : List ℕ
   pub questions : List Asked
 
--- the tenants of an office, by name
-abbrev pub tenants_of : {J : Type 0} {r : Ghosts J} → Office J r → List ℕ → Option ℕ
-tenants_of office name = tenant_named office.names.items name
+-- the tenants of an office, by name, that take requests of a kind where packets come: commands only if the service takes them there
+abbrev pub tenants_of : {J : Type 0} {r : Ghosts J} → Office J r → RequestKind → List ℕ → Option ℕ
+tenants_of office Ilp name = tenant_named office.names.items name
+tenants_of office Admin name = if office.admin then tenant_named office.names.items name else None
 
 -- How a connection with these bytes left ended. No more bytes came; or its last request closed it, or the next one was
 -- turned away; or it gave way, and no byte that was read is left.
-abbrev pub HasEnded : (List ℕ → Option ℕ) → Over → (left : List ℕ) → (last : Bool) → Option (List ℕ) → Type 0
+abbrev pub HasEnded : (RequestKind → List ℕ → Option ℕ) → Over → (left : List ℕ) → (last : Bool) → Option (List ℕ) → Type 0
 HasEnded tenant_of Ended left last known = IsConnectionOver tenant_of served.Ended left last known
 HasEnded tenant_of Closed left last known = IsConnectionOver tenant_of served.Closed left last known
 HasEnded tenant_of Yielded left last known = left ≡ []
@@ -229,16 +235,6 @@ pub record HasWorked {J : Type 0} {r : Ghosts J} (Gives : ℕ → Type 0) (offic
   pub is_new : IsNewDesk new
   pub served : HasServed Gives office new desk
 
--- the desks of so many workers, as their connections left them, with these shares, and what they have counted in all
-pub record HaveCounted {J : Type 0} {r : Ghosts J} (Gives : ℕ → Type 0) (office : Office J r) (workers : ℕ) (shares : List ShareView) (counts : ℕ → meter.Kind → ℕ)
-    : Type 0 where
-  pub desks : List (Desk J r)
-  pub each : length desks ≡ workers
-  pub shares_are : map (λ desk. desk.share) desks ≡ shares
-  pub worked : All (HasWorked Gives office) desks
-  pub sums : (tenant : ℕ) (kind : meter.Kind) → tenant < office.books.tenants
-      → counts tenant kind ≡ sum_by (λ desk. count_of tenant kind desk.seat) desks
-
 -- what a service knows of the tenants of a setup: their names, the tokens of their operators, and for how long each
 -- holds a packet at most. Each has a book
 pub record IsOfficeOf {J : Type 0} {r : Ghosts J} (setup : Setup) (office : Office J r) : Type 0 where
@@ -246,41 +242,3 @@ pub record IsOfficeOf {J : Type 0} {r : Ghosts J} (setup : Setup) (office : Offi
   pub operators : map (λ terms. terms.admin) office.terms.items ≡ map (λ t. t.admin) setup.tenants
   pub holds : map (λ terms. terms.hold) office.terms.items ≡ map (λ t. t.hold) setup.tenants
   pub books : office.books.tenants ≡ length setup.tenants
-
--- A service of a setup, whose run this is, has written its last lines. If the report has balances, they come first.
--- Then comes a line for each tenant, of what so many workers have counted. If the report has an audit, what it found
--- comes last. The counts are as the connections that each worker served left them, at moments that the clock gave.
---
--- If the last periods are closed, one worker has rolled each tenant. There is one list of all that was done to the
--- tenants' books. Each worker's share has its part of it. It is a run of a floor from the openings of the setup to the
--- books at the end.
-pub record HasToldCountsIn {J : Type 0} (run : Ghosts J) (Gives : ℕ → Type 0) (setup : Setup) (workers : ℕ) (report : Report) (closed : Bool) (old new : Option (List ℕ)) : Type 0 where
-  pub office : Office J run
-  pub known : IsOfficeOf setup office
-  pub totals : TotalsState
-  pub worked : List ShareView
-  pub counted : HaveCounted Gives office workers worked (λ tenant kind. total_of tenant kind totals)
-  pub shares : List ShareView
-  pub ended : HaveEnded (circumstances run.openings Gives) closed (length setup.tenants) worked shares
-  pub books : List (State × ℕ)
-  pub audit : List ℕ
-  pub audited : IsAudited report.audit shares audit
-  pub told : Appends old new ((if report.balances then balance_lines office.names.items books else [])
-      ++ lines_upto (length setup.tenants) office.names.items totals ++ audit)
-  pub one_list : HaveListOf run.size run.openings books shares
-
--- the run of a service of a setup, whose list has that table: each worker answers only packets that it sent on itself
-abbrev pub run_of : TableId → Setup → (workers : ℕ) → Ghosts Brand
-run_of table setup workers = record {
-  table = table;
-  size = record { tenants = length setup.tenants; workers = workers };
-  openings = openings_of setup.tenants setup.start;
-  own = true;
-}
-
--- A service of a setup has written its last lines, as HasToldCountsIn says, by some run of that setup: the balances, a
--- line of counts for each tenant, and what an audit found. All that the workers did is one list, a run of a floor from
--- the setup to the books at the end.
-abbrev pub HasToldCounts : (Gives : ℕ → Type 0) → Setup → (workers : ℕ) → Report → (closed : Bool) → (old new : Option (List ℕ)) → Type 0
-HasToldCounts Gives setup workers report closed old new =
-    (table : TableId) × HasToldCountsIn (run_of table setup workers) Gives setup workers report closed old new

@@ -1,5 +1,5 @@
 -- The answers at the host's door, and the seat at which its thread reads the meters.
-use Rattle.std.specs.Prelude.{ℕ, ◌≡◌, ◌↔◌, Bool, true, false, List, Option, Some, None, codes}
+use Rattle.std.specs.Prelude.{ℕ, zero, suc, ◌≡◌, ◌↔◌, Bool, true, false, List, Option, Some, None, codes}
 use Rattle.std.specs.Str.{bytes_eq}
 use Rattle.http_link.specs.HostDoor.{HostAsked}
 use Rattle.http_link.specs.declared.host_request.HostRequest.{HostRequest}
@@ -47,3 +47,13 @@ seats_in (Some seat) = 1
 abbrev pub HasStayed : {A : Type 0} → (A → A → Type 0) → Option A → Option A → Type 0
 HasStayed stays None after = after ≡ None
 HasStayed {A} stays (Some before) after = (left : A) × (after ≡ Some left) × stays before left
+
+-- so many steps, one after another
+abbrev pub RepeatsTimes : {A : Type 0} → (A → A → Type 0) → ℕ → A → A → Type 0
+RepeatsTimes Step zero before after = after ≡ before
+RepeatsTimes {A} Step (suc n) before after = (between : A) × RepeatsTimes Step n before between × Step between after
+
+-- steps, one after another
+pub record Repeats {A : Type 0} (Step : A → A → Type 0) (before after : A) : Type 0 where
+  pub times : ℕ
+  pub steps : RepeatsTimes Step times before after

@@ -18,3 +18,5 @@ pub mod Questions
 pub mod Hidden
 pub mod Explaining
 pub mod Operating
+pub mod Counted
+pub mod PeerMetrics

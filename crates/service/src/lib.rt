@@ -6,7 +6,7 @@
 //! - `link`: the way out to the next peers.
 //! - `filing`: the statements of closed periods: where they are kept, and which could not be written.
 //! - `host`: the host's door: who waits there, and the answers that the host gets.
-//! - `operators`: the operators' door, which only reads: what an operator may ask about its tenant, and the answers.
+//! - `operators`: the operators' door: what an operator may ask about its tenant, its commands, and the answers.
 //! - `running`: how a service begins, runs and ends.
 //! - `office`: what all of them share.
 //! - `system`: what all of them run on.

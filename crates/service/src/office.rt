@@ -1,7 +1,9 @@
 //! What all workers share.
 
-ghost use Rattle.std.specs.Prelude.{◌≡◌, vec_len};
+ghost use Rattle.std.specs.Prelude.{◌≡◌, ◌<◌, vec_len, IfSome};
 ghost use Rattle.service.specs.Served.{tenant_named};
+
+pub mod asked;
 
 use crate::connection::door::Door;
 use crate::filing::Filing;
@@ -42,6 +44,8 @@ pub struct Office<J: Run> {
     pub refused_tokens: Vec<AtomicU64>,
     /// The moment at which the tenants' clocks began.
     pub start: Moment,
+    /// Whether commands come with packets too, at `/admin/NAME`.
+    pub admin: bool,
     ghost known: { vec_len terms ≡ books.tenants },
     ghost named: { vec_len names ≡ books.tenants },
     ghost metered: { meters.tenants ≡ books.tenants },
@@ -50,7 +54,8 @@ pub struct Office<J: Run> {
 impl<J: Run> Office<J> {
     /// The number of the tenant of that name.
     pub fn tenant_named(&self, name: &[u8]) -> Option<usize>
-        ensures { result ≡ tenant_named self.now.names.items name.now }
+        ensures value { result ≡ tenant_named self.now.names.items name.now }
+        ensures there { IfSome result (λ tenant. tenant < self.now.books.tenants) }
     {
         self.names
             .as_slice()

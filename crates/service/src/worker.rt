@@ -3,8 +3,8 @@
 ghost use Rattle.std.specs.Prelude.{◌≡◌, [], nat_lt};
 ghost use Rattle.workers.specs.Replies.{http_code};
 ghost use Rattle.http_link.specs.declared.request.RequestKind.TheVariants.{Admin};
-ghost use Rattle.service.specs.Answering.{HasAnswered, HasHeard, HasServed, WasOrdered};
-ghost use Rattle.service.specs.Served.{tenant_named, told_text};
+ghost use Rattle.service.specs.Answering.{HasAnswered, HasHeard, HasServed, WasOrdered, tenants_of};
+ghost use Rattle.service.specs.Served.{told_text};
 
 pub mod answering;
 pub mod desk;
@@ -101,12 +101,16 @@ impl<H: Wait + Net<Stream = TcpStream> + std::time::Clock + Disk, C: Clock, J: R
     ghost asks = { λ before asked after. (after.office ≡ before.office) × (after.clock ≡ before.clock)
         × HasAnswered (C.gives before.clock.now) before.office.now before.desk asked after.desk };
 
-    ghost tenant_of = { λ c name. tenant_named c.office.now.names.items name };
+    ghost tenant_of = { λ c kind name. tenants_of c.office.now kind name };
 
     ghost answer = { λ c. told_text c.desk.told c.desk.slot.reply c.desk.printed.items };
 
     fn tenant(&self, name: &[u8]) -> Option<usize> {
-        self.office.tenant_named(name)
+        self.office.tenant_at(RequestKind::Ilp, name)
+    }
+
+    fn commanded_tenant(&self, name: &[u8]) -> Option<usize> {
+        self.office.tenant_at(RequestKind::Admin, name)
     }
 
     fn ilp(&mut self, tenant: usize, token: &[u8], body: &[u8]) -> u16 {
@@ -159,15 +163,17 @@ impl<H: Wait + Net<Stream = TcpStream> + std::time::Clock + Disk, C: Clock, J: R
             (record { kind = Admin; tenant = tenant; token = token.now; body = body.now; status = http_code result }) self.old.desk result self.new.desk }
     {
         let office = self.office;
-        let Some(terms) = office.terms.get(tenant) else {
+        if tenant >= office.books.tenants() {
             return Status::Unavailable;
-        };
-        if terms.admin.as_bytes() != token {
-            office.refuse_token(tenant);
+        }
+        if !office.is_operator(tenant, token) {
             return Status::Unauthorized;
         }
         let system = self.system();
-        self.desk.obey(&system, office, tenant, body)
+        match self.desk.obey(&system, office, tenant, body) {
+            Ok(status) => status,
+            Err(_) => Status::Malformed,
+        }
     }
 
     // Accepts a connection, and says whether one came. A try that fails is made again after a pause. It is reported at

@@ -94,6 +94,7 @@ where
             report,
             statements: None,
             roll_at: None,
+            admin: true,
         },
         Doors {
             packets: listener,

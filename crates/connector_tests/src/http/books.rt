@@ -118,12 +118,16 @@ impl Service for Counter {
 
     ghost asks = { λ old question new. Unit {0} };
 
-    ghost tenant_of = { λ _ name. tenant_named name };
+    ghost tenant_of = { λ _ _ name. tenant_named name };
 
     ghost answer = { λ c. c.body.items };
 
     fn tenant(&self, name: &[u8]) -> Option<usize> {
         tenant_named(name)
+    }
+
+    fn commanded_tenant(&self, name: &[u8]) -> Option<usize> {
+        self.tenant(name)
     }
 
     fn ilp(&mut self, tenant: usize, token: &[u8], body: &[u8]) -> u16 {

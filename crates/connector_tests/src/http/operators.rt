@@ -4,7 +4,7 @@ use super::devices::{Pieces, Taken};
 use super::host::reader_of;
 use super::outcomes::Outcome;
 use super::texts::{bytes_of, first_cell};
-use http_link::{OperatorRequest, OperatorService, OperatorWanted, Served, serve_operator};
+use http_link::{OperatorRequest, OperatorService, OperatorWanted, Served, Topic, serve_operator};
 use std::alloc::Global;
 use std::test::Fail;
 
@@ -16,22 +16,24 @@ struct OperatorDesk {
     is_right: bool,
 }
 
-/// What is asked of which tenant, in which words and with which token, and the status that the service gives.
+/// What is asked of which tenant, in which words, with which token and body, and the status that the service gives.
 #[derive(Clone, Copy)]
 struct Question {
     tenant: &'static [u8],
     request: OperatorRequest,
     words: &'static [u8],
     token: &'static [u8],
+    body: &'static [u8],
     status: u16,
 }
 
 impl Question {
-    fn is(&self, wanted: &OperatorWanted<'_>) -> bool {
+    fn is(&self, wanted: &OperatorWanted<'_>, body: &[u8]) -> bool {
         wanted.tenant == self.tenant
             && wanted.request == self.request
             && wanted.words == self.words
             && wanted.token == self.token
+            && body == self.body
     }
 }
 
@@ -43,9 +45,9 @@ impl OperatorService for OperatorDesk {
 
     ghost answer = { λ _. codes "reply" };
 
-    fn operator(&mut self, wanted: &OperatorWanted<'_>) -> u16 {
+    fn operator(&mut self, wanted: &OperatorWanted<'_>, body: &[u8]) -> u16 {
         self.questions = self.questions.saturating_add(1);
-        self.is_right = self.question.is(wanted);
+        self.is_right = self.question.is(wanted, body);
         self.question.status
     }
 
@@ -69,10 +71,30 @@ static ASKED: &str =
 /acme/setup|acme|setup||405|503 Service Unavailable\r\nContent-Length: 0\r\n
 /acme/setup|acme|setup||0|503 Service Unavailable\r\nContent-Length: 0\r\n";
 
+// A line on the body of a command to acme, the body as it comes, the command, the status that the service gives, and what the
+// answer begins with.
+static COMMANDED: &str =
+    r"Content-Length: 4|roll|roll|200|200 OK\r\nContent-Type: text/plain\r\nContent-Length: 5\r\n
+Content-Length: 4|rollX|roll|400|400 Bad Request\r\nContent-Type: text/plain\r\nContent-Length: 5\r\n
+Content-Length: 0|||401|401 Unauthorized\r\nWWW-Authenticate: Bearer\r\nContent-Length: 0\r\n
+Content-Length: 4|roll|roll|404|404 Not Found\r\nContent-Length: 0\r\n
+Content-Length: 4|roll|roll|503|503 Service Unavailable\r\nContent-Length: 0\r\n
+Transfer-Encoding: chunked|2\r\nro\r\n2\r\nll\r\n0\r\n\r\n|roll|200|200 OK\r\nContent-Type: text/plain\r\n
+Expect: 100-continue\r\nContent-Length: 4|roll|roll|200|100 Continue\r\n\r\nHTTP/1.1 200 OK\r\nContent-Type: text/plain\r\n";
+
+// A line on the body of a command, a body that is refused, and what the answer begins with.
+static MISFRAMED: &str = r"Transfer-Encoding: chunked|ro\r\n|400 Bad Request\r\n
+Transfer-Encoding: chunked|801\r\n|413 Content Too Large\r\n";
+
 // A request line and a line after it, and what the answer begins with.
-static REFUSED: &str = r"GET / HTTP/1.1|X: y|404 Not Found\r\n
-GET /setup HTTP/1.1|Authorization: Bearer tok-Ann|404 Not Found\r\n
-GET /acme HTTP/1.1|Authorization: Bearer tok-Ann|404 Not Found\r\n
+static REFUSED: &str = r"GET / HTTP/1.1|X: y|405 Method Not Allowed\r\nAllow: POST\r\n
+GET /acme HTTP/1.1|Authorization: Bearer tok-Ann|405 Method Not Allowed\r\nAllow: POST\r\n
+POST acme HTTP/1.1|Authorization: Bearer tok-Ann|404 Not Found\r\n
+POST /acme/ HTTP/1.1|Authorization: Bearer tok-Ann|404 Not Found\r\n
+POST /acme HTTP/1.1|Authorization: Bearer tok-Ann|411 Length Required\r\n
+POST /acme HTTP/1.1|Content-Length: 2049|413 Content Too Large\r\n
+POST /acme HTTP/1.1|Content-Length: 4x|400 Bad Request\r\n
+POST /acme HTTP/1.1|Content-Length: 4|401 Unauthorized\r\nWWW-Authenticate: Bearer\r\n
 GET /acme/ HTTP/1.1|Authorization: Bearer tok-Ann|404 Not Found\r\n
 GET acme/setup HTTP/1.1|Authorization: Bearer tok-Ann|404 Not Found\r\n
 GET /acme/setup/ HTTP/1.1|Authorization: Bearer tok-Ann|404 Not Found\r\n
@@ -88,10 +110,10 @@ GET /acme/setup HTTP/1.1|Authorization: Basic tok-Ann|401 Unauthorized\r\nWWW-Au
 
 fn request_of(name: &str) -> Result<OperatorRequest, Fail> {
     match name {
-        "setup" => Ok(OperatorRequest::Setup),
-        "metrics" => Ok(OperatorRequest::Metrics),
-        "statement" => Ok(OperatorRequest::Statement),
-        "explain" => Ok(OperatorRequest::Explain),
+        "setup" => Ok(OperatorRequest::Ask(Topic::Setup)),
+        "metrics" => Ok(OperatorRequest::Ask(Topic::Metrics)),
+        "statement" => Ok(OperatorRequest::Ask(Topic::Statement)),
+        "explain" => Ok(OperatorRequest::Ask(Topic::Explain)),
         _ => Err(Fail::from("a request")),
     }
 }
@@ -106,6 +128,7 @@ fn question_of(cells: &'static str) -> Result<(Question, &'static str), Fail> {
         request: request_of(request)?,
         words: words.as_bytes(),
         token: b"tok-Ann",
+        body: b"",
         status: status.parse::<u16>().ok().ok_or("a status")?,
     };
     Ok((question, begin))
@@ -171,6 +194,66 @@ fn is_row_refused(alloc: Global, row: &'static str) -> Result<bool, Fail> {
         }
     }
     Ok(true)
+}
+
+// A command to acme with that line on its body, the body as it comes, and the rest of the row.
+fn posted(alloc: Global, row: &'static str) -> Result<(Vec<u8>, &'static str), Fail> {
+    let (field, rest) = first_cell(row)?;
+    let (wire, rest) = first_cell(rest)?;
+    let mut stream = Vec::from_slice(alloc, b"POST /acme HTTP/1.1\r\n")?;
+    stream.extend_from_slice(bytes_of(alloc, field)?.as_slice())?;
+    stream.extend_from_slice(b"\r\nAuthorization: Bearer tok-Ann\r\n\r\n")?;
+    stream.extend_from_slice(bytes_of(alloc, wire)?.as_slice())?;
+    Ok((stream, rest))
+}
+
+fn is_row_commanded(alloc: Global, row: &'static str) -> Result<bool, Fail> {
+    let (stream, rest) = posted(alloc, row)?;
+    let (body, rest) = first_cell(rest)?;
+    let (status, begin) = first_cell(rest)?;
+    let question = Question {
+        tenant: b"acme",
+        request: OperatorRequest::Command,
+        words: b"",
+        token: b"tok-Ann",
+        body: body.as_bytes(),
+        status: status.parse::<u16>().ok().ok_or("a status")?,
+    };
+    for cut in 0..=stream.len() {
+        let outcome = serve(alloc, stream.as_slice(), cut, question);
+        if !outcome.is_right || !begins(alloc, &outcome, begin)? {
+            return Ok(false);
+        }
+    }
+    Ok(true)
+}
+
+fn is_row_misframed(alloc: Global, row: &'static str) -> Result<bool, Fail> {
+    let (stream, begin) = posted(alloc, row)?;
+    let (question, _) = question_of("acme|setup||200|")?;
+    for cut in 0..=stream.len() {
+        let outcome = serve(alloc, stream.as_slice(), cut, question);
+        if outcome.questions != 0 || !begins(alloc, &outcome, begin)? {
+            return Ok(false);
+        }
+    }
+    Ok(true)
+}
+
+#[test]
+fn commands(rt: HostRuntime) -> Result<(), Fail> {
+    for row in COMMANDED.lines() {
+        assert!(rt; is_row_commanded(rt.alloc(), row)?, "{row}");
+    }
+    for row in MISFRAMED.lines() {
+        assert!(rt; is_row_misframed(rt.alloc(), row)?, "{row}");
+    }
+    let (question, _) = question_of("acme|setup||200|")?;
+    let (stream, _) = posted(rt.alloc(), "Content-Length: 4|rol|")?;
+    let outcome = serve(rt.alloc(), stream.as_slice(), 0, question);
+    assert!(rt; outcome.served == Ok(Served::Ended) && outcome.questions == 0);
+    assert!(rt; outcome.text.is_empty());
+    Ok(())
 }
 
 #[test]

@@ -58,12 +58,16 @@ impl Service for Desk {
     ghost asks = { λ old question new. (question.status ≡ old.status) × (new.status ≡ old.status)
         × (new.questions ≡ min (old.questions + 1) (2 ^ 32 - 1)) };
 
-    ghost tenant_of = { λ _ name. tenant_named name };
+    ghost tenant_of = { λ _ _ name. tenant_named name };
 
     ghost answer = { λ d. d.answer.now };
 
     fn tenant(&self, name: &[u8]) -> Option<usize> {
         tenant_named(name)
+    }
+
+    fn commanded_tenant(&self, name: &[u8]) -> Option<usize> {
+        self.tenant(name)
     }
 
     fn ilp(&mut self, tenant: usize, token: &[u8], body: &[u8]) -> u16 {

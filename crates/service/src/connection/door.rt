@@ -15,9 +15,11 @@ pub struct Door {
     refused: AtomicBool,
     closed: AtomicBool,
     deserted: AtomicBool,
+    commanded: AtomicBool,
 }
 
-/// Evidence that no thread serves connections any more. Only a door gives it, after `desert` was called.
+/// Evidence that no thread serves connections or does commands any more. Only a door that is closed gives it, after `desert` was
+/// called.
 #[derive(Drop)]
 pub struct Deserted(());
 
@@ -31,6 +33,7 @@ impl Door {
             refused: AtomicBool::new(false),
             closed: AtomicBool::new(false),
             deserted: AtomicBool::new(false),
+            commanded: AtomicBool::new(false),
         }
     }
 
@@ -94,9 +97,26 @@ impl Door {
         self.deserted.load(Ordering::SeqCst)
     }
 
-    /// Evidence that no thread serves connections any more, after `desert` was called.
+    /// Whether a command of another thread than the workers' may begin: not once the door is closed. That thread calls
+    /// `command_ends` after it.
+    pub fn command_begins(&self) -> bool {
+        self.commanded.store(true, Ordering::SeqCst);
+        if self.is_closed() {
+            self.command_ends();
+            return false;
+        }
+        true
+    }
+
+    /// The command has ended.
+    pub fn command_ends(&self) {
+        self.commanded.store(false, Ordering::SeqCst);
+    }
+
+    /// Evidence that no thread serves connections or does commands any more, after `close` and `desert` were called.
     pub fn deserted(&self) -> Option<Deserted> {
-        if self.is_deserted() {
+        let is_over = self.is_closed() && self.is_deserted();
+        if is_over && !self.commanded.load(Ordering::SeqCst) {
             Some(Deserted(()))
         } else {
             None

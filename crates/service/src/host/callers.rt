@@ -1,11 +1,11 @@
 //! The connections at the host's or the operators' door whose requests have not come whole.
 
 ghost use Rattle.std.specs.Prelude.{◌≡◌};
+ghost use Rattle.service.specs.Hosting.{Repeats};
 ghost use Rattle.service.specs.Pace.{reading_time};
 
 use crate::connection::door::Door;
 use crate::connection::timed::{is_pause, millis_of};
-use meters::MeterSeat;
 use std::alloc::{AllocError, Global};
 use std::net::{Net, TcpListener, TcpStream};
 use std::sync::Wait;
@@ -153,19 +153,12 @@ pub trait Beside {
 
 /// Who answers at a door: one request of each connection.
 pub trait Answering {
-    ghost use Rattle.std.specs.Prelude.{◌≡◌};
-    ghost use Rattle.meters.specs.Seats.{SeatState};
-
-    /// The seat at which it reads the meters.
-    ghost seat: { Self → SeatState };
+    /// What one connection leaves of it.
+    ghost serves: { Self → Self → Type 0 };
 
     /// Answers the one request of a connection, which may take so long to come.
     fn serve_connection(&mut self, stream: &TcpStream, time: Duration)
-        ensures { seat self.new ≡ seat self.old };
-
-    /// Its seat at the meters.
-    fn into_seat(self) -> MeterSeat
-        ensures { result ≡ seat self };
+        ensures { serves self.old self.new };
 }
 
 /// One who answers at a door, and those who wait there. A caller who sends no request keeps nobody from being answered.
@@ -182,8 +175,9 @@ pub struct Porter<'a, H, K> {
 
 impl<H: Wait + Net<Stream = TcpStream> + Clock, K: Answering> Porter<'_, H, K> {
     // Answers the request of a connection, which may be read for so long.
+    #[tactic(auto, using(crate::proofs::Repeating::none_repeated, crate::proofs::Repeating::once_repeated))]
     fn answer(&mut self, stream: &TcpStream, time: Duration)
-        ensures { K.seat self.new.answering ≡ K.seat self.old.answering }
+        ensures { Repeats K.serves self.old.answering self.new.answering }
     {
         if stream.set_nonblocking(false).is_ok() {
             self.answering.serve_connection(stream, time);
@@ -192,8 +186,9 @@ impl<H: Wait + Net<Stream = TcpStream> + Clock, K: Answering> Porter<'_, H, K> {
 
     // Lets those wait who have come, and answers those whose requests have: first of those who were there before, since one
     // who comes may take the place of another.
+    #[tactic(auto, using(crate::proofs::Repeating::then_repeated))]
     fn attend(&mut self)
-        ensures { K.seat self.new.answering ≡ K.seat self.old.answering }
+        ensures { Repeats K.serves self.old.answering self.new.answering }
     {
         self.answer_due();
         self.callers.admit_all(self.listener, self.handle);
@@ -201,8 +196,9 @@ impl<H: Wait + Net<Stream = TcpStream> + Clock, K: Answering> Porter<'_, H, K> {
     }
 
     // Answers those whose requests have come.
+    #[tactic(auto, using(crate::proofs::Repeating::none_repeated, crate::proofs::Repeating::then_repeated))]
     fn answer_due(&mut self)
-        ensures { K.seat self.new.answering ≡ K.seat self.old.answering }
+        ensures { Repeats K.serves self.old.answering self.new.answering }
     {
         for _ in 0..MAX_CALLERS {
             let Ok(now) = Instant::now(self.handle) else {
@@ -217,9 +213,10 @@ impl<H: Wait + Net<Stream = TcpStream> + Clock, K: Answering> Porter<'_, H, K> {
 }
 
 impl<H: Wait + Net<Stream = TcpStream> + Clock, K: Answering> Beside for Porter<'_, H, K> {
-    ghost stays = { λ before after. K.seat after.answering ≡ K.seat before.answering };
+    ghost stays = { λ before after. Repeats K.serves before.answering after.answering };
 
     // Answers at the door until nobody serves packets any more.
+    #[tactic(auto, using(crate::proofs::Repeating::none_repeated, crate::proofs::Repeating::then_repeated))]
     fn stay(&mut self) {
         let clock = self.handle;
         for _ in clock.forever() {

@@ -106,6 +106,14 @@ impl<'a, H, J: Run> Host<'a, H, J> {
             told: Vec::new(alloc),
         }
     }
+
+    /// Its seat at the meters.
+    pub fn into_seat(self) -> MeterSeat
+        ensures { result ≡ self.entry.seat }
+    {
+        let Host { seat, .. } = self;
+        seat
+    }
 }
 
 /// The numbers of the tenants of an office.
@@ -262,17 +270,12 @@ impl<H: Wait + Net<Stream = TcpStream> + Clock, J: Run> Host<'_, H, J> {
 }
 
 impl<H: Wait + Net<Stream = TcpStream> + Clock, J: Run> Answering for Host<'_, H, J> {
-    ghost seat = { λ h. h.seat };
+    ghost serves = { λ before after. after.seat ≡ before.seat };
 
     fn serve_connection(&mut self, stream: &TcpStream, time: Duration) {
         let mut reader = Timed::within(stream, self.handle, time);
         let mut writer = Timed::within(stream, self.handle, Duration::from_millis(PATIENCE));
         let _ = serve_host(&mut reader, &mut writer, self);
-    }
-
-    fn into_seat(self) -> MeterSeat {
-        let Host { seat, .. } = self;
-        seat
     }
 }
 

@@ -1,12 +1,16 @@
 //! The operators' door.
 
-ghost use Rattle.std.specs.Prelude.{◌≡◌, ◌<◌, ◌⊎◌, is_some, IfOk, IfSome};
+ghost use Rattle.std.specs.Prelude.{◌≡◌, ◌≢◌, ◌<◌, List, ℕ, Ok, Err, is_some, IfErr, IfOk, IfSome};
+ghost use Rattle.admin_text.specs.Commands.{command_in};
 ghost use Rattle.http_link.specs.OperatorDoor.{operator_asking, operator_wanted_at};
+ghost use Rattle.http_link.specs.declared.request.RequestKind.TheVariants.{Admin};
 ghost use Rattle.service.specs.Explaining.{explanation, finding_asked};
 ghost use Rattle.service.specs.Questions.{question_at};
-ghost use Rattle.service.specs.Operating.{HasToldOperator, IsExplained, IsHiddenSetup, IsKept, IsTenantMetrics};
-ghost use Rattle.service.specs.Answering.{operator_token};
+ghost use Rattle.service.specs.Operating.{HasOperated, HasToldOperator, IsCommanded, IsExplained, IsHiddenSetup, IsKept, IsOperated, IsTenantMetrics};
+ghost use Rattle.service.specs.Operating.{command_fault_line, told_at};
+ghost use Rattle.service.specs.Answering.{WasAskedCommand, command_line, obeyed_status, operator_token};
 ghost use Rattle.service.specs.Served.{tenant_named};
+ghost use Rattle.workers.specs.Replies.{http_code};
 ghost use Rattle.std.specs.List.{slice_get};
 ghost use Rattle.std.specs.Str.{bytes_eq};
 
@@ -21,8 +25,14 @@ use crate::office::Office;
 use crate::operators::asking::{Operated, Unanswered, told_to_operator};
 use crate::operators::explaining::{explained, next_peer};
 use crate::operators::hidden::hidden_text;
+use crate::operators::peers::put_peers;
 use crate::operators::question::Question;
-use http_link::{OperatorService, OperatorWanted, serve_operator};
+use crate::system::System;
+use crate::worker::desk::Desk;
+use admin_text::TextFault;
+use http_link::{
+    OperatorRequest, OperatorService, OperatorWanted, RequestKind, Topic, serve_operator,
+};
 use ilp_addr::Moment;
 use meters::MeterSeat;
 use one_list::Run;
@@ -32,7 +42,7 @@ use std::net::{Net, TcpListener, TcpStream};
 use std::sync::Wait;
 use std::time::Duration;
 use tenant_core::{Book, Finding};
-use workers::Clock;
+use workers::{Clock, Status};
 
 /// Where operators ask.
 #[derive(Drop)]
@@ -54,38 +64,68 @@ impl<'a> OperatorDoor<'a> {
     }
 }
 
-/// Who answers at the operators' door: one request of each connection.
+/// What was answered last.
+#[derive(Drop)]
+pub enum LastAnswer {
+    /// A text about a tenant.
+    Text(Vec<u8>),
+    /// The line that says why a question or a command is none.
+    Line(&'static [u8]),
+    /// What the desk told of a command.
+    ByDesk,
+}
+
+/// Who answers at the operators' door: one request of each connection. Commands are done at a desk of its own, as a worker does
+/// them.
 #[derive(Drop)]
 pub struct Operators<'a, H, C, J: Run> {
     handle: &'a H,
     alloc: Global,
     clock: &'a C,
     office: &'a Office<J>,
-    seat: MeterSeat,
-    told: Vec<u8>,
-    ghost seated: { seat.meters ≡ office.now.meters.id },
+    desk: Desk<J>,
+    told: LastAnswer,
+    ghost seated: { desk.seat.meters ≡ office.now.meters.id },
 }
 
 impl<'a, H, C, J: Run> Operators<'a, H, C, J> {
-    /// One who answers for that office, and reads its meters through a seat of theirs.
+    /// One who answers for that office, and reads its meters through the desk's seat.
     pub fn new(
-        handle: &'a H,
-        alloc: Global,
-        clock: &'a C,
+        system: &'a System<'_, H, C>,
         office: &'a Office<J>,
-        seat: MeterSeat,
+        desk: Desk<J>,
     ) -> Operators<'a, H, C, J>
-        requires { seat.meters ≡ office.now.meters.id }
-        ensures { result.seat ≡ seat }
+        requires { desk.seat.meters ≡ office.now.meters.id }
+        ensures desk { result.desk ≡ desk }
+        ensures office { result.office.now ≡ office.now }
+        ensures clock { result.clock.now ≡ system.now.clock.now }
     {
         Operators {
-            handle,
-            alloc,
-            clock,
+            handle: system.handle,
+            alloc: system.alloc,
+            clock: system.clock,
             office,
-            seat,
-            told: Vec::new(alloc),
+            desk,
+            told: LastAnswer::ByDesk,
         }
+    }
+
+    fn system(&self) -> System<'a, H, C>
+        ensures { result.clock.now ≡ self.now.clock.now }
+    {
+        System {
+            handle: self.handle,
+            alloc: self.alloc,
+            clock: self.clock,
+        }
+    }
+
+    /// What is left on its desk.
+    pub fn into_desk(self) -> Desk<J>
+        ensures { result ≡ self.entry.desk }
+    {
+        let Operators { desk, .. } = self;
+        desk
     }
 }
 
@@ -148,11 +188,7 @@ impl<H: Wait + Disk, C: Clock, J: Run> Operated for Consulted<'_, H, C, J> {
     }
 
     fn is_operator(&self, tenant: usize, shown: &[u8]) -> bool {
-        let is_operator = self.office.terms[tenant].admin.as_bytes() == shown;
-        if !is_operator {
-            self.office.refuse_token(tenant);
-        }
-        is_operator
+        self.office.is_operator(tenant, shown)
     }
 
     fn present(&self, tenant: usize) -> Result<Vec<u8>, AllocError> {
@@ -167,7 +203,10 @@ impl<H: Wait + Disk, C: Clock, J: Run> Operated for Consulted<'_, H, C, J> {
             office,
         };
         let counts = counts_of(&gauges, seat, tenant, &office.names[tenant]);
-        tenant_metrics_text(self.alloc, office.filing.is_some(), counts)
+        let mut text = tenant_metrics_text(self.alloc, office.filing.is_some(), counts)?;
+        let guard = office.books.enter(self.handle, tenant);
+        put_peers(self.alloc, &mut text, &office.names[tenant], guard.book())?;
+        Ok(text)
     }
 
     fn explain(&self, tenant: usize, question: &Question<'_>) -> Result<Vec<u8>, AllocError> {
@@ -183,12 +222,27 @@ impl<H: Wait + Disk, C: Clock, J: Run> Operated for Consulted<'_, H, C, J> {
     }
 }
 
+// The line that says why a body is not a command.
+fn command_fault_line(fault: TextFault) -> &'static [u8]
+    ensures { result.now ≡ command_fault_line fault }
+{
+    match fault {
+        TextFault::Verb => {
+            b"command: its first word or two must be peer add, peer remove, peer limits, peer bucket, route add, route remove, rate set, settle in, settle out, balances or roll\n"
+        }
+        TextFault::Argument => {
+            b"command: a word is missing, malformed or one too many, or both peers of a rate are the same\n"
+        }
+        TextFault::Range => b"command: a number is outside its limits\n",
+    }
+}
+
 impl<H: Wait + Disk, C: Clock, J: Run> Operators<'_, H, C, J> {
-    // Keeps the text of the answer to a request, and returns the status.
-    fn answer(&mut self, wanted: &OperatorWanted<'_>) -> u16
-        ensures told { HasToldOperator J.openings (C.gives self.old.clock.now) self.old.office.now
-            (operator_asking (operator_wanted_at wanted.now) result) self.new.told.items }
-        ensures seat { self.new.seat ≡ self.old.seat }
+    // Keeps the text of the answer to a question, and returns the status.
+    fn answer(&mut self, wanted: &OperatorWanted<'_>, topic: Topic) -> u16
+        ensures told { (body : List ℕ) → HasToldOperator J.openings (C.gives self.old.clock.now) self.old.office.now topic
+            (operator_asking (operator_wanted_at wanted.now) body result) (told_at self.new.told self.new.desk) }
+        ensures desk { self.new.desk ≡ self.old.desk }
         ensures office { self.new.office ≡ self.old.office }
         ensures clock { self.new.clock ≡ self.old.clock }
     {
@@ -198,73 +252,111 @@ impl<H: Wait + Disk, C: Clock, J: Run> Operators<'_, H, C, J> {
             clock: self.clock,
             office: self.office,
         };
-        let told = told_to_operator(&service, &mut self.seat, wanted);
+        let told = told_to_operator(&service, &mut self.desk, wanted, topic);
         self.keep(told)
     }
 
     // Keeps the text of an answer, or the line that says why there is none, and returns the status.
     fn keep(&mut self, told: Result<Vec<u8>, Unanswered>) -> u16
-        ensures kept { IsKept (λ text. text.items) told result self.new.told.items }
-        ensures seat { self.new.seat ≡ self.old.seat }
+        ensures kept { IsKept (λ text. text.items) told result (told_at self.new.told self.new.desk) }
+        ensures desk { self.new.desk ≡ self.old.desk }
         ensures office { self.new.office ≡ self.old.office }
         ensures clock { self.new.clock ≡ self.old.clock }
     {
         match told {
             Ok(text) => {
-                self.told = text;
+                self.told = LastAnswer::Text(text);
                 200
             }
-            Err(Unanswered::Question(fault)) => self.reproach(fault.line()),
+            Err(Unanswered::Question(fault)) => {
+                self.told = LastAnswer::Line(fault.line());
+                400
+            }
             Err(Unanswered::Token) => 401,
             Err(Unanswered::Tenant | Unanswered::Statement) => 404,
             Err(Unanswered::Memory) => 503,
         }
     }
 
-    // Keeps the line that says why words are not a question, and returns the status.
-    fn reproach(&mut self, line: &[u8]) -> u16
-        ensures told { ((result ≡ 400) × (self.new.told.items ≡ line.now)) ⊎ (result ≡ 503) }
-        ensures seat { self.new.seat ≡ self.old.seat }
+    // Does the command in a body for the tenant of a name, and returns the status.
+    fn command(&mut self, wanted: &OperatorWanted<'_>, body: &[u8]) -> u16
+        ensures done { IsCommanded (C.gives self.old.clock.now) self.old.office.now
+            (tenant_named self.old.office.now.names.items wanted.now.tenant.now) self.old.desk
+            (operator_asking (operator_wanted_at wanted.now) body.now result) (told_at self.new.told self.new.desk) self.new.desk }
         ensures office { self.new.office ≡ self.old.office }
         ensures clock { self.new.clock ≡ self.old.clock }
     {
-        match Vec::from_slice(self.alloc, line) {
-            Ok(text) => {
-                self.told = text;
-                400
+        let Some(tenant) = self.office.tenant_named(wanted.tenant) else {
+            return 404;
+        };
+        self.desk.told = RequestKind::Admin;
+        match self.ordered(tenant, wanted.token, body) {
+            Ok(status) => {
+                self.told = LastAnswer::ByDesk;
+                status.code()
             }
-            Err(_) => 503,
+            Err(fault) => {
+                self.told = LastAnswer::Line(command_fault_line(fault));
+                Status::Malformed.code()
+            }
         }
+    }
+
+    // Does a command under the token of the tenant's operator, unless the service stops.
+    fn ordered(&mut self, tenant: usize, token: &[u8], body: &[u8]) -> Result<Status, TextFault>
+        requires { tenant < self.old.office.now.books.tenants }
+        ensures ordered { (status : ℕ) → WasAskedCommand (C.gives self.old.clock.now) (bytes_eq (operator_token self.old.office.now tenant) token.now) self.old.office.now
+            (record { kind = Admin; tenant = tenant; token = token.now; body = body.now; status = status }) self.old.desk (obeyed_status result) self.new.desk }
+        ensures fault { IfErr result (λ fault. command_in (command_line body.now) ≡ Err fault) }
+        ensures well { result ≢ Ok Status.Malformed }
+        ensures told { self.new.desk.told ≡ self.old.desk.told }
+        ensures office { self.new.office ≡ self.old.office }
+        ensures clock { self.new.clock ≡ self.old.clock }
+    {
+        let office = self.office;
+        if !office.is_operator(tenant, token) {
+            return Ok(Status::Unauthorized);
+        }
+        if !office.door.command_begins() {
+            return Ok(Status::Unavailable);
+        }
+        let system = self.system();
+        let obeyed = self.desk.obey(&system, office, tenant, body);
+        office.door.command_ends();
+        obeyed
     }
 }
 
 impl<H: Wait + Disk, C: Clock, J: Run> OperatorService for Operators<'_, H, C, J> {
-    ghost asks = { λ before asked after. (after.seat ≡ before.seat) × (after.office ≡ before.office) × (after.clock ≡ before.clock)
-        × HasToldOperator J.openings (C.gives before.clock.now) before.office.now asked after.told.items };
+    ghost asks = { λ before asked after. (after.office ≡ before.office) × (after.clock ≡ before.clock)
+        × IsOperated (C.gives before.clock.now) before.office.now asked.wanted.request before.desk asked (told_at after.told after.desk) after.desk };
 
-    ghost answer = { λ o. o.told.items };
+    ghost answer = { λ o. told_at o.told o.desk };
 
-    fn operator(&mut self, wanted: &OperatorWanted<'_>) -> u16 {
-        self.answer(wanted)
+    fn operator(&mut self, wanted: &OperatorWanted<'_>, body: &[u8]) -> u16 {
+        match wanted.request {
+            OperatorRequest::Command => self.command(wanted, body),
+            OperatorRequest::Ask(topic) => self.answer(wanted, topic),
+        }
     }
 
     fn body(&self) -> &[u8] {
-        self.told.as_slice()
+        match &self.told {
+            LastAnswer::Text(text) => text.as_slice(),
+            LastAnswer::Line(line) => line,
+            LastAnswer::ByDesk => self.desk.told(),
+        }
     }
 }
 
 impl<H: Wait + Net<Stream = TcpStream> + std::time::Clock + Disk, C: Clock, J: Run> Answering
     for Operators<'_, H, C, J> {
-    ghost seat = { λ o. o.seat };
+    ghost serves = { λ before after. (after.office ≡ before.office) × (after.clock ≡ before.clock)
+        × HasOperated (C.gives before.clock.now) before.office.now before.desk after.desk };
 
     fn serve_connection(&mut self, stream: &TcpStream, time: Duration) {
         let mut reader = Timed::within(stream, self.handle, time);
         let mut writer = Timed::within(stream, self.handle, Duration::from_millis(PATIENCE));
         let _ = serve_operator(&mut reader, &mut writer, self);
-    }
-
-    fn into_seat(self) -> MeterSeat {
-        let Operators { seat, .. } = self;
-        seat
     }
 }

@@ -3,15 +3,17 @@
 ghost use Rattle.std.specs.Prelude.{◌≡◌, ◌≢◌, ◌<◌, ◌^◌, ◌-◌, ◌↔◌, ℕ, List, Option, Some, None, Err, IfOk, IfSome, true, false};
 ghost use Rattle.std.specs.Str.{bytes_eq};
 ghost use Rattle.atomic_table.specs.Seated.{TableId};
-ghost use Rattle.http_link.specs.declared.operator_request.OperatorRequest.TheVariants as asked;
+ghost use Rattle.http_link.specs.declared.operator_request.Topic.TheVariants as about;
 ghost use Rattle.common_types.specs.Numerals.{number_in};
 ghost use Rattle.service.specs.Operating.{Explains, OrMemory, States};
 ghost use Rattle.service.specs.Questions.{Question as QuestionOf, question_at, question_in};
 
 use crate::operators::question::{Question, QuestionFault, question_in};
+use crate::worker::desk::Desk;
 use common_types::number_in;
-use http_link::{OperatorRequest, OperatorWanted};
+use http_link::{OperatorWanted, Topic};
 use meters::MeterSeat;
+use one_list::Run;
 use std::alloc::AllocError;
 
 /// A service that runs, as the operators of its tenants ask it.
@@ -124,29 +126,30 @@ fn stated<S: Operated>(service: &S, tenant: usize, words: &[u8]) -> Result<Vec<u
     }
 }
 
-/// The answer to an operator's request, which shows a token.
-pub fn told_to_operator<S: Operated>(
+/// The answer to what an operator asks about its tenant, under a token. The meters are read through a desk's seat.
+pub fn told_to_operator<S: Operated, J: Run>(
     service: &S,
-    seat: &mut MeterSeat,
+    desk: &mut Desk<J>,
     wanted: &OperatorWanted<'_>,
+    topic: Topic,
 ) -> Result<Vec<u8>, Unanswered>
-    requires { seat.old.meters ≡ S.read service.now }
+    requires { desk.old.seat.meters ≡ S.read service.now }
     ensures unknown { (result ≡ Err Unanswered.Tenant) ↔ (S.numbered service.now wanted.now.tenant.now ≡ None) }
     ensures refused { (tenant : ℕ) → S.numbered service.now wanted.now.tenant.now ≡ Some tenant
         → ((result ≡ Err Unanswered.Token) ↔ (bytes_eq (S.token service.now tenant) wanted.now.token.now ≡ false)) }
     ensures setup { (tenant : ℕ) → S.numbered service.now wanted.now.tenant.now ≡ Some tenant
-        → wanted.now.request ≡ asked.Setup → bytes_eq (S.token service.now tenant) wanted.now.token.now ≡ true
+        → topic ≡ about.Setup → bytes_eq (S.token service.now tenant) wanted.now.token.now ≡ true
         → OrMemory (λ text. S.presents service.now tenant text.items) result }
     ensures metrics { (tenant : ℕ) → S.numbered service.now wanted.now.tenant.now ≡ Some tenant
-        → wanted.now.request ≡ asked.Metrics → bytes_eq (S.token service.now tenant) wanted.now.token.now ≡ true
+        → topic ≡ about.Metrics → bytes_eq (S.token service.now tenant) wanted.now.token.now ≡ true
         → OrMemory (λ text. S.measures service.now tenant text.items) result }
     ensures explain { (tenant : ℕ) → S.numbered service.now wanted.now.tenant.now ≡ Some tenant
-        → wanted.now.request ≡ asked.Explain → bytes_eq (S.token service.now tenant) wanted.now.token.now ≡ true
+        → topic ≡ about.Explain → bytes_eq (S.token service.now tenant) wanted.now.token.now ≡ true
         → Explains (question_in wanted.now.words.now) (λ question text. S.explains service.now tenant question text.items) result }
     ensures statement { (tenant : ℕ) → S.numbered service.now wanted.now.tenant.now ≡ Some tenant
-        → wanted.now.request ≡ asked.Statement → bytes_eq (S.token service.now tenant) wanted.now.token.now ≡ true
+        → topic ≡ about.Statement → bytes_eq (S.token service.now tenant) wanted.now.token.now ≡ true
         → States (number_in 0 (2 ^ 64 - 1) wanted.now.words.now) (λ period text. S.states service.now tenant period text.items) result }
-    ensures same { seat.new ≡ seat.old }
+    ensures same { desk.new ≡ desk.old }
 {
     let Some(tenant) = service.tenant_named(wanted.tenant) else {
         return Err(Unanswered::Tenant);
@@ -154,10 +157,10 @@ pub fn told_to_operator<S: Operated>(
     if !service.is_operator(tenant, wanted.token) {
         return Err(Unanswered::Token);
     }
-    match wanted.request {
-        OperatorRequest::Setup => Ok(service.present(tenant)?),
-        OperatorRequest::Metrics => Ok(service.metrics(seat, tenant)?),
-        OperatorRequest::Explain => explained(service, tenant, wanted.words),
-        OperatorRequest::Statement => stated(service, tenant, wanted.words),
+    match topic {
+        Topic::Setup => Ok(service.present(tenant)?),
+        Topic::Metrics => Ok(service.metrics(&mut desk.seat, tenant)?),
+        Topic::Explain => explained(service, tenant, wanted.words),
+        Topic::Statement => stated(service, tenant, wanted.words),
     }
 }

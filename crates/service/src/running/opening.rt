@@ -28,29 +28,30 @@ pub struct Begun<J: Run> {
     pub office: Office<J>,
     /// The first seat at the meters.
     pub first: MeterSeat,
-    /// What each worker counts in the books.
+    /// What each worker, and who answers operators, counts in the books.
     pub shares: Vec<Share<J>>,
 }
 
-/// The office of the tenants of a setup, to whom nothing has happened, for this plan. It has a worker for each
-/// connection, which keeps receipts if the run is audited. The list of what is done to their books was just opened,
-/// for so many tenants and workers.
+/// The office of the tenants of a setup, to whom nothing has happened, for this plan. So many desks count in its books, and
+/// keep receipts if the run is audited. The list of what is done to their books was just opened, for so many tenants and desks.
 pub fn open_office<J: Run>(
     alloc: Global,
     opened: Opened,
     setup: &Setup,
     plan: Plan<'_>,
+    desks: usize,
 ) -> Result<Begun<J>, AllocError>
     requires list { (opened.table ≡ J.table) × (opened.size ≡ J.size) }
-    requires size { J.size ≡ record { tenants = length setup.now.tenants; workers = plan.extent.connections } }
+    requires size { J.size ≡ record { tenants = length setup.now.tenants; workers = desks } }
     requires openings { J.openings ≡ openings_of setup.now.tenants setup.now.start }
     requires tenants { (1 ≤ length setup.now.tenants) × (length setup.now.tenants ≤ max_tenants) }
     requires workers { (1 ≤ plan.extent.workers) × (plan.extent.workers ≤ max_places) }
-    requires connections { (1 ≤ plan.extent.connections) × (plan.extent.connections ≤ max_workers) }
+    requires desks { (1 ≤ desks) × (desks ≤ max_workers) }
     ensures known { IfOk result (λ begun. IsOfficeOf setup.now begun.office) }
     ensures first { IfOk result (λ begun. begun.first ≡ empty_seat begun.office.meters.id true) }
     ensures zero { IfOk result (λ begun. (tenant : ℕ) (kind : meter.Kind) → count_of tenant kind begun.first ≡ 0) }
-    ensures each { IfOk result (λ begun. vec_len begun.shares ≡ plan.entry.extent.connections) }
+    ensures admin { IfOk result (λ begun. begun.office.admin ≡ plan.entry.admin) }
+    ensures each { IfOk result (λ begun. vec_len begun.shares ≡ desks) }
     ensures fresh { IfOk result (λ begun. All IsUncounted begun.shares.items) }
 {
     let Plan {
@@ -58,9 +59,10 @@ pub fn open_office<J: Run>(
         report,
         statements,
         roll_at,
+        admin,
     } = plan;
-    let (tenants, workers) = (setup.tenants.as_slice(), extent.connections);
-    let (books, shares) = Books::new(alloc, opened, tenants, setup.start, workers, report.audit)?;
+    let (tenants, start) = (setup.tenants.as_slice(), setup.start);
+    let (books, shares) = Books::new(alloc, opened, tenants, start, desks, report.audit)?;
     let (meters, first) = Meters::new(alloc, tenants.len())?;
     let office = Office {
         names: setup.names(alloc)?,
@@ -71,8 +73,9 @@ pub fn open_office<J: Run>(
         door: Door::new(total_of(extent)),
         filing: filing_of(alloc, statements, tenants.len())?,
         refused_tokens: counters(alloc, tenants.len())?,
-        start: setup.start,
+        start,
         roll_at,
+        admin,
     };
     Ok(Begun {
         office,

@@ -1,8 +1,9 @@
 //! The service: all its workers, and what they counted.
 
-ghost use Rattle.std.specs.Prelude.{ℕ, ◌≡◌, ◌+◌, ◌≤◌, ◌<◌, ◌⊎◌, ◌++◌, [], length, map, vec_len, vec_capacity, true, false, is_ok, option_map, slice_index_or, All, IfErr, IfOk, OnErr, OnOk};
+ghost use Rattle.std.specs.Prelude.{ℕ, ◌≡◌, ◌+◌, ◌≤◌, ◌<◌, ◌⊎◌, ◌++◌, [], length, map, vec_len, vec_capacity, true, false, is_ok, is_some, option_map, slice_index_or, All, IfErr, IfOk, IfSome, OnErr, OnOk};
 ghost use Rattle.std.specs.Io.KnownBytes.{Appends};
 ghost use Rattle.std.specs.List.{sum_by};
+ghost use Rattle.std.specs.Option.{option_to_list};
 ghost use Rattle.allotment.specs.Loans.{max_places};
 ghost use Rattle.books_shared.specs.Gathers.{max_workers};
 ghost use Rattle.books_shared.specs.Traced.{openings_of};
@@ -10,15 +11,17 @@ ghost use Rattle.tenant_core.specs.Limits.{max_tenants};
 ghost use Rattle.std.specs.Fmt.{decimal};
 ghost use Rattle.meters.specs.Seats.{count_of, max_splits};
 ghost use Rattle.meters.specs.declared.kind.Kind as meter;
-ghost use Rattle.service.specs.Answering.{HasToldCounts, HasToldCountsIn, HasWorked, HaveCounted, IsUncounted, IsNewDesk};
+ghost use Rattle.service.specs.Answering.{HasWorked, IsUncounted, IsNewDesk};
+ghost use Rattle.service.specs.Counted.{HasToldCounts, HasToldCountsIn, HaveCounted, without_door};
 ghost use Rattle.service.specs.Ending.{EndsTold, ungathered_end, ungathered_line};
-ghost use Rattle.service.specs.Extents.{closes_at_end};
+ghost use Rattle.service.specs.Extents.{desk_count};
 ghost use Rattle.service.specs.Hosting.{HasStayed, IsIdle, seats_in};
+ghost use Rattle.service.specs.Operating.{HaveOperated};
 ghost use Rattle.service.specs.Served.{served_line, lines_upto};
 
 use crate::connection::door::Door;
 use crate::filing::disk::Disk;
-use crate::host::callers::{Answering, Beside, Callers, Porter};
+use crate::host::callers::{Beside, Callers, Porter};
 use crate::host::hosting::{Host, HostDoor};
 use crate::office::Office;
 use crate::operators::answering::{OperatorDoor, Operators};
@@ -29,7 +32,7 @@ use crate::running::ending::{ServeFault, end_of, ungathered_end};
 use crate::running::finishing::{Last, finish, followed_by, with_more};
 use crate::running::meeting::Meeting;
 use crate::running::opening::{Begun, open_office};
-use crate::running::plan::Plan;
+use crate::running::plan::{Plan, desk_count};
 use crate::system::System;
 use crate::worker::Worker;
 use crate::worker::desk::Desk;
@@ -49,8 +52,8 @@ use std::thread::{Threads, join_mut};
 use tenant_core::Period;
 use workers::{Lane, StartFault, run_workers};
 
-/// What workers leave: what each has counted in books, the periods that they closed, where the run is audited and there was
-/// memory to put them together, and whether one of them could not accept a connection.
+/// What workers and who answers operators leave: what each has counted in books, the periods that they closed, where the run is
+/// audited and there was memory to put them together, and whether a worker could not accept a connection.
 #[derive(Drop)]
 pub struct Done<J: Run> {
     pub shares: Vec<Share<J>>,
@@ -96,31 +99,31 @@ fn hired<
     Ok(lanes)
 }
 
-// What the workers leave, their shares in that room: what their seats have counted is the first one's from then on.
+// What the workers leave, with what others left: what their seats have counted is the first one's from then on.
 fn dismissed<H, C, J: Run>(
-    alloc: Global,
     office: &Office<J>,
     first: &mut MeterSeat,
     lanes: Vec<Worker<'_, H, C, J>>,
-    room: Vec<Share<J>>,
+    others: Done<J>,
 ) -> Done<J>
     requires here { first.old.meters ≡ office.now.meters.id }
     requires same { All (λ lane. lane.office.now ≡ office.now) lanes.items }
-    requires empty { room.items ≡ [] }
-    requires room { vec_len lanes ≤ vec_capacity room }
+    requires room { vec_len others.shares + vec_len lanes ≤ vec_capacity others.shares }
     ensures here { first.new.meters ≡ office.now.meters.id }
     ensures first { first.new.first ≡ first.old.first }
     ensures splits { first.new.splits ≡ first.old.splits }
     ensures joined { first.new.joins ≡ first.old.joins + length lanes.entry.items }
-    ensures each { vec_len result.shares ≡ length lanes.entry.items }
-    ensures shares { result.shares.items ≡ map (λ lane. lane.desk.share) lanes.entry.items }
+    ensures each { vec_len result.shares ≡ vec_len others.shares + length lanes.entry.items }
+    ensures shares { result.shares.items ≡ others.shares.items ++ map (λ lane. lane.desk.share) lanes.entry.items }
     ensures counts { (tenant : ℕ) (kind : meter.Kind)
         → count_of tenant kind first.new ≡ count_of tenant kind first.old
         + sum_by (λ lane. count_of tenant kind lane.desk.seat) lanes.entry.items }
 {
-    let mut shares = room;
-    let mut periods = Some(Vec::new(alloc));
-    let mut failed = false;
+    let Done {
+        mut shares,
+        mut periods,
+        mut failed,
+    } = others;
     for lane in lanes {
         let (desk, broken) = lane.into_desk();
         let Desk {
@@ -138,6 +141,51 @@ fn dismissed<H, C, J: Run>(
         shares,
         periods,
         failed,
+    }
+}
+
+// What who answered operators leaves, if anyone did, its share in that room: what its seat has counted is the first one's from
+// then on.
+fn relieved<H, C, J: Run>(
+    alloc: Global,
+    office: &Office<J>,
+    first: &mut MeterSeat,
+    operators: Option<Porter<'_, H, Operators<'_, H, C, J>>>,
+    room: Vec<Share<J>>,
+) -> Done<J>
+    requires here { first.old.meters ≡ office.now.meters.id }
+    requires same { IfSome operators (λ porter. porter.answering.office.now ≡ office.now) }
+    requires empty { room.items ≡ [] }
+    requires room { 1 ≤ vec_capacity room }
+    ensures here { first.new.meters ≡ office.now.meters.id }
+    ensures first { first.new.first ≡ first.old.first }
+    ensures splits { first.new.splits ≡ first.old.splits }
+    ensures joined { first.new.joins ≡ first.old.joins + length (option_to_list operators.entry) }
+    ensures each { vec_len result.shares ≡ length (option_to_list operators.entry) }
+    ensures shares { result.shares.items ≡ map (λ porter. porter.answering.desk.share) (option_to_list operators.entry) }
+    ensures room { vec_capacity result.shares ≡ vec_capacity room }
+    ensures counts { (tenant : ℕ) (kind : meter.Kind)
+        → count_of tenant kind first.new ≡ count_of tenant kind first.old
+        + sum_by (λ porter. count_of tenant kind porter.answering.desk.seat) (option_to_list operators.entry) }
+{
+    let mut shares = room;
+    let mut periods = Vec::new(alloc);
+    if let Some(porter) = operators {
+        let Porter { answering, .. } = porter;
+        let Desk {
+            seat,
+            share,
+            periods: closed,
+            ..
+        } = answering.into_desk();
+        office.meters.join(first, seat);
+        shares.push_reserved(share);
+        periods = closed;
+    }
+    Done {
+        shares,
+        periods: Some(periods),
+        failed: false,
     }
 }
 
@@ -174,30 +222,49 @@ fn host_at<'a, H, C, J: Run>(
     }))
 }
 
-// Where operators are answered: as for the host, with a seat of its own and room for those who wait.
+// The door of the operators, if there is one, with one of the shares.
+fn seated_at<'a, J: Run>(
+    door: Option<OperatorDoor<'a>>,
+    shares: &mut Vec<Share<J>>,
+) -> Option<(OperatorDoor<'a>, Share<J>)>
+    requires some { 1 ≤ vec_len shares.old }
+    ensures door { is_some result ≡ is_some door.entry }
+    ensures many { vec_len shares.old ≡ vec_len shares.new + length (option_to_list result) }
+    ensures shares { shares.old.items ≡ shares.new.items ++ option_to_list (option_map (λ seated. seated.1) result) }
+{
+    let door = door?;
+    let share = shares.pop()?;
+    Some((door, share))
+}
+
+// Where operators are answered: at a desk of its own, with room for those who wait.
 fn operators_at<'a, H, C: workers::Clock, J: Run>(
     system: &'a System<'_, H, C>,
     office: &'a Office<J>,
     first: &mut MeterSeat,
-    door: Option<OperatorDoor<'a>>,
+    seated: Option<(OperatorDoor<'a>, Share<J>)>,
 ) -> Result<Option<Porter<'a, H, Operators<'a, H, C, J>>>, AllocError>
     requires here { first.old.meters ≡ office.now.meters.id }
     requires first { first.old.first ≡ true }
     requires few { first.old.splits < max_splits }
-    ensures idle { IfOk result (λ porter. IsIdle office.now.meters.id (option_map (λ porter. porter.answering.seat) porter)) }
+    requires new { IfSome (option_map (λ seated. seated.1) seated) IsUncounted }
+    ensures there { IfOk result (λ porter. is_some porter ≡ is_some seated.entry) }
+    ensures new { IfOk result (λ porter. IfSome porter (λ porter. IsNewDesk porter.answering.desk)) }
+    ensures office { IfOk result (λ porter. IfSome porter (λ porter. porter.answering.office.now ≡ office.now)) }
+    ensures clock { IfOk result (λ porter. IfSome porter (λ porter. porter.answering.clock.now ≡ system.now.clock.now)) }
     ensures here { first.new.meters ≡ first.old.meters }
     ensures first { first.new.first ≡ true }
-    ensures splits { IfOk result (λ porter. first.new.splits ≡ first.old.splits + seats_in (option_map (λ porter. porter.answering.seat) porter)) }
+    ensures splits { IfOk result (λ porter. first.new.splits ≡ first.old.splits + length (option_to_list porter)) }
     ensures joins { first.new.joins ≡ first.old.joins }
     ensures counts { first.new.counts ≡ first.old.counts }
 {
-    let Some(door) = door else {
+    let Some((door, share)) = seated else {
         return Ok(None);
     };
     let (handle, alloc) = (system.handle, system.alloc);
-    let callers = Callers::new(alloc)?;
-    let seat = office.meters.split(first);
-    let answering = Operators::new(handle, alloc, system.clock, office, seat);
+    let (callers, slot) = (Callers::new(alloc)?, Slot::new(alloc)?);
+    let desk = Desk::new(alloc, share, office.meters.split(first), slot);
+    let answering = Operators::new(system, office, desk);
     Ok(Some(Porter {
         handle,
         listener: door.listener(),
@@ -207,18 +274,18 @@ fn operators_at<'a, H, C: workers::Clock, J: Run>(
     }))
 }
 
-// Takes back the seat of one who answered at a door, at which nothing was counted.
-fn leaves<H, K: Answering, J: Run>(
+// Takes back the seat of who answered the host, at which nothing was counted.
+fn leaves<H, J: Run>(
     office: &Office<J>,
     first: &mut MeterSeat,
-    porter: Option<Porter<'_, H, K>>,
+    porter: Option<Porter<'_, H, Host<'_, H, J>>>,
 )
     requires here { first.old.meters ≡ office.now.meters.id }
-    requires idle { IsIdle office.now.meters.id (option_map (λ porter. K.seat porter.answering) porter) }
+    requires idle { IsIdle office.now.meters.id (option_map (λ porter. porter.answering.seat) porter) }
     ensures here { first.new.meters ≡ first.old.meters }
     ensures first { first.new.first ≡ first.old.first }
     ensures splits { first.new.splits ≡ first.old.splits }
-    ensures joins { first.new.joins ≡ first.old.joins + seats_in (option_map (λ porter. K.seat porter.answering) porter.entry) }
+    ensures joins { first.new.joins ≡ first.old.joins + seats_in (option_map (λ porter. porter.answering.seat) porter.entry) }
     ensures counts { (tenant : ℕ) (kind : meter.Kind) → count_of tenant kind first.new ≡ count_of tenant kind first.old }
 {
     if let Some(porter) = porter {
@@ -305,11 +372,13 @@ fn work_all<
     requires new { All (λ lane. IsNewDesk lane.desk) lanes.old }
     requires office { All (λ lane. lane.office.now ≡ office.now) lanes.old }
     requires clock { All (λ lane. lane.clock.now ≡ clock.now) lanes.old }
+    requires seated { IfSome operators.old (λ porter. (porter.answering.office.now ≡ office.now) × (porter.answering.clock.now ≡ clock.now)) }
     ensures office { All (λ lane. lane.office.now ≡ office.now) lanes.new }
     ensures worked { OnOk result (All (λ lane. HasWorked (C.gives clock.now) office.now lane.desk) lanes.new) }
     ensures host { option_map (λ porter. porter.answering.seat) host.new ≡ option_map (λ porter. porter.answering.seat) host.old }
-    ensures operators { option_map (λ porter. porter.answering.seat) operators.new
-        ≡ option_map (λ porter. porter.answering.seat) operators.old }
+    ensures operated { HaveOperated (C.gives clock.now) office.now (option_map (λ porter. porter.answering.desk) operators.old)
+        (option_map (λ porter. porter.answering.desk) operators.new) }
+    ensures seated { IfSome operators.new (λ porter. porter.answering.office.now ≡ office.now) }
 {
     meters::laws::meters_are_shared();
     books_shared::laws::books_are_shared::<J>();
@@ -320,7 +389,8 @@ fn work_all<
     }
 }
 
-/// Lets a worker for each share serve connections, and joins them all.
+/// Lets a worker for each share serve connections, and joins them all. One of the shares is for who answers operators, if
+/// operators have a door.
 pub fn run_all<
     'a,
     H: Threads
@@ -335,7 +405,7 @@ pub fn run_all<
     system: &'a System<'_, H, C>,
     office: &'a Office<J>,
     first: &mut MeterSeat,
-    shares: Vec<Share<J>>,
+    mut shares: Vec<Share<J>>,
     doors: Doors<'a>,
 ) -> Result<Done<J>, ServeFault>
     requires here { first.old.meters ≡ office.now.meters.id }
@@ -343,13 +413,15 @@ pub fn run_all<
     requires whole { first.old.splits ≡ 0 }
     requires none { first.old.joins ≡ 0 }
     requires nothing { (tenant : ℕ) (kind : meter.Kind) → count_of tenant kind first.old ≡ 0 }
+    requires some { 1 ≤ vec_len shares }
     requires few { vec_len shares ≤ max_workers }
     requires new { All IsUncounted shares.items }
     ensures here { first.new.meters ≡ office.now.meters.id }
     ensures joined { OnOk result (first.new.joins ≡ first.new.splits) }
     ensures each { IfOk result (λ done. vec_len done.shares ≡ vec_len shares) }
     ensures first { first.new.first ≡ true }
-    ensures counted { IfOk result (λ done. HaveCounted (C.gives system.now.clock.now) office.now (vec_len shares) done.shares.items
+    ensures counted { IfOk result (λ done. HaveCounted (C.gives system.now.clock.now) office.now
+        (without_door (is_some doors.entry.operators) (vec_len shares)) (is_some doors.entry.operators) done.shares.items
         (λ tenant kind. count_of tenant kind first.new)) }
 {
     let System {
@@ -358,9 +430,10 @@ pub fn run_all<
         clock,
     } = *system;
     let room = Vec::with_capacity(alloc, shares.len())?;
+    let seated = seated_at(doors.operators, &mut shares);
     let mut lanes = hired(system, office, first, shares, doors.packets)?;
     let mut host = host_at(system, office, first, doors.host)?;
-    let mut operators = operators_at(system, office, first, doors.operators)?;
+    let mut operators = operators_at(system, office, first, seated)?;
     work_all(
         handle,
         office,
@@ -370,8 +443,8 @@ pub fn run_all<
         &mut operators,
     )?;
     leaves(office, first, host);
-    leaves(office, first, operators);
-    Ok(dismissed(alloc, office, first, lanes, room))
+    let others = relieved(alloc, office, first, operators, room);
+    Ok(dismissed(office, first, lanes, others))
 }
 
 // A line for each tenant: how many packets and commands were answered with which status, and how often its peers gave no
@@ -442,7 +515,7 @@ pub struct Doors<'a> {
     pub packets: &'a TcpListener,
     /// Where the host asks, if anywhere.
     pub host: Option<HostDoor<'a>>,
-    /// Where operators ask, if anywhere.
+    /// Where operators ask and command, if anywhere.
     pub operators: Option<OperatorDoor<'a>>,
 }
 
@@ -456,9 +529,12 @@ pub struct Doors<'a> {
 /// are the sums of the workers' counts. A worker begins with zeros, and counts each question as `HasAnswered` says. Its questions
 /// are the requests of its connections, in order, none skipped, and none after one that closes a connection.
 ///
-/// All that the workers did to the tenants' books is one list, whatever the threads did. Each tenant's part leads from the setup
-/// to the tenant's book, each worker's part is what it did, and it has nothing else. The list is a run of a `Floor` from the
-/// setup (`Books::gather`).
+/// The operators' door counts too: it does each command as a worker does one that comes with packets, at a desk of its own. It
+/// does none once the service is stopped.
+///
+/// All that the workers and operators did to the tenants' books is one list, whatever the threads did. Each tenant's part leads
+/// from the setup to the tenant's book, each worker's part is what it did, and it has nothing else. The list is a run of a `Floor`
+/// from the setup (`Books::gather`).
 ///
 /// For an audit each worker keeps a receipt of each entry that it appends, and the periods that it closes, so memory grows with
 /// the entries. At the end one worker rolls each tenant, and all receipts are checked against all periods. `audit ok N` says that
@@ -499,7 +575,7 @@ pub fn serve<
     requires tenants { (1 ≤ length setup.now.tenants) × (length setup.now.tenants ≤ max_tenants) }
     requires workers { (1 ≤ plan.extent.workers) × (plan.extent.workers ≤ max_places) }
     requires connections { (1 ≤ plan.extent.connections) × (plan.extent.connections ≤ max_workers) }
-    ensures { OnOk result (HasToldCounts (C.gives clock.now) setup.now plan.entry.extent.connections plan.entry.report (closes_at_end plan.entry) (W.contents writer.old) (W.contents writer.new)) }
+    ensures { OnOk result (HasToldCounts (C.gives clock.now) setup.now plan.entry (is_some doors.entry.operators) (W.contents writer.old) (W.contents writer.new)) }
 {
     let system = System {
         handle,
@@ -507,7 +583,8 @@ pub fn serve<
         clock,
     };
     let tenants = setup.tenants.as_slice().len();
-    let opened = Opened::new(alloc, tenants, plan.extent.connections)?;
+    let desks = desk_count(plan.extent, doors.operators.is_some());
+    let opened = Opened::new(alloc, tenants, desks)?;
     serve_run::<Brand, _, _, _>(system, opened, setup, plan, doors, writer)
 }
 
@@ -531,20 +608,21 @@ fn serve_run<
     writer: &mut W,
 ) -> Result<(), ServeFault>
     requires list { (opened.table ≡ J.table) × (opened.size ≡ J.size) }
-    requires size { J.size ≡ record { tenants = length setup.now.tenants; workers = plan.extent.connections } }
+    requires size { J.size ≡ record { tenants = length setup.now.tenants; workers = desk_count plan.extent.connections (is_some doors.operators) } }
     requires openings { J.openings ≡ openings_of setup.now.tenants setup.now.start }
     requires tenants { (1 ≤ length setup.now.tenants) × (length setup.now.tenants ≤ max_tenants) }
     requires workers { (1 ≤ plan.extent.workers) × (plan.extent.workers ≤ max_places) }
     requires connections { (1 ≤ plan.extent.connections) × (plan.extent.connections ≤ max_workers) }
-    ensures { OnOk result (HasToldCountsIn J.Run (C.gives system.entry.clock.now) setup.now plan.entry.extent.connections plan.entry.report (closes_at_end plan.entry)
+    ensures { OnOk result (HasToldCountsIn J.Run (C.gives system.entry.clock.now) setup.now plan.entry (is_some doors.entry.operators)
         (W.contents writer.old) (W.contents writer.new)) }
 {
     let (alloc, report) = (system.alloc, plan.report);
+    let desks = desk_count(plan.extent, doors.operators.is_some());
     let Begun {
         office,
         mut first,
         shares,
-    } = open_office::<J>(alloc, opened, setup, plan)?;
+    } = open_office::<J>(alloc, opened, setup, plan, desks)?;
     let done = run_all(&system, &office, &mut first, shares, doors)?;
     let Done {
         mut shares,

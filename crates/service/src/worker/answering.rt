@@ -1,8 +1,8 @@
 //! The answers of a worker to a packet and to a command.
 
-ghost use Rattle.std.specs.Prelude.{◌≡◌, ◌<◌, OnErr, is_some, true};
+ghost use Rattle.std.specs.Prelude.{◌≡◌, ◌≢◌, ◌<◌, Ok, Err, IfErr, OnErr, is_some, true};
 ghost use Rattle.admin_text.specs.Commands.{command_in};
-ghost use Rattle.service.specs.Answering.{IsPrinted, IsCommandAnswer, WasCarried, WasGoverned, WasObeyed, command_line};
+ghost use Rattle.service.specs.Answering.{IsPrinted, IsCommandAnswer, WasCarried, WasGoverned, WasObeyed, command_line, obeyed_status};
 ghost use Rattle.service.specs.Rolling.{IsTidied, IsUntouched, WasRolledRipe};
 
 use crate::filing::disk::Disk;
@@ -12,7 +12,7 @@ use crate::link::{PeerLink, Sockets};
 use crate::office::Office;
 use crate::system::System;
 use crate::worker::desk::Desk;
-use admin_text::parse_command;
+use admin_text::{TextFault, parse_command};
 use common_types::ReadError;
 use one_list::Run;
 use replay_text::put_answer;
@@ -149,34 +149,37 @@ impl<J: Run> Desk<J> {
         }
     }
 
-    /// Does the command in a body, if it is one, for a tenant of the office, and returns the status of the answer.
+    /// Does the command in a body, if it is one, for a tenant of the office, and returns the status of the answer. The error is
+    /// what is wrong with a body that is not a command.
     pub fn obey<H: Wait + Disk, C: Clock>(
         &mut self,
         system: &System<'_, H, C>,
         office: &Office<J>,
         tenant: usize,
         body: &[u8],
-    ) -> Status
+    ) -> Result<Status, TextFault>
         requires seat { self.old.seat.meters ≡ office.now.meters.id }
         requires tenant { tenant < office.now.books.tenants }
-        ensures obeyed { WasObeyed (C.gives system.now.clock.now) (command_in (command_line body.now)) office.now self.old tenant result self.new }
+        ensures obeyed { WasObeyed (C.gives system.now.clock.now) (command_in (command_line body.now)) office.now self.old tenant (obeyed_status result) self.new }
+        ensures fault { IfErr result (λ fault. command_in (command_line body.now) ≡ Err fault) }
+        ensures well { result ≢ Ok Status.Malformed }
         ensures same_meters { self.new.seat.meters ≡ self.old.seat.meters }
         ensures told { self.new.told ≡ self.old.told }
     {
         let command = match parse_command(system.alloc, without_line_feed(body)) {
             Ok(command) => command,
-            Err(ReadError::Fault(_)) => return Status::Malformed,
-            Err(ReadError::Memory) => return Status::Unavailable,
+            Err(ReadError::Fault(fault)) => return Err(fault),
+            Err(ReadError::Memory) => return Ok(Status::Unavailable),
         };
         if self.make_room().is_err() {
-            return Status::Unavailable;
+            return Ok(Status::Unavailable);
         }
         let Ok(room) = backlog_room(system.handle, office, tenant, &command) else {
-            return Status::Unavailable;
+            return Ok(Status::Unavailable);
         };
         let (status, closed) = self.govern(system, office, tenant, &command);
         self.close(system, office, closed, room);
-        status
+        Ok(status)
     }
 
     /// Closes the running period of a tenant of the office if it is ripe and the service closes ripe ones, and has its statement
@@ -243,6 +246,7 @@ impl<J: Run> Desk<J> {
         requires seat { self.old.seat.meters ≡ office.now.meters.id }
         requires tenant { tenant < office.now.books.tenants }
         ensures governed { WasGoverned (C.gives system.now.clock.now) office.now self.old tenant command.now result.0 self.new }
+        ensures well { result.0 ≢ Status.Malformed }
         ensures same_meters { self.new.seat.meters ≡ self.old.seat.meters }
         ensures told { self.new.told ≡ self.old.told }
     {
@@ -284,7 +288,8 @@ fn tell<J: Run>(
     answer: Result<Answered, GovernFault>,
     printed: &mut Vec<u8>,
 ) -> (Status, Option<Period>)
-    ensures { IsCommandAnswer office.now tenant answer result.0 printed.new.items }
+    ensures told { IsCommandAnswer office.now tenant answer result.0 printed.new.items }
+    ensures well { result.0 ≢ Status.Malformed }
 {
     match answer {
         Ok(answered) => print(alloc, office, tenant, Ok(answered), printed),
@@ -305,7 +310,8 @@ fn print<J: Run>(
     answer: Result<Answered, CommandFault>,
     printed: &mut Vec<u8>,
 ) -> (Status, Option<Period>)
-    ensures { IsPrinted office.now tenant answer result.0 printed.new.items }
+    ensures printed { IsPrinted office.now tenant answer result.0 printed.new.items }
+    ensures well { result.0 ≢ Status.Malformed }
 {
     let mut text = Vec::new(alloc);
     let status = match put_answer(office.names.as_slice(), tenant, &mut text, &answer) {

@@ -5,7 +5,7 @@ use super::wire::{FixedClock, is_reply, packet_by, request};
 use super::{NOTHING_MORE, asked};
 use admin_text::read_setup;
 use common_types::Token;
-use service::{Disk, Doors, Extent, HostDoor, OperatorDoor, Plan, ServeFault, serve};
+use service::{Disk, Doors, Extent, HostDoor, OperatorDoor, Plan, Report, ServeFault, serve};
 use std::alloc::Global;
 use std::net::{Net, OpenListener, SocketAddr, TcpListener, TcpStream};
 use std::process::Abort;
@@ -36,13 +36,35 @@ const UNAUTHORIZED_HEAD: &[u8] = b"HTTP/1.1 401 Unauthorized\r\n";
 pub const HEALTHY: &[u8] =
     b"HTTP/1.1 200 OK\r\nContent-Type: text/plain\r\nContent-Length: 3\r\nConnection: close\r\n\r\nok\n";
 
+/// Whether commands come where packets come, whether operators have a door, and what is printed at the end.
+#[derive(Clone, Copy)]
+pub struct Manner {
+    pub admin: bool,
+    pub has_operators: bool,
+    pub report: Report,
+}
+
+/// Without a door of operators.
+pub const DOORLESS: Manner = Manner {
+    admin: true,
+    has_operators: false,
+    report: NOTHING_MORE,
+};
+
+/// The doors of packets, of the host, and of operators, if they have one.
+#[derive(Clone, Copy)]
+pub struct Listeners<'a> {
+    pub packets: &'a TcpListener,
+    pub host: &'a TcpListener,
+    pub operators: Option<&'a TcpListener>,
+}
+
 /// Serves the setup of that text at these doors.
-pub fn serve_with_host<'a, R>(
+pub fn serve_with_host<R>(
     rt: &R,
     text: &str,
-    packets: &'a TcpListener,
-    door: &'a TcpListener,
-    operators: Option<&'a TcpListener>,
+    at: Listeners<'_>,
+    manner: Manner,
     lines: &mut Vec<u8>,
 ) -> Result<(), ServeFault>
 where
@@ -54,10 +76,10 @@ where
     else {
         return Err(ServeFault::Device);
     };
-    let Ok(host) = HostDoor::new(door, &token, packets) else {
+    let Ok(host) = HostDoor::new(at.host, &token, at.packets) else {
         return Err(ServeFault::Device);
     };
-    let operators = match operators {
+    let operators = match at.operators {
         Some(listener) => OperatorDoor::new(listener).ok(),
         None => None,
     };
@@ -68,12 +90,13 @@ where
     };
     let plan = Plan {
         extent,
-        report: NOTHING_MORE,
+        report: manner.report,
         statements: None,
         roll_at: None,
+        admin: manner.admin,
     };
     let doors = Doors {
-        packets,
+        packets: at.packets,
         host: Some(host),
         operators,
     };
@@ -149,11 +172,10 @@ pub struct Addresses {
 }
 
 /// The outcome of requests to a service with a host's door, for the setup of that text, and what it prints at the end.
-/// With `has_operators` it has an operators' door.
 pub fn served_with_host<R, T, F>(
     rt: &R,
     text: &str,
-    has_operators: bool,
+    manner: Manner,
     ask: F,
 ) -> Result<(T, Vec<u8>), Fail>
 where
@@ -175,12 +197,16 @@ where
     let (end, came) = join(
         rt,
         || {
-            let beside = if has_operators {
-                Some(&operators)
-            } else {
-                None
+            let at = Listeners {
+                packets: &packets,
+                host: &host,
+                operators: if manner.has_operators {
+                    Some(&operators)
+                } else {
+                    None
+                },
             };
-            serve_with_host(rt, text, &packets, &host, beside, &mut lines)
+            serve_with_host(rt, text, at, manner, &mut lines)
         },
         || ask(to),
     );
@@ -221,7 +247,7 @@ where
     let ask = |to: Addresses| {
         Ok(told_in_turn(rt, alloc, to, packet.as_slice(), command.as_slice())?)
     };
-    served_with_host(rt, text.as_str(), false, ask)
+    served_with_host(rt, text.as_str(), DOORLESS, ask)
 }
 
 // Lines of the metrics after one packet of acme's was answered, and a command for beta refused.
@@ -299,8 +325,8 @@ fn what_a_host_is_told(rt: HostRuntime) -> Result<(), Fail> {
     expect_told(&rt, rt.alloc(), answers.as_slice())
 }
 
-// How many packets are fulfilled before the host stops the service.
-const ENOUGH: u64 = 100;
+/// How many requests are answered before the host stops the service.
+pub const ENOUGH: u64 = 100;
 
 // How many packets a client sends at most.
 const MOST: u32 = 20_000;
@@ -357,8 +383,8 @@ fn all_clients<R: Threads + Net<Listener = TcpListener, Stream = TcpStream> + Sy
     );
 }
 
-// Stops the service once enough packets were fulfilled, and gives the answer.
-fn stopped<R: Wait + Net<Stream = TcpStream>>(
+/// Stops the service once enough requests were answered, and gives the answer.
+pub fn stopped<R: Wait + Net<Stream = TcpStream>>(
     rt: &R,
     alloc: Global,
     host: &SocketAddr,
@@ -415,7 +441,7 @@ where
         other: 0,
     });
     let ask = |to: Addresses| stopped_under_load(rt, rt.alloc(), to, &mut clients);
-    let run = || served_with_host(rt, text.as_str(), false, ask);
+    let run = || served_with_host(rt, text.as_str(), DOORLESS, ask);
     let ((answer, lines), fulfilled) = beside_peer(rt, &peer, run)?;
     Ok(Stop {
         fulfilled,

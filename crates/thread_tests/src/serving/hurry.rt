@@ -1,7 +1,10 @@
 //! What a connection gets while others wait, and when the service stops; and idle callers at the host's door.
 
 use super::crowd::{connected, setup_text};
-use super::host::{Addresses, HEALTH, HEALTHY, METRICS, STOP, serve_with_host, served_with_host};
+use super::host::{
+    Addresses, DOORLESS, HEALTH, HEALTHY, Listeners, METRICS, STOP, serve_with_host,
+    served_with_host,
+};
 use super::wire::{good_reply, good_text, one_tenant, packet_by, peer_answer, posted, request};
 use super::{ALONE, NOTHING, NOTHING_MORE, answer_of, asked, next_request, served_while, usual};
 use service::{Disk, Extent};
@@ -130,7 +133,14 @@ fn a_stop_is_clean_after_an_accept_that_failed(rt: HostRuntime) -> Result<(), Fa
     let mut lines = Vec::new(alloc);
     let (end, seen) = join(
         &rt,
-        || serve_with_host(&rt, text.as_str(), &packets, &door, None, &mut lines),
+        || {
+            let at = Listeners {
+                packets: &packets,
+                host: &door,
+                operators: None,
+            };
+            serve_with_host(&rt, text.as_str(), at, DOORLESS, &mut lines)
+        },
         || watched(&rt, alloc, &packets, &host),
     );
     assert!(rt; end == Ok(()));
@@ -164,7 +174,7 @@ fn callers_who_bring_nothing_delay_no_host(rt: HostRuntime) -> Result<(), Fail> 
     let alloc = rt.alloc();
     let text = setup_text(alloc, 7802)?;
     let ask = |to: Addresses| Ok(asked_beside_callers(&rt, alloc, &to.host)?);
-    let ((took, are_good), _) = served_with_host(&rt, text.as_str(), false, ask)?;
+    let ((took, are_good), _) = served_with_host(&rt, text.as_str(), DOORLESS, ask)?;
     assert!(rt; are_good);
     assert!(rt; took < Duration::from_secs(10));
     Ok(())
@@ -239,7 +249,7 @@ where
     let (is_right, came) = join(
         rt,
         || fulfils_late(rt, peer, both.posted.as_slice(), answer.as_slice()),
-        || served_with_host(rt, setup, false, ask),
+        || served_with_host(rt, setup, DOORLESS, ask),
     );
     let (answers, _) = came?;
     Ok((is_right?, answers))

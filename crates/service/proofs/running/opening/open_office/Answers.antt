@@ -14,4 +14,4 @@ pub returns-clause-each : goal.returns-clause-each
 returns-clause-each g c = search (rules, count_fresh)
 
 pub returns-clause-fresh : goal.returns-clause-fresh
-returns-clause-fresh g c = subst (All IsUncounted) (sym c.in_ok-books.ensures.shares) (all_fresh c.args.plan.report.audit c.args.plan.extent.connections)
+returns-clause-fresh g c = subst (All IsUncounted) (sym c.in_ok-books.ensures.shares) (all_fresh c.args.plan.report.audit c.args.desks)

@@ -1,4 +1,4 @@
-use Rattle.std.proofs.Common.{◌≡◌, ◌+◌, ◌++◌, [], ◌∷◌, length-append, rules, arith, ap, ◌∙◌, sym}
+use Rattle.std.proofs.Common.{◌≡◌, ◌+◌, ◌++◌, [], ◌∷◌, append_assoc, length-append, map, rules, arith, ap, ◌∙◌, sym}
 use Rattle.std.proofs.lemmas.List.{map-append}
 use Rattle.std.proofs.lemmas.List.Sums.{sum_by_push}
 use Rattle.meters.specs.Seats.{count_of}
@@ -18,7 +18,8 @@ loop-lane-preserved g c =
       shares = c.push_reserved.ensures.items
           ∙ (ap (λ desk. c.loop-lane.shares.items ++ desk.share ∷ []) c.into_desk-desk.ensures
           ∙ (ap (λ shares. shares ++ c.in-Some.lane.desk.share ∷ []) i.shares
-          ∙ sym (map-append (λ lane. lane.desk.share) c.loop-lane.yielded (c.in-Some.lane ∷ []))));
+          ∙ (append_assoc c.args.others.shares.items (map (λ lane. lane.desk.share) c.loop-lane.yielded) (c.in-Some.lane.desk.share ∷ [])
+          ∙ ap (λ shares. c.args.others.shares.items ++ shares) (sym (map-append (λ lane. lane.desk.share) c.loop-lane.yielded (c.in-Some.lane ∷ []))))));
       counts = λ tenant kind.
           let before = i.counts tenant kind in
           let all = sum_by_push (λ lane. count_of tenant kind lane.desk.seat) c.loop-lane.yielded c.in-Some.lane in

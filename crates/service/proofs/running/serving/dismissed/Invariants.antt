@@ -1,4 +1,4 @@
-use Rattle.std.proofs.Common.{ℕ, ◌≡◌, ◌≤◌, ◌+◌, length, map, vec_len}
+use Rattle.std.proofs.Common.{ℕ, ◌≡◌, ◌≤◌, ◌+◌, ◌++◌, length, map, vec_len}
 use Rattle.std.specs.Prelude.{vec_capacity}
 use Rattle.std.specs.List.{sum_by}
 use Rattle.meters.specs.Seats.{count_of}
@@ -11,9 +11,9 @@ invariant-loop-lane g l = record {
   first : l.first.first ≡ l.fn.first.first;
   splits : l.first.splits ≡ l.fn.first.splits;
   joined : l.first.joins ≡ l.fn.first.joins + length l.yielded;
-  many : vec_len l.shares ≡ length l.yielded;
-  room : vec_len l.fn.lanes ≤ vec_capacity l.shares;
-  shares : l.shares.items ≡ map (λ lane. lane.desk.share) l.yielded;
+  many : vec_len l.shares ≡ vec_len l.fn.others.shares + length l.yielded;
+  room : vec_len l.fn.others.shares + vec_len l.fn.lanes ≤ vec_capacity l.shares;
+  shares : l.shares.items ≡ l.fn.others.shares.items ++ map (λ lane. lane.desk.share) l.yielded;
   counts : (tenant : ℕ) (kind : Kind)
       → count_of tenant kind l.first ≡ count_of tenant kind l.fn.first + sum_by (λ lane. count_of tenant kind lane.desk.seat) l.yielded;
 }

@@ -1,12 +1,15 @@
-use Rattle.std.proofs.Common.{ℕ, ◌≡◌, ◌++◌, [], List, length, rules, ap, subst, ◌∙◌, if◌then◌else◌, true}
+use Rattle.std.proofs.Common.{ℕ, ◌≡◌, ◌++◌, [], List, length, rules, ap, subst, ◌∙◌, if◌then◌else◌, true, vec_len}
+use Rattle.std.specs.Prelude.{is_some}
 use Rattle.std.proofs.lemmas.Result.{on_ok_weaker}
 use Rattle.std.specs.Io.KnownBytes.{Appends}
 use Rattle.workers.specs.Carrying.{circumstances}
 use Rattle.service.specs.Auditing.{HaveEnded}
-use Rattle.service.specs.Extents.{closes_at_end}
+use Rattle.service.specs.Counted.{without_door}
+use Rattle.service.specs.Extents.{closes_at_end, desk_count}
 use Rattle.service.specs.declared.running.ending.AuditEnd.TheVariants.{Good}
 use Rattle.service.specs.Served.{lines_upto}
 use Rattle.service.specs.Balances.{balance_lines}
+use Rattle.service.proofs.Counting.{door_counted}
 use Rattle.service.proofs.Sums.{length_map}
 use Rattle.service.proofs.running.serving.serve_run.Goals as goal
 
@@ -14,6 +17,8 @@ pub returns-in-Ok : goal.returns-in-Ok
 returns-in-Ok g c =
     let office = c.in_ok-office.field-0.office in
     let known = c.in_ok-office.ensures.known in
+    let operated = is_some c.args.doors.operators in
+    let many : vec_len c.in_ok-office.field-0.shares ≡ desk_count c.args.plan.extent.connections operated = search rules in
     let counted = c.in_ok-done.ensures.counted in
     let exact = c.close-totals.ensures.exact (search rules) (search rules) in
     let names : length office.names.items ≡ length c.args.setup.now.tenants
@@ -31,13 +36,17 @@ returns-in-Ok g c =
     record {
       office = office;
       known = known;
+      admin = c.in_ok-office.ensures.admin;
       totals = c.close-totals.result;
       worked = c.in_ok-done.done.shares.items;
       counted = record {
         desks = counted.desks;
-        each = search (rules, counted.each);
-        shares_are = counted.shares_are;
+        each = counted.each ∙ ap (without_door operated) many ∙ door_counted c.args.plan.extent.connections operated;
         worked = counted.worked;
+        door = counted.door;
+        seated = counted.seated;
+        obeyed = counted.obeyed;
+        shares_are = counted.shares_are;
         sums = λ tenant kind below. exact tenant kind (search rules) ∙ counted.sums tenant kind below;
       };
       shares = finish.new.shares.items;

@@ -1,5 +1,5 @@
-use Rattle.std.proofs.Common.{◌≡◌}
+use Rattle.service.specs.Hosting.{Repeats}
 use Rattle.service.proofs.host.callers.Porter.answer_due.Given as goal
 
 abbrev pub invariant-loop : goal.invariant-loop
-invariant-loop g l = g.K.Answering.seat l.self.answering ≡ g.K.Answering.seat l.fn.self.answering
+invariant-loop g l = Repeats g.K.Answering.serves l.fn.self.answering l.self.answering
