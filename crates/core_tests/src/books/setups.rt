@@ -259,12 +259,15 @@ pub fn begun(
     Ok(Book::new(alloc, number, setup, start)?)
 }
 
+fn setup_of(alloc: Global, journal: u64, agreed: Agreed) -> Result<TenantSetup, Fail> {
+    let setup = tenant(alloc, journal, 1_000, 30_000, agreed)?;
+    Ok(setup.ok_or("a setup")?)
+}
+
 pub fn book(alloc: Global, journal: u64, agreed: Agreed, start: u64) -> Result<Book, Fail> {
     let start = moment(start)?;
-    match tenant(alloc, journal, 1_000, 30_000, agreed)? {
-        Some(setup) => begun(alloc, 0, &setup, start),
-        None => Err(Fail::from("a setup")),
-    }
+    let setup = setup_of(alloc, journal, agreed)?;
+    begun(alloc, 0, &setup, start)
 }
 
 pub fn decide(book: &mut Book, amount: u64, expiry: u64, now: u64) -> Result<Verdict, Fail> {
