@@ -7,7 +7,7 @@ use super::host::{
 };
 use super::wire::{good_reply, good_text, one_tenant, packet_by, peer_answer, posted, request};
 use super::{ALONE, NOTHING, NOTHING_MORE, answer_of, asked, next_request, served_while, usual};
-use service::{Disk, Extent};
+use service::{Disk, Extent, ServeFault};
 use std::alloc::Global;
 use std::io::{Read, Write};
 use std::net::{Net, OpenListener, SocketAddr, TcpListener, TcpStream};
@@ -122,6 +122,26 @@ fn watched(
     Ok([unwell?, well?])
 }
 
+// Serves the setup of that text at the doors of packets and of the host.
+fn serve_doorless<'a, R>(
+    rt: &R,
+    text: &str,
+    packets: &'a TcpListener,
+    host: &'a TcpListener,
+    lines: &mut Vec<u8>,
+) -> Result<(), ServeFault>
+where
+    R: Threads + Wait + Clock + Disk + AllocGlobal + Sync,
+    R: Net<Listener = TcpListener, Stream = TcpStream>,
+{
+    let at = Listeners {
+        packets,
+        host,
+        operators: None,
+    };
+    serve_with_host(rt, text, at, DOORLESS, lines)
+}
+
 #[test]
 fn a_stop_is_clean_after_an_accept_that_failed(rt: HostRuntime) -> Result<(), Fail> {
     let alloc = rt.alloc();
@@ -133,14 +153,7 @@ fn a_stop_is_clean_after_an_accept_that_failed(rt: HostRuntime) -> Result<(), Fa
     let mut lines = Vec::new(alloc);
     let (end, seen) = join(
         &rt,
-        || {
-            let at = Listeners {
-                packets: &packets,
-                host: &door,
-                operators: None,
-            };
-            serve_with_host(&rt, text.as_str(), at, DOORLESS, &mut lines)
-        },
+        || serve_doorless(&rt, text.as_str(), &packets, &door, &mut lines),
         || watched(&rt, alloc, &packets, &host),
     );
     assert!(rt; end == Ok(()));

@@ -395,7 +395,7 @@ fn settles_until_stopped(
 // The answer to a stop while an operator settles, and how often it did.
 fn settled_and_stopped<R>(rt: &R, alloc: Global, to: Addresses) -> Result<(Vec<u8>, u64), Fail>
 where
-    R: Threads + Wait + Net<Stream = TcpStream> + Sync,
+    R: Threads + Wait + Net<Listener = TcpListener, Stream = TcpStream> + Sync,
 {
     let done = AtomicU64::new(0);
     let (_, told) = join(
