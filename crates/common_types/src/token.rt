@@ -7,20 +7,32 @@ ghost use Rattle.common_types.specs.Token.{is_token_byte, is_token};
 /// The most bytes of a token.
 pub const MAX_TOKEN: usize = 64;
 
+// A byte that a token may have, at its own index. Any other index has a comma.
+static TOKEN_MAP: [u8; 256] = *b"\
+    ,,,,,,,,,,,,,,,,,,,,,,,,,,,,,,,,\
+    ,,,,,,,,,,,+,-./0123456789,,,=,,\
+    ,ABCDEFGHIJKLMNOPQRSTUVWXYZ,,,,_\
+    ,abcdefghijklmnopqrstuvwxyz,,,~,\
+    ,,,,,,,,,,,,,,,,,,,,,,,,,,,,,,,,\
+    ,,,,,,,,,,,,,,,,,,,,,,,,,,,,,,,,\
+    ,,,,,,,,,,,,,,,,,,,,,,,,,,,,,,,,\
+    ,,,,,,,,,,,,,,,,,,,,,,,,,,,,,,,,";
+
 fn is_token_byte(b: u8) -> bool
     ensures { result ≡ is_token_byte b }
 {
-    match b {
-        b'A'..=b'Z' | b'a'..=b'z' | b'0'..=b'9' => true,
-        b'-' | b'.' | b'_' | b'~' | b'+' | b'/' | b'=' => true,
-        _ => false,
-    }
+    TOKEN_MAP[b as usize] != b','
 }
 
+// It goes on after a byte that no token may have.
 fn all_token_bytes(bytes: &[u8]) -> bool
     ensures { result ≡ list_all is_token_byte bytes.now }
 {
-    bytes.iter().all(|b| is_token_byte(*b))
+    let mut all = true;
+    for byte in bytes {
+        all &= is_token_byte(*byte);
+    }
+    all
 }
 
 /// Whether the bytes are a token: 1 to 64 letters, digits and `-._~+/=` (RFC 6750, "Authorization Request Header
