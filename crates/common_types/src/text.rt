@@ -40,6 +40,15 @@ impl<const N: usize> Text<N> {
         self.bytes.as_slice()
     }
 
+    /// Other bytes in place of its own.
+    pub fn set(&mut self, bytes: &[u8])
+        requires { length bytes.now ≤ N }
+        ensures { self.new ≡ bytes.now }
+    {
+        self.bytes.clear();
+        let _ = self.bytes.try_extend_from_slice(bytes);
+    }
+
     /// A copy of the text.
     pub fn copy(&self) -> Text<N>
         ensures { result ≡ self.now }

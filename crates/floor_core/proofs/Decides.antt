@@ -1,12 +1,14 @@
 -- What a decide leads to, by its verdict.
 use Rattle.std.proofs.Common.{◌≡◌, ℕ, ◌+◌, Bool, true, false, cond, eqb, List, [], ◌∷◌, ◌++◌, length, take, drop, refl, sym, ap, subst, ◌∙◌, eq-eqb, arith}
-use Rattle.std.specs.Prelude.{Result, Ok, Err, Option, Some, None, IsSome, IsOk, nat_le, nat_lt, not, option_and_then, option_map, find, max, IfOk}
+use Rattle.std.specs.Prelude.{Result, Ok, Err, Option, Some, None, IsSome, IsOk, IsOkAnd, nat_le, nat_lt, not, option_and_then, option_map, find, max, IfOk}
 use Rattle.std.proofs.Math.Seq.{take-append_seam}
 use Rattle.ilp_addr.specs.Target.{Parts as TargetParts}
 use Rattle.ilp_addr.specs.Timestamp.{timestamp_of}
 use Rattle.ilp_view.specs.Packet.{Prepare, with_amount_and_expiry}
+use Rattle.ilp_view.specs.Places.{ArePlaces, ArePlacesIn}
 use Rattle.ilp_view.specs.Reading.{prepare_at}
 use Rattle.ilp_view.specs.declared.fault.ViewFault.{ViewFault}
+use Rattle.ilp_view.specs.declared.prepare.places.PreparePlaces.{PreparePlaces}
 use Rattle.ildcp_core.specs.Request.{is_config, checked_request}
 use Rattle.ildcp_core.specs.declared.fault.IldcpFault.{IldcpFault}
 use Rattle.ildcp_core.specs.declared.fault.IldcpFault.TheVariants.{NotChild, Amount, Condition}
@@ -261,23 +263,32 @@ target_is_there s t token r now hold peer amount expiry is verdict net =
     subst (λ (o : Option TargetParts). IsSome o) (sym (target_alike s t peer net)) there
 
 -- the frame went on, and the slot awaits its answer
-pub sent : (w : Work) (s t : State) (tenant : ℕ) (token frame after reply : List ℕ) (target : TargetParts) (now hold peer amount expiry : ℕ)
+pub sent : (w : Work) (s t : State) (tenant : ℕ) (token frame after reply : List ℕ) (target : Option TargetParts) (now hold peer amount expiry : ℕ)
     → IsDecided w s t tenant token frame now (Forward hold peer amount expiry)
     → IfOk (prepare_at frame) (λ p. after ≡ with_amount_and_expiry p amount (timestamp_of expiry))
-    → network_of t ≡ network_of s → Some target ≡ target_of t peer → reply ≡ []
-    → record { turn = Send peer hold; work = waiting tenant hold after (Some target) expiry reply w.room; made = (decide_call w s now).made } ≡ decide_call w s now
+    → network_of t ≡ network_of s → target ≡ target_of t peer → reply ≡ []
+    → record { turn = Send peer hold; work = waiting tenant hold after target expiry reply w.room; made = (decide_call w s now).made } ≡ decide_call w s now
 sent w s t tenant token frame after reply target now hold peer amount expiry d written net there quiet =
     let frame_is : after ≡ with_amount_and_expiry d.packet amount (timestamp_of expiry) =
     if_ok_at (prepare_at frame) (λ p. after ≡ with_amount_and_expiry p amount (timestamp_of expiry)) d.packet written d.reading in
-    let target_is : Some target ≡ target_of s peer = there ∙ target_alike s t peer net in
+    let target_is : target ≡ target_of s peer = there ∙ target_alike s t peer net in
     (λ i. record { turn = Send peer hold; work = waiting tenant hold (frame_is i) (target_is i) expiry (quiet i) w.room; made = (d.call i).made }) ∙ sym d.call
 
 -- ---- what a slot shows of it
 
 -- a slot that is loaded carries its frame
-pub carried : (x : Inside) (w : Work) (tenant : ℕ) (token : List ℕ) → work_of x ≡ w → x.stage ≡ Loaded tenant token
-    → w.job ≡ Job.Carries tenant token (take x.frame_len x.frame)
-carried x w tenant token view is = sym (ap (λ (v : Work). v.job) view) ∙ ap (λ (y : Stage). job_of y (take x.frame_len x.frame)) is
+pub carried : (x : Inside) (w : Work) (tenant : ℕ) (places : PreparePlaces) → work_of x ≡ w → x.stage ≡ Loaded tenant places
+    → w.job ≡ Job.Carries tenant x.token (take x.frame_len x.frame)
+carried x w tenant places view is =
+    sym (ap (λ (v : Work). v.job) view) ∙ ap (λ (y : Stage). job_of y x.token (take x.frame_len x.frame)) is
+
+is_there : (r : Result Prepare ViewFault) (P : Prepare → Type 0) → IsOkAnd r P → IsOk r
+is_there (Ok p) P holds = refl
+is_there (Err e) P holds = absurd holds
+
+-- what was read of a frame was read of a Prepare
+pub read_is_readable : (frame : List ℕ) (places : PreparePlaces) → ArePlacesIn frame places → IsOk (prepare_at frame)
+read_is_readable frame places read = is_there (prepare_at frame) (λ p. ArePlaces p places) read
 
 -- what a token and a frame are shown as
 pub shown_as : (P : List ℕ → List ℕ → Type 0) {shown token bytes room : List ℕ} → shown ≡ token → bytes ≡ room → P shown bytes → P token room

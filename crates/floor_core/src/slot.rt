@@ -1,13 +1,13 @@
 //! Slots: what a worker carries, in buffers that are used again and again.
 
-ghost use Rattle.std.specs.Prelude.{◌≡◌, ◌≤◌, IfOk, IsOk, IsSome, Some, take, List, ℕ, length};
+ghost use Rattle.std.specs.Prelude.{◌≡◌, ◌≤◌, IfOk, IsSome, Some, take, List, ℕ, length};
 ghost use Rattle.oer_core.specs.Length.{AreBytes};
 ghost use Rattle.ilp_addr.specs.Timestamp.{latest_expiry};
 ghost use Rattle.ilp_view.specs.Packet.{max_frame};
+ghost use Rattle.ilp_view.specs.Places.{ArePlacesIn};
 ghost use Rattle.ilp_view.specs.Reading.{prepare_at, fulfill_at, reject_at};
 ghost use Rattle.tenant_core.specs.Judge.{IsSooner, decided, judge};
 ghost use Rattle.floor_core.specs.World.{answer_key, bytes_given, key_in, key_read};
-ghost use Rattle.floor_core.specs.SlotView.{target_at};
 ghost use Rattle.floor_core.specs.Work.{given_by, target_of};
 ghost use Rattle.tenant_core.specs.Present.{network_of};
 
@@ -15,28 +15,27 @@ use crate::parts::{Got, LoadFault, Turn};
 use crate::replies::{put_decision, put_settlement};
 use crate::rewriting::rewrite;
 use crate::room::Room;
-use common_types::Token;
+use common_types::{MAX_TOKEN, Text, is_token};
 use ilp_addr::{Moment, Target};
-use ilp_view::{FulfillView, MAX_FRAME, PrepareView, RejectView};
+use ilp_view::{FulfillView, MAX_FRAME, PreparePlaces, RejectView};
 use route_table::PeerNo;
 use std::alloc::{AllocError, Global};
 use std::marker::Model;
 use tenant_core::{AnswerKey, Book, Expiry, PrepareKey, Verdict};
 
 /// What a slot does.
-#[derive(Drop)]
+#[derive(Clone, Copy)]
 enum Stage {
     Idle,
-    /// A frame that is a Prepare came for the tenant, with that token.
+    /// A frame that is a Prepare came for the tenant, with the slot's token. That was read of it.
     Loaded {
         tenant: usize,
-        token: Token,
+        places: PreparePlaces,
     },
-    /// The tenant sent the frame on to the target, with that expiry, and awaits its answer under that hold.
+    /// The tenant sent the frame on to the slot's target, with that expiry, and awaits its answer under that hold.
     Waiting {
         tenant: usize,
         hold: u64,
-        target: Target,
         expiry: u64,
     },
 }
@@ -46,6 +45,10 @@ enum Stage {
 #[derive(Drop)]
 pub struct Slot {
     stage: Stage,
+    // The token with which the last frame came.
+    token: Text<MAX_TOKEN>,
+    // Where the last frame went that was sent on.
+    target: Option<Target>,
     frame: Room,
     // How many bytes the frame has, at the front of its room.
     frame_len: usize,
@@ -80,6 +83,8 @@ impl Slot {
     {
         Ok(Slot {
             stage: Stage::Idle,
+            token: Text::from_bytes(&[]).unwrap(),
+            target: None,
             frame: Room::new(alloc)?,
             frame_len: 0,
             reply: Room::new(alloc)?,
@@ -91,9 +96,9 @@ impl Slot {
     pub fn tenant(&self) -> Option<usize>
         ensures { result ≡ tenant_in self.now.job }
     {
-        match &self.stage {
+        match self.stage {
             Stage::Idle => None,
-            Stage::Loaded { tenant, .. } | Stage::Waiting { tenant, .. } => Some(*tenant),
+            Stage::Loaded { tenant, .. } | Stage::Waiting { tenant, .. } => Some(tenant),
         }
     }
 
@@ -102,8 +107,8 @@ impl Slot {
         ensures value { result ≡ waiting_in self.now.job }
         ensures waits { IsSome result ↔ IsWaiting self.now.job }
     {
-        match &self.stage {
-            Stage::Waiting { tenant, .. } => Some(*tenant),
+        match self.stage {
+            Stage::Waiting { tenant, .. } => Some(tenant),
             Stage::Idle | Stage::Loaded { .. } => None,
         }
     }
@@ -113,7 +118,7 @@ impl Slot {
         ensures value { result.now ≡ job_frame self.now.job }
         ensures short { length result.now ≤ max_frame }
     {
-        match &self.stage {
+        match self.stage {
             Stage::Idle => &[],
             Stage::Loaded { .. } | Stage::Waiting { .. } => &self
                 .frame
@@ -136,8 +141,7 @@ impl Slot {
     {
         let _frame = self.frame.as_slice();
         let _reply = self.reply.as_slice();
-        if let Stage::Loaded { token, .. } = &self.stage {
-            let _token = token.as_bytes();
+        if let Stage::Loaded { .. } = self.stage {
             are_bytes(self.frame());
         }
     }
@@ -164,16 +168,18 @@ impl Slot {
         if !matches!(self.stage, Stage::Idle) {
             return Err(LoadFault::Busy);
         }
-        let Some(token) = Token::new(token) else {
+        if !is_token(token) {
             return Err(LoadFault::Token);
-        };
-        if let Err(fault) = PrepareView::read(bytes) {
-            return Err(LoadFault::Bad(fault));
         }
+        let places = match PreparePlaces::read(bytes) {
+            Ok(places) => places,
+            Err(fault) => return Err(LoadFault::Bad(fault)),
+        };
+        self.token.set(token);
         self.frame.put(bytes);
         self.frame_len = bytes.len();
         self.reply_len = 0;
-        self.stage = Stage::Loaded { tenant, token };
+        self.stage = Stage::Loaded { tenant, places };
         Ok(())
     }
 
@@ -191,20 +197,15 @@ impl Slot {
         ensures slot { self.new ≡ (decide_call self.old book.old now).work }
         ensures book { book.new ≡ recorded book.old (decide_call self.old book.old now).made }
     {
-        let Stage::Loaded { tenant, token } = &self.stage else {
+        let Stage::Loaded { tenant, places } = self.stage else {
             return Turn::Idle;
         };
-        let tenant = *tenant;
         if book.tenant() != tenant {
             return Turn::Stray;
         }
-        let verdict = decided(
-            book,
-            token.as_bytes(),
-            self.frame.as_slice(),
-            self.frame_len,
-            now,
-        );
+        let token = self.token.as_bytes();
+        let (room, len) = (self.frame.as_slice(), self.frame_len);
+        let verdict = decided(book, token, places, room, len, now);
         match verdict {
             Verdict::Unknown => {
                 self.stage = Stage::Idle;
@@ -217,21 +218,16 @@ impl Slot {
                 expiry,
             } => {
                 rewrite(self.frame.as_mut_slice(), self.frame_len, amount, expiry);
+                keep_target(&mut self.target, book, peer);
                 self.stage = Stage::Waiting {
                     tenant,
                     hold,
-                    target: target_of(book, peer),
                     expiry,
                 };
                 Turn::Send { peer, hold }
             }
             verdict => {
-                self.reply_len = put_decision(
-                    self.reply.as_mut_slice(),
-                    book,
-                    token.as_bytes(),
-                    verdict,
-                );
+                self.reply_len = put_decision(self.reply.as_mut_slice(), book, token, verdict);
                 self.stage = Stage::Idle;
                 Turn::Reply
             }
@@ -243,8 +239,8 @@ impl Slot {
         requires { IsWaiting self.now.job }
         ensures { Some result ≡ self.now.expiry }
     {
-        match &self.stage {
-            Stage::Waiting { expiry, .. } => *expiry,
+        match self.stage {
+            Stage::Waiting { expiry, .. } => expiry,
             Stage::Idle | Stage::Loaded { .. } => unreachable!(),
         }
     }
@@ -260,7 +256,8 @@ impl Slot {
     {
         let len = self.frame_len;
         let frame = &self.frame.as_slice()[..len];
-        (target_in(&self.stage), frame, self.reply.as_mut_slice())
+        let target = self.target.as_ref().unwrap();
+        (target, frame, self.reply.as_mut_slice())
     }
 
     /// Puts the answer of the next peer into the buffer for it, if it has no more bytes than a frame may have.
@@ -285,14 +282,14 @@ impl Slot {
         ensures slot { self.new ≡ (answer_call self.old book.old now got).work }
         ensures book { book.new ≡ recorded book.old (answer_call self.old book.old now got).made }
     {
-        let Stage::Waiting { tenant, hold, .. } = &self.stage else {
+        let Stage::Waiting { tenant, hold, .. } = self.stage else {
             return Turn::Idle;
         };
-        if book.tenant() != *tenant {
+        if book.tenant() != tenant {
             return Turn::Stray;
         }
         let key = answer_key(self.reply.as_slice(), got);
-        let Ok(verdict) = book.answer(*hold, now, key) else {
+        let Ok(verdict) = book.answer(hold, now, key) else {
             return Turn::Stray;
         };
         self.reply_len = put_settlement(
@@ -313,21 +310,17 @@ fn are_bytes(bytes: &[u8])
     let _first = bytes.first();
 }
 
-// The target that the frame was sent on to.
-fn target_in(stage: &Stage) -> &Target
-    requires { IsSome (target_at stage.now) }
-    ensures { Some result.now ≡ target_at stage.now }
-{
-    match stage {
-        Stage::Waiting { target, .. } => target,
-        Stage::Idle | Stage::Loaded { .. } => unreachable!(),
-    }
-}
-
-// The verdict of the book on the Prepare of that length at the front of the buffer.
-fn decided(book: &mut Book, token: &[u8], room: &[u8], len: usize, now: Moment) -> Verdict
+// The verdict of the book on the Prepare of that length at the front of the buffer, of which that was read.
+fn decided(
+    book: &mut Book,
+    token: &[u8],
+    places: PreparePlaces,
+    room: &[u8],
+    len: usize,
+    now: Moment,
+) -> Verdict
     requires len { len ≤ length room.now }
-    requires prepare { IsOk (prepare_at (take len room.now)) }
+    requires places { ArePlacesIn (take len room.now) places }
     ensures book { IfOk (prepare_at (take len room.now)) (λ p. book.new ≡ decided book.old token.now (key_in p) now) }
     ensures verdict { IfOk (prepare_at (take len room.now)) (λ p. result ≡ judge book.old token.now (key_in p) now) }
     ensures sooner { IsSooner result latest_expiry }
@@ -335,21 +328,26 @@ fn decided(book: &mut Book, token: &[u8], room: &[u8], len: usize, now: Moment) 
     ensures network { network_of book.new ≡ network_of book.old }
 {
     tenant_core::laws::what_stays();
-    let packet = PrepareView::read(&room[..len]).unwrap();
+    let packet = places.fields(&room[..len]);
     let key = PrepareKey {
-        amount: packet.amount(),
-        expiry: Expiry::new(packet.expiry()).unwrap(),
-        condition: packet.condition().try_into().unwrap(),
-        destination: packet.destination(),
+        amount: packet.amount,
+        expiry: Expiry::new(packet.expiry).unwrap(),
+        condition: packet.condition.try_into().unwrap(),
+        destination: &packet.destination,
     };
     book.decide(token, &key, now)
 }
 
-fn target_of(book: &Book, peer: PeerNo) -> Target
+// Keeps the target of the peer of that number, in the room of the last one if there is one.
+fn keep_target(kept: &mut Option<Target>, book: &Book, peer: PeerNo)
     requires { IsSome (target_of book.now peer) }
-    ensures { Some result ≡ target_of book.now peer }
+    ensures { kept.new ≡ target_of book.now peer }
 {
-    book.target(peer).unwrap().copy()
+    let target = book.target(peer).unwrap();
+    match kept {
+        Some(kept) => kept.copy_from(target),
+        None => *kept = Some(target.copy()),
+    }
 }
 
 // How many bytes of an answer are in the buffer.

@@ -50,6 +50,14 @@ impl<'a> Address<'a> {
         Ok(Address { bytes })
     }
 
+    /// The address that the bytes are. The caller knows that they are one.
+    pub fn of_known(bytes: &'a [u8]) -> Address<'a>
+        requires { IsAddress bytes.now }
+        ensures { result ≡ bytes.now }
+    {
+        Address { bytes }
+    }
+
     /// The bytes of the address, at most 1,023.
     pub fn bytes(&self) -> &'a [u8]
         ensures value { result.now ≡ self.now }

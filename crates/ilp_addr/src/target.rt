@@ -88,6 +88,16 @@ impl Target {
         }
     }
 
+    /// Becomes a copy of the other.
+    pub fn copy_from(&mut self, other: &Target)
+        ensures { self.new ≡ other.now }
+    {
+        self.url.set(other.url.as_bytes());
+        self.token.set(other.token.as_bytes());
+        self.host = other.host;
+        self.port = other.port;
+    }
+
     /// The URL. At most 255 bytes.
     pub fn url(&self) -> &[u8]
         ensures value { result.now ≡ self.now.url }

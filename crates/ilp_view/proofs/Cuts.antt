@@ -1,5 +1,5 @@
 -- Where the amount and the expiry of a Prepare lie in its frame, and other bytes in their places.
-use Rattle.std.proofs.Common.{◌≡◌, ◌<◌, ◌+◌, ◌^◌, ℕ, List, ◌++◌, length, take, drop, Result, Ok, Err, IsOk, IfOk, refl, sym, ap, subst, ◌∙◌, append_assoc, arith}
+use Rattle.std.proofs.Common.{◌≡◌, ◌<◌, ◌≤◌, ◌+◌, ◌^◌, ℕ, List, ◌++◌, length, take, drop, Result, Ok, Err, IsOk, IfOk, refl, sym, ap, subst, ◌∙◌, append_assoc, arith}
 use Rattle.std.specs.Int.{w64, to_be_bytes}
 use Rattle.std.proofs.lemmas.List.{take_at, drop_at, length-append}
 use Rattle.common_types.specs.Outcomes.{Gives}
@@ -49,13 +49,14 @@ pub same_first : {A B E : Type 0} (read : Result (A × B) E) (x y : A × B) → 
 same_first read x y p q = let same : x ≡ y = cc in ap (λ (r : _). r.0) same
 
 -- what stands in each of the four ranges of a frame
-record InFour (frame front amount expiry back : List ℕ) (place : ℕ) : Type 0 where
+pub record InFour (frame front amount expiry back : List ℕ) (place : ℕ) : Type 0 where
   pub front_is : take place frame ≡ front
   pub amount_is : take 8 (drop place frame) ≡ amount
   pub expiry_is : take 17 (drop (place + 8) frame) ≡ expiry
   pub back_is : drop (place + 25) frame ≡ back
+  pub within : place + 25 ≤ length frame
 
-in_four : (frame front amount expiry back : List ℕ) (place : ℕ) → IsCutAt frame front amount expiry back → length front ≡ place → InFour frame front amount expiry back place
+pub in_four : (frame front amount expiry back : List ℕ) (place : ℕ) → IsCutAt frame front amount expiry back → length front ≡ place → InFour frame front amount expiry back place
 in_four frame front amount expiry back place cut at =
     let two : List ℕ = front ++ amount in
     let three : List ℕ = two ++ expiry in
@@ -70,6 +71,7 @@ in_four frame front amount expiry back place cut at =
       expiry_is = ap (λ (f : List ℕ). take 17 (drop (place + 8) f)) by_two ∙ ap (λ (f : List ℕ). take 17 f) (drop_at two (expiry ++ back) (place + 8) at_two)
           ∙ take_at expiry back 17 cut.expiry_size;
       back_is = ap (λ (f : List ℕ). drop (place + 25) f) by_three ∙ drop_at three back (place + 25) at_three;
+      within = omega (arith, ap (λ (f : List ℕ). length f) by_three, length-append three back, at_three);
     }
 
 -- a Prepare is cut before its amount and behind its expiry

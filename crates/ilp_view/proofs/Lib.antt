@@ -5,5 +5,6 @@ pub mod AnswerLaws
 pub mod Writes
 pub mod WrittenAnswers
 pub mod Cuts
+pub mod Places
 pub mod Ranges
 pub mod Lends

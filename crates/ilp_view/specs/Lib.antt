@@ -2,4 +2,5 @@ pub mod Packet
 pub mod Reading
 pub mod Seen
 pub mod Lent
+pub mod Places
 pub mod Below

@@ -3,6 +3,7 @@
 //!
 //! - [`PrepareView`], [`FulfillView`] and [`RejectView`] read a frame of at most [`MAX_FRAME`] bytes
 //!   with at most [`MAX_DATA`] bytes of data.
+//! - [`PreparePlaces`] is what was read of a Prepare, to be kept beside its frame.
 //! - [`PrepareMut`] reads a Prepare in place, and lends its amount and its expiry to be written. So a
 //!   frame is sent on in the bytes that it came in.
 //! - [`write_fulfill`] and [`write_reject`] write the two answers.
@@ -24,6 +25,6 @@ pub use common_types::limits::MAX_FRAME;
 pub use fault::ViewFault;
 pub use fields::MAX_DATA;
 pub use fulfill::FulfillView;
-pub use prepare::PrepareView;
+pub use prepare::{PrepareFields, PreparePlaces, PrepareView};
 pub use prepare_mut::PrepareMut;
 pub use reject::RejectView;

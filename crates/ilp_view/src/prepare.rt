@@ -8,10 +8,13 @@ ghost use Rattle.ilp_view.specs.Reading.{prepare_at, prepare_fields};
 ghost use Rattle.ilp_view.specs.Seen.{prepare_of};
 ghost use Rattle.common_types.specs.Outcomes.{Gives};
 
+mod places;
+
 use crate::fault::ViewFault;
 use crate::fields;
 use ilp_addr::Address;
 use oer_core::read_u64;
+pub use places::{PrepareFields, PreparePlaces};
 use std::marker::Model;
 
 /// The type byte of a Prepare (RFC 0027).

@@ -43,7 +43,7 @@ static SEGMENTS: [&[u8]; 3] = [b"test1", b"A0_~-", b"bob"];
 
 fn expect_segments(rt: &impl Abort, address: &[u8], wanted: &[&[u8]]) -> Result<(), Fail> {
     let address = Address::parse(address).ok().ok_or("an address")?;
-    let mut segments = address.segments();
+    let mut segments = Address::of_known(address.bytes()).segments();
     for segment in wanted {
         assert!(rt; segments.next() == Some(*segment));
     }

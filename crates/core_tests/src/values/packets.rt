@@ -4,7 +4,8 @@ ghost use Rattle.std.specs.Prelude.{◌≡◌, ◌≤◌, length};
 
 use super::rows::expect;
 use ilp_view::{
-    FulfillView, PrepareMut, PrepareView, RejectView, ViewFault, write_fulfill, write_reject,
+    FulfillView, PrepareMut, PreparePlaces, PrepareView, RejectView, ViewFault, write_fulfill,
+    write_reject,
 };
 use std::alloc::Global;
 use std::process::Abort;
@@ -34,6 +35,18 @@ fn is_base(view: &PrepareView<'_>, condition: &[u8]) -> bool {
         && view.payload().is_empty()
 }
 
+// The same of what is kept of a Prepare without its frame.
+fn keeps_base(frame: &[u8], condition: &[u8]) -> Result<bool, ViewFault> {
+    let places = PreparePlaces::read(frame)?;
+    let fields = places.fields(frame);
+    Ok(
+        fields.amount == 1000
+            && fields.expiry == EXPIRY
+            && fields.condition == condition
+            && fields.destination.bytes() == b"g.acme.bob.x".as_slice(),
+    )
+}
+
 // Writes 1,500 units until 2030-01-01T00:00:09Z into a Prepare.
 fn forward(frame: &mut [u8]) -> Result<(), ViewFault> {
     let mut prepare = PrepareMut::read(frame)?;
@@ -50,6 +63,7 @@ fn expect_forwarded(
     sent_on: &[u8],
 ) -> Result<(), ViewFault> {
     assert!(rt; is_base(&PrepareView::read(frame)?, condition));
+    assert!(rt; keeps_base(frame, condition)?);
     forward(frame)?;
     assert!(rt; *frame == *sent_on);
     Ok(())
@@ -74,6 +88,11 @@ fn expect_faulty(rt: &impl Abort, alloc: Global, rows: &[(&str, ViewFault)]) -> 
             rt,
             text.as_bytes(),
             PrepareView::read(&bytes).err() == Some(*fault),
+        );
+        expect(
+            rt,
+            text.as_bytes(),
+            PreparePlaces::read(&bytes).err() == Some(*fault),
         );
     }
     Ok(())

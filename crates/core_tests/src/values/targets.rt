@@ -64,8 +64,11 @@ fn is_target(url: &[u8], token: &[u8]) -> bool {
 }
 
 fn expect_taken(rt: &impl Abort, rows: &[Taken]) -> Result<(), Fail> {
+    let mut kept = target(b"http://[::1]:1/of-the-last-row")?;
     for (url, host, port, path) in rows {
         let target = target(url)?.copy();
+        kept.copy_from(&target);
+        expect(rt, url, kept.is_same(&target));
         expect(rt, url, target.host() == *host);
         expect(rt, url, target.port() == *port);
         expect(rt, url, target.path() == *path);
