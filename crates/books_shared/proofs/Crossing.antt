@@ -10,7 +10,7 @@ use Rattle.tenant_core.specs.contracts.book.Book as Book
 use Rattle.tenant_core.proofs.arena.Small.TheSendSync as of_small
 use Rattle.tenant_core.proofs.hold.Hold.TheSendSync as of_hold
 use Rattle.tenant_core.proofs.peer.Peer.TheSendSync as of_peer
-use Rattle.tenant_core.proofs.terms.RateTerms.TheSendSync as of_rate
+use Rattle.tenant_core.proofs.rates.Rates.TheSendSync as of_rates
 use denote.RattleType.{RattleType}
 use Rattle.one_list.specs.declared.run.Run as Run
 use Rattle.one_list.specs.contracts.parts.TenantPart as TenantPart
@@ -25,7 +25,7 @@ routes_send : IsSend Routes.the_row
 routes_send = search (sendable, std.crosses, maps.crosses, of_node.crosses) depth 40
 
 pub network_send : IsSend Network.the_row
-network_send = search (sendable, std.crosses, routes_send, of_peer.the_send, of_rate.the_send) depth 40
+network_send = search (sendable, std.crosses, routes_send, of_peer.the_send, of_rates.the_send) depth 40
 
 book_send : IsSend Book.the_row
 book_send = search (sendable, std.crosses, network_send, of_small.the_send, of_hold.the_send) depth 40

@@ -3,13 +3,14 @@ use Rattle.std.proofs.Common.{take, ◌++◌, ◌+◌, add-one, subst, ◌≡◌
 use Rattle.std.specs.Prelude.{option_map, All, Option, Some, None, IfSome, option_and_then}
 use Rattle.std.specs.List.{slice_get}
 use Rattle.std.proofs.Math.ListN.{set}
-use Rattle.std.proofs.lemmas.Bool.{eqb-true, eq-eqb}
+use Rattle.std.proofs.lemmas.Bool.{eqb-true, eq-eqb, ne_eqb}
+use Rattle.std.proofs.lemmas.List.{map-id}
 use Rattle.std.proofs.lemmas.Option.{slice_get-get_or}
 use Rattle.std.specs.List.{position_or_len}
 use Rattle.std.proofs.lemmas.Option.{slice_get_within, get_or_from_slice_get}
 use Rattle.std.proofs.lemmas.List.Folds.{find_at}
 use Rattle.tenant_core.specs.ChangedAt.{changed_at, changed_where}
-use Rattle.tenant_core.specs.Network.{Net, IsNetwork, peer_numbered}
+use Rattle.tenant_core.specs.Network.{Net, IsNetwork, changed_peer, peer_numbered}
 use Rattle.tenant_core.specs.declared.peer.Peer.{Peer}
 use Rattle.tenant_core.proofs.Numbers.{place_is}
 
@@ -129,6 +130,14 @@ moved_at f g g' n peers None is here others = map-same g g' peers (λ k p at. sy
 moved_at f g g' n peers (Some i) is here others =
     changed_at_map f g g' peers i (λ p at. here p (is.at i p refl at))
     (λ k p at ne. others p (is.others k p at (λ e. ne (let same : k ≡ i = cc in same))))
+
+-- to change the peer of a number is to change the one at its place
+pub changed_peer_is : (change : Peer → Peer) (net : Net) (n : ℕ) (place : Option ℕ) → IsNetwork net → IfSome place (λ at. at < length net.peers)
+    → option_and_then (λ at. slice_get net.peers at) place ≡ peer_numbered n net.peers → changed_where change net.peers place ≡ changed_peer change n net.peers
+changed_peer_is change net n place is inside found =
+    ap (λ ps. changed_where change ps place) (sym (map-id net.peers))
+    ∙ moved_at change (λ p. p) (λ p. cond (eqb p.number n) (change p) p) n net.peers place (place_numbered_is net n place is inside found)
+    (λ p e. rw (eq-eqb p.number n e) refl) (λ p ne. rw (ne_eqb p.number n ne) refl)
 
 -- a place that is told stands within the list
 pub place_inside : (peers : List Peer) (place : Option ℕ) (i : ℕ) → IfSome place (λ at. at < length peers) → place ≡ Some i → i < length peers

@@ -31,7 +31,7 @@ use Rattle.tenant_core.specs.Periods.{carried, carried_net}
 use Rattle.tenant_core.specs.Purse.{IsWithinBounds, balance_of, held_in_of, held_out_of}
 use Rattle.tenant_core.specs.State.{State}
 use Rattle.tenant_core.specs.Network.{Net, IsNetwork, nobody, peer_numbered, peer_with_token, peer_named, is_present, is_for_pair, names_peer, has_pair, replaced_rate}
-use Rattle.tenant_core.specs.Network.{with_peer, without_peer, changed_peer, with_route, without_route}
+use Rattle.tenant_core.specs.Network.{with_peer, without_peer, changed_peer, with_route, without_route, with_rate}
 
 -- ---- elements that are found by their keys
 
@@ -425,6 +425,15 @@ replaced_rate_is net r is from to apart =
             let left : (r.from, r.to) ≡ (q.from, r.to) = ap (λ (x : ℕ). (x, r.to)) (sym (eqb-true q.from r.from both.0)) in
             left ∙ ap (λ (y : ℕ). (q.from, y)) (sym (eqb-true q.to r.to both.1))
         by false e = refl
+
+-- a rate set
+pub with_rate_is : (net : Net) (r : RateTerms) → IsNetwork net → IsSome (peer_numbered r.from net.peers) → IsSome (peer_numbered r.to net.peers)
+    → eqb r.from r.to ≡ false → (has_pair r net.rates ≡ false → length net.rates < max_rates) → IsNetwork (with_rate net r)
+with_rate_is net r is from to apart room = by (has_pair r net.rates) refl
+  where
+    by : (there : Bool) → has_pair r net.rates ≡ there → IsNetwork (with_rate net r)
+    by true e = rw e (replaced_rate_is net r is from to apart)
+    by false e = rw e (pushed_rate_is net r is from to apart e (room e))
 
 -- ---- calls that may have changed the routes
 

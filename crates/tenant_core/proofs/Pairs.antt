@@ -1,18 +1,21 @@
 -- Rates by their pairs.
-use Rattle.std.proofs.Common.{arith, ◌≡◌, ◌<◌, ◌≤◌, ℕ, List, ◌∷◌, [], ◌++◌, length, get_or, true, false, find, set, None, Some, Result, is_ok, Err, ap, sym, subst, ◌∙◌, refl}
+use Rattle.std.proofs.Common.{arith, ◌≡◌, ◌<◌, ◌≤◌, ℕ, List, ◌∷◌, [], ◌++◌, length, get_or, Bool, true, false, cond, find, set, Option, None, Some, is_some, nat_le, Result, is_ok, Err, ap, sym, subst, ◌∙◌, refl}
 use Rattle.std.specs.Cmp.{IsTotalOrder}
 use Rattle.std.specs.List.{insert, list_any}
 use Rattle.std.specs.List.Sorted.{IsBinarySearchResult, IsSearchInRange}
 use Rattle.std.specs.Ordering.{nat_cmp}
 use Rattle.std.specs.declared.cmp.Ordering.TheVariants.{Equal}
+use Rattle.std.proofs.lemmas.Bool.{or_parts}
 use Rattle.std.proofs.lemmas.Bool.Decides.{nat_tests}
 use Rattle.std.proofs.lemmas.Cmp.{nat_cmp_total, on_total, then_total, tied_itself}
 use Rattle.std.proofs.lemmas.Map.Lookups.{exact_pairs, exact_unsigned}
+use Rattle.tenant_core.specs.declared.faults.CommandFault.{CommandFault}
 use Rattle.tenant_core.specs.declared.faults.CommandFault.TheVariants.{Limit}
 use Rattle.tenant_core.specs.declared.terms.RateTerms.{RateTerms}
 use Rattle.tenant_core.specs.Limits.{max_rates}
-use Rattle.tenant_core.specs.Network.{Net, is_for_pair, has_pair, replaced_rate, rate_refusal, with_rate}
+use Rattle.tenant_core.specs.Network.{Net, is_for_pair, has_pair, names_peer, replaced_rate, rate_refusal}
 use Rattle.tenant_core.specs.Places.{pair, pair_at, pair_cmp, IsByPair, ArePairsApart}
+use Rattle.tenant_core.specs.Rates.{rates_without}
 use Rattle.tenant_core.proofs.Finds.{key_at_is}
 use Rattle.tenant_core.proofs.Keyed.{Tests, place_within, found_item, is_found, no_item, added_index, added_apart, replaced_index, replaced_apart, replaced_is}
 
@@ -87,16 +90,33 @@ module _ (rates : List RateTerms) (order : List ℕ) (index : IsByPair rates ord
 
 -- ---- setting a rate
 
--- a rate stands in the place of another
-pub rate_replaced : (net : Net) (r : RateTerms) → has_pair r net.rates ≡ true
-    → (rate_refusal net r ≡ None) × (with_rate net r ≡ record net { rates = replaced_rate r net.rates })
-rate_replaced net r e = (rw e refl, rw e refl)
+-- a pair that has a rate may have another one
+pub rate_replaced : (net : Net) (r : RateTerms) → has_pair r net.rates ≡ true → rate_refusal net r ≡ None
+rate_replaced net r e = rw e refl
 
--- there is no place for a rate
-pub rate_full : (net : Net) (r : RateTerms) → has_pair r net.rates ≡ false → max_rates ≤ length net.rates → rate_refusal net r ≡ Some Limit
-rate_full net r e h = rw e (grind (arith, nat_tests))
+-- a rate is refused by the limit alone
+pub rate_full : (net : Net) (r : RateTerms) → is_some (rate_refusal net r) ≡ true → rate_refusal net r ≡ Some Limit
+rate_full net r e = by (has_pair r net.rates) (nat_le max_rates (length net.rates)) e
+  where
+    refusal : Bool → Bool → Option CommandFault
+    refusal there full = cond there None (cond full (Some Limit) None)
 
--- a rate comes last
-pub rate_added : (net : Net) (r : RateTerms) → has_pair r net.rates ≡ false → length net.rates < max_rates
-    → (rate_refusal net r ≡ None) × (with_rate net r ≡ record net { rates = net.rates ++ r ∷ [] })
-rate_added net r e h = (rw e (grind (arith, nat_tests)), rw e refl)
+    by : (there full : Bool) → is_some (refusal there full) ≡ true → refusal there full ≡ Some Limit
+    by true full e = absurd cc
+    by false true e = refl
+    by false false e = absurd cc
+
+-- a rate for another pair has room, if it is not refused
+pub rate_room : (net : Net) (r : RateTerms) → rate_refusal net r ≡ None → has_pair r net.rates ≡ false → length net.rates < max_rates
+rate_room net r e absent =
+    let few : cond (nat_le max_rates (length net.rates)) (Some Limit) None ≡ None = rw absent at e in
+    grind (arith, nat_tests)
+
+-- ---- dropping rates
+
+-- where no rate names the peer, none is dropped
+pub none_dropped : (n : ℕ) (rates : List RateTerms) → list_any (names_peer n) rates ≡ false → rates_without n rates ≡ rates
+none_dropped n [] e = refl
+none_dropped n (r ∷ rs) e =
+    let parts = or_parts (names_peer n r) (list_any (names_peer n) rs) e in
+    rw parts.0 (ap (λ xs. r ∷ xs) (none_dropped n rs parts.1))

@@ -7,6 +7,7 @@ pub mod Network
 pub mod Nets
 pub mod Index
 pub mod Places
+pub mod Rates
 pub mod Indexed
 pub mod State
 pub mod Views

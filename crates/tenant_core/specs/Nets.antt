@@ -4,4 +4,4 @@ use Rattle.tenant_core.specs.declared.network.Network.TheInside.{Inside}
 
 -- its parts, wherever they lie in memory
 abbrev pub net_of : Inside → Net
-net_of n = record { next_peer = n.next_peer; peers = n.peers.items; routes = n.routes; rates = n.rates.items }
+net_of n = record { next_peer = n.next_peer; peers = n.peers.items; routes = n.routes; rates = n.rates }

@@ -455,16 +455,17 @@ impl Book {
         rate_bucket::laws::running();
         let opening = next_opening(&self.opening, clock, self.holds.len() as u64, next.network);
         let mut closed = PeriodParts::begun(alloc, opening, next.rows)?;
-        let mut journal = mem::replace(&mut self.journal, next.fresh.journal);
+        let fresh = next.fresh;
+        let mut journal = mem::replace(&mut self.journal, fresh.journal);
         journal.push_roll(RollEntry { now: now.millis() });
         let parts = closed.get_mut();
         mem::swap(&mut self.opening, &mut parts.opening);
         parts.records = Records::new(journal);
-        self.network = next.fresh.network;
+        self.network = fresh.network;
         self.clock = clock;
-        self.holds = next.fresh.holds;
-        self.purses = next.fresh.purses;
-        self.buckets = next.fresh.buckets;
+        self.holds = fresh.holds;
+        self.purses = fresh.purses;
+        self.buckets = fresh.buckets;
         Ok(Period::new(closed))
     }
 

@@ -1,16 +1,17 @@
 //! Whom a tenant deals with, and how: its peers, the routes to them, and the rates between them.
 
-ghost use Rattle.std.specs.Prelude.{◌≡◌, ◌==◌, not, map, IfOk};
+ghost use Rattle.std.specs.Prelude.{◌≡◌, ◌<◌, ◌==◌, not, map, length, IfOk, IfSome, OnOk, OnErr};
 ghost use Rattle.std.specs.List.{filter};
-ghost use Rattle.tenant_core.specs.Network.{names_peer, changed_peer, filled};
+ghost use Rattle.tenant_core.specs.ChangedAt.{changed_where};
+ghost use Rattle.tenant_core.specs.Network.{filled};
 
 use crate::faults::CommandFault;
 use crate::journal::Change;
 use crate::limits::{MAX_PEER_NUMBERS, MAX_PEERS, MAX_RATES};
 use crate::peer::{Level, Peer};
-use crate::places::{
-    free_place, order_by_pair, order_by_token, search_number, search_pair, search_token,
-};
+use crate::places::{free_place, order_by_token, search_number, search_token};
+use crate::rates::Rates;
+use crate::shared::Shared;
 use crate::terms::{Balance, BucketTerms, PeerLimits, PeerTerms, RateTerms};
 use ilp_addr::Prefix;
 use money_core::Rate;
@@ -29,9 +30,7 @@ pub struct Network {
     // The places of the peers, in the order of their tokens.
     by_token: Vec<u16>,
     routes: Routes,
-    rates: Vec<RateTerms>,
-    // The places of the rates, in the order of their pairs.
-    by_pair: Vec<u16>,
+    rates: Rates,
 }
 
 impl Model for Network {
@@ -57,7 +56,7 @@ fn copied_peers(alloc: Global, peers: &[Peer]) -> Result<Vec<Peer>, AllocError>
 {
     let mut copy = Vec::with_capacity(alloc, peers.len())?;
     for peer in peers {
-        copy.push_reserved(peer.copy());
+        copy.push_reserved(peer.copy()?);
     }
     Ok(copy)
 }
@@ -75,30 +74,49 @@ fn fill_buckets(peers: &mut Vec<Peer>, clock: u64)
     }
 }
 
-// The peer of that number has other limits.
-fn change_limits(peers: &mut Vec<Peer>, number: PeerNo, limits: &PeerLimits)
-    ensures { peers.new.items
-        ≡ changed_peer (λ p. record p { terms = record p.terms { limits = limits.now } }) number peers.old.items }
+// The peer at that place, if there is one, has other limits. An error leaves the peers as they were.
+fn change_limits(
+    peers: &mut Vec<Peer>,
+    place: Option<usize>,
+    limits: &PeerLimits,
+) -> Result<(), AllocError>
+    requires { IfSome place (λ at. at < length peers.old.items) }
+    ensures changed { OnOk result (peers.new.items
+        ≡ changed_where (λ p. record p { terms = record p.terms { limits = limits.now } }) peers.old.items place) }
+    ensures unchanged { OnErr result (peers.new.items ≡ peers.old.items) }
 {
-    for place in 0..peers.len() {
-        if peers[place].number == number {
-            peers[place].terms.limits = *limits;
-        }
-    }
+    let Some(place) = place else {
+        return Ok(());
+    };
+    let terms = peers[place].terms.with_limits(limits);
+    let terms = Shared::new(*peers.allocator(), terms)?;
+    peers[place].terms = terms;
+    Ok(())
 }
 
-// The peer of that number has another bucket, which has that level.
-fn change_bucket(peers: &mut Vec<Peer>, number: PeerNo, bucket: &BucketTerms, level: Level)
-    ensures { peers.new.items
-        ≡ changed_peer (λ p. record p { terms = record p.terms { bucket = bucket.now }; bucket = level }) number
-        peers.old.items }
+// The peer at that place, if there is one, has another bucket, which has that level. An error leaves the peers as they
+// were.
+fn change_bucket(
+    peers: &mut Vec<Peer>,
+    place: Option<usize>,
+    bucket: &BucketTerms,
+    level: Level,
+) -> Result<(), AllocError>
+    requires { IfSome place (λ at. at < length peers.old.items) }
+    ensures changed { OnOk result (peers.new.items
+        ≡ changed_where (λ p. record p { terms = record p.terms { bucket = bucket.now }; bucket = level })
+        peers.old.items place) }
+    ensures unchanged { OnErr result (peers.new.items ≡ peers.old.items) }
 {
-    for place in 0..peers.len() {
-        if peers[place].number == number {
-            peers[place].terms.bucket = *bucket;
-            peers[place].bucket = level;
-        }
-    }
+    let Some(place) = place else {
+        return Ok(());
+    };
+    let terms = peers[place].terms.with_bucket(bucket);
+    let terms = Shared::new(*peers.allocator(), terms)?;
+    let peer = &mut peers[place];
+    peer.terms = terms;
+    peer.bucket = level;
+    Ok(())
 }
 
 fn drop_peer(peers: &mut Vec<Peer>, number: PeerNo)
@@ -107,14 +125,8 @@ fn drop_peer(peers: &mut Vec<Peer>, number: PeerNo)
     peers.retain(|peer| peer.number != number);
 }
 
-fn drop_rates(rates: &mut Vec<RateTerms>, number: PeerNo)
-    ensures { rates.new.items ≡ filter (λ r. not (names_peer number r)) rates.old.items }
-{
-    rates.retain(|rate| !(rate.from == number || rate.to == number));
-}
-
 impl Network {
-    ghost use Rattle.std.specs.Prelude.{◌≡◌, ◌≤◌, ◌<◌, ◌↔◌, length, map, IfOk, IfSome, IsSome, IsTrue};
+    ghost use Rattle.std.specs.Prelude.{◌≡◌, ◌≤◌, ◌<◌, ◌↔◌, length, map, None, IfOk, IfSome, IsSome, IsTrue};
     ghost use Rattle.std.specs.Bool.{OnTrue, OnFalse};
     ghost use Rattle.std.specs.List.{slice_get};
     ghost use Rattle.std.specs.Option.{option_and_then};
@@ -138,8 +150,7 @@ impl Network {
             peers: Vec::new(alloc),
             by_token: Vec::new(alloc),
             routes: Routes::new(alloc),
-            rates: Vec::new(alloc),
-            by_pair: Vec::new(alloc),
+            rates: Rates::new(alloc),
         }
     }
 
@@ -159,15 +170,13 @@ impl Network {
     {
         let by_token = Vec::from_slice(alloc, self.by_token.as_slice())?;
         let routes = self.routes.copy(alloc)?;
-        let rates = Vec::from_slice(alloc, self.rates.as_slice())?;
-        let by_pair = Vec::from_slice(alloc, self.by_pair.as_slice())?;
+        let rates = self.rates.share()?;
         Ok(Network {
             next_peer: self.next_peer,
             peers,
             by_token,
             routes,
             rates,
-            by_pair,
         })
     }
 
@@ -233,10 +242,7 @@ impl Network {
     pub fn rate_between(&self, from: PeerNo, to: PeerNo) -> Option<Rate>
         ensures { result ≡ rate_between self.now from to }
     {
-        match search_pair(&self.rates, &self.by_pair, (from, to)) {
-            Ok(at) => Some(self.rates[self.by_pair[at] as usize].rate),
-            Err(_) => None,
-        }
+        self.rates.between(from, to)
     }
 
     /// The number of the next peer. Numbers are never used again.
@@ -295,10 +301,10 @@ impl Network {
     pub fn rate_refusal(&self, rate: &RateTerms) -> Option<CommandFault>
         ensures { result ≡ rate_refusal self.now rate.now }
     {
-        if search_pair(&self.rates, &self.by_pair, (rate.from, rate.to)).is_ok() {
+        if self.rates.has_pair(rate) {
             return None;
         }
-        (self.rates.len() >= MAX_RATES).then_some(CommandFault::Limit)
+        (self.rates.as_slice().len() >= MAX_RATES).then_some(CommandFault::Limit)
     }
 
     /// Adds a peer under the next number, which owes that balance and whose bucket has that level.
@@ -324,6 +330,7 @@ impl Network {
         terms.are_within();
         let _ = balance.get();
         let number = self.next_peer;
+        let terms = Shared::new(*self.peers.allocator(), terms)?;
         let peer = Peer {
             number,
             terms,
@@ -338,30 +345,45 @@ impl Network {
     }
 
     /// Removes the peer of that number, and the rates that name it. No route leads to it.
-    pub fn remove_peer(&mut self, number: PeerNo)
+    ///
+    /// `Memory` if it is out of memory. The network is as it was then.
+    pub fn remove_peer(&mut self, number: PeerNo) -> Result<(), CommandFault>
         requires { ¬ (NamesPeer self.old.routes number) }
-        ensures { self.new ≡ without_peer self.old number }
+        ensures { IsChanged result None self.old self.new (without_peer self.old number) }
     {
+        self.rates.drop_named(number)?;
         drop_peer(&mut self.peers, number);
         order_by_token(&self.peers, &mut self.by_token);
-        drop_rates(&mut self.rates, number);
-        order_by_pair(&self.rates, &mut self.by_pair);
+        Ok(())
     }
 
     /// Sets the limits of the peer of that number.
-    pub fn set_limits(&mut self, number: PeerNo, limits: &PeerLimits)
-        ensures { self.new ≡ with_limits self.old number limits.now }
+    ///
+    /// `Memory` if it is out of memory. The network is as it was then.
+    pub fn set_limits(&mut self, number: PeerNo, limits: &PeerLimits) -> Result<(), CommandFault>
+        ensures { IsChanged result None self.old self.new (with_limits self.old number limits.now) }
     {
         limits.are_within();
-        change_limits(&mut self.peers, number, limits);
+        let place = self.place_numbered(number);
+        change_limits(&mut self.peers, place, limits)?;
+        Ok(())
     }
 
     /// Sets the bucket of the peer of that number, which has that level.
-    pub fn set_bucket(&mut self, number: PeerNo, bucket: &BucketTerms, level: Level)
-        ensures { self.new ≡ with_bucket self.old number bucket.now level }
+    ///
+    /// `Memory` if it is out of memory. The network is as it was then.
+    pub fn set_bucket(
+        &mut self,
+        number: PeerNo,
+        bucket: &BucketTerms,
+        level: Level,
+    ) -> Result<(), CommandFault>
+        ensures { IsChanged result None self.old self.new (with_bucket self.old number bucket.now level) }
     {
         bucket.is_within();
-        change_bucket(&mut self.peers, number, bucket, level);
+        let place = self.place_numbered(number);
+        change_bucket(&mut self.peers, place, bucket, level)?;
+        Ok(())
     }
 
     /// Sends packets for the prefix on by the hop, whose peer is there.
@@ -404,21 +426,10 @@ impl Network {
         requires apart { (rate.now.from == rate.now.to) ≡ false }
         ensures { IsChanged result (rate_refusal self.old rate.now) self.old self.new (with_rate self.old rate.now) }
     {
-        let at = match search_pair(&self.rates, &self.by_pair, (rate.from, rate.to)) {
-            Ok(at) => {
-                let place = self.by_pair[at] as usize;
-                self.rates[place] = *rate;
-                return Ok(());
-            }
-            Err(at) => at,
-        };
-        let place = self.rates.len();
-        if place >= MAX_RATES {
+        if self.rate_refusal(rate).is_some() {
             return Err(CommandFault::Limit);
         }
-        self.by_pair.reserve(1)?;
-        self.rates.push(*rate)?;
-        let _ = self.by_pair.insert(at, place as u16);
+        self.rates.set(rate)?;
         Ok(())
     }
 
@@ -439,18 +450,9 @@ impl Network {
     {
         match change {
             Change::PeerAdded(terms) => self.add_peer(terms.copy(), Balance::zero(), level),
-            Change::PeerRemoved(number) => {
-                self.remove_peer(*number);
-                Ok(())
-            }
-            Change::LimitsSet { peer, limits } => {
-                self.set_limits(*peer, limits);
-                Ok(())
-            }
-            Change::BucketSet { peer, bucket } => {
-                self.set_bucket(*peer, bucket, level);
-                Ok(())
-            }
+            Change::PeerRemoved(number) => self.remove_peer(*number),
+            Change::LimitsSet { peer, limits } => self.set_limits(*peer, limits),
+            Change::BucketSet { peer, bucket } => self.set_bucket(*peer, bucket, level),
             Change::RouteAdded { prefix, hop } => self.add_route_copy(alloc, prefix, *hop),
             Change::RouteRemoved(prefix) => self.remove_route(prefix),
             Change::RateSet(rate) => self.set_rate(rate),

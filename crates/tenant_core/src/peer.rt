@@ -1,9 +1,11 @@
 //! Peers of a tenant.
 
-ghost use Rattle.std.specs.Prelude.{◌≡◌};
+ghost use Rattle.std.specs.Prelude.{◌≡◌, IfOk};
 
+use crate::shared::Shared;
 use crate::terms::{Balance, PeerTerms};
 use route_table::PeerNo;
+use std::alloc::AllocError;
 
 /// What a bucket held at a clock.
 #[derive(Clone, Copy, Debug, PartialEq, Eq)]
@@ -21,7 +23,8 @@ pub struct Level {
 pub struct Peer {
     /// Peers are numbered from 0 in the order in which they are added.
     pub number: PeerNo,
-    pub terms: PeerTerms,
+    /// What is agreed with it. Copies of the peer share it.
+    pub terms: Shared<PeerTerms>,
     /// What the peer owed when the period began, or when it was added, in its units.
     pub balance: Balance,
     /// What its bucket held when it was last changed, or when the period began.
@@ -29,15 +32,15 @@ pub struct Peer {
 }
 
 impl Peer {
-    /// A copy of the peer.
-    pub fn copy(&self) -> Peer
-        ensures { result ≡ self.now }
+    /// A copy of the peer. Fails only if it is out of memory.
+    pub fn copy(&self) -> Result<Peer, AllocError>
+        ensures { IfOk result (λ copy. copy ≡ self.now) }
     {
-        Peer {
+        Ok(Peer {
             number: self.number,
-            terms: self.terms.copy(),
+            terms: self.terms.share()?,
             balance: self.balance,
             bucket: self.bucket,
-        }
+        })
     }
 }

@@ -61,25 +61,26 @@ pub fn rows_of(alloc: Global, standing: &Standing<'_>) -> Result<Vec<Row>, Alloc
 }
 
 // The peer at that place, as the next period finds it: with the balance of its purse, and the credit of its bucket at
-// that clock.
-fn carried_at(standing: &Standing<'_>, clock: u64, place: usize) -> Peer
+// that clock. Fails only if it is out of memory.
+fn carried_at(standing: &Standing<'_>, clock: u64, place: usize) -> Result<Peer, AllocError>
     requires shown { IsShown standing.now }
     requires later { clock_of (state_shown standing.now) ≤ clock }
     requires inside { place < length standing.now.network.now.peers }
-    ensures { option_map (carried (state_shown standing.now) clock) (slice_get standing.now.network.now.peers place)
-        ≡ Some result }
+    ensures { IfOk result (λ peer.
+        option_map (carried (state_shown standing.now) clock) (slice_get standing.now.network.now.peers place)
+        ≡ Some peer) }
 {
     let party = standing.party(place);
-    Peer {
+    Ok(Peer {
         number: party.peer.number,
-        terms: party.peer.terms.copy(),
+        terms: party.peer.terms.share()?,
         balance: balance_of(party.purse),
         bucket: Level {
             credit: party.bucket.credit(clock),
             clock,
             entries: 0,
         },
-    }
+    })
 }
 
 /// Peers as the next period finds them, which begins at that clock. Fails only if it is out of memory.
@@ -96,7 +97,7 @@ pub fn carried_peers(
     let count = standing.network.peers().len();
     let mut list = Vec::with_capacity(alloc, count)?;
     for place in 0..count {
-        list.push_reserved(carried_at(standing, clock, place));
+        list.push_reserved(carried_at(standing, clock, place)?);
     }
     Ok(list)
 }

@@ -148,6 +148,24 @@ impl PeerTerms {
             bucket: self.bucket,
         }
     }
+
+    /// A copy of the terms, with other limits.
+    pub(crate) fn with_limits(&self, limits: &PeerLimits) -> PeerTerms
+        ensures { result ≡ record self.now { limits = limits.now } }
+    {
+        let mut terms = self.copy();
+        terms.limits = *limits;
+        terms
+    }
+
+    /// A copy of the terms, with another bucket.
+    pub(crate) fn with_bucket(&self, bucket: &BucketTerms) -> PeerTerms
+        ensures { result ≡ record self.now { bucket = bucket.now } }
+    {
+        let mut terms = self.copy();
+        terms.bucket = *bucket;
+        terms
+    }
 }
 
 /// What packets of one peer for another cost.

@@ -113,7 +113,7 @@ fn expect_number(
     if network.routes().names_peer(found) {
         panic!(rt; "no route leads to it");
     }
-    network.remove_peer(found);
+    network.remove_peer(found)?;
     Ok(())
 }
 

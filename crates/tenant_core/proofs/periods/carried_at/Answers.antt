@@ -18,7 +18,7 @@ returns c =
     let clock : ℕ = c.args.clock in
     let owed : balance_of s p.number ≡ c.balance_of.result = sym (c.balance_of.ensures ∙ ap (λ (a : Account). a.balance) c.party-party.ensures.kept.purse) in
     let credit : credit_at (stretch_of s p) clock ≡ c.credit.result = sym (c.credit.ensures.stretch (stretch_of s p) c.party-party.ensures.kept.bucket.stretch) in
-    let terms : p.terms ≡ c.copy.result = sym c.copy.ensures in
+    let terms : p.terms ≡ c.in_ok-share.field-0 = sym c.in_ok-share.ensures in
     ap (option_map (carried s clock)) c.party-party.ensures.peer
     ∙ (ap (λ b. let o : Option Peer = Some (record p { balance = b; bucket = record { credit = credit_at (stretch_of s p) clock; clock = clock; entries = 0 } }) in o) owed
     ∙ (ap (λ k. let o : Option Peer = Some (record p { balance = c.balance_of.result; bucket = record { credit = k; clock = clock; entries = 0 } }) in o) credit

@@ -4,6 +4,7 @@ use Rattle.tenant_core.specs.declared.journal.DecideEntry.{DecideEntry}
 use Rattle.tenant_core.specs.declared.journal.Entry.TheVariants.{Decide}
 use Rattle.tenant_core.specs.declared.journal.Outcome.TheVariants.{Packet}
 use Rattle.tenant_core.specs.declared.peer.Peer.{Peer}
+use Rattle.tenant_core.specs.declared.terms.PeerTerms.{PeerTerms}
 use Rattle.tenant_core.specs.Judge.{decided, is_full, judge}
 use Rattle.tenant_core.specs.Key.{Key}
 use Rattle.tenant_core.specs.Network.{Net, IsNetwork, peer_numbered}
@@ -33,7 +34,7 @@ returns c =
     let key : Key = record { amount = d.amount; expiry = c.in_ok-expiry.expiry; condition = d.condition; destination = c.in-Ok.destination } in
     let same : key ≡ key_entered d = λ i. record { amount = d.amount; expiry = expiry i; condition = d.condition; destination = destination i } in
     let sayable : is_sayable (key_entered d) ≡ true = ap is_sayable (sym same) ∙ c.is_sayable.ensures.sayable in
-    let token = c.as_bytes.ensures.value ∙ c.copy-token.ensures in
+    let token = c.as_bytes.ensures.value ∙ c.copy-token.ensures ∙ ap (λ (t : PeerTerms). t.token) c.deref.ensures in
     let step = decided_follows s d p network found room sayable in
     let verdict : c.decide-verdict.result ≡ judge s p.terms.token (key_entered d) d.now =
     c.decide-verdict.ensures.verdict

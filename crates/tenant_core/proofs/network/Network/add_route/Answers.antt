@@ -14,6 +14,4 @@ invariant_of-self c =
       network = either_routes_is net (insert net.routes c.args.prefix c.args.hop) c.add.new.self c.add.result c.self.invariant.network
           (with_route_is net c.args.prefix c.args.hop c.self.invariant.network there) c.add.ensures.added c.add.ensures.unchanged;
       tokens = c.self.invariant.tokens;
-      pairs = c.self.invariant.pairs;
-      apart = c.self.invariant.apart;
     }

@@ -15,6 +15,4 @@ invariant_of-self c =
       network = is_network _ (begun c.args.clock net) (ap others c.fill_buckets.ensures)
           (changed_is net (filled c.args.clock) (λ p. refl) (λ p. refl) (λ p. refl) (λ p e. e) (λ p e. e) c.self.invariant.network);
       tokens = same_tokens net.peers _ c.self.inside.by_token.items (ap (map token) c.fill_buckets.ensures ∙ tokens_stay (filled c.args.clock) (λ p. refl) net.peers) c.self.invariant.tokens;
-      pairs = c.self.invariant.pairs;
-      apart = c.self.invariant.apart;
     }

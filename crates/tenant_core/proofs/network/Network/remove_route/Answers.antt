@@ -11,6 +11,4 @@ invariant_of-self c =
       network = either_routes_is net (remove net.routes c.args.prefix.now) c.remove.new.self c.remove.result c.self.invariant.network
           (without_route_is net c.args.prefix.now c.self.invariant.network) c.remove.ensures.removed c.remove.ensures.unchanged;
       tokens = c.self.invariant.tokens;
-      pairs = c.self.invariant.pairs;
-      apart = c.self.invariant.apart;
     }

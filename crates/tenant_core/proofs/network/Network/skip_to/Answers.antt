@@ -23,6 +23,4 @@ invariant_of-self c =
         balances = is.balances;
       };
       tokens = c.self.invariant.tokens;
-      pairs = c.self.invariant.pairs;
-      apart = c.self.invariant.apart;
     }

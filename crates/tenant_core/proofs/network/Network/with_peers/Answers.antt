@@ -14,14 +14,10 @@ invariant_of-result c =
     let net : Net = net_of c.self.inside in
     let peers : List Peer = c.args.peers.items in
     let by_token = c.in_ok-by_token.ensures.items ∙ c.as_slice.ensures.value in
-    let rates = c.in_ok-rates.ensures.items ∙ c.as_slice-2.ensures.value in
-    let by_pair = c.in_ok-by_pair.ensures.items ∙ c.as_slice-3.ensures.value in
-    let with_routes : RouteMap → Net = λ m. record net { peers = peers; routes = m; rates = c.in_ok-rates.rates.items } in
+    let with_routes : RouteMap → Net = λ m. record net { peers = peers; routes = m; rates = c.in_ok-rates.rates } in
     let with_rates : List RateTerms → Net = λ rs. record net { peers = peers; rates = rs } in
     let tokens = c.requires.tokens ∙ ap (λ (n : Net). map token n.peers) (sym c.self.view_is) in
     record {
-      network = is_network _ _ (ap with_routes c.in_ok-routes.ensures ∙ (ap with_rates rates ∙ ap (λ (n : Net). record n { peers = peers }) c.self.view_is)) c.requires.network;
+      network = is_network _ _ (ap with_routes c.in_ok-routes.ensures ∙ (ap with_rates c.in_ok-rates.ensures ∙ ap (λ (n : Net). record n { peers = peers }) c.self.view_is)) c.requires.network;
       tokens = rw by_token (same_tokens net.peers peers c.self.inside.by_token.items tokens c.self.invariant.tokens);
-      pairs = rw (rates, by_pair) c.self.invariant.pairs;
-      apart = rw rates c.self.invariant.apart;
     }

@@ -2,7 +2,7 @@ use Rattle.std.proofs.Common.{rules, ◌<◌, length, ap, sym}
 use Rattle.std.specs.Prelude.{option_map}
 use Rattle.tenant_core.specs.declared.terms.RateTerms.{RateTerms}
 use Rattle.tenant_core.proofs.Pairs.{pair_within, pair_here, pair_nowhere}
-use Rattle.tenant_core.proofs.network.Network.rate_between.Goals as goal
+use Rattle.tenant_core.proofs.rates.RateList.between.Goals as goal
 
 pub index-requires-in-Ok : goal.index-requires-in-Ok
 index-requires-in-Ok c =
