@@ -2,12 +2,13 @@
 //! device that keeps the longest write.
 
 use oer_core::Device;
-use replay_text::{ReplayFault, replay};
+use replay_text::{PeriodKeeper, ReplayFault, ScriptFault, replay, replay_keeping};
 use std::alloc::Global;
 use std::io;
 use std::io::{ErrorKind, Read, Write};
 use std::process::Abort;
 use std::test::Fail;
+use tenant_core::Period;
 use test_texts::{filled, setup_with};
 
 /// Gives one byte at a time, and fails once, after so many reads. The reads after that go on.
@@ -226,20 +227,57 @@ impl Write for Wide {
     }
 }
 
-// Lines are written once there are 65,536 bytes of them. So at most the lines of one step are added to these in
-// memory.
+/// Keeps nothing of any period.
+#[derive(Drop)]
+struct LetGo;
+
+impl PeriodKeeper for LetGo {
+    ghost takes = { λ _ _ _. Unit {0} };
+
+    fn take(&mut self, _period: &Period) {}
+}
+
+// 20,000 steps, each of which prints `- idle`, seven bytes with the line feed; and a last line.
+fn idle_steps(alloc: Global, last: &str) -> Result<String, Fail> {
+    let mut script = filled(alloc, "decide 0 {T}\n")?
+        .as_str()
+        .repeat(alloc, 20_000)?;
+    script.push_str(last)?;
+    Ok(script)
+}
+
+// With a keeper of periods, lines are written once there are 65,536 bytes of them. So at most the lines of one step are
+// added to these in memory.
 #[test]
 fn lines_are_written_before_the_end(rt: HostRuntime) -> Result<(), Fail> {
     let alloc = rt.alloc();
     let setup = setup_with(alloc, &[])?;
-    let script = filled(alloc, "decide 0 {T}\n")?
-        .as_str()
-        .repeat(alloc, 20_000)?;
+    let script = idle_steps(alloc, "")?;
+    let mut reader = script.as_bytes();
+    let mut writer = Wide { most: 0, all: 0 };
+    let answer = replay_keeping(
+        alloc,
+        setup.as_bytes(),
+        1,
+        &mut reader,
+        &mut LetGo,
+        &mut writer,
+    );
+    assert!(rt; answer.is_ok() && writer.all == 140_000, "{}", writer.all);
+    assert!(rt; writer.most < 65_536 + 7, "{}", writer.most);
+    Ok(())
+}
+
+// Lines are held as long as a bad one may come.
+#[test]
+fn nothing_is_written_before_a_bad_line(rt: HostRuntime) -> Result<(), Fail> {
+    let alloc = rt.alloc();
+    let setup = setup_with(alloc, &[])?;
+    let script = idle_steps(alloc, "decide\n")?;
     let mut reader = script.as_bytes();
     let mut writer = Wide { most: 0, all: 0 };
     let answer = replay(alloc, setup.as_bytes(), 1, &mut reader, &mut writer);
-    // Each step prints `- idle`, seven bytes with the line feed.
-    assert!(rt; answer.is_ok() && writer.all == 140_000, "{}", writer.all);
-    assert!(rt; writer.most < 65_536 + 7, "{}", writer.most);
+    assert!(rt; answer == Err(ReplayFault::Script(ScriptFault::Line(20_001))));
+    assert!(rt; writer.all == 0, "{}", writer.all);
     Ok(())
 }

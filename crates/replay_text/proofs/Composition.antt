@@ -13,8 +13,7 @@ use Rattle.floor_core.specs.declared.step.Output.{Output}
 use Rattle.floor_core.specs.declared.step.Step.{Step}
 use Rattle.admin_text.specs.Setup.{setup_of}
 use Rattle.admin_text.specs.declared.setup.Setup.{Setup}
-use Rattle.replay_text.specs.Printed.{printed_lines}
-use Rattle.replay_text.specs.Replay.{names_in, refusal_of, ArePrinted, IsReplayFault, AreReplayLines, IsReplayed, IsReplayedFor, LeavesWritten, LeavesWrittenFor, WritesAll, WritesFront, WritesLines, world_of_setup}
+use Rattle.replay_text.specs.Replay.{names_in, refusal_of, IsReplayFault, IsReplayed, IsReplayedFor, LeavesWritten, LeavesWrittenFor, WritesAll, WritesFront, world_of_setup}
 use Rattle.replay_text.specs.Streams.{AppendsFront}
 use Rattle.replay_text.specs.Script.{lines_of, meaning_of, steps_of_script}
 use Rattle.replay_text.specs.declared.script.Meaning.TheVariants.{Runs}
@@ -35,12 +34,6 @@ pub has_room : (setups : List TenantTerms) (start steps : ℕ) (f : FloorState) 
 has_room setups start steps f new few = λ t within.
     let none : slice_index f.next_calls t ≡ 0 = ap (λ (w : World). (w.tenants t).next_call) new ∙ first_call start t (slice_get setups t) in
     omega (arith, none)
-
--- what a new floor answers
-pub answered_by : (setup : Setup) (steps : List Step) (world : World) (outputs : List Output) (names : List (List ℕ)) (text : List ℕ)
-    → world ≡ world_of_setup setup → AreOutputs world steps outputs → names ≡ names_in setup → text ≡ printed_lines names outputs → AreReplayLines setup steps text
-answered_by setup steps world outputs names text new are named printed =
-    (outputs, subst (λ (w : World). AreOutputs w steps outputs) new are, printed ∙ ap (λ (ns : List (List ℕ)). printed_lines ns outputs) named)
 
 -- what floors promise of the frames that go on
 abbrev pub SendsOn : Type 0
@@ -77,30 +70,6 @@ sends_on law setup workers script steps outputs parsed are =
     law (world_of_setup setup) no_frames workers (length names) steps outputs taken
     (have (FitsIn workers (length names)) (λ line step e. (step_of_line_good names workers line step e).0))
     (have HasBytes (λ line step e. (step_of_line_good names workers line step e).1)) are
-
--- what answers the steps of a script is a replay of it
-pub replayed_for : (known : Option (List ℕ)) (workers : ℕ) (setup : Setup) (steps : List Step) (text : List ℕ)
-    → IfSome known (λ script. steps_of_script (names_in setup) workers script ≡ Ok steps) → AreReplayLines setup steps text
-    → IfSome known (λ script. IsReplayedFor setup workers script text)
-replayed_for None workers setup steps text parsed answers = tt
-replayed_for (Some script) workers setup steps text parsed answers = (steps, parsed, answers)
-
--- what the steps of a script print is a replay of it, however many bytes of the reader are known
-pub written_for : {A : Type 0} (names : List (List ℕ)) (known : Option (List ℕ)) (workers : ℕ) (setup : Setup) (script : List ℕ) (steps : List Step) (result : Result A ReplayFault) (old new : Option (List ℕ))
-    → names ≡ names_in setup → IfSome known (λ bytes. script ≡ bytes) → steps_of_script names workers script ≡ Ok steps
-    → OnOk result (WritesLines names (world_of_setup setup) steps old new)
-    → OnOk result (IfSome known (λ script. (text : List ℕ) × IsReplayedFor setup workers script text × Appends old new text))
-written_for names None workers setup script steps (Ok done) old new same whole parsed written = tt
-written_for names (Some bytes) workers setup script steps (Ok done) old new same whole parsed (text, printed, appended) = (
-  text,
-  (
-    steps,
-    subst (λ (ns : List (List ℕ)). steps_of_script ns workers bytes ≡ Ok steps) same (subst (λ (b : List ℕ). steps_of_script names workers b ≡ Ok steps) whole parsed),
-    subst (λ (ns : List (List ℕ)). ArePrinted ns (world_of_setup setup) steps text) same printed,
-  ),
-  appended,
-)
-written_for names known workers setup script steps (Err f) old new same whole parsed written = tt
 
 pub replayed_by : SendsOn → (known : Option (List ℕ)) (setup_text : List ℕ) (workers : ℕ) (setup : Setup) (text : List ℕ)
     → setup_of setup_text ≡ Ok setup → IfSome known (λ script. IsReplayedFor setup workers script text)

@@ -7,13 +7,17 @@ use Rattle.replay_text.specs.declared.script.ScriptFault.{ScriptFault}
 use Rattle.replay_text.specs.declared.script.ScriptFault.TheVariants.{Line}
 use Rattle.replay_text.specs.declared.script.Meaning.{Meaning}
 use Rattle.replay_text.specs.declared.script.Meaning.TheVariants.{Skipped, Runs, Bad}
+use Rattle.replay_text.specs.SoFar.{IsReadTo, with_front}
 use Rattle.replay_text.specs.Script.{is_bad, then_steps, meaning_of, steps_from, steps_of_script, lines_of}
 use Rattle.replay_text.specs.declared.script.TheConstants.{MAX_SCRIPT}
 
--- the steps so far before those that are left
-abbrev pub with_front : List Step → Result (List Step) ScriptFault → Result (List Step) ScriptFault
-with_front front (Ok steps) = Ok (front ++ steps)
-with_front front (Err fault) = Err fault
+-- nothing is read yet
+pub nothing_read : (names : List (List ℕ)) (workers : ℕ) (script : List ℕ) → IsReadTo names workers script 1 script
+nothing_read names workers script = ([], by (steps_from names workers 1 (lines_of script)))
+  where
+    by : (read : Result (List Step) ScriptFault) → with_front [] read ≡ read
+    by (Ok steps) = refl
+    by (Err fault) = refl
 
 regroup : (front : List Step) (number : ℕ) (step : Step) (read : Result (List Step) ScriptFault) → with_front front (then_steps number (Runs step) read) ≡ with_front (front ++ step ∷ []) read
 regroup front number step (Ok steps) = ap (λ (s : List Step). Ok s) (simp append_assoc)
@@ -46,6 +50,16 @@ passes front names workers number text line after total h good so_far = by (mean
     by Skipped is g = (front, skips front names workers number text line after Skipped total h is refl so_far)
     by (Runs step) is g = (front ++ step ∷ [], adds front names workers number text line after (Runs step) step total h is refl so_far)
     by Bad is g = absurd cc
+
+-- what is bad is found bad
+pub found_bad : (m : Meaning) → m ≡ Bad → is_bad m ≡ true
+found_bad m e = rw e refl
+
+-- what is good is not
+pub not_bad : (m : Meaning) → ¬ (m ≡ Bad) → is_bad m ≡ false
+not_bad Skipped good = refl
+not_bad (Runs step) good = refl
+not_bad Bad good = absurd (good refl)
 
 -- what is found bad is
 is_Bad : (m : Meaning) → is_bad m ≡ true → m ≡ Bad

@@ -3,7 +3,6 @@ pub mod Splits
 pub mod Fronts
 pub mod Scripts
 pub mod Governs
-pub mod Goods
 pub mod Known
 pub mod Octets
 pub mod Fits
@@ -11,7 +10,9 @@ pub mod Composition
 pub mod OneText
 pub mod Places
 pub mod Decoding
+pub mod Overlaps
 pub mod Values
 pub mod LastWords
 pub mod Putting
 pub mod Takings
+pub mod Starts

@@ -14,6 +14,7 @@ use Rattle.floor_core.specs.declared.step.Step.{Step}
 use Rattle.replay_text.specs.Printed.{output_line, printed_lines}
 use Rattle.replay_text.specs.Replay.{ArePrinted, HasLong, Prints, WritesDone, WritesLines, WritesSome}
 use Rattle.replay_text.specs.Script.{lines_of, meaning_of, steps_in}
+use Rattle.replay_text.specs.SoFar.{AreSoFar}
 use Rattle.replay_text.specs.Streams.{AppendsFront, WritesUpTo}
 use Rattle.replay_text.specs.declared.script.Meaning.TheVariants.{Skipped, Runs}
 use Rattle.replay_text.proofs.Scripts.{steps_behind}
@@ -77,10 +78,6 @@ prints_all laws names steps w text = (replies w steps, laws.replies w steps, law
 
 -- ---- how far the steps of a list are done
 
--- steps of a list that are done, and lines of them
-abbrev pub AreSoFar : List (List ℕ) → World → World → List Step → List Step → List ℕ → Type 0
-AreSoFar names before now steps rest text = (done : List Step) × (done ++ rest ≡ steps) × Prints names done before now [] text
-
 -- none is done
 pub none_so_far : Laws → (names : List (List ℕ)) (w : World) (steps : List Step) → AreSoFar names w w steps steps []
 none_so_far laws names w steps = ([], refl, prints_none laws names w [])
@@ -93,6 +90,14 @@ more_so_far laws names steps rest piece behind w m n text longer split far more 
   append_assoc far.0 piece behind ∙ (ap (λ ss. far.0 ++ ss) split ∙ far.1),
   prints_more laws names far.0 piece w m n [] text longer far.2 more,
 )
+
+-- those of one more line of a script are
+pub line_so_far : Laws → (names : List (List ℕ)) (workers : ℕ) (steps : List Step) (rest line behind : List ℕ) (w m n : World) (text longer : List ℕ) → lines_of rest ≡ line ∷ lines_of behind
+    → AreSoFar names w m steps (steps_in names workers (lines_of rest)) text → Prints names (steps_in names workers (line ∷ [])) m n text longer
+    → AreSoFar names w n steps (steps_in names workers (lines_of behind)) longer
+line_so_far laws names workers steps rest line behind w m n text longer first far more =
+    more_so_far laws names steps (steps_in names workers (lines_of rest)) (steps_in names workers (line ∷ [])) (steps_in names workers (lines_of behind)) w m n text longer
+    (steps_behind names workers line (lines_of behind) ∙ ap (steps_in names workers) (sym first)) far more
 
 -- the lines so far are the front of all lines
 pub all_printed : Laws → (names : List (List ℕ)) (w m : World) (steps rest : List Step) (text : List ℕ) → AreSoFar names w m steps rest text
@@ -150,9 +155,9 @@ written_farther names w m steps rest text left old between new far more = record
   so_far = subst (AreSoFar names w m steps rest) (ap (λ t. far.written ++ t) more.1 ∙ sym (append_assoc far.written more.0 left)) far.so_far;
 }
 
--- nothing was done
-pub not_far : Laws → (names : List (List ℕ)) (w : World) (steps : List Step) (old : Option (List ℕ)) → Far names w w steps steps [] old old
-not_far laws names w steps old = record { written = []; appended = by old; so_far = none_so_far laws names w steps }
+-- nothing was written
+pub not_far : (names : List (List ℕ)) (w m : World) (steps rest : List Step) (text : List ℕ) (old : Option (List ℕ)) → AreSoFar names w m steps rest text → Far names w m steps rest text old old
+not_far names w m steps rest text old so_far = record { written = []; appended = by old; so_far = so_far }
   where
     by : (known : Option (List ℕ)) → Appends known known []
     by None = tt

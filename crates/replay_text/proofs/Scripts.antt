@@ -10,7 +10,9 @@ use Rattle.common_types.specs.declared.read_error.ReadError.{ReadError}
 use Rattle.common_types.specs.declared.read_error.ReadError.TheVariants as errors
 use Rattle.replay_text.specs.declared.script.Meaning.{Meaning}
 use Rattle.replay_text.specs.declared.script.Meaning.TheVariants.{Skipped, Runs, Bad}
-use Rattle.replay_text.specs.Script.{then_steps, meaning_of, steps_from, steps_in, steps_of_script, lines_of, step_in, IsBad, IsCheckedAs, AreSteps, IsFirstBad}
+use Rattle.replay_text.specs.Script.{then_steps, meaning_of, steps_from, steps_in, steps_of_script, lines_of, step_in, IsBad, IsCheckedAs, AreSteps, IsFirstBad, NoneIsBad}
+use Rattle.replay_text.specs.SoFar.{IsReadTo, with_front}
+use Rattle.common_types.specs.Outcomes.{Fails}
 use Rattle.replay_text.specs.declared.script.TheConstants.{MAX_SCRIPT}
 use Rattle.replay_text.proofs.Fronts.{reads_lines}
 
@@ -122,3 +124,23 @@ script_steps names workers text steps e = by (nat_lt MAX_SCRIPT (length text)) e
 pub good_steps : (names : List (List ℕ)) (workers : ℕ) (text : List ℕ) → length text ≤ MAX_SCRIPT → (steps : List Step) × AreSteps names workers (lines_of text) steps → steps_of_script names workers text ≡ Ok (steps_in names workers (lines_of text))
 good_steps names workers text short found =
     reads_lines names workers text short ∙ (steps_again names workers 1 (lines_of text) found.0 found.1 ∙ ap (λ (ss : List Step). Ok ss) found.1.in_order)
+
+-- ---- the rest of a script
+
+-- if the rest is good, the script is
+pub steps_of_whole : (names : List (List ℕ)) (workers number : ℕ) (script rest : List ℕ) → length script ≤ MAX_SCRIPT → IsReadTo names workers script number rest
+    → (steps : List Step) × (steps_from names workers number (lines_of rest) ≡ Ok steps) → steps_of_script names workers script ≡ Ok (steps_in names workers (lines_of script))
+steps_of_whole names workers number script rest short read found =
+    let all : steps_from names workers 1 (lines_of script) ≡ Ok (read.0 ++ found.0) = sym read.1 ∙ ap (with_front read.0) found.1 in
+    good_steps names workers script short (read.0 ++ found.0, steps_are names workers 1 (lines_of script) (read.0 ++ found.0) all)
+
+-- and no line of the rest is bad
+pub rest_is_good : (names : List (List ℕ)) (workers number : ℕ) (rest : List ℕ) → (steps : List Step) × (steps_from names workers number (lines_of rest) ≡ Ok steps) → NoneIsBad names workers (lines_of rest)
+rest_is_good names workers number rest found = (steps_are names workers number (lines_of rest) found.0 found.1).no_bad
+
+-- a fault of the rest is that of the script
+pub rest_fails : (names : List (List ℕ)) (workers number : ℕ) (script rest : List ℕ) (error : ReadError ScriptFault) → length script ≤ MAX_SCRIPT → IsReadTo names workers script number rest
+    → Fails error (steps_from names workers number (lines_of rest)) → Fails error (steps_of_script names workers script)
+rest_fails names workers number script rest errors.Memory short read fails = tt
+rest_fails names workers number script rest (errors.Fault fault) short read fails =
+    reads_lines names workers script short ∙ (sym read.1 ∙ ap (with_front read.0) fails)

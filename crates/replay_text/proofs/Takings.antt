@@ -4,7 +4,7 @@ use Rattle.std.proofs.lemmas.Grind.{flat_map-append}
 use Rattle.std.proofs.lemmas.List.{append_assoc}
 use Rattle.std.specs.Prelude.{IfSome, OnOk, Ok, Err, Result}
 use Rattle.tenant_core.specs.declared.period.PeriodParts.{PeriodParts}
-use Rattle.floor_core.specs.World.{World, IsLeft}
+use Rattle.floor_core.specs.World.{World, AreOutputs, IsLeft}
 use Rattle.floor_core.specs.Worlds.{reply, world_after}
 use Rattle.floor_core.specs.declared.step.Output.{Output}
 use Rattle.floor_core.specs.declared.step.Step.{Step}
@@ -12,11 +12,12 @@ use Rattle.admin_text.specs.Setup.{setup_of}
 use Rattle.admin_text.specs.declared.setup.Setup.{Setup}
 use Rattle.replay_text.specs.Closed.{Closes, ClosesAll, HasTakenPeriods, Taking, TakesClosed, TakesClosedFor, closed_by, closed_in}
 use Rattle.replay_text.specs.Printed.{printed_lines}
-use Rattle.replay_text.specs.Replay.{IsReplayed, names_in, world_of_setup}
-use Rattle.replay_text.specs.Script.{lines_of, meaning_of, steps_in, steps_of_script}
+use Rattle.replay_text.specs.Replay.{IsReplayed, names_in}
+use Rattle.replay_text.specs.SoFar.{AreTaken}
+use Rattle.replay_text.specs.Script.{lines_of, meaning_of, steps_in}
 use Rattle.replay_text.specs.declared.script.Meaning.TheVariants.{Skipped}
 use Rattle.replay_text.proofs.Composition.{SendsOn, sends_on}
-use Rattle.replay_text.proofs.Pieces.{AfterLaw, Laws, RepliesLaw}
+use Rattle.replay_text.proofs.Pieces.{AfterLaw, Laws, OutputsLaw, RepliesLaw}
 use Rattle.replay_text.proofs.Scripts.{steps_behind}
 
 -- ---- what is taken
@@ -54,10 +55,6 @@ closes_more laws Takes steps more w m n j k l p q = (
 
 -- ---- how far the steps of a list are done
 
--- steps of a list that are done, and the keeper took what they closed
-abbrev pub AreTaken : {K : Type 0} → Taking K → World → World → List Step → List Step → K → K → Type 0
-AreTaken Takes before now steps rest k l = (done : List Step) × (done ++ rest ≡ steps) × Closes Takes done before now k l
-
 pub none_taken : {K : Type 0} → Laws → (Takes : Taking K) (w : World) (steps : List Step) (k : K) → AreTaken Takes w w steps steps k k
 none_taken laws Takes w steps k = ([], refl, ([], laws.replies w [], laws.after w [], refl))
 
@@ -80,14 +77,16 @@ pub all_taken : {K : Type 0} (Takes : Taking K) (w m : World) (steps : List Step
 all_taken Takes w m steps k l far =
     subst (λ (ss : List Step). ClosesAll Takes ss w k l) (sym (append-nil far.0) ∙ far.1) (far.2.0, far.2.1, far.2.3)
 
--- ---- of a whole script
+-- where the others are done too, all are
+pub rest_taken : {K : Type 0} → OutputsLaw → (Takes : Taking K) (w m : World) (steps rest : List Step) (j k l : K) → AreTaken Takes w m steps rest j k → ClosesAll Takes rest m k l
+    → ClosesAll Takes steps w j l
+rest_taken law Takes w m steps rest j k l far more = (
+  far.2.0 ++ more.0,
+  subst (λ (ss : List Step). AreOutputs w ss (far.2.0 ++ more.0)) far.1 (law w m far.0 rest far.2.0 more.0 far.2.1 far.2.2 more.1),
+  subst (λ ps. HasTakenPeriods Takes ps j l) (sym (flat_map-append closed_in far.2.0 more.0)) (taken_more Takes (closed_by far.2.0) (closed_by more.0) j k l far.2.3 more.2),
+)
 
-pub taken_for : {K : Type 0} (Takes : Taking K) (known : Option (List ℕ)) (setup : Setup) (workers : ℕ) (steps : List Step) (k l : K)
-    → IfSome known (λ script. steps_of_script (names_in setup) workers script ≡ Ok steps)
-    → ClosesAll Takes steps (world_of_setup setup) k l
-    → IfSome known (λ script. TakesClosedFor Takes setup workers script k l)
-taken_for Takes None setup workers steps k l parsed all = tt
-taken_for Takes (Some script) setup workers steps k l parsed all = (steps, parsed, all)
+-- ---- of a whole script
 
 -- what is taken for a setup that was read is what its text says
 pub taken_as_read : {A E K : Type 0} → SendsOn → (Takes : Taking K) (setup_text : List ℕ) (workers : ℕ) (setup : Setup) (result : Result A E) (known : Option (List ℕ)) (k l : K)

@@ -6,3 +6,4 @@ pub mod Printed
 pub mod Streams
 pub mod Replay
 pub mod Closed
+pub mod SoFar

@@ -1,12 +1,15 @@
 //! Hexadecimal text. No branch hangs on a digit, so that the compiler works on many at a time.
 
-ghost use Rattle.std.specs.Prelude.{◌≡◌, ◌*◌, ◌<◌, ◌++◌, ◌==◌, length, Ok, Some, OnOk, IfOk, if◌then◌else◌, option_map, slice_index, codes, IsTrue, ℕ, is_some};
+ghost use Rattle.std.specs.Prelude.{◌≡◌, ◌*◌, ◌<◌, ◌++◌, ◌==◌, length, Ok, Some, OnOk, IfOk, if◌then◌else◌, slice_index, codes, IsTrue, ℕ, is_some, option_copied};
 ghost use Rattle.std.specs.List.{list_all};
 ghost use Rattle.std.specs.Result.{result_ok};
 ghost use Rattle.replay_text.specs.Printed.{Puts};
 ghost use Rattle.hex.specs.Hex.{decode_pairs, decode_of, encode_lower, hex_digit_value, is_hex_digit, pair_value};
 
 use std::alloc::AllocError;
+
+/// So many bytes are tested at once.
+const CHUNK: usize = 32;
 
 // 0 of a digit in either case, and more of any other byte.
 fn past_digits(byte: u8) -> u8
@@ -18,8 +21,9 @@ fn past_digits(byte: u8) -> u8
     decimal.min(capital).min(small)
 }
 
-/// Whether all bytes are digits. It goes on after one that is not a digit.
-pub(crate) fn are_digits(text: &[u8]) -> bool
+// Whether all bytes are digits. It goes on after one that is not a digit.
+#[inline(always)]
+fn each_is_digit(text: &[u8]) -> bool
     ensures { result ≡ list_all is_hex_digit text.now }
 {
     let mut worst: u8 = 0;
@@ -27,6 +31,23 @@ pub(crate) fn are_digits(text: &[u8]) -> bool
         worst = worst.max(past_digits(*byte));
     }
     worst == 0
+}
+
+fn chunks_are_digits(chunks: &[[u8; CHUNK]]) -> bool
+    ensures { result ≡ list_all (λ chunk. list_all is_hex_digit chunk) chunks.now }
+{
+    chunks.iter().all(|chunk| each_is_digit(chunk))
+}
+
+/// Whether all bytes are digits. The last chunk may begin in the one before it, so that no few bytes are left over.
+pub(crate) fn are_digits(text: &[u8]) -> bool
+    ensures { result ≡ list_all is_hex_digit text.now }
+{
+    let Some(last) = text.last_chunk::<CHUNK>() else {
+        return each_is_digit(text);
+    };
+    let (chunks, _) = text.as_chunks::<CHUNK>();
+    chunks_are_digits(chunks) && each_is_digit(last)
 }
 
 /// Whether a text spells bytes: an even number of digits in either case.
@@ -69,18 +90,20 @@ fn decode_into(text: &[u8], out: &mut [u8])
     }
 }
 
-/// The bytes that digits in either case spell, in the room.
-pub(crate) fn decode<'a>(text: &[u8], room: &'a mut Vec<u8>) -> Result<&'a [u8], AllocError>
-    requires { IsTrue (is_some (result_ok (decode_of text.now))) }
-    ensures { IfOk result (λ bytes. decode_of text.now ≡ Ok bytes.now) }
+/// The bytes that a text spells, in the room. `None` if the number of digits is odd, or if a byte is not a digit.
+pub(crate) fn decode<'a>(text: &[u8], room: &'a mut Vec<u8>) -> Result<Option<&'a [u8]>, AllocError>
+    ensures { IfOk result (λ bytes. option_copied bytes ≡ result_ok (decode_of text.now)) }
 {
+    if !spells_bytes(text) {
+        return Ok(None);
+    }
     let size = text.len() / 2;
     if room.len() < size {
         room.resize(size, 0)?;
     }
     let bytes = &mut room.as_mut_slice()[..size];
     decode_into(text, bytes);
-    Ok(bytes)
+    Ok(Some(bytes))
 }
 
 fn digit_of(value: u8) -> u8

@@ -1,6 +1,6 @@
 //! What a line of a script spells, or why it is bad.
 
-ghost use Rattle.std.specs.Prelude.{◌≡◌, is_none, is_some, option_and_then, option_copied, IfOk, IsTrue, Some};
+ghost use Rattle.std.specs.Prelude.{◌≡◌, is_none, is_some, option_and_then, option_copied, IfOk};
 ghost use Rattle.std.specs.Result.{result_ok};
 ghost use Rattle.common_types.specs.Words.{words_left};
 ghost use Rattle.admin_text.specs.Commands.{command_in};
@@ -181,9 +181,9 @@ fn is_skipped(line: &[u8]) -> bool
     }
 }
 
-/// What the words of a line spell, `None` if it is skipped; or why it is bad. A last word that takes room is not read
-/// yet. The first wrong word decides, unless one is missing.
-pub(crate) fn read_words<'a>(
+// What the words of a line spell, `None` if it is skipped; or why it is bad. The first wrong word decides, unless one is
+// missing.
+fn read_words<'a>(
     parties: Parties<'_>,
     line: &'a [u8],
 ) -> Result<Option<Spelled<'a>>, LineFault<'a>>
@@ -199,7 +199,7 @@ pub(crate) fn read_words<'a>(
     }
 }
 
-/// The same, after the tests of the whole line.
+/// What a line spells, `None` if it is skipped; or why it is bad. A last word that takes room is not read yet.
 #[tactic(auto, unfolding(crate::specs::Script::meaning_of))]
 pub(crate) fn read_line<'a>(
     parties: Parties<'_>,
@@ -280,45 +280,53 @@ pub fn line_fault<'a>(
     Ok(fault.map(|fault| told(line, fault)))
 }
 
-/// The step that was spelled, a frame's bytes in the room. Fails only if it is out of memory.
+// The command that a text spells, in a box, if it spells one.
+fn boxed_command(alloc: Global, text: &[u8]) -> Result<Option<Boxed<Command>>, AllocError>
+    ensures { IfOk result (λ command. command ≡ result_ok (command_in text.now)) }
+{
+    match command_in(alloc, text)? {
+        Ok(command) => Ok(Some(Boxed::new(alloc, command)?)),
+        Err(_) => Ok(None),
+    }
+}
+
+/// The step that was spelled, a frame's bytes in the room; `None` if its last word is wrong. Fails only if it is out of
+/// memory.
 pub(crate) fn step_of<'a>(
     alloc: Global,
     spelled: &Spelled<'a>,
     room: &'a mut Vec<u8>,
-) -> Result<Step<'a>, AllocError>
-    requires { IsTrue (is_some (step_of_spelled spelled.now)) }
-    ensures { IfOk result (λ step. step_of_spelled spelled.now ≡ Some step) }
+) -> Result<Option<Step<'a>>, AllocError>
+    ensures { IfOk result (λ step. step ≡ step_of_spelled spelled.now) }
 {
-    match *spelled {
+    Ok(match *spelled {
         Spelled::Load {
             worker,
             tenant,
             token,
             frame,
-        } => Ok(Step::Load {
+        } => frame_of(frame, room)?.map(|bytes| Step::Load {
             worker,
             tenant,
             token: Octets::of(token),
-            bytes: frame_of(frame, room)?,
+            bytes,
         }),
-        Spelled::Decide { worker, now } => Ok(Step::Decide { worker, now }),
-        Spelled::Answer { worker, now, frame } => Ok(Step::Answer {
-            worker,
-            now,
-            given: given_of(frame, room)?,
-        }),
-        Spelled::Tick { tenant, now } => Ok(Step::Tick { tenant, now }),
+        Spelled::Decide { worker, now } => Some(Step::Decide { worker, now }),
+        Spelled::Answer { worker, now, frame } => {
+            match given_of(frame, room)? {
+                Some(given) => Some(Step::Answer { worker, now, given }),
+                None => None,
+            }
+        }
+        Spelled::Tick { tenant, now } => Some(Step::Tick { tenant, now }),
         Spelled::Govern {
             tenant,
             now,
             command,
-        } => match command_in(alloc, command)? {
-            Ok(command) => Ok(Step::Govern {
-                tenant,
-                now,
-                command: Boxed::new(alloc, command)?,
-            }),
-            Err(_) => unreachable!(),
-        },
-    }
+        } => boxed_command(alloc, command)?.map(|command| Step::Govern {
+            tenant,
+            now,
+            command,
+        }),
+    })
 }

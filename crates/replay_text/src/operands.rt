@@ -1,6 +1,6 @@
 //! The words after a verb: what each says, or why it is wrong.
 
-ghost use Rattle.std.specs.Prelude.{◌≡◌, is_ok, is_some, option_and_then, option_copied, IfOk, IsTrue, Some};
+ghost use Rattle.std.specs.Prelude.{◌≡◌, is_ok, is_some, option_and_then, option_copied, IfOk};
 ghost use Rattle.std.specs.List.{position};
 ghost use Rattle.std.specs.Result.{result_ok};
 ghost use Rattle.std.specs.Str.{bytes_eq};
@@ -134,26 +134,34 @@ pub(crate) fn check_frame(verb: Verb, operand: Operand, word: &[u8]) -> Result<(
     }
 }
 
-/// The bytes that a word spells, in the room.
-#[tactic(auto, unfolding(hex::specs::Hex::decode_pairs))]
-pub(crate) fn frame_of<'a>(word: &[u8], room: &'a mut Vec<u8>) -> Result<Octets<'a>, AllocError>
-    requires { IsTrue (is_some (frame_word word.now)) }
-    ensures { IfOk result (λ frame. frame_word word.now ≡ Some frame) }
+/// The bytes that a word spells, in the room, if it spells any.
+pub(crate) fn frame_of<'a>(
+    word: &[u8],
+    room: &'a mut Vec<u8>,
+) -> Result<Option<Octets<'a>>, AllocError>
+    ensures { IfOk result (λ frame. frame ≡ frame_word word.now) }
 {
-    let digits: &[u8] = if word == b"-".as_slice() { &[] } else { word };
-    Ok(Octets::of(decode(digits, room)?))
+    let Some(digits) = digits_of(word) else {
+        return Ok(None);
+    };
+    match decode(digits, room)? {
+        Some(bytes) => Ok(Some(Octets::of(bytes))),
+        None => Ok(None),
+    }
 }
 
-/// What came back: the bytes that a word spells, in the room, or a fault if there is no word.
+/// What came back: the bytes that a word spells, in the room, if it spells any; or a fault if there is no word.
 pub(crate) fn given_of<'a>(
     word: Option<&[u8]>,
     room: &'a mut Vec<u8>,
-) -> Result<PeerAnswer<'a>, AllocError>
-    requires { IsTrue (is_some (given_spelled (option_copied word))) }
-    ensures { IfOk result (λ given. given_spelled (option_copied word.entry) ≡ Some given) }
+) -> Result<Option<PeerAnswer<'a>>, AllocError>
+    ensures { IfOk result (λ given. given ≡ given_spelled (option_copied word.entry)) }
 {
-    match word {
-        Some(word) => Ok(PeerAnswer::Bytes(frame_of(word, room)?)),
-        None => Ok(PeerAnswer::Fault),
+    let Some(word) = word else {
+        return Ok(Some(PeerAnswer::Fault));
+    };
+    match frame_of(word, room)? {
+        Some(bytes) => Ok(Some(PeerAnswer::Bytes(bytes))),
+        None => Ok(None),
     }
 }

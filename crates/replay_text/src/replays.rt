@@ -1,19 +1,21 @@
 //! Replays of scripts.
 
-ghost use Rattle.std.specs.Prelude.{◌≡◌, ◌≢◌, ◌≤◌, ◌<◌, ◌⊎◌, ◌↔◌, ◌+◌, ◌∷◌, [], ℕ, List, OnOk, OnErr, IfOk, IfErr, IfSome, IsOk, None, Ok, Err, length};
-ghost use Rattle.std.specs.Io.KnownBytes.{Keeps, Appends};
+ghost use Rattle.std.specs.Prelude.{◌≡◌, ◌≢◌, ◌≤◌, ◌<◌, ◌⊎◌, ◌↔◌, ◌+◌, ◌∷◌, [], ℕ, List, OnOk, IfOk, IfErr, IfSome, IsOk, None, Some, Ok, Err, length};
+ghost use Rattle.std.specs.Io.KnownBytes.{Appends};
 ghost use Rattle.replay_text.specs.Replay.{HasLong, names_in, refusal_of, IsReplayFault, Prints, WritesAll, LeavesWritten};
 ghost use Rattle.replay_text.specs.Replay.{IsReplayedFor, LeavesWrittenFor, WritesDone, WritesLines, WritesSome, world_of_setup};
 ghost use Rattle.admin_text.specs.Setup.{setup_of};
+ghost use Rattle.common_types.specs.Outcomes.{Fails};
 ghost use Rattle.floor_core.specs.FloorView.{Fits, HasRoom, max_seats, world_of};
 ghost use Rattle.tenant_core.specs.Limits.{max_tenants};
-ghost use Rattle.replay_text.specs.Script.{lines_of, steps_in, steps_of_script, IsBad, NoneIsBad};
+ghost use Rattle.replay_text.specs.Script.{lines_of, steps_from, steps_in, steps_of_script, IsBad, NoneIsBad};
+ghost use Rattle.replay_text.specs.SoFar.{HoldsOfAll, IsReadTo, IsRunTo};
 ghost use Rattle.replay_text.specs.Streams.{AppendsFront, ConsumesAtMost, WritesUpTo};
 ghost use Rattle.replay_text.specs.Closed.{Closes, ClosesAll, TakesClosed, TakesClosedFor};
 
 use crate::keeping::{LetGo, PeriodKeeper, hand_over};
 use crate::printed::put_told;
-use crate::script::{MAX_SCRIPT, Meaning, ScriptFault, check_script, meaning_of_good};
+use crate::script::{MAX_SCRIPT, Meaning, ScriptFault, lines_checked, meaning_of};
 use crate::streams::{StreamFault, read_script, write_text};
 use crate::words::first_line;
 use admin_text::{Setup, SetupFault, read_setup};
@@ -27,6 +29,11 @@ use thiserror::Error;
 /// How many bytes of lines are written as soon as there are so many.
 const LONG: usize = 65_536;
 
+/// As long as fewer bytes of lines than this are held, the lines of a script are run as they are read, and nothing is
+/// written. So most scripts are read once. What is left of another is checked before the first byte is written, and then
+/// read again.
+const MOST_HELD: usize = 16_777_216;
+
 /// Room for the lines of any step: a frame of 34,000 bytes in digits, or 256 balances, and some words beside.
 const STEP_ROOM: usize = 70_000;
 
@@ -39,13 +46,15 @@ enum Course {
     Cut,
 }
 
-/// When a step ran out of memory.
+/// Why a line was not run to its end.
 #[derive(Clone, Copy, Debug, PartialEq, Eq)]
 enum Refusal {
-    /// Before it: nothing of it has happened.
+    /// Out of memory before its step: nothing of it has happened.
     Before,
-    /// After the step, for its lines.
+    /// Out of memory after the step, for its lines.
     Behind,
+    /// The line is not valid.
+    Bad,
 }
 
 /// Why a replay ended early.
@@ -87,6 +96,14 @@ struct Cast<'a> {
     workers: usize,
 }
 
+/// The lines that the front of a script printed, and the rest of the script, which begins with the line of that number.
+#[derive(Drop)]
+struct Front<'a> {
+    text: Vec<u8>,
+    rest: &'a [u8],
+    number: usize,
+}
+
 // Does a step, appends the lines of its output to a text, and hands the keeper the period that it closed.
 fn run_step<K: PeriodKeeper>(
     alloc: Global,
@@ -103,6 +120,7 @@ fn run_step<K: PeriodKeeper>(
     ensures undone { result ≡ Err Refusal.Before → floor.new ≡ floor.old }
     ensures unprinted { result ≡ Err Refusal.Before → text.new.items ≡ text.old.items }
     ensures lost { result ≡ Err Refusal.Behind → HasLong STEP_ROOM names.now (step.now ∷ []) (world_of floor.old) (world_of floor.new) }
+    ensures good { result ≢ Err Refusal.Bad }
     ensures closed { OnOk result (Closes K.takes (step.now ∷ []) (world_of floor.old) (world_of floor.new) keeper.old keeper.new) }
     ensures workers { length floor.new.seats ≡ length floor.old.seats }
     ensures tenants { length floor.new.books ≡ length floor.old.books }
@@ -122,7 +140,7 @@ fn run_step<K: PeriodKeeper>(
     Ok(())
 }
 
-// Does what a good line says, appends the lines of its output to a text, and hands the keeper the period that it
+// Reads a line and does what it says, appends the lines of its output to a text, and hands the keeper the period that it
 // closed.
 fn run_line<K: PeriodKeeper>(
     alloc: Global,
@@ -133,7 +151,6 @@ fn run_line<K: PeriodKeeper>(
     text: &mut Vec<u8>,
     keeper: &mut K,
 ) -> Result<(), Refusal>
-    requires good { ¬ (IsBad cast.now.names.now cast.now.workers line.now) }
     requires workers { length floor.old.seats ≡ cast.now.workers }
     requires tenants { length floor.old.books ≡ length cast.now.names.now }
     requires room { HasRoom floor.old 1 }
@@ -144,6 +161,8 @@ fn run_line<K: PeriodKeeper>(
     ensures lost { result ≡ Err Refusal.Behind
         → HasLong STEP_ROOM cast.now.names.now (steps_in cast.now.names.now cast.now.workers (line.now ∷ []))
         (world_of floor.old) (world_of floor.new) }
+    ensures good { OnOk result (¬ (IsBad cast.now.names.now cast.now.workers line.now)) }
+    ensures bad { result ≡ Err Refusal.Bad → IsBad cast.now.names.now cast.now.workers line.now }
     ensures closed { OnOk result (Closes K.takes (steps_in cast.now.names.now cast.now.workers (line.now ∷ []))
         (world_of floor.old) (world_of floor.new) keeper.old keeper.new) }
     ensures workers { length floor.new.seats ≡ length floor.old.seats }
@@ -151,14 +170,83 @@ fn run_line<K: PeriodKeeper>(
     ensures room { (n : ℕ) → HasRoom floor.old (1 + n) → HasRoom floor.new n }
 {
     floor_core::laws::outputs_are_there();
-    let Ok(meaning) = meaning_of_good(alloc, cast.names, cast.workers, line, room) else {
+    let Ok(meaning) = meaning_of(alloc, cast.names, cast.workers, line, room) else {
         return Err(Refusal::Before);
     };
     match meaning {
         Meaning::Skipped => Ok(()),
         Meaning::Runs(step) => run_step(alloc, floor, cast.names, &step, text, keeper),
-        Meaning::Bad => unreachable!(),
+        Meaning::Bad => Err(Refusal::Bad),
     }
+}
+
+// Reads the lines of a script from the first on and does what they say, as long as their output has fewer bytes than
+// `most`. Nothing is written, also if a line is bad or memory runs out. Room is taken for as much output as there is
+// script, of which only what is used costs memory.
+fn run_front<'s, K: PeriodKeeper>(
+    alloc: Global,
+    floor: &mut Floor,
+    cast: &Cast<'_>,
+    most: usize,
+    script: &'s [u8],
+    keeper: &mut K,
+) -> Result<Front<'s>, ReadError<ScriptFault>>
+    requires workers { length floor.old.seats ≡ cast.now.workers }
+    requires tenants { length floor.old.books ≡ length cast.now.names.now }
+    requires room { HasRoom floor.old (length script.now) }
+    requires short { length script.now ≤ MAX_SCRIPT }
+    ensures run { IfOk result (λ front. IsRunTo K.takes cast.now.names.now cast.now.workers script.now front.rest.now
+        floor.old floor.new front.text.items keeper.old keeper.new) }
+    ensures read { IfOk result (λ front.
+        IsReadTo cast.now.names.now cast.now.workers script.now front.number front.rest.now) }
+    ensures numbered { IfOk result (λ front. front.number + length front.rest.now ≤ MAX_SCRIPT + 1) }
+    ensures refused { IfErr result (λ error.
+        Fails error (steps_from cast.now.names.now cast.now.workers 1 (lines_of script.now))) }
+{
+    floor_core::laws::one_after_the_other();
+    floor_core::laws::outputs_are_there();
+    let held = most.min(script.len());
+    let mut room = Vec::new(alloc);
+    let mut text = Vec::with_capacity(alloc, held + STEP_ROOM)?;
+    let mut rest = script;
+    let mut number: usize = 1;
+    while !rest.is_empty() && text.len() < most {
+        let (line, after) = first_line(rest);
+        match run_line(alloc, floor, cast, line, &mut room, &mut text, keeper) {
+            Ok(()) => {}
+            Err(Refusal::Bad) => return Err(ReadError::Fault(ScriptFault::Line(number))),
+            Err(Refusal::Before) | Err(Refusal::Behind) => return Err(ReadError::Memory),
+        }
+        rest = after;
+        number += 1;
+    }
+    Ok(Front { text, rest, number })
+}
+
+// Runs the front of a script, and checks what is left of it.
+fn good_front<'s, K: PeriodKeeper>(
+    alloc: Global,
+    floor: &mut Floor,
+    cast: &Cast<'_>,
+    most: usize,
+    script: &'s [u8],
+    keeper: &mut K,
+) -> Result<Front<'s>, ReadError<ScriptFault>>
+    requires workers { length floor.old.seats ≡ cast.now.workers }
+    requires tenants { length floor.old.books ≡ length cast.now.names.now }
+    requires room { HasRoom floor.old (length script.now) }
+    requires short { length script.now ≤ MAX_SCRIPT }
+    ensures run { IfOk result (λ front. IsRunTo K.takes cast.now.names.now cast.now.workers script.now front.rest.now
+        floor.old floor.new front.text.items keeper.old keeper.new) }
+    ensures good { IfOk result (λ front. NoneIsBad cast.now.names.now cast.now.workers (lines_of front.rest.now)) }
+    ensures steps { OnOk result (steps_of_script cast.now.names.now cast.now.workers script.now
+        ≡ Ok (steps_in cast.now.names.now cast.now.workers (lines_of script.now))) }
+    ensures refused { IfErr result (λ error.
+        Fails error (steps_of_script cast.now.names.now cast.now.workers script.now)) }
+{
+    let front = run_front(alloc, floor, cast, most, script, keeper)?;
+    lines_checked(alloc, cast.names, cast.workers, front.number, front.rest)?;
+    Ok(front)
 }
 
 // Writes the text and empties it, if it is long.
@@ -183,118 +271,96 @@ fn write_if_long<W: Write + Device>(
     Ok(())
 }
 
-// Does what the lines of a script say, all of which are good, and writes the lines of the outputs whenever there are
-// many. If it runs out of memory, the lines of the steps that were done are written. The keeper gets the periods that
-// the steps close.
+// Does what the lines of a script say, all of which are good, and writes a text and the lines of the outputs after it
+// whenever there are many. If it runs out of memory, the lines of the steps that were done are written. The keeper gets
+// the periods that the steps close.
 fn run_lines<K: PeriodKeeper, W: Write + Device>(
     alloc: Global,
     floor: &mut Floor,
     cast: &Cast<'_>,
     script: &[u8],
+    text: &mut Vec<u8>,
     keeper: &mut K,
     writer: &mut W,
-    before: u64,
 ) -> Result<Course, StreamFault>
     requires good { NoneIsBad cast.now.names.now cast.now.workers (lines_of script.now) }
     requires workers { length floor.old.seats ≡ cast.now.workers }
     requires tenants { length floor.old.books ≡ length cast.now.names.now }
     requires room { HasRoom floor.old (length script.now) }
-    requires unfailed { W.failure_count writer.old ≤ before }
-    ensures written { result ≡ Ok Course.Whole → WritesLines cast.now.names.now (world_of floor.old)
-        (steps_in cast.now.names.now cast.now.workers (lines_of script.now)) (W.contents writer.old) (W.contents writer.new) }
+    ensures written { result ≡ Ok Course.Whole → HoldsOfAll cast.now.names.now (world_of floor.old)
+        (steps_in cast.now.names.now cast.now.workers (lines_of script.now)) text.old.items
+        (λ world steps. WritesLines cast.now.names.now world steps (W.contents writer.old) (W.contents writer.new)) }
     ensures closed { result ≡ Ok Course.Whole
         → ClosesAll K.takes (steps_in cast.now.names.now cast.now.workers (lines_of script.now)) (world_of floor.old) keeper.old keeper.new }
-    ensures done { result ≡ Ok Course.Cut → WritesDone cast.now.names.now (world_of floor.old)
-        (steps_in cast.now.names.now cast.now.workers (lines_of script.now)) (world_of floor.new) (W.contents writer.old) (W.contents writer.new) }
-    ensures front { WritesSome cast.now.names.now (world_of floor.old)
-        (steps_in cast.now.names.now cast.now.workers (lines_of script.now)) (W.contents writer.old) (W.contents writer.new) }
+    ensures done { result ≡ Ok Course.Cut → HoldsOfAll cast.now.names.now (world_of floor.old)
+        (steps_in cast.now.names.now cast.now.workers (lines_of script.now)) text.old.items
+        (λ world steps. WritesDone cast.now.names.now world steps (world_of floor.new) (W.contents writer.old) (W.contents writer.new)) }
+    ensures front { HoldsOfAll cast.now.names.now (world_of floor.old)
+        (steps_in cast.now.names.now cast.now.workers (lines_of script.now)) text.old.items
+        (λ world steps. WritesSome cast.now.names.now world steps (W.contents writer.old) (W.contents writer.new)) }
     ensures size { result ≢ Err StreamFault.Size }
-    ensures device { (result ≡ Err StreamFault.Device) ↔ (before < W.failure_count writer.new) }
+    ensures device { (result ≡ Err StreamFault.Device) ↔ (W.failure_count writer.old < W.failure_count writer.new) }
 {
     floor_core::laws::one_after_the_other();
     floor_core::laws::outputs_are_there();
+    let before = writer.failures();
     let mut room = Vec::new(alloc);
-    let mut text = Vec::new(alloc);
     let mut rest = script;
     while !rest.is_empty() {
         let (line, after) = first_line(rest);
-        match run_line(alloc, floor, cast, line, &mut room, &mut text, keeper) {
+        match run_line(alloc, floor, cast, line, &mut room, text, keeper) {
             Ok(()) => {}
             Err(Refusal::Before) => {
                 write_text(writer, text.as_slice(), before)?;
                 return Ok(Course::Cut);
             }
             Err(Refusal::Behind) => return Err(StreamFault::Memory),
+            Err(Refusal::Bad) => unreachable!(),
         }
-        write_if_long(writer, &mut text, before)?;
+        write_if_long(writer, text, before)?;
         rest = after;
     }
     write_text(writer, text.as_slice(), before)?;
     Ok(Course::Whole)
 }
 
-// The script that the reader has left, for the setup's tenants.
-fn good_script<R: Read + Device>(
-    alloc: Global,
-    setup: &Setup,
-    names: &[Name],
-    workers: usize,
-    reader: &mut R,
-) -> Result<Vec<u8>, ReplayFault>
-    requires names { names.now ≡ names_in setup.now }
-    ensures whole { IfOk result (λ script. IfSome (R.remaining reader.old) (λ bytes. script.items ≡ bytes)) }
-    ensures short { IfOk result (λ script. length script.items ≤ MAX_SCRIPT) }
-    ensures good { IfOk result (λ script. NoneIsBad names.now workers (lines_of script.items)) }
-    ensures steps { IfOk result (λ script. steps_of_script names.now workers script.items
-        ≡ Ok (steps_in names.now workers (lines_of script.items))) }
-    ensures refused { IfErr result (λ fault. IsReplayFault fault (Ok setup.now) workers (R.remaining reader.old)) }
-    ensures device { (result ≡ Err ReplayFault.Device) ↔ (R.failure_count reader.old < R.failure_count reader.new) }
-    ensures taken { ConsumesAtMost (MAX_SCRIPT + 1) (R.remaining reader.old) (R.remaining reader.new) }
-{
-    let script = match read_script(alloc, reader) {
-        Ok(script) => script,
-        Err(StreamFault::Memory) => return Err(ReplayFault::Memory),
-        Err(StreamFault::Device) => return Err(ReplayFault::Device),
-        Err(StreamFault::Size) => return Err(ReplayFault::Script(ScriptFault::Size)),
-    };
-    match check_script(alloc, names, workers, script.as_slice()) {
-        Ok(()) => Ok(script),
-        Err(ReadError::Memory) => Err(ReplayFault::Memory),
-        Err(ReadError::Fault(fault)) => Err(ReplayFault::Script(fault)),
-    }
-}
-
-// Runs a good script for the tenants of a setup, who begin anew.
+// Runs a script for the tenants of a setup, who begin anew. Nothing is written before the whole script is known to be
+// good.
 fn run_script<K: PeriodKeeper, W: Write + Device>(
     alloc: Global,
     setup: &Setup,
-    names: &[Name],
-    workers: usize,
+    cast: &Cast<'_>,
+    most: usize,
     script: &[u8],
     keeper: &mut K,
     writer: &mut W,
 ) -> Result<(), ReplayFault>
     requires tenants { (1 ≤ length setup.now.tenants) × (length setup.now.tenants ≤ max_tenants) }
-    requires workers { (1 ≤ workers) × (workers ≤ max_seats) }
-    requires names { names.now ≡ names_in setup.now }
-    requires good { NoneIsBad names.now workers (lines_of script.now) }
+    requires workers { (1 ≤ cast.now.workers) × (cast.now.workers ≤ max_seats) }
+    requires names { cast.now.names.now ≡ names_in setup.now }
     requires short { length script.now ≤ MAX_SCRIPT }
-    ensures written { OnOk result (WritesLines names.now (world_of_setup setup.now)
-        (steps_in names.now workers (lines_of script.now)) (W.contents writer.old) (W.contents writer.new)) }
-    ensures closed { OnOk result (ClosesAll K.takes (steps_in names.now workers (lines_of script.now)) (world_of_setup setup.now)
-        keeper.old keeper.new) }
-    ensures left { OnErr result (Keeps (W.contents writer.old) (W.contents writer.new)
-        ⊎ WritesSome names.now (world_of_setup setup.now)
-        (steps_in names.now workers (lines_of script.now)) (W.contents writer.old) (W.contents writer.new)) }
-    ensures fault { IfErr result (λ fault. (fault ≡ ReplayFault.Device) ⊎ (fault ≡ ReplayFault.Memory)) }
+    ensures written { OnOk result ((text : List ℕ) × IsReplayedFor setup.now cast.now.workers script.now text
+        × Appends (W.contents writer.old) (W.contents writer.new) text) }
+    ensures closed { OnOk result (TakesClosedFor K.takes setup.now cast.now.workers script.now keeper.old keeper.new) }
+    ensures refused { IfErr result (λ fault. IsReplayFault fault (Ok setup.now) cast.now.workers (Some script.now)) }
+    ensures left { IfErr result (λ fault. LeavesWrittenFor fault setup.now cast.now.workers (Some script.now)
+        (W.contents writer.old) (W.contents writer.new)) }
     ensures device { (result ≡ Err ReplayFault.Device) ↔ (W.failure_count writer.old < W.failure_count writer.new) }
+    ensures order { result ≡ Err ReplayFault.Device → refusal_of (Ok setup.now) cast.now.workers script.now ≡ None }
 {
-    let before = writer.failures();
-    let Ok(mut floor) = Floor::new(alloc, setup.tenants.as_slice(), setup.start, workers) else {
+    floor_core::laws::one_after_the_other();
+    let tenants = setup.tenants.as_slice();
+    let Ok(mut floor) = Floor::new(alloc, tenants, setup.start, cast.workers) else {
         return Err(ReplayFault::Memory);
     };
-    let cast = Cast { names, workers };
-    match run_lines(alloc, &mut floor, &cast, script, keeper, writer, before) {
+    let Front { mut text, rest, .. } = match good_front(
+        alloc, &mut floor, cast, most, script, keeper,
+    ) {
+        Ok(front) => front,
+        Err(ReadError::Memory) => return Err(ReplayFault::Memory),
+        Err(ReadError::Fault(fault)) => return Err(ReplayFault::Script(fault)),
+    };
+    match run_lines(alloc, &mut floor, cast, rest, &mut text, keeper, writer) {
         Ok(Course::Whole) => Ok(()),
         Err(StreamFault::Device) => Err(ReplayFault::Device),
         Ok(Course::Cut) | Err(_) => Err(ReplayFault::Memory),
@@ -306,6 +372,7 @@ fn replay_for<K: PeriodKeeper, R: Read + Device, W: Write + Device>(
     alloc: Global,
     setup: &Setup,
     workers: usize,
+    most: usize,
     reader: &mut R,
     keeper: &mut K,
     writer: &mut W,
@@ -331,16 +398,58 @@ fn replay_for<K: PeriodKeeper, R: Read + Device, W: Write + Device>(
     let Ok(names) = setup.names(alloc) else {
         return Err(ReplayFault::Memory);
     };
-    let script = good_script(alloc, setup, names.as_slice(), workers, reader)?;
-    run_script(
-        alloc,
-        setup,
-        names.as_slice(),
+    let script = match read_script(alloc, reader) {
+        Ok(script) => script,
+        Err(StreamFault::Memory) => return Err(ReplayFault::Memory),
+        Err(StreamFault::Device) => return Err(ReplayFault::Device),
+        Err(StreamFault::Size) => return Err(ReplayFault::Script(ScriptFault::Size)),
+    };
+    let cast = Cast {
+        names: names.as_slice(),
         workers,
-        script.as_slice(),
-        keeper,
-        writer,
-    )
+    };
+    run_script(alloc, setup, &cast, most, script.as_slice(), keeper, writer)
+}
+
+// The same as `replay_keeping`, but that the keeper may see periods of a script that turns out bad, as long as fewer bytes
+// than `most` of its lines are held.
+fn replay_holding<K: PeriodKeeper, R: Read + Device, W: Write + Device>(
+    alloc: Global,
+    setup: &[u8],
+    workers: usize,
+    most: usize,
+    reader: &mut R,
+    keeper: &mut K,
+    writer: &mut W,
+) -> Result<(), ReplayFault>
+    requires { (1 ≤ workers) × (workers ≤ max_seats) }
+    // What was written for each tenant are the lines of the one-tenant connector on the tenant's own steps alone.
+    ensures written { OnOk result (IfSome (R.remaining reader.old)
+        (λ script. WritesAll setup.now workers script (W.contents writer.old) (W.contents writer.new))) }
+    // The keeper took just the periods that the steps closed.
+    ensures closed { OnOk result (IfSome (R.remaining reader.old)
+        (λ script. TakesClosed K.takes setup.now workers script keeper.old keeper.new)) }
+    // Which fault it is, and what it leaves.
+    ensures refused { IfErr result (λ fault. IsReplayFault fault (setup_of setup.now) workers (R.remaining reader.old)) }
+    ensures left { IfErr result (λ fault.
+        LeavesWritten fault setup.now workers (R.remaining reader.old) (W.contents writer.old) (W.contents writer.new)) }
+    ensures device { (result ≡ Err ReplayFault.Device)
+        ↔ ((R.failure_count reader.old < R.failure_count reader.new)
+        ⊎ (W.failure_count writer.old < W.failure_count writer.new)) }
+    // The setup is looked at before the devices, and the script before the writer.
+    ensures order { result ≡ Err ReplayFault.Device → IsOk (setup_of setup.now) }
+    ensures script_order { result ≡ Err ReplayFault.Device
+        → R.failure_count reader.new ≤ R.failure_count reader.old
+        → IfSome (R.remaining reader.old) (λ script. refusal_of (setup_of setup.now) workers script ≡ None) }
+    ensures taken { ConsumesAtMost (MAX_SCRIPT + 1) (R.remaining reader.old) (R.remaining reader.new) }
+{
+    admin_text::laws::setups();
+    floor_core::laws::frames_that_go_on();
+    match read_setup(alloc, setup) {
+        Ok(setup) => replay_for(alloc, &setup, workers, most, reader, keeper, writer),
+        Err(ReadError::Memory) => Err(ReplayFault::Memory),
+        Err(ReadError::Fault(fault)) => Err(ReplayFault::Setup(fault)),
+    }
 }
 
 /// Replays the script that the reader has left, as `replay` does, and shows the keeper each period that a roll of the
@@ -377,13 +486,7 @@ pub fn replay_keeping<K: PeriodKeeper, R: Read + Device, W: Write + Device>(
         → IfSome (R.remaining reader.old) (λ script. refusal_of (setup_of setup.now) workers script ≡ None) }
     ensures taken { ConsumesAtMost (MAX_SCRIPT + 1) (R.remaining reader.old) (R.remaining reader.new) }
 {
-    admin_text::laws::setups();
-    floor_core::laws::frames_that_go_on();
-    match read_setup(alloc, setup) {
-        Ok(setup) => replay_for(alloc, &setup, workers, reader, keeper, writer),
-        Err(ReadError::Memory) => Err(ReplayFault::Memory),
-        Err(ReadError::Fault(fault)) => Err(ReplayFault::Setup(fault)),
-    }
+    replay_holding(alloc, setup, workers, 0, reader, keeper, writer)
 }
 
 /// Replays the script that the reader has left, for the setup, and writes a line or more for each of its steps.
@@ -420,5 +523,5 @@ pub fn replay<R: Read + Device, W: Write + Device>(
         → IfSome (R.remaining reader.old) (λ script. refusal_of (setup_of setup.now) workers script ≡ None) }
     ensures taken { ConsumesAtMost (MAX_SCRIPT + 1) (R.remaining reader.old) (R.remaining reader.new) }
 {
-    replay_keeping(alloc, setup, workers, reader, &mut LetGo, writer)
+    replay_holding(alloc, setup, workers, MOST_HELD, reader, &mut LetGo, writer)
 }

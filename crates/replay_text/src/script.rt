@@ -1,14 +1,14 @@
 //! Replay scripts: what each line has a worker do.
 
-ghost use Rattle.std.specs.Prelude.{◌≡◌, ◌<◌, ◌≤◌, ◌↔◌, ℕ, List, Ok, Err, length, option_map, IfOk, OnOk};
+ghost use Rattle.std.specs.Prelude.{◌≡◌, ◌<◌, ◌≤◌, ◌↔◌, ◌+◌, ℕ, List, Ok, Err, length, option_map, IfOk, OnOk};
 ghost use Rattle.std.specs.Result.{result_err};
 ghost use Rattle.replay_text.specs.Script.{lines_of, meaning_of, steps_from, steps_of_script};
-ghost use Rattle.replay_text.specs.Script.{AreSteps, IsBad, IsCheckedAs, IsFirstBad};
+ghost use Rattle.replay_text.specs.Script.{AreSteps, IsCheckedAs, IsFirstBad};
 ghost use Rattle.replay_text.specs.ScriptWrong.{script_fault_alone, script_fault_of};
 ghost use Rattle.floor_core.specs.declared.step.Step.{Step};
 
 use crate::causes::LineFault;
-use crate::lines::{last_fault, line_fault, read_line, read_words, step_of};
+use crate::lines::{line_fault, read_line, step_of};
 use crate::operands::Parties;
 use crate::words::first_line;
 use common_types::{Name, ReadError};
@@ -90,47 +90,29 @@ pub fn meaning_of<'a>(
 ) -> Result<Meaning<'a>, AllocError>
     ensures { IfOk result (λ meaning. meaning ≡ meaning_of names.now workers line.now) }
 {
-    Ok(match read_line(Parties { names, workers }, line) {
-        Ok(Some(spelled)) => match last_fault(alloc, &spelled)? {
-            Some(_) => Meaning::Bad,
-            None => Meaning::Runs(step_of(alloc, &spelled, room)?),
+    match read_line(Parties { names, workers }, line) {
+        Ok(Some(spelled)) => match step_of(alloc, &spelled, room)? {
+            Some(step) => Ok(Meaning::Runs(step)),
+            None => Ok(Meaning::Bad),
         },
-        Ok(None) => Meaning::Skipped,
-        Err(_) => Meaning::Bad,
-    })
-}
-
-/// The same of a line that was found good. What was tested of the whole line and of its last word is not tested again.
-#[tactic(auto, using(crate::proofs::Goods::good_words))]
-pub(crate) fn meaning_of_good<'a>(
-    alloc: Global,
-    names: &[Name],
-    workers: usize,
-    line: &'a [u8],
-    room: &'a mut Vec<u8>,
-) -> Result<Meaning<'a>, AllocError>
-    requires { ¬ (IsBad names.now workers line.now) }
-    ensures { IfOk result (λ meaning. meaning ≡ meaning_of names.now workers line.now) }
-{
-    match read_words(Parties { names, workers }, line) {
-        Ok(Some(spelled)) => Ok(Meaning::Runs(step_of(alloc, &spelled, room)?)),
         Ok(None) => Ok(Meaning::Skipped),
         Err(_) => Ok(Meaning::Bad),
     }
 }
 
-// Whether no line of a text is bad.
+// Whether no line of a text is bad, the first of which has that number.
 fn check_lines<'a>(
     alloc: Global,
     names: &[Name],
     workers: usize,
+    first: usize,
     text: &'a [u8],
 ) -> Result<(), ReadError<ScriptWrong<'a>>>
-    requires { length text.now ≤ MAX_SCRIPT }
-    ensures { IsCheckedAs (script_fault_alone result) (steps_from names.now workers 1 (lines_of text.now)) }
+    requires { first + length text.now ≤ MAX_SCRIPT + 1 }
+    ensures { IsCheckedAs (script_fault_alone result) (steps_from names.now workers first (lines_of text.now)) }
 {
     let mut rest = text;
-    let mut number: usize = 1;
+    let mut number = first;
     while !rest.is_empty() {
         let (line, after) = first_line(rest);
         if let Some(cause) = line_fault(alloc, names, workers, line)? {
@@ -142,17 +124,18 @@ fn check_lines<'a>(
     Ok(())
 }
 
-// The same without the cause.
-fn lines_checked(
+/// Whether no line of a text is bad, the first of which has that number. The fault has the number of the first bad line.
+pub(crate) fn lines_checked(
     alloc: Global,
     names: &[Name],
     workers: usize,
+    first: usize,
     text: &[u8],
 ) -> Result<(), ReadError<ScriptFault>>
-    requires { length text.now ≤ MAX_SCRIPT }
-    ensures { IsCheckedAs result (steps_from names.now workers 1 (lines_of text.now)) }
+    requires { first + length text.now ≤ MAX_SCRIPT + 1 }
+    ensures { IsCheckedAs result (steps_from names.now workers first (lines_of text.now)) }
 {
-    match check_lines(alloc, names, workers, text) {
+    match check_lines(alloc, names, workers, first, text) {
         Ok(()) => Ok(()),
         Err(ReadError::Memory) => Err(ReadError::Memory),
         Err(ReadError::Fault(wrong)) => Err(ReadError::Fault(wrong.fault())),
@@ -193,7 +176,7 @@ pub fn check_script(
     if text.len() > MAX_SCRIPT {
         return Err(ReadError::Fault(ScriptFault::Size));
     }
-    lines_checked(alloc, names, workers, text)
+    lines_checked(alloc, names, workers, 1, text)
 }
 
 /// What is wrong with a script and why, `None` if it is good: the fault that [`check_script`] finds, and what would be
@@ -210,7 +193,7 @@ pub fn explain_script<'a>(
     if text.len() > MAX_SCRIPT {
         return Ok(Some(ScriptWrong::Size));
     }
-    match check_lines(alloc, names, workers, text) {
+    match check_lines(alloc, names, workers, 1, text) {
         Ok(()) => Ok(None),
         Err(ReadError::Memory) => Err(AllocError),
         Err(ReadError::Fault(wrong)) => Ok(Some(wrong)),

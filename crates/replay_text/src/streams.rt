@@ -58,7 +58,7 @@ fn take_some<R: Read + Device>(
 }
 
 /// All that the reader has left, if that is at most 16,777,216 bytes. At most one byte more is taken from it. A read
-/// that failed ends the reading.
+/// that failed ends the reading. Room for a whole script is taken at once, of which only what is used costs memory.
 pub fn read_script<R: Read + Device>(alloc: Global, reader: &mut R) -> Result<Vec<u8>, StreamFault>
     ensures whole { IfOk result (λ text. IfSome (R.remaining reader.old) (λ bytes. text.items ≡ bytes)) }
     ensures short { IfOk result (λ text. length text.items ≤ MAX_SCRIPT) }
@@ -68,7 +68,9 @@ pub fn read_script<R: Read + Device>(alloc: Global, reader: &mut R) -> Result<Ve
     ensures taken { ConsumesAtMost (MAX_SCRIPT + 1) (R.remaining reader.old) (R.remaining reader.new) }
 {
     let before = reader.failures();
-    let mut text = Vec::new(alloc);
+    let Ok(mut text) = Vec::with_capacity(alloc, MAX_SCRIPT + 1) else {
+        return Err(StreamFault::Memory);
+    };
     let mut chunk = [0u8; 65536];
     while text.len() <= MAX_SCRIPT {
         if take_some(reader, &mut chunk, &mut text, before)? == 0 {

@@ -1,8 +1,7 @@
-use Rattle.replay_text.proofs.Composition.{written_for}
+use Rattle.std.proofs.Common.{refl}
+use Rattle.replay_text.proofs.Composition.{long_refused}
 use Rattle.replay_text.proofs.replays.replay_for.Goals as goal
 
-pub returns-clause-written : goal.returns-clause-written
-returns-clause-written g c =
-    let parsed = rw c.as_slice.ensures.value at c.in_ok-script.ensures.steps in
-    let written = rw (c.as_slice-2.ensures.value, c.as_slice-3.ensures.value) at c.run_script.ensures.written in
-    written_for c.in-Ok.names.items _ c.args.workers c.args.setup.now c.in_ok-script.script.items _ _ _ _ c.in-Ok.ensures c.in_ok-script.ensures.whole parsed written
+pub returns-in-Err-Size-clause-refused : goal.returns-in-Err-Size-clause-refused
+returns-in-Err-Size-clause-refused g c =
+    (refl, long_refused c.args.setup.now c.args.workers (g.R.Read.remaining c.args.reader.now) (c.read_script.ensures.size (rw c.in-Err-Size.field-0-is at c.in-Err-Size.is)))

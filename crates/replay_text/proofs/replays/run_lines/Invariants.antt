@@ -1,18 +1,20 @@
 use Rattle.std.proofs.Common.{◌≡◌, ◌≤◌, length}
 use Rattle.floor_core.specs.FloorView.{HasRoom, world_of}
 use Rattle.replay_text.specs.Script.{lines_of, steps_in, NoneIsBad}
-use Rattle.replay_text.proofs.Takings.{AreTaken}
+use Rattle.replay_text.specs.SoFar.{AreTaken, HoldsOfAll}
 use Rattle.replay_text.proofs.Pieces.{Far}
 use Rattle.replay_text.proofs.replays.run_lines.Given as goal
 
 abbrev pub invariant-loop-rest : goal.invariant-loop-rest
 invariant-loop-rest g l = record {
-  far : Far l.cast.names.now (world_of l.fn.floor) (world_of l.floor) (steps_in l.cast.names.now l.cast.workers (lines_of l.script)) (steps_in l.cast.names.now l.cast.workers (lines_of l.rest)) l.text.items (g.W.Write.contents l.fn.writer) (g.W.Write.contents l.writer);
+  far : HoldsOfAll l.cast.names.now (world_of l.fn.floor) (steps_in l.cast.names.now l.cast.workers (lines_of l.script)) l.fn.text.items
+      (λ world steps. Far l.cast.names.now world (world_of l.floor) steps (steps_in l.cast.names.now l.cast.workers (lines_of l.rest)) l.text.items (g.W.Write.contents l.fn.writer) (g.W.Write.contents l.writer));
   taken : AreTaken g.K.PeriodKeeper.takes (world_of l.fn.floor) (world_of l.floor) (steps_in l.cast.names.now l.cast.workers (lines_of l.script)) (steps_in l.cast.names.now l.cast.workers (lines_of l.rest)) l.fn.keeper l.keeper;
   good : NoneIsBad l.cast.names.now l.cast.workers (lines_of l.rest);
   workers : length l.floor.seats ≡ l.cast.workers;
   tenants : length l.floor.books ≡ length l.cast.names.now;
   room : HasRoom l.floor (length l.rest);
+  before : l.before ≡ g.W.Device.failure_count l.fn.writer;
   unfailed : g.W.Device.failure_count l.writer ≤ l.before;
 }
 

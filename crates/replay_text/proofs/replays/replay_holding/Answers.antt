@@ -1,6 +1,6 @@
 use Rattle.replay_text.proofs.Composition.{left_as_read, written_as_read}
 use Rattle.replay_text.proofs.Takings.{taken_as_read}
-use Rattle.replay_text.proofs.replays.replay_keeping.Goals as goal
+use Rattle.replay_text.proofs.replays.replay_holding.Goals as goal
 
 pub returns-in-Ok-clause-written : goal.returns-in-Ok-clause-written
 returns-in-Ok-clause-written g c =

@@ -1,0 +1,41 @@
+-- How far a script is read and run: up to some rest of its lines.
+use Rattle.std.specs.Prelude.{ℕ, ◌≡◌, List, [], ◌++◌, length, Result, Ok, Err}
+use Rattle.floor_core.specs.FloorView.{FloorState, HasRoom, world_of}
+use Rattle.floor_core.specs.World.{World}
+use Rattle.floor_core.specs.declared.step.Step.{Step}
+use Rattle.replay_text.specs.Closed.{Closes, Taking}
+use Rattle.replay_text.specs.Replay.{Prints}
+use Rattle.replay_text.specs.Script.{lines_of, steps_from, steps_in}
+use Rattle.replay_text.specs.declared.script.ScriptFault.{ScriptFault}
+
+-- the steps so far before those that are left
+abbrev pub with_front : List Step → Result (List Step) ScriptFault → Result (List Step) ScriptFault
+with_front front (Ok steps) = Ok (front ++ steps)
+with_front front (Err fault) = Err fault
+
+-- The rest begins with the line of that number. Reading goes on there: no line before it is bad.
+abbrev pub IsReadTo : List (List ℕ) → ℕ → List ℕ → ℕ → List ℕ → Type 0
+IsReadTo names workers script number rest =
+    (front : List Step) × (with_front front (steps_from names workers number (lines_of rest)) ≡ steps_from names workers 1 (lines_of script))
+
+-- steps of a list that are done, and lines of them
+abbrev pub AreSoFar : List (List ℕ) → World → World → List Step → List Step → List ℕ → Type 0
+AreSoFar names before now steps rest text = (done : List Step) × (done ++ rest ≡ steps) × Prints names done before now [] text
+
+-- steps of a list that are done, and the keeper took what they closed
+abbrev pub AreTaken : {K : Type 0} → Taking K → World → World → List Step → List Step → K → K → Type 0
+AreTaken Takes before now steps rest k l = (done : List Step) × (done ++ rest ≡ steps) × Closes Takes done before now k l
+
+-- The steps of a script's lines before the rest lead from one floor to another. Their lines are the text, and the keeper took the
+-- periods that they close. The other floor has room for the steps of the rest.
+pub record IsRunTo {K : Type 0} (Takes : Taking K) (names : List (List ℕ)) (workers : ℕ) (script rest : List ℕ) (before now : FloorState) (text : List ℕ) (k l : K) : Type 0 where
+  pub printed : AreSoFar names (world_of before) (world_of now) (steps_in names workers (lines_of script)) (steps_in names workers (lines_of rest)) text
+  pub taken : AreTaken Takes (world_of before) (world_of now) (steps_in names workers (lines_of script)) (steps_in names workers (lines_of rest)) k l
+  pub workers_are : length now.seats ≡ workers
+  pub tenants_are : length now.books ≡ length names
+  pub room : HasRoom now (length rest)
+
+-- What holds of any steps from any world, if the first of them lead to the world now and have the text as their lines, and
+-- the others are these.
+abbrev pub HoldsOfAll : List (List ℕ) → World → List Step → List ℕ → (World → List Step → Type 0) → Type 0
+HoldsOfAll names now rest text Holds = (world : World) (steps : List Step) → AreSoFar names world now steps rest text → Holds world steps
