@@ -3,6 +3,7 @@ use denote.Struct.Declared.{shape}
 use denote.Param.Send.{IsSend, IsSync, struct_send, struct_sync, recorded_send, recorded_sync, sendable}
 use Rattle.std.proofs.Crossing as std
 use Rattle.floor_core.specs.contracts.slot.Slot as Slot
+use Rattle.floor_core.proofs.slot.Slot.TheSendSync as of_slot
 use Rattle.one_list.specs.declared.run.Run as Run
 use Rattle.one_list.proofs.parts.WorkerPart.TheSendSync as of_part
 use Rattle.tenant_core.specs.contracts.opening.Opening as Opening
@@ -70,7 +71,7 @@ pub share_send : (J : RattleType) (r : Run.Ghosts J.Denot) → IsSend (Share.the
 share_send J r = search (sendable, std.crosses, of_part.the_send, of_ledger.the_send) depth 40
 
 pub slot_send : IsSend Slot.the_row
-slot_send = search (sendable, std.crosses) depth 40
+slot_send = search (sendable, std.crosses, of_slot.the_send) depth 40
 
 pub name_sync : IsSync Name.the_row
 name_sync = search (sendable, std.crosses) depth 40
