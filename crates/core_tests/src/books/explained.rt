@@ -8,7 +8,7 @@ use ilp_addr::{Address, Prefix};
 use std::alloc::Global;
 use std::process::Abort;
 use std::test::Fail;
-use tenant_core::{Book, Expiry, Finding, PrepareKey, TenantSetup, Verdict};
+use tenant_core::{Book, Expiry, Finding, PrepareKey};
 
 /// A packet that is asked of after so many others went on: where it goes, and which check decides. It expires so many
 /// milliseconds after the start.
@@ -172,72 +172,43 @@ static ASKED: [Asked; 17] = [
     },
 ];
 
-// The setup of p0, p1 and p2: packets for g.acme.bob go to p1, and those for g.acme.fee too, at a fee.
-fn setup_of(alloc: Global, asked: &Asked) -> Result<TenantSetup, Fail> {
+// A book of p0, p1 and p2, in which so many packets went on: for g.acme.bob to p1, and for g.acme.fee at a fee.
+fn book_of(alloc: Global, asked: &Asked) -> Result<Book, Fail> {
     let mut network = network(alloc, asked.agreed, 3)?;
     let prefix = Prefix::parse(alloc, b"g.acme.fee")?;
     add_route_to(&mut network, prefix, &called(alloc, 1)?, number(2_000)?)??;
-    Ok(tenant_of(asked.journal, 1_000, 30_000, network)?.ok_or("a setup")?)
-}
-
-fn send_often(book: &mut Book, times: u64) -> Result<(), Fail> {
-    for _ in 0..times {
-        send(book, START)?;
-    }
-    Ok(())
-}
-
-// Their book, after so many packets went on.
-fn book_of(alloc: Global, asked: &Asked) -> Result<Book, Fail> {
-    let setup = setup_of(alloc, asked)?;
+    let setup = tenant_of(asked.journal, 1_000, 30_000, network)?.ok_or("a setup")?;
     let mut book = begun(alloc, 0, &setup, moment(START)?)?;
-    send_often(&mut book, asked.sent)?;
+    for _ in 0..asked.sent {
+        send(&mut book, START)?;
+    }
     Ok(book)
 }
 
-fn explained(book: &Book, asked: &Asked) -> Result<Finding, Fail> {
+fn expect_finding(rt: &impl Abort, alloc: Global, asked: &Asked) -> Result<(), Fail> {
+    let mut book = book_of(alloc, asked)?;
     let destination = Address::parse(asked.destination.as_bytes())?;
-    let key = key_of(asked, &destination)?;
-    Ok(book.explain(asked.token.as_bytes(), &key, moment(START)?))
-}
-
-fn decided(book: &mut Book, asked: &Asked) -> Result<Verdict, Fail> {
-    let destination = Address::parse(asked.destination.as_bytes())?;
-    let key = key_of(asked, &destination)?;
-    Ok(book.decide(asked.token.as_bytes(), &key, moment(START)?))
-}
-
-fn key_of<'a>(asked: &Asked, destination: &'a Address<'a>) -> Result<PrepareKey<'a>, Fail> {
-    Ok(PrepareKey {
+    let key = PrepareKey {
         amount: asked.amount,
         expiry: Expiry::new(START.saturating_add(asked.expiry)).ok_or("an expiry")?,
         condition: &CONDITION,
-        destination,
-    })
-}
-
-// The packet's finding is the expected one, nothing is recorded by asking, and the verdict agrees.
-fn expect_finding(rt: &impl Abort, book: &mut Book, asked: &Asked) -> Result<(), Fail> {
-    let entries = book.entries();
-    let found = explained(book, asked)?;
-    assert!(rt; found == asked.finding, "{}: {found:?}", asked.destination);
+        destination: &destination,
+    };
+    let (token, now) = (asked.token.as_bytes(), moment(START)?);
+    let (wanted, entries) = (asked.finding, book.entries());
+    let found = book.explain(token, &key, now);
+    assert!(rt; found == wanted, "{}: {found:?}", asked.destination);
     assert!(rt; book.entries() == entries);
-    let verdict = decided(book, asked)?;
-    assert!(rt; verdict == found.verdict(), "{}", asked.destination);
+    let verdict = book.decide(token, &key, now);
+    assert!(rt; verdict == found.verdict(), "{found:?}: {verdict:?}");
     Ok(())
 }
 
 #[test]
 fn the_check_that_decides(rt: HostRuntime) -> Result<(), Fail> {
     for asked in &ASKED {
-        let mut book = book_of(rt.alloc(), asked)?;
-        expect_finding(&rt, &mut book, asked)?;
+        expect_finding(&rt, rt.alloc(), asked)?;
     }
-    Ok(())
-}
-
-#[test]
-fn the_tokens_of_peers(rt: HostRuntime) -> Result<(), Fail> {
     let book = book_of(rt.alloc(), &PLAIN)?;
     assert!(&rt; book.token_of(b"p2") == Some(b"p2".as_slice()));
     assert!(&rt; book.token_of(b"p9").is_none());
