@@ -1,6 +1,8 @@
 -- Lists of which one element changes, and the places at which peers stand.
 use Rattle.std.proofs.Common.{take, ◌++◌, ◌+◌, add-one, subst, ◌≡◌, ℕ, ◌<◌, zero, suc, Bool, true, false, cond, eqb, List, [], ◌∷◌, length, get_or, map, refl, sym, ap, ◌∙◌, arith}
-use Rattle.std.specs.Prelude.{option_map, All, Option, Some, None, IfSome, option_and_then}
+use Rattle.std.specs.Prelude.{option_map, All, Option, Some, None, IfSome, option_and_then, Result, Ok, Err, OnOk, if◌then◌else◌}
+use Rattle.money_core.specs.Account.{Account}
+use Rattle.money_core.specs.declared.purse.PurseFault.{PurseFault}
 use Rattle.std.specs.List.{slice_get}
 use Rattle.std.proofs.Math.ListN.{set}
 use Rattle.std.proofs.lemmas.Bool.{eqb-true, eq-eqb, ne_eqb}
@@ -33,6 +35,23 @@ changed_here f xs place i x y is h read made = set-changed_by f xs i x y h read 
 -- what stands at a place that was read
 pub read_at : {X : Type 0} (xs : List X) (i : ℕ) (x : X) → i < length xs → x ≡ get_or xs i x → slice_get xs i ≡ Some x
 read_at xs i x h read = slice_get-get_or xs i x h ∙ ap Some (sym read)
+
+-- the change is one of two, by what is asked for
+pub changed_by : {X : Type 0} (f : Bool → X → X) (b c : Bool) (xs : List X) (place : Option ℕ) (i : ℕ) (x y : X) → b ≡ c → place ≡ Some i
+    → ((k : ℕ) → place ≡ Some k → k < length xs) → x ≡ get_or xs i x → y ≡ f c x → set xs i y ≡ changed_where (f b) xs place
+changed_by f b c xs place i x y asked is inside read made =
+    changed_here (f b) xs place i x y is (inside i is) read (made ∙ ap (λ d. f d x) (sym asked))
+
+-- an account holds what it may
+pub held_here : (holds : Account → Account) (is_past : Account → Bool) (fault : PurseFault) (xs : List Account) (place : Option ℕ) (i : ℕ) (x y : Account) (r : Result (Unit {0}) PurseFault)
+    → place ≡ Some i → ((k : ℕ) → place ≡ Some k → k < length xs) → ((k : ℕ) (a : Account) → place ≡ Some k → slice_get xs k ≡ Some a → is_past a ≡ false)
+    → x ≡ get_or xs i x → r ≡ (if is_past x then Err fault else Ok tt) → OnOk r (y ≡ holds x) → set xs i y ≡ changed_where holds xs place
+held_here holds is_past fault xs place i x y r is inside within read told ok =
+    let there : i < length xs = inside i is in
+    let past : is_past x ≡ false = within i x is (read_at xs i x there read) in
+    let done : r ≡ Ok tt = told ∙ ap (λ b. let r : Result (Unit {0}) PurseFault = if b then Err fault else Ok tt in r) past in
+    let made : y ≡ holds x = subst (λ (r : Result (Unit {0}) PurseFault). OnOk r (y ≡ holds x)) done ok in
+    changed_here holds xs place i x y is there read made
 
 -- lists of what elements become are one where each becomes the same
 pub map-same : {X Y : Type 0} (g g' : X → Y) (xs : List X) → ((k : ℕ) (x : X) → slice_get xs k ≡ Some x → g x ≡ g' x) → map g xs ≡ map g' xs
@@ -138,6 +157,15 @@ changed_peer_is change net n place is inside found =
     ap (λ ps. changed_where change ps place) (sym (map-id net.peers))
     ∙ moved_at change (λ p. p) (λ p. cond (eqb p.number n) (change p) p) n net.peers place (place_numbered_is net n place is inside found)
     (λ p e. rw (eq-eqb p.number n e) refl) (λ p ne. rw (ne_eqb p.number n ne) refl)
+
+-- the same, of a network as it is seen
+pub changed_as_seen : (change : Peer → Peer) (net seen : Net) (n : ℕ) (place : Option ℕ) (now : List Peer) → net ≡ seen → IsNetwork net
+    → IfSome place (λ at. at < length seen.peers) → option_and_then (λ at. slice_get seen.peers at) place ≡ peer_numbered n seen.peers
+    → now ≡ changed_where change net.peers place → now ≡ changed_peer change n net.peers
+changed_as_seen change net seen n place now view is inside found changed =
+    let within = subst (λ (m : Net). IfSome place (λ at. at < length m.peers)) (sym view) inside in
+    let there = subst (λ (m : Net). option_and_then (λ at. slice_get m.peers at) place ≡ peer_numbered n m.peers) (sym view) found in
+    changed ∙ changed_peer_is change net n place is within there
 
 -- a place that is told stands within the list
 pub place_inside : (peers : List Peer) (place : Option ℕ) (i : ℕ) → IfSome place (λ at. at < length peers) → place ≡ Some i → i < length peers

@@ -27,7 +27,7 @@ use Rattle.tenant_core.specs.Present.{network_of, net_after}
 use Rattle.tenant_core.specs.Reopening.{opening_fault}
 use Rattle.tenant_core.specs.Replay.{is_sayable}
 use Rattle.tenant_core.specs.Called.{IsOfBytes}
-use Rattle.tenant_core.specs.State.{State, clock_of, later, extended, recorded}
+use Rattle.tenant_core.specs.State.{State, clock_of, is_of, later, extended, recorded}
 use Rattle.std.specs.Prelude.{pos, ◌+ℤ◌, ◌-ℤ◌, ◌<◌, All, sum_by, not}
 use Rattle.std.specs.List.{slice_get}
 use Rattle.std.proofs.Common.{add-zero}
@@ -36,7 +36,7 @@ use Rattle.std.proofs.lemmas.List.Sums.{sum_by_push}
 use Rattle.money_core.specs.Account.{Account}
 use Rattle.rate_bucket.specs.Bucket.{is_admitted}
 use Rattle.rate_bucket.specs.Running.{Level, RunningLaws}
-use Rattle.tenant_core.specs.Bucket.{is_limited, stretch_of}
+use Rattle.tenant_core.specs.Bucket.{admits, is_limited, stretch_of}
 use Rattle.tenant_core.specs.ChangedAt.{changed_at}
 use Rattle.tenant_core.specs.Following.{charged}
 use Rattle.tenant_core.specs.Purse.{settled_in, settled_out, taken_from, taken_for}
@@ -183,6 +183,24 @@ named_stays s r i o net holds is =
       got = λ n late. sum_by_push (settled_out n) s.records r ∙ (ap (λ k. sum_by (settled_out n) s.records + k) (o n) ∙ (add-zero (sum_by (settled_out n) s.records) ∙ is.got n (subst (λ m. m ≤ n) (sym next) late)));
     }
 
+-- what runs in a book goes on by a record that settles nothing and charges no bucket, where each hold stays between its peers
+stays_running : (b c : Inside) (r : Record) (change : Hold → Hold) → BookInvariant b → ((n : ℕ) → settled_in n r ≡ 0) → ((n : ℕ) → settled_out n r ≡ 0)
+    → ((n : ℕ) → (is_of n r.entry && admits r.outcome) ≡ false) → network_of (recorded (state_of b) (Some r)) ≡ network_of (state_of b)
+    → holds_of (recorded (state_of b) (Some r)) ≡ map change (holds_of (state_of b))
+    → All (λ x. ((change x).from < (network_of (state_of b)).next_peer) × ((change x).to < (network_of (state_of b)).next_peer)) (holds_of (state_of b))
+    → c.holds.holds ≡ holds_of (recorded (state_of b) (Some r)) → c.purses.items ≡ map (purse_by (state_of b) c.holds.holds) b.network.peers
+    → c.buckets.items ≡ b.buckets.items → RunningFollows b c r
+stays_running b c r change k no_in no_out none net after among holds moved same =
+    let s : State = state_of b in
+    record {
+      purses = moved ∙ purses_stay s r c.holds.holds b.network.peers no_in no_out net (sym holds) (ap (λ (x : Net). x.peers) k.network);
+      buckets = subst (λ (ls : List Level). AreLevels (recorded s (Some r)) (network_of (recorded s (Some r))).peers ls) (sym same)
+          (subst (λ (x : Net). AreLevels (recorded s (Some r)) x.peers b.buckets.items) (sym net) (levels_stay s r (network_of s).peers b.buckets.items none k.buckets));
+      named = named_stays s r no_in no_out net
+          (subst (λ (hs : List Hold). All (λ x. (x.from < (network_of s).next_peer) × (x.to < (network_of s).next_peer)) hs) (sym after)
+          (All-map (λ (x : Hold). (x.from < (network_of s).next_peer) × (x.to < (network_of s).next_peer)) change (holds_of s) among)) k.named;
+    }
+
 pub answered_kept : (b c : Inside) (n now clock : ℕ) (key : AnswerKey) (v : Verdict) → BookInvariant b → is_answer key ≡ true → now ≤ last_moment → clock ≡ max b.clock now
     → Follows b c (answer_record n now key v)
     → Some v ≡ option_map (λ h. settle_answer h clock key) (find (is_open_under n) b.holds.holds)
@@ -204,14 +222,7 @@ answered_kept b c n now clock key v k answer early at f settled ended moved same
     ended ∙ (ap (map (hold_ended n (is_fulfill key && is_relay v))) k.holds ∙ sym after) in
     let long : length c.holds.holds ≡ length b.holds.holds = ap length ended ∙ length-map b.holds.holds (hold_ended n (is_fulfill key && is_relay v)) in
     let net = network_of-answer s n now key v in
-    let run : RunningFollows b c r = record {
-      purses = moved ∙ purses_stay s r c.holds.holds b.network.peers (λ m. refl) (λ m. refl) net (sym holds) (ap (λ (x : Net). x.peers) k.network);
-      buckets = subst (λ (ls : List Level). AreLevels (recorded s (Some r)) (network_of (recorded s (Some r))).peers ls) (sym same)
-          (subst (λ (x : Net). AreLevels (recorded s (Some r)) x.peers b.buckets.items) (sym net) (levels_stay s r (network_of s).peers b.buckets.items (λ m. refl) k.buckets));
-      named = named_stays s r (λ m. refl) (λ m. refl) net
-          (subst (λ (hs : List Hold). All (λ x. (x.from < (network_of s).next_peer) × (x.to < (network_of s).next_peer)) hs) (sym after)
-          (All-map (λ (x : Hold). (x.from < (network_of s).next_peer) × (x.to < (network_of s).next_peer)) (hold_ended n (is_fulfill key && is_relay v)) (holds_of s) k.named.holds)) k.named;
-    } in
+    let run = stays_running b c r (hold_ended n (is_fulfill key && is_relay v)) k (λ m. refl) (λ m. refl) (λ m. refl) net after k.named.holds holds moved same in
     kept b c r k f (record { few = omega arith; holds = holds }) run sound
 
 length-extended : {A : Type 0} (xs : List A) (o : Option A) → length (extended xs o) ≤ length xs + 1
@@ -287,14 +298,7 @@ ticked_kept b c now clock count k early at room counted f marked moved same =
     let holds : c.holds.holds ≡ holds_of (recorded s (Some r)) = marked ∙ (here ∙ sym after) in
     let long : length c.holds.holds ≡ length b.holds.holds = ap length marked ∙ length-map b.holds.holds (hold_ticked clock) in
     let net = network_of-tick s now count in
-    let run : RunningFollows b c r = record {
-      purses = moved ∙ purses_stay s r c.holds.holds b.network.peers (λ m. refl) (λ m. refl) net (sym holds) (ap (λ (x : Net). x.peers) k.network);
-      buckets = subst (λ (ls : List Level). AreLevels (recorded s (Some r)) (network_of (recorded s (Some r))).peers ls) (sym same)
-          (subst (λ (x : Net). AreLevels (recorded s (Some r)) x.peers b.buckets.items) (sym net) (levels_stay s r (network_of s).peers b.buckets.items (λ m. refl) k.buckets));
-      named = named_stays s r (λ m. refl) (λ m. refl) net
-          (subst (λ (hs : List Hold). All (λ x. (x.from < (network_of s).next_peer) × (x.to < (network_of s).next_peer)) hs) (sym after)
-          (All-map (λ (x : Hold). (x.from < (network_of s).next_peer) × (x.to < (network_of s).next_peer)) (hold_ticked (max (clock_of s) now)) (holds_of s) k.named.holds)) k.named;
-    } in
+    let run = stays_running b c r (hold_ticked (max (clock_of s) now)) k (λ m. refl) (λ m. refl) (λ m. refl) net after k.named.holds holds moved same in
     kept b c r k f (record { few = omega arith; holds = holds }) run sound
 
 pub changed_kept : (b c : Inside) (order : Order) (change : Changed) (now clock : ℕ) → BookInvariant b → now ≤ last_moment → clock ≡ max b.clock now

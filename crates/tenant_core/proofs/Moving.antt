@@ -231,6 +231,14 @@ moved_out s taken hs ks h peers place all is =
     let out_taken : sum_by (taken_for p.number) ks ≡ sum_by (taken_for p.number) hs = nothing_added _ _ _ m.taken_out (and_other taken h.to p.number h.price ne) in
     same_out (moved_first s hs ks p) _ _ _ _ (ap (λ k. (base_of s p.number +ℤ pos (sum_by (taken_from p.number) ks)) -ℤ pos k) out_taken) out_held)
 
+-- what the first of two moves leaves
+pub first_moved : (s : State) (taken : Bool) (hs : List Hold) (i : ℕ) (h : Hold) (f : Fate) (peers : List Peer) (place : Option ℕ) (before after : List Account)
+    → slice_get hs i ≡ Some h → holds_amounts h.fate ≡ true → holds_amounts f ≡ false → took_amounts f ≡ taken → IsPlaceOf h.from peers place
+    → before ≡ map (purse_by s hs) peers → after ≡ changed_where (moving_in taken h.amount) before place → after ≡ map (moved_first s hs (set hs i (with_fate h f))) peers
+first_moved s taken hs i h f peers place before after at held none takes is was moved =
+    moved ∙ (ap (λ xs. changed_where (moving_in taken h.amount) xs place) was
+    ∙ moved_in s taken hs (set hs i (with_fate h f)) h peers place (λ n. are_moved n taken hs i h f at held none takes) is)
+
 -- what is to be moved is held
 pub held_enough_in : (n : ℕ) (taken : Bool) (hs ks : List Hold) (h : Hold) → AreMoved n taken hs ks h → n ≡ h.from → h.amount ≤ sum_by (held_from n) hs
 held_enough_in n taken hs ks h m e = let i = m.held_in in let x : cond (eqb h.from n) h.amount 0 ≡ h.amount = at_number h.from n h.amount e in omega arith

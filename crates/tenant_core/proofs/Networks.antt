@@ -297,25 +297,50 @@ without_peer_is net n is free =
 
 -- ---- routes
 
-pub with_route_is : (net : Net) (prefix : List ℕ) (hop : Hop) → IsNetwork net → IsSome (peer_numbered hop.peer net.peers) → IsNetwork (with_route net prefix hop)
-with_route_is net prefix hop is there =
+-- rates between peers, one for each pair
+record AreRates (peers : List Peer) (all : List RateTerms) : Type 0 where
+  senders : All (λ r. IsSome (peer_numbered r.from peers)) all
+  receivers : All (λ r. IsSome (peer_numbered r.to peers)) all
+  rates : AreFound pair_of same_pair all
+  apart : All (λ r. eqb r.from r.to ≡ false) all
+  few_rates : length all ≤ max_rates
+
+rates_of : (net : Net) → IsNetwork net → AreRates net.peers net.rates
+rates_of net is = record { senders = is.senders; receivers = is.receivers; rates = is.rates; apart = is.apart; few_rates = is.few_rates }
+
+-- the same peers, with other routes that lead to them, and other rates between them
+among_peers : (net : Net) (next : ℕ) (routes : RouteMap) (rates : List RateTerms) → IsNetwork net → net.next_peer ≤ next → next ≤ max_peer_numbers
+    → ((q : List ℕ) (m : Hop) → get routes q ≡ Some m → IsSome (peer_numbered m.peer net.peers)) → AreRates net.peers rates
+    → IsNetwork (record net { next_peer = next; routes = routes; rates = rates })
+among_peers net next routes rates is later few leads paid =
     record {
       peers = is.peers;
       numbers = is.numbers;
       tokens = is.tokens;
       names = is.names;
       rising = is.rising;
-      next = is.next;
-      few = is.few;
+      next = λ k d l. let less = is.next k d l in omega arith;
+      few = few;
       routes = leads;
-      senders = is.senders;
-      receivers = is.receivers;
-      rates = is.rates;
-      apart = is.apart;
-      few_rates = is.few_rates;
+      senders = paid.senders;
+      receivers = paid.receivers;
+      rates = paid.rates;
+      apart = paid.apart;
+      few_rates = paid.few_rates;
       terms = is.terms;
       balances = is.balances;
     }
+
+as_before : (n : ℕ) → n ≤ n
+as_before n = omega arith
+
+-- a later number for the next peer
+pub skipped_is : (net : Net) (next : ℕ) → IsNetwork net → net.next_peer ≤ next → next ≤ max_peer_numbers → IsNetwork (record net { next_peer = next })
+skipped_is net next is later few = among_peers net next net.routes net.rates is later few is.routes (rates_of net is)
+
+pub with_route_is : (net : Net) (prefix : List ℕ) (hop : Hop) → IsNetwork net → IsSome (peer_numbered hop.peer net.peers) → IsNetwork (with_route net prefix hop)
+with_route_is net prefix hop is there =
+    among_peers net net.next_peer (insert net.routes prefix hop) net.rates is (as_before net.next_peer) is.few leads (rates_of net is)
   where
     leads : (q : List ℕ) (m : Hop) → get (insert net.routes prefix hop) q ≡ Some m → IsSome (peer_numbered m.peer net.peers)
     leads q m e = by (eq_by_cmp (slice_cmp nat_cmp) q prefix) (sym (get-insert nat_list_cmp_total net.routes prefix hop q) ∙ e)
@@ -329,23 +354,7 @@ with_route_is net prefix hop is there =
 
 pub without_route_is : (net : Net) (prefix : List ℕ) → IsNetwork net → IsNetwork (without_route net prefix)
 without_route_is net prefix is =
-    record {
-      peers = is.peers;
-      numbers = is.numbers;
-      tokens = is.tokens;
-      names = is.names;
-      rising = is.rising;
-      next = is.next;
-      few = is.few;
-      routes = leads;
-      senders = is.senders;
-      receivers = is.receivers;
-      rates = is.rates;
-      apart = is.apart;
-      few_rates = is.few_rates;
-      terms = is.terms;
-      balances = is.balances;
-    }
+    among_peers net net.next_peer (remove net.routes prefix) net.rates is (as_before net.next_peer) is.few leads (rates_of net is)
   where
     leads : (q : List ℕ) (m : Hop) → get (remove net.routes prefix) q ≡ Some m → IsSome (peer_numbered m.peer net.peers)
     leads q m e = by (eq_by_cmp (slice_cmp nat_cmp) q prefix) (sym (get-remove nat_list_cmp_total net.routes prefix q) ∙ e)
@@ -367,23 +376,13 @@ pub pushed_rate_is : (net : Net) (r : RateTerms) → IsNetwork net → IsSome (p
     → eqb r.from r.to ≡ false → has_pair r net.rates ≡ false → length net.rates < max_rates → IsNetwork (record net { rates = net.rates ++ r ∷ [] })
 pushed_rate_is net r is from to apart other room =
     let count = length_push net.rates r in
-    record {
-      peers = is.peers;
-      numbers = is.numbers;
-      tokens = is.tokens;
-      names = is.names;
-      rising = is.rising;
-      next = is.next;
-      few = is.few;
-      routes = is.routes;
+    among_peers net net.next_peer net.routes (net.rates ++ r ∷ []) is (as_before net.next_peer) is.few is.routes (record {
       senders = All-push (λ x. IsSome (peer_numbered x.from net.peers)) net.rates r is.senders from;
       receivers = All-push (λ x. IsSome (peer_numbered x.to net.peers)) net.rates r is.receivers to;
       rates = found_push pair_of same_pair net.rates r is.rates (none_found (is_for_pair r.from r.to) net.rates other) (same_itself r);
       apart = All-push (λ x. eqb x.from x.to ≡ false) net.rates r is.apart apart;
       few_rates = omega arith;
-      terms = is.terms;
-      balances = is.balances;
-    }
+    })
 
 pub replaced_rate_is : (net : Net) (r : RateTerms) → IsNetwork net → IsSome (peer_numbered r.from net.peers) → IsSome (peer_numbered r.to net.peers)
     → eqb r.from r.to ≡ false → IsNetwork (record net { rates = replaced_rate r net.rates })
@@ -391,23 +390,13 @@ replaced_rate_is net r is from to apart =
     let put : RateTerms → RateTerms = λ q. cond (is_for_pair r.from r.to q) r q in
     let count = length-map net.rates put in
     let short = is.few_rates in
-    record {
-      peers = is.peers;
-      numbers = is.numbers;
-      tokens = is.tokens;
-      names = is.names;
-      rising = is.rising;
-      next = is.next;
-      few = is.few;
-      routes = is.routes;
+    among_peers net net.next_peer net.routes (map put net.rates) is (as_before net.next_peer) is.few is.routes (record {
       senders = All-map (λ x. IsSome (peer_numbered x.from net.peers)) put net.rates (λ k d l. either (λ x. IsSome (peer_numbered x.from net.peers)) (get_or net.rates k d) from (is.senders k d l));
       receivers = All-map (λ x. IsSome (peer_numbered x.to net.peers)) put net.rates (λ k d l. either (λ x. IsSome (peer_numbered x.to net.peers)) (get_or net.rates k d) to (is.receivers k d l));
       rates = found_map pair_of same_pair put same net.rates is.rates;
       apart = All-map (λ x. eqb x.from x.to ≡ false) put net.rates (λ k d l. either (λ x. eqb x.from x.to ≡ false) (get_or net.rates k d) apart (is.apart k d l));
       few_rates = omega arith;
-      terms = is.terms;
-      balances = is.balances;
-    }
+    })
   where
     either : (P : RateTerms → Type 0) (q : RateTerms) → P r → P q → P (cond (is_for_pair r.from r.to q) r q)
     either P q a b = by (is_for_pair r.from r.to q)

@@ -60,6 +60,10 @@ module _ (rates : List RateTerms) (order : List ℕ) (index : IsByPair rates ord
     pair_found r within searched =
         is_found pairs_total pair (0, 0) rates order index (from, to) (is_for_pair from to) (pair_tests from to) r within searched
 
+  -- where no place was found, the pair has none
+  pub pair_absent : (r : RateTerms) (at : ℕ) → at ≤ length order → IsBinarySearchResult (λ p. pair_cmp (pair_at rates p) (pair r)) order (Err at) → has_pair r rates ≡ false
+  pair_absent r at range searched = pair_found r.from r.to (Err at) range searched
+
   -- a rate more comes last, and its place where the search for its pair ended
   module _ (r : RateTerms) (at : ℕ) (le : at ≤ length order) (searched : IsBinarySearchResult (λ p. pair_cmp (pair_at rates p) (pair r)) order (Err at)) where
     pub pair_added : IsByPair (rates ++ r ∷ []) (insert order at (length rates))

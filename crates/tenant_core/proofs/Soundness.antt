@@ -20,13 +20,14 @@ use Rattle.tenant_core.specs.declared.verdict.RejectCode.TheVariants.{TimedOut, 
 use Rattle.tenant_core.specs.declared.verdict.Verdict.{Verdict}
 use Rattle.tenant_core.specs.declared.verdict.Verdict.TheVariants.{Unknown, NoRoom, Refuse, Forward, Fulfil, Relay}
 use Rattle.tenant_core.specs.Answer.{settle_answer, is_marked, is_misfit, is_fault, answer_record, tick_record, tick_count, has_no_place}
-use Rattle.tenant_core.specs.Called.{is_answer}
+use Rattle.tenant_core.specs.Called.{AreCalled, is_answer}
 use Rattle.tenant_core.specs.Holds.{holds_of, open_holds, open_hold, is_open, is_open_under, is_fulfill, is_relay, awaits_answer, holds_amounts}
 use Rattle.tenant_core.specs.Holds.{hold_ended, hold_ticked, with_fate, begun_by, AreNumbered}
 use Rattle.tenant_core.specs.Key.{Key}
 use Rattle.tenant_core.specs.Network.{Net, IsNetwork, peer_with_token}
 use Rattle.tenant_core.specs.Present.{network_of}
-use Rattle.tenant_core.specs.Replay.{is_sayable}
+use Rattle.tenant_core.specs.Purse.{IsWithinBounds}
+use Rattle.tenant_core.specs.Replay.{IsReplay, is_sayable}
 use Rattle.tenant_core.specs.Called.{IsOfBytes}
 use Rattle.tenant_core.specs.State.{State, clock_of, recorded, extended, later}
 use Rattle.tenant_core.specs.declared.journal.Change.{Change as Changed}
@@ -42,6 +43,30 @@ use Rattle.tenant_core.proofs.Verdicts.{sender_paid}
 
 clock_after : (s : State) (r : Record) → later (clock_of s) r ≤ last_moment → clock_of (recorded s (Some r)) ≤ last_moment
 clock_after s r early = subst (λ n. n ≤ last_moment) (sym (fold_push later s.opening.clock s.records r)) early
+
+-- a state that goes on by a record that keeps the limits
+goes_on : (s : State) (r : Record) → IsSound s → IsReplay (recorded s (Some r)) → AreCalled (recorded s (Some r)) → IsNetwork (network_of (recorded s (Some r)))
+    → length s.records + 1 + open_holds (recorded s (Some r)) ≤ s.opening.journal → AreNumbered s.opening.next_hold (holds_of (recorded s (Some r)))
+    → ((n : ℕ) → IsWithinBounds (recorded s (Some r)) n) → later (clock_of s) r ≤ last_moment → IsSound (recorded s (Some r))
+goes_on s r sound replay calls network fits numbers purses early =
+    let longer = length_push s.records r in
+    record {
+      replay = replay;
+      calls = calls;
+      tenant = sound.tenant;
+      network = network;
+      room = omega arith;
+      journal = sound.journal;
+      places = sound.places;
+      numbers = numbers;
+      purses = purses;
+      hold = sound.hold;
+      some_hold = sound.some_hold;
+      margin = sound.margin;
+      first_hold = sound.first_hold;
+      period = sound.period;
+      clock = clock_after s r early;
+    }
 
 -- ---- a packet was decided
 
@@ -79,27 +104,16 @@ decided_sound s token key now from sound is room sayable octets early told =
     let holds = holds_of-decide s from.number key now v in
     let counted : open_holds (recorded s (Some r)) ≤ open_holds s + 1 =
     subst (λ (hs : List Hold). count_by is_open hs ≤ open_holds s + 1) (sym holds) (decided_count (holds_of s) from.number key now v) in
-    let longer = length_push s.records r in
     let sender = subst (λ o. IfSome o (λ p. has_terms_within p ≡ true)) is (found_passes _ (network_of s).peers sound.network.terms) in
     let paid = sender_paid s from key (max (clock_of s) now) sound.network.terms (has_limits from.terms sender) in
     let last = sound.clock in
-    record {
-      replay = decided_replay s token key now from sound.replay sound.network.numbers is room sayable early;
-      calls = calls_on s r sound.calls (decided_called s token key now from sound.network is room sayable octets told);
-      tenant = sound.tenant;
-      network = subst (λ (x : Net). IsNetwork x) (sym (network_of-decide s from.number key now v)) sound.network;
-      room = omega arith;
-      journal = sound.journal;
-      places = sound.places;
-      numbers = subst (λ (hs : List Hold). AreNumbered s.opening.next_hold hs) (sym holds) (decided_numbers s from.number key now v paid sound.numbers);
-      purses = λ n. decided_within s from.number key now v paid n (sound.purses n);
-      hold = sound.hold;
-      some_hold = sound.some_hold;
-      margin = sound.margin;
-      first_hold = sound.first_hold;
-      period = sound.period;
-      clock = clock_after s r (omega arith);
-    }
+    goes_on s r sound
+    (decided_replay s token key now from sound.replay sound.network.numbers is room sayable early)
+    (calls_on s r sound.calls (decided_called s token key now from sound.network is room sayable octets told))
+    (subst (λ (x : Net). IsNetwork x) (sym (network_of-decide s from.number key now v)) sound.network)
+    (omega arith)
+    (subst (λ (hs : List Hold). AreNumbered s.opening.next_hold hs) (sym holds) (decided_numbers s from.number key now v paid sound.numbers))
+    (λ n. decided_within s from.number key now v paid n (sound.purses n)) (omega arith)
 
 -- ---- a hold was answered
 
@@ -134,26 +148,15 @@ answered_sound s n now key h sound is answer early =
     let holds : holds_of (recorded s (Some r)) ≡ map (hold_ended n b) hs = holds_of-answer s n now key v in
     let counted : count_by is_open (set hs i (with_fate h (Ended b))) + 1 ≡ count_by is_open hs = rw place at (count-ended hs i h b there (rw place «open»)) in
     let fewer : open_holds (recorded s (Some r)) + 1 ≡ open_holds s = rw (holds, ended) counted in
-    let longer = length_push s.records r in
     let fits = sound.room in
     let last = sound.clock in
-    record {
-      replay = answered_replay s n now key h sound.replay is early;
-      calls = calls_on s r sound.calls (answered_called s n now key h is answer);
-      tenant = sound.tenant;
-      network = subst (λ (x : Net). IsNetwork x) (sym (network_of-answer s n now key v)) sound.network;
-      room = omega arith;
-      journal = sound.journal;
-      places = sound.places;
-      numbers = subst (λ (ks : List Hold). AreNumbered s.opening.next_hold ks) (sym holds) (numbered-map (hold_ended n b) (λ x. refl) s.opening.next_hold hs sound.numbers);
-      purses = λ p. moved_within s r (set hs i (with_fate h (Ended b))) p refl refl (holds ∙ ended) (ended_moves p hs i h b there place «open» held) (sound.purses p);
-      hold = sound.hold;
-      some_hold = sound.some_hold;
-      margin = sound.margin;
-      first_hold = sound.first_hold;
-      period = sound.period;
-      clock = clock_after s r (omega arith);
-    }
+    goes_on s r sound
+    (answered_replay s n now key h sound.replay is early)
+    (calls_on s r sound.calls (answered_called s n now key h is answer))
+    (subst (λ (x : Net). IsNetwork x) (sym (network_of-answer s n now key v)) sound.network)
+    (omega arith)
+    (subst (λ (ks : List Hold). AreNumbered s.opening.next_hold ks) (sym holds) (numbered-map (hold_ended n b) (λ x. refl) s.opening.next_hold hs sound.numbers))
+    (λ p. moved_within s r (set hs i (with_fate h (Ended b))) p refl refl (holds ∙ ended) (ended_moves p hs i h b there place «open» held) (sound.purses p)) (omega arith)
 
 -- ---- a moment was handed in
 
@@ -166,25 +169,14 @@ ticked_sound s now sound room early =
     let holds : holds_of (recorded s (Some r)) ≡ map (hold_ticked clock) hs = holds_of-tick s now (tick_count s clock) in
     let counted : open_holds (recorded s (Some r)) ≡ open_holds s = rw holds (ticked_count clock hs) in
     let fits : length s.records + open_holds s + 1 ≤ s.opening.journal = ltb-false _ _ room in
-    let longer = length_push s.records r in
     let last = sound.clock in
-    record {
-      replay = ticked_replay s now sound.replay room early;
-      calls = calls_on s r sound.calls (ticked_called s now room);
-      tenant = sound.tenant;
-      network = subst (λ (x : Net). IsNetwork x) (sym (network_of-tick s now (tick_count s clock))) sound.network;
-      room = omega arith;
-      journal = sound.journal;
-      places = sound.places;
-      numbers = subst (λ (ks : List Hold). AreNumbered s.opening.next_hold ks) (sym holds) (numbered-map (hold_ticked clock) (λ x. refl) s.opening.next_hold hs sound.numbers);
-      purses = λ p. moved_within s r (map (hold_ticked clock) hs) p refl refl holds (ticked_moves p clock hs) (sound.purses p);
-      hold = sound.hold;
-      some_hold = sound.some_hold;
-      margin = sound.margin;
-      first_hold = sound.first_hold;
-      period = sound.period;
-      clock = clock_after s r (omega arith);
-    }
+    goes_on s r sound
+    (ticked_replay s now sound.replay room early)
+    (calls_on s r sound.calls (ticked_called s now room))
+    (subst (λ (x : Net). IsNetwork x) (sym (network_of-tick s now (tick_count s clock))) sound.network)
+    (omega arith)
+    (subst (λ (ks : List Hold). AreNumbered s.opening.next_hold ks) (sym holds) (numbered-map (hold_ticked clock) (λ x. refl) s.opening.next_hold hs sound.numbers))
+    (λ p. moved_within s r (map (hold_ticked clock) hs) p refl refl holds (ticked_moves p clock hs) (sound.purses p)) (omega arith)
 
 -- ---- an order was accepted
 
@@ -196,22 +188,11 @@ changed_sound s order c now sound room early found present allowed network =
     let holds : holds_of (recorded s (Some r)) ≡ holds_of s = holds_of-change s c now in
     let counted : open_holds (recorded s (Some r)) ≡ open_holds s = ap (count_by is_open) holds in
     let fits : length s.records + open_holds s + 1 ≤ s.opening.journal = ltb-false _ _ room in
-    let longer = length_push s.records r in
     let last = sound.clock in
-    record {
-      replay = changed_replay s c now sound.replay room present allowed early;
-      calls = calls_on s r sound.calls (ordered_called s order c now room found allowed);
-      tenant = sound.tenant;
-      network = network;
-      room = omega arith;
-      journal = sound.journal;
-      places = sound.places;
-      numbers = subst (λ (hs : List Hold). AreNumbered s.opening.next_hold hs) (sym holds) sound.numbers;
-      purses = λ n. changed_within s c now n allowed (sound.purses n);
-      hold = sound.hold;
-      some_hold = sound.some_hold;
-      margin = sound.margin;
-      first_hold = sound.first_hold;
-      period = sound.period;
-      clock = clock_after s r (omega arith);
-    }
+    goes_on s r sound
+    (changed_replay s c now sound.replay room present allowed early)
+    (calls_on s r sound.calls (ordered_called s order c now room found allowed))
+    network
+    (omega arith)
+    (subst (λ (hs : List Hold). AreNumbered s.opening.next_hold hs) (sym holds) sound.numbers)
+    (λ n. changed_within s c now n allowed (sound.purses n)) (omega arith)

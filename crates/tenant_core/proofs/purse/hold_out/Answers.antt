@@ -1,19 +1,10 @@
-use Rattle.std.proofs.Common.{◌≡◌, ◌<◌, ℕ, List, length, false, ap, subst, ◌∙◌}
-use Rattle.std.specs.Prelude.{Ok, Err, OnOk, Result, if◌then◌else◌}
-use Rattle.money_core.specs.Account.{Account, is_past_credit}
-use Rattle.money_core.specs.declared.purse.PurseFault.{PurseFault}
-use Rattle.money_core.specs.declared.purse.PurseFault.TheVariants as fault
+use Rattle.money_core.specs.Account.{is_past_credit}
+use Rattle.money_core.specs.declared.purse.PurseFault.TheVariants.{Credit}
 use Rattle.tenant_core.specs.Moves.{holding_out}
-use Rattle.tenant_core.proofs.ChangedLists.{changed_here, read_at}
+use Rattle.tenant_core.proofs.ChangedLists.{held_here}
 use Rattle.tenant_core.proofs.purse.hold_out.Goals as goal
 
 pub returns-in-Some : goal.returns-in-Some
 returns-in-Some c =
-    let xs : List Account = c.args.purses.now.items in
-    let i : ℕ = c.in-Some.place in
-    let a : Account = c.index_mut.result.now in
-    let inside : i < length xs = c.requires.inside i c.in-Some.is in
-    let past : is_past_credit a c.args.amount ≡ false = c.requires.within i a c.in-Some.is (read_at xs i a inside c.index_mut.ensures.value) in
-    let done : c.hold_out.result ≡ Ok tt = c.hold_out.ensures.exact ∙ ap (λ b. let r : Result (Unit {0}) PurseFault = if b then Err fault.Credit else Ok tt in r) past in
-    let made : c.hold_out.new.self ≡ holding_out c.args.amount a = subst (λ (r : Result (Unit {0}) PurseFault). OnOk r (c.hold_out.new.self ≡ holding_out c.args.amount a)) done c.hold_out.ensures.ok in
-    changed_here (holding_out c.args.amount) xs c.args.place i a c.hold_out.new.self c.in-Some.is inside c.index_mut.ensures.value made
+    held_here (holding_out c.args.amount) (λ a. is_past_credit a c.args.amount) Credit c.args.purses.now.items c.args.place c.in-Some.place c.index_mut.result.now c.hold_out.new.self c.hold_out.result
+    c.in-Some.is c.requires.inside c.requires.within c.index_mut.ensures.value c.hold_out.ensures.exact c.hold_out.ensures.ok

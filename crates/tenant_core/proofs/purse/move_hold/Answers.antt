@@ -5,7 +5,7 @@ use Rattle.money_core.specs.Account.{Account}
 use Rattle.tenant_core.specs.ChangedAt.{changed_where}
 use Rattle.tenant_core.specs.Ground.{state_on}
 use Rattle.tenant_core.specs.Holds.{with_fate}
-use Rattle.tenant_core.specs.Moves.{moving_in, moving_out}
+use Rattle.tenant_core.specs.Moves.{moving_out}
 use Rattle.tenant_core.specs.Network.{Net}
 use Rattle.tenant_core.specs.Running.{purse_by}
 use Rattle.tenant_core.specs.State.{State}
@@ -13,7 +13,7 @@ use Rattle.tenant_core.specs.declared.hold.Fate.TheVariants.{Ended}
 use Rattle.tenant_core.specs.declared.hold.Hold.{Hold}
 use Rattle.tenant_core.specs.declared.peer.Peer.{Peer}
 use Rattle.tenant_core.proofs.ChangedLists.{place_numbered_is, place_inside}
-use Rattle.tenant_core.proofs.Moving.{are_moved, moved_first, moved_in, moved_out, made_at, held_enough_in, held_enough_out}
+use Rattle.tenant_core.proofs.Moving.{are_moved, first_moved, moved_first, moved_out, made_at, held_enough_in, held_enough_out}
 use Rattle.tenant_core.proofs.purse.move_hold.Goals as goal
 
 pub move_in-requires-clause-held : goal.move_in-requires-clause-held
@@ -36,10 +36,7 @@ move_out-requires-clause-inside c = λ i e.
     let sender = place_numbered_is net h.from c.place_numbered.result c.requires.network c.place_numbered.ensures.inside c.place_numbered.ensures.value in
     let ks : List Hold = set c.args.holds.now c.args.place (with_fate h (Ended c.args.taken)) in
     let half : c.move_in.new.purses.items ≡ map (moved_first s c.args.holds.now ks) net.peers
-    = c.move_in.ensures
-    ∙ (ap (λ xs. changed_where (moving_in c.args.taken h.amount) xs c.place_numbered.result) c.requires.purses
-    ∙ moved_in s c.args.taken c.args.holds.now ks h net.peers c.place_numbered.result
-    (λ n. are_moved n c.args.taken c.args.holds.now c.args.place h (Ended c.args.taken) c.requires.hold c.requires.held refl refl) sender) in
+    = first_moved s c.args.taken c.args.holds.now c.args.place h (Ended c.args.taken) net.peers c.place_numbered.result _ _ c.requires.hold c.requires.held refl refl sender c.requires.purses c.move_in.ensures in
     let long : length c.move_in.new.purses.items ≡ length net.peers = ap length half ∙ length-map net.peers (moved_first s c.args.holds.now ks) in
     let there : i < length net.peers = place_inside net.peers c.place_numbered-2.result i c.place_numbered-2.ensures.inside e in
     omega arith
@@ -53,10 +50,7 @@ move_out-requires-clause-held c = λ i a e at.
     let receiver = place_numbered_is net h.to c.place_numbered-2.result c.requires.network c.place_numbered-2.ensures.inside c.place_numbered-2.ensures.value in
     let ks : List Hold = set c.args.holds.now c.args.place (with_fate h (Ended c.args.taken)) in
     let half : c.move_in.new.purses.items ≡ map (moved_first s c.args.holds.now ks) net.peers
-    = c.move_in.ensures
-    ∙ (ap (λ xs. changed_where (moving_in c.args.taken h.amount) xs c.place_numbered.result) c.requires.purses
-    ∙ moved_in s c.args.taken c.args.holds.now ks h net.peers c.place_numbered.result
-    (λ n. are_moved n c.args.taken c.args.holds.now c.args.place h (Ended c.args.taken) c.requires.hold c.requires.held refl refl) sender) in
+    = first_moved s c.args.taken c.args.holds.now c.args.place h (Ended c.args.taken) net.peers c.place_numbered.result _ _ c.requires.hold c.requires.held refl refl sender c.requires.purses c.move_in.ensures in
     let made = made_at (moved_first s c.args.holds.now ks) net.peers i a (ap (λ xs. slice_get xs i) (sym half) ∙ at) in
     let p : Peer = made.0 in
     let moved = are_moved p.number c.args.taken c.args.holds.now c.args.place h (Ended c.args.taken) c.requires.hold c.requires.held refl refl in
@@ -74,7 +68,5 @@ returns c = λ fate none takes.
     let moves = λ (n : ℕ). are_moved n c.args.taken c.args.holds.now c.args.place h fate c.requires.hold c.requires.held none takes in
     c.move_out.ensures
     ∙ (ap (λ xs. changed_where (moving_out c.args.taken h.price) xs c.place_numbered-2.result)
-    (c.move_in.ensures
-    ∙ (ap (λ xs. changed_where (moving_in c.args.taken h.amount) xs c.place_numbered.result) c.requires.purses
-    ∙ moved_in s c.args.taken c.args.holds.now ks h net.peers c.place_numbered.result moves sender))
+    (first_moved s c.args.taken c.args.holds.now c.args.place h fate net.peers c.place_numbered.result _ _ c.requires.hold c.requires.held none takes sender c.requires.purses c.move_in.ensures)
     ∙ moved_out s c.args.taken c.args.holds.now ks h net.peers c.place_numbered-2.result moves receiver)

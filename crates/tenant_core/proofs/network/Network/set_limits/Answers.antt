@@ -1,12 +1,10 @@
-use Rattle.std.proofs.Common.{◌≡◌, ◌<◌, List, ap, length, refl, map, subst, sym, ◌∙◌}
-use Rattle.std.specs.Prelude.{IfSome, option_and_then}
-use Rattle.std.specs.List.{slice_get}
+use Rattle.std.proofs.Common.{◌≡◌, List, ap, refl, map, ◌∙◌}
 use Rattle.std.proofs.lemmas.Bool.{and_parts, and_from}
 use Rattle.tenant_core.specs.declared.peer.Peer.{Peer}
-use Rattle.tenant_core.specs.Network.{Net, changed_peer, peer_numbered, with_limits}
+use Rattle.tenant_core.specs.Network.{Net, changed_peer, with_limits}
 use Rattle.tenant_core.specs.Nets.{net_of}
 use Rattle.tenant_core.specs.Places.{token}
-use Rattle.tenant_core.proofs.ChangedLists.{changed_peer_is}
+use Rattle.tenant_core.proofs.ChangedLists.{changed_as_seen}
 use Rattle.tenant_core.proofs.Networks.{one_changed_is, is_network}
 use Rattle.tenant_core.proofs.Tokens.{same_tokens, token_stays}
 use Rattle.tenant_core.proofs.network.Network.set_limits.Goals as goal
@@ -16,10 +14,9 @@ invariant_of-self-2 c =
     let net : Net = net_of c.self.inside in
     let others : List Peer → Net = λ ps. record net { peers = ps } in
     let change : Peer → Peer = λ p. record p { terms = record p.terms { limits = c.args.limits.now } } in
-    let inside = subst (λ (n : Net). IfSome c.place_numbered-place.result (λ at. at < length n.peers)) (sym c.self.view_is) c.place_numbered-place.ensures.inside in
-    let found = subst (λ (n : Net). option_and_then (λ at. slice_get n.peers at) c.place_numbered-place.result ≡ peer_numbered c.args.number n.peers) (sym c.self.view_is) c.place_numbered-place.ensures.value in
     let is : c.change_limits.new.peers.items ≡ changed_peer change c.args.number net.peers =
-    c.in_ok-change_limits.ensures.changed ∙ changed_peer_is change net c.args.number c.place_numbered-place.result c.self.invariant.network inside found in
+    changed_as_seen change net _ c.args.number c.place_numbered-place.result _ c.self.view_is c.self.invariant.network
+    c.place_numbered-place.ensures.inside c.place_numbered-place.ensures.value c.in_ok-change_limits.ensures.changed in
     record {
       network = is_network _ (with_limits net c.args.number c.args.limits.now) (ap others is)
           (one_changed_is net c.args.number change (λ p. refl) (λ p. refl) (λ p. refl)
@@ -29,11 +26,7 @@ invariant_of-self-2 c =
 
 pub returns : goal.returns
 returns c =
-    let net : Net = net_of c.self.inside in
-    let others : List Peer → Net = λ ps. record net { peers = ps } in
     let change : Peer → Peer = λ p. record p { terms = record p.terms { limits = c.args.limits.now } } in
-    let inside = subst (λ (n : Net). IfSome c.place_numbered-place.result (λ at. at < length n.peers)) (sym c.self.view_is) c.place_numbered-place.ensures.inside in
-    let found = subst (λ (n : Net). option_and_then (λ at. slice_get n.peers at) c.place_numbered-place.result ≡ peer_numbered c.args.number n.peers) (sym c.self.view_is) c.place_numbered-place.ensures.value in
-    let is : c.change_limits.new.peers.items ≡ changed_peer change c.args.number net.peers =
-    c.in_ok-change_limits.ensures.changed ∙ changed_peer_is change net c.args.number c.place_numbered-place.result c.self.invariant.network inside found in
-    rw (← c.self.view_is) (refl, ap others is)
+    rw (← c.self.view_is) (refl, ap (λ (ps : List Peer). let n : Net = record (net_of c.self.inside) { peers = ps } in n)
+    (changed_as_seen change (net_of c.self.inside) _ c.args.number c.place_numbered-place.result _ c.self.view_is c.self.invariant.network
+    c.place_numbered-place.ensures.inside c.place_numbered-place.ensures.value c.in_ok-change_limits.ensures.changed))

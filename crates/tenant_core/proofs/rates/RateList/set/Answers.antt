@@ -1,11 +1,11 @@
-use Rattle.std.proofs.Common.{arith, rules, ◌≡◌, ◌<◌, ◌≤◌, ◌++◌, ◌∷◌, [], List, ℕ, length, true, false, Ok, Err, IsOk, sym}
+use Rattle.std.proofs.Common.{arith, rules, ◌≡◌, ◌<◌, ◌≤◌, ◌++◌, ◌∷◌, [], List, ℕ, length, true, Ok, IsOk, sym}
 use Rattle.std.specs.List.{insert}
 use Rattle.std.proofs.lemmas.Grind.{common_steps}
 use Rattle.std.proofs.lemmas.List.{length-set, length_push}
 use Rattle.tenant_core.specs.declared.terms.RateTerms.{RateTerms}
 use Rattle.tenant_core.specs.Limits.{max_rates}
 use Rattle.tenant_core.specs.Network.{has_pair}
-use Rattle.tenant_core.proofs.Pairs.{pair_within, pair_found, pair_added, apart_added, pair_replaced, apart_replaced, set_is}
+use Rattle.tenant_core.proofs.Pairs.{pair_within, pair_found, pair_absent, pair_added, apart_added, pair_replaced, apart_replaced, set_is}
 use Rattle.tenant_core.proofs.rates.RateList.set.Goals as goal
 
 pub index_mut-requires : goal.index_mut-requires
@@ -43,29 +43,25 @@ returns-in-Ok-clause-set c =
 pub returns-clause-set : goal.returns-clause-set
 returns-clause-set c =
     let rates : List RateTerms = c.self.inside.rates.items in
-    let r : RateTerms = c.args.rate.now in
     let range : c.in-Err.at ≤ length c.self.inside.by_pair.items = search rules in
     let searched = rw (c.deref.ensures.value, c.deref-2.ensures.value) at c.in-Err.ensures.position in
-    let absent : has_pair r rates ≡ false =
-    pair_found rates c.self.inside.by_pair.items c.self.invariant.pairs r.from r.to (Err c.in-Err.at) range searched in
-    let pushed : c.push.new.self.items ≡ rates ++ r ∷ [] = search rules in
+    let absent = pair_absent rates c.self.inside.by_pair.items c.self.invariant.pairs c.args.rate.now c.in-Err.at range searched in
+    let pushed : c.push.new.self.items ≡ rates ++ c.args.rate.now ∷ [] = search rules in
     rw (← c.self.view_is, absent) pushed
 
 pub invariant_of-self-2 : goal.invariant_of-self-2
 invariant_of-self-2 c =
     let rates : List RateTerms = c.self.inside.rates.items in
-    let r : RateTerms = c.args.rate.now in
     let range : c.in-Err.at ≤ length c.self.inside.by_pair.items = search rules in
     let searched = rw (c.deref.ensures.value, c.deref-2.ensures.value) at c.in-Err.ensures.position in
-    let absent : has_pair r rates ≡ false =
-    pair_found rates c.self.inside.by_pair.items c.self.invariant.pairs r.from r.to (Err c.in-Err.at) range searched in
-    let pushed : c.push.new.self.items ≡ rates ++ r ∷ [] = search rules in
+    let absent = pair_absent rates c.self.inside.by_pair.items c.self.invariant.pairs c.args.rate.now c.in-Err.at range searched in
+    let pushed : c.push.new.self.items ≡ rates ++ c.args.rate.now ∷ [] = search rules in
     let ok : IsOk c.insert.result = c.insert.ensures.succeeds (search rules) in
     let order : c.insert.new.self.items ≡ insert c.self.inside.by_pair.items c.in-Err.at (length rates) = grind (arith, common_steps, ok) in
     let room : length rates < max_rates = (rw (sym c.self.view_is) at c.requires) absent in
-    let long = length_push rates r in
+    let long = length_push rates c.args.rate.now in
     record {
-      pairs = rw (pushed, order) (pair_added rates c.self.inside.by_pair.items c.self.invariant.pairs r c.in-Err.at range searched);
-      apart = rw pushed (apart_added rates c.self.inside.by_pair.items c.self.invariant.pairs r c.in-Err.at range searched c.self.invariant.apart);
+      pairs = rw (pushed, order) (pair_added rates c.self.inside.by_pair.items c.self.invariant.pairs c.args.rate.now c.in-Err.at range searched);
+      apart = rw pushed (apart_added rates c.self.inside.by_pair.items c.self.invariant.pairs c.args.rate.now c.in-Err.at range searched c.self.invariant.apart);
       few = rw pushed (omega arith);
     }
