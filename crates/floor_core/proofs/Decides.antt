@@ -39,7 +39,7 @@ use Rattle.floor_core.specs.Replies.{decision_reply, busy_reply, refusal_reply, 
 use Rattle.floor_core.specs.Rooms.{refilled}
 use Rattle.floor_core.specs.Work.{Job, Work, Called, decide_call, frame_call, verdict_call, job_decided, only, replied, telling, target_of}
 use Rattle.floor_core.specs.World.{key_in}
-use Rattle.floor_core.specs.SlotView.{job_of, work_of}
+use Rattle.floor_core.specs.SlotView.{IsReadAt, job_of, work_of}
 use Rattle.floor_core.specs.declared.slot.Slot.TheInside.{Inside}
 use Rattle.floor_core.specs.declared.slot.Stage.{Stage}
 use Rattle.floor_core.specs.declared.slot.Stage.TheVariants.{Loaded}
@@ -293,6 +293,18 @@ read_is_readable frame places read = is_there (prepare_at frame) (λ p. ArePlace
 -- what a token and a frame are shown as
 pub shown_as : (P : List ℕ → List ℕ → Type 0) {shown token bytes room : List ℕ} → shown ≡ token → bytes ≡ room → P shown bytes → P token room
 shown_as P {shown} {token} {bytes} {room} t r p = subst (λ (b : List ℕ). P token b) r (subst (λ (k : List ℕ). P k bytes) t p)
+
+-- what a loaded slot decides, by what was shown of it
+pub slot_decided : (x : Inside) (w : Work) (s t : State) (tenant : ℕ) (places : PreparePlaces) (token room : List ℕ) (now : ℕ) (v : Verdict) → work_of x ≡ w → x.stage ≡ Loaded tenant places
+    → s.opening.tenant ≡ tenant → IsReadAt x.stage (take x.frame_len x.frame) → token ≡ x.token → room ≡ x.frame
+    → IfOk (prepare_at (take x.frame_len room)) (λ p. v ≡ judge s token (key_in p) now) → IfOk (prepare_at (take x.frame_len room)) (λ p. t ≡ decided s token (key_in p) now)
+    → IsDecided w s t tenant x.token (take x.frame_len x.frame) now v
+slot_decided x w s t tenant places token room now v view is same read token_is room_is verdict book =
+    let frame : List ℕ = take x.frame_len x.frame in
+    decided_by w s t tenant x.token frame now v (carried x w tenant places view is) same
+    (read_is_readable frame places (subst (λ (y : Stage). IsReadAt y frame) is read))
+    (shown_as (λ k b. IfOk (prepare_at (take x.frame_len b)) (λ p. v ≡ judge s k (key_in p) now)) token_is room_is verdict)
+    (shown_as (λ k b. IfOk (prepare_at (take x.frame_len b)) (λ p. t ≡ decided s k (key_in p) now)) token_is room_is book)
 
 -- what was written into the room that was lent stands in it
 pub written_back : (room lent out reply : List ℕ) (len : ℕ) → lent ≡ room → length out ≡ length lent → Writes lent 0 reply out len
