@@ -1,5 +1,5 @@
 -- Bodies stay what they are where more bytes follow.
-use Rattle.std.proofs.Common.{◌≡◌, inl, inr, ℕ, ◌-◌, ◌≤◌, Bool, List, ◌++◌, length, take, drop, sym, ap, subst, ◌∙◌, arith, append_assoc, length-append, length-drop}
+use Rattle.std.proofs.Common.{◌≡◌, inl, inr, ℕ, ◌-◌, ◌≤◌, Bool, List, [], ◌++◌, append-nil, length, take, drop, sym, ap, subst, ◌∙◌, arith, append_assoc, length-append, length-drop}
 use Rattle.std.specs.List.{flat_map}
 use Rattle.std.proofs.lemmas.List.{drop-append-le, take-append-le}
 use Rattle.httparse.proofs.ChunkLemmas.{ReadsChunkLine-append}
@@ -80,3 +80,21 @@ bad_more (Chunked most) bytes more Malformed h =
     chunked_more most bytes more (bad Malformed) (bad Malformed) h (malformed_more (most - length (contents h.chunks)) h.rest more)
 bad_more (Chunked most) bytes more TooLarge h =
     chunked_more most bytes more (bad TooLarge) (bad TooLarge) h (λ (size, rest, begins, large). (size, rest ++ more, chunk_more h.rest size rest more begins, large))
+
+-- ---- what a stream has, of which a part was taken
+
+-- nothing follows a body in what was taken: it is whole in the stream, and the rest follows it
+pub whole_first : (framing : Framing) (came ys rest body after : List ℕ) → after ≡ [] → rest ≡ came ++ ys → IsBody framing came (whole body after) → IsBody framing rest (whole body ys)
+whole_first framing came ys rest body after nothing parts is =
+    subst (λ (w : List ℕ). IsBody framing w (whole body ys)) (sym parts)
+    (subst (λ (w : List ℕ). IsBody framing (came ++ ys) (whole body (w ++ ys))) nothing (whole_more framing came ys body after is))
+
+-- all was taken
+pub body_of_all : (framing : Framing) (came ys rest : List ℕ) (body : Body) → ys ≡ [] → rest ≡ came ++ ys → IsBody framing came body → IsBody framing rest body
+body_of_all framing came ys rest body over parts is =
+    subst (λ (w : List ℕ). IsBody framing w body) (sym (parts ∙ ap (λ (w : List ℕ). came ++ w) over ∙ append-nil came)) is
+
+-- something is wrong in what was taken
+pub bad_first : (framing : Framing) (came ys rest : List ℕ) (fault : BodyFault) → rest ≡ came ++ ys → IsBody framing came (bad fault) → IsBody framing rest (bad fault)
+bad_first framing came ys rest fault parts is =
+    subst (λ (w : List ℕ). IsBody framing w (bad fault)) (sym parts) (bad_more framing came ys fault is)

@@ -1,7 +1,7 @@
 -- From what is taken and written after a head to what serving a known stream at the operators' door does.
-use Rattle.std.proofs.Common.{◌≡◌, ◌⊎◌, inl, inr, ℕ, List, [], ◌++◌, ◌≤◌, length, length-drop, length-take, take, drop, arith, refl, sym, ap, subst, ◌∙◌, append-nil, Option, Some, None, Result, Ok, Err, IfOk}
+use Rattle.std.proofs.Common.{◌≡◌, ◌⊎◌, inl, inr, ℕ, List, [], ◌++◌, ◌≤◌, length, length-drop, length-take, take, drop, arith, refl, sym, ap, subst, ◌∙◌, Option, Some, None, Result, Ok, Err, IfOk}
 use Rattle.std.proofs.KnownBytes.{Appends-trans, Consumes-nil, Consumes-trans}
-use Rattle.std.specs.Io.KnownBytes.{Appends, Consumes, IsAtEnd}
+use Rattle.std.specs.Io.KnownBytes.{Appends, IsAtEnd}
 use Rattle.httparse.specs.declared.spans.HeaderSpan.{HeaderSpan}
 use Rattle.httparse.specs.declared.spans.RequestSpans.{RequestSpans}
 use Rattle.httparse.specs.Grammar.{RequestHead}
@@ -25,22 +25,15 @@ use Rattle.http_link.specs.declared.operator_request.OperatorRefusal.{OperatorRe
 use Rattle.http_link.specs.declared.serve.Served.{Served}
 use Rattle.http_link.specs.declared.serve.Served.TheVariants.{Closed, Ended}
 use Rattle.http_link.specs.declared.streams.LinkFault.{LinkFault}
-use Rattle.http_link.proofs.Growing.{bad_more, whole_more}
+use Rattle.http_link.proofs.Growing.{bad_first, body_of_all, whole_first, whole_more}
 use Rattle.http_link.proofs.Heads.{nothing_left}
 use Rattle.http_link.proofs.Connections.{found_begins, found_says}
+use Rattle.http_link.proofs.Serving.{same_left, taken_left}
 use Rattle.http_link.proofs.Takes.{none_held}
-
--- what is left behind what was taken
-taken_left : (rest body : List ℕ) (left : Option (List ℕ)) → Consumes (Some rest) left body → (ys : List ℕ) × (left ≡ Some ys) × (rest ≡ body ++ ys)
-taken_left rest body None c = absurd c
-taken_left rest body (Some ys) c = (ys, refl, c)
 
 -- what serving is with that left
 abbrev pub leaving : Option (List ℕ) → OperatorTraces → OperatorTraces
 leaving left traces = record traces { left = left }
-
-same_left : (one other : List ℕ) → Some one ≡ Some other → one ≡ other
-same_left one other e = cc
 
 not_ended : Closed ≡ Ended → ⊥
 not_ended e = absurd cc
@@ -60,24 +53,20 @@ runs_served (Ok sought) head rest left traces served none runs = by_body runs.so
 
     by_body : (body : Body) → IsBody sought.framing runs.came body → ServesOperatorBody sought.wanted head traces served body
         → IsOperatorServed (Ok sought) head rest (leaving left traces) served
-    by_body (whole bytes after) is asked =
-        let nothing : after ≡ [] = same_left after [] (sym asked.left ∙ none) in
-        let grown = whole_more sought.framing runs.came front.0 bytes after is in (
-          whole bytes front.0,
-          subst (λ (w : List ℕ). IsBody sought.framing w (whole bytes front.0)) (sym front.2)
-              (subst (λ (w : List ℕ). IsBody sought.framing (runs.came ++ front.0) (whole bytes (w ++ front.0))) nothing grown),
-          record { status = asked.status; asked = asked.asked; written = asked.written; left = front.1; closed = asked.closed },
-        )
+    by_body (whole bytes after) is asked = (
+      whole bytes front.0,
+      whole_first sought.framing runs.came front.0 rest bytes after (same_left after [] (sym asked.left ∙ none)) front.2 is,
+      record { status = asked.status; asked = asked.asked; written = asked.written; left = front.1; closed = asked.closed },
+    )
     by_body cut is so =
-        let over : front.0 ≡ [] = subst IsAtEnd front.1 (runs.ended so.ended) in
-        let all : rest ≡ runs.came = front.2 ∙ ap (λ (w : List ℕ). runs.came ++ w) over ∙ append-nil runs.came in (
+        let over : front.0 ≡ [] = subst IsAtEnd front.1 (runs.ended so.ended) in (
           cut,
-          subst (λ (w : List ℕ). IsBody sought.framing w cut) (sym all) is,
+          body_of_all sought.framing runs.came front.0 rest cut over front.2 is,
           record { unasked = so.unasked; written = so.written; left = front.1 ∙ ap Some over; ended = so.ended },
         )
     by_body (bad fault) is so = (
       bad fault,
-      subst (λ (w : List ℕ). IsBody sought.framing w (bad fault)) (sym front.2) (bad_more sought.framing runs.came front.0 fault is),
+      bad_first sought.framing runs.came front.0 rest fault front.2 is,
       record { unasked = so.unasked; written = so.written; closed = so.closed },
     )
 
@@ -205,13 +194,7 @@ whole_runs (Ok served) sought head old new has room n Unasked Asks told first mi
   so = (
     whole (take n room) has,
     read.so,
-    record {
-      status = status;
-      asked = asked;
-      written = Appends-trans first mid last (operator_interim sought.wanted.request head) (operator_text sought.wanted.request status told) interim written;
-      left = ap Some (sym none);
-      closed = closed;
-    },
+    record { status = status; asked = asked; written = Appends-trans first mid last (operator_interim sought.wanted.request head) (operator_text sought.wanted.request status told) interim written; left = ap Some (sym none); closed = closed },
   );
   ended = λ is. absurd (not_ended (sym closed ∙ is));
 }

@@ -26,12 +26,12 @@ use Rattle.http_link.specs.declared.serve.Served.TheVariants.{Closed, Ended}
 use Rattle.http_link.specs.declared.streams.LinkFault.{LinkFault}
 use Rattle.http_link.specs.Serving.{Asked, Traces, IsServed, IsAskedOnly, AsksAtMostOnce, ServesBody, asking, kept_unless}
 use Rattle.http_link.specs.Running.{RunsOnHead, AsksWanted}
-use Rattle.http_link.proofs.Growing.{bad_more, whole_more}
+use Rattle.http_link.proofs.Growing.{bad_first, body_of_all, whole_first, whole_more}
 use Rattle.http_link.specs.GrammarLaws.{request_printed}
 use Rattle.http_link.proofs.Heads.{begins_with_taken, nothing_left}
 
 -- what is left behind what was taken
-taken_left : (rest body : List ℕ) (left : Option (List ℕ)) → Consumes (Some rest) left body → (ys : List ℕ) × (left ≡ Some ys) × (rest ≡ body ++ ys)
+pub taken_left : (rest body : List ℕ) (left : Option (List ℕ)) → Consumes (Some rest) left body → (ys : List ℕ) × (left ≡ Some ys) × (rest ≡ body ++ ys)
 taken_left rest body None c = absurd c
 taken_left rest body (Some ys) c = (ys, refl, c)
 
@@ -40,7 +40,7 @@ abbrev pub leaving : Option (List ℕ) → Traces → Traces
 leaving left traces = record traces { left = left }
 
 -- one value of what is left
-same_left : (one other : List ℕ) → Some one ≡ Some other → one ≡ other
+pub same_left : (one other : List ℕ) → Some one ≡ Some other → one ≡ other
 same_left one other e = cc
 
 -- what is done with a head behind which nothing had come, and nothing is held in the end, is what serving the stream does
@@ -57,24 +57,20 @@ runs_served (Ok wanted) head rest left traces served none runs = by_body runs.so
     front = taken_left rest runs.came left runs.taken
 
     by_body : (body : Body) → IsBody wanted.framing runs.came body → ServesBody wanted head traces served body → IsServed (Ok wanted) head rest (leaving left traces) served
-    by_body (whole bytes after) is asked =
-        let nothing : after ≡ [] = same_left after [] (sym asked.left ∙ none) in
-        let grown = whole_more wanted.framing runs.came front.0 bytes after is in (
-          whole bytes front.0,
-          subst (λ (w : List ℕ). IsBody wanted.framing w (whole bytes front.0)) (sym front.2)
-              (subst (λ (w : List ℕ). IsBody wanted.framing (runs.came ++ front.0) (whole bytes (w ++ front.0))) nothing grown),
-          record { status = asked.status; asked = asked.asked; written = asked.written; left = front.1; open_or_not = asked.open_or_not },
-        )
+    by_body (whole bytes after) is asked = (
+      whole bytes front.0,
+      whole_first wanted.framing runs.came front.0 rest bytes after (same_left after [] (sym asked.left ∙ none)) front.2 is,
+      record { status = asked.status; asked = asked.asked; written = asked.written; left = front.1; open_or_not = asked.open_or_not },
+    )
     by_body cut is so =
-        let over : front.0 ≡ [] = subst IsAtEnd front.1 (runs.ended so.ended) in
-        let all : rest ≡ runs.came = front.2 ∙ ap (λ (w : List ℕ). runs.came ++ w) over ∙ append-nil runs.came in (
+        let over : front.0 ≡ [] = subst IsAtEnd front.1 (runs.ended so.ended) in (
           cut,
-          subst (λ (w : List ℕ). IsBody wanted.framing w cut) (sym all) is,
+          body_of_all wanted.framing runs.came front.0 rest cut over front.2 is,
           record { ended = so.ended; unasked = so.unasked; written = so.written; left = front.1 ∙ ap Some over },
         )
     by_body (bad fault) is so = (
       bad fault,
-      subst (λ (w : List ℕ). IsBody wanted.framing w (bad fault)) (sym front.2) (bad_more wanted.framing runs.came front.0 fault is),
+      bad_first wanted.framing runs.came front.0 rest fault front.2 is,
       record { closed = so.closed; unasked = so.unasked; written = so.written },
     )
 

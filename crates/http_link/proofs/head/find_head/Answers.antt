@@ -74,13 +74,12 @@ returns-then-n-eq0-clause-found g c =
     let had = c.loop-spans.intake.held.to in
     let end = c.min-end.result in
     let seen = c.scan.new.seen in
-    let k = c.in_ok-n.n in
     let came = c.loop-spans.invariant.came in
     let sees : Sees g.H.HeadSpans.grammar (take end room) seen (length c.loop-spans.lines) c.scan.new.lines Partial = rw c.in-Partial.is at c.scan.ensures.sees in
     let read = c.in_ok-n.ensures.came in
-    let zero : k ≡ 0 = omega arith in
+    let zero : c.in_ok-n.n ≡ 0 = omega arith in
     let whole : end ≡ had = omega arith in
-    let more = came_more (g.R.Read.remaining c.args.r.now) (g.R.Read.remaining c.loop-spans.r) (g.R.Read.remaining c.fetch.new.r) (take c.args.intake.now.held.to c.args.room.now) room out had end k whole came read.2 in
+    let more = came_more (g.R.Read.remaining c.args.r.now) (g.R.Read.remaining c.loop-spans.r) (g.R.Read.remaining c.fetch.new.r) (take c.args.intake.now.held.to c.args.room.now) room out had end c.in_ok-n.n whole came read.2 in
     let all : take seen (take end room) ≡ take end room = take_all seen (take end room) (omega (arith, sees.1)) in
     let parts : take had out ≡ take seen (take end room) ++ read.2.0 =
     ap (λ n. take n out) (omega arith) ∙ read.2.1 ∙ ap (λ (w : List ℕ). w ++ read.2.0) (sym all) in
@@ -100,14 +99,13 @@ loop-spans-preserved g c =
     let had = c.loop-spans.intake.held.to in
     let end = c.min-end.result in
     let seen = c.scan.new.seen in
-    let k = c.in_ok-n.n in
     let sees : Sees g.H.HeadSpans.grammar (take end room) seen (length c.loop-spans.lines) c.scan.new.lines Partial = rw c.in-Partial.is at c.scan.ensures.sees in
     let read = c.in_ok-n.ensures.came in
     let whole : end ≡ had = omega arith in
     let inside = c.scan.ensures.seen in
     let most : seen ≤ end = omega (arith, length-take end room) in
     let same : take seen out ≡ take seen (take end room) =
-    sym (take-take seen (end + k) out (omega arith)) ∙ ap (take seen) read.2.1 ∙ take-append-le seen (take end room) read.2.0 inside in
+    sym (take-take seen (end + c.in_ok-n.n) out (omega arith)) ∙ ap (take seen) read.2.1 ∙ take-append-le seen (take end room) read.2.0 inside in
     let fits = read.0 in
     let lines : length c.loop-spans.lines ≡ length c.scan.new.lines = omega arith in
     record {
@@ -115,7 +113,7 @@ loop-spans-preserved g c =
       there = omega arith;
       len = omega arith;
       lines = omega arith;
-      came = came_more (g.R.Read.remaining c.args.r.now) (g.R.Read.remaining c.loop-spans.r) (g.R.Read.remaining c.fetch.new.r) (take c.args.intake.now.held.to c.args.room.now) room out had end k whole c.loop-spans.invariant.came read.2;
+      came = came_more (g.R.Read.remaining c.args.r.now) (g.R.Read.remaining c.loop-spans.r) (g.R.Read.remaining c.fetch.new.r) (take c.args.intake.now.held.to c.args.room.now) room out had end c.in_ok-n.n whole c.loop-spans.invariant.came read.2;
       seen = omega arith;
       few = omega arith;
       exact = λ needed none.
