@@ -1,6 +1,6 @@
 -- Periods, one after another.
 use Rattle.std.proofs.Common.{◌≡◌, ◌≢◌, ℕ, zero, suc, ◌+◌, ◌<◌, ◌≤◌, List, length, Option, Some, None, slice_get, unwrap_or, Contains, refl, sym, ap, subst, ◌∙◌, arith, inl, inr}
-use Rattle.std.proofs.lemmas.Option.{slice_get_within}
+use Rattle.std.proofs.lemmas.Option.{get_or_from_slice_get, slice_get-get_or, slice_get_within}
 use mathlib.Core.Logic.{dite}
 use native.Mathlib.Decide.{ℕ_discrete}
 use Rattle.tenant_core.specs.Closing.{IsPeriod}
@@ -8,17 +8,14 @@ use Rattle.tenant_core.specs.declared.period.PeriodParts.{PeriodParts}
 use Rattle.receipts.specs.Audits.{AreJoined, HasGap, IsNumbered}
 use Rattle.receipts.specs.Layout.{AreOfRolls, HasMapPerTenant, IsIndexUpTo, IsLedAt, place_in}
 use Rattle.receipts.specs.declared.index.Index.{Index}
-use Rattle.receipts.proofs.Places.{read_there}
 
 -- what is read is an element
 pub is_element : {A : Type 0} (xs : List A) (k : ℕ) (x : A) → slice_get xs k ≡ Some x → Contains xs x
-is_element {A = A} xs k x e =
-    let below = slice_get_within xs k x e in
-    (k, below, ap (λ (o : Option A). unwrap_or o x) (sym (read_there xs k x below) ∙ e))
+is_element {A = A} xs k x e = (k, slice_get_within xs k x e, get_or_from_slice_get xs k x x e)
 
 -- an element is read
 pub is_read : {A : Type 0} (xs : List A) (x : A) → Contains xs x → (k : ℕ) × (slice_get xs k ≡ Some x)
-is_read {A = A} xs x c = (c.0, read_there xs c.0 x c.1 ∙ ap Some c.2)
+is_read {A = A} xs x c = (c.0, slice_get-get_or xs c.0 x c.1 ∙ ap Some c.2)
 
 -- the ending of a period has the tenant's number, and the next number
 pub ends_next : (p : PeriodParts) → IsPeriod p → (p.ending.tenant ≡ p.opening.tenant) × (p.ending.period ≡ p.opening.period + 1)

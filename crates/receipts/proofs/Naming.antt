@@ -1,6 +1,7 @@
 -- Receipts beside the records that they name.
 use Rattle.std.proofs.Common.{◌≡◌, ℕ, zero, suc, ◌+◌, ◌<◌, ◌≤◌, ◌⊎◌, List, [], ◌∷◌, ◌++◌, length, map, take, Option, Some, None, slice_get, slice_set, slice_index, get_or, unwrap_or, refl, sym, ap, subst, ◌∙◌, arith, inl, inr}
-use Rattle.std.proofs.lemmas.Option.{slice_get_read, slice_get_within}
+use Rattle.std.proofs.lemmas.Option.{slice_get-map, slice_get_read, slice_get_within}
+use Rattle.std.specs.Prelude.{option_map}
 use Rattle.std.proofs.lemmas.List.Sums.{sum_by-cons}
 use mathlib.Core.Logic.{dite}
 use native.Mathlib.Decide.{ℕ_discrete, dec_lt}
@@ -350,9 +351,7 @@ point_more {A = A} {B = B} f xs n x e =
     subst P next (point_behind f xs n x e)
 
 pub point_at : {A B : Type 0} (f : A → B) (xs : List A) (n : ℕ) (x : A) → slice_get xs n ≡ Some x → slice_get (map f xs) n ≡ Some (f x)
-point_at {A = A} {B = B} f [] n x e = let below = slice_get_within [] n x e in absurd (omega arith)
-point_at {A = A} {B = B} f (y ∷ ys) zero x e = let same : y ≡ x = ap (λ (o : Option A). unwrap_or o y) e in ap (λ (z : A). Some (f z)) same
-point_at {A = A} {B = B} f (y ∷ ys) (suc n) x e = point_at f ys n x e
+point_at {A = A} {B = B} f xs n x e = slice_get-map f xs n ∙ ap (option_map f) e
 
 -- an element of what is shown is shown of an element
 pub point_from : {A B : Type 0} (f : A → B) (xs : List A) (n : ℕ) (y : B) → slice_get (map f xs) n ≡ Some y → (x : A) × (slice_get xs n ≡ Some x) × (f x ≡ y)
