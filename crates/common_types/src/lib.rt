@@ -29,5 +29,5 @@ pub use numerals::{NumberFault, are_digits, is_numeral, number_in, value_of};
 pub use read_error::ReadError;
 pub use spare::Spare;
 pub use text::Text;
-pub use token::{MAX_TOKEN, is_token};
+pub use token::{MAX_TOKEN, is_plain_byte, is_token};
 pub use words::{Words, first_word};

@@ -6,6 +6,8 @@ ghost use Rattle.std.specs.Iterator.{item_count};
 ghost use Rattle.ilp_addr.specs.Address as spec;
 ghost use Rattle.ilp_addr.specs.Address.{segments, prefix_segments, begins_with};
 
+use common_types::is_plain_byte;
+
 /// The parts of an address or of a prefix between its dots, the scheme first.
 #[derive(Debug, Drop)]
 pub struct Segments<'a> {
@@ -92,21 +94,11 @@ pub(crate) fn are_segments(bytes: &[u8]) -> bool
     all & !at_begin
 }
 
-// A byte that a segment may have, at its own index. Any other index has a comma.
-static SEGMENT_MAP: [u8; 256] = *b"\
-    ,,,,,,,,,,,,,,,,,,,,,,,,,,,,,,,,\
-    ,,,,,,,,,,,,,-,,0123456789,,,,,,\
-    ,ABCDEFGHIJKLMNOPQRSTUVWXYZ,,,,_\
-    ,abcdefghijklmnopqrstuvwxyz,,,~,\
-    ,,,,,,,,,,,,,,,,,,,,,,,,,,,,,,,,\
-    ,,,,,,,,,,,,,,,,,,,,,,,,,,,,,,,,\
-    ,,,,,,,,,,,,,,,,,,,,,,,,,,,,,,,,\
-    ,,,,,,,,,,,,,,,,,,,,,,,,,,,,,,,,";
-
+#[tactic(auto, unfolding(crate::specs::Address::is_segment_byte))]
 fn is_segment_byte(byte: u8) -> bool
     ensures { result ≡ spec.is_segment_byte byte }
 {
-    SEGMENT_MAP[byte as usize] != b','
+    is_plain_byte(byte)
 }
 
 #[tactic(auto, unfolding(crate::specs::Address::is_scheme))]
