@@ -8,7 +8,7 @@ mod reopen;
 use crate::arena::Journal;
 use crate::command::{Answered, Command, Order};
 use crate::faults::{BookFault, CommandFault, HoldFault};
-use crate::fresh::{begin_period, next_period};
+use crate::fresh::next_period;
 use crate::ground::Ground;
 use crate::hold::{Hold, begun_by};
 use crate::hold_table::HoldTable;
@@ -95,20 +95,10 @@ impl Book {
         ensures { IfOk result (λ book. book ≡ opened (opening_of tenant setup.now start)) }
     {
         setup.terms();
-        let clock = start.millis();
+        start.millis();
         let opening = Opening::first(alloc, tenant, setup, start)?;
         opening.network.is_network();
-        rate_bucket::laws::running();
-        let fresh = begin_period(alloc, &opening.network, opening.journal)?;
-        Ok(Book {
-            opening,
-            network: fresh.network,
-            journal: fresh.journal,
-            clock,
-            holds: fresh.holds,
-            purses: fresh.purses,
-            buckets: fresh.buckets,
-        })
+        Book::begun(alloc, opening)
     }
 
     /// A copy of the book, with as much room. Fails only if it is out of memory.

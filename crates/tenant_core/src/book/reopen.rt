@@ -1,9 +1,10 @@
 //! Books that begin with any opening.
 
-ghost use Rattle.std.specs.Prelude.{◌≡◌};
+ghost use Rattle.std.specs.Prelude.{◌≡◌, None, IfOk};
 ghost use Rattle.std.specs.List.{list_all};
 ghost use Rattle.common_types.specs.Outcomes.{GivesUnlessMemory};
 ghost use Rattle.tenant_core.specs.Reopening.{is_fresh, opening_fault, reopened};
+ghost use Rattle.tenant_core.specs.State.{opened};
 
 use super::Book;
 use crate::faults::OpeningFault;
@@ -14,7 +15,7 @@ use crate::peer::Peer;
 use common_types::ReadError;
 use ilp_addr::Moment;
 use rate_bucket::full_bucket;
-use std::alloc::Global;
+use std::alloc::{AllocError, Global};
 
 fn is_fresh(peer: &Peer, clock: u64) -> bool
     ensures { result ≡ is_fresh clock peer.now }
@@ -67,6 +68,14 @@ impl Book {
         if let Some(fault) = opening.fault() {
             return Err(ReadError::Fault(fault));
         }
+        Ok(Book::begun(alloc, opening)?)
+    }
+
+    /// The book of a period that begins with an opening that breaks no limit. Fails only if it is out of memory.
+    pub(crate) fn begun(alloc: Global, opening: Opening) -> Result<Book, AllocError>
+        requires { opening_fault opening ≡ None }
+        ensures { IfOk result (λ book. book ≡ opened opening) }
+    {
         opening.network.is_network();
         rate_bucket::laws::running();
         let fresh = begin_period(alloc, &opening.network, opening.journal)?;

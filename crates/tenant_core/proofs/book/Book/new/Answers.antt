@@ -16,7 +16,7 @@ use Rattle.tenant_core.proofs.Openings.{AreFresh, begun_fresh}
 use Rattle.tenant_core.proofs.Presents.{network_of-opened}
 use Rattle.tenant_core.proofs.Purses.{opened_within}
 use Rattle.tenant_core.proofs.Replays.{opened_replay}
-use Rattle.tenant_core.proofs.Rolls.{empty_kept, fresh_empty}
+use Rattle.tenant_core.proofs.Reopenings.{opening_free}
 use Rattle.tenant_core.proofs.book.Book.new.Goals as goal
 
 -- the limits of a setup
@@ -62,8 +62,8 @@ first_sound o tenant within period first clock network =
       clock = clock;
     }
 
-pub invariant_of-result : goal.invariant_of-result
-invariant_of-result c =
+pub begun-requires : goal.begun-requires
+begun-requires c =
     let t : TenantTerms = c.args.setup.now in
     let legal : is_tenant_setup t ≡ true = subst (λ (x : TenantTerms). is_tenant_setup x ≡ true) c.terms.ensures.same c.terms.ensures.within in
     let o : Opening = c.in_ok-opening.opening in
@@ -75,10 +75,8 @@ invariant_of-result c =
     let period : o.period ≡ 0 = ap (λ (x : Opening). x.period) e in
     let first : o.next_hold ≡ 0 = ap (λ (x : Opening). x.next_hold) e in
     let begins : o.clock ≡ start = ap (λ (x : Opening). x.clock) e in
-    let clock : o.clock ≡ c.millis-clock.result = begins ∙ sym c.millis-clock.ensures.value in
-    let early : o.clock ≤ last_moment = subst (λ (n : ℕ). n ≤ last_moment) (sym clock) c.millis-clock.ensures.bound in
+    let early : o.clock ≤ last_moment = subst (λ (n : ℕ). n ≤ last_moment) (sym (begins ∙ sym c.millis.ensures.value)) c.millis.ensures.bound in
     let network : IsNetwork o.network = c.is_network.ensures in
     let fresh : AreFresh o.clock o.network.peers =
     subst (λ (x : Opening). AreFresh x.clock x.network.peers) (sym e) (begun_fresh t.network start) in
-    empty_kept c.running.ensures _ (first_sound o tenant within period first early network) network fresh
-    (fresh_empty o c.millis-clock.result c.in_ok-fresh.fresh clock c.in_ok-fresh.ensures)
+    opening_free o (first_sound o tenant within period first early network) fresh
