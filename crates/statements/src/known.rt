@@ -6,7 +6,7 @@ ghost use Rattle.statements.specs.Known.{IsOtherSetup, IsSameSetup, IsStatedAs};
 
 use route_table::{Route, Routes};
 use std::alloc::{AllocError, Global};
-use tenant_core::{Network, Opening, Peer, PeerNo, RateTerms, TenantTerms};
+use tenant_core::{Network, Opening, Peer, PeerNo, RateTerms, TenantTerms, are_same_rates};
 
 // Whether the same is agreed with two peers, and they owe the same.
 fn is_known_as(peer: &Peer, other: &Peer) -> bool
@@ -49,20 +49,6 @@ fn are_stated_as(peers: &[Peer], others: &[Peer]) -> bool
     }
     for place in 0..peers.len() {
         if !is_stated_as(&peers[place], &others[place]) {
-            return false;
-        }
-    }
-    true
-}
-
-fn are_same_rates(rates: &[RateTerms], others: &[RateTerms]) -> bool
-    ensures { IsTrue result ↔ (rates.now ≡ others.now) }
-{
-    if rates.len() != others.len() {
-        return false;
-    }
-    for place in 0..rates.len() {
-        if !rates[place].is_same(&others[place]) {
             return false;
         }
     }

@@ -55,6 +55,7 @@ pub use period::{Period, Records};
 pub use record_view::{DecideView, EntryView, RecordView};
 pub use route_table::{Fee, Hop, PeerNo};
 pub use row::Row;
+pub use same::are_same_rates;
 pub use setup::TenantSetup;
 pub use shared::Shared;
 pub use terms::{Balance, BucketTerms, Money, PeerLimits, PeerTerms, RateTerms, TenantTerms};

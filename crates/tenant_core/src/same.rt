@@ -84,7 +84,8 @@ fn are_same_peers(peers: &[Peer], others: &[Peer]) -> bool
     true
 }
 
-fn are_same_rates(rates: &[RateTerms], others: &[RateTerms]) -> bool
+/// Whether the other rates are the same, in the same order.
+pub fn are_same_rates(rates: &[RateTerms], others: &[RateTerms]) -> bool
     ensures { IsTrue result ↔ (rates.now ≡ others.now) }
 {
     if rates.len() != others.len() {
