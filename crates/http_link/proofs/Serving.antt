@@ -24,7 +24,7 @@ use Rattle.http_link.specs.declared.bodies.BodyRead.TheVariants.{Bad, Cut, Whole
 use Rattle.http_link.specs.declared.serve.Served.{Served}
 use Rattle.http_link.specs.declared.serve.Served.TheVariants.{Closed, Ended}
 use Rattle.http_link.specs.declared.streams.LinkFault.{LinkFault}
-use Rattle.http_link.specs.Serving.{Asked, Traces, IsServed, IsAskedOnly, AsksAtMostOnce, ServesBody, asking, kept_unless}
+use Rattle.http_link.specs.Serving.{Asked, Traces, IsServed, IsAskedOnly, AsksAtMostOnce, ServesBody, asking, kept_unless, traces_of}
 use Rattle.http_link.specs.Running.{RunsOnHead, AsksWanted}
 use Rattle.http_link.proofs.Growing.{bad_first, body_of_all, whole_first, whole_more}
 use Rattle.http_link.specs.GrammarLaws.{request_printed}
@@ -234,7 +234,7 @@ wanted_cut old new want other had is few = subst (λ (w : Result Wanted ℕ). (n
 
 -- what serving is, part by part
 abbrev pub traced : (Unasked : Type 0) → (Asked → Type 0) → (answer : List ℕ) → (Writes : List ℕ → Type 0) → (left : List ℕ) → Traces
-traced Unasked Asks answer Writes left = record { Unasked = Unasked; Asks = Asks; answer = answer; left = Some left; Writes = Writes }
+traced Unasked Asks answer Writes left = traces_of Unasked Asks answer (Some left) Writes
 
 -- a connection that is kept or closed has not ended
 never_ended : (closed : Bool) → kept_unless closed ≡ Ended → ⊥

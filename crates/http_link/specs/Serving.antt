@@ -32,6 +32,10 @@ pub record Traces : Type 1 where
   pub left : Option (List ℕ)
   pub Writes : List ℕ → Type 0
 
+-- these, part by part
+abbrev pub traces_of : (Unasked : Type 0) → (Asked → Type 0) → (answer : List ℕ) → (left : Option (List ℕ)) → (Writes : List ℕ → Type 0) → Traces
+traces_of Unasked Asks answer left Writes = record { Unasked = Unasked; Asks = Asks; answer = answer; left = left; Writes = Writes }
+
 -- whether the connection stays open
 abbrev pub kept_unless : Bool → Served
 kept_unless closed = if closed then Closed else Kept

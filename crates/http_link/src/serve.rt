@@ -14,7 +14,7 @@ ghost use Rattle.http_link.specs.Lines.{head_at, head_in, wanted_at};
 ghost use Rattle.http_link.specs.Requests.{closes, wanted_of};
 ghost use Rattle.http_link.specs.Answers.{refusal_text, continue_text, answer_text, told_body};
 ghost use Rattle.http_link.specs.Serving.{IsServed, IsAskedOnly, AsksAtMostOnce, WritesNothingOr400};
-ghost use Rattle.http_link.specs.Serving.{asking, kept_unless};
+ghost use Rattle.http_link.specs.Serving.{asking, kept_unless, traces_of};
 ghost use Rattle.http_link.specs.Running.{RunsOnHead, AsksWanted, held_in};
 ghost use Rattle.http_link.specs.Limits.{max_body};
 
@@ -192,13 +192,9 @@ pub(crate) fn serve_head<R: Source, W: Sink, S: Service>(
     ensures len { length room.new ≡ length room.old }
     ensures lies { LiesBehind 0 room.new intake.new.held }
     ensures runs { IfOk result (RunsOnHead (wanted_of (S.tenant_of service.old) (head_at head.now)) (head_at head.now)
-        (held_in room.old intake.old.held) (R.remaining r.old) (R.remaining r.new) (record {
-          Unasked = service.new ≡ service.old;
-          Asks = λ question. S.asks service.old question service.new;
-          answer = S.answer service.new;
-          left = Some (held_in room.new intake.new.held);
-          Writes = λ text. Appends (W.contents w.old) (W.contents w.new) text;
-        })) }
+        (held_in room.old intake.old.held) (R.remaining r.old) (R.remaining r.new) (traces_of (service.new ≡ service.old)
+        (λ question. S.asks service.old question service.new) (S.answer service.new) (Some (held_in room.new intake.new.held))
+        (λ text. Appends (W.contents w.old) (W.contents w.new) text))) }
     ensures asks { AsksWanted (wanted_of (S.tenant_of service.old) (head_at head.now)) (held_in room.old intake.old.held)
         (R.remaining r.old) (R.remaining r.new) (service.new ≡ service.old) (λ question. S.asks service.old question service.new) }
     ensures unread { result ≡ Err LinkFault.Read → service.new ≡ service.old }
@@ -239,13 +235,9 @@ fn serve_wanted<R: Source, W: Sink, S: Service>(
     ensures len { length room.new ≡ length room.old }
     ensures lies { LiesBehind 0 room.new intake.new.held }
     ensures runs { IfOk result (RunsOnHead (Ok (wanted_at request.entry.wanted)) (head_at request.entry.head)
-        (held_in room.old intake.old.held) (R.remaining r.old) (R.remaining r.new) (record {
-          Unasked = service.new ≡ service.old;
-          Asks = λ question. S.asks service.old question service.new;
-          answer = S.answer service.new;
-          left = Some (held_in room.new intake.new.held);
-          Writes = λ text. Appends (W.contents w.old) (W.contents w.new) text;
-        })) }
+        (held_in room.old intake.old.held) (R.remaining r.old) (R.remaining r.new) (traces_of (service.new ≡ service.old)
+        (λ question. S.asks service.old question service.new) (S.answer service.new) (Some (held_in room.new intake.new.held))
+        (λ text. Appends (W.contents w.old) (W.contents w.new) text))) }
     ensures asks { AsksWanted (Ok (wanted_at request.entry.wanted)) (held_in room.old intake.old.held) (R.remaining r.old)
         (R.remaining r.new) (service.new ≡ service.old) (λ question. S.asks service.old question service.new) }
     ensures unread { result ≡ Err LinkFault.Read → service.new ≡ service.old }
