@@ -187,41 +187,28 @@ impl ChangeEntry {
 }
 
 impl Change {
-    ghost use Rattle.std.specs.Prelude.{◌≡◌, ◌≤◌, IfOk};
+    ghost use Rattle.std.specs.Prelude.{◌≡◌, ◌≢◌, ◌≤◌, List, ℕ, IfOk};
     ghost use Rattle.ilp_addr.specs.Address.{max_address};
+    ghost use Rattle.route_table.specs.declared.hop.Hop.{Hop};
 
     /// A copy of the change. Fails only if it is out of memory.
     pub fn copy(&self, alloc: Global) -> Result<Change, AllocError>
         ensures { IfOk result (λ copy. copy ≡ self.now) }
     {
         Ok(match self {
-            Change::PeerAdded(terms) => Change::PeerAdded(terms.copy()),
-            Change::PeerRemoved(peer) => Change::PeerRemoved(*peer),
-            Change::LimitsSet { peer, limits } => Change::LimitsSet {
-                peer: *peer,
-                limits: *limits,
-            },
-            Change::BucketSet { peer, bucket } => Change::BucketSet {
-                peer: *peer,
-                bucket: *bucket,
-            },
             Change::RouteAdded { prefix, hop } => Change::RouteAdded {
                 prefix: prefix.copy(alloc)?,
                 hop: *hop,
             },
             Change::RouteRemoved(prefix) => Change::RouteRemoved(prefix.copy(alloc)?),
-            Change::RateSet(rate) => Change::RateSet(*rate),
-            Change::Settled { peer, side, amount } => Change::Settled {
-                peer: *peer,
-                side: *side,
-                amount: *amount,
-            },
+            _ => self.copy_bare(),
         })
     }
 
-    /// A copy of the change, with a prefix in that room. It allocates nothing.
-    pub fn copy_into(&self, spare: Spare) -> Change
-        requires { max_address ≤ spare }
+    // A copy of a change that names no prefix.
+    fn copy_bare(&self) -> Change
+        requires added { (prefix : List ℕ) (hop : Hop) → self.now ≢ Change.RouteAdded prefix hop }
+        requires removed { (prefix : List ℕ) → self.now ≢ Change.RouteRemoved prefix }
         ensures { result ≡ self.now }
     {
         match self {
@@ -235,17 +222,28 @@ impl Change {
                 peer: *peer,
                 bucket: *bucket,
             },
-            Change::RouteAdded { prefix, hop } => Change::RouteAdded {
-                prefix: prefix.copy_into(spare),
-                hop: *hop,
-            },
-            Change::RouteRemoved(prefix) => Change::RouteRemoved(prefix.copy_into(spare)),
             Change::RateSet(rate) => Change::RateSet(*rate),
             Change::Settled { peer, side, amount } => Change::Settled {
                 peer: *peer,
                 side: *side,
                 amount: *amount,
             },
+            Change::RouteAdded { .. } | Change::RouteRemoved(_) => unreachable!(),
+        }
+    }
+
+    /// A copy of the change, with a prefix in that room. It allocates nothing.
+    pub fn copy_into(&self, spare: Spare) -> Change
+        requires { max_address ≤ spare }
+        ensures { result ≡ self.now }
+    {
+        match self {
+            Change::RouteAdded { prefix, hop } => Change::RouteAdded {
+                prefix: prefix.copy_into(spare),
+                hop: *hop,
+            },
+            Change::RouteRemoved(prefix) => Change::RouteRemoved(prefix.copy_into(spare)),
+            _ => self.copy_bare(),
         }
     }
 
