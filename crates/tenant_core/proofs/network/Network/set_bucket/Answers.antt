@@ -27,6 +27,9 @@ invariant_of-self-2 c =
 pub returns : goal.returns
 returns c =
     let change : Peer → Peer = λ p. record p { terms = record p.terms { bucket = c.args.bucket.now }; bucket = c.args.level } in
-    rw (← c.self.view_is) (refl, ap (λ (ps : List Peer). let n : Net = record (net_of c.self.inside) { peers = ps } in n)
-    (changed_as_seen change (net_of c.self.inside) _ c.args.number c.place_numbered-place.result _ c.self.view_is c.self.invariant.network
-    c.place_numbered-place.ensures.inside c.place_numbered-place.ensures.value c.in_ok-change_bucket.ensures.changed))
+    rw (← c.self.view_is) (
+      refl,
+      ap (λ (ps : List Peer). let n : Net = record (net_of c.self.inside) { peers = ps } in n)
+          (changed_as_seen change (net_of c.self.inside) _ c.args.number c.place_numbered-place.result _ c.self.view_is c.self.invariant.network
+          c.place_numbered-place.ensures.inside c.place_numbered-place.ensures.value c.in_ok-change_bucket.ensures.changed),
+    )
