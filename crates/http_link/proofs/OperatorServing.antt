@@ -13,7 +13,7 @@ use Rattle.http_link.specs.Heads.{Head, head_of}
 use Rattle.http_link.specs.Limits.{max_lines}
 use Rattle.http_link.specs.Lines.{head_in}
 use Rattle.http_link.specs.OperatorDoor.{AsksOperatorCame, AsksOperatorSought, IsOperatorAskedOnly, IsOperatorServed, OperatorAsked, OperatorSought, OperatorTraces, RunsOnOperatorHead, ServesOperatorBody}
-use Rattle.http_link.specs.OperatorDoor.{operator_asking, operator_interim, operator_refusal_text, operator_sought_of, operator_text}
+use Rattle.http_link.specs.OperatorDoor.{operator_asking, operator_interim, operator_refusal_text, operator_sought_of, operator_text, operator_traces_of}
 use Rattle.http_link.specs.Reading.{HeadIsFound}
 use Rattle.http_link.specs.Running.{held_in}
 use Rattle.http_link.specs.declared.bodies.BodyFault.{BodyFault}
@@ -169,7 +169,7 @@ sought_asks want other old new Unasked Asks is asks =
 
 -- what serving is, part by part, with nothing left of what came
 abbrev pub traced : (Unasked : Type 0) → (OperatorAsked → Type 0) → (answer : List ℕ) → (Writes : List ℕ → Type 0) → OperatorTraces
-traced Unasked Asks answer Writes = record { Unasked = Unasked; Asks = Asks; answer = answer; left = Some []; Writes = Writes }
+traced Unasked Asks answer Writes = operator_traces_of Unasked Asks answer (Some []) Writes
 
 -- where nothing is held, only what comes is read
 pub holds_nothing : (held : Held) → held ≡ record { from = 0; to = 0 } → held.to ≤ held.from

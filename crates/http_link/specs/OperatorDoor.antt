@@ -150,6 +150,10 @@ pub record OperatorTraces : Type 1 where
   pub left : Option (List ℕ)
   pub Writes : List ℕ → Type 0
 
+-- these, part by part
+abbrev pub operator_traces_of : (Unasked : Type 0) → (OperatorAsked → Type 0) → (answer : List ℕ) → (left : Option (List ℕ)) → (Writes : List ℕ → Type 0) → OperatorTraces
+operator_traces_of Unasked Asks answer left Writes = record { Unasked = Unasked; Asks = Asks; answer = answer; left = left; Writes = Writes }
+
 -- the body is whole: exactly that is asked, once, and the answer is written
 pub record IsOperatorAsked (wanted : OperatorWanted) (head : Head) (body after : List ℕ) (traces : OperatorTraces) (served : Served) : Type 0 where
   pub status : ℕ

@@ -26,3 +26,7 @@ pub record TellsWrites {D X : Type 0} (failures : D → ℕ) (Made : D → ℕ �
   pub read : result ≢ Err Read
   -- The limit is reported only if it was reached.
   pub turns : result ≡ Err Turns → MadeAll Made old new
+
+-- The faults of a call that reads and writes: each is reported exactly if its device has failed.
+abbrev pub TellsFailures : {X : Type 0} → (ReaderFailed WriterFailed : Type 0) → Result X LinkFault → Type 0
+TellsFailures ReaderFailed WriterFailed result = ((result ≡ Err Read) ↔ ReaderFailed) × ((result ≡ Err Write) ↔ WriterFailed)

@@ -6,13 +6,13 @@ ghost use Rattle.httparse.specs.Grammar as grammar;
 ghost use Rattle.http_link.specs.Bodies.{most_of};
 ghost use Rattle.http_link.specs.Answers.{line};
 ghost use Rattle.http_link.specs.Counts.{MadeAll, Spends};
-ghost use Rattle.http_link.specs.Telling.{TellsWrites};
+ghost use Rattle.http_link.specs.Telling.{TellsFailures, TellsWrites};
 ghost use Rattle.http_link.specs.Heads.{BeginsWith, head_of};
 ghost use Rattle.http_link.specs.Limits.{max_command};
 ghost use Rattle.http_link.specs.Lines.{head_at};
 ghost use Rattle.http_link.specs.OperatorDoor.{AsksOperatorCame, AsksOperatorSought, IsOperatorAskedOnly, IsOperatorServed, RunsOnOperatorHead};
 ghost use Rattle.http_link.specs.OperatorDoor.{operator_asking, operator_interim, operator_media, operator_media_line, operator_method, operator_refusal_text};
-ghost use Rattle.http_link.specs.OperatorDoor.{operator_sought_at, operator_sought_of, operator_text, operator_wanted_at};
+ghost use Rattle.http_link.specs.OperatorDoor.{operator_sought_at, operator_sought_of, operator_text, operator_traces_of, operator_wanted_at};
 ghost use Rattle.http_link.specs.Serving.{WritesNothingOr400};
 
 use crate::bodies::{BodyRead, read_body};
@@ -118,18 +118,13 @@ fn serve_after_head<R: Source, W: Sink, S: OperatorService>(
     requires reads { R.failure_count r.old ≤ before.manner.before }
     requires writes { W.failure_count w.old ≤ before.writes }
     ensures runs { IfOk result (RunsOnOperatorHead (operator_sought_of (head_at head.now)) (head_at head.now)
-        (R.remaining r.old) (R.remaining r.new) (record {
-          Unasked = service.new ≡ service.old;
-          Asks = λ question. S.asks service.old question service.new;
-          answer = S.answer service.new;
-          left = Some [];
-          Writes = λ text. Appends (W.contents w.old) (W.contents w.new) text;
-        })) }
+        (R.remaining r.old) (R.remaining r.new) (operator_traces_of (service.new ≡ service.old)
+        (λ question. S.asks service.old question service.new) (S.answer service.new) (Some [])
+        (λ text. Appends (W.contents w.old) (W.contents w.new) text))) }
     ensures asks { AsksOperatorSought (operator_sought_of (head_at head.now)) (R.remaining r.old) (R.remaining r.new)
         (service.new ≡ service.old) (λ question. S.asks service.old question service.new) }
     ensures unread { result ≡ Err LinkFault.Read → service.new ≡ service.old }
-    ensures read { (result ≡ Err LinkFault.Read) ↔ (before.manner.before < R.failure_count r.new) }
-    ensures write { (result ≡ Err LinkFault.Write) ↔ (before.writes < W.failure_count w.new) }
+    ensures failed { TellsFailures (before.manner.before < R.failure_count r.new) (before.writes < W.failure_count w.new) result }
     ensures turns { result ≡ Err LinkFault.Turns
         → Spends R.was_read r.old r.new intake.old.turns 0 ⊎ MadeAll W.was_written w.old w.new }
 {
@@ -160,18 +155,13 @@ fn serve_sought<R: Source, W: Sink, S: OperatorService>(
     requires reads { R.failure_count r.old ≤ before.manner.before }
     requires writes { W.failure_count w.old ≤ before.writes }
     ensures runs { IfOk result (RunsOnOperatorHead (Ok (operator_sought_at request.entry.sought)) (head_at request.entry.head)
-        (R.remaining r.old) (R.remaining r.new) (record {
-          Unasked = service.new ≡ service.old;
-          Asks = λ question. S.asks service.old question service.new;
-          answer = S.answer service.new;
-          left = Some [];
-          Writes = λ text. Appends (W.contents w.old) (W.contents w.new) text;
-        })) }
+        (R.remaining r.old) (R.remaining r.new) (operator_traces_of (service.new ≡ service.old)
+        (λ question. S.asks service.old question service.new) (S.answer service.new) (Some [])
+        (λ text. Appends (W.contents w.old) (W.contents w.new) text))) }
     ensures asks { AsksOperatorSought (Ok (operator_sought_at request.entry.sought)) (R.remaining r.old) (R.remaining r.new)
         (service.new ≡ service.old) (λ question. S.asks service.old question service.new) }
     ensures unread { result ≡ Err LinkFault.Read → service.new ≡ service.old }
-    ensures read { (result ≡ Err LinkFault.Read) ↔ (before.manner.before < R.failure_count r.new) }
-    ensures write { (result ≡ Err LinkFault.Write) ↔ (before.writes < W.failure_count w.new) }
+    ensures failed { TellsFailures (before.manner.before < R.failure_count r.new) (before.writes < W.failure_count w.new) result }
     ensures turns { result ≡ Err LinkFault.Turns
         → Spends R.was_read r.old r.new intake.old.turns 0 ⊎ MadeAll W.was_written w.old w.new }
 {

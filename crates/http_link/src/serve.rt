@@ -6,7 +6,7 @@ ghost use Rattle.httparse.specs.Grammar as grammar;
 ghost use Rattle.httparse.specs.Spans.{IsRequestWithin};
 ghost use Rattle.http_link.specs.Connections.{IsCutBehind};
 ghost use Rattle.http_link.specs.Counts.{MadeAll, Spends};
-ghost use Rattle.http_link.specs.Telling.{TellsWrites};
+ghost use Rattle.http_link.specs.Telling.{TellsFailures, TellsWrites};
 ghost use Rattle.http_link.specs.Bodies.{IsBody, cut, most_of, body_status};
 ghost use Rattle.http_link.specs.BodyReading.{LiesBehind, ReadsNoFurther};
 ghost use Rattle.http_link.specs.Heads.{BeginsWith, head_of};
@@ -201,8 +201,7 @@ pub(crate) fn serve_head<R: Source, W: Sink, S: Service>(
     ensures at_once { (r.new ≡ r.old)
         ⊎ IsCutBehind (wanted_of (S.tenant_of service.old) (head_at head.now)) (held_in room.old intake.old.held) }
     ensures no_further { ReadsNoFurther before.manner.reach intake.old.held intake.new.held }
-    ensures read { (result ≡ Err LinkFault.Read) ↔ (before.manner.before < R.failure_count r.new) }
-    ensures write { (result ≡ Err LinkFault.Write) ↔ (before.writes < W.failure_count w.new) }
+    ensures failed { TellsFailures (before.manner.before < R.failure_count r.new) (before.writes < W.failure_count w.new) result }
     ensures turns { result ≡ Err LinkFault.Turns
         → Spends R.was_read r.old r.new intake.old.turns 0 ⊎ MadeAll W.was_written w.old w.new }
 {
@@ -243,8 +242,7 @@ fn serve_wanted<R: Source, W: Sink, S: Service>(
     ensures unread { result ≡ Err LinkFault.Read → service.new ≡ service.old }
     ensures at_once { (r.new ≡ r.old) ⊎ IsBody request.entry.wanted.framing (held_in room.old intake.old.held) cut }
     ensures no_further { ReadsNoFurther before.manner.reach intake.old.held intake.new.held }
-    ensures read { (result ≡ Err LinkFault.Read) ↔ (before.manner.before < R.failure_count r.new) }
-    ensures write { (result ≡ Err LinkFault.Write) ↔ (before.writes < W.failure_count w.new) }
+    ensures failed { TellsFailures (before.manner.before < R.failure_count r.new) (before.writes < W.failure_count w.new) result }
     ensures turns { result ≡ Err LinkFault.Turns
         → Spends R.was_read r.old r.new intake.old.turns 0 ⊎ MadeAll W.was_written w.old w.new }
 {
