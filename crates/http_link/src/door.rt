@@ -4,7 +4,7 @@ ghost use Rattle.std.specs.Prelude.{◌≡◌, ◌≢◌, ◌↔◌, ◌<◌, �
 ghost use Rattle.std.specs.Io.KnownBytes.{Appends};
 ghost use Rattle.httparse.specs.Grammar as grammar;
 ghost use Rattle.http_link.specs.Counts.{MadeAll};
-ghost use Rattle.http_link.specs.Telling.{TellsWrites};
+ghost use Rattle.http_link.specs.Telling.{TellsFailures, TellsWrites};
 ghost use Rattle.http_link.specs.Heads.{BeginsWith, Head, head_of};
 ghost use Rattle.http_link.specs.Doors.{IsAnswerWritten, IsServedAtDoor, closing_text};
 ghost use Rattle.http_link.specs.Serving.{WritesNothingOr400};
@@ -73,8 +73,7 @@ pub(crate) fn serve_door<R: Source, W: Sink, S, D: Answers<S>>(
         × IfOk result (WritesNothingOr400 (λ text. Appends (W.contents w.old) (W.contents w.new) text)) }
     ensures asked_once { (service.new ≡ service.old) ⊎ ((head : Head) × D.asks head service.old service.new) }
     ensures unread { result ≡ Err LinkFault.Read → service.new ≡ service.old }
-    ensures read { (result ≡ Err LinkFault.Read) ↔ (R.failure_count r.old < R.failure_count r.new) }
-    ensures write { (result ≡ Err LinkFault.Write) ↔ (W.failure_count w.old < W.failure_count w.new) }
+    ensures failed { TellsFailures (R.failure_count r.old < R.failure_count r.new) (W.failure_count w.old < W.failure_count w.new) result }
     ensures turns { result ≡ Err LinkFault.Turns
         → MadeAll R.was_read r.old r.new ⊎ MadeAll W.was_written w.old w.new }
 {

@@ -3,6 +3,7 @@
 ghost use Rattle.std.specs.Prelude.{◌≡◌, ◌≢◌, ◌↔◌, ◌+◌, ◌<◌, ◌≤◌, ◌⊎◌, List, [], ℕ, length, take, drop, Some, Ok, Err, IfOk};
 ghost use Rattle.std.specs.Io.KnownBytes.{Appends};
 ghost use Rattle.http_link.specs.BodyReading.{LiesBehind};
+ghost use Rattle.http_link.specs.Telling.{TellsFailures};
 ghost use Rattle.http_link.specs.Counts.{MadeAll, Spends};
 ghost use Rattle.http_link.specs.Connections.{AreTooFew, AsksNext, Awaits, IsCutBehind, ServesNext};
 ghost use Rattle.http_link.specs.Lines.{head_in};
@@ -175,8 +176,7 @@ fn serve_held<R: Source, W: Sink, S: Service>(
         (service.new ≡ service.old) (λ question. S.asks service.old question service.new) }
     ensures at_once { (r.new ≡ r.old) ⊎ AreTooFew (S.tenant_of service.old) (held_in room.old held.old) }
     ensures unread { result ≡ Err LinkFault.Read → service.new ≡ service.old }
-    ensures read { (result ≡ Err LinkFault.Read) ↔ (R.failure_count r.old < R.failure_count r.new) }
-    ensures write { (result ≡ Err LinkFault.Write) ↔ (W.failure_count w.old < W.failure_count w.new) }
+    ensures failed { TellsFailures (R.failure_count r.old < R.failure_count r.new) (W.failure_count w.old < W.failure_count w.new) result }
     ensures turns { result ≡ Err LinkFault.Turns
         → MadeAll R.was_read r.old r.new ⊎ MadeAll W.was_written w.old w.new }
 {
@@ -224,8 +224,7 @@ fn serve_from_front<R: Source, W: Sink, S: Service>(
         (service.new ≡ service.old) (λ question. S.asks service.old question service.new) }
     ensures at_once { (r.new ≡ r.old) ⊎ AreTooFew (S.tenant_of service.old) (take intake.old.held.to room.old) }
     ensures unread { result ≡ Err LinkFault.Read → service.new ≡ service.old }
-    ensures read { (result ≡ Err LinkFault.Read) ↔ (before.manner.before < R.failure_count r.new) }
-    ensures write { (result ≡ Err LinkFault.Write) ↔ (before.writes < W.failure_count w.new) }
+    ensures failed { TellsFailures (before.manner.before < R.failure_count r.new) (before.writes < W.failure_count w.new) result }
     ensures turns { result ≡ Err LinkFault.Turns
         → Spends R.was_read r.old r.new intake.old.turns 0 ⊎ MadeAll W.was_written w.old w.new }
 {
@@ -283,8 +282,7 @@ fn serve_found<R: Source, W: Sink, S: Service>(
         ⊎ IsCutBehind (wanted_of (S.tenant_of service.old) (head_in (take parsed.entry.spans.len room.old) parsed.entry.lines.now parsed.entry.spans))
         (drop parsed.entry.spans.len (take intake.old.held.to room.old)) }
     ensures unread { result ≡ Err LinkFault.Read → service.new ≡ service.old }
-    ensures read { (result ≡ Err LinkFault.Read) ↔ (before.manner.before < R.failure_count r.new) }
-    ensures write { (result ≡ Err LinkFault.Write) ↔ (before.writes < W.failure_count w.new) }
+    ensures failed { TellsFailures (before.manner.before < R.failure_count r.new) (before.writes < W.failure_count w.new) result }
     ensures turns { result ≡ Err LinkFault.Turns
         → Spends R.was_read r.old r.new intake.old.turns 0 ⊎ MadeAll W.was_written w.old w.new }
 {
