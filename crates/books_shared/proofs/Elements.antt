@@ -1,7 +1,8 @@
 -- What is read of lists, of what is shown of them, and what a period adds to the entries before a number.
-use Rattle.std.proofs.Common.{◌≡◌, ℕ, zero, suc, ◌<◌, List, [], ◌∷◌, length, map, Option, Some, slice_get, slice_index_or, unwrap_or, Contains, refl, sym, ap, ◌∙◌, arith}
-use Rattle.std.specs.Prelude.{◌==◌, ◌&&◌, if◌then◌else◌, nat_lt}
-use Rattle.std.proofs.lemmas.Option.{slice_get_within}
+use Rattle.std.proofs.Common.{◌≡◌, ℕ, zero, suc, ◌<◌, List, [], ◌∷◌, length, map, Option, Some, None, slice_get, slice_index_or, unwrap_or, Contains, refl, sym, ap, subst, ◌∙◌}
+use Rattle.std.specs.Prelude.{◌==◌, ◌&&◌, if◌then◌else◌, nat_lt, option_map}
+use Rattle.std.proofs.lemmas.List.Elements.{Contains-get_or}
+use Rattle.std.proofs.lemmas.Option.{get_or_from_slice_get, none-some, slice_get-get_or, slice_get-map, slice_get_within}
 use Rattle.tenant_core.specs.declared.period.PeriodParts.{PeriodParts}
 use Rattle.joint_order.specs.Orders.{list_at}
 use Rattle.receipts.specs.Audits.{points_of}
@@ -10,9 +11,7 @@ use Rattle.receipts.specs.declared.receipt.Receipt.{Receipt}
 
 -- below the length there is an element
 pub read_there : {A : Type 0} (xs : List A) (i : ℕ) (d : A) → i < length xs → slice_get xs i ≡ Some (slice_index_or xs i d)
-read_there {A = A} [] i d below = absurd (omega arith)
-read_there {A = A} (x ∷ xs) zero d below = refl
-read_there {A = A} (x ∷ xs) (suc i) d below = read_there xs i d (omega arith)
+read_there xs i d below = slice_get-get_or xs i d below
 
 -- there is one element there
 pub one_there : {A : Type 0} (xs : List A) (k : ℕ) (x y : A) → slice_get xs k ≡ Some x → slice_get xs k ≡ Some y → x ≡ y
@@ -20,9 +19,7 @@ one_there {A = A} xs k x y at too = ap (λ (o : Option A). unwrap_or o x) (sym a
 
 -- what is read is an element
 pub is_element : {A : Type 0} (xs : List A) (k : ℕ) (x : A) → slice_get xs k ≡ Some x → Contains xs x
-is_element {A = A} xs k x e =
-    let below = slice_get_within xs k x e in
-    (k, below, ap (λ (o : Option A). unwrap_or o x) (sym (read_there xs k x below) ∙ e))
+is_element {A = A} xs k x e = subst (Contains xs) (get_or_from_slice_get xs k x x e) (Contains-get_or xs k x (slice_get_within xs k x e))
 
 -- an element is read
 pub is_read : {A : Type 0} (xs : List A) (x : A) → Contains xs x → (k : ℕ) × (slice_get xs k ≡ Some x)
@@ -30,15 +27,15 @@ is_read {A = A} xs x c = (c.0, read_there xs c.0 x c.1 ∙ ap Some c.2)
 
 -- an element is shown
 pub point_at : {A B : Type 0} (f : A → B) (xs : List A) (n : ℕ) (x : A) → slice_get xs n ≡ Some x → slice_get (map f xs) n ≡ Some (f x)
-point_at {A = A} {B = B} f [] n x e = let below = slice_get_within [] n x e in absurd (omega arith)
-point_at {A = A} {B = B} f (y ∷ ys) zero x e = let same : y ≡ x = ap (λ (o : Option A). unwrap_or o y) e in ap (λ (z : A). Some (f z)) same
-point_at {A = A} {B = B} f (y ∷ ys) (suc n) x e = point_at f ys n x e
+point_at {A = A} {B = B} f xs n x e = slice_get-map f xs n ∙ ap (λ (o : Option A). option_map f o) e
+
+shown_from : {A B : Type 0} (f : A → B) (o : Option A) (y : B) → option_map f o ≡ Some y → (x : A) × (o ≡ Some x) × (f x ≡ y)
+shown_from {A = A} {B = B} f None y e = absurd (none-some y e)
+shown_from {A = A} {B = B} f (Some x) y e = (x, refl, ap (λ (o : Option B). unwrap_or o (f x)) e)
 
 -- an element of what is shown is shown of an element
 pub point_from : {A B : Type 0} (f : A → B) (xs : List A) (n : ℕ) (y : B) → slice_get (map f xs) n ≡ Some y → (x : A) × (slice_get xs n ≡ Some x) × (f x ≡ y)
-point_from {A = A} {B = B} f [] n y e = let below = slice_get_within [] n y e in absurd (omega arith)
-point_from {A = A} {B = B} f (x ∷ xs) zero y e = (x, refl, ap (λ (o : Option B). unwrap_or o (f x)) e)
-point_from {A = A} {B = B} f (x ∷ xs) (suc n) y e = point_from f xs n y e
+point_from f xs n y e = shown_from f (slice_get xs n) y (sym (slice_get-map f xs n) ∙ e)
 
 -- a list's points
 pub points_at : (periods : List PeriodParts) (lists : List (List Receipt)) (i : ℕ) → list_at (points_of periods lists) i ≡ points_in periods (list_at lists i)

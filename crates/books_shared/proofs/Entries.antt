@@ -1,5 +1,7 @@
 -- How many entries each call of a slot appends to a book, and what rise it brings.
-use Rattle.std.proofs.Common.{◌≡◌, ℕ, ◌+◌, ◌-◌, [], ◌∷◌, length, Option, Some, None, refl, length-append, arith}
+use Rattle.std.proofs.Common.{◌≡◌, ℕ, ◌+◌, ◌-◌, List, [], ◌∷◌, ◌++◌, length, Option, Some, None, refl, length-append, lt-ltb, le-ltb, arith}
+use Rattle.std.proofs.lemmas.List.Sums.{fold-append}
+use Rattle.tenant_core.specs.Journals.{last_of}
 use Rattle.tenant_core.specs.State.{State, recorded}
 use Rattle.tenant_core.specs.declared.journal.Record.{Record}
 use Rattle.floor_core.specs.Work.{Called}
@@ -8,6 +10,7 @@ use Rattle.floor_core.specs.declared.parts.Turn.TheVariants.{Idle, Stray, Strang
 use Rattle.std.specs.Prelude.{Result, Ok, Err}
 use Rattle.tenant_core.specs.declared.faults.BookFault.{BookFault}
 use Rattle.books_shared.specs.Rises.{IsSmall, entries_of, rise_of, rise_of_turn, tick_rise}
+use Rattle.books_shared.specs.Tracing.{last_beyond}
 
 -- a book has the entries that were made
 pub longer : (s : State) (made : Option Record) → length (recorded s made).records ≡ length s.records + entries_of made
@@ -20,6 +23,15 @@ entries_told Stray n = refl
 entries_told Stranger n = refl
 entries_told Reply n = refl
 entries_told (Send peer hold) n = refl
+
+last_pushed : (records : List Record) (r : Record) → last_of (records ++ r ∷ []) ≡ Some r
+last_pushed records r = fold-append (λ o x. Some x) None records (r ∷ [])
+
+-- the record that was made is the last beyond those that were there
+pub made_beyond : (s : State) (made : Option Record) → last_beyond (length s.records) (recorded s made).records ≡ made
+made_beyond s None = rw (le-ltb (length s.records) (length s.records) (omega arith)) refl
+made_beyond s (Some r) =
+    rw (lt-ltb (length s.records) (length (s.records ++ r ∷ [])) (omega (arith, length-append s.records (r ∷ [])))) (last_pushed s.records r)
 
 -- the turn and the entries that were appended tell the rise
 pub told_rise : (c : Called) (s after : State) (turn : Turn) (n : ℕ) → turn ≡ c.turn → after ≡ recorded s c.made

@@ -1,5 +1,6 @@
 -- The steps that a call adds to the one list, by what the call left.
-use Rattle.std.specs.Prelude.{ℕ, zero, suc, ◌<◌, List, [], length, Result, Ok}
+use Rattle.std.specs.Prelude.{ℕ, zero, suc, ◌<◌, nat_lt, List, [], length, Option, None, Result, Ok, if◌then◌else◌}
+use Rattle.tenant_core.specs.Journals.{last_of}
 use Rattle.tenant_core.specs.State.{State}
 use Rattle.tenant_core.specs.declared.command.Answered.{Answered}
 use Rattle.tenant_core.specs.declared.command.Answered.TheVariants.{Done, Rolled}
@@ -26,3 +27,7 @@ abbrev pub HasAppended : Result Answered CommandFault → State → Type 0
 HasAppended (Ok Done) s = 0 < length s.records
 HasAppended (Ok (Rolled period)) s = 0 < length period.records
 HasAppended _ s = Unit {0}
+
+-- the last record, if there are more than so many
+abbrev pub last_beyond : ℕ → List Record → Option Record
+last_beyond before records = if nat_lt before (length records) then last_of records else None

@@ -12,8 +12,9 @@ use std::sync::MutexGuard;
 use tenant_core::{Answered, Book, BookFault, Command, CommandFault};
 
 /// A tenant's book whose lock is held, until the guard is dropped. Contracts see it as a `LockedBook`: the book's state, how
-/// many entries its closed periods had, how many packets found its journal full, and all that was done to the book since
-/// `Books::new`. The latter are the tenant's steps in the one list of what is done to all books, in order.
+/// many entries its closed periods had, how many packets found its journal full, how many answers of peers were bad, and all
+/// that was done to the book since `Books::new`. The latter are the tenant's steps in the one list of what is done to all books,
+/// in order.
 #[derive(Drop)]
 pub struct Guard<'a, J: Run> {
     kept: MutexGuard<'a, LockedBook<J>>,
@@ -55,7 +56,7 @@ impl<J: Run> Guard<'_, J> {
     ghost use Rattle.tenant_core.specs.Answer.{tick_made, tick_result, ticked};
     ghost use Rattle.tenant_core.specs.Governed.{IsGoverned, made_by};
     ghost use Rattle.tenant_core.specs.Sound.{IsSound};
-    ghost use Rattle.books_shared.specs.Kept.{LockInvariant, entries_appended, full_risen};
+    ghost use Rattle.books_shared.specs.Kept.{LockInvariant, bad_risen, entries_appended, full_risen};
     ghost use Rattle.books_shared.specs.Outcomes.{AreCounted};
     ghost use Rattle.books_shared.specs.Rises.{command_rise, entries_closed, rise_of, tick_rise};
     ghost use Rattle.books_shared.specs.Shares.{share_met};
@@ -108,6 +109,14 @@ impl<J: Run> Guard<'_, J> {
         self.kept.full_journals()
     }
 
+    /// How many answers of peers were neither a Fulfill nor a Reject since `Books::new`: bytes came, and the answer's record says
+    /// `Fault`. The count ends at 2^64 - 1.
+    pub fn bad_answers(&self) -> u64
+        ensures { result ≡ self.now.bad }
+    {
+        self.kept.bad_answers()
+    }
+
     /// The book's steps by the worker of the share are exactly what this worker has done for the tenant until now, in
     /// its order. The share keeps that it has met the steps which led to this book. The one list's steps of the tenant
     /// begin with them (`Books::gather`). Nothing else changes, and it takes neither room nor memory.
@@ -135,6 +144,7 @@ impl<J: Run> Guard<'_, J> {
         ensures book { self.new.state ≡ recorded self.old.state (decide_call slot.old self.old.state now).made }
         ensures closed { self.new.closed ≡ self.old.closed }
         ensures full { self.new.full ≡ full_risen (rise_of (decide_call slot.old self.old.state now)) self.old.full }
+        ensures bad { self.new.bad ≡ self.old.bad }
         ensures steps { self.new.steps ≡ self.old.steps
             ++ done_by share.old.worker (next_place self.old.state) (decide_call slot.old self.old.state now).made }
         ensures share { share.new ≡ share_counted (rise_of (decide_call slot.old self.old.state now)) (next_place self.old.state)
@@ -160,6 +170,7 @@ impl<J: Run> Guard<'_, J> {
         ensures book { self.new.state ≡ recorded self.old.state (answer_call slot.old self.old.state now got).made }
         ensures closed { self.new.closed ≡ self.old.closed }
         ensures full { self.new.full ≡ self.old.full }
+        ensures bad { self.new.bad ≡ bad_risen got (answer_call slot.old self.old.state now got).made self.old.bad }
         ensures steps { self.new.steps ≡ self.old.steps
             ++ done_by share.old.worker (next_place self.old.state) (answer_call slot.old self.old.state now got).made }
         ensures share { share.new ≡ share_counted (rise_of (answer_call slot.old self.old.state now got)) (next_place self.old.state)
@@ -182,6 +193,7 @@ impl<J: Run> Guard<'_, J> {
         ensures book { self.new.state ≡ ticked self.old.state now }
         ensures closed { self.new.closed ≡ self.old.closed }
         ensures full { self.new.full ≡ self.old.full }
+        ensures bad { self.new.bad ≡ self.old.bad }
         ensures steps { self.new.steps ≡ self.old.steps
             ++ done_by share.old.worker (next_place self.old.state) (tick_made self.old.state now) }
         ensures share { share.new ≡ share_counted (tick_rise result) (next_place self.old.state)
@@ -210,6 +222,7 @@ impl<J: Run> Guard<'_, J> {
         ensures closed { self.new.closed
             ≡ self.old.closed + entries_closed result (length self.old.state.records) }
         ensures full { self.new.full ≡ self.old.full }
+        ensures bad { self.new.bad ≡ self.old.bad }
         ensures steps { self.new.steps ≡ self.old.steps
             ++ done_by share.old.worker (next_place self.old.state) (made_by result self.old.state command.now now) }
         ensures share { share.new ≡ share_counted (command_rise result) (next_place self.old.state)

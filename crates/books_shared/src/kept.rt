@@ -1,16 +1,17 @@
 //! What lies under a tenant's lock.
 
-ghost use Rattle.std.specs.Prelude.{◌≡◌, ◌+◌, ◌<◌, ◌≤◌, length};
+ghost use Rattle.std.specs.Prelude.{◌≡◌, ◌+◌, ◌<◌, ◌≤◌, length, option_map};
 ghost use Rattle.floor_core.specs.Work.{decide_call, answer_call};
 ghost use Rattle.one_list.specs.Steps.{grown};
 ghost use Rattle.tenant_core.specs.Answer.{tick_result, ticked};
 ghost use Rattle.tenant_core.specs.Governed.{IsGoverned};
 ghost use Rattle.tenant_core.specs.Limits.{max_tenants};
 ghost use Rattle.tenant_core.specs.State.{recorded};
+ghost use Rattle.tenant_core.specs.Views.{entry_of, record_of};
 ghost use Rattle.books_shared.specs.Rises.{IsSmall, command_rise, entries_closed, rise_of, tick_rise};
-ghost use Rattle.books_shared.specs.Kept.{most_entries};
+ghost use Rattle.books_shared.specs.Kept.{bad_answers_in, bad_entry, most_entries};
 ghost use Rattle.books_shared.specs.Shares.{share_met, share_raised, with_steps};
-ghost use Rattle.books_shared.specs.Tracing.{HasAppended, steps_appended, steps_of_command};
+ghost use Rattle.books_shared.specs.Tracing.{HasAppended, last_beyond, steps_appended, steps_of_command};
 
 use crate::outcomes::{PacketCounts, TenantLog};
 use crate::rise::{CallCounts, command_rise, entries_closed, rise_of_turn, tick_rise};
@@ -20,15 +21,18 @@ use ilp_addr::Moment;
 use one_list::{Chronicle, Run, TenantPart};
 use std::alloc::Global;
 use std::marker::Model;
-use tenant_core::{Answered, Book, BookFault, Command, CommandFault};
+use tenant_core::{
+    AnswerKey, Answered, Book, BookFault, Command, CommandFault, EntryView, RecordView,
+};
 
-/// A tenant's book, how many entries its closed periods had, how many packets found its journal full, and the tenant's part of
-/// the one list, counted. Contracts see it as a `LockedBook`.
+/// A tenant's book, how many entries its closed periods had, how many packets found its journal full, how many answers of peers
+/// were bad, and the tenant's part of the one list, counted. Contracts see it as a `LockedBook`.
 #[derive(Drop)]
 pub struct LockedBook<J: Run> {
     book: Book,
     closed: u64,
     full: u64,
+    bad: u64,
     part: TenantLog<J>,
 }
 
@@ -44,7 +48,7 @@ impl<J: Run> Model for LockedBook<J> {
 
     ghost coded = { Prim.hlevel (codes, routes.the_row.coded) };
 
-    ghost view = { λ k. record { state = k.book; closed = k.closed; full = k.full; steps = k.part.steps } };
+    ghost view = { λ k. record { state = k.book; closed = k.closed; full = k.full; bad = k.bad; steps = k.part.steps } };
 
     ghost invariant = { λ k. (k.closed ≤ most_entries k.book.opening.period) × IsTraced J.openings k.book k.part
         × (J.own ≡ true → AreOwnAnswers k.part.steps) };
@@ -58,7 +62,7 @@ impl<J: Run> LockedBook<J> {
     ghost use Rattle.tenant_core.specs.Answer.{tick_made, tick_result, ticked};
     ghost use Rattle.tenant_core.specs.Governed.{IsGoverned, made_by};
     ghost use Rattle.tenant_core.specs.State.{opened, recorded};
-    ghost use Rattle.books_shared.specs.Kept.{LockInvariant, entries_appended, full_risen};
+    ghost use Rattle.books_shared.specs.Kept.{LockInvariant, bad_risen, entries_appended, full_risen};
     ghost use Rattle.books_shared.specs.Outcomes.{AreCounted};
     ghost use Rattle.books_shared.specs.Rises.{command_rise, entries_closed, rise_of, tick_rise};
     ghost use Rattle.books_shared.specs.Traced.{IsLedTo, IsTraced, share_counted};
@@ -69,12 +73,13 @@ impl<J: Run> LockedBook<J> {
         requires traced { IsTraced J.openings book part }
         requires none { part.steps ≡ [] }
         requires answers { J.own ≡ true → AreOwnAnswers part.steps }
-        ensures { result ≡ record { state = book; closed = 0; full = 0; steps = part.steps } }
+        ensures { result ≡ record { state = book; closed = 0; full = 0; bad = 0; steps = part.steps } }
     {
         LockedBook {
             book,
             closed: 0,
             full: 0,
+            bad: 0,
             part: TenantLog::new(part),
         }
     }
@@ -119,6 +124,13 @@ impl<J: Run> LockedBook<J> {
         self.full
     }
 
+    /// How many answers of peers were neither a Fulfill nor a Reject.
+    pub fn bad_answers(&self) -> u64
+        ensures { result ≡ self.now.bad }
+    {
+        self.bad
+    }
+
     /// The tenant's steps have what the share's worker did to the book, and nothing more of this worker. The share
     /// keeps that it has met these steps. Nothing else changes.
     pub fn meet(&mut self, chronicle: &Chronicle<J>, share: &mut Share<J>)
@@ -153,6 +165,7 @@ impl<J: Run> LockedBook<J> {
         ensures book { self.new.state ≡ recorded self.old.state (decide_call slot.old self.old.state now).made }
         ensures closed { self.new.closed ≡ self.old.closed }
         ensures full { self.new.full ≡ full_risen (rise_of (decide_call slot.old self.old.state now)) self.old.full }
+        ensures bad { self.new.bad ≡ self.old.bad }
         ensures steps { self.new.steps ≡ self.old.steps
             ++ done_by share.old.worker (next_place self.old.state) (decide_call slot.old self.old.state now).made }
         ensures share { share.new ≡ share_counted (rise_of (decide_call slot.old self.old.state now)) (next_place self.old.state)
@@ -186,6 +199,7 @@ impl<J: Run> LockedBook<J> {
         ensures book { self.new.state ≡ recorded self.old.state (answer_call slot.old self.old.state now got).made }
         ensures closed { self.new.closed ≡ self.old.closed }
         ensures full { self.new.full ≡ self.old.full }
+        ensures bad { self.new.bad ≡ bad_risen got (answer_call slot.old self.old.state now got).made self.old.bad }
         ensures steps { self.new.steps ≡ self.old.steps
             ++ done_by share.old.worker (next_place self.old.state) (answer_call slot.old self.old.state now got).made }
         ensures share { share.new ≡ share_counted (rise_of (answer_call slot.old self.old.state now got)) (next_place self.old.state)
@@ -195,8 +209,9 @@ impl<J: Run> LockedBook<J> {
         tenant_core::laws::records_are_made();
         one_list::laws::histories();
         one_list::laws::own_answers();
-        let (turn, rise) = answer_in(&mut self.book, slot, now, got);
+        let (turn, rise, bad) = answer_in(&mut self.book, slot, now, got);
         tenant_core::laws::book_is_sound(&self.book);
+        self.bad = self.bad.saturating_add(bad);
         trace(chronicle, &mut self.part, share, &self.book, rise);
         turn
     }
@@ -213,6 +228,7 @@ impl<J: Run> LockedBook<J> {
         ensures book { self.new.state ≡ ticked self.old.state now }
         ensures closed { self.new.closed ≡ self.old.closed }
         ensures full { self.new.full ≡ self.old.full }
+        ensures bad { self.new.bad ≡ self.old.bad }
         ensures steps { self.new.steps ≡ self.old.steps
             ++ done_by share.old.worker (next_place self.old.state) (tick_made self.old.state now) }
         ensures share { share.new ≡ share_counted (tick_rise result) (next_place self.old.state)
@@ -242,6 +258,7 @@ impl<J: Run> LockedBook<J> {
         ensures closed { self.new.closed
             ≡ self.old.closed + entries_closed result (length self.old.state.records) }
         ensures full { self.new.full ≡ self.old.full }
+        ensures bad { self.new.bad ≡ self.old.bad }
         ensures steps { self.new.steps ≡ self.old.steps
             ++ done_by share.old.worker (next_place self.old.state) (made_by result self.old.state command.now now) }
         ensures share { share.new ≡ share_counted (command_rise result) (next_place self.old.state)
@@ -327,18 +344,51 @@ fn decide_in(book: &mut Book, slot: &mut Slot, now: Moment) -> (Turn, CallCounts
     (turn, rise_of_turn(turn, entries as u64))
 }
 
-fn answer_in(book: &mut Book, slot: &mut Slot, now: Moment, got: Got) -> (Turn, CallCounts)
+// The turn, what is counted, and how many bad answers there are more.
+fn answer_in(book: &mut Book, slot: &mut Slot, now: Moment, got: Got) -> (Turn, CallCounts, u64)
     ensures turn { result.0 ≡ (answer_call slot.old book.old now got).turn }
     ensures slot { slot.new ≡ (answer_call slot.old book.old now got).work }
     ensures book { book.new ≡ recorded book.old (answer_call slot.old book.old now got).made }
     ensures rise { result.1 ≡ rise_of (answer_call slot.old book.old now got) }
+    ensures bad { result.2 ≡ bad_answers_in got (answer_call slot.old book.old now got).made }
     ensures entries { length book.new.records ≡ length book.old.records + result.1.entries }
     ensures opening { book.new.opening ≡ book.old.opening }
 {
     let before = book.entries();
     let turn = slot.answer(book, now, got);
     let entries = book.entries() - before;
-    (turn, rise_of_turn(turn, entries as u64))
+    let bad = bad_answers_in(got, last_beyond(book, before));
+    (turn, rise_of_turn(turn, entries as u64), bad)
+}
+
+// The last record, if there are more than so many.
+fn last_beyond(book: &Book, before: usize) -> Option<RecordView<'_>>
+    ensures { option_map record_of result ≡ last_beyond before book.now.records }
+{
+    if book.entries() > before {
+        book.journal().last()
+    } else {
+        None
+    }
+}
+
+// How many bad answers there are more, once that came and this record was made.
+fn bad_answers_in(got: Got, made: Option<RecordView<'_>>) -> u64
+    ensures { result ≡ bad_answers_in got (option_map record_of made.entry) }
+{
+    match (got, made) {
+        (Got::Filled(_), Some(made)) => bad_entry(&made.entry),
+        _ => 0,
+    }
+}
+
+fn bad_entry(entry: &EntryView<'_>) -> u64
+    ensures { result ≡ bad_entry (entry_of entry.now) }
+{
+    match entry {
+        EntryView::Answer(answer) if matches!(answer.key, AnswerKey::Fault) => 1,
+        _ => 0,
+    }
 }
 
 fn tick_in(book: &mut Book, now: Moment) -> (Result<u32, BookFault>, CallCounts)

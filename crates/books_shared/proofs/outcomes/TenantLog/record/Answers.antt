@@ -1,4 +1,4 @@
-use Rattle.std.proofs.Common.{◌≡◌, ◌++◌, List, ap, subst, sym, rules}
+use Rattle.std.proofs.Common.{◌++◌, List, ap, subst, sym, rules}
 use Rattle.tenant_core.specs.Journals.{last_of}
 use Rattle.one_list.specs.Steps.{PartView, done_last, last_place}
 use Rattle.one_list.specs.declared.step.Done.{Done}
