@@ -13,7 +13,7 @@ use Rattle.floor_core.specs.declared.parts.Got.{Got}
 use Rattle.floor_core.specs.declared.parts.Turn.{Turn}
 use Rattle.floor_core.specs.declared.parts.Turn.TheVariants as turn
 use Rattle.one_list.specs.Holds.{BeginsHold, IsAnsweredByAnother}
-use Rattle.one_list.specs.Steps.{Place, done_by, next_place, of_tenant, of_worker}
+use Rattle.one_list.specs.Steps.{done_by, next_place, of_tenant, of_worker}
 use Rattle.one_list.specs.declared.step.Done.{Done}
 use Rattle.books_shared.specs.Rises.{command_rise, rise_of}
 use Rattle.books_shared.specs.Shares.{ShareView, share_met}

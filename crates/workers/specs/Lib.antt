@@ -2,3 +2,4 @@ pub mod Replies
 pub mod Counting
 pub mod Carrying
 pub mod Rolling
+pub mod PlaceCounts

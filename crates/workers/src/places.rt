@@ -1,14 +1,16 @@
 //! The places in which packets are exchanged with next peers, shared among the tenants.
 
-ghost use Rattle.std.specs.Prelude.{◌≡◌, ◌≤◌, vec_len, IfOk, IfSome};
+ghost use Rattle.std.specs.Prelude.{◌≡◌, ◌≤◌, vec_len, slice_index, IfOk, IfSome};
 ghost use Rattle.allotment.specs.Loans.{max_places, max_tenants};
+ghost use Rattle.workers.specs.PlaceCounts.{missed_by, raised_at, unless_answered};
 
 use allotment::{Admission, Lending};
 use std::alloc::{AllocError, Global};
 use std::sync::{Condvar, CondvarTimeouts, Mutex, MutexGuard, Wait};
 use std::time::{Clock, Duration, Instant};
 
-/// How many places a tenant uses and waits for, at one moment.
+/// How many places a tenant uses and waits for, at one moment, and how many of its packets got no answer since the places were
+/// made.
 #[derive(Clone, Copy, Debug, PartialEq, Eq)]
 pub struct PlaceUse {
     /// How many it is sure of.
@@ -17,11 +19,23 @@ pub struct PlaceUse {
     pub used: usize,
     /// How many of its threads wait for one.
     pub waiting: usize,
+    /// How many of its packets got no place in time. The count ends at 2^64 - 1, and so does the next.
+    pub missed: u64,
+    /// How many of its packets had a place, and got no answer there.
+    pub unanswered: u64,
 }
 
 /// A place that a tenant has taken. It can be neither copied nor dropped, only given back.
 pub struct Place {
     tenant: usize,
+}
+
+/// What lies under the lock: the places that are lent, and what is counted of each tenant.
+#[derive(Drop)]
+struct Counter {
+    lending: Lending,
+    missed: Vec<u64>,
+    unanswered: Vec<u64>,
 }
 
 /// The places that tenants share, behind a lock, and those who wait for one.
@@ -33,7 +47,7 @@ pub struct Place {
 /// coming.
 #[derive(Drop)]
 pub struct Places {
-    lending: Mutex<Lending>,
+    counter: Mutex<Counter>,
     // A bell for each tenant, at which its threads sleep.
     bells: Vec<Condvar>,
 }
@@ -54,27 +68,27 @@ impl Places {
         for _ in 0..tenants {
             bells.push_reserved(Condvar::new());
         }
-        let lending = Lending::new(alloc, places, tenants, most_waiting)?;
+        let counter = Counter {
+            lending: Lending::new(alloc, places, tenants, most_waiting)?,
+            missed: vec![in alloc; 0; tenants]?,
+            unanswered: vec![in alloc; 0; tenants]?,
+        };
         Ok(Places {
-            lending: Mutex::new(lending),
+            counter: Mutex::new(counter),
             bells,
         })
     }
 
     /// Takes a place for the tenant, and waits for one until that moment of the clock.
     ///
-    /// `None` if it got none by then, if as many threads of the tenant wait already as may, if the clock can't be
-    /// read, or if there is no such tenant.
+    /// `None` if it got none by then, if as many threads of the tenant wait already as may, or if the clock can't be
+    /// read: one more was missed. `None` also if there is no such tenant.
     pub fn take<R: Wait + Clock>(&self, rt: &R, tenant: usize, until: Instant) -> Option<Place>
         ensures { IfSome result (λ place. place.tenant ≡ tenant) }
     {
         let bell = self.bells.get(tenant)?;
-        let mut lending = self.lending.lock(rt);
-        // There are as many tenants as bells, which the lock's type can't say.
-        if tenant >= lending.tenants() {
-            return None;
-        }
-        match lending.ask(tenant) {
+        let mut counter = self.counter.lock(rt);
+        match ask(&mut counter, tenant)? {
             Admission::Taken => return Some(Place { tenant }),
             Admission::Full => return None,
             Admission::Waits => {}
@@ -84,34 +98,28 @@ impl Places {
             if left.is_zero() {
                 break;
             }
-            lending = bell.wait_timeout(rt, lending, left).0;
-            if picks_up(&mut lending, tenant) {
+            counter = bell.wait_timeout(rt, counter, left).0;
+            if picks_up(&mut counter, tenant) {
                 return Some(Place { tenant });
             }
         }
-        give_up(&mut lending, tenant);
+        give_up(&mut counter, tenant);
         None
     }
 
     /// The tenant's use of the places now; `None` if there is no such tenant.
     pub fn use_by<R: Wait>(&self, rt: &R, tenant: usize) -> Option<PlaceUse> {
-        let lending = self.lending.lock(rt);
-        if tenant >= lending.tenants() {
-            return None;
-        }
-        Some(PlaceUse {
-            share: lending.share(),
-            used: lending.used_by(tenant),
-            waiting: lending.waiting_of(tenant),
-        })
+        let counter = self.counter.lock(rt);
+        use_in(&counter, tenant)
     }
 
-    /// Gives back a place that was taken from these, and wakes one that waits and may have it.
-    pub fn give_back<R: Wait>(&self, rt: &R, place: Place) {
+    /// Gives back a place that was taken from these, whether a packet got an answer there or not. Wakes one that waits and may
+    /// have the place.
+    pub fn give_back<R: Wait>(&self, rt: &R, place: Place, is_answered: bool) {
         let Place { tenant } = place;
-        let mut lending = self.lending.lock(rt);
-        let next = came_back(&mut lending, tenant);
-        drop(lending);
+        let mut counter = self.counter.lock(rt);
+        let next = came_back(&mut counter, tenant, is_answered);
+        drop(counter);
         if let Some(next) = next
             && let Some(bell) = self.bells.get(next)
         {
@@ -128,20 +136,77 @@ fn left_until(clock: &impl Clock, until: Instant) -> Duration {
     }
 }
 
-// Whether a place was kept for one of the tenant that waited.
-fn picks_up(lending: &mut Lending, tenant: usize) -> bool {
-    tenant < lending.tenants() && lending.pick_up(tenant)
-}
-
-// One of the tenant waits no longer.
-fn give_up(lending: &mut Lending, tenant: usize) {
-    if tenant < lending.tenants() {
-        lending.give_up(tenant);
+// One more of the tenant.
+fn raise(counts: &mut Vec<u64>, tenant: usize)
+    ensures { counts.new.items ≡ raised_at tenant counts.old.items }
+{
+    if tenant < counts.len() {
+        counts[tenant] = counts[tenant].saturating_add(1);
     }
 }
 
-// The tenant of one that waits, for whom the place is kept.
-fn came_back(lending: &mut Lending, tenant: usize) -> Option<usize> {
+// The answer to one of the tenant that asks for a place, counted if it gets none; `None` if there is no such tenant.
+fn ask(counter: &mut Counter, tenant: usize) -> Option<Admission>
+    ensures missed { counter.new.missed.items ≡ missed_by result tenant counter.old.missed.items }
+    ensures unanswered { counter.new.unanswered ≡ counter.old.unanswered }
+{
+    // There are as many tenants as bells, which the lock's type can't say.
+    if tenant >= counter.lending.tenants() {
+        return None;
+    }
+    let admission = counter.lending.ask(tenant);
+    if admission == Admission::Full {
+        raise(&mut counter.missed, tenant);
+    }
+    Some(admission)
+}
+
+// Whether a place was kept for one of the tenant that waited.
+fn picks_up(counter: &mut Counter, tenant: usize) -> bool
+    ensures missed { counter.new.missed ≡ counter.old.missed }
+    ensures unanswered { counter.new.unanswered ≡ counter.old.unanswered }
+{
+    tenant < counter.lending.tenants() && counter.lending.pick_up(tenant)
+}
+
+// One of the tenant waits no longer, and got no place.
+fn give_up(counter: &mut Counter, tenant: usize)
+    ensures missed { counter.new.missed.items ≡ raised_at tenant counter.old.missed.items }
+    ensures unanswered { counter.new.unanswered ≡ counter.old.unanswered }
+{
+    if tenant < counter.lending.tenants() {
+        counter.lending.give_up(tenant);
+    }
+    raise(&mut counter.missed, tenant);
+}
+
+// The tenant's use of the places; `None` if there is no such tenant.
+fn use_in(counter: &Counter, tenant: usize) -> Option<PlaceUse>
+    ensures { IfSome result (λ told. (told.missed ≡ slice_index counter.now.missed.items tenant)
+        × (told.unanswered ≡ slice_index counter.now.unanswered.items tenant)) }
+{
+    let lending = &counter.lending;
+    if tenant >= lending.tenants() {
+        return None;
+    }
+    Some(PlaceUse {
+        share: lending.share(),
+        used: lending.used_by(tenant),
+        waiting: lending.waiting_of(tenant),
+        missed: *counter.missed.get(tenant)?,
+        unanswered: *counter.unanswered.get(tenant)?,
+    })
+}
+
+// The tenant of one that waits, for whom the place is kept. Counts a packet that got no answer.
+fn came_back(counter: &mut Counter, tenant: usize, is_answered: bool) -> Option<usize>
+    ensures missed { counter.new.missed ≡ counter.old.missed }
+    ensures unanswered { counter.new.unanswered.items ≡ unless_answered is_answered tenant counter.old.unanswered.items }
+{
+    if !is_answered {
+        raise(&mut counter.unanswered, tenant);
+    }
+    let lending = &mut counter.lending;
     if tenant < lending.tenants() && lending.uses(tenant) {
         return lending.give_back(tenant);
     }

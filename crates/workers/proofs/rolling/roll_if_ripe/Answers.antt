@@ -1,4 +1,4 @@
-use Rattle.std.proofs.Common.{◌≡◌, ◌∙◌, true, false, ap, sym}
+use Rattle.std.proofs.Common.{◌∙◌, ap, sym}
 use Rattle.std.specs.Prelude.{Ok, Err}
 use Rattle.workers.specs.Rolling.{is_ripe}
 use Rattle.workers.proofs.Growing.{was_ripe, was_unripe}
