@@ -132,31 +132,28 @@ pub talk_awaits : {J : Type 0} {r : Ghosts J} (Gives : ℕ → Type 0) (office :
 talk_awaits Gives office before old mid new left now more after law t w =
     subst (λ (rest : List ℕ). Talk Gives office before old new rest after) (sym w.grew) (talk_grows Gives office before old mid new left w.came after law t w.taken)
 
--- a connection ends where no more is left
-pub talk_ends : {J : Type 0} {r : Ghosts J} (Gives : ℕ → Type 0) (office : Office J r) (before : Desk J r) (old new : Option (List ℕ)) (left : List ℕ) (after : Desk J r)
-    → Talk Gives office before old new left after → IsAtEnd new → HasHeard Gives office before old new (Ok over.Ended) after
-talk_ends Gives office before old new left after t end = record {
+-- a connection ends in that way, and no request closed it
+talk_stops : {J : Type 0} {r : Ghosts J} (Gives : ℕ → Type 0) (office : Office J r) (before : Desk J r) (old new : Option (List ℕ)) (left : List ℕ) (after : Desk J r) (way : Over)
+    → Talk Gives office before old new left after → HasEnded (tenants_of office) way left false new → HasHeard Gives office before old new (Ok way) after
+talk_stops Gives office before old new left after way t ended = record {
   connection = record { came = t.came; questions = t.questions };
   left = left;
   last = false;
   asked = t.asked;
   answered = t.answered;
   taken = t.taken;
-  over = end;
+  over = ended;
 }
+
+-- where no more is left
+pub talk_ends : {J : Type 0} {r : Ghosts J} (Gives : ℕ → Type 0) (office : Office J r) (before : Desk J r) (old new : Option (List ℕ)) (left : List ℕ) (after : Desk J r)
+    → Talk Gives office before old new left after → IsAtEnd new → HasHeard Gives office before old new (Ok over.Ended) after
+talk_ends Gives office before old new left after t end = talk_stops Gives office before old new left after over.Ended t end
 
 -- or where it gives way, with nothing left
 pub talk_yields : {J : Type 0} {r : Ghosts J} (Gives : ℕ → Type 0) (office : Office J r) (before : Desk J r) (old new : Option (List ℕ)) (left : List ℕ) (after : Desk J r)
     → Talk Gives office before old new left after → left ≡ [] → HasHeard Gives office before old new (Ok over.Yielded) after
-talk_yields Gives office before old new left after t none = record {
-  connection = record { came = t.came; questions = t.questions };
-  left = left;
-  last = false;
-  asked = t.asked;
-  answered = t.answered;
-  taken = t.taken;
-  over = none;
-}
+talk_yields Gives office before old new left after t none = talk_stops Gives office before old new left after over.Yielded t none
 
 -- or where a device fails
 pub talk_fails : {J : Type 0} {r : Ghosts J} (Gives : ℕ → Type 0) (office : Office J r) (before : Desk J r) (old mid new : Option (List ℕ)) (left : List ℕ) (after : Desk J r) (fault : LinkFault)

@@ -19,7 +19,7 @@ use Rattle.meters.specs.declared.kind.Kind.TheVariants as kind
 use Rattle.workers.specs.declared.places.PlaceUse.{PlaceUse}
 use Rattle.service.specs.declared.host.metrics.BookFigures.{BookFigures}
 use Rattle.service.specs.declared.host.metrics.Family.{Family}
-use Rattle.service.specs.declared.host.metrics.Family.TheVariants.{Accepts, Open, Waiting, Answers, Packets, LinkFaults, RefusedTokens, PlacesShare, PlacesUsed, PlacesAwaited, Period, Entries, JournalPlaces, OpenHolds, StatementsWaiting}
+use Rattle.service.specs.declared.host.metrics.Family.TheVariants.{Accepts, Open, Waiting, Answers, Packets, Unanswered, LinkFaults, RefusedTokens, PlacesShare, PlacesUsed, PlacesAwaited, Period, Entries, JournalPlaces, OpenHolds, StatementsWaiting}
 use Rattle.service.specs.declared.host.metrics.PacketFigures.{PacketFigures}
 use Rattle.service.specs.declared.host.metrics.ServiceCounts.{ServiceCounts}
 use Rattle.service.specs.declared.host.metrics.TenantCounts.{TenantCounts}
@@ -33,6 +33,7 @@ family_name Open = codes "ilpd_connections_open"
 family_name Waiting = codes "ilpd_threads_waiting"
 family_name Answers = codes "ilpd_answers_total"
 family_name Packets = codes "ilpd_packets_total"
+family_name Unanswered = codes "ilpd_unanswered_total"
 family_name LinkFaults = codes "ilpd_link_faults_total"
 family_name RefusedTokens = codes "ilpd_operator_tokens_refused_total"
 family_name PlacesShare = codes "ilpd_places_share"
@@ -51,6 +52,7 @@ help_of Open = codes "Connections that are open."
 help_of Waiting = codes "Threads that wait for a connection."
 help_of Answers = codes "Packets and commands that were answered, by the status of the answer."
 help_of Packets = codes "Packets that the tenant decided, by what became of them."
+help_of Unanswered = codes "Packets that went on and got no usable answer, by the cause."
 help_of LinkFaults = codes "Packets for which a peer gave no usable answer, or for which no place was free in time."
 help_of RefusedTokens = codes "Commands and questions under a token that is not the operator's."
 help_of PlacesShare = codes "Places of which the tenant is sure."
@@ -66,9 +68,17 @@ help_of StatementsWaiting = codes "Closed periods whose statements are still to 
 abbrev pub type_of : Family → List ℕ
 type_of Answers = codes "counter"
 type_of Packets = codes "counter"
+type_of Unanswered = codes "counter"
 type_of LinkFaults = codes "counter"
 type_of RefusedTokens = codes "counter"
 type_of _ = codes "gauge"
+
+-- what its lines tell apart beside the tenant
+abbrev pub detail_name : Family → List ℕ
+detail_name Answers = codes "status"
+detail_name Packets = codes "outcome"
+detail_name Unanswered = codes "cause"
+detail_name _ = []
 
 -- the lines before the numbers of a family
 unfoldable pub family_head : Family → List ℕ
@@ -94,10 +104,10 @@ label_of family tenant = family_name family ++ codes "{tenant=\"" ++ tenant ++ c
 unfoldable pub family_line : Family → List ℕ → ℕ → List ℕ
 family_line family tenant number = label_of family tenant ++ codes "}" ++ number_text number
 
--- the line that says how many answers to a tenant's packets and commands had a status
-unfoldable pub answer_line : List ℕ → List ℕ → ℕ → List ℕ
-answer_line tenant status number =
-    label_of Answers tenant ++ codes ",status=\"" ++ status ++ codes "\"}" ++ number_text number
+-- the line of a tenant's number that has a detail, as the status of the answer
+unfoldable pub detail_line : Family → (tenant detail : List ℕ) → ℕ → List ℕ
+detail_line family tenant detail number =
+    label_of family tenant ++ codes "," ++ detail_name family ++ codes "=\"" ++ detail ++ codes "\"}" ++ number_text number
 
 -- the word for an outcome: its code, if the packet was refused (RFC 0027, "Error Codes")
 abbrev pub outcome_word : PacketOutcome → List ℕ
@@ -105,11 +115,6 @@ outcome_word Fulfilled = codes "fulfilled"
 outcome_word Rejected = codes "rejected"
 outcome_word Configured = codes "configured"
 outcome_word (Refused code) = code_of code
-
--- the line that says how many of a tenant's packets had an outcome
-unfoldable pub outcome_line : List ℕ → List ℕ → ℕ → List ℕ
-outcome_line tenant outcome number =
-    label_of Packets tenant ++ codes ",outcome=\"" ++ outcome ++ codes "\"}" ++ number_text number
 
 -- ---- numbers
 
@@ -130,17 +135,21 @@ figure_of _ counts = 0
 -- the lines of a tenant's answers: 200, 4xx and 503
 unfoldable pub answers_of : TenantCounts → List ℕ
 answers_of counts =
-    answer_line counts.name.now (codes "200") counts.answered ++ answer_line counts.name.now (codes "4xx") counts.refused
-    ++ answer_line counts.name.now (codes "503") counts.unavailable
+    detail_line Answers counts.name.now (codes "200") counts.answered ++ detail_line Answers counts.name.now (codes "4xx") counts.refused
+    ++ detail_line Answers counts.name.now (codes "503") counts.unavailable
 
--- the answers of all tenants
-unfoldable pub all_answers : List TenantCounts → List ℕ
-all_answers all = family_head Answers ++ flat_map answers_of all
+-- the lines of a tenant's packets that got no usable answer: no place was free in time, nothing came back from the peer, or bytes
+-- that are neither a Fulfill nor a Reject
+unfoldable pub unanswered_of : TenantCounts → List ℕ
+unanswered_of counts =
+    detail_line Unanswered counts.name.now (codes "no_place") counts.places.missed
+    ++ detail_line Unanswered counts.name.now (codes "no_answer") counts.places.unanswered
+    ++ detail_line Unanswered counts.name.now (codes "bad_answer") counts.packets.bad_answers
 
 -- the lines of a tenant's packets that had these outcomes
 unfoldable pub outcomes_text : TenantCounts → List PacketOutcome → List ℕ
 outcomes_text counts outcomes =
-    flat_map (λ o. outcome_line counts.name.now (outcome_word o) (count_at o counts.packets.outcomes)) outcomes
+    flat_map (λ o. detail_line Packets counts.name.now (outcome_word o) (count_at o counts.packets.outcomes)) outcomes
 
 -- all outcomes that a journal has
 abbrev pub all_outcomes : List PacketOutcome
@@ -152,11 +161,18 @@ all_outcomes =
 -- what became of a tenant's packets, and of how many it had no room in its journal
 unfoldable pub packets_of : TenantCounts → List ℕ
 packets_of counts =
-    outcomes_text counts all_outcomes ++ outcome_line counts.name.now (codes "journal_full") counts.packets.full_journals
+    outcomes_text counts all_outcomes ++ detail_line Packets counts.name.now (codes "journal_full") counts.packets.full_journals
 
--- what became of the packets of all tenants
-unfoldable pub all_packets : List TenantCounts → List ℕ
-all_packets all = family_head Packets ++ flat_map packets_of all
+-- the lines of a tenant in a family of several
+abbrev pub details_of : Family → TenantCounts → List ℕ
+details_of Answers counts = answers_of counts
+details_of Packets counts = packets_of counts
+details_of Unanswered counts = unanswered_of counts
+details_of _ counts = []
+
+-- a family of several numbers of each tenant
+unfoldable pub details_text : Family → List TenantCounts → List ℕ
+details_text family all = family_head family ++ flat_map (details_of family) all
 
 -- a family of numbers of the tenants
 unfoldable pub each_text : Family → List TenantCounts → List ℕ
@@ -175,8 +191,8 @@ service_text service =
 -- the metrics of the tenants, by family
 unfoldable pub tenants_text : List TenantCounts → List ℕ
 tenants_text all =
-    all_answers all ++ all_packets all ++ each_text LinkFaults all ++ each_text RefusedTokens all ++ each_text PlacesShare all ++ each_text PlacesUsed all
-    ++ each_text PlacesAwaited all ++ each_text Period all ++ each_text Entries all ++ each_text JournalPlaces all ++ each_text OpenHolds all
+    details_text Answers all ++ details_text Packets all ++ details_text Unanswered all ++ each_text LinkFaults all ++ each_text RefusedTokens all
+    ++ each_text PlacesShare all ++ each_text PlacesUsed all ++ each_text PlacesAwaited all ++ each_text Period all ++ each_text Entries all ++ each_text JournalPlaces all ++ each_text OpenHolds all
 
 -- the metrics of the statements of closed periods, if some are kept
 abbrev pub statements_text : Bool → List TenantCounts → List ℕ
@@ -202,14 +218,15 @@ figures_of book = record {
 abbrev pub IsBookOf : ℕ → BookFigures → Type 0
 IsBookOf tenant figures = (book : State) × (book.opening.tenant ≡ tenant) × (figures ≡ figures_of book)
 
--- these figures are of a book of the tenant: as many packets had each outcome as records of the steps that led to it from the
--- tenant's first opening say, and so many found its journal full
+-- These figures are of a book of the tenant. As many packets had each outcome as records of the steps that led to it from the
+-- tenant's first opening say. So many packets found its journal full, and so many answers of peers were bad.
 pub record ArePacketsOf (openings : List Opening) (tenant : ℕ) (figures : PacketFigures) : Type 0 where
   pub locked : LockedBook
   pub own : locked.state.opening.tenant ≡ tenant
   pub led : IsLedTo openings locked.state locked.steps
   pub counted : AreCounted figures.outcomes locked.steps
   pub full : figures.full_journals ≡ locked.full
+  pub bad : figures.bad_answers ≡ locked.bad
 
 -- these counts of a tenant are what was read: so often each kind, so many refused tokens, these places, what became of these
 -- packets, this book, and so many statements that wait

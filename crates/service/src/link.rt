@@ -184,7 +184,7 @@ impl<H: Wait + Clock, C: workers::Clock, P: Peers> PeerLink<'_, H, C, P> {
             return Got::Fault;
         };
         let got = self.exchanged_at(&place, packet, until, out);
-        places.give_back(handle, place);
+        places.give_back(handle, place, got != Got::Fault);
         got
     }
 

@@ -71,6 +71,8 @@ const NO_PLACES: PlaceUse = PlaceUse {
     share: 0,
     used: 0,
     waiting: 0,
+    missed: 0,
+    unanswered: 0,
 };
 
 /// Who answers at the host's door: one request of each connection.
@@ -171,6 +173,7 @@ impl<H: Wait, J: Run> Gauges for Gauged<'_, H, J> {
         PacketFigures {
             outcomes: guard.packets(),
             full_journals: guard.full_journals(),
+            bad_answers: guard.bad_answers(),
         }
     }
 

@@ -5,9 +5,9 @@ ghost use Rattle.std.specs.List.{slice_get};
 ghost use Rattle.atomic_table.specs.Seated.{TableId};
 ghost use Rattle.meters.specs.declared.kind.Kind as meter;
 ghost use Rattle.service.specs.declared.host.metrics.TenantCounts as told;
-ghost use Rattle.service.specs.Metrics.{AreRead, all_answers, all_outcomes, all_packets, answer_line, answers_of, bit, each_text, figure_of, figures_of, family_head};
-ghost use Rattle.service.specs.Metrics.{help_of, label_of, family_line, metrics_text, family_name, number_text, outcome_line, outcome_word, outcomes_text};
-ghost use Rattle.service.specs.Metrics.{packets_of, service_text, single_text, statements_text, tenants_text, type_of};
+ghost use Rattle.service.specs.Metrics.{AreRead, all_outcomes, answers_of, bit, detail_line, detail_name, details_of, details_text, each_text};
+ghost use Rattle.service.specs.Metrics.{family_head, family_line, family_name, figure_of, figures_of, help_of, label_of, metrics_text, number_text};
+ghost use Rattle.service.specs.Metrics.{outcome_word, outcomes_text, packets_of, service_text, single_text, statements_text, tenants_text, type_of, unanswered_of};
 
 use books_shared::{PacketCounts, PacketOutcome};
 use common_types::Name;
@@ -34,6 +34,8 @@ pub struct PacketFigures {
     pub outcomes: PacketCounts,
     /// How many packets found the journal full. They are no entries.
     pub full_journals: u64,
+    /// For how many packets a peer's answer was neither a Fulfill nor a Reject.
+    pub bad_answers: u64,
 }
 
 /// What is counted of a tenant, at one moment.
@@ -196,6 +198,8 @@ enum Family {
     Answers,
     /// Of each tenant, sixteen by what became of the packet.
     Packets,
+    /// Of each tenant, three by the cause.
+    Unanswered,
     /// Of each tenant, one.
     LinkFaults,
     RefusedTokens,
@@ -219,6 +223,7 @@ impl Family {
             Family::Waiting => b"ilpd_threads_waiting",
             Family::Answers => b"ilpd_answers_total",
             Family::Packets => b"ilpd_packets_total",
+            Family::Unanswered => b"ilpd_unanswered_total",
             Family::LinkFaults => b"ilpd_link_faults_total",
             Family::RefusedTokens => b"ilpd_operator_tokens_refused_total",
             Family::PlacesShare => b"ilpd_places_share",
@@ -242,6 +247,7 @@ impl Family {
             Family::Answers =>
                 b"Packets and commands that were answered, by the status of the answer.",
             Family::Packets => b"Packets that the tenant decided, by what became of them.",
+            Family::Unanswered => b"Packets that went on and got no usable answer, by the cause.",
             Family::LinkFaults =>
                 b"Packets for which a peer gave no usable answer, or for which no place was free in time.",
             Family::RefusedTokens =>
@@ -259,13 +265,28 @@ impl Family {
         }
     }
 
+    // What its lines tell apart beside the tenant.
+    fn detail(self) -> &'static [u8]
+        ensures { result.now ≡ detail_name self }
+    {
+        match self {
+            Family::Answers => b"status",
+            Family::Packets => b"outcome",
+            Family::Unanswered => b"cause",
+            _ => b"",
+        }
+    }
+
     // Whether its numbers only grow.
     fn kind(self) -> &'static [u8]
         ensures { result.now ≡ type_of self }
     {
         match self {
-            Family::Answers | Family::Packets | Family::LinkFaults | Family::RefusedTokens =>
-                b"counter",
+            Family::Answers
+            | Family::Packets
+            | Family::Unanswered
+            | Family::LinkFaults
+            | Family::RefusedTokens => b"counter",
             _ => b"gauge",
         }
     }
@@ -287,8 +308,8 @@ impl TenantCounts<'_> {
             Family::JournalPlaces => self.book.journal_places,
             Family::OpenHolds => self.book.open_holds,
             Family::StatementsWaiting => self.statements,
-            Family::Accepts | Family::Open | Family::Waiting | Family::Answers | Family::Packets =>
-                0,
+            Family::Accepts | Family::Open | Family::Waiting => 0,
+            Family::Answers | Family::Packets | Family::Unanswered => 0,
         }
     }
 }
@@ -361,20 +382,23 @@ fn put_line(
     put_number(alloc, text, number)
 }
 
-// How many answers of a tenant had a status.
-#[tactic(auto, unfolding(crate::specs::Metrics::answer_line))]
-fn put_answer(
+// The line of a tenant's number that has a detail.
+#[tactic(auto, unfolding(crate::specs::Metrics::detail_line))]
+fn put_detail(
     alloc: Global,
     text: &mut Vec<u8>,
+    family: Family,
     tenant: &Name,
-    status: &[u8],
+    detail: &[u8],
     number: u64,
 ) -> Result<(), AllocError>
-    ensures { OnOk result (text.new.items ≡ text.old.items ++ answer_line tenant.now status.now number) }
+    ensures { OnOk result (text.new.items ≡ text.old.items ++ detail_line family tenant.now detail.now number) }
 {
-    put_label(text, Family::Answers, tenant)?;
-    text.extend_from_slice(b",status=\"")?;
-    text.extend_from_slice(status)?;
+    put_label(text, family, tenant)?;
+    text.extend_from_slice(b",")?;
+    text.extend_from_slice(family.detail())?;
+    text.extend_from_slice(b"=\"")?;
+    text.extend_from_slice(detail)?;
     text.extend_from_slice(b"\"}")?;
     put_number(alloc, text, number)
 }
@@ -388,25 +412,39 @@ fn put_answers(
 ) -> Result<(), AllocError>
     ensures { OnOk result (text.new.items ≡ text.old.items ++ answers_of counts.now) }
 {
-    put_answer(alloc, text, counts.name, b"200", counts.answered)?;
-    put_answer(alloc, text, counts.name, b"4xx", counts.refused)?;
-    put_answer(alloc, text, counts.name, b"503", counts.unavailable)
+    let (family, name) = (Family::Answers, counts.name);
+    put_detail(alloc, text, family, name, b"200", counts.answered)?;
+    put_detail(alloc, text, family, name, b"4xx", counts.refused)?;
+    put_detail(alloc, text, family, name, b"503", counts.unavailable)
 }
 
-// The answers of all tenants.
-#[tactic(auto, unfolding(crate::specs::Metrics::all_answers))]
-fn put_all_answers(
+// How many packets of a tenant got no usable answer, by the cause.
+#[tactic(auto, unfolding(crate::specs::Metrics::unanswered_of))]
+fn put_unanswered(
     alloc: Global,
     text: &mut Vec<u8>,
-    all: &[TenantCounts<'_>],
+    counts: &TenantCounts<'_>,
 ) -> Result<(), AllocError>
-    ensures { OnOk result (text.new.items ≡ text.old.items ++ all_answers all.now) }
+    ensures { OnOk result (text.new.items ≡ text.old.items ++ unanswered_of counts.now) }
 {
-    put_head(text, Family::Answers)?;
-    for counts in all {
-        put_answers(alloc, text, counts)?;
-    }
-    Ok(())
+    let (family, name) = (Family::Unanswered, counts.name);
+    put_detail(alloc, text, family, name, b"no_place", counts.places.missed)?;
+    put_detail(
+        alloc,
+        text,
+        family,
+        name,
+        b"no_answer",
+        counts.places.unanswered,
+    )?;
+    put_detail(
+        alloc,
+        text,
+        family,
+        name,
+        b"bad_answer",
+        counts.packets.bad_answers,
+    )
 }
 
 /// The word for an outcome: its code, if the packet was refused.
@@ -444,24 +482,6 @@ pub fn all_outcomes() -> [PacketOutcome; 15]
     ]
 }
 
-// How many packets of a tenant had an outcome.
-#[tactic(auto, unfolding(crate::specs::Metrics::outcome_line))]
-fn put_outcome(
-    alloc: Global,
-    text: &mut Vec<u8>,
-    tenant: &Name,
-    outcome: &[u8],
-    number: u64,
-) -> Result<(), AllocError>
-    ensures { OnOk result (text.new.items ≡ text.old.items ++ outcome_line tenant.now outcome.now number) }
-{
-    put_label(text, Family::Packets, tenant)?;
-    text.extend_from_slice(b",outcome=\"")?;
-    text.extend_from_slice(outcome)?;
-    text.extend_from_slice(b"\"}")?;
-    put_number(alloc, text, number)
-}
-
 // How many packets of a tenant had each of these outcomes.
 #[tactic(auto, unfolding(crate::specs::Metrics::outcomes_text))]
 fn put_outcomes(
@@ -474,7 +494,8 @@ fn put_outcomes(
 {
     for outcome in outcomes {
         let number = counts.packets.outcomes.get(*outcome);
-        put_outcome(alloc, text, counts.name, outcome_word(*outcome), number)?;
+        let word = outcome_word(*outcome);
+        put_detail(alloc, text, Family::Packets, counts.name, word, number)?;
     }
     Ok(())
 }
@@ -490,21 +511,46 @@ fn put_packets(
 {
     put_outcomes(alloc, text, counts, &all_outcomes())?;
     let full = counts.packets.full_journals;
-    put_outcome(alloc, text, counts.name, b"journal_full", full)
+    put_detail(
+        alloc,
+        text,
+        Family::Packets,
+        counts.name,
+        b"journal_full",
+        full,
+    )
 }
 
-// What became of the packets of all tenants.
-#[tactic(auto, unfolding(crate::specs::Metrics::all_packets))]
-fn put_all_packets(
+// The lines of a tenant in a family of several.
+fn put_details(
     alloc: Global,
     text: &mut Vec<u8>,
+    family: Family,
+    counts: &TenantCounts<'_>,
+) -> Result<(), AllocError>
+    ensures { OnOk result (text.new.items ≡ text.old.items ++ details_of family counts.now) }
+{
+    match family {
+        Family::Answers => put_answers(alloc, text, counts),
+        Family::Packets => put_packets(alloc, text, counts),
+        Family::Unanswered => put_unanswered(alloc, text, counts),
+        _ => Ok(()),
+    }
+}
+
+// A family of several numbers of each tenant.
+#[tactic(auto, unfolding(crate::specs::Metrics::details_text))]
+fn put_all_details(
+    alloc: Global,
+    text: &mut Vec<u8>,
+    family: Family,
     all: &[TenantCounts<'_>],
 ) -> Result<(), AllocError>
-    ensures { OnOk result (text.new.items ≡ text.old.items ++ all_packets all.now) }
+    ensures { OnOk result (text.new.items ≡ text.old.items ++ details_text family all.now) }
 {
-    put_head(text, Family::Packets)?;
+    put_head(text, family)?;
     for counts in all {
-        put_packets(alloc, text, counts)?;
+        put_details(alloc, text, family, counts)?;
     }
     Ok(())
 }
@@ -551,8 +597,9 @@ fn put_tenants(
 ) -> Result<(), AllocError>
     ensures { OnOk result (text.new.items ≡ text.old.items ++ tenants_text all.now) }
 {
-    put_all_answers(alloc, text, all)?;
-    put_all_packets(alloc, text, all)?;
+    put_all_details(alloc, text, Family::Answers, all)?;
+    put_all_details(alloc, text, Family::Packets, all)?;
+    put_all_details(alloc, text, Family::Unanswered, all)?;
     put_each(alloc, text, Family::LinkFaults, all)?;
     put_each(alloc, text, Family::RefusedTokens, all)?;
     put_each(alloc, text, Family::PlacesShare, all)?;

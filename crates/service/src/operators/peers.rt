@@ -30,26 +30,8 @@ fn put_label(text: &mut Vec<u8>, tenant: &Name, peer: &[u8]) -> Result<(), Alloc
     text.extend_from_slice(b"\"")
 }
 
-// How many packets had an outcome and count for a peer.
+// How many packets had an outcome and count for a peer, unless there are none.
 #[tactic(auto, unfolding(crate::specs::PeerMetrics::count_line))]
-fn put_count(
-    alloc: Global,
-    text: &mut Vec<u8>,
-    tenant: &Name,
-    peer: &[u8],
-    outcome: PacketOutcome,
-    number: u64,
-) -> Result<(), AllocError>
-    ensures { OnOk result (text.new.items ≡ text.old.items ++ count_line tenant.now peer.now outcome number) }
-{
-    put_label(text, tenant, peer)?;
-    text.extend_from_slice(b",outcome=\"")?;
-    text.extend_from_slice(outcome_word(outcome))?;
-    text.extend_from_slice(b"\"}")?;
-    put_number(alloc, text, number)
-}
-
-// The same, unless there are none.
 fn put_line(
     alloc: Global,
     text: &mut Vec<u8>,
@@ -63,7 +45,11 @@ fn put_line(
     if number == 0 {
         return Ok(());
     }
-    put_count(alloc, text, tenant, peer, outcome, number)
+    put_label(text, tenant, peer)?;
+    text.extend_from_slice(b",outcome=\"")?;
+    text.extend_from_slice(outcome_word(outcome))?;
+    text.extend_from_slice(b"\"}")?;
+    put_number(alloc, text, number)
 }
 
 // The lines of a peer of that name.

@@ -262,6 +262,9 @@ ilpd_packets_total{tenant=\"acme\",outcome=\"fulfilled\"} 0
 ilpd_packets_total{tenant=\"acme\",outcome=\"F08\"} 0
 ilpd_packets_total{tenant=\"acme\",outcome=\"journal_full\"} 0
 ilpd_packets_total{tenant=\"beta\",outcome=\"configured\"} 0
+ilpd_unanswered_total{tenant=\"acme\",cause=\"no_place\"} 0
+ilpd_unanswered_total{tenant=\"acme\",cause=\"no_answer\"} 0
+ilpd_unanswered_total{tenant=\"acme\",cause=\"bad_answer\"} 0
 ilpd_link_faults_total{tenant=\"acme\"} 0
 ilpd_operator_tokens_refused_total{tenant=\"acme\"} 0
 ilpd_operator_tokens_refused_total{tenant=\"beta\"} 1

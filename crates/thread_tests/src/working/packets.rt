@@ -35,8 +35,8 @@ pub(super) struct Packet {
     title: &'static str,
     token: &'static [u8],
     frame: &'static str,
-    // Whether bob fulfills it.
-    is_fulfilled: bool,
+    // What bob answers; nothing if it is empty.
+    answer: &'static str,
     // By how many milliseconds the clock goes on each time it is read.
     step: u64,
     reply: Reply,
@@ -47,6 +47,7 @@ pub(super) struct Packet {
     entries: u64,
     strangers: u64,
     full_journals: u64,
+    bad_answers: u64,
     // What the book counts that became of it, how often, and the number of the peer that it counts for.
     outcome: (PacketOutcome, u64),
     peer: PeerNo,
@@ -58,7 +59,7 @@ pub(super) const FULFILLED: Packet = Packet {
     title: "fulfilled",
     token: b"tok-alice",
     frame: "{base}",
-    is_fulfilled: true,
+    answer: "{fulfill}",
     step: 0,
     reply: Reply::Settled(Got::Filled(35)),
     code: 200,
@@ -68,6 +69,7 @@ pub(super) const FULFILLED: Packet = Packet {
     entries: 2,
     strangers: 0,
     full_journals: 0,
+    bad_answers: 0,
     outcome: (PacketOutcome::Fulfilled, 1),
     peer: ALICE,
     gathered: (1_000, -1_500, 0, 0, 2),
@@ -85,13 +87,25 @@ const LATE: Packet = Packet {
 
 const UNANSWERED: Packet = Packet {
     title: "nothing comes back",
-    is_fulfilled: false,
+    answer: "",
     reply: Reply::Settled(Got::Fault),
     told: "{T01}",
     tally: Tally {
         faults: 1,
         ..ONE_ANSWERED
     },
+    outcome: (PacketOutcome::Refused(RejectCode::PeerUnreachable), 1),
+    peer: BOB,
+    gathered: (0, 0, 0, 0, 2),
+    ..FULFILLED
+};
+
+const BAD_ANSWER: Packet = Packet {
+    title: "a Prepare comes back",
+    answer: "{base}",
+    reply: Reply::Settled(Got::Filled(73)),
+    told: "{T01}",
+    bad_answers: 1,
     outcome: (PacketOutcome::Refused(RejectCode::PeerUnreachable), 1),
     peer: BOB,
     gathered: (0, 0, 0, 0, 2),
@@ -209,10 +223,10 @@ pub(super) fn is_carried<J: Run, R: Wait + AllocGlobal>(
     packet: &Packet,
 ) -> Result<bool, Fail> {
     let alloc = rt.alloc();
-    let (wanted, fulfill) = (frame(alloc, "{sent}")?, frame(alloc, "{fulfill}")?);
+    let (wanted, answer) = (frame(alloc, "{sent}")?, frame(alloc, packet.answer)?);
     let mut link = Looking {
         wanted: wanted.as_slice(),
-        answer: packet.is_fulfilled.then_some(fulfill.as_slice()),
+        answer: (!answer.is_empty()).then_some(answer.as_slice()),
         sends: 0,
         is_right: false,
     };
@@ -265,7 +279,9 @@ fn is_known<J: Run, R: Wait + AllocGlobal>(
     let (outcome, times) = packet.outcome;
     let is_peers = PeerPackets::of(rt.alloc(), guard.book())?.get(packet.peer, outcome) == times;
     let is_counted = guard.packets().get(outcome) == times;
-    Ok(is_peers && is_counted && guard.full_journals() == packet.full_journals)
+    let is_apart = guard.full_journals() == packet.full_journals
+        && guard.bad_answers() == packet.bad_answers;
+    Ok(is_peers && is_counted && is_apart)
 }
 
 // The reply to a job, whether the sender gets what it should, and what the meters have counted, by a clock that goes
@@ -318,6 +334,7 @@ fn a_fulfillment_that_comes_late_is_none(rt: HostRuntime) -> Result<(), Fail> {
 #[test]
 fn a_packet_that_nobody_answers_is_refused(rt: HostRuntime) -> Result<(), Fail> {
     assert!(rt; on_two_books(&rt, "64", &UNANSWERED)?);
+    assert!(rt; on_two_books(&rt, "64", &BAD_ANSWER)?);
     Ok(())
 }
 

@@ -120,7 +120,7 @@ fn soon(clock: &impl Clock, millis: u64) -> Result<Instant, Fail> {
 fn is_taken<R: Wait>(rt: &R, places: &Places, place: Option<Place>) -> bool {
     match place {
         Some(place) => {
-            places.give_back(rt, place);
+            places.give_back(rt, place, true);
             true
         }
         None => false,
@@ -136,13 +136,24 @@ fn a_wait_for_a_place_ends(rt: HostRuntime) -> Result<(), Fail> {
     };
     let late = is_taken(&rt, &places, places.take(&rt, 0, until));
     let now = Instant::now(&rt);
-    places.give_back(&rt, place);
+    places.give_back(&rt, place, false);
     assert!(rt; !late && now? >= until);
     let again = is_taken(&rt, &places, places.take(&rt, 0, until));
     let stranger = is_taken(&rt, &places, places.take(&rt, 1, until));
     assert!(rt; again && !stranger);
+    assert!(rt; places.use_by(&rt, 0) == Some(FREE_AGAIN));
+    assert!(rt; places.use_by(&rt, 1).is_none());
     Ok(())
 }
+
+// The one place of one tenant, after one that got none, and one that got no answer there.
+const FREE_AGAIN: PlaceUse = PlaceUse {
+    share: 1,
+    used: 0,
+    waiting: 0,
+    missed: 1,
+    unanswered: 1,
+};
 
 fn wait_until<R: Wait>(rt: &R, word: &AtomicU64, least: u64) {
     for _ in rt.forever() {
@@ -164,7 +175,7 @@ fn hold<R: Wait + Clock>(
     if let Some(place) = places.take(rt, 0, until) {
         held.fetch_add(1, Ordering::SeqCst);
         wait_until(rt, gate, 1);
-        places.give_back(rt, place);
+        places.give_back(rt, place, true);
     }
 }
 
@@ -214,12 +225,16 @@ const TAKEN: PlaceUse = PlaceUse {
     share: 0,
     used: 1,
     waiting: 0,
+    missed: 0,
+    unanswered: 0,
 };
 
 const AWAITED: PlaceUse = PlaceUse {
     share: 0,
     used: 0,
     waiting: 1,
+    missed: 0,
+    unanswered: 0,
 };
 
 fn is_before(clock: &impl Clock, until: Instant) -> bool {

@@ -8,4 +8,5 @@ returns g c = record {
   led = c.enter-guard.ensures.led;
   counted = search rules;
   full = search rules;
+  bad = search rules;
 }
