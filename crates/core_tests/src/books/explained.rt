@@ -4,11 +4,11 @@ use super::setups::{
     Agreed, CONDITION, START, USUAL, add_route_to, begun, called, moment, network, number, send,
     tenant_of,
 };
-use ilp_addr::{Address, Prefix};
+use ilp_addr::{Address, Moment, Prefix};
 use std::alloc::Global;
 use std::process::Abort;
 use std::test::Fail;
-use tenant_core::{Book, Expiry, Finding, PrepareKey};
+use tenant_core::{Book, Expiry, Finding, Network, PrepareKey, TenantSetup, Verdict};
 
 /// A packet that is asked of after so many others went on: where it goes, and which check decides. It expires so many
 /// milliseconds after the start.
@@ -172,21 +172,56 @@ static ASKED: [Asked; 17] = [
     },
 ];
 
-// A book of p0, p1 and p2, in which so many packets went on: for g.acme.bob to p1, and for g.acme.fee at a fee.
-fn book_of(alloc: Global, asked: &Asked) -> Result<Book, Fail> {
-    let mut network = network(alloc, asked.agreed, 3)?;
+// A route for g.acme.fee to p1, at a fee.
+fn add_route_at_a_fee(alloc: Global, network: &mut Network) -> Result<(), Fail> {
     let prefix = Prefix::parse(alloc, b"g.acme.fee")?;
-    add_route_to(&mut network, prefix, &called(alloc, 1)?, number(2_000)?)??;
-    let setup = tenant_of(asked.journal, 1_000, 30_000, network)?.ok_or("a setup")?;
-    let mut book = begun(alloc, 0, &setup, moment(START)?)?;
-    for _ in 0..asked.sent {
-        send(&mut book, START)?;
+    add_route_to(network, prefix, &called(alloc, 1)?, number(2_000)?)??;
+    Ok(())
+}
+
+// p0, p1 and p2, with a route for g.acme.bob to p1, and one for g.acme.fee at a fee.
+fn network_of(alloc: Global, agreed: Agreed) -> Result<Network, Fail> {
+    let mut network = network(alloc, agreed, 3)?;
+    add_route_at_a_fee(alloc, &mut network)?;
+    Ok(network)
+}
+
+fn setup_of(alloc: Global, asked: &Asked) -> Result<TenantSetup, Fail> {
+    let network = network_of(alloc, asked.agreed)?;
+    Ok(tenant_of(asked.journal, 1_000, 30_000, network)?.ok_or("a setup")?)
+}
+
+// The book in which no packet went on yet.
+fn begun_book(alloc: Global, asked: &Asked) -> Result<Book, Fail> {
+    let start = moment(START)?;
+    let setup = setup_of(alloc, asked)?;
+    begun(alloc, 0, &setup, start)
+}
+
+fn send_all(book: &mut Book, packets: u64) -> Result<(), Fail> {
+    for _ in 0..packets {
+        send(book, START)?;
     }
+    Ok(())
+}
+
+// A book in which so many packets went on.
+fn book_of(alloc: Global, asked: &Asked) -> Result<Book, Fail> {
+    let mut book = begun_book(alloc, asked)?;
+    send_all(&mut book, asked.sent)?;
     Ok(book)
 }
 
-fn expect_finding(rt: &impl Abort, alloc: Global, asked: &Asked) -> Result<(), Fail> {
-    let mut book = book_of(alloc, asked)?;
+fn explained(book: &Book, token: &[u8], key: &PrepareKey<'_>, now: Moment) -> (Finding, usize) {
+    (book.explain(token, key, now), book.entries())
+}
+
+fn decided(book: &mut Book, token: &[u8], key: &PrepareKey<'_>, now: Moment) -> Verdict {
+    book.decide(token, key, now)
+}
+
+// What the book says of the packet, how many entries it has then, and how it decides.
+fn told(book: &mut Book, asked: &Asked) -> Result<(Finding, usize, Verdict), Fail> {
     let destination = Address::parse(asked.destination.as_bytes())?;
     let key = PrepareKey {
         amount: asked.amount,
@@ -195,22 +230,52 @@ fn expect_finding(rt: &impl Abort, alloc: Global, asked: &Asked) -> Result<(), F
         destination: &destination,
     };
     let (token, now) = (asked.token.as_bytes(), moment(START)?);
-    let (wanted, entries) = (asked.finding, book.entries());
-    let found = book.explain(token, &key, now);
-    assert!(rt; found == wanted, "{}: {found:?}", asked.destination);
-    assert!(rt; book.entries() == entries);
-    let verdict = book.decide(token, &key, now);
+    let (found, entries) = explained(book, token, &key, now);
+    Ok((found, entries, decided(book, token, &key, now)))
+}
+
+fn expect_found(rt: &impl Abort, found: Finding, asked: &Asked) {
+    assert!(rt; found == asked.finding, "{}: {found:?}", asked.destination);
+}
+
+fn expect_verdict(rt: &impl Abort, verdict: Verdict, found: Finding) {
     assert!(rt; verdict == found.verdict(), "{found:?}: {verdict:?}");
+}
+
+fn expect_told(rt: &impl Abort, book: &mut Book, asked: &Asked) -> Result<(), Fail> {
+    let before = book.entries();
+    let (found, entries, verdict) = told(book, asked)?;
+    expect_found(rt, found, asked);
+    assert!(rt; entries == before);
+    expect_verdict(rt, verdict, found);
+    Ok(())
+}
+
+fn expect_finding(rt: &impl Abort, alloc: Global, asked: &Asked) -> Result<(), Fail> {
+    let mut book = book_of(alloc, asked)?;
+    expect_told(rt, &mut book, asked)
+}
+
+fn expect_tokens(rt: &impl Abort, book: &Book) {
+    assert!(rt; book.token_of(b"p2") == Some(b"p2".as_slice()));
+    assert!(rt; book.token_of(b"p9").is_none());
+}
+
+fn expect_findings(rt: &impl Abort, alloc: Global, rows: &[Asked]) -> Result<(), Fail> {
+    for asked in rows {
+        expect_finding(rt, alloc, asked)?;
+    }
+    Ok(())
+}
+
+fn expect_tokens_of_peers(rt: &impl Abort, alloc: Global) -> Result<(), Fail> {
+    let book = book_of(alloc, &PLAIN)?;
+    expect_tokens(rt, &book);
     Ok(())
 }
 
 #[test]
 fn the_check_that_decides(rt: HostRuntime) -> Result<(), Fail> {
-    for asked in &ASKED {
-        expect_finding(&rt, rt.alloc(), asked)?;
-    }
-    let book = book_of(rt.alloc(), &PLAIN)?;
-    assert!(&rt; book.token_of(b"p2") == Some(b"p2".as_slice()));
-    assert!(&rt; book.token_of(b"p9").is_none());
-    Ok(())
+    expect_findings(&rt, rt.alloc(), &ASKED)?;
+    expect_tokens_of_peers(&rt, rt.alloc())
 }
