@@ -95,14 +95,41 @@ fn setup_of<'a>(alloc: Global) -> Arg<'a> {
         .action(ArgAction::Set)
 }
 
+// A word by that name, which has a value.
+fn named<'a>(
+    alloc: Global,
+    name: &'static str,
+    value: &'static str,
+    help: &'static str,
+) -> Arg<'a> {
+    Arg::new(alloc, name)
+        .long(name)
+        .value_name(value)
+        .help(help)
+}
+
+fn text_of<'a>(
+    alloc: Global,
+    name: &'static str,
+    value: &'static str,
+    help: &'static str,
+) -> Arg<'a> {
+    named(alloc, name, value, help).action(ArgAction::Set)
+}
+
+fn number_of<'a>(
+    alloc: Global,
+    name: &'static str,
+    value: &'static str,
+    help: &'static str,
+) -> Arg<'a> {
+    named(alloc, name, value, help).value_parser(value_parser!(u64))
+}
+
 // How many workers a script has.
 fn script_workers<'a>(alloc: Global) -> Arg<'a> {
-    Arg::new(alloc, "workers")
-        .long("workers")
-        .value_name("W")
-        .help("How many workers the script has, 1 to 64")
-        .default_value("1")
-        .value_parser(value_parser!(u64))
+    let help = "How many workers the script has, 1 to 64";
+    number_of(alloc, "workers", "W", help).default_value("1")
 }
 
 fn replay_of<'a>(alloc: Global) -> Result<Command<'a>, AllocError> {
@@ -116,13 +143,9 @@ fn replay_of<'a>(alloc: Global) -> Result<Command<'a>, AllocError> {
 }
 
 fn script_folder<'a>(alloc: Global) -> Arg<'a> {
-    Arg::new(alloc, "statements")
-        .long("statements")
-        .value_name("DIR")
-        .help(
-            "The folder that gets the statement of each period that the script closes, and has none of these tenants yet",
-        )
-        .action(ArgAction::Set)
+    let help =
+        "The folder that gets the statement of each period that the script closes, and has none of these tenants yet";
+    text_of(alloc, "statements", "DIR", help)
 }
 
 fn check_of<'a>(alloc: Global) -> Result<Command<'a>, AllocError> {
@@ -156,21 +179,14 @@ fn verify_of<'a>(alloc: Global) -> Result<Command<'a>, AllocError> {
 }
 
 fn receipts_of<'a>(alloc: Global) -> Arg<'a> {
-    Arg::new(alloc, "receipts")
-        .long("receipts")
-        .value_name("FILE")
-        .help(
-            "The file of the receipts of all workers that are to be audited: then each FILE is a statement of any tenant",
-        )
-        .action(ArgAction::Set)
+    let help =
+        "The file of the receipts of all workers that are to be audited: then each FILE is a statement of any tenant";
+    text_of(alloc, "receipts", "FILE", help)
 }
 
 fn first_setup<'a>(alloc: Global) -> Arg<'a> {
-    Arg::new(alloc, "setup")
-        .long("setup")
-        .value_name("SETUP")
-        .help("The file of the setup that the first statement is to begin with")
-        .action(ArgAction::Set)
+    let help = "The file of the setup that the first statement is to begin with";
+    text_of(alloc, "setup", "SETUP", help)
 }
 
 fn statements_of<'a>(alloc: Global) -> Arg<'a> {
@@ -198,29 +214,18 @@ fn files_of<'a>(
 }
 
 fn service_workers<'a>(alloc: Global) -> Arg<'a> {
-    Arg::new(alloc, "workers")
-        .long("workers")
-        .value_name("W")
-        .help("How many packets may be on their way to next peers at once, 1 to 64")
-        .required(true)
-        .value_parser(value_parser!(u64))
+    let help = "How many packets may be on their way to next peers at once, 1 to 64";
+    number_of(alloc, "workers", "W", help).required(true)
 }
 
 fn service_connections<'a>(alloc: Global) -> Arg<'a> {
-    Arg::new(alloc, "connections")
-        .long("connections")
-        .value_name("C")
-        .help("How many connections may be open at once, each on a thread of its own, 1 to 4096")
-        .default_value("256")
-        .value_parser(value_parser!(u64))
+    let help = "How many connections may be open at once, each on a thread of its own, 1 to 4096";
+    number_of(alloc, "connections", "C", help).default_value("256")
 }
 
 fn service_rounds<'a>(alloc: Global) -> Arg<'a> {
-    Arg::new(alloc, "rounds")
-        .long("rounds")
-        .value_name("N")
-        .help("To end once W times N connections were served; N is 1 to 1000000")
-        .value_parser(value_parser!(u64))
+    let help = "To end once W times N connections were served; N is 1 to 1000000";
+    number_of(alloc, "rounds", "N", help)
 }
 
 fn flag_of<'a>(alloc: Global, name: &'static str, help: &'static str) -> Arg<'a> {
@@ -231,11 +236,8 @@ fn flag_of<'a>(alloc: Global, name: &'static str, help: &'static str) -> Arg<'a>
 }
 
 fn listen_of<'a>(alloc: Global) -> Arg<'a> {
-    Arg::new(alloc, "listen")
-        .long("listen")
-        .value_name("ADDR")
-        .help("The address to listen on: an IP address and a port")
-        .default_value(ADDRESS)
+    let help = "The address to listen on: an IP address and a port";
+    named(alloc, "listen", "ADDR", help).default_value(ADDRESS)
 }
 
 // How many there are of what a service has.
@@ -257,23 +259,14 @@ fn with_reports<'a>(alloc: Global, serve: Command<'a>) -> Result<Command<'a>, Al
 }
 
 fn host_address<'a>(alloc: Global) -> Result<Arg<'a>, AllocError> {
-    Arg::new(alloc, "host")
-        .long("host")
-        .value_name("ADDR")
-        .help(
-            "The address at which whoever runs the process asks for health, metrics and the present setup, and stops it",
-        )
-        .action(ArgAction::Set)
-        .requires_arg("host-token")
+    let help =
+        "The address at which whoever runs the process asks for health, metrics and the present setup, and stops it";
+    text_of(alloc, "host", "ADDR", help).requires_arg("host-token")
 }
 
 fn host_token<'a>(alloc: Global) -> Result<Arg<'a>, AllocError> {
-    Arg::new(alloc, "host-token")
-        .long("host-token")
-        .value_name("FILE")
-        .help("The file of the token that is shown there")
-        .action(ArgAction::Set)
-        .requires_arg("host")
+    let help = "The file of the token that is shown there";
+    text_of(alloc, "host-token", "FILE", help).requires_arg("host")
 }
 
 // The words of the host's door, each of which needs the other.
@@ -282,13 +275,9 @@ fn with_host<'a>(alloc: Global, serve: Command<'a>) -> Result<Command<'a>, Alloc
 }
 
 fn operators_address<'a>(alloc: Global) -> Arg<'a> {
-    Arg::new(alloc, "operators")
-        .long("operators")
-        .value_name("ADDR")
-        .help(
-            "The address at which each operator sends commands, and asks for its own setup, metrics and statements, and why a packet would be refused",
-        )
-        .action(ArgAction::Set)
+    let help =
+        "The address at which each operator sends commands, and asks for its own setup, metrics and statements, and why a packet would be refused";
+    text_of(alloc, "operators", "ADDR", help)
 }
 
 fn no_admin<'a>(alloc: Global) -> Result<Arg<'a>, AllocError> {
@@ -297,23 +286,15 @@ fn no_admin<'a>(alloc: Global) -> Result<Arg<'a>, AllocError> {
 }
 
 fn folder_of<'a>(alloc: Global) -> Arg<'a> {
-    Arg::new(alloc, "statements")
-        .long("statements")
-        .value_name("DIR")
-        .help(
-            "The folder that gets the statement of each period that is closed: one of its own for each start",
-        )
-        .action(ArgAction::Set)
+    let help =
+        "The folder that gets the statement of each period that is closed: one of its own for each start";
+    text_of(alloc, "statements", "DIR", help)
 }
 
 fn roll_at<'a>(alloc: Global) -> Arg<'a> {
-    Arg::new(alloc, "roll-at")
-        .long("roll-at")
-        .value_name("PERCENT")
-        .help(
-            "To close a tenant's period, as the command roll does, once it is so full and no packet awaits its answer, 1 to 100",
-        )
-        .value_parser(value_parser!(u64))
+    let help =
+        "To close a tenant's period, as the command roll does, once it is so full and no packet awaits its answer, 1 to 100";
+    number_of(alloc, "roll-at", "PERCENT", help)
 }
 
 fn serve_of<'a>(alloc: Global) -> Result<Command<'a>, AllocError> {
