@@ -1,7 +1,7 @@
 //! What `verify --receipts` says.
 
-use crate::words::{NEXT, STATEMENT};
-use command_line::{Ending, Statements, exit_status, memory_refused, tell_audit};
+use crate::words::{NEXT, STATEMENT, expect_ended};
+use command_line::{Ending, Statements, memory_refused, tell_audit};
 use std::alloc::Global;
 use std::process::Abort;
 use std::test::Fail;
@@ -37,7 +37,9 @@ admin = \"root-b\"
 ";
 
 // The statements, in their order, the receipts, what is said of them, and the exit status.
-static AUDITED: [(&[&str], &str, &str, u8); 7] = [
+type Audited = (&'static [&'static str], &'static str, &'static str, u8);
+
+static AUDITED: [Audited; 7] = [
     (&[STATEMENT, NEXT, BETA], RECEIPTS, "audit ok 4\n", 0),
     (&[BETA, STATEMENT, NEXT], RECEIPTS, "audit ok 4\n", 0),
     (&[STATEMENT, BETA], RECEIPTS, "audit no-period\n", 6),
@@ -80,13 +82,17 @@ fn audited(alloc: Global, texts: &[&str], receipts: &str, out: &mut Vec<u8>) -> 
     )
 }
 
+fn expect_audited(rt: &impl Abort, alloc: Global, row: &Audited) {
+    let (texts, receipts, said, status) = row;
+    let mut out = Vec::new(alloc);
+    let ended = audited(alloc, texts, receipts, &mut out);
+    expect_ended(rt, out.as_slice(), &ended, said, *status);
+}
+
 #[test]
 fn what_verify_says_of_receipts(rt: HostRuntime) -> Result<(), Fail> {
-    for (texts, receipts, said, status) in &AUDITED {
-        let mut out = Vec::new(rt.alloc());
-        let ended = audited(rt.alloc(), texts, receipts, &mut out);
-        assert!(rt; out.as_slice() == said.as_bytes(), "{said}");
-        assert!(rt; exit_status(&ended) == *status);
+    for row in &AUDITED {
+        expect_audited(&rt, rt.alloc(), row);
     }
     Ok(())
 }

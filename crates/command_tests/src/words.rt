@@ -371,25 +371,48 @@ fn begun_again(alloc: Global, setup: &str, b: &str, out: &mut Vec<u8>) -> Result
     tell(alloc, &chain, out)
 }
 
-#[test]
-fn what_verify_says_over_a_setup(rt: HostRuntime) -> Result<(), Fail> {
-    for (more, b, said, status) in &BEGUN {
-        let setup = [SETUP, *more].concat(rt.alloc())?;
-        let mut out = Vec::new(rt.alloc());
-        let ended = begun_again(rt.alloc(), setup.as_str(), b, &mut out);
-        assert!(rt; out.as_slice() == said.as_bytes(), "{said}");
-        assert!(rt; exit_status(&ended) == *status);
-    }
+/// That was said, and a run that ended so has that status.
+pub fn expect_ended(
+    rt: &impl Abort,
+    out: &[u8],
+    ended: &Result<(), Ending>,
+    said: &str,
+    status: u8,
+) {
+    assert!(rt; out == said.as_bytes(), "{said}");
+    assert!(rt; exit_status(ended) == status);
+}
+
+type Row = (&'static str, &'static str, &'static str, u8);
+
+fn expect_begun(rt: &impl Abort, alloc: Global, row: &Row) -> Result<(), Fail> {
+    let (more, b, said, status) = row;
+    let setup = [SETUP, *more].concat(alloc)?;
+    let mut out = Vec::new(alloc);
+    let ended = begun_again(alloc, setup.as_str(), b, &mut out);
+    expect_ended(rt, out.as_slice(), &ended, said, *status);
     Ok(())
 }
 
 #[test]
+fn what_verify_says_over_a_setup(rt: HostRuntime) -> Result<(), Fail> {
+    for row in &BEGUN {
+        expect_begun(&rt, rt.alloc(), row)?;
+    }
+    Ok(())
+}
+
+fn expect_verified(rt: &impl Abort, alloc: Global, row: &Row) {
+    let (a, b, said, status) = row;
+    let mut out = Vec::new(alloc);
+    let ended = verified(alloc, a, b, &mut out);
+    expect_ended(rt, out.as_slice(), &ended, said, *status);
+}
+
+#[test]
 fn what_verify_says(rt: HostRuntime) -> Result<(), Fail> {
-    for (a, b, said, status) in &VERIFIED {
-        let mut out = Vec::new(rt.alloc());
-        let ended = verified(rt.alloc(), a, b, &mut out);
-        assert!(rt; out.as_slice() == said.as_bytes(), "{said}");
-        assert!(rt; exit_status(&ended) == *status);
+    for row in &VERIFIED {
+        expect_verified(&rt, rt.alloc(), row);
     }
     Ok(())
 }
@@ -460,8 +483,7 @@ fn expect_said(rt: &impl Abort, alloc: Global, row: &Checked) -> Result<(), Fail
     };
     let mut text = Vec::new(alloc);
     let ended = check(alloc, setup.as_bytes(), script, &mut text);
-    assert!(rt; text.as_slice() == said.as_bytes());
-    assert!(rt; exit_status(&ended) == *status);
+    expect_ended(rt, text.as_slice(), &ended, said, *status);
     Ok(())
 }
 
