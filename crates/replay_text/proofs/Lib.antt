@@ -16,3 +16,4 @@ pub mod LastWords
 pub mod Putting
 pub mod Takings
 pub mod Starts
+pub mod Begun

@@ -58,6 +58,13 @@ IsReplayFault (fault.Setup f) read workers known = read ≡ Err f
 IsReplayFault (fault.Script f) read workers known =
     IsOk read × IfSome known (λ script. refusal_of read workers script ≡ Some (fault.Script f))
 
+-- so it is of a fault that is not one of a setup, for tenants of these names
+abbrev pub IsReadFault : ReplayFault → List (List ℕ) → ℕ → Option (List ℕ) → Type 0
+IsReadFault fault.Memory names workers known = Unit {0}
+IsReadFault fault.Device names workers known = Unit {0}
+IsReadFault (fault.Setup f) names workers known = ⊥
+IsReadFault (fault.Script f) names workers known = IfSome known (λ script. steps_of_script names workers script ≡ Err f)
+
 -- the whole text was written
 abbrev pub WritesAll : List ℕ → ℕ → List ℕ → Option (List ℕ) → Option (List ℕ) → Type 0
 WritesAll setup_text workers script old new =

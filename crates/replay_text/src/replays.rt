@@ -1,29 +1,29 @@
 //! Replays of scripts.
 
-ghost use Rattle.std.specs.Prelude.{◌≡◌, ◌≢◌, ◌≤◌, ◌<◌, ◌⊎◌, ◌↔◌, ◌+◌, ◌∷◌, [], ℕ, List, OnOk, IfOk, IfErr, IfSome, IsOk, None, Some, Ok, Err, length};
-ghost use Rattle.std.specs.Io.KnownBytes.{Appends};
-ghost use Rattle.replay_text.specs.Replay.{HasLong, names_in, refusal_of, IsReplayFault, Prints, WritesAll, LeavesWritten};
+ghost use Rattle.std.specs.Prelude.{◌≡◌, ◌≢◌, ◌≤◌, ◌<◌, ◌⊎◌, ◌↔◌, ◌+◌, ◌∷◌, [], ℕ, List, OnOk, IfOk, IfErr, IfSome, IsOk, IsTrue, None, Ok, Err, length};
+ghost use Rattle.std.specs.Io.KnownBytes.{Appends, IsAtEnd};
+ghost use Rattle.replay_text.specs.Replay.{HasLong, names_in, refusal_of, IsReadFault, IsReplayFault, Prints, WritesAll, LeavesWritten};
 ghost use Rattle.replay_text.specs.Replay.{IsReplayedFor, LeavesWrittenFor, WritesDone, WritesLines, WritesSome, world_of_setup};
 ghost use Rattle.admin_text.specs.Setup.{setup_of};
-ghost use Rattle.common_types.specs.Outcomes.{Fails};
 ghost use Rattle.floor_core.specs.FloorView.{Fits, HasRoom, max_seats, world_of};
 ghost use Rattle.tenant_core.specs.Limits.{max_tenants};
-ghost use Rattle.replay_text.specs.Script.{lines_of, steps_from, steps_in, steps_of_script, IsBad, NoneIsBad};
-ghost use Rattle.replay_text.specs.SoFar.{HoldsOfAll, IsReadTo, IsRunTo};
+ghost use Rattle.replay_text.specs.Script.{lines_of, steps_in, IsBad, NoneIsBad};
+ghost use Rattle.replay_text.specs.SoFar.{HoldsOfAll, IsBegun, IsReadGood, IsReadWhole, RunsOn};
 ghost use Rattle.replay_text.specs.Streams.{AppendsFront, ConsumesAtMost, WritesUpTo};
 ghost use Rattle.replay_text.specs.Closed.{Closes, ClosesAll, TakesClosed, TakesClosedFor};
 
 use crate::keeping::{LetGo, PeriodKeeper, hand_over};
 use crate::printed::put_told;
-use crate::script::{MAX_SCRIPT, Meaning, ScriptFault, lines_checked, meaning_of};
-use crate::streams::{StreamFault, read_script, write_text};
-use crate::words::first_line;
+use crate::script::{MAX_LINE, MAX_SCRIPT, Meaning, ScriptFault, lines_checked, meaning_of};
+use crate::streams::{CHUNK, StreamFault, read_rest, read_some, write_text};
+use crate::words::{ended_line, first_line};
 use admin_text::{Setup, SetupFault, read_setup};
 use common_types::{Name, ReadError};
 use floor_core::{Floor, Step};
 use oer_core::Device;
 use std::alloc::{AllocError, Global};
 use std::io::{Read, Write};
+use std::mem;
 use thiserror::Error;
 
 /// How many bytes of lines are written as soon as there are so many.
@@ -96,12 +96,25 @@ struct Cast<'a> {
     workers: usize,
 }
 
-/// The lines that the front of a script printed, and the rest of the script, which begins with the line of that number.
+/// What lines of a script printed, and the number of the line after them. Rooms are used again: for the bytes of a frame,
+/// and for what is left of the text that was read.
 #[derive(Drop)]
-struct Front<'a> {
+struct Held {
     text: Vec<u8>,
-    rest: &'a [u8],
     number: usize,
+    frame: Vec<u8>,
+    spare: Vec<u8>,
+}
+
+/// The lines that the front of a script printed, and what was read of the rest, which begins with the line of that number;
+/// how many bytes were read in all, and whether these are the whole script.
+#[derive(Drop)]
+struct Front {
+    text: Vec<u8>,
+    rest: Vec<u8>,
+    number: usize,
+    taken: usize,
+    ended: bool,
 }
 
 // Does a step, appends the lines of its output to a text, and hands the keeper the period that it closed.
@@ -163,6 +176,8 @@ fn run_line<K: PeriodKeeper>(
         (world_of floor.old) (world_of floor.new) }
     ensures good { OnOk result (¬ (IsBad cast.now.names.now cast.now.workers line.now)) }
     ensures bad { result ≡ Err Refusal.Bad → IsBad cast.now.names.now cast.now.workers line.now }
+    ensures kept { result ≡ Err Refusal.Bad
+        → (floor.new ≡ floor.old) × (text.new.items ≡ text.old.items) × (keeper.new ≡ keeper.old) }
     ensures closed { OnOk result (Closes K.takes (steps_in cast.now.names.now cast.now.workers (line.now ∷ []))
         (world_of floor.old) (world_of floor.new) keeper.old keeper.new) }
     ensures workers { length floor.new.seats ≡ length floor.old.seats }
@@ -180,73 +195,222 @@ fn run_line<K: PeriodKeeper>(
     }
 }
 
-// Reads the lines of a script from the first on and does what they say, as long as their output has fewer bytes than
-// `most`. Nothing is written, also if a line is bad or memory runs out. Room is taken for as much output as there is
-// script, of which only what is used costs memory.
-fn run_front<'s, K: PeriodKeeper>(
+// Does what the lines of a part of a script say that have an end in it, as long as their output has fewer bytes than
+// `most`. Gives the rest of the part, and whether more of the script may be run: not if its next line is bad.
+fn run_ended<'a, K: PeriodKeeper>(
     alloc: Global,
     floor: &mut Floor,
     cast: &Cast<'_>,
     most: usize,
-    script: &'s [u8],
+    part: &'a [u8],
+    held: &mut Held,
     keeper: &mut K,
-) -> Result<Front<'s>, ReadError<ScriptFault>>
+) -> Result<(&'a [u8], bool), AllocError>
     requires workers { length floor.old.seats ≡ cast.now.workers }
     requires tenants { length floor.old.books ≡ length cast.now.names.now }
-    requires room { HasRoom floor.old (length script.now) }
-    requires short { length script.now ≤ MAX_SCRIPT }
-    ensures run { IfOk result (λ front. IsRunTo K.takes cast.now.names.now cast.now.workers script.now front.rest.now
-        floor.old floor.new front.text.items keeper.old keeper.new) }
-    ensures read { IfOk result (λ front.
-        IsReadTo cast.now.names.now cast.now.workers script.now front.number front.rest.now) }
-    ensures numbered { IfOk result (λ front. front.number + length front.rest.now ≤ MAX_SCRIPT + 1) }
-    ensures refused { IfErr result (λ error.
-        Fails error (steps_from cast.now.names.now cast.now.workers 1 (lines_of script.now))) }
+    requires room { HasRoom floor.old (length part.now) }
+    requires numbered { held.old.number + length part.now ≤ MAX_SCRIPT + 2 }
+    ensures run { IfOk result (λ r. RunsOn K.takes cast.now.names.now cast.now.workers part.now r.0.now
+        held.old.number held.new.number floor.old floor.new held.old.text.items held.new.text.items keeper.old keeper.new) }
+    ensures numbered { IfOk result (λ r. held.new.number + length r.0.now ≤ held.old.number + length part.now) }
 {
     floor_core::laws::one_after_the_other();
     floor_core::laws::outputs_are_there();
-    let held = most.min(script.len());
-    let mut room = Vec::new(alloc);
-    let mut text = Vec::with_capacity(alloc, held + STEP_ROOM)?;
-    let mut rest = script;
-    let mut number: usize = 1;
-    while !rest.is_empty() && text.len() < most {
-        let (line, after) = first_line(rest);
-        match run_line(alloc, floor, cast, line, &mut room, &mut text, keeper) {
+    let mut rest = part;
+    while held.text.len() < most {
+        let Some((line, after)) = ended_line(rest) else {
+            return Ok((rest, rest.len() <= MAX_LINE));
+        };
+        match run_line(
+            alloc,
+            floor,
+            cast,
+            line,
+            &mut held.frame,
+            &mut held.text,
+            keeper,
+        ) {
             Ok(()) => {}
-            Err(Refusal::Bad) => return Err(ReadError::Fault(ScriptFault::Line(number))),
-            Err(Refusal::Before) | Err(Refusal::Behind) => return Err(ReadError::Memory),
+            Err(Refusal::Bad) => return Ok((rest, false)),
+            Err(Refusal::Before) | Err(Refusal::Behind) => return Err(AllocError),
         }
         rest = after;
-        number += 1;
+        held.number += 1;
     }
-    Ok(Front { text, rest, number })
+    Ok((rest, false))
 }
 
-// Runs the front of a script, and checks what is left of it.
-fn good_front<'s, K: PeriodKeeper>(
+// The same of a part that is a text of its own, of which the rest is kept.
+fn run_part<K: PeriodKeeper>(
     alloc: Global,
     floor: &mut Floor,
     cast: &Cast<'_>,
     most: usize,
-    script: &'s [u8],
+    part: &mut Vec<u8>,
+    held: &mut Held,
     keeper: &mut K,
-) -> Result<Front<'s>, ReadError<ScriptFault>>
+) -> Result<bool, AllocError>
     requires workers { length floor.old.seats ≡ cast.now.workers }
     requires tenants { length floor.old.books ≡ length cast.now.names.now }
-    requires room { HasRoom floor.old (length script.now) }
-    requires short { length script.now ≤ MAX_SCRIPT }
-    ensures run { IfOk result (λ front. IsRunTo K.takes cast.now.names.now cast.now.workers script.now front.rest.now
-        floor.old floor.new front.text.items keeper.old keeper.new) }
-    ensures good { IfOk result (λ front. NoneIsBad cast.now.names.now cast.now.workers (lines_of front.rest.now)) }
-    ensures steps { OnOk result (steps_of_script cast.now.names.now cast.now.workers script.now
-        ≡ Ok (steps_in cast.now.names.now cast.now.workers (lines_of script.now))) }
-    ensures refused { IfErr result (λ error.
-        Fails error (steps_of_script cast.now.names.now cast.now.workers script.now)) }
+    requires room { HasRoom floor.old (length part.old.items) }
+    requires numbered { held.old.number + length part.old.items ≤ MAX_SCRIPT + 2 }
+    ensures run { OnOk result (RunsOn K.takes cast.now.names.now cast.now.workers part.old.items part.new.items
+        held.old.number held.new.number floor.old floor.new held.old.text.items held.new.text.items keeper.old keeper.new) }
+    ensures numbered { OnOk result (held.new.number + length part.new.items ≤ held.old.number + length part.old.items) }
 {
-    let front = run_front(alloc, floor, cast, most, script, keeper)?;
-    lines_checked(alloc, cast.names, cast.workers, front.number, front.rest)?;
+    let (rest, goes_on) = run_ended(alloc, floor, cast, most, part.as_slice(), held, keeper)?;
+    held.spare.clear();
+    held.spare.extend_from_slice(rest)?;
+    mem::swap(part, &mut held.spare);
+    Ok(goes_on)
+}
+
+// Reads a script and does what its lines say as they come, as long as their output has fewer bytes than `most`. Nothing is
+// written. It ends before a line that is bad. Room is taken for all that may be held, of which only what is used costs
+// memory.
+fn run_front<K: PeriodKeeper, R: Read + Device>(
+    alloc: Global,
+    floor: &mut Floor,
+    cast: &Cast<'_>,
+    most: usize,
+    reader: &mut R,
+    keeper: &mut K,
+) -> Result<Front, StreamFault>
+    requires workers { length floor.old.seats ≡ cast.now.workers }
+    requires tenants { length floor.old.books ≡ length cast.now.names.now }
+    requires room { HasRoom floor.old (MAX_SCRIPT + 1) }
+    requires most { most ≤ MOST_HELD }
+    ensures begun { IfOk result (λ front. IsBegun K.takes cast.now.names.now cast.now.workers
+        (R.remaining reader.old) (R.remaining reader.new) front.taken front.number front.rest.items
+        floor.old floor.new front.text.items keeper.old keeper.new) }
+    ensures numbered { IfOk result (λ front. front.number + length front.rest.items ≤ front.taken + 1) }
+    ensures bound { IfOk result (λ front. front.taken ≤ MAX_SCRIPT + 1) }
+    ensures short { IfOk result (λ front. IsTrue front.ended → front.taken ≤ MAX_SCRIPT) }
+    ensures end { IfOk result (λ front. IsTrue front.ended → IsAtEnd (R.remaining reader.new)) }
+    ensures size { result ≢ Err StreamFault.Size }
+    ensures device { (result ≡ Err StreamFault.Device) ↔ (R.failure_count reader.old < R.failure_count reader.new) }
+    ensures taken { ConsumesAtMost (MAX_SCRIPT + 1) (R.remaining reader.old) (R.remaining reader.new) }
+{
+    floor_core::laws::one_after_the_other();
+    floor_core::laws::outputs_are_there();
+    let before = reader.failures();
+    let Ok(text) = Vec::with_capacity(alloc, most + STEP_ROOM) else {
+        return Err(StreamFault::Memory);
+    };
+    let mut held = Held {
+        text,
+        number: 1,
+        frame: Vec::new(alloc),
+        spare: Vec::new(alloc),
+    };
+    let mut rest = Vec::new(alloc);
+    let mut taken: usize = 0;
+    let mut chunk = [0u8; CHUNK];
+    let mut goes_on = most > 0;
+    while goes_on && taken <= MAX_SCRIPT {
+        let read = read_some(
+            reader,
+            &mut chunk,
+            &mut rest,
+            MAX_SCRIPT + 1 - taken,
+            before,
+        )?;
+        if read == 0 {
+            return Ok(Front {
+                text: held.text,
+                rest,
+                number: held.number,
+                taken,
+                ended: true,
+            });
+        }
+        taken += read;
+        let Ok(more) = run_part(alloc, floor, cast, most, &mut rest, &mut held, keeper) else {
+            return Err(StreamFault::Memory);
+        };
+        goes_on = more;
+    }
+    Ok(Front {
+        text: held.text,
+        rest,
+        number: held.number,
+        taken,
+        ended: false,
+    })
+}
+
+// The same, and then all that is left of the script is read.
+fn whole_front<K: PeriodKeeper, R: Read + Device>(
+    alloc: Global,
+    floor: &mut Floor,
+    cast: &Cast<'_>,
+    most: usize,
+    reader: &mut R,
+    keeper: &mut K,
+) -> Result<Front, StreamFault>
+    requires workers { length floor.old.seats ≡ cast.now.workers }
+    requires tenants { length floor.old.books ≡ length cast.now.names.now }
+    requires room { HasRoom floor.old (MAX_SCRIPT + 1) }
+    requires most { most ≤ MOST_HELD }
+    ensures whole { IfOk result (λ front. IsReadWhole K.takes cast.now.names.now cast.now.workers
+        (R.remaining reader.old) front.number front.rest.items floor.old floor.new front.text.items keeper.old keeper.new) }
+    ensures numbered { IfOk result (λ front. front.number + length front.rest.items ≤ MAX_SCRIPT + 1) }
+    ensures size { result ≡ Err StreamFault.Size
+        → IfSome (R.remaining reader.old) (λ bytes. MAX_SCRIPT < length bytes) }
+    ensures device { (result ≡ Err StreamFault.Device) ↔ (R.failure_count reader.old < R.failure_count reader.new) }
+    ensures taken { ConsumesAtMost (MAX_SCRIPT + 1) (R.remaining reader.old) (R.remaining reader.new) }
+{
+    let before = reader.failures();
+    let mut front = run_front(alloc, floor, cast, most, reader, keeper)?;
+    if front.ended {
+        return Ok(front);
+    }
+    read_rest(
+        reader,
+        &mut front.rest,
+        MAX_SCRIPT + 1 - front.taken,
+        before,
+    )?;
     Ok(front)
+}
+
+// Reads a script, runs its front, and checks what is left of it.
+fn good_front<K: PeriodKeeper, R: Read + Device>(
+    alloc: Global,
+    floor: &mut Floor,
+    cast: &Cast<'_>,
+    most: usize,
+    reader: &mut R,
+    keeper: &mut K,
+) -> Result<Front, ReplayFault>
+    requires workers { length floor.old.seats ≡ cast.now.workers }
+    requires tenants { length floor.old.books ≡ length cast.now.names.now }
+    requires room { HasRoom floor.old (MAX_SCRIPT + 1) }
+    requires most { most ≤ MOST_HELD }
+    ensures good { IfOk result (λ front. IsReadGood K.takes cast.now.names.now cast.now.workers
+        (R.remaining reader.old) front.rest.items floor.old floor.new front.text.items keeper.old keeper.new) }
+    ensures refused { IfErr result (λ fault.
+        IsReadFault fault cast.now.names.now cast.now.workers (R.remaining reader.old)) }
+    ensures device { (result ≡ Err ReplayFault.Device) ↔ (R.failure_count reader.old < R.failure_count reader.new) }
+    ensures taken { ConsumesAtMost (MAX_SCRIPT + 1) (R.remaining reader.old) (R.remaining reader.new) }
+{
+    let front = match whole_front(alloc, floor, cast, most, reader, keeper) {
+        Ok(front) => front,
+        Err(StreamFault::Memory) => return Err(ReplayFault::Memory),
+        Err(StreamFault::Device) => return Err(ReplayFault::Device),
+        Err(StreamFault::Size) => return Err(ReplayFault::Script(ScriptFault::Size)),
+    };
+    match lines_checked(
+        alloc,
+        cast.names,
+        cast.workers,
+        front.number,
+        front.rest.as_slice(),
+    ) {
+        Ok(()) => Ok(front),
+        Err(ReadError::Memory) => Err(ReplayFault::Memory),
+        Err(ReadError::Fault(fault)) => Err(ReplayFault::Script(fault)),
+    }
 }
 
 // Writes the text and empties it, if it is long.
@@ -324,29 +488,36 @@ fn run_lines<K: PeriodKeeper, W: Write + Device>(
     Ok(Course::Whole)
 }
 
-// Runs a script for the tenants of a setup, who begin anew. Nothing is written before the whole script is known to be
-// good.
-fn run_script<K: PeriodKeeper, W: Write + Device>(
+// Replays the script that the reader has left for the tenants of a setup, who begin anew. Nothing is written before the
+// whole script is known to be good.
+fn run_script<K: PeriodKeeper, R: Read + Device, W: Write + Device>(
     alloc: Global,
     setup: &Setup,
     cast: &Cast<'_>,
     most: usize,
-    script: &[u8],
+    reader: &mut R,
     keeper: &mut K,
     writer: &mut W,
 ) -> Result<(), ReplayFault>
     requires tenants { (1 ≤ length setup.now.tenants) × (length setup.now.tenants ≤ max_tenants) }
     requires workers { (1 ≤ cast.now.workers) × (cast.now.workers ≤ max_seats) }
     requires names { cast.now.names.now ≡ names_in setup.now }
-    requires short { length script.now ≤ MAX_SCRIPT }
-    ensures written { OnOk result ((text : List ℕ) × IsReplayedFor setup.now cast.now.workers script.now text
-        × Appends (W.contents writer.old) (W.contents writer.new) text) }
-    ensures closed { OnOk result (TakesClosedFor K.takes setup.now cast.now.workers script.now keeper.old keeper.new) }
-    ensures refused { IfErr result (λ fault. IsReplayFault fault (Ok setup.now) cast.now.workers (Some script.now)) }
-    ensures left { IfErr result (λ fault. LeavesWrittenFor fault setup.now cast.now.workers (Some script.now)
+    requires most { most ≤ MOST_HELD }
+    ensures written { OnOk result (IfSome (R.remaining reader.old) (λ script.
+        (text : List ℕ) × IsReplayedFor setup.now cast.now.workers script text
+        × Appends (W.contents writer.old) (W.contents writer.new) text)) }
+    ensures closed { OnOk result (IfSome (R.remaining reader.old)
+        (λ script. TakesClosedFor K.takes setup.now cast.now.workers script keeper.old keeper.new)) }
+    ensures refused { IfErr result (λ fault. IsReplayFault fault (Ok setup.now) cast.now.workers (R.remaining reader.old)) }
+    ensures left { IfErr result (λ fault. LeavesWrittenFor fault setup.now cast.now.workers (R.remaining reader.old)
         (W.contents writer.old) (W.contents writer.new)) }
-    ensures device { (result ≡ Err ReplayFault.Device) ↔ (W.failure_count writer.old < W.failure_count writer.new) }
-    ensures order { result ≡ Err ReplayFault.Device → refusal_of (Ok setup.now) cast.now.workers script.now ≡ None }
+    ensures device { (result ≡ Err ReplayFault.Device)
+        ↔ ((R.failure_count reader.old < R.failure_count reader.new)
+        ⊎ (W.failure_count writer.old < W.failure_count writer.new)) }
+    ensures script_order { result ≡ Err ReplayFault.Device
+        → R.failure_count reader.new ≤ R.failure_count reader.old
+        → IfSome (R.remaining reader.old) (λ script. refusal_of (Ok setup.now) cast.now.workers script ≡ None) }
+    ensures taken { ConsumesAtMost (MAX_SCRIPT + 1) (R.remaining reader.old) (R.remaining reader.new) }
 {
     floor_core::laws::one_after_the_other();
     let tenants = setup.tenants.as_slice();
@@ -354,20 +525,27 @@ fn run_script<K: PeriodKeeper, W: Write + Device>(
         return Err(ReplayFault::Memory);
     };
     let Front { mut text, rest, .. } = match good_front(
-        alloc, &mut floor, cast, most, script, keeper,
+        alloc, &mut floor, cast, most, reader, keeper,
     ) {
         Ok(front) => front,
-        Err(ReadError::Memory) => return Err(ReplayFault::Memory),
-        Err(ReadError::Fault(fault)) => return Err(ReplayFault::Script(fault)),
+        Err(fault) => return Err(fault),
     };
-    match run_lines(alloc, &mut floor, cast, rest, &mut text, keeper, writer) {
+    match run_lines(
+        alloc,
+        &mut floor,
+        cast,
+        rest.as_slice(),
+        &mut text,
+        keeper,
+        writer,
+    ) {
         Ok(Course::Whole) => Ok(()),
         Err(StreamFault::Device) => Err(ReplayFault::Device),
         Ok(Course::Cut) | Err(_) => Err(ReplayFault::Memory),
     }
 }
 
-// Replays the script that the reader has left for a setup that was read.
+// The same, with the names of the setup's tenants.
 fn replay_for<K: PeriodKeeper, R: Read + Device, W: Write + Device>(
     alloc: Global,
     setup: &Setup,
@@ -379,6 +557,7 @@ fn replay_for<K: PeriodKeeper, R: Read + Device, W: Write + Device>(
 ) -> Result<(), ReplayFault>
     requires tenants { (1 ≤ length setup.now.tenants) × (length setup.now.tenants ≤ max_tenants) }
     requires workers { (1 ≤ workers) × (workers ≤ max_seats) }
+    requires most { most ≤ MOST_HELD }
     ensures written { OnOk result (IfSome (R.remaining reader.old) (λ script.
         (text : List ℕ) × IsReplayedFor setup.now workers script text
         × Appends (W.contents writer.old) (W.contents writer.new) text)) }
@@ -398,17 +577,11 @@ fn replay_for<K: PeriodKeeper, R: Read + Device, W: Write + Device>(
     let Ok(names) = setup.names(alloc) else {
         return Err(ReplayFault::Memory);
     };
-    let script = match read_script(alloc, reader) {
-        Ok(script) => script,
-        Err(StreamFault::Memory) => return Err(ReplayFault::Memory),
-        Err(StreamFault::Device) => return Err(ReplayFault::Device),
-        Err(StreamFault::Size) => return Err(ReplayFault::Script(ScriptFault::Size)),
-    };
     let cast = Cast {
         names: names.as_slice(),
         workers,
     };
-    run_script(alloc, setup, &cast, most, script.as_slice(), keeper, writer)
+    run_script(alloc, setup, &cast, most, reader, keeper, writer)
 }
 
 // The same as `replay_keeping`, but that the keeper may see periods of a script that turns out bad, as long as fewer bytes
@@ -422,7 +595,8 @@ fn replay_holding<K: PeriodKeeper, R: Read + Device, W: Write + Device>(
     keeper: &mut K,
     writer: &mut W,
 ) -> Result<(), ReplayFault>
-    requires { (1 ≤ workers) × (workers ≤ max_seats) }
+    requires workers { (1 ≤ workers) × (workers ≤ max_seats) }
+    requires most { most ≤ MOST_HELD }
     // What was written for each tenant are the lines of the one-tenant connector on the tenant's own steps alone.
     ensures written { OnOk result (IfSome (R.remaining reader.old)
         (λ script. WritesAll setup.now workers script (W.contents writer.old) (W.contents writer.new))) }
@@ -491,8 +665,8 @@ pub fn replay_keeping<K: PeriodKeeper, R: Read + Device, W: Write + Device>(
 
 /// Replays the script that the reader has left, for the setup, and writes a line or more for each of its steps.
 ///
-/// `setup` has the bytes of a setup, and `workers` is from 1 to 64. The whole script is read before the first step. At
-/// most 16,777,217 bytes are taken from the reader.
+/// `setup` has the bytes of a setup, and `workers` is from 1 to 64. The whole script is read before anything is written.
+/// At most 16,777,217 bytes are taken from the reader.
 ///
 /// Errors, in the order of the tests: a fault of the setup, a read that failed, a script that is too long, its first
 /// bad line. Nothing was written then. Memory may run out at any point, and a write may fail: then a part of the text

@@ -1,14 +1,15 @@
-//! Scripts that are read whole, and texts that are written whole.
+//! Texts that are read in pieces or to their end, and texts that are written whole.
 
-ghost use Rattle.std.specs.Prelude.{◌≡◌, ◌≢◌, ◌+◌, ◌<◌, ◌≤◌, ℕ, List, take, length, Ok, Err, Some, OnOk, IfOk, IfSome};
+ghost use Rattle.std.specs.Prelude.{◌≡◌, ◌≢◌, ◌+◌, ◌^◌, ◌<◌, ◌≤◌, ℕ, List, take, length, Ok, Err, Some, OnOk, IfOk};
 ghost use Rattle.std.specs.Prelude.{◌↔◌};
 ghost use Rattle.std.specs.Io.KnownBytes.{Keeps, Appends, Consumes, IsAtEnd};
-ghost use Rattle.replay_text.specs.Streams.{AppendsFront, ConsumesAtMost, TakesBehind};
+ghost use Rattle.replay_text.specs.Streams.{AppendsFront, TakesBehind};
 
-use crate::script::MAX_SCRIPT;
 use oer_core::Device;
-use std::alloc::Global;
 use std::io::{Read, Write};
+
+/// So many bytes are read at once.
+pub(crate) const CHUNK: usize = 65_536;
 
 /// Why a text was not read or written whole.
 #[derive(Clone, Copy, Debug, PartialEq, Eq)]
@@ -21,25 +22,26 @@ pub enum StreamFault {
     Size,
 }
 
-// Reads once, and appends the bytes to the text. At 0 the reader is at its end. Before the text was begun, it had failed
-// `before` times. It has not failed since.
-fn take_some<R: Read + Device>(
+// Reads once, and appends the bytes to the text, at most so many. At 0 the reader is at its end. Before the text was
+// begun, it had failed `before` times at most. It has not failed since.
+pub(crate) fn read_some<R: Read + Device>(
     reader: &mut R,
     chunk: &mut [u8],
     text: &mut Vec<u8>,
+    most: usize,
     before: u64,
 ) -> Result<usize, StreamFault>
     requires some { 0 < length chunk.old }
-    requires small { length text.old.items ≤ MAX_SCRIPT }
+    requires most { 0 < most }
     requires unfailed { R.failure_count reader.old ≤ before }
     ensures taken { TakesBehind (R.remaining reader.old) (R.remaining reader.new) text.old.items text.new.items }
-    ensures bound { length text.new.items ≤ MAX_SCRIPT + 1 }
+    ensures bound { length text.new.items ≤ length text.old.items + most }
     ensures count { IfOk result (λ n. length text.new.items ≡ length text.old.items + n) }
     ensures end { IfOk result (λ n. n ≡ 0 → IsAtEnd (R.remaining reader.new)) }
     ensures size { result ≢ Err StreamFault.Size }
     ensures device { (result ≡ Err StreamFault.Device) ↔ (before < R.failure_count reader.new) }
 {
-    let room = (MAX_SCRIPT + 1 - text.len()).min(chunk.len());
+    let room = most.min(chunk.len());
     if text.reserve(room).is_err() {
         return Err(StreamFault::Memory);
     }
@@ -57,24 +59,32 @@ fn take_some<R: Read + Device>(
     }
 }
 
-/// All that the reader has left, if that is at most 16,777,216 bytes. At most one byte more is taken from it. A read
-/// that failed ends the reading. Room for a whole script is taken at once, of which only what is used costs memory.
-pub fn read_script<R: Read + Device>(alloc: Global, reader: &mut R) -> Result<Vec<u8>, StreamFault>
-    ensures whole { IfOk result (λ text. IfSome (R.remaining reader.old) (λ bytes. text.items ≡ bytes)) }
-    ensures short { IfOk result (λ text. length text.items ≤ MAX_SCRIPT) }
-    ensures size { result ≡ Err StreamFault.Size
-        → IfSome (R.remaining reader.old) (λ bytes. MAX_SCRIPT < length bytes) }
-    ensures device { (result ≡ Err StreamFault.Device) ↔ (R.failure_count reader.old < R.failure_count reader.new) }
-    ensures taken { ConsumesAtMost (MAX_SCRIPT + 1) (R.remaining reader.old) (R.remaining reader.new) }
+/// Appends to the text all that the reader has left, if that is less than so many bytes. No more than these are taken
+/// from it. A read that failed ends the reading. Room is taken for all of them at once, of which only what is used costs
+/// memory. Before the call, the reader had failed `before` times at most.
+pub fn read_rest<R: Read + Device>(
+    reader: &mut R,
+    text: &mut Vec<u8>,
+    most: usize,
+    before: u64,
+) -> Result<(), StreamFault>
+    requires small { length text.old.items + most < 2 ^ 62 }
+    requires unfailed { R.failure_count reader.old ≤ before }
+    ensures taken { TakesBehind (R.remaining reader.old) (R.remaining reader.new) text.old.items text.new.items }
+    ensures whole { OnOk result (IsAtEnd (R.remaining reader.new)) }
+    ensures short { OnOk result (length text.new.items < length text.old.items + most) }
+    ensures bound { length text.new.items ≤ length text.old.items + most }
+    ensures size { result ≡ Err StreamFault.Size → length text.new.items ≡ length text.old.items + most }
+    ensures device { (result ≡ Err StreamFault.Device) ↔ (before < R.failure_count reader.new) }
 {
-    let before = reader.failures();
-    let Ok(mut text) = Vec::with_capacity(alloc, MAX_SCRIPT + 1) else {
+    let end = text.len() + most;
+    if text.reserve(most).is_err() {
         return Err(StreamFault::Memory);
-    };
-    let mut chunk = [0u8; 65536];
-    while text.len() <= MAX_SCRIPT {
-        if take_some(reader, &mut chunk, &mut text, before)? == 0 {
-            return Ok(text);
+    }
+    let mut chunk = [0u8; CHUNK];
+    while text.len() < end {
+        if read_some(reader, &mut chunk, text, end - text.len(), before)? == 0 {
+            return Ok(());
         }
     }
     Err(StreamFault::Size)

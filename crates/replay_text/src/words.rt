@@ -1,6 +1,6 @@
 //! Lines and words, taken off the front of a text.
 
-ghost use Rattle.std.specs.Prelude.{◌≡◌, ◌≢◌, ◌<◌, ◌∷◌, [], length, option_copied, MatchOption};
+ghost use Rattle.std.specs.Prelude.{◌≡◌, ◌≢◌, ◌<◌, ◌∷◌, ◌++◌, [], ℕ, List, length, option_copied, IfSome, MatchOption};
 ghost use Rattle.common_types.specs.Words.{words_of, words_left};
 ghost use Rattle.replay_text.specs.Script.{lines_of};
 
@@ -15,6 +15,17 @@ pub(crate) fn first_line(text: &[u8]) -> (&[u8], &[u8])
     match place_of(b'\n', text) {
         Some(end) => (&text[..end], &text[end + 1..]),
         None => (text, &[]),
+    }
+}
+
+/// The first line of a text whose end is in it, without its end, and what follows it. More may follow the text.
+pub(crate) fn ended_line(text: &[u8]) -> Option<(&[u8], &[u8])>
+    ensures value { IfSome result (λ r. (more : List ℕ) → lines_of (text.now ++ more) ≡ r.0.now ∷ lines_of (r.1.now ++ more)) }
+    ensures shorter { IfSome result (λ r. length r.1.now < length text.now) }
+{
+    match place_of(b'\n', text) {
+        Some(end) => Some((&text[..end], &text[end + 1..])),
+        None => None,
     }
 }
 
