@@ -58,15 +58,15 @@ on_line laws Takes names workers part rest line after first number f g h text lo
 -- ---- parts of a script
 
 -- nothing was read
-pub begun_not : {K : Type 0} → Laws → (Takes : Taking K) (names : List (List ℕ)) (workers : ℕ) (old : Option (List ℕ)) (rest : List ℕ) (f : FloorState) (text : List ℕ) (k : K) → rest ≡ [] → text ≡ []
-    → length f.seats ≡ workers → length f.books ≡ length names → HasRoom f (MAX_SCRIPT + 1) → IsBegun Takes names workers old old 0 1 rest f f text k k
-begun_not laws Takes names workers old rest f text k none empty as_many tenants room = record {
+pub begun_not : {K : Type 0} → Laws → (Takes : Taking K) (names : List (List ℕ)) (workers : ℕ) (old : Option (List ℕ)) (number : ℕ) (rest : List ℕ) (f : FloorState) (text : List ℕ) (k : K) → rest ≡ [] → number ≡ 1 → text ≡ []
+    → length f.seats ≡ workers → length f.books ≡ length names → HasRoom f (MAX_SCRIPT + 1) → IsBegun Takes names workers old old 0 number rest f f text k k
+begun_not laws Takes names workers old number rest f text k none first empty as_many tenants room = record {
   front = [];
   consumed = Consumes-nil old;
   counted = refl;
   goes_on = λ more few.
       let steps : List Step = steps_in names workers (lines_of more) in
-      subst (λ r. RunsTo Takes names workers more 1 (r ++ more) f f text k k) (sym none) (
+      subst (λ n. RunsTo Takes names workers more n (rest ++ more) f f text k k) (sym first) (subst (λ r. RunsTo Takes names workers more 1 (r ++ more) f f text k k) (sym none) (
         record {
           printed = subst (AreSoFar names (world_of f) (world_of f) steps steps) (sym empty) (none_so_far laws names (world_of f) steps);
           taken = none_taken laws Takes (world_of f) steps k;
@@ -75,7 +75,7 @@ begun_not laws Takes names workers old rest f text k none empty as_many tenants 
           room = room_for_fewer f (length more) (MAX_SCRIPT + 1) (omega (arith, few)) room;
         },
         nothing_read names workers more,
-      );
+      ));
 }
 
 -- more was read

@@ -106,13 +106,12 @@ struct Held {
     spare: Vec<u8>,
 }
 
-/// The lines that the front of a script printed, and what was read of the rest, which begins with the line of that number;
-/// how many bytes were read in all, and whether these are the whole script.
+/// What is held of the front of a script, and what was read of the rest; how many bytes were read in all, and whether
+/// these are the whole script.
 #[derive(Drop)]
 struct Front {
-    text: Vec<u8>,
+    held: Held,
     rest: Vec<u8>,
-    number: usize,
     taken: usize,
     ended: bool,
 }
@@ -265,9 +264,22 @@ fn run_part<K: PeriodKeeper>(
     Ok(goes_on)
 }
 
+// No line was run. Room is taken for all output that may be held, of which only what is used costs memory.
+fn none_held(alloc: Global, most: usize) -> Result<Held, AllocError>
+    requires { most ≤ MOST_HELD }
+    ensures text { IfOk result (λ held. held.text.items ≡ []) }
+    ensures number { IfOk result (λ held. held.number ≡ 1) }
+{
+    Ok(Held {
+        text: Vec::with_capacity(alloc, most + STEP_ROOM)?,
+        number: 1,
+        frame: Vec::new(alloc),
+        spare: Vec::new(alloc),
+    })
+}
+
 // Reads a script and does what its lines say as they come, as long as their output has fewer bytes than `most`. Nothing is
-// written. It ends before a line that is bad. Room is taken for all that may be held, of which only what is used costs
-// memory.
+// written. It ends before a line that is bad.
 fn run_front<K: PeriodKeeper, R: Read + Device>(
     alloc: Global,
     floor: &mut Floor,
@@ -281,9 +293,9 @@ fn run_front<K: PeriodKeeper, R: Read + Device>(
     requires room { HasRoom floor.old (MAX_SCRIPT + 1) }
     requires most { most ≤ MOST_HELD }
     ensures begun { IfOk result (λ front. IsBegun K.takes cast.now.names.now cast.now.workers
-        (R.remaining reader.old) (R.remaining reader.new) front.taken front.number front.rest.items
-        floor.old floor.new front.text.items keeper.old keeper.new) }
-    ensures numbered { IfOk result (λ front. front.number + length front.rest.items ≤ front.taken + 1) }
+        (R.remaining reader.old) (R.remaining reader.new) front.taken front.held.number front.rest.items
+        floor.old floor.new front.held.text.items keeper.old keeper.new) }
+    ensures numbered { IfOk result (λ front. front.held.number + length front.rest.items ≤ front.taken + 1) }
     ensures bound { IfOk result (λ front. front.taken ≤ MAX_SCRIPT + 1) }
     ensures short { IfOk result (λ front. IsTrue front.ended → front.taken ≤ MAX_SCRIPT) }
     ensures end { IfOk result (λ front. IsTrue front.ended → IsAtEnd (R.remaining reader.new)) }
@@ -294,32 +306,20 @@ fn run_front<K: PeriodKeeper, R: Read + Device>(
     floor_core::laws::one_after_the_other();
     floor_core::laws::outputs_are_there();
     let before = reader.failures();
-    let Ok(text) = Vec::with_capacity(alloc, most + STEP_ROOM) else {
+    let Ok(mut held) = none_held(alloc, most) else {
         return Err(StreamFault::Memory);
-    };
-    let mut held = Held {
-        text,
-        number: 1,
-        frame: Vec::new(alloc),
-        spare: Vec::new(alloc),
     };
     let mut rest = Vec::new(alloc);
     let mut taken: usize = 0;
     let mut chunk = [0u8; CHUNK];
     let mut goes_on = most > 0;
     while goes_on && taken <= MAX_SCRIPT {
-        let read = read_some(
-            reader,
-            &mut chunk,
-            &mut rest,
-            MAX_SCRIPT + 1 - taken,
-            before,
-        )?;
+        let left = MAX_SCRIPT + 1 - taken;
+        let read = read_some(reader, &mut chunk, &mut rest, left, before)?;
         if read == 0 {
             return Ok(Front {
-                text: held.text,
+                held,
                 rest,
-                number: held.number,
                 taken,
                 ended: true,
             });
@@ -331,9 +331,8 @@ fn run_front<K: PeriodKeeper, R: Read + Device>(
         goes_on = more;
     }
     Ok(Front {
-        text: held.text,
+        held,
         rest,
-        number: held.number,
         taken,
         ended: false,
     })
@@ -353,8 +352,8 @@ fn whole_front<K: PeriodKeeper, R: Read + Device>(
     requires room { HasRoom floor.old (MAX_SCRIPT + 1) }
     requires most { most ≤ MOST_HELD }
     ensures whole { IfOk result (λ front. IsReadWhole K.takes cast.now.names.now cast.now.workers
-        (R.remaining reader.old) front.number front.rest.items floor.old floor.new front.text.items keeper.old keeper.new) }
-    ensures numbered { IfOk result (λ front. front.number + length front.rest.items ≤ MAX_SCRIPT + 1) }
+        (R.remaining reader.old) front.held.number front.rest.items floor.old floor.new front.held.text.items keeper.old keeper.new) }
+    ensures numbered { IfOk result (λ front. front.held.number + length front.rest.items ≤ MAX_SCRIPT + 1) }
     ensures size { result ≡ Err StreamFault.Size
         → IfSome (R.remaining reader.old) (λ bytes. MAX_SCRIPT < length bytes) }
     ensures device { (result ≡ Err StreamFault.Device) ↔ (R.failure_count reader.old < R.failure_count reader.new) }
@@ -388,7 +387,7 @@ fn good_front<K: PeriodKeeper, R: Read + Device>(
     requires room { HasRoom floor.old (MAX_SCRIPT + 1) }
     requires most { most ≤ MOST_HELD }
     ensures good { IfOk result (λ front. IsReadGood K.takes cast.now.names.now cast.now.workers
-        (R.remaining reader.old) front.rest.items floor.old floor.new front.text.items keeper.old keeper.new) }
+        (R.remaining reader.old) front.rest.items floor.old floor.new front.held.text.items keeper.old keeper.new) }
     ensures refused { IfErr result (λ fault.
         IsReadFault fault cast.now.names.now cast.now.workers (R.remaining reader.old)) }
     ensures device { (result ≡ Err ReplayFault.Device) ↔ (R.failure_count reader.old < R.failure_count reader.new) }
@@ -404,7 +403,7 @@ fn good_front<K: PeriodKeeper, R: Read + Device>(
         alloc,
         cast.names,
         cast.workers,
-        front.number,
+        front.held.number,
         front.rest.as_slice(),
     ) {
         Ok(()) => Ok(front),
@@ -524,7 +523,7 @@ fn run_script<K: PeriodKeeper, R: Read + Device, W: Write + Device>(
     let Ok(mut floor) = Floor::new(alloc, tenants, setup.start, cast.workers) else {
         return Err(ReplayFault::Memory);
     };
-    let Front { mut text, rest, .. } = match good_front(
+    let Front { mut held, rest, .. } = match good_front(
         alloc, &mut floor, cast, most, reader, keeper,
     ) {
         Ok(front) => front,
@@ -535,7 +534,7 @@ fn run_script<K: PeriodKeeper, R: Read + Device, W: Write + Device>(
         &mut floor,
         cast,
         rest.as_slice(),
-        &mut text,
+        &mut held.text,
         keeper,
         writer,
     ) {
