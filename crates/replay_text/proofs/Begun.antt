@@ -1,7 +1,7 @@
 -- A script that is run as it is read.
 use Rattle.std.proofs.Common.{◌≡◌, ◌+◌, ◌≤◌, ◌<◌, ℕ, List, [], ◌∷◌, ◌++◌, length, length-append, Option, Some, None, Ok, Err, refl, sym, ap, subst, ◌∙◌, append-nil, append_assoc, arith}
 use Rattle.std.specs.Prelude.{IfSome}
-use Rattle.std.specs.Io.KnownBytes.{Consumes, IsAtEnd}
+use Rattle.std.specs.Io.KnownBytes.{IsAtEnd}
 use Rattle.std.proofs.KnownBytes.{Consumes-all, Consumes-nil, Consumes-trans}
 use Rattle.floor_core.specs.FloorView.{FloorState, HasRoom, world_of}
 use Rattle.floor_core.specs.declared.step.Step.{Step}
@@ -14,7 +14,6 @@ use Rattle.replay_text.specs.Streams.{ConsumesAtMost, TakesBehind}
 use Rattle.replay_text.specs.declared.script.ScriptFault.{ScriptFault}
 use Rattle.replay_text.specs.declared.script.TheConstants.{MAX_SCRIPT}
 use Rattle.replay_text.proofs.Fronts.{not_bad, nothing_read, passes}
-use Rattle.replay_text.proofs.Known.{long_known}
 use Rattle.replay_text.proofs.Pieces.{Laws, line_so_far, none_so_far, room_for_fewer}
 use Rattle.replay_text.proofs.Scripts.{rest_fails, rest_is_good, steps_of_whole}
 use Rattle.replay_text.proofs.Takings.{line_taken, none_taken}
@@ -120,13 +119,7 @@ begun_ready Takes names workers old new taken number rest f g text k l begun few
     let run = (begun.goes_on [] (omega (arith, few, begun.counted))).0 in
     record { workers_are = run.workers_are; tenants_are = run.tenants_are; room = subst (λ r. HasRoom g (length r)) (append-nil rest) run.room }
 
--- so many bytes were consumed
-pub begun_taken : {K : Type 0} (Takes : Taking K) (names : List (List ℕ)) (workers : ℕ) (old new : Option (List ℕ)) (taken number : ℕ) (rest : List ℕ) (f g : FloorState) (text : List ℕ) (k l : K)
-    → IsBegun Takes names workers old new taken number rest f g text k l → taken ≤ MAX_SCRIPT + 1 → ConsumesAtMost (MAX_SCRIPT + 1) old new
-begun_taken Takes names workers old new taken number rest f g text k l begun few =
-    (begun.front, omega (arith, few, begun.counted), begun.consumed)
-
--- and some behind them
+-- so many bytes were consumed, the last ones after those
 pub more_taken : {K : Type 0} (Takes : Taking K) (names : List (List ℕ)) (workers : ℕ) (old between new : Option (List ℕ)) (taken number : ℕ) (rest longer : List ℕ) (f g : FloorState) (text : List ℕ) (k l : K)
     → IsBegun Takes names workers old between taken number rest f g text k l → TakesBehind between new rest longer → taken + length longer ≤ length rest + (MAX_SCRIPT + 1)
     → ConsumesAtMost (MAX_SCRIPT + 1) old new
@@ -150,14 +143,6 @@ begun_whole Takes names workers old between new taken number rest longer f g tex
       short = omega (arith, few, size, begun.counted, length-append front bs);
       runs = subst (λ r. RunsTo Takes names workers (front ++ bs) number r f g text k l) (sym is) run;
     }
-
--- it is too long
-pub begun_long : {K : Type 0} (Takes : Taking K) (names : List (List ℕ)) (workers : ℕ) (old between new : Option (List ℕ)) (taken number : ℕ) (rest longer : List ℕ) (f g : FloorState) (text : List ℕ) (k l : K)
-    → IsBegun Takes names workers old between taken number rest f g text k l → TakesBehind between new rest longer → length rest + MAX_SCRIPT < taken + length longer
-    → IfSome old (λ bytes. MAX_SCRIPT < length bytes)
-begun_long Takes names workers old between new taken number rest longer f g text k l begun (bs, consumed, is) many =
-    let size : length longer ≡ length rest + length bs = ap length is ∙ length-append rest bs in
-    long_known MAX_SCRIPT old new (begun.front ++ bs) (Consumes-trans old between new begun.front bs begun.consumed consumed) (omega (arith, many, size, begun.counted, length-append begun.front bs))
 
 -- where the rest is good, all of it is
 pub read_good : {K : Type 0} (Takes : Taking K) (names : List (List ℕ)) (workers : ℕ) (known : Option (List ℕ)) (number : ℕ) (rest : List ℕ) (f g : FloorState) (text : List ℕ) (k l : K)

@@ -1,7 +1,7 @@
 -- What was run for a setup, from a new floor on.
-use Rattle.std.proofs.Common.{◌≡◌, ◌⊎◌, ℕ, List, Option, None, Some, Result, Ok, Err, refl, ap, inl, inr, sym, subst}
+use Rattle.std.proofs.Common.{◌≡◌, ℕ, List, Option, None, Some, Result, Ok, Err, refl, ap, inl, sym, subst}
 use Rattle.std.specs.Prelude.{IfSome, option_map}
-use Rattle.std.specs.Io.KnownBytes.{Appends, Keeps}
+use Rattle.std.specs.Io.KnownBytes.{Appends}
 use Rattle.std.specs.Result.{result_err}
 use Rattle.std.proofs.KnownBytes.{Keeps-refl}
 use Rattle.floor_core.specs.FloorView.{FloorState, world_of}

@@ -34,6 +34,10 @@ const LONG: usize = 65_536;
 /// read again.
 const MOST_HELD: usize = 16_777_216;
 
+/// So many bytes of a script may be there that are read and not run, while lines are run as they are read: those of a line
+/// whose end is not read yet, and of one read more.
+const MOST_READ: usize = MAX_LINE + CHUNK;
+
 /// Room for the lines of any step: a frame of 34,000 bytes in digits, or 256 balances, and some words beside.
 const STEP_ROOM: usize = 70_000;
 
@@ -274,7 +278,7 @@ fn none_held(alloc: Global, most: usize) -> Result<Held, AllocError>
         text: Vec::with_capacity(alloc, most + STEP_ROOM)?,
         number: 1,
         frame: Vec::new(alloc),
-        spare: Vec::new(alloc),
+        spare: Vec::with_capacity(alloc, MOST_READ)?,
     })
 }
 
@@ -309,7 +313,9 @@ fn run_front<K: PeriodKeeper, R: Read + Device>(
     let Ok(mut held) = none_held(alloc, most) else {
         return Err(StreamFault::Memory);
     };
-    let mut rest = Vec::new(alloc);
+    let Ok(mut rest) = Vec::with_capacity(alloc, MOST_READ) else {
+        return Err(StreamFault::Memory);
+    };
     let mut taken: usize = 0;
     let mut chunk = [0u8; CHUNK];
     let mut goes_on = most > 0;

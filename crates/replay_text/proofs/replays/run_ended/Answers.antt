@@ -1,4 +1,4 @@
-use Rattle.std.proofs.Common.{◌+◌, length, ◌∙◌, arith, refl}
+use Rattle.std.proofs.Common.{◌+◌, length, ◌∙◌, arith}
 use Rattle.replay_text.proofs.Begun.{on_line, on_none, on_same}
 use Rattle.replay_text.proofs.Pieces.{Laws, room_for_fewer}
 use Rattle.replay_text.proofs.replays.run_ended.Goals as goal

@@ -1,5 +1,4 @@
 use Rattle.std.proofs.Common.{rules, arith, ap, length, ◌+◌}
-use Rattle.replay_text.specs.declared.script.TheConstants.{MAX_SCRIPT}
 use Rattle.replay_text.proofs.Begun.{begun_more, begun_not, begun_on, begun_ready, more_taken}
 use Rattle.replay_text.proofs.Pieces.{Laws}
 use Rattle.replay_text.proofs.replays.run_front.Goals as goal
@@ -8,9 +7,9 @@ pub loop-goes_on-init : goal.loop-goes_on-init
 loop-goes_on-init g c =
     let laws : Laws = record { outputs = c.one_after_the_other.ensures.outputs; left = c.one_after_the_other.ensures.left; replies = c.outputs_are_there.ensures.outputs; after = c.outputs_are_there.ensures.left } in
     record {
-      begun = begun_not laws g.K.PeriodKeeper.takes c.args.cast.now.names.now c.args.cast.now.workers (g.R.Read.remaining c.args.reader.now) c.in-Ok.held.number c.new-rest.result.items c.args.floor.now c.in-Ok.held.text.items c.args.keeper.now
-          c.new-rest.ensures.items c.in-Ok.ensures.number c.in-Ok.ensures.text c.requires.workers c.requires.tenants c.requires.room;
-      numbered = omega (arith, c.in-Ok.ensures.number, ap length c.new-rest.ensures.items);
+      begun = begun_not laws g.K.PeriodKeeper.takes c.args.cast.now.names.now c.args.cast.now.workers (g.R.Read.remaining c.args.reader.now) c.in-Ok.held.number c.in-Ok-with_capacity.rest.items c.args.floor.now c.in-Ok.held.text.items c.args.keeper.now
+          c.in-Ok-with_capacity.ensures.items c.in-Ok.ensures.number c.in-Ok.ensures.text c.requires.workers c.requires.tenants c.requires.room;
+      numbered = omega (arith, c.in-Ok.ensures.number, ap length c.in-Ok-with_capacity.ensures.items);
       bound = omega arith;
       chunk = search rules;
       before = c.failures-before.ensures;

@@ -1,4 +1,4 @@
-use Rattle.std.proofs.Common.{◌≡◌, ◌+◌, List, ℕ, None, Ok, inr, arith, length}
+use Rattle.std.proofs.Common.{◌≡◌, ◌+◌, List, ℕ, None, Ok, inr, arith}
 use Rattle.std.specs.Io.KnownBytes.{Appends}
 use Rattle.floor_core.specs.declared.step.Step.{Step}
 use Rattle.replay_text.specs.Closed.{TakesClosedFor}
