@@ -1,4 +1,4 @@
-//! The command line.
+//! The words of the command line, and what they ask for.
 
 ghost use Rattle.std.specs.Prelude.{◌≡◌, ◌≤◌, IfOk, IfSome};
 ghost use Rattle.books_shared.specs.Gathers.{max_workers};
@@ -9,7 +9,6 @@ use books_shared::MAX_WORKERS;
 use clap::error::ErrorKind;
 use clap::{Arg, ArgAction, ArgMatches, Command, Error, value_parser};
 use floor_core::MAX_SEATS;
-use service::Report;
 use std::alloc::{AllocError, Global};
 
 /// What the program is to do.
@@ -22,11 +21,12 @@ pub enum Task {
     /// To say whether statements are good and continue one another, and their sums.
     Verify,
     /// To serve so many connections at once, each on a thread of its own, and to end once as many were served for each worker,
-    /// if it is to end; and what to tell then.
+    /// if it is to end. Then it may print what each peer owes, and audit receipts.
     Serve {
         connections: usize,
         rounds: Option<u32>,
-        report: Report,
+        balances: bool,
+        audit: bool,
     },
 }
 
@@ -404,10 +404,8 @@ fn line_in<'a>(matches: &ArgMatches<'a>) -> CommandLine<'a>
             let task = Task::Serve {
                 connections: connections_of(serve),
                 rounds: rounds_of(serve),
-                report: Report {
-                    balances: serve.get_flag("balances"),
-                    audit: serve.get_flag("audit"),
-                },
+                balances: serve.get_flag("balances"),
+                audit: serve.get_flag("audit"),
             };
             let address = serve.get_str("listen").unwrap_or(ADDRESS);
             CommandLine {

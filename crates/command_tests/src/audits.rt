@@ -1,10 +1,10 @@
 //! What `verify --receipts` says.
 
 use crate::words::{NEXT, STATEMENT, expect_ended};
-use command_line::{Ending, Statements, memory_refused, tell_audit};
 use std::alloc::Global;
 use std::process::Abort;
 use std::test::Fail;
+use subcommands::{Ending, Statements, memory_refused, tell_audit};
 
 const BETA: &str = "statement 1
 tenant 1 beta g.beta 1024 1000 30000

@@ -1,15 +1,15 @@
 //! The command line, and the program's main job.
 
-use command_line::{
-    CommandLine, Ending, HostWords, Script, SystemClock, Task, arguments, begin, check,
-    exit_status, name_in, take, tell, token_of,
-};
+use command_line::{CommandLine, HostWords, Task, arguments};
 use replay_text::replay;
 use statements::Chain;
 use std::alloc::{AllocError, Global};
 use std::process::Abort;
 use std::test::Fail;
 use std::time::Clock;
+use subcommands::{
+    Ending, Script, SystemClock, begin, check, exit_status, name_in, take, tell, token_of,
+};
 
 const SETUP: &str = "version = 1
 start = 1893456000000
@@ -108,12 +108,13 @@ fn task_told(alloc: Global, task: Task) -> Result<String, Fail> {
         Task::Serve {
             connections,
             rounds,
-            report,
+            balances,
+            audit,
         } => {
             let connections = connections.to_string(alloc)?;
             let rounds = rounds_told(alloc, rounds)?;
-            let balances = word_where(report.balances, " balances");
-            let audit = word_where(report.audit, " audit");
+            let balances = word_where(balances, " balances");
+            let audit = word_where(audit, " audit");
             Ok([
                 "serve ",
                 connections.as_str(),

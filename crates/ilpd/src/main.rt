@@ -9,17 +9,13 @@ ghost use Rattle.tenant_core.specs.Limits.{max_tenants};
 
 use admin_text::{Setup, read_setup};
 pub use command_line::arguments;
-use command_line::{
-    CommandLine, Ending, Filer, Script, Statements, SystemClock, Task, asks_version, begin, check,
-    ending_of, exit_status, good_in, join, memory_refused, name_in, printing, reason_of,
-    replay_filing, take, tell, tell_audit, token_of, words_refused,
-};
+use command_line::{CommandLine, Task};
 use common_types::{Name, ReadError, Token};
 use oer_core::Counted;
 pub use replay_text::{ReplayFault, replay};
 use service::{
-    Disk, Doors, Extent, Folder, HostDoor, OperatorDoor, Plan, ServeFault, can_open, files_of,
-    serve,
+    Disk, Doors, Extent, Folder, HostDoor, OperatorDoor, Plan, Report, ServeFault, can_open,
+    files_of, serve,
 };
 use statements::Chain;
 use std::alloc::{AllocError, AllocFailed, Global};
@@ -31,6 +27,11 @@ use std::sync::Wait;
 use std::thread::Threads;
 use std::time::Clock;
 use std::{env, fs, io};
+use subcommands::{
+    Ending, Filer, Script, Statements, SystemClock, asks_version, begin, check, ending_of,
+    exit_status, good_in, join, memory_refused, name_in, printing, reason_of, replay_filing, take,
+    tell, tell_audit, token_of, words_refused,
+};
 
 // Says on standard error that there are only so many of something for so many others, and the effect.
 fn complain(
@@ -549,7 +550,8 @@ fn run<
         Task::Serve {
             connections,
             rounds,
-            report,
+            balances,
+            audit,
         } => {
             let extent = Extent {
                 workers: line.workers,
@@ -558,7 +560,7 @@ fn run<
             };
             let plan = Plan {
                 extent,
-                report,
+                report: Report { balances, audit },
                 statements: line.folder,
                 roll_at: line.roll_at,
                 admin: line.admin,

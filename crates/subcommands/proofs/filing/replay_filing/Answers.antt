@@ -1,5 +1,5 @@
-use Rattle.command_line.proofs.AllKept.{closed_kept}
-use Rattle.command_line.proofs.filing.replay_filing.Goals as goal
+use Rattle.subcommands.proofs.AllKept.{closed_kept}
+use Rattle.subcommands.proofs.filing.replay_filing.Goals as goal
 
 pub returns-then-filer : goal.returns-then-filer
 returns-then-filer g c = record {

@@ -4,7 +4,7 @@ use Rattle.tenant_core.specs.declared.period.PeriodParts.{PeriodParts}
 use Rattle.replay_text.specs.Closed.{closed_by}
 use Rattle.replay_text.specs.Replay.{IsReplayed}
 use Rattle.service.specs.Filing.{IsFiled, Keeping, Telling}
-use Rattle.command_line.specs.declared.filing.Filer.{Filer}
+use Rattle.subcommands.specs.declared.filing.Filer.{Filer}
 
 -- the statement of the period had to be kept, and it is known whether all are kept so far
 abbrev pub Files : {S : Type 0} → Telling S → Keeping S → Filer S → PeriodParts → Filer S → Type 0

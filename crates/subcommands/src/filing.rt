@@ -2,7 +2,7 @@
 
 ghost use Rattle.std.specs.Prelude.{◌≡◌, ◌≤◌, IfSome, OnOk};
 ghost use Rattle.floor_core.specs.FloorView.{max_seats};
-ghost use Rattle.command_line.specs.Filing.{KeepsClosed};
+ghost use Rattle.subcommands.specs.Filing.{KeepsClosed};
 
 use oer_core::Device;
 use replay_text::{PeriodKeeper, ReplayFault, replay_keeping};
@@ -36,7 +36,7 @@ impl<S> Filer<S> {
 }
 
 impl<S: StatementStore> PeriodKeeper for Filer<S> {
-    ghost use Rattle.command_line.specs.Filing.{Files};
+    ghost use Rattle.subcommands.specs.Filing.{Files};
 
     ghost takes = { Files S.tells S.keeps };
 

@@ -5,7 +5,7 @@ ghost use Rattle.std.specs.List.{flat_map};
 ghost use Rattle.std.specs.Result.{result_err};
 ghost use Rattle.admin_text.specs.Setup.{setup_of};
 ghost use Rattle.replay_text.specs.Replay.{refusal_of};
-ghost use Rattle.command_line.specs.Checking.{good_text, key_line, note_line, SaysGood};
+ghost use Rattle.subcommands.specs.Checking.{good_text, key_line, note_line, SaysGood};
 
 use crate::ending::Ending;
 use admin_text::{IgnoredKey, Note, explain, ignored_keys, notes, read_setup};

@@ -1,7 +1,7 @@
 //! What `verify` says of receipts, and of the statements of all tenants that they are audited by.
 
 ghost use Rattle.std.specs.Prelude.{IsErr, OnOk};
-ghost use Rattle.command_line.specs.Auditing.{TellsAudit};
+ghost use Rattle.subcommands.specs.Auditing.{TellsAudit};
 
 use crate::ending::Ending;
 use crate::verifying::{
@@ -27,7 +27,7 @@ pub struct Statements {
 
 impl Statements {
     ghost use Rattle.std.specs.Prelude.{◌≡◌, IfOk, OnOk, []};
-    ghost use Rattle.command_line.specs.Auditing.{IsOneMore};
+    ghost use Rattle.subcommands.specs.Auditing.{IsOneMore};
 
     /// No periods yet. Fails only if it is out of memory.
     pub fn new(alloc: Global) -> Result<Statements, AllocError>

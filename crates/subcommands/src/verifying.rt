@@ -5,7 +5,7 @@ ghost use Rattle.admin_text.specs.Setup.{setup_of};
 ghost use Rattle.statements.specs.Chain.{IsChain, Link};
 ghost use Rattle.statements.specs.Chain.Link.{Stated};
 ghost use Rattle.statements.specs.Gone.{IsGood};
-ghost use Rattle.command_line.specs.Verifying.{GoesOnBy, IsSummaryOf, TellsSummary};
+ghost use Rattle.subcommands.specs.Verifying.{GoesOnBy, IsSummaryOf, TellsSummary};
 ghost use Rattle.std.specs.Io.KnownBytes.{Appends};
 
 use crate::checking::printing;

@@ -5,8 +5,8 @@ use Rattle.std.proofs.lemmas.Bool.{and_parts}
 use Rattle.tenant_core.specs.declared.period.PeriodParts.{PeriodParts}
 use Rattle.replay_text.specs.Closed.{HasTakenPeriods, TakesClosed, closed_by}
 use Rattle.service.specs.Filing.{IsFiled, Keeping, Telling}
-use Rattle.command_line.specs.Filing.{AreStatementsKept, Files, KeepsClosed}
-use Rattle.command_line.specs.declared.filing.Filer.{Filer}
+use Rattle.subcommands.specs.Filing.{AreStatementsKept, Files, KeepsClosed}
+use Rattle.subcommands.specs.declared.filing.Filer.{Filer}
 
 kept_before : {S : Type 0} (Tells : Telling S) (Keeps : Keeping S) (ps : List PeriodParts) (k l : Filer S) → HasTakenPeriods (Files Tells Keeps) ps k l
     → l.are_kept ≡ true → k.are_kept ≡ true

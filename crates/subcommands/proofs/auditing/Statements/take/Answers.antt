@@ -1,7 +1,7 @@
 use Rattle.std.proofs.Common.{ℕ, List, [], ◌∷◌, ◌++◌, ap, ◌∙◌, subst}
 use Rattle.statements.specs.Statement.{IsStatement}
 use Rattle.tenant_core.specs.declared.period.PeriodParts.{PeriodParts}
-use Rattle.command_line.proofs.auditing.Statements.take.Goals as goal
+use Rattle.subcommands.proofs.auditing.Statements.take.Goals as goal
 
 pub returns-clause-more : goal.returns-clause-more
 returns-clause-more g c =

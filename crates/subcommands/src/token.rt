@@ -1,7 +1,7 @@
 //! The token that a file holds.
 
 ghost use Rattle.std.specs.Prelude.{◌≡◌};
-ghost use Rattle.command_line.specs.CommandLine.{token_in_file};
+ghost use Rattle.subcommands.specs.TokenFile.{token_in_file};
 
 use common_types::Token;
 use service::without_line_feed;

@@ -1,6 +1,6 @@
 use Rattle.std.proofs.Common.{◌≡◌, Some, slice_get, rules}
 use Rattle.std.proofs.lemmas.Option.{slice_get_read}
-use Rattle.command_line.proofs.verifying.begin.Goals as goal
+use Rattle.subcommands.proofs.verifying.begin.Goals as goal
 
 pub returns-in-Ok-clause-begins : goal.returns-in-Ok-clause-begins
 returns-in-Ok-clause-begins g c = record {

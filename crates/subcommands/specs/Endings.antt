@@ -2,8 +2,8 @@
 use Rattle.std.specs.Prelude.{ℕ, Result, Ok, Err}
 use Rattle.replay_text.specs.Replay.{replay_status}
 use Rattle.service.specs.declared.running.ending.ServeFault.TheVariants as service
-use Rattle.command_line.specs.declared.ending.Ending.{Ending}
-use Rattle.command_line.specs.declared.ending.Ending.TheVariants.{Usage, Fault, Served, NoToken, NotGood, Audit}
+use Rattle.subcommands.specs.declared.ending.Ending.{Ending}
+use Rattle.subcommands.specs.declared.ending.Ending.TheVariants.{Usage, Fault, Served, NoToken, NotGood, Audit}
 
 -- 0 if nothing went wrong, 2 for a bad command line or token, 4 for a bad statement or text of receipts, 6 for an
 -- audit that found a fault. Otherwise it depends on what went wrong: a replay, a file, or a service

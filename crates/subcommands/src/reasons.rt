@@ -1,7 +1,7 @@
 //! Why a file or a socket failed, in words for people.
 
 ghost use Rattle.std.specs.Prelude.{◌≡◌};
-ghost use Rattle.command_line.specs.Reasons.{failure_words};
+ghost use Rattle.subcommands.specs.Reasons.{failure_words};
 
 use std::io::ErrorKind;
 

@@ -3,7 +3,7 @@
 ghost use Rattle.std.specs.Prelude.{◌≡◌, ◌≢◌, ◌↔◌, IsTrue};
 ghost use Rattle.clap.specs.Values.{kind_of};
 ghost use Rattle.clap.specs.declared.error.kind.ErrorKind.TheVariants.{DisplayVersion, OutOfMemory};
-ghost use Rattle.command_line.specs.Endings.{exit_status};
+ghost use Rattle.subcommands.specs.Endings.{exit_status};
 
 use clap::error::ErrorKind;
 use replay_text::ReplayFault;

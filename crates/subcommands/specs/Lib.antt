@@ -1,0 +1,7 @@
+pub mod TokenFile
+pub mod Endings
+pub mod Checking
+pub mod Reasons
+pub mod Verifying
+pub mod Filing
+pub mod Auditing
