@@ -1,12 +1,13 @@
 -- Words that are written: of which bytes they are.
-use Rattle.std.proofs.Common.{◌≡◌, ◌≢◌, ℕ, ◌+◌, ◌<◌, ◌^◌, Bool, true, false, ◌||◌, eqb, List, [], ◌∷◌, length, take, drop, refl, ap, ◌∙◌, arith}
+use Rattle.std.proofs.Common.{◌≡◌, ◌≢◌, ℕ, ◌+◌, ◌<◌, ◌^◌, Bool, true, false, cond, ltb, ◌||◌, eqb, List, [], ◌∷◌, length, take, drop, refl, ap, ◌∙◌, arith}
 use Rattle.std.specs.Fmt.{decimal}
 use Rattle.std.specs.Prelude.{◌==◌, codes, Some, None}
-use Rattle.std.specs.List.{list_all, list_any, position}
-use Rattle.std.proofs.lemmas.Bool.{and_parts, le-leb}
+use Rattle.std.specs.List.{list_all, list_any, position, position_or_len, slice_split}
+use Rattle.std.proofs.lemmas.Bool.{and_parts, le-leb, ltb-false}
 use Rattle.std.proofs.lemmas.Fmt.{decimal_is_IsNumeral, length-decimal-le}
-use Rattle.std.proofs.lemmas.List.Splits.{length-slice_split}
-use Rattle.common_types.proofs.Splits.{split_found, split_none}
+use Rattle.std.proofs.lemmas.List.Quantifiers.{position-Some}
+use Rattle.std.proofs.lemmas.List.Splits.{length-slice_split, slice_split_first, slice_split_none}
+use Rattle.std.proofs.lemmas.List.Sums.{fails_before_first, position_or_len_is}
 use Rattle.common_types.specs.Numbers.{is_between}
 use Rattle.common_types.specs.Numerals.{is_digit, NumeralLaws}
 use Rattle.common_types.specs.Token.{is_token, is_token_byte}
@@ -49,12 +50,30 @@ pub some_line : (text : List ℕ) → text_lines text ≢ []
 unfolding text_lines
 some_line text none = absurd (omega (arith, length-slice_split (λ b. eqb b 10) text, ap length none))
 
+abbrev pub is_end : ℕ → Bool
+is_end = λ b. b == 10
+
+split_at_end : (text : List ℕ) (i : ℕ) → position is_end text ≡ Some i → slice_split is_end text ≡ take i text ∷ slice_split is_end (drop (i + 1) text)
+split_at_end text i at =
+    let first = position-Some is_end text i 0 at in
+    let place : position_or_len is_end text ≡ i = position_or_len_is is_end text i 0 (omega (arith, first.0)) first.2 (λ inside. first.1) in
+    rw (← place) (slice_split_first is_end text 0 (omega (arith, first.0, place)))
+
+no_place : (there : Bool) (i : ℕ) → cond there (Some i) None ≡ None → there ≡ false
+no_place true i none = absurd cc
+no_place false i none = refl
+
+unsplit : (text : List ℕ) → position is_end text ≡ None → slice_split is_end text ≡ text ∷ []
+unsplit text none =
+    let past = ltb-false _ _ (no_place (ltb (position_or_len is_end text) (length text)) _ none) in
+    slice_split_none is_end text (λ k d inside. fails_before_first is_end text k d (omega (arith, past, inside)))
+
 pub line_found : (text : List ℕ) (i : ℕ) → position (λ b. b == 10) text ≡ Some i
     → line_read (text_lines text) ≡ Some (read_part (take i text) (text_lines (drop (i + 1) text)))
 unfolding text_lines
 line_found text i at =
-    ap line_read (split_found (λ b. b == 10) text i at) ∙ behind (take i text) (text_lines (drop (i + 1) text)) (some_line (drop (i + 1) text))
+    ap line_read (split_at_end text i at) ∙ behind (take i text) (text_lines (drop (i + 1) text)) (some_line (drop (i + 1) text))
 
 pub line_none : (text : List ℕ) → position (λ b. b == 10) text ≡ None → line_read (text_lines text) ≡ None
 unfolding text_lines
-line_none text at = ap line_read (split_none (λ b. b == 10) text at)
+line_none text at = ap line_read (unsplit text at)
