@@ -1,6 +1,6 @@
 //! Which check decides on a packet, in words.
 
-ghost use Rattle.std.specs.Prelude.{◌≡◌, ◌++◌, ◌∷◌, [], ◌≤◌, IfOk, OnOk, option_copied};
+ghost use Rattle.std.specs.Prelude.{◌≡◌, ◌++◌, ◌∷◌, [], ◌≤◌, IfOk, OnOk, codes, option_copied};
 ghost use Rattle.std.specs.Fmt.{decimal, signed_decimal};
 ghost use Rattle.service.specs.Explaining.{answer_line, asked_line, deciding_line, explained, figure, figures_of, money_figures};
 ghost use Rattle.service.specs.Explaining.{next_line, onward_lines, next_peer, passed_before, passed_line, passed_upto};
@@ -148,6 +148,30 @@ fn put_money(
     put_figure(alloc, text, b"amount", amount)
 }
 
+// Two numbers that a check compared.
+fn put_two(
+    alloc: Global,
+    text: &mut Vec<u8>,
+    first: (&[u8], u64),
+    second: (&[u8], u64),
+) -> Result<(), AllocError>
+    ensures { OnOk result (text.new.items ≡ text.old.items
+        ++ figure first.entry.0.now (decimal first.entry.1) ++ figure second.entry.0.now (decimal second.entry.1)) }
+{
+    put_figure(alloc, text, first.0, first.1)?;
+    put_figure(alloc, text, second.0, second.1)
+}
+
+// A price, and the cap that it is over.
+fn put_price(alloc: Global, text: &mut Vec<u8>, price: u128, cap: u64) -> Result<(), AllocError>
+    ensures { OnOk result (text.new.items ≡ text.old.items
+        ++ figure (codes "amount") (decimal price) ++ figure (codes "cap") (decimal cap)) }
+{
+    let price = price.to_string(alloc)?;
+    put_words(text, b"amount", price.as_bytes())?;
+    put_figure(alloc, text, b"cap", cap)
+}
+
 // The numbers that the deciding check compared.
 fn put_figures(alloc: Global, text: &mut Vec<u8>, finding: &Finding) -> Result<(), AllocError>
     ensures { OnOk result (text.new.items ≡ text.old.items ++ figures_of finding.now) }
@@ -159,28 +183,20 @@ fn put_figures(alloc: Global, text: &mut Vec<u8>, finding: &Finding) -> Result<(
             places,
         } => {
             put_figure(alloc, text, b"entries", entries)?;
-            put_figure(alloc, text, b"awaited", awaited)?;
-            put_figure(alloc, text, b"places", places)
+            put_two(alloc, text, (b"awaited", awaited), (b"places", places))
         }
         Finding::BucketEmpty { credit } => put_figure(alloc, text, b"thousandths", credit),
         Finding::Expired { expiry, clock } | Finding::ExpiresOnward { expiry, clock } => {
-            put_figure(alloc, text, b"expiry", expiry)?;
-            put_figure(alloc, text, b"clock", clock)
+            put_two(alloc, text, (b"expiry", expiry), (b"clock", clock))
         }
         Finding::ConfigAmount { amount } => put_figure(alloc, text, b"amount", amount),
         Finding::OverCap { amount, cap } => {
-            put_figure(alloc, text, b"amount", amount)?;
-            put_figure(alloc, text, b"cap", cap)
+            put_two(alloc, text, (b"amount", amount), (b"cap", cap))
         }
         Finding::BelowFee { price, fee } => {
-            put_figure(alloc, text, b"price", price)?;
-            put_figure(alloc, text, b"fee", fee)
+            put_two(alloc, text, (b"price", price), (b"fee", fee))
         }
-        Finding::OverNextCap { price, cap, .. } => {
-            let price = price.to_string(alloc)?;
-            put_words(text, b"amount", price.as_bytes())?;
-            put_figure(alloc, text, b"cap", cap)
-        }
+        Finding::OverNextCap { price, cap, .. } => put_price(alloc, text, price, cap),
         Finding::OverCeiling {
             balance,
             held,
