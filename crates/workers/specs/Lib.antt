@@ -3,3 +3,4 @@ pub mod Counting
 pub mod Carrying
 pub mod Rolling
 pub mod PlaceCounts
+pub mod Places

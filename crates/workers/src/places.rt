@@ -1,8 +1,10 @@
 //! The places in which packets are exchanged with next peers, shared among the tenants.
 
-ghost use Rattle.std.specs.Prelude.{◌≡◌, ◌≤◌, vec_len, slice_index, IfOk, IfSome};
-ghost use Rattle.allotment.specs.Loans.{max_places, max_tenants};
+ghost use Rattle.std.specs.Prelude.{◌≡◌, ◌<◌, ◌≤◌, true, false, None, length, slice_index, IfOk, IfSome, MatchOption};
+ghost use Rattle.allotment.specs.Loans.{max_places, max_tenants, used_by};
+ghost use Rattle.allotment.specs.Waits.{IsPlaceBack, asked_for, waiting_of};
 ghost use Rattle.workers.specs.PlaceCounts.{missed_by, raised_at, unless_answered};
+ghost use Rattle.workers.specs.Places.{IsAdmitted, after_look, has_place, has_tenant, is_kept_for, without_one};
 
 use allotment::{Admission, Lending};
 use std::alloc::{AllocError, Global};
@@ -147,6 +149,10 @@ fn raise(counts: &mut Vec<u64>, tenant: usize)
 
 // The answer to one of the tenant that asks for a place, counted if it gets none; `None` if there is no such tenant.
 fn ask(counter: &mut Counter, tenant: usize) -> Option<Admission>
+    ensures asked { MatchOption result
+        ((has_tenant tenant counter.old.lending ≡ false) × (counter.new.lending ≡ counter.old.lending))
+        (λ admission. (has_tenant tenant counter.old.lending ≡ true) × IsAdmitted tenant counter.old.lending admission
+        × (counter.new.lending ≡ asked_for tenant counter.old.lending)) }
     ensures missed { counter.new.missed.items ≡ missed_by result tenant counter.old.missed.items }
     ensures unanswered { counter.new.unanswered ≡ counter.old.unanswered }
 {
@@ -163,6 +169,8 @@ fn ask(counter: &mut Counter, tenant: usize) -> Option<Admission>
 
 // Whether a place was kept for one of the tenant that waited.
 fn picks_up(counter: &mut Counter, tenant: usize) -> bool
+    ensures kept { result ≡ is_kept_for tenant counter.old.lending }
+    ensures lending { counter.new.lending ≡ after_look tenant counter.old.lending }
     ensures missed { counter.new.missed ≡ counter.old.missed }
     ensures unanswered { counter.new.unanswered ≡ counter.old.unanswered }
 {
@@ -171,6 +179,7 @@ fn picks_up(counter: &mut Counter, tenant: usize) -> bool
 
 // One of the tenant waits no longer, and got no place.
 fn give_up(counter: &mut Counter, tenant: usize)
+    ensures lending { counter.new.lending ≡ without_one tenant counter.old.lending }
     ensures missed { counter.new.missed.items ≡ raised_at tenant counter.old.missed.items }
     ensures unanswered { counter.new.unanswered ≡ counter.old.unanswered }
 {
@@ -182,8 +191,15 @@ fn give_up(counter: &mut Counter, tenant: usize)
 
 // The tenant's use of the places; `None` if there is no such tenant.
 fn use_in(counter: &Counter, tenant: usize) -> Option<PlaceUse>
-    ensures { IfSome result (λ told. (told.missed ≡ slice_index counter.now.missed.items tenant)
-        × (told.unanswered ≡ slice_index counter.now.unanswered.items tenant)) }
+    ensures told { IfSome result (λ told. told ≡ record {
+      share = counter.now.lending.loans.share;
+      used = used_by tenant counter.now.lending.loans;
+      waiting = waiting_of tenant counter.now.lending;
+      missed = slice_index counter.now.missed.items tenant;
+      unanswered = slice_index counter.now.unanswered.items tenant;
+    }) }
+    ensures there { result ≡ None → has_tenant tenant counter.now.lending ≡ true → tenant < length counter.now.missed.items
+        → ¬ (tenant < length counter.now.unanswered.items) }
 {
     let lending = &counter.lending;
     if tenant >= lending.tenants() {
@@ -200,6 +216,9 @@ fn use_in(counter: &Counter, tenant: usize) -> Option<PlaceUse>
 
 // The tenant of one that waits, for whom the place is kept. Counts a packet that got no answer.
 fn came_back(counter: &mut Counter, tenant: usize, is_answered: bool) -> Option<usize>
+    ensures back { has_place tenant counter.old.lending ≡ true → IsPlaceBack tenant counter.old.lending result counter.new.lending }
+    ensures none { has_place tenant counter.old.lending ≡ false
+        → (result ≡ None) × (counter.new.lending ≡ counter.old.lending) }
     ensures missed { counter.new.missed ≡ counter.old.missed }
     ensures unanswered { counter.new.unanswered.items ≡ unless_answered is_answered tenant counter.old.unanswered.items }
 {
