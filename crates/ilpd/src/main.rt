@@ -30,7 +30,7 @@ use std::{env, fs, io};
 use subcommands::{
     Ending, Filer, Script, Statements, SystemClock, asks_version, begin, check, ending_of,
     exit_status, good_in, join, memory_refused, name_in, printing, reason_of, replay_filing, take,
-    tell, tell_audit, token_of, words_refused,
+    tell, tell_audit, tenant_of, token_of, words_refused,
 };
 
 // Says on standard error that there are only so many of something for so many others, and the effect.
@@ -170,11 +170,6 @@ fn begin_again<W: Write>(
     begin(alloc, chain, text, name.as_bytes(), setup.file, writer)
 }
 
-// The name of the tenant whose statements a chain took, if it took any.
-fn tenant_of(chain: &Chain) -> Option<Name> {
-    Some(chain.opening_due()?.name.copy())
-}
-
 // Says whether the statements in these files are good and go on, also over the setups between them. The first one goes
 // on from a setup, if one is named. Then prints the sums of all. One statement is in memory at a time.
 fn verify_at(
@@ -288,12 +283,6 @@ enum FolderFault {
     Wrong(&'static str),
 }
 
-impl From<io::Error> for FolderFault {
-    fn from(error: io::Error) -> FolderFault {
-        FolderFault::Unseen(error)
-    }
-}
-
 // Checks that the folder of the statements is a folder, and has no statement of these tenants yet; and no receipts, if
 // they are kept there too.
 fn check_folder(
@@ -302,18 +291,20 @@ fn check_folder(
     setup: &Setup,
     has_receipts: bool,
 ) -> Result<(), FolderFault> {
-    if !fs::metadata(rt, path)?.is_dir() {
+    let found = fs::metadata(rt, path).map_err(FolderFault::Unseen)?;
+    if !found.is_dir() {
         return Err(FolderFault::Wrong("not a folder"));
     }
     let folder = Folder::new(rt, rt.alloc(), path);
     for tenant in setup.tenants.as_slice() {
-        if folder.has_file(&tenant.terms().name, 0)? {
+        let name = &tenant.terms().name;
+        if folder.has_file(name, 0).map_err(FolderFault::Unseen)? {
             return Err(FolderFault::Wrong(
                 "it has statements of a tenant already: each start needs a new folder",
             ));
         }
     }
-    if has_receipts && folder.has_receipts_file()? {
+    if has_receipts && folder.has_receipts_file().map_err(FolderFault::Unseen)? {
         return Err(FolderFault::Wrong("it has receipts already: each start needs a new folder"));
     }
     Ok(())

@@ -23,4 +23,4 @@ pub use ending::{Ending, asks_version, exit_status, words_refused};
 pub use filing::{Filer, replay_filing};
 pub use reasons::reason_of;
 pub use token::token_of;
-pub use verifying::{begin, good_in, join, memory_refused, name_in, take, tell};
+pub use verifying::{begin, good_in, join, memory_refused, name_in, take, tell, tenant_of};

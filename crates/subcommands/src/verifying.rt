@@ -1,9 +1,10 @@
 //! What `verify` says of the statements of a tenant, one after another.
 
-ghost use Rattle.std.specs.Prelude.{◌≡◌, [], ◌∷◌, ◌++◌, List, Ok, IfOk, OnOk, IsErr};
+ghost use Rattle.std.specs.Prelude.{◌≡◌, [], ◌∷◌, ◌++◌, List, Ok, IfOk, OnOk, IsErr, option_map};
 ghost use Rattle.admin_text.specs.Setup.{setup_of};
 ghost use Rattle.statements.specs.Chain.{IsChain, Link};
 ghost use Rattle.statements.specs.Chain.Link.{Stated};
+ghost use Rattle.statements.specs.Due.{opening_due};
 ghost use Rattle.statements.specs.Gone.{IsGood};
 ghost use Rattle.subcommands.specs.Verifying.{GoesOnBy, IsSummaryOf, TellsSummary};
 ghost use Rattle.std.specs.Io.KnownBytes.{Appends};
@@ -11,7 +12,7 @@ ghost use Rattle.std.specs.Io.KnownBytes.{Appends};
 use crate::checking::printing;
 use crate::ending::Ending;
 use admin_text::{Setup, read_setup};
-use common_types::ReadError;
+use common_types::{Name, ReadError};
 use replay_text::ReplayFault;
 use statements::{Chain, ChainFault, GoodStatement, Long, StatementFault, line_at, line_of, ruled};
 use std::alloc::{AllocError, Global};
@@ -235,6 +236,13 @@ pub fn tell<W: Write>(alloc: Global, chain: &Chain, writer: &mut W) -> Result<()
 pub fn name_in(text: &[u8]) -> &[u8] {
     let line = line_at(text, 2).unwrap_or(&[]);
     line.split(|byte| *byte == b' ').nth(2).unwrap_or(&[])
+}
+
+/// The name of the tenant whose statements a chain took, if it took any.
+pub fn tenant_of(chain: &Chain) -> Option<Name>
+    ensures { result ≡ option_map (λ opening. opening.name) (opening_due chain.now.due) }
+{
+    Some(chain.opening_due()?.name.copy())
 }
 
 // The place of the tenant of that name, or the number of tenants if none has it.
