@@ -1,5 +1,8 @@
-//! What the subcommands of `ilpd` say, and its exit statuses.
+//! What `ilpd` does and says for the words of its command line, and its exit statuses.
 //!
+//! - `program`: from the words to the exit status.
+//! - `judging`, `replaying`, `serving`: what each subcommand does with its files, folders and sockets.
+//! - `files`, `folder`: what the command line names, and what is said of it.
 //! - `checking`: what `check` says of a setup and a script.
 //! - `verifying`, `auditing`: what `verify` says of statements, and of receipts.
 //! - `filing`: a replay that keeps statements.
@@ -11,8 +14,14 @@ mod auditing;
 mod checking;
 mod clock;
 mod ending;
+mod files;
 mod filing;
+mod folder;
+mod judging;
+mod program;
 mod reasons;
+mod replaying;
+mod serving;
 mod token;
 mod verifying;
 
@@ -21,6 +30,7 @@ pub use checking::{Script, check, ending_of, printing};
 pub use clock::SystemClock;
 pub use ending::{Ending, asks_version, exit_status, words_refused};
 pub use filing::{Filer, replay_filing};
+pub use program::run;
 pub use reasons::reason_of;
 pub use token::token_of;
 pub use verifying::{begin, good_in, join, memory_refused, name_in, take, tell, tenant_of};

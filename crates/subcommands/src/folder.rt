@@ -1,0 +1,77 @@
+//! The folder that statements are kept in: each start needs one without any.
+
+use crate::checking::ending_of;
+use crate::ending::Ending;
+use crate::files::{cannot, say_cannot};
+use admin_text::Setup;
+use replay_text::ReplayFault;
+use service::Folder;
+use std::rt::Files;
+use std::{fs, io};
+
+// Why nothing is kept in a folder.
+#[derive(Drop)]
+enum FolderFault {
+    /// It can't be looked at, or it is out of memory.
+    Unseen(io::Error),
+    /// What is wrong with it.
+    Wrong(&'static str),
+}
+
+// Checks that the folder of the statements is a folder, and has no statement of these tenants yet; and no receipts, if
+// they are kept there too.
+fn check_folder(
+    rt: &(impl Files + AllocGlobal),
+    path: &str,
+    setup: &Setup,
+    has_receipts: bool,
+) -> Result<(), FolderFault> {
+    let found = fs::metadata(rt, path).map_err(FolderFault::Unseen)?;
+    if !found.is_dir() {
+        return Err(FolderFault::Wrong("not a folder"));
+    }
+    let folder = Folder::new(rt, rt.alloc(), path);
+    for tenant in setup.tenants.as_slice() {
+        let name = &tenant.terms().name;
+        if folder.has_file(name, 0).map_err(FolderFault::Unseen)? {
+            return Err(FolderFault::Wrong(
+                "it has statements of a tenant already: each start needs a new folder",
+            ));
+        }
+    }
+    if has_receipts && folder.has_receipts_file().map_err(FolderFault::Unseen)? {
+        return Err(FolderFault::Wrong("it has receipts already: each start needs a new folder"));
+    }
+    Ok(())
+}
+
+/// The same for a service. A line on standard output says what is wrong.
+pub fn expect_folder(
+    rt: &(impl Files + Print + AllocGlobal),
+    path: &str,
+    setup: &Setup,
+    has_receipts: bool,
+) -> Result<(), Ending> {
+    let doing = "keep statements in";
+    match check_folder(rt, path, setup, has_receipts) {
+        Ok(()) => Ok(()),
+        Err(FolderFault::Unseen(error)) => Err(cannot(rt, doing, path, &error)),
+        Err(FolderFault::Wrong(why)) => {
+            say_cannot(rt, doing, path, why);
+            Err(Ending::Fault(ReplayFault::Device))
+        }
+    }
+}
+
+/// Checks that a replay can keep statements in that folder. A replay prints only its lines, so it does not say why not.
+pub fn expect_free_folder(
+    rt: &(impl Files + AllocGlobal),
+    path: &str,
+    setup: &Setup,
+) -> Result<(), Ending> {
+    match check_folder(rt, path, setup, false) {
+        Ok(()) => Ok(()),
+        Err(FolderFault::Unseen(error)) => Err(ending_of(error.kind())),
+        Err(FolderFault::Wrong(_)) => Err(Ending::Fault(ReplayFault::Device)),
+    }
+}
