@@ -331,20 +331,23 @@ static VERIFIED: [(&str, &str, &str, u8); 5] = [
     ),
 ];
 
+fn verify_both(
+    alloc: Global,
+    chain: &mut Chain,
+    a: &str,
+    b: &str,
+    out: &mut Vec<u8>,
+) -> Result<(), Ending> {
+    let name = name_in(a.as_bytes());
+    begin(alloc, chain, SETUP.as_bytes(), name, "a.statement", out)?;
+    take(alloc, chain, "a.statement", a.as_bytes(), out)?;
+    take(alloc, chain, "b.statement", b.as_bytes(), out)?;
+    tell(alloc, chain, out)
+}
+
 fn verified(alloc: Global, a: &str, b: &str, out: &mut Vec<u8>) -> Result<(), Ending> {
     let mut chain = Chain::new(alloc);
-    let name = name_in(a.as_bytes());
-    begin(
-        alloc,
-        &mut chain,
-        SETUP.as_bytes(),
-        name,
-        "a.statement",
-        out,
-    )?;
-    take(alloc, &mut chain, "a.statement", a.as_bytes(), out)?;
-    take(alloc, &mut chain, "b.statement", b.as_bytes(), out)?;
-    tell(alloc, &chain, out)
+    verify_both(alloc, &mut chain, a, b, out)
 }
 
 // The setup after the first statement, what is said then of the statement that it begins with again, and the exit status.
@@ -364,12 +367,22 @@ static BEGUN: [(&str, &str, &str, u8); 3] = [
     ),
 ];
 
+fn begin_again(
+    alloc: Global,
+    chain: &mut Chain,
+    setup: &str,
+    b: &str,
+    out: &mut Vec<u8>,
+) -> Result<(), Ending> {
+    take(alloc, chain, "a.statement", STATEMENT.as_bytes(), out)?;
+    begin(alloc, chain, setup.as_bytes(), b"acme", "b.toml", out)?;
+    take(alloc, chain, "b.statement", b.as_bytes(), out)?;
+    tell(alloc, chain, out)
+}
+
 fn begun_again(alloc: Global, setup: &str, b: &str, out: &mut Vec<u8>) -> Result<(), Ending> {
     let mut chain = Chain::new(alloc);
-    take(alloc, &mut chain, "a.statement", STATEMENT.as_bytes(), out)?;
-    begin(alloc, &mut chain, setup.as_bytes(), b"acme", "b.toml", out)?;
-    take(alloc, &mut chain, "b.statement", b.as_bytes(), out)?;
-    tell(alloc, &chain, out)
+    begin_again(alloc, &mut chain, setup, b, out)
 }
 
 /// That was said, and a run that ended so has that status.

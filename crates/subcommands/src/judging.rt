@@ -100,23 +100,23 @@ fn take_file<'a, W: Write>(
     )
 }
 
-// Takes all files, and before them the setup that the first one goes on from, if one is named.
-fn take_files<'a, W: Write>(
+// Takes all files, and before them the setup that the first one goes on from, if one is named. Then prints the sums of all.
+fn verify_in<'a>(
     rt: &(impl Files + Print + AllocGlobal),
     chain: &mut Chain,
     setups: &mut Vec<Named<'a>>,
     setup: Option<&'a str>,
     files: &[&'a str],
-    writer: &mut W,
 ) -> Result<(), Ending> {
+    let mut writer = io::writer(rt);
     if let Some(file) = setup {
         let text = read_file(rt, file)?;
         setups.push(Named { file, text }).map_err(no_memory)?;
     }
     for file in files {
-        take_file(rt, chain, setups, file, writer)?;
+        take_file(rt, chain, setups, file, &mut writer)?;
     }
-    Ok(())
+    tell(rt.alloc(), chain, &mut writer)
 }
 
 /// Says whether the statements in these files are good and go on, also over the setups between them. The first one goes
@@ -126,11 +126,9 @@ pub fn verify_at(
     setup: Option<&str>,
     files: &[&str],
 ) -> Result<(), Ending> {
-    let (alloc, mut writer) = (rt.alloc(), io::writer(rt));
-    let mut chain = Chain::new(alloc);
-    let mut setups = Vec::new(alloc);
-    take_files(rt, &mut chain, &mut setups, setup, files, &mut writer)?;
-    tell(alloc, &chain, &mut writer)
+    let mut chain = Chain::new(rt.alloc());
+    let mut setups = Vec::new(rt.alloc());
+    verify_in(rt, &mut chain, &mut setups, setup, files)
 }
 
 /// Audits the receipts in a file by the statements in others, of all tenants, each tenant's one period after another.
