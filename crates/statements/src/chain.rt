@@ -81,6 +81,18 @@ fn good_in(alloc: Global, text: &[u8]) -> Result<GoodStatement<'_>, ReadError<Ch
     }
 }
 
+// The book of a tenant whose next period opens so.
+fn book_of(alloc: Global, opening: &Opening) -> Result<Book, ReadError<ChainFault>>
+    ensures book { IfOk result (λ book. book ≡ opened opening.now) }
+    ensures fault { IfErr result (IsUnopened opening.now) }
+{
+    match Book::reopened(alloc, opening.copy(alloc)?) {
+        Ok(book) => Ok(book),
+        Err(ReadError::Memory) => Err(ReadError::Memory),
+        Err(ReadError::Fault(_)) => Err(ReadError::Fault(ChainFault::Changed)),
+    }
+}
+
 // The setup of a tenant whose next period opens so, as a service writes it, with that token of its operator.
 pub fn present(
     alloc: Global,
@@ -90,11 +102,8 @@ pub fn present(
     ensures present { IfOk result (λ setup. setup ≡ present_setup (opened opening.now) admin) }
     ensures fault { IfErr result (IsUnopened opening.now) }
 {
-    match Book::reopened(alloc, opening.copy(alloc)?) {
-        Ok(book) => Ok(book.present_setup(alloc, admin)?),
-        Err(ReadError::Memory) => Err(ReadError::Memory),
-        Err(ReadError::Fault(_)) => Err(ReadError::Fault(ChainFault::Changed)),
-    }
+    let book = book_of(alloc, opening)?;
+    Ok(book.present_setup(alloc, admin)?)
 }
 
 // Whether a setup has what a tenant has whose next period opens so.

@@ -4,6 +4,7 @@ ghost use Rattle.std.specs.Prelude.{◌≡◌, false, IfOk, IfSome, IsTrue, None
 ghost use Rattle.statements.specs.Fees.{goes_on, route_fee};
 ghost use Rattle.statements.specs.Gone.{IsCharged, IsGone};
 ghost use Rattle.statements.specs.Statement.{IsStatement};
+ghost use Rattle.tenant_core.specs.Closing.{state_before_roll};
 ghost use Rattle.tenant_core.specs.Reopening.{is_roll, opening_fault};
 
 use crate::entry::entry_in;
@@ -13,6 +14,7 @@ use crate::written::written_in_room;
 use common_types::ReadError;
 use ilp_addr::{Address, Moment};
 use std::alloc::Global;
+use std::mem;
 use tenant_core::{
     Answered, Book, Change, Command, CommandFault, Entry, Hold, OpeningFault, Outcome, PeerNo,
     Period, Verdict, laws,
@@ -140,24 +142,78 @@ impl Course {
         Ok(true)
     }
 
-    // The period that a roll at that moment closes, if nothing refuses it.
-    fn rolled(mut self, alloc: Global, now: u64) -> Checked<Option<Gone>>
-        requires { IsCharged self }
+    // The period that a roll at that moment closes, if nothing refuses it. The fees go with it.
+    fn rolled(&mut self, alloc: Global, now: u64) -> Checked<Option<Gone>>
+        requires { IsCharged self.old }
         ensures { IfOk result (λ rolled. IfSome rolled IsGone) }
     {
-        let Some(now) = Moment::new(now) else {
+        let holds = Vec::from_slice(alloc, self.book.holds())?;
+        let Some(period) = period_rolled(alloc, &mut self.book, now)? else {
             return Ok(None);
         };
-        let holds = Vec::from_slice(alloc, self.book.holds())?;
-        match self.book.command(alloc, &Command::Roll, now) {
-            Ok(Answered::Rolled(period)) => Ok(Some(Gone {
-                period,
-                holds,
-                fees: self.fees,
-            })),
-            Err(CommandFault::Memory) => Err(ReadError::Memory),
-            _ => Ok(None),
+        let fees = mem::replace(&mut self.fees, Vec::new(alloc));
+        Ok(Some(Gone {
+            period,
+            holds,
+            fees,
+        }))
+    }
+
+    // Follows the entry of the line at that place. Of the period's roll it returns only the moment.
+    fn follow_line(&mut self, alloc: Global, line: &[u8], place: usize) -> Checked<Option<u64>>
+        requires { IsCharged self.old }
+        ensures { IfOk result (λ roll. IsCharged self.new) }
+    {
+        let entry = entry_in(alloc, line, self.next_peer)?;
+        let entry = entry.ok_or(bad(StatementFault::Entry(place)))?;
+        if entry.is_roll() {
+            return Ok(Some(entry.moment()));
         }
+        if self.follow(alloc, &entry)? {
+            Ok(None)
+        } else {
+            Err(bad(StatementFault::Refused(place)))
+        }
+    }
+
+    // Follows the entries of the lines up to the period's roll, and returns its place and its moment.
+    fn follow_lines(&mut self, alloc: Global, lines: &mut Lines<'_>) -> Checked<(usize, u64)>
+        requires { IsCharged self.old }
+        ensures { IfOk result (λ roll. IsCharged self.new) }
+    {
+        for place in 0..MOST_RECORDS {
+            let line = lines.next().ok_or(bad(StatementFault::Unclosed))?;
+            if let Some(moment) = self.follow_line(alloc, line, place)? {
+                return Ok((place, moment));
+            }
+        }
+        Err(bad(StatementFault::Unclosed))
+    }
+
+    // The period that the entries of the lines lead to.
+    fn go_over(&mut self, alloc: Global, lines: &mut Lines<'_>) -> Checked<Gone>
+        requires { IsCharged self.old }
+        ensures { IfOk result IsGone }
+    {
+        let (place, moment) = self.follow_lines(alloc, lines)?;
+        match self.rolled(alloc, moment)? {
+            Some(gone) => Ok(gone),
+            None => Err(bad(StatementFault::Refused(place))),
+        }
+    }
+}
+
+// The period that a roll of the book at that moment closes, if nothing refuses it.
+fn period_rolled(alloc: Global, book: &mut Book, now: u64) -> Checked<Option<Period>>
+    ensures { IfOk result (λ rolled. IfSome rolled (λ period. state_before_roll period ≡ book.old)) }
+{
+    let Some(now) = Moment::new(now) else {
+        return Ok(None);
+    };
+    match book.command(alloc, &Command::Roll, now) {
+        Ok(Answered::Rolled(period)) => Ok(Some(period)),
+        Err(CommandFault::Memory) => Err(ReadError::Memory),
+        _ => Ok(None),
     }
 }
 
@@ -167,19 +223,7 @@ pub fn gone_over(alloc: Global, text: &[u8]) -> Checked<Gone>
 {
     let mut lines = Lines::of(text);
     let mut course = begun(alloc, &mut lines)?;
-    for place in 0..MOST_RECORDS {
-        let line = lines.next().ok_or(bad(StatementFault::Unclosed))?;
-        let entry = entry_in(alloc, line, course.next_peer)?;
-        let entry = entry.ok_or(bad(StatementFault::Entry(place)))?;
-        if entry.is_roll() {
-            let gone = course.rolled(alloc, entry.moment())?;
-            return gone.ok_or(bad(StatementFault::Refused(place)));
-        }
-        if !course.follow(alloc, &entry)? {
-            return Err(bad(StatementFault::Refused(place)));
-        }
-    }
-    Err(bad(StatementFault::Unclosed))
+    course.go_over(alloc, &mut lines)
 }
 
 /// The line of a text that first differs from the other's, counted from 1.

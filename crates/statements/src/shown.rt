@@ -130,6 +130,21 @@ fn line_in(alloc: Global, text: &[u8], line: usize) -> Result<Vec<u8>, AllocErro
     Vec::from_slice(alloc, line_at(text, line).unwrap_or(&[]))
 }
 
+// The lines in which what a setup says of a tenant differs from what is due.
+fn first_differing(
+    alloc: Global,
+    said: &TenantTerms,
+    due: &TenantTerms,
+) -> Result<SetupLines, AllocError> {
+    let said = setup_text(alloc, said)?;
+    let due = setup_text(alloc, due)?;
+    let line = first_difference(said.as_slice(), due.as_slice());
+    Ok(SetupLines {
+        said: line_in(alloc, said.as_slice(), line)?,
+        due: line_in(alloc, due.as_slice(), line)?,
+    })
+}
+
 impl Chain {
     /// How the next statement must begin: all that comes before its records; empty if nothing came before it. Fails
     /// only if it is out of memory.
@@ -152,18 +167,10 @@ impl Chain {
         let Some(opening) = self.opening_due() else {
             return Ok(None);
         };
-        let terms = setup.terms();
-        let Ok(present) = present(alloc, opening, terms.admin.copy()) else {
-            return Ok(None);
-        };
-        let (said, due) = (
-            setup_text(alloc, terms)?,
-            setup_text(alloc, present.terms())?,
-        );
-        let line = first_difference(said.as_slice(), due.as_slice());
-        Ok(Some(SetupLines {
-            said: line_in(alloc, said.as_slice(), line)?,
-            due: line_in(alloc, due.as_slice(), line)?,
-        }))
+        let said = setup.terms();
+        match present(alloc, opening, said.admin.copy()) {
+            Ok(due) => Ok(Some(first_differing(alloc, said, due.terms())?)),
+            Err(_) => Ok(None),
+        }
     }
 }
