@@ -297,21 +297,32 @@ fn roll_at<'a>(alloc: Global) -> Arg<'a> {
     number_of(alloc, "roll-at", "PERCENT", help)
 }
 
-fn serve_of<'a>(alloc: Global) -> Result<Command<'a>, AllocError> {
-    let serve = Command::new(alloc, "serve")
+// The words of the operators' door.
+fn with_operators<'a>(alloc: Global, serve: Command<'a>) -> Result<Command<'a>, AllocError> {
+    serve.arg(operators_address(alloc))?.arg(no_admin(alloc)?)
+}
+
+// What happens to closed periods, and when they close.
+fn with_periods<'a>(alloc: Global, serve: Command<'a>) -> Result<Command<'a>, AllocError> {
+    serve.arg(folder_of(alloc))?.arg(roll_at(alloc))
+}
+
+fn serve_itself<'a>(alloc: Global) -> Command<'a> {
+    Command::new(alloc, "serve")
         .about(
             "Serves packets and commands over HTTP, and prints in the end how many were answered how",
         )
         .override_usage(
             "ilpd serve SETUP --workers W [--connections C] [--rounds N] [--balances] [--audit] [--listen ADDR]\n                  [--host ADDR --host-token FILE] [--operators ADDR [--no-admin]] [--statements DIR] [--roll-at PERCENT]",
         )
-        .after_help("Example: ilpd serve examples/serve.toml --workers 4");
-    let serve = with_reports(alloc, with_extent(alloc, serve)?)?;
-    with_host(alloc, serve.arg(listen_of(alloc))?)?
-        .arg(operators_address(alloc))?
-        .arg(no_admin(alloc)?)?
-        .arg(folder_of(alloc))?
-        .arg(roll_at(alloc))
+        .after_help("Example: ilpd serve examples/serve.toml --workers 4")
+}
+
+fn serve_of<'a>(alloc: Global) -> Result<Command<'a>, AllocError> {
+    let serve = with_extent(alloc, serve_itself(alloc))?;
+    let serve = with_reports(alloc, serve)?.arg(listen_of(alloc))?;
+    let serve = with_operators(alloc, with_host(alloc, serve)?)?;
+    with_periods(alloc, serve)
 }
 
 // How many workers there are, 1 where nothing is said.
@@ -505,6 +516,33 @@ fn all_within_limits(alloc: Global, matches: &ArgMatches<'_>) -> Result<(), Erro
     }
 }
 
+// The command line, with all that may be in it.
+fn program_of<'a>(alloc: Global) -> Result<Command<'a>, AllocError> {
+    Command::new(alloc, "ilpd")
+        .version(VERSION)
+        .about("A connector of the Interledger Protocol v4 for many operators")
+        .override_usage(USAGE)
+        .after_help(WHERE)
+        .subcommand_required(true)
+        .subcommand(replay_of(alloc)?)?
+        .subcommand(check_of(alloc)?)?
+        .subcommand(verify_of(alloc)?)?
+        .subcommand(serve_of(alloc)?)
+}
+
+// What the words say, each number within its limits.
+fn checked_line<'a>(alloc: Global, matches: &ArgMatches<'a>) -> Result<CommandLine<'a>, Error>
+    ensures least { IfOk result (λ line. 1 ≤ line.workers) }
+    ensures most { IfOk result (λ line. line.workers ≤ max_seats) }
+    ensures bounded { IfOk result (λ line. IsBounded line.task) }
+{
+    all_within_limits(alloc, matches)?;
+    let statements = files_of(alloc, matches)?;
+    let mut line = line_in(matches);
+    line.statements = statements;
+    Ok(line)
+}
+
 /// Reads the words of `ilpd replay SETUP [--workers W] [--statements DIR]`, `ilpd check SETUP [SCRIPT [--workers W]]`,
 /// `ilpd verify [--setup SETUP] [--receipts FILE] FILE..` or
 /// `ilpd serve SETUP --workers W [--connections C] [--rounds N] [--balances] [--audit] [--listen ADDR] [--host ADDR
@@ -519,19 +557,6 @@ pub fn arguments<'a>(alloc: Global, words: &'a [String]) -> Result<CommandLine<'
     ensures most { IfOk result (λ line. line.workers ≤ max_seats) }
     ensures bounded { IfOk result (λ line. IsBounded line.task) }
 {
-    let command = Command::new(alloc, "ilpd")
-        .version(VERSION)
-        .about("A connector of the Interledger Protocol v4 for many operators")
-        .override_usage(USAGE)
-        .after_help(WHERE)
-        .subcommand_required(true)
-        .subcommand(replay_of(alloc)?)?
-        .subcommand(check_of(alloc)?)?
-        .subcommand(verify_of(alloc)?)?
-        .subcommand(serve_of(alloc)?)?;
-    let matches = command.try_get_matches_from(words)?;
-    all_within_limits(alloc, &matches)?;
-    let mut line = line_in(&matches);
-    line.statements = files_of(alloc, &matches)?;
-    Ok(line)
+    let matches = program_of(alloc)?.try_get_matches_from(words)?;
+    checked_line(alloc, &matches)
 }
