@@ -1,6 +1,6 @@
 //! What `verify --receipts` says.
 
-use crate::words::{NEXT, STATEMENT, expect_ended};
+use crate::commands::words::{NEXT, STATEMENT, expect_ended};
 use std::alloc::Global;
 use std::process::Abort;
 use std::test::Fail;

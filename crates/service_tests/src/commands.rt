@@ -1,0 +1,4 @@
+//! The command line, what the subcommands say, and exit statuses.
+
+mod audits;
+mod words;
