@@ -5,7 +5,7 @@ ghost use Rattle.subcommands.specs.Auditing.{TellsAudit};
 
 use crate::ending::Ending;
 use crate::verifying::{
-    begin, begun, good_in, join, memory_refused, name_in, put_place, refuse, write,
+    TextFile, begin, begun, good_in, join, memory_refused, name_in, put_place, refuse, write,
 };
 use common_types::ReadError;
 use receipt_text::{ReceiptsFault, TextFault, check_receipts};
@@ -56,7 +56,7 @@ impl Statements {
     pub fn take<W: Write>(
         &mut self,
         alloc: Global,
-        setup: Option<&[u8]>,
+        setup: Option<TextFile<'_>>,
         file: &str,
         text: &[u8],
         writer: &mut W,
@@ -70,7 +70,7 @@ impl Statements {
             return Err(Ending::NotGood);
         };
         if let (None, Some(setup)) = (chain.opening_due(), setup) {
-            begin(alloc, chain, setup, name_in(text), file, writer)?;
+            begin(alloc, chain, setup.text, name_in(text), setup.file, writer)?;
         }
         join(alloc, chain, file, &good, writer)?;
         self.periods.push_reserved(good.into_period());

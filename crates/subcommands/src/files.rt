@@ -21,7 +21,7 @@ pub fn say_cannot(rt: &impl Print, doing: &str, what: &str, why: &str) {
     let _ = println!(rt; "ilpd: cannot {doing} {what}: {why}");
 }
 
-/// Says so, unless it is out of memory, and returns how the run ends.
+/// Says in a line on standard output what the error hindered, unless it is out of memory, and returns how the run ends.
 pub fn cannot(rt: &impl Print, doing: &str, what: &str, error: &io::Error) -> Ending {
     let kind = error.kind();
     if kind != ErrorKind::OutOfMemory {

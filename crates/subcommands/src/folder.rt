@@ -45,7 +45,7 @@ fn check_folder(
     Ok(())
 }
 
-/// The same for a service. A line on standard output says what is wrong.
+/// Checks that a service can keep statements in that folder, and receipts if it has them. A line on standard output says why not.
 pub fn expect_folder(
     rt: &(impl Files + Print + AllocGlobal),
     path: &str,

@@ -4,7 +4,9 @@ use crate::auditing::{Statements, tell_audit};
 use crate::checking::{Script, check};
 use crate::ending::Ending;
 use crate::files::read_file;
-use crate::verifying::{begin, good_in, join, memory_refused, name_in, take, tell, tenant_of};
+use crate::verifying::{
+    TextFile, begin, good_in, join, memory_refused, name_in, take, tell, tenant_of,
+};
 use replay_text::ReplayFault;
 use statements::Chain;
 use std::alloc::{AllocFailed, Global};
@@ -44,79 +46,84 @@ fn is_setup(file: &str) -> bool {
     file.ends_with(".toml")
 }
 
-// Takes the first statement, and before it the setups that came before it, for its tenant. Faults of the statement
-// itself come first.
-fn take_first<W: Write>(
-    alloc: Global,
-    chain: &mut Chain,
-    setups: &[Named<'_>],
-    file: &str,
-    text: &[u8],
-    writer: &mut W,
-) -> Result<(), Ending> {
-    let good = good_in(alloc, file, text, writer)?;
-    for setup in setups {
-        let setup = setup.text.as_slice();
-        begin(alloc, chain, setup, name_in(text), file, writer)?;
-    }
-    join(alloc, chain, file, &good, writer)
+// A run of `verify`: the chain so far, the setups that wait for the first statement, which names their tenant, and where
+// lines are written.
+#[derive(Drop)]
+struct Verification<'a, W: Write> {
+    chain: Chain,
+    setups: Vec<Named<'a>>,
+    writer: W,
 }
 
-// Takes a statement, or a setup that comes after one.
-fn take_text<W: Write>(
-    alloc: Global,
-    chain: &mut Chain,
-    setups: &[Named<'_>],
-    file: &str,
-    text: &[u8],
-    writer: &mut W,
-) -> Result<(), Ending> {
-    match tenant_of(chain) {
-        None => take_first(alloc, chain, setups, file, text, writer),
-        Some(name) if is_setup(file) => begin(alloc, chain, text, name.as_bytes(), file, writer),
-        Some(_) => take(alloc, chain, file, text, writer),
+impl<'a, W: Write> Verification<'a, W> {
+    // Takes the first statement, and before it the setups that came before it, for its tenant. Faults of the statement
+    // itself come first.
+    fn take_first(&mut self, alloc: Global, file: &str, text: &[u8]) -> Result<(), Ending> {
+        let good = good_in(alloc, file, text, &mut self.writer)?;
+        let name = name_in(text);
+        for setup in &self.setups {
+            let (file, setup) = (setup.file, setup.text.as_slice());
+            begin(alloc, &mut self.chain, setup, name, file, &mut self.writer)?;
+        }
+        join(alloc, &mut self.chain, file, &good, &mut self.writer)
     }
-}
 
-// Takes a file. Setups before the first statement wait for it, since it names the tenant.
-fn take_file<'a, W: Write>(
-    rt: &(impl Files + Print + AllocGlobal),
-    chain: &mut Chain,
-    setups: &mut Vec<Named<'a>>,
-    file: &'a str,
-    writer: &mut W,
-) -> Result<(), Ending> {
-    let text = read_file(rt, file)?;
-    if is_setup(file) && tenant_of(chain).is_none() {
-        return setups.push(Named { file, text }).map_err(no_memory);
+    // Takes a statement, or a setup that comes after one.
+    fn take_text(&mut self, alloc: Global, file: &str, text: &[u8]) -> Result<(), Ending> {
+        match tenant_of(&self.chain) {
+            None => self.take_first(alloc, file, text),
+            Some(name) if is_setup(file) => {
+                begin(
+                    alloc,
+                    &mut self.chain,
+                    text,
+                    name.as_bytes(),
+                    file,
+                    &mut self.writer,
+                )
+            }
+            Some(_) => take(alloc, &mut self.chain, file, text, &mut self.writer),
+        }
     }
-    take_text(
-        rt.alloc(),
-        chain,
-        setups.as_slice(),
-        file,
-        text.as_slice(),
-        writer,
-    )
-}
 
-// Takes all files, and before them the setup that the first one goes on from, if one is named. Then prints the sums of all.
-fn verify_in<'a>(
-    rt: &(impl Files + Print + AllocGlobal),
-    chain: &mut Chain,
-    setups: &mut Vec<Named<'a>>,
-    setup: Option<&'a str>,
-    files: &[&'a str],
-) -> Result<(), Ending> {
-    let mut writer = io::writer(rt);
-    if let Some(file) = setup {
+    // Keeps a setup for the first statement.
+    fn keep(
+        &mut self,
+        rt: &(impl Files + Print + AllocGlobal),
+        file: &'a str,
+    ) -> Result<(), Ending> {
         let text = read_file(rt, file)?;
-        setups.push(Named { file, text }).map_err(no_memory)?;
+        self.setups.push(Named { file, text }).map_err(no_memory)
     }
-    for file in files {
-        take_file(rt, chain, setups, file, &mut writer)?;
+
+    // Takes a file.
+    fn take_file(
+        &mut self,
+        rt: &(impl Files + Print + AllocGlobal),
+        file: &'a str,
+    ) -> Result<(), Ending> {
+        if is_setup(file) && tenant_of(&self.chain).is_none() {
+            return self.keep(rt, file);
+        }
+        let text = read_file(rt, file)?;
+        self.take_text(rt.alloc(), file, text.as_slice())
     }
-    tell(rt.alloc(), chain, &mut writer)
+
+    // Takes all files, and before them the setup that the first one goes on from, if one is named. Then prints the sums of all.
+    fn take_all(
+        &mut self,
+        rt: &(impl Files + Print + AllocGlobal),
+        setup: Option<&'a str>,
+        files: &[&'a str],
+    ) -> Result<(), Ending> {
+        if let Some(file) = setup {
+            self.keep(rt, file)?;
+        }
+        for file in files {
+            self.take_file(rt, file)?;
+        }
+        tell(rt.alloc(), &self.chain, &mut self.writer)
+    }
 }
 
 /// Says whether the statements in these files are good and go on, also over the setups between them. The first one goes
@@ -126,29 +133,23 @@ pub fn verify_at(
     setup: Option<&str>,
     files: &[&str],
 ) -> Result<(), Ending> {
-    let mut chain = Chain::new(rt.alloc());
-    let mut setups = Vec::new(rt.alloc());
-    verify_in(rt, &mut chain, &mut setups, setup, files)
+    let mut verification = Verification {
+        chain: Chain::new(rt.alloc()),
+        setups: Vec::new(rt.alloc()),
+        writer: io::writer(rt),
+    };
+    verification.take_all(rt, setup, files)
 }
 
-/// Audits the receipts in a file by the statements in others, of all tenants, each tenant's one period after another.
-/// The first ones go on from a setup, if one is named. All periods are in memory then.
-pub fn audit_at(
+// Takes all statements, and audits the receipts by them.
+fn audit_by(
     rt: &(impl Files + Print + AllocGlobal),
-    setup: Option<&str>,
+    statements: &mut Statements,
+    setup: Option<TextFile<'_>>,
     receipts: &str,
     files: &[&str],
 ) -> Result<(), Ending> {
     let (alloc, mut writer) = (rt.alloc(), io::writer(rt));
-    let setup = match setup {
-        Some(file) => Some(read_file(rt, file)?),
-        None => None,
-    };
-    let setup = match &setup {
-        Some(text) => Some(text.as_slice()),
-        None => None,
-    };
-    let mut statements = Statements::new(alloc).map_err(memory_refused)?;
     for file in files {
         let text = read_file(rt, file)?;
         statements.take(alloc, setup, file, text.as_slice(), &mut writer)?;
@@ -160,5 +161,28 @@ pub fn audit_at(
         receipts,
         text.as_slice(),
         &mut writer,
+    )
+}
+
+/// Audits the receipts in a file by the statements in others, of all tenants, each tenant's one period after another.
+/// The first ones go on from a setup, if one is named. All periods are in memory then.
+pub fn audit_at(
+    rt: &(impl Files + Print + AllocGlobal),
+    setup: Option<&str>,
+    receipts: &str,
+    files: &[&str],
+) -> Result<(), Ending> {
+    let mut statements = Statements::new(rt.alloc()).map_err(memory_refused)?;
+    let Some(file) = setup else {
+        return audit_by(rt, &mut statements, None, receipts, files);
+    };
+    let text = read_file(rt, file)?;
+    let text = text.as_slice();
+    audit_by(
+        rt,
+        &mut statements,
+        Some(TextFile { file, text }),
+        receipts,
+        files,
     )
 }

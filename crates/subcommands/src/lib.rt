@@ -33,4 +33,6 @@ pub use filing::{Filer, replay_filing};
 pub use program::run;
 pub use reasons::reason_of;
 pub use token::token_of;
-pub use verifying::{begin, good_in, join, memory_refused, name_in, take, tell, tenant_of};
+pub use verifying::{
+    TextFile, begin, good_in, join, memory_refused, name_in, take, tell, tenant_of,
+};

@@ -284,15 +284,24 @@ fn setup_words(
     Ok(out)
 }
 
-// What is said of a file whose tenant is not in the setup.
-fn stranger_words(alloc: Global, file: &str) -> Result<Vec<u8>, AllocError> {
+// What is said of a setup without the tenant of the statements.
+fn stranger_words(alloc: Global, file: &str, name: &[u8]) -> Result<Vec<u8>, AllocError> {
     let mut out = begun(alloc, file)?;
-    out.extend_from_slice(b"the setup has no tenant of its name\n")?;
+    out.extend_from_slice(b"no tenant is called ")?;
+    out.extend_from_slice(name)?;
+    out.extend_from_slice(b"\n")?;
     Ok(out)
 }
 
+/// A file that the command line names, and all that is in it.
+#[derive(Clone, Copy)]
+pub struct TextFile<'a> {
+    pub file: &'a str,
+    pub text: &'a [u8],
+}
+
 /// Takes a setup that the service began with as what a chain goes on with, for the tenant of that name. If it does not
-/// go on, or has no such tenant, the run ends with words that say what is wrong with that file.
+/// go on, or has no such tenant, the run ends with words that say what is wrong with the setup's file.
 pub fn begin<W: Write>(
     alloc: Global,
     chain: &mut Chain,
@@ -307,7 +316,7 @@ pub fn begin<W: Write>(
     let setup = setup_in(alloc, setup)?;
     let place = place_in(&setup, name);
     let Some(tenant) = setup.tenants.as_slice().get(place) else {
-        let words = stranger_words(alloc, file).map_err(memory_refused)?;
+        let words = stranger_words(alloc, file, name).map_err(memory_refused)?;
         return refuse(writer, words.as_slice());
     };
     match chain.begin(alloc, place, tenant, setup.start) {

@@ -4,7 +4,7 @@ use crate::commands::words::{NEXT, STATEMENT, expect_ended};
 use std::alloc::Global;
 use std::process::Abort;
 use std::test::Fail;
-use subcommands::{Ending, Statements, memory_refused, tell_audit};
+use subcommands::{Ending, Statements, TextFile, memory_refused, tell_audit};
 
 const BETA: &str = "statement 1
 tenant 1 beta g.beta 1024 1000 30000
@@ -12,6 +12,16 @@ period 0 1893456000000 0 0
 1893456000001 roll
 ending
 tenant 1 beta g.beta 1024 1000 30000
+period 1 1893456000001 0 0
+";
+
+// The statement of a tenant whom the setup does not have.
+const GAMMA: &str = "statement 1
+tenant 2 gamma g.gamma 1024 1000 30000
+period 0 1893456000000 0 0
+1893456000001 roll
+ending
+tenant 2 gamma g.gamma 1024 1000 30000
 period 1 1893456000001 0 0
 ";
 
@@ -39,7 +49,7 @@ admin = \"root-b\"
 // The statements, in their order, the receipts, what is said of them, and the exit status.
 type Audited = (&'static [&'static str], &'static str, &'static str, u8);
 
-static AUDITED: [Audited; 7] = [
+static AUDITED: [Audited; 8] = [
     (&[STATEMENT, NEXT, BETA], RECEIPTS, "audit ok 4\n", 0),
     (&[BETA, STATEMENT, NEXT], RECEIPTS, "audit ok 4\n", 0),
     (&[STATEMENT, BETA], RECEIPTS, "audit no-period\n", 6),
@@ -57,6 +67,12 @@ static AUDITED: [Audited; 7] = [
     ),
     (&[STATEMENT, "", BETA], RECEIPTS, "b: no opening\n", 4),
     (
+        &[STATEMENT, GAMMA],
+        RECEIPTS,
+        "setup.toml: no tenant is called gamma\n",
+        4,
+    ),
+    (
         &[BETA],
         "receipts 1\nworker 1\n1 0 0 1893456000001 rolled\n",
         "receipts: line 3: tells no receipt and no worker\nit says: 1 0 0 1893456000001 rolled\n",
@@ -70,7 +86,10 @@ static FILES: [&str; 3] = ["a", "b", "c"];
 fn audited(alloc: Global, texts: &[&str], receipts: &str, out: &mut Vec<u8>) -> Result<(), Ending> {
     let mut statements = Statements::new(alloc).map_err(memory_refused)?;
     for (file, text) in FILES.iter().zip(texts.iter()) {
-        let setup = Some(SETUP.as_bytes());
+        let setup = Some(TextFile {
+            file: "setup.toml",
+            text: SETUP.as_bytes(),
+        });
         statements.take(alloc, setup, file, text.as_bytes(), out)?;
     }
     tell_audit(

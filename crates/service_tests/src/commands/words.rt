@@ -339,7 +339,7 @@ fn verify_both(
     out: &mut Vec<u8>,
 ) -> Result<(), Ending> {
     let name = name_in(a.as_bytes());
-    begin(alloc, chain, SETUP.as_bytes(), name, "a.statement", out)?;
+    begin(alloc, chain, SETUP.as_bytes(), name, "a.toml", out)?;
     take(alloc, chain, "a.statement", a.as_bytes(), out)?;
     take(alloc, chain, "b.statement", b.as_bytes(), out)?;
     tell(alloc, chain, out)
