@@ -3,7 +3,7 @@
 //! - the limits of their setups and networks, verdicts at the bounds of what was agreed, the checks that decide, and what comes
 //!   back;
 //! - closed periods, their audits, their statements, chains of statements and texts of receipts;
-//! - copies, owned entries, and random lists of all of these.
+//! - copies and owned entries.
 
 mod audits;
 mod chained;
@@ -11,7 +11,6 @@ mod explained;
 mod limits;
 mod owned;
 mod periods;
-mod random_lists;
 mod receipt_texts;
 mod returns;
 mod rooms;

@@ -1,10 +1,9 @@
 //! The example of receipts: of two tenants, whose entries two workers made by turns.
 
 use crate::fault::Fault;
-use crate::many::by_turns;
+use crate::many::{by_turns, lent};
 use crate::steps::periods;
 use receipt_text::{check_receipts, write_receipts};
-use receipts::Receipt;
 use statements::{check_statement, write_statement};
 use std::alloc::Global;
 use std::rt::Files;
@@ -23,10 +22,7 @@ const WORKERS: usize = 2;
 /// The receipts of the entries of periods, which two workers kept by turns, as a text.
 pub fn receipts_of(alloc: Global, periods: &[Period]) -> Result<Vec<u8>, Fault> {
     let lists = by_turns(alloc, periods, WORKERS)?;
-    let mut shown: Vec<&[Receipt]> = Vec::new(alloc);
-    for list in &lists {
-        shown.push(list.as_slice())?;
-    }
+    let shown = lent(alloc, lists.as_slice())?;
     Ok(write_receipts(alloc, shown.as_slice())?)
 }
 

@@ -1,23 +1,56 @@
 //! Random books of one tenant, over many periods, and services that begin again from the setup that the last one
-//! wrote. Each closed period is written. The chain of all statements must equal a plain count.
+//! wrote. Each closed period is written, and the receipts of its records, which must be complete if it is a first one. The chain of
+//! all statements must equal a plain count.
 
+use crate::audited::receipts_of;
 use crate::counted::{Count, Led, lines_of};
 use crate::fault::Fault;
 use admin_text::{Setup, parse_command, read_setup, write_setup};
 use common_types::{ReadError, Token};
 use ilp_addr::{Address, Moment};
+use receipt_text::{ReceiptsFault, check_receipts};
+use receipts::AuditFault;
 use statements::{Chain, write_statement};
-use std::alloc::Global;
+use std::alloc::{AllocError, Global};
+use std::slice;
 use tenant_core::{
     AnswerKey, Answered, Book, Command, CommandFault, Expiry, Period, PrepareKey, Side, Verdict,
 };
-use test_texts::Draws;
+use test_texts::{Draws, put};
 
 // 2030-01-01T00:00:00Z, when each first book begins.
 const START: u64 = 1_893_456_000_000;
 
 // How many peers there may be at once.
 const SLOTS: u64 = 6;
+
+// What the peer of each slot is called, its token, the prefix of its own route, and an address below that.
+static PEERS: [&str; 6] = ["p0", "p1", "p2", "p3", "p4", "p5"];
+
+static TOKENS: [&str; 6] = ["t0", "t1", "t2", "t3", "t4", "t5"];
+
+static PREFIXES: [&str; 6] = [
+    "g.acme.p0",
+    "g.acme.p1",
+    "g.acme.p2",
+    "g.acme.p3",
+    "g.acme.p4",
+    "g.acme.p5",
+];
+
+static ADDRESSES: [&str; 6] = [
+    "g.acme.p0.x",
+    "g.acme.p1.x",
+    "g.acme.p2.x",
+    "g.acme.p3.x",
+    "g.acme.p4.x",
+    "g.acme.p5.x",
+];
+
+// The setup of each first book, up to how many places its journal has.
+const SETUP: &str =
+    "version = 2\nstart = 1893456000000\n[[tenant]]\nname = \"acme\"\naddress = \"g.acme\"\n\
+admin = \"root\"\nmargin = 1000\nhold = 5000\njournal = ";
 
 // The SHA-256 of 32 zero bytes.
 const CONDITION: [u8; 32] = [
@@ -68,9 +101,8 @@ fn begin(alloc: Global, chain: &mut Chain, setup: &Setup) -> Result<Book, Fault>
 
 fn course_of(alloc: Global, mut draws: Draws) -> Result<Course, Fault> {
     let journal = JOURNALS.get(draws.below(6) as usize).copied().unwrap_or(64);
-    let text = format!(in alloc;
-        "version = 2\nstart = {START}\n[[tenant]]\nname = \"acme\"\naddress = \"g.acme\"\nadmin = \"root\"\njournal = {journal}\nmargin = 1000\nhold = 5000\n"
-    )?;
+    let journal = journal.to_string(alloc)?;
+    let text = [SETUP, journal.as_str(), "\n"].concat(alloc)?;
     let mut chain = Chain::new(alloc);
     let book = begin(alloc, &mut chain, &setup_in(alloc, text.as_str())?)?;
     Ok(Course {
@@ -87,13 +119,28 @@ fn moment_at(millis: u64) -> Result<Moment, Fault> {
     Moment::new(millis).ok_or(Fault::Book)
 }
 
+// The word of that slot.
+fn word_of(words: &[&'static str; 6], slot: u64) -> &'static str {
+    words.get(slot as usize).copied().unwrap_or("")
+}
+
 // The destination of a packet: a peer's address, or another.
-fn destination_of(alloc: Global, draws: &mut Draws, to: u64) -> Result<String, Fault> {
-    Ok(match draws.below(16) {
-        0 => String::from_str(alloc, "peer.config")?,
-        1 => String::from_str(alloc, "g.acme")?,
-        _ => format!(in alloc; "g.acme.p{to}.x")?,
-    })
+fn destination_of(draws: &mut Draws, to: u64) -> &'static str {
+    match draws.below(16) {
+        0 => "peer.config",
+        1 => "g.acme",
+        _ => word_of(&ADDRESSES, to),
+    }
+}
+
+// The words of a command, and then these numbers.
+fn words_of(alloc: Global, parts: &[&str], numbers: &[u64]) -> Result<String, AllocError> {
+    let mut words = parts.concat(alloc)?;
+    for number in numbers {
+        let digits = number.to_string(alloc)?;
+        put(&mut words, &[" ", digits.as_str()])?;
+    }
+    Ok(words)
 }
 
 // The words of an order, and of whom it is.
@@ -114,37 +161,54 @@ enum Ask {
     Other,
 }
 
-fn prefix_of(alloc: Global, prefix: Option<u64>) -> Result<String, Fault> {
-    Ok(match prefix {
-        Some(slot) => format!(in alloc; "g.acme.p{slot}")?,
-        None => String::from_str(alloc, "*")?,
-    })
+fn prefix_of(prefix: Option<u64>) -> &'static str {
+    match prefix {
+        Some(slot) => word_of(&PREFIXES, slot),
+        None => "*",
+    }
 }
 
-fn add_words(alloc: Global, draws: &mut Draws, slot: u64) -> Result<String, Fault> {
+fn add_words(alloc: Global, draws: &mut Draws, slot: u64) -> Result<String, AllocError> {
     let role = if draws.is_one_in(3) { "child" } else { "peer" };
-    let (cap, ceiling) = (draws.between(500, 3_000), draws.between(2_000, 20_000));
-    let (credit, burst) = (draws.between(2_000, 20_000), draws.between(1, 8));
-    let per_second = draws.below(30);
-    Ok(format!(in alloc;
-        "peer add p{slot} {role} t{slot} http://127.0.0.1/ out USD 2 {cap} {ceiling} {credit} {burst} {per_second}"
-    )?)
+    let numbers = [
+        draws.between(500, 3_000),
+        draws.between(2_000, 20_000),
+        draws.between(2_000, 20_000),
+        draws.between(1, 8),
+        draws.below(30),
+    ];
+    let (peer, token) = (word_of(&PEERS, slot), word_of(&TOKENS, slot));
+    let parts = [
+        "peer add ",
+        peer,
+        " ",
+        role,
+        " ",
+        token,
+        " http://127.0.0.1/ out USD 2",
+    ];
+    words_of(alloc, &parts, &numbers)
 }
 
-fn limits_words(alloc: Global, draws: &mut Draws, slot: u64) -> Result<String, Fault> {
-    let (cap, ceiling) = (draws.between(500, 3_000), draws.between(2_000, 20_000));
-    let credit = draws.between(2_000, 20_000);
-    Ok(format!(in alloc; "peer limits p{slot} {cap} {ceiling} {credit}")?)
+fn limits_words(alloc: Global, draws: &mut Draws, slot: u64) -> Result<String, AllocError> {
+    let numbers = [
+        draws.between(500, 3_000),
+        draws.between(2_000, 20_000),
+        draws.between(2_000, 20_000),
+    ];
+    words_of(alloc, &["peer limits ", word_of(&PEERS, slot)], &numbers)
 }
 
-fn bucket_words(alloc: Global, draws: &mut Draws, slot: u64) -> Result<String, Fault> {
-    let (burst, per_second) = (draws.between(1, 8), draws.below(30));
-    Ok(format!(in alloc; "peer bucket p{slot} {burst} {per_second}")?)
+fn bucket_words(alloc: Global, draws: &mut Draws, slot: u64) -> Result<String, AllocError> {
+    let numbers = [draws.between(1, 8), draws.below(30)];
+    words_of(alloc, &["peer bucket ", word_of(&PEERS, slot)], &numbers)
 }
 
-fn rate_words(alloc: Global, draws: &mut Draws, slot: u64) -> Result<String, Fault> {
-    let (other, num, den) = (draws.below(SLOTS), draws.between(1, 4), draws.between(1, 4));
-    Ok(format!(in alloc; "rate set p{slot} p{other} {num} {den}")?)
+fn rate_words(alloc: Global, draws: &mut Draws, slot: u64) -> Result<String, AllocError> {
+    let other = draws.below(SLOTS);
+    let numbers = [draws.between(1, 4), draws.between(1, 4)];
+    let (from, to) = (word_of(&PEERS, slot), word_of(&PEERS, other));
+    words_of(alloc, &["rate set ", from, " ", to], &numbers)
 }
 
 // A settlement: mostly what the peer owes or is owed.
@@ -169,7 +233,11 @@ fn settlement_of(
         Side::In => "in",
         Side::Out => "out",
     };
-    let words = format!(in alloc; "settle {word} p{slot} {amount}")?;
+    let words = words_of(
+        alloc,
+        &["settle ", word, " ", word_of(&PEERS, slot)],
+        &[amount],
+    )?;
     Ok((words, Ask::Settle(side, amount)))
 }
 
@@ -180,14 +248,27 @@ fn prefix_for(draws: &mut Draws, slot: u64) -> Option<u64> {
 
 fn route_of(alloc: Global, draws: &mut Draws, slot: u64) -> Result<(String, Ask), Fault> {
     let prefix = prefix_for(draws, slot);
-    let text = prefix_of(alloc, prefix)?;
+    let text = prefix_of(prefix);
     if draws.is_one_in(4) {
-        let words = format!(in alloc; "route remove {text}")?;
+        let words = words_of(alloc, &["route remove ", text], &[])?;
         return Ok((words, Ask::RemoveRoute(prefix)));
     }
     let fee = draws.below(40);
-    let words = format!(in alloc; "route add {text} p{slot} {fee}")?;
-    Ok((words, Ask::AddRoute(prefix, fee)))
+    let parts = ["route add ", text, " ", word_of(&PEERS, slot)];
+    Ok((words_of(alloc, &parts, &[fee])?, Ask::AddRoute(prefix, fee)))
+}
+
+// The text of the receipts of all records is valid, and complete if the period is a first one: a later one alone has a gap before
+// it.
+fn expect_complete(alloc: Global, period: &Period) -> Result<(), Fault> {
+    let closed = slice::from_ref(period);
+    let text = receipts_of(alloc, closed)?;
+    let is_first = period.number() == 0;
+    match check_receipts(alloc, closed, text.as_slice()) {
+        Ok(audited) if is_first && audited.receipts == period.len() => Ok(()),
+        Err(ReceiptsFault::Audit(AuditFault::Gap)) if !is_first => Ok(()),
+        _ => Err(Fault::Refused),
+    }
 }
 
 impl Course {
@@ -201,11 +282,10 @@ impl Course {
         now
     }
 
-    fn send(&mut self, alloc: Global) -> Result<(), Fault> {
+    fn send(&mut self) -> Result<(), Fault> {
         let now = moment_at(self.tick_on())?;
         let (from, to) = (self.draws.below(SLOTS), self.draws.below(SLOTS));
-        let destination = destination_of(alloc, &mut self.draws, to)?;
-        let token = format!(in alloc; "t{from}")?;
+        let destination = destination_of(&mut self.draws, to);
         let amount = if self.draws.is_one_in(8) {
             0
         } else {
@@ -221,7 +301,10 @@ impl Course {
             condition: &CONDITION,
             destination: &address,
         };
-        match self.book.decide(token.as_bytes(), &key, now) {
+        match self
+            .book
+            .decide(word_of(&TOKENS, from).as_bytes(), &key, now)
+        {
             Verdict::Unknown | Verdict::NoRoom => {}
             Verdict::Forward {
                 hold,
@@ -279,7 +362,10 @@ impl Course {
         let draws = &mut self.draws;
         let (words, ask) = match draws.below(20) {
             0..=3 => (add_words(alloc, draws, slot)?, Ask::Add),
-            4 | 5 => (format!(in alloc; "peer remove p{slot}")?, Ask::Remove),
+            4 | 5 => {
+                let parts = ["peer remove ", word_of(&PEERS, slot)];
+                (words_of(alloc, &parts, &[])?, Ask::Remove)
+            }
             6 => (limits_words(alloc, draws, slot)?, Ask::Other),
             7 => (bucket_words(alloc, draws, slot)?, Ask::Other),
             8..=11 => route_of(alloc, draws, slot)?,
@@ -308,14 +394,23 @@ impl Course {
     fn order(&mut self, alloc: Global) -> Result<(), Fault> {
         let now = moment_at(self.tick_on())?;
         let asked = self.asked(alloc)?;
-        let command = match parse_command(alloc, asked.words.as_bytes()) {
-            Ok(command) => command,
+        match parse_command(alloc, asked.words.as_bytes()) {
+            Ok(command) => self.order_by(alloc, &asked, &command, now),
             // a rate of a peer to itself
-            Err(ReadError::Fault(_)) => return Ok(()),
-            Err(ReadError::Memory) => return Err(Fault::Memory),
-        };
-        match self.book.command(alloc, &command, now) {
-            Ok(_) => self.done(&asked),
+            Err(ReadError::Fault(_)) => Ok(()),
+            Err(ReadError::Memory) => Err(Fault::Memory),
+        }
+    }
+
+    fn order_by(
+        &mut self,
+        alloc: Global,
+        asked: &Asked,
+        command: &Command,
+        now: Moment,
+    ) -> Result<(), Fault> {
+        match self.book.command(alloc, command, now) {
+            Ok(_) => self.done(asked),
             Err(CommandFault::Memory) => Err(Fault::Memory),
             Err(_) => Ok(()),
         }
@@ -341,7 +436,13 @@ impl Course {
         let period = self.rolled(alloc)?;
         self.count.enter();
         self.count.periods = self.count.periods.saturating_add(1);
-        let text = write_statement(alloc, &period)?;
+        expect_complete(alloc, &period)?;
+        self.state(alloc, &period)
+    }
+
+    // The statement of the period goes on with the chain.
+    fn state(&mut self, alloc: Global, period: &Period) -> Result<(), Fault> {
+        let text = write_statement(alloc, period)?;
         match self.chain.add(alloc, text.as_slice()) {
             Ok(()) => Ok(()),
             Err(ReadError::Memory) => Err(Fault::Memory),
@@ -349,12 +450,17 @@ impl Course {
         }
     }
 
+    // The text of the setup that the service would tell.
+    fn setup_text(&self, alloc: Global) -> Result<String, Fault> {
+        let admin = Token::new(b"root").ok_or(Fault::Book)?;
+        let start = moment_at(self.clock.saturating_add(1))?;
+        let tenants = [self.book.present_setup(alloc, admin)?];
+        Ok(write_setup(alloc, start, &tenants)?)
+    }
+
     // The service begins again, from the text of the setup that the one before it would tell.
     fn begin_again(&mut self, alloc: Global) -> Result<(), Fault> {
-        let admin = Token::new(b"root").ok_or(Fault::Book)?;
-        let tenants = [self.book.present_setup(alloc, admin)?];
-        let start = moment_at(self.clock.saturating_add(1))?;
-        let text = write_setup(alloc, start, &tenants)?;
+        let text = self.setup_text(alloc)?;
         let setup = setup_in(alloc, text.as_str())?;
         self.book = begin(alloc, &mut self.chain, &setup)?;
         self.count.begun_again();
@@ -364,7 +470,7 @@ impl Course {
 
     fn step(&mut self, alloc: Global) -> Result<(), Fault> {
         match self.draws.below(1_000) {
-            0..=519 => self.send(alloc),
+            0..=519 => self.send(),
             520..=739 => {
                 let hold = self.hold();
                 self.answer(hold)
@@ -398,6 +504,10 @@ const STEPS: u64 = 2_000;
 fn round(alloc: Global, round: u32, periods: u64) -> Result<Played, Fault> {
     let seed = u64::from(round).wrapping_mul(0x9e37_79b9_7f4a_7c15) ^ 0xbf58_476d_1ce4_e5b9;
     let mut course = course_of(alloc, Draws::new(seed))?;
+    play_on(alloc, &mut course, round, periods)
+}
+
+fn play_on(alloc: Global, course: &mut Course, round: u32, periods: u64) -> Result<Played, Fault> {
     for _ in 0..periods.saturating_mul(STEPS) {
         if course.count.periods >= periods {
             break;

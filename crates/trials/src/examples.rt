@@ -49,7 +49,8 @@ fn is_as_told(
     } else {
         "does not print"
     };
-    println!(rt; "{name}.script {verb} {name}.lines")?;
+    let line = [name, ".script ", verb, " ", name, ".lines"].concat(rt.alloc())?;
+    rt.println(line.as_str())?;
     Ok(is_as_told)
 }
 

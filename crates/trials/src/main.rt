@@ -27,6 +27,7 @@ use receipts::AuditFault;
 use seen::{are_all_seen, complain};
 use std::process::ExitCode;
 use std::rt::{Env, Files};
+use std::slice::Iter;
 use std::{env, fs, str};
 
 // A setup and a script, as files have them.
@@ -103,11 +104,21 @@ fn run_statements(
         return Err(Fault::Words);
     };
     let played = books::play(rt.alloc(), round_count, period_count)?;
-    let (periods, entries, begun) = (played.periods, played.entries, played.begun);
-    println!(rt;
-        "{rounds} rounds: {periods} statements with {entries} entries, over {begun} new beginnings, come to what was counted"
-    )?;
-    Ok(())
+    let stated = played.periods.to_string(rt.alloc())?;
+    let entries = played.entries.to_string(rt.alloc())?;
+    let begun = played.begun.to_string(rt.alloc())?;
+    let line = [
+        rounds,
+        " rounds: ",
+        stated.as_str(),
+        " statements with ",
+        entries.as_str(),
+        " entries, over ",
+        begun.as_str(),
+        " new beginnings, come to what was counted",
+    ]
+    .concat(rt.alloc())?;
+    Ok(rt.println(line.as_str())?)
 }
 
 // Prints the statements of the periods that a script's steps close, one after another.
@@ -208,38 +219,50 @@ fn run_trial(
     }
 }
 
-// The words are trials, one after another; without words all are run, as the gate does.
-fn run(rt: &(impl Env + Files + Print + Eprint + AllocGlobal)) -> Result<(), Fault> {
-    let mut words = env::args(rt)?.skip(1);
-    let mut has_words = false;
-    while let Some(trial) = words.next() {
-        has_words = true;
-        if trial.as_str() == "examples" {
-            examples::run(rt)?;
-            continue;
-        }
-        let Some(first) = words.next() else {
-            return Err(Fault::Words);
-        };
-        if trial.as_str() == "audit" {
-            run_audit(rt, first.as_str())?;
-            continue;
-        }
-        let Some(second) = words.next() else {
-            return Err(Fault::Words);
-        };
-        if trial.as_str() == "write" || trial.as_str() == "check" {
-            let times = words.next().ok_or(Fault::Words)?;
-            let files = (first.as_str(), second.as_str());
-            run_again(rt, trial.as_str(), files, times.as_str())?;
-            continue;
-        }
-        run_trial(rt, trial.as_str(), first.as_str(), second.as_str())?;
+fn word<'a>(words: &mut Iter<'a, String>) -> Result<&'a str, Fault> {
+    match words.next() {
+        Some(word) => Ok(word.as_str()),
+        None => Err(Fault::Words),
     }
-    if !has_words {
-        run_all(rt)?;
+}
+
+// Runs a trial, whose other words come after it.
+fn run_next(
+    rt: &(impl Files + Print + Eprint + AllocGlobal),
+    trial: &str,
+    words: &mut Iter<'_, String>,
+) -> Result<(), Fault> {
+    match trial {
+        "examples" => examples::run(rt),
+        "audit" => run_audit(rt, word(words)?),
+        "write" | "check" => {
+            let files = (word(words)?, word(words)?);
+            run_again(rt, trial, files, word(words)?)
+        }
+        _ => run_trial(rt, trial, word(words)?, word(words)?),
+    }
+}
+
+// The words are trials, one after another; without words all are run, as the gate does.
+fn run_words(
+    rt: &(impl Files + Print + Eprint + AllocGlobal),
+    words: &[String],
+) -> Result<(), Fault> {
+    if words.is_empty() {
+        return run_all(rt);
+    }
+    let mut left = words.iter();
+    for _ in 0..words.len() {
+        if let Some(trial) = left.next() {
+            run_next(rt, trial.as_str(), &mut left)?;
+        }
     }
     Ok(())
+}
+
+fn run(rt: &(impl Env + Files + Print + Eprint + AllocGlobal)) -> Result<(), Fault> {
+    let words: Vec<String> = env::args(rt)?.skip(1).collect(rt.alloc())?;
+    run_words(rt, words.as_slice())
 }
 
 fn main(rt: HostRuntime) -> ExitCode {

@@ -4,7 +4,7 @@ use crate::fault::Fault;
 use common_types::{Name, Spare, Token};
 use ilp_addr::{MAX_ADDRESS, Moment, OwnAddress};
 use receipts::{AuditFault, Receipt, audit};
-use std::alloc::Global;
+use std::alloc::{AllocError, Global};
 use tenant_core::{Answered, Book, Command, Network, Period, TenantSetup, TenantTerms};
 
 const TENANTS: usize = 64;
@@ -98,21 +98,42 @@ pub fn by_turns(
     Ok(lists)
 }
 
-/// What an audit says of so many receipts for each of 64 tenants: of how many tenants, and of how many receipts.
-pub fn audited(alloc: Global, entries: u32) -> Result<Result<(usize, usize), AuditFault>, Fault> {
-    let mut lists = no_receipts(alloc, WORKERS)?;
+// The periods of all tenants, whose receipts are handed to the workers by turns.
+fn periods_of(
+    alloc: Global,
+    lists: &mut Vec<Vec<Receipt>>,
+    entries: u32,
+) -> Result<Vec<Period>, Fault> {
     let mut periods = Vec::new(alloc);
     for tenant in 0..TENANTS {
         let period = period(alloc, tenant, entries.saturating_sub(1))?;
-        hand_out(alloc, &mut lists, &period)?;
+        hand_out(alloc, lists, &period)?;
         periods.push(period)?;
     }
-    let mut shown: Vec<&[Receipt]> = Vec::new(alloc);
-    for list in &lists {
-        shown.push(list.as_slice())?;
+    Ok(periods)
+}
+
+/// The lists, lent.
+pub fn lent(alloc: Global, lists: &[Vec<Receipt>]) -> Result<Vec<&[Receipt]>, AllocError> {
+    let mut lent = Vec::new(alloc);
+    for list in lists {
+        lent.push(list.as_slice())?;
     }
-    match audit(alloc, periods.as_slice(), shown.as_slice()) {
-        Ok(found) => Ok(Ok((found.tenants, found.receipts))),
-        Err(fault) => Ok(Err(fault)),
-    }
+    Ok(lent)
+}
+
+fn audited_by(
+    alloc: Global,
+    periods: &[Period],
+    lists: &[Vec<Receipt>],
+) -> Result<Result<(usize, usize), AuditFault>, Fault> {
+    let shown = lent(alloc, lists)?;
+    Ok(audit(alloc, periods, shown.as_slice()).map(|found| (found.tenants, found.receipts)))
+}
+
+/// What an audit says of so many receipts for each of 64 tenants: of how many tenants, and of how many receipts.
+pub fn audited(alloc: Global, entries: u32) -> Result<Result<(usize, usize), AuditFault>, Fault> {
+    let mut lists = no_receipts(alloc, WORKERS)?;
+    let periods = periods_of(alloc, &mut lists, entries)?;
+    audited_by(alloc, periods.as_slice(), lists.as_slice())
 }

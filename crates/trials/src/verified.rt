@@ -97,21 +97,49 @@ fn begin(alloc: Global, chain: &mut Chain, text: &[u8]) -> Result<(), Fault> {
     }
 }
 
-// Whether the run's steps lead to its statements, which go on with the chain and give its lines.
-fn goes_on(rt: &(impl Files + AllocGlobal), chain: &mut Chain, run: &Run) -> Result<bool, Fault> {
-    let alloc = rt.alloc();
+// Whether a file has this text, which goes on with the chain.
+fn is_stated(
+    rt: &(impl Files + AllocGlobal),
+    chain: &mut Chain,
+    file: &str,
+    text: &[u8],
+) -> Result<bool, Fault> {
+    let stated = fs::read(rt, file)?;
+    taken(chain.add(rt.alloc(), stated.as_slice()))?;
+    Ok(stated.as_slice() == text)
+}
+
+// The statements that the run's steps lead to, for whose setup the chain goes on.
+fn begun(
+    rt: &(impl Files + AllocGlobal),
+    chain: &mut Chain,
+    run: &Run,
+) -> Result<Vec<Vec<u8>>, Fault> {
     let setup = fs::read(rt, run.setup)?;
     let script = fs::read(rt, run.script)?;
-    let texts = statements_of(alloc, setup.as_slice(), script.as_slice())?;
-    begin(alloc, chain, setup.as_slice())?;
-    let mut are_same = texts.len() == run.statements.len();
+    begin(rt.alloc(), chain, setup.as_slice())?;
+    statements_of(rt.alloc(), setup.as_slice(), script.as_slice())
+}
+
+// Whether the run's steps lead to its statements, which go on with the chain.
+fn are_stated(
+    rt: &(impl Files + AllocGlobal),
+    chain: &mut Chain,
+    run: &Run,
+) -> Result<bool, Fault> {
+    let texts = begun(rt, chain, run)?;
+    let mut are_stated = texts.len() == run.statements.len();
     for (file, text) in run.statements.iter().zip(texts.iter()) {
-        let stated = fs::read(rt, file)?;
-        are_same = are_same && stated.as_slice() == text.as_slice();
-        taken(chain.add(alloc, stated.as_slice()))?;
+        are_stated = is_stated(rt, chain, file, text.as_slice())? && are_stated;
     }
+    Ok(are_stated)
+}
+
+// Whether the run's steps lead to its statements, which go on with the chain and give its lines.
+fn goes_on(rt: &(impl Files + AllocGlobal), chain: &mut Chain, run: &Run) -> Result<bool, Fault> {
+    let are_same = are_stated(rt, chain, run)?;
     let lines = fs::read(rt, run.lines)?;
-    match chain.summary(alloc) {
+    match chain.summary(rt.alloc()) {
         Ok(text) => Ok(are_same && text.as_slice() == lines.as_slice()),
         Err(ReadError::Memory) => Err(Fault::Memory),
         Err(ReadError::Fault(_)) => Ok(false),
@@ -122,9 +150,13 @@ fn goes_on(rt: &(impl Files + AllocGlobal), chain: &mut Chain, run: &Run) -> Res
 /// lines.
 pub fn are_as_told(rt: &(impl Files + AllocGlobal)) -> Result<bool, Fault> {
     let mut chain = Chain::new(rt.alloc());
-    let mut all_are = true;
+    all_go_on(rt, &mut chain)
+}
+
+fn all_go_on(rt: &(impl Files + AllocGlobal), chain: &mut Chain) -> Result<bool, Fault> {
+    let mut all_do = true;
     for run in &RUNS {
-        all_are = goes_on(rt, &mut chain, run)? && all_are;
+        all_do = goes_on(rt, chain, run)? && all_do;
     }
-    Ok(all_are)
+    Ok(all_do)
 }

@@ -78,14 +78,31 @@ peer 1 p1 began 0 ended 100 packets-in 0 fulfilled-in 0 settled-in 0 packets-out
 peer 2 p2 began 0 ended 0 packets-in 0 fulfilled-in 0 settled-in 0 packets-out 0 fulfilled-out 0 settled-out 0 fees 0
 ";
 
+fn put_periods(alloc: Global, book: &mut Book, texts: &mut Vec<Vec<u8>>) -> Result<(), Fail> {
+    texts.push(without_fee(alloc, book)?)?;
+    texts.push(with_fee(alloc, book)?)?;
+    texts.push(with_guest(alloc, book)?)?;
+    Ok(())
+}
+
+// Adds the statements of three periods of a book.
+fn put_stated(alloc: Global, texts: &mut Vec<Vec<u8>>) -> Result<(), Fail> {
+    let mut book = book(alloc, 64, USUAL, START)?;
+    put_periods(alloc, &mut book, texts)
+}
+
+// Adds the statement of another tenant's period.
+fn put_another(alloc: Global, texts: &mut Vec<Vec<u8>>) -> Result<(), Fail> {
+    let period = period_of_each(alloc)?;
+    texts.push(write_statement(alloc, &period)?)?;
+    Ok(())
+}
+
 // The statements of the three periods, and of another tenant's.
 fn texts(alloc: Global) -> Result<Vec<Vec<u8>>, Fail> {
-    let mut book = book(alloc, 64, USUAL, START)?;
     let mut texts = Vec::new(alloc);
-    texts.push(without_fee(alloc, &mut book)?)?;
-    texts.push(with_fee(alloc, &mut book)?)?;
-    texts.push(with_guest(alloc, &mut book)?)?;
-    texts.push(write_statement(alloc, &period_of_each(alloc)?)?)?;
+    put_stated(alloc, &mut texts)?;
+    put_another(alloc, &mut texts)?;
     Ok(texts)
 }
 

@@ -35,9 +35,9 @@ fn text_of(alloc: Global, period: &Period) -> Result<Vec<u8>, Fail> {
     Ok(write_receipts(alloc, &[first.as_slice(), second.as_slice()])?)
 }
 
-/// The text of a period's receipts is valid, and they are complete if it is a first period. A later one without it
-/// does not join.
-pub fn expect_complete(rt: &impl Abort, alloc: Global, period: &Period) -> Result<(), Fail> {
+// The text of a period's receipts is valid, and they are complete if it is a first period. A later one without it
+// does not join.
+fn expect_complete(rt: &impl Abort, alloc: Global, period: &Period) -> Result<(), Fail> {
     let text = text_of(alloc, period)?;
     match check_receipts(alloc, slice::from_ref(period), text.as_slice()) {
         Ok(audited) => {

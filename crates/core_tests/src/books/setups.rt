@@ -87,7 +87,7 @@ pub fn terms(alloc: Global, place: u32, agreed: Agreed) -> Result<PeerTerms, Fai
 }
 
 // The level that a book gives a new bucket itself.
-pub const FULL: Level = Level {
+const FULL: Level = Level {
     credit: 0,
     clock: 0,
     entries: 0,

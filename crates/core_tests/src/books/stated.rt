@@ -30,8 +30,8 @@ peer 1 p1 peer USD 2 1500 1000000 1000000 100 100 0 100000
 rate 0 1 3 2
 ";
 
-/// What is written of the period is good, and states as many records.
-pub fn expect_good(rt: &impl Abort, alloc: Global, period: &Period) -> Result<(), Fail> {
+// What is written of the period is good, and states as many records.
+fn expect_good(rt: &impl Abort, alloc: Global, period: &Period) -> Result<(), Fail> {
     let text = write_statement(alloc, period)?;
     match check_statement(alloc, text.as_slice()) {
         Ok(stated) => assert!(rt; stated.len() == period.len()),
