@@ -1,5 +1,5 @@
 -- Heads of which a front is known, by whichever grammar.
-use Rattle.std.proofs.Common.{◌≡◌, ◌⊎◌, inl, inr, Bool, true, false, ◌||◌, eqb, ltb, ltb-true, ltb-false, ℕ, ◌<◌, ◌≤◌, List, [], ◌∷◌, ◌++◌, length, take, drop, ◌+◌, ◌-◌}
+use Rattle.std.proofs.Common.{zero, suc, ◌≡◌, ◌==◌, ◌⊎◌, inl, inr, Bool, true, false, ◌||◌, eqb, ltb, ltb-true, ltb-false, ℕ, ◌<◌, ◌≤◌, List, [], ◌∷◌, ◌++◌, length, take, drop, ◌+◌, ◌-◌}
 use Rattle.std.proofs.Common.{refl, sym, ap, subst, ◌∙◌, arith, append_assoc, append-nil, length-append, length-take, take-append-drop, take-take, take_all, Option, Some, None}
 use Rattle.std.proofs.lemmas.Bool.Decides.{Decides-eqb}
 use Rattle.std.proofs.lemmas.Grind.{common_steps}
@@ -62,6 +62,27 @@ empty_line_is_line text none = neither (ends_with eqb text (10 ∷ 10 ∷ [])) (
     neither : (a b : Bool) → a ≡ false → b ≡ false → a || b ≡ false
     neither a b x y = ap (λ t. t || b) x ∙ y
 
+-- lists that are the same have the same last
+last_same : (xs ys : List ℕ) (a b : ℕ) → xs ++ a ∷ [] ≡ ys ++ b ∷ [] → a ≡ b
+last_same [] [] a b e = cc
+last_same [] (y ∷ ys) a b e = let long = ap length e in absurd (omega (arith, length-append ys (b ∷ [])))
+last_same (x ∷ xs) [] a b e = let long = ap length e in absurd (omega (arith, length-append xs (a ∷ [])))
+last_same (x ∷ xs) (y ∷ ys) a b e =
+    let tail : xs ++ a ∷ [] ≡ ys ++ b ∷ [] = cc in
+    last_same xs ys a b tail
+
+-- a byte that is no line feed ends no line
+ends_no_line : (front both : List ℕ) (b : ℕ) → both ≡ front ++ b ∷ [] → (b == 10) ≡ false → ends_with eqb both (10 ∷ []) ≡ false
+ends_no_line front both b grows other = by_test (ends_with eqb both (10 ∷ [])) refl
+  where
+    by_test : (t : Bool) → t ≡ ends_with eqb both (10 ∷ []) → t ≡ false
+    by_test false e = refl
+    by_test true e =
+        let parts = (ends_is Decides-eqb both (10 ∷ []) true e).0 refl in
+        let same : b ≡ 10 = last_same front (take (length both - 1) both) b 10 (sym grows ∙ parts) in
+        let is : (b == 10) ≡ true = ap (λ x. x == 10) same in
+        absurd (not_both (b == 10) is other)
+
 -- the known bytes begin with what was taken
 pub begins_with_taken : (old new : Option (List ℕ)) (text stream : List ℕ) → Consumes old new text → old ≡ Some stream
     → (rest : List ℕ) × (new ≡ Some rest) × (stream ≡ text ++ rest)
@@ -94,6 +115,40 @@ module _ {S : Type 0} (grammar : Grammar S) where
           let none : whole.0 ≡ [] = nothing_left whole.0 (omega (arith, length-append text (b ∷ []), length-append head whole.0)) in
           let same : both ≡ head = whole.1 ∙ ap (λ (w : List ℕ). head ++ w) none ∙ append-nil head in
           absurd (not_both (ends_empty_line both) (ap ends_empty_line same ∙ laws.ended head room is) inside)
+
+  -- what goes on goes on behind bytes none of which is a line feed
+  goes_on_along : IsGrammar grammar → (text : List ℕ) (n from room : ℕ) → from + n ≤ length text
+      → ((k : ℕ) → from ≤ k → k < from + n → (slice_index text k == 10) ≡ false) → IsHeadBegun grammar (take from text) room → IsHeadBegun grammar (take (from + n) text) room
+  goes_on_along laws text zero from room inside none on =
+      let here : from ≡ from + zero = omega arith in
+      subst (λ (k : ℕ). IsHeadBegun grammar (take k text) room) here on
+  goes_on_along laws text (suc n) from room inside none on =
+      let more : from < length text = omega arith in
+      let grows : take (from + 1) text ≡ take from text ++ slice_index text from ∷ [] = grind (arith, common_steps) in
+      let other = none from (omega arith) (omega arith) in
+      let feed = ends_no_line (take from text) (take (from + 1) text) (slice_index text from) grows other in
+      let next = goes_on_inside laws (take from text) (take (from + 1) text) (slice_index text from) room grows (empty_line_is_line (take (from + 1) text) feed) on in
+      let there : from + 1 + n ≡ from + suc n = omega arith in
+      subst (λ (k : ℕ). IsHeadBegun grammar (take k text) room) there
+      (goes_on_along laws text n (from + 1) room (omega arith) (λ k low high. none k (omega arith) (omega arith)) next)
+
+  -- what goes on goes on up to the last byte of the line that follows
+  pub goes_on_line : IsGrammar grammar → (text : List ℕ) (seen n room : ℕ) → 0 < n → n ≤ length (take (length text - seen) (drop seen text)) → seen ≤ length text
+      → ((place : ℕ) → place + 1 < n → (slice_index (take (length text - seen) (drop seen text)) place == 10) ≡ false) → IsHeadBegun grammar (take seen text) room
+      → IsHeadBegun grammar (take (seen + (n - 1)) text) room
+  goes_on_line laws text seen n room some within inside none on =
+      let fits : seen + (n - 1) ≤ length text = omega (arith, length-take (length text - seen) (drop seen text)) in
+      let other : (k : ℕ) → seen ≤ k → k < seen + (n - 1) → (slice_index text k == 10) ≡ false =
+      λ k low high.
+      let same : slice_index (take (length text - seen) (drop seen text)) (k - seen) ≡ slice_index text k = grind (arith, common_steps) in
+      subst (λ (b : ℕ). (b == 10) ≡ false) same (none (k - seen) (omega arith)) in
+      goes_on_along laws text (n - 1) seen room fits other on
+
+  -- where no head begins a front, none begins the text
+  pub none_begins_on : (text : List ℕ) (k room : ℕ) → BeginsNone grammar (take k text) room → BeginsNone grammar text room
+  none_begins_on text k room none head more rest is parts =
+      none head (drop k text ++ more) rest is
+      (sym (append_assoc (take k text) (drop k text) more) ∙ ap (λ (w : List ℕ). w ++ more) (take-append-drop k text) ∙ parts)
 
   -- a text that begins with no whole head goes on in each
   pub partial_goes_on : (text : List ℕ) (room : ℕ) → ((head rest : List ℕ) → grammar.IsHead head room → text ≡ head ++ rest → ⊥) → IsHeadBegun grammar text room

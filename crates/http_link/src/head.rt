@@ -1,9 +1,9 @@
 //! The reader of heads.
 
-ghost use Rattle.std.specs.Prelude.{◌≡◌, ◌≢◌, ◌↔◌, ◌⊎◌, ◌-◌, ◌<◌, ◌≤◌, length, take, false, Err, IfOk};
+ghost use Rattle.std.specs.Prelude.{◌≡◌, ◌≢◌, ◌↔◌, ◌⊎◌, ◌+◌, ◌-◌, ◌<◌, ◌≤◌, ◌==◌, ℕ, length, slice_index, take, false, Err, IfOk, IsTrue};
 ghost use Rattle.http_link.specs.Telling.{TellsReads};
 ghost use Rattle.http_link.specs.Grammars.{ends_empty_line};
-ghost use Rattle.http_link.specs.Reading.{BeginsNot, Decides, EndsAt, IsHeadBegun, HeadIsFound, Sees, SeesFurther};
+ghost use Rattle.http_link.specs.Reading.{BeginsNone, BeginsNot, Decides, EndsAt, IsHeadBegun, HeadIsFound, Sees, SeesFurther};
 ghost use Rattle.http_link.specs.Limits.{max_head};
 
 use crate::devices::Source;
@@ -11,6 +11,7 @@ use crate::grammar::{HeadSpans, Offered};
 use crate::intake::{Intake, Manner, Reach};
 use crate::streams::{LinkFault, fetch};
 use httparse::spans::HeaderSpan;
+use memchr::{memchr, memrchr};
 
 /// The most bytes of a head.
 pub(crate) const MAX_HEAD: usize = 8192;
@@ -25,26 +26,48 @@ pub(crate) fn ends_empty_line(text: &[u8]) -> bool
     text.ends_with(b"\n\n") || text.ends_with(b"\n\r\n")
 }
 
-// Whether to parse a text of which so many bytes were parsed before: if a head can end here, and if a line ends here
-// and the text has doubled. The second finds a malformed head soon.
-fn is_due(text: &[u8], parsed: usize) -> bool
-    ensures { result ≡ false → ends_empty_line text.now ≡ false }
-{
-    text.ends_with(b"\n") && (text.len() / 2 >= parsed || ends_empty_line(text))
-}
-
-// Parses a text whose last byte has just come, if that is due. So many of its bytes were parsed before.
-fn examine<H: HeadSpans>(text: &[u8], parsed: &mut usize, lines: &mut [HeaderSpan]) -> Offered<H>
+// Parses a text whose last byte has just come, if a head can end with it.
+fn examine<H: HeadSpans>(text: &[u8], lines: &mut [HeaderSpan]) -> Offered<H>
     requires some { 0 < length text.now }
     requires inside { IsHeadBegun H.grammar (take (length text.now - 1) text.now) (length lines.old) }
     ensures lines { length lines.new ≡ length lines.old }
     ensures decides { Decides H.grammar text.now (length lines.old) lines.new result }
 {
-    if !is_due(text, *parsed) {
+    if !ends_empty_line(text) {
         return Offered::Partial;
     }
-    *parsed = text.len();
     H::parse(text, lines)
+}
+
+// Whether a text that no head ends in is malformed, as far as its last line's end. It is parsed if it has doubled since so many
+// bytes of it were parsed, so that a malformed head is found soon.
+fn is_malformed<H: HeadSpans>(text: &[u8], parsed: &mut usize, lines: &mut [HeaderSpan]) -> bool
+    ensures lines { length lines.new ≡ length lines.old }
+    ensures none { IsTrue result → BeginsNone H.grammar text.now (length lines.old) }
+{
+    let Some(place) = memrchr(b'\n', text) else {
+        return false;
+    };
+    let end = place + 1;
+    if end / 2 < *parsed {
+        return false;
+    }
+    *parsed = end;
+    let offered: Offered<H> = H::parse(&text[..end], lines);
+    matches!(offered, Offered::Malformed)
+}
+
+// How long the first line of a text is, with its end: all of the text if no line ends in it.
+fn line_len(text: &[u8]) -> usize
+    requires { 0 < length text.now }
+    ensures some { 0 < result }
+    ensures within { result ≤ length text.now }
+    ensures none { (place : ℕ) → place + 1 < result → (slice_index text.now place == 10) ≡ false }
+{
+    match memchr(b'\n', text) {
+        Some(place) => place + 1,
+        None => text.len(),
+    }
 }
 
 // Looks for the end of a head in a text, of which so many bytes were looked at before, and so many parsed.
@@ -62,14 +85,18 @@ fn scan<H: HeadSpans>(
     ensures sees { Sees H.grammar text.now seen.new (length lines.old) lines.new result }
 {
     while *seen < text.len() {
-        *seen += 1;
-        match examine(&text[..*seen], parsed, lines) {
+        *seen += line_len(&text[*seen..]);
+        match examine(&text[..*seen], lines) {
             Offered::Partial => {}
             Offered::Whole(spans) => return Offered::Whole(spans),
             Offered::Malformed => return Offered::Malformed,
         }
     }
-    Offered::Partial
+    if is_malformed::<H>(text, parsed, lines) {
+        Offered::Malformed
+    } else {
+        Offered::Partial
+    }
 }
 
 /// Reads until a head is at the front of the buffer, which may hold some bytes already, or until none can be. If the
