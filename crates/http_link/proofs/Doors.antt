@@ -1,6 +1,5 @@
 -- From what is done with a head to what serving a known stream at a door does.
-use Rattle.std.proofs.Common.{◌≡◌, inl, inr, ℕ, List, subst, sym, Option, Some, Result, Ok, Err, IfOk}
-use Rattle.std.specs.Prelude.{◌⊎◌}
+use Rattle.std.proofs.Common.{◌≡◌, ℕ, List, subst, Option, Some, Result, Ok, Err, IfOk}
 use Rattle.httparse.specs.Grammar.{RequestHead}
 use Rattle.http_link.specs.Doors.{IsAnswerWritten, IsServedAtDoor}
 use Rattle.http_link.specs.Heads.{Head, head_of}

@@ -1,9 +1,9 @@
 -- From what a door does with a head to what serving a known stream at the host's door does.
-use Rattle.std.proofs.Common.{◌≡◌, inl, inr, ℕ, List, subst, sym, Option, Some, Result, Ok, Err, IfOk}
+use Rattle.std.proofs.Common.{◌≡◌, inl, inr, ℕ, List, subst, sym, Option, Result, Ok, Err, IfOk}
 use Rattle.std.specs.Prelude.{◌⊎◌}
 use Rattle.http_link.specs.Doors.{IsAnswerWritten, IsServedAtDoor}
 use Rattle.http_link.specs.Heads.{Head}
-use Rattle.http_link.specs.HostDoor.{AnswersHost, HostAsked, HostTraces, HostWanted, IsHostAsked, IsHostAskedOnly, IsHostRefused, IsHostServed, host_asking, host_wanted_of}
+use Rattle.http_link.specs.HostDoor.{AnswersHost, HostAsked, HostTraces, HostWanted, IsHostAskedOnly, IsHostServed, host_asking, host_wanted_of}
 use Rattle.http_link.specs.Serving.{AsksAtMostOnce}
 use Rattle.http_link.specs.declared.host_request.HostRefusal.{HostRefusal}
 use Rattle.http_link.specs.declared.serve.Served.{Served}

@@ -1,5 +1,5 @@
 -- Heads and their field lines as spans of a text.
-use Rattle.std.specs.Prelude.{List, ℕ, map, take}
+use Rattle.std.specs.Prelude.{List, ℕ, map, take, codes, ◌≡◌}
 use Rattle.httparse.specs.Spans.{span_bytes, header_bytes}
 use Rattle.httparse.specs.declared.spans.HeaderSpan.{HeaderSpan}
 use Rattle.httparse.specs.declared.spans.RequestSpans.{RequestSpans}
@@ -8,9 +8,10 @@ use Rattle.http_link.specs.declared.fields.FieldValue.{FieldValue}
 use Rattle.http_link.specs.declared.fields.FieldValue.TheVariants.{Missing, Once, Repeated}
 use Rattle.http_link.specs.declared.request.RequestHead.{RequestHead}
 use Rattle.http_link.specs.declared.request.Wanted.{Wanted as WantedAt}
-use Rattle.http_link.specs.Fields.{Line, Occurrence, missing, once, repeated}
+use Rattle.http_link.specs.declared.fields.KnownFields.{KnownFields}
+use Rattle.http_link.specs.Fields.{Line, Occurrence, missing, once, repeated, occurrence}
 use Rattle.http_link.specs.Heads.{Head}
-use Rattle.http_link.specs.Requests.{Wanted}
+use Rattle.http_link.specs.Requests.{Wanted, coding_of, expects_continue, asks_close}
 
 -- the lines that the spans cover
 abbrev pub lines_at : Lines → List Line
@@ -21,6 +22,14 @@ abbrev pub occurrence_at : FieldValue → Occurrence
 occurrence_at Missing = missing
 occurrence_at (Once value) = once value.now
 occurrence_at Repeated = repeated
+
+-- what the lines of a head say that decides how its request is served
+pub record AreFieldsOf (fields : KnownFields) (lines : List Line) : Type 0 where
+  pub coding : occurrence_at fields.coding ≡ coding_of lines
+  pub length : occurrence_at fields.length ≡ occurrence (codes "Content-Length") lines
+  pub credentials : occurrence_at fields.credentials ≡ occurrence (codes "Authorization") lines
+  pub waits : fields.waits ≡ expects_continue lines
+  pub closes : fields.closes ≡ asks_close lines
 
 -- what a head says, without the places of its parts
 abbrev pub head_at : RequestHead → Head

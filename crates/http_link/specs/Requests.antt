@@ -100,12 +100,18 @@ wanted_of tenant_of head = do
   token ← or_refused 401 (token_in (occurrence (codes "Authorization") head.lines))
   Ok (record { kind = place.0; tenant = place.1; token = token; framing = framing })
 
+-- the lines ask for `100 Continue` (RFC 9110, 10.1.1)
+abbrev pub expects_continue : List Line → Bool
+expects_continue lines = list_any (λ value. str_eq_ignore_ascii_case value (codes "100-continue")) (values_of (codes "Expect") lines)
+
 -- the client waits for `100 Continue` before it sends the body (RFC 9110, 10.1.1)
 abbrev pub waits : Head → Bool
-waits head =
-    (head.minor == 1)
-    && list_any (λ value. str_eq_ignore_ascii_case value (codes "100-continue")) (values_of (codes "Expect") head.lines)
+waits head = (head.minor == 1) && expects_continue head.lines
+
+-- the lines ask that the connection be closed (RFC 9112, 9.6)
+abbrev pub asks_close : List Line → Bool
+asks_close lines = list_any (has_element (codes "close")) (values_of (codes "Connection") lines)
 
 -- the connection is closed after the answer (RFC 9112, 9.3 and 9.6)
 abbrev pub closes : Head → Bool
-closes head = (head.minor == 0) || list_any (has_element (codes "close")) (values_of (codes "Connection") head.lines)
+closes head = (head.minor == 0) || asks_close head.lines

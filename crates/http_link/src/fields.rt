@@ -1,15 +1,15 @@
 //! Questions on the field lines of a head.
 
-ghost use Rattle.std.specs.Prelude.{◌≡◌, min};
+ghost use Rattle.std.specs.Prelude.{◌≡◌, ◌++◌, ◌∷◌, [], List, min, codes};
 ghost use Rattle.std.specs.List.{list_all, list_any};
 ghost use Rattle.std.specs.Str.{str_eq_ignore_ascii_case};
 ghost use Rattle.httparse.specs.Grammar.{is_ows, skip_ows};
 ghost use Rattle.httparse.specs.Spans.{span_bytes};
 ghost use Rattle.common_types.specs.Numbers.{is_between};
-ghost use Rattle.http_link.specs.Fields.{values_of, occurrence, is_element, has_element};
+ghost use Rattle.http_link.specs.Fields.{Line, values_of, occurrence, is_element, has_element};
 ghost use Rattle.common_types.specs.Numerals.{value_of};
 ghost use Rattle.http_link.specs.Fields.{is_chunked, is_length, skip_spaces};
-ghost use Rattle.http_link.specs.Lines.{lines_at, occurrence_at};
+ghost use Rattle.http_link.specs.Lines.{AreFieldsOf, lines_at, occurrence_at};
 
 use httparse::spans::{HeaderSpan, Span};
 
@@ -22,6 +22,21 @@ pub(crate) enum FieldValue<'b> {
     Once(&'b [u8]),
     /// Two lines or more have it.
     Repeated,
+}
+
+/// What the field lines of a request say that decides how it is served.
+#[derive(Clone, Copy)]
+pub(crate) struct KnownFields<'b> {
+    /// How its body is coded. (RFC 9112, 6.1)
+    pub(crate) coding: FieldValue<'b>,
+    /// How long its body is. (RFC 9110, 8.6)
+    pub(crate) length: FieldValue<'b>,
+    /// What shows who sends it. (RFC 9110, 11.6.2)
+    pub(crate) credentials: FieldValue<'b>,
+    /// Whether a line asks for `100 Continue`. (RFC 9110, 10.1.1)
+    pub(crate) waits: bool,
+    /// Whether a line asks that the connection be closed. (RFC 9112, 9.6)
+    pub(crate) closes: bool,
 }
 
 /// The field lines of a head, which lie in its text.
@@ -46,7 +61,36 @@ fn bytes_at<'b>(text: &'b [u8], span: Span) -> &'b [u8]
 pub(crate) fn is_same(a: &[u8], b: &[u8]) -> bool
     ensures { result ≡ str_eq_ignore_ascii_case a.now b.now }
 {
-    a.eq_ignore_ascii_case(b)
+    a == b || a.eq_ignore_ascii_case(b)
+}
+
+impl<'b> FieldValue<'b> {
+    // How often a name occurs, once one more line has come.
+    fn counted(self, wanted: &[u8], name: &[u8], value: &'b [u8]) -> FieldValue<'b>
+        ensures { (lines : List Line) → occurrence_at self.entry ≡ occurrence wanted.now lines
+            → occurrence_at result ≡ occurrence wanted.now (lines ++ (name.now, value.now) ∷ []) }
+    {
+        if !is_same(name, wanted) {
+            return self;
+        }
+        match self {
+            FieldValue::Missing => FieldValue::Once(value),
+            _ => FieldValue::Repeated,
+        }
+    }
+}
+
+impl<'b> KnownFields<'b> {
+    // Takes in one more line.
+    fn take_in(&mut self, name: &[u8], value: &'b [u8])
+        ensures { (lines : List Line) → AreFieldsOf self.old lines → AreFieldsOf self.new (lines ++ (name.now, value.now) ∷ []) }
+    {
+        self.coding = self.coding.counted(b"Transfer-Encoding", name, value);
+        self.length = self.length.counted(b"Content-Length", name, value);
+        self.credentials = self.credentials.counted(b"Authorization", name, value);
+        self.waits |= is_same(name, b"Expect") && is_same(value, b"100-continue");
+        self.closes |= is_same(name, b"Connection") && has_element(b"close", value);
+    }
 }
 
 impl<'b> Lines<'b> {
@@ -56,27 +100,28 @@ impl<'b> Lines<'b> {
     {
         let mut found = FieldValue::Missing;
         for line in self.spans {
-            if is_same(bytes_at(self.text, line.name), name) {
-                found = match found {
-                    FieldValue::Missing => FieldValue::Once(bytes_at(self.text, line.value)),
-                    _ => FieldValue::Repeated,
-                };
-            }
+            let value = bytes_at(self.text, line.value);
+            found = found.counted(name, bytes_at(self.text, line.name), value);
         }
         found
     }
 
-    /// Whether a line of a name is a list that has the word. (RFC 9110, 5.6.1)
-    pub(crate) fn lists(&self, name: &[u8], word: &[u8]) -> bool
-        ensures { result ≡ list_any (has_element word.now) (values_of name.now (lines_at self.now)) }
+    /// What they say that decides how a request is served.
+    pub(crate) fn known_fields(&self) -> KnownFields<'b>
+        ensures { AreFieldsOf result (lines_at self.now) }
     {
-        let mut listed = false;
+        let mut fields = KnownFields {
+            coding: FieldValue::Missing,
+            length: FieldValue::Missing,
+            credentials: FieldValue::Missing,
+            waits: false,
+            closes: false,
+        };
         for line in self.spans {
-            if is_same(bytes_at(self.text, line.name), name) {
-                listed = listed || has_element(word, bytes_at(self.text, line.value));
-            }
+            let name = bytes_at(self.text, line.name);
+            fields.take_in(name, bytes_at(self.text, line.value));
         }
-        listed
+        fields
     }
 
     /// Whether a line of a name has that value, in any case.

@@ -10,7 +10,7 @@ ghost use Rattle.http_link.specs.Lines.{head_in};
 ghost use Rattle.http_link.specs.Grammars.{IsRequest};
 ghost use Rattle.http_link.specs.Requests.{wanted_of};
 ghost use Rattle.http_link.specs.Running.{AsksWanted, RunsOnHead, held_in};
-ghost use Rattle.http_link.specs.Limits.{max_body, max_request};
+ghost use Rattle.http_link.specs.Limits.{max_body, max_lines, max_request};
 
 use crate::devices::{Sink, Source};
 use crate::grammar::Offered;
@@ -31,6 +31,8 @@ const ROOM: usize = MAX_HEAD + MAX_BODY;
 #[derive(Drop)]
 pub struct Inbox {
     room: [u8; ROOM],
+    // Where the parts of a head's lines are, while it is served.
+    lines: [HeaderSpan; MAX_LINES],
     held: Held,
 }
 
@@ -57,6 +59,7 @@ impl Inbox {
     {
         Inbox {
             room: [0; ROOM],
+            lines: [EMPTY_HEADER_SPAN; MAX_LINES],
             held: Held { from: 0, to: 0 },
         }
     }
@@ -126,7 +129,7 @@ pub fn serve_next<R: Source, W: Sink, S: Service>(
         → MadeAll R.was_read r.old r.new ⊎ MadeAll W.was_written w.old w.new }
 {
     let mut held = inbox.held;
-    let result = serve_held(r, w, service, &mut inbox.room, &mut held);
+    let result = serve_held(r, w, service, &mut inbox.room, &mut inbox.lines, &mut held);
     inbox.held = held;
     result
 }
@@ -159,9 +162,11 @@ fn serve_held<R: Source, W: Sink, S: Service>(
     w: &mut W,
     service: &mut S,
     room: &mut [u8],
+    lines: &mut [HeaderSpan],
     held: &mut Held,
 ) -> Result<Served, LinkFault>
     requires wide { max_request ≤ length room.old }
+    requires lines { length lines.old ≡ max_lines }
     requires within { (held.old.from ≤ held.old.to) × (held.old.to ≤ length room.old) }
     ensures len { length room.new ≡ length room.old }
     ensures within { (held.new.from ≤ held.new.to) × (held.new.to ≤ length room.new) }
@@ -192,7 +197,7 @@ fn serve_held<R: Source, W: Sink, S: Service>(
         held: *held,
         turns: MAX_READS,
     };
-    let result = serve_from_front(r, w, service, room, &mut intake, before);
+    let result = serve_from_front(r, w, service, room, lines, &mut intake, before);
     *held = intake.held;
     result
 }
@@ -203,10 +208,12 @@ fn serve_from_front<R: Source, W: Sink, S: Service>(
     w: &mut W,
     service: &mut S,
     room: &mut [u8],
+    lines: &mut [HeaderSpan],
     intake: &mut Intake,
     before: Before,
 ) -> Result<Served, LinkFault>
     requires wide { max_request ≤ length room.old }
+    requires lines { length lines.old ≡ max_lines }
     requires front { intake.old.held.from ≡ 0 }
     requires there { intake.old.held.to ≤ length room.old }
     requires reads { R.failure_count r.old ≤ before.manner.before }
@@ -228,15 +235,11 @@ fn serve_from_front<R: Source, W: Sink, S: Service>(
     ensures turns { result ≡ Err LinkFault.Turns
         → Spends R.was_read r.old r.new intake.old.turns 0 ⊎ MadeAll W.was_written w.old w.new }
 {
-    let mut lines = [EMPTY_HEADER_SPAN; MAX_LINES];
-    match find_head::<RequestSpans, _>(r, room, intake, &mut lines, before.manner)? {
+    match find_head::<RequestSpans, _>(r, room, intake, lines, before.manner)? {
         Offered::Partial => Ok(Served::Ended),
         Offered::Malformed => refuse(w, 400, before.writes),
         Offered::Whole(spans) => {
-            let parsed = Parsed {
-                lines: &lines,
-                spans,
-            };
+            let parsed = Parsed { lines, spans };
             serve_found(r, w, service, room, intake, parsed, before)
         }
     }

@@ -51,6 +51,10 @@ pub(crate) struct Wanted<'b> {
     pub(crate) tenant: usize,
     pub(crate) token: &'b [u8],
     pub(crate) framing: Framing,
+    /// Whether the client waits for `100 Continue`. (RFC 9110, 10.1.1)
+    pub(crate) waits: bool,
+    /// Whether the connection is closed after the answer. (RFC 9112, 9.3 and 9.6)
+    pub(crate) closes: bool,
 }
 
 fn body_limit(kind: RequestKind) -> usize
@@ -180,6 +184,8 @@ pub(crate) fn wanted_of<'b, S: Service>(
     head: &RequestHead<'b>,
 ) -> Result<Wanted<'b>, u16>
     ensures value { Gives wanted_at result (wanted_of (S.tenant_of service.now) (head_at head.now)) }
+    ensures waits { IfOk result (λ wanted. wanted.waits ≡ waits (head_at head.now)) }
+    ensures closes { IfOk result (λ wanted. wanted.closes ≡ closes (head_at head.now)) }
     ensures bound { IfOk result (λ wanted. most_of wanted.framing ≤ max_body) }
 {
     if head.method != b"POST".as_slice() {
@@ -188,8 +194,9 @@ pub(crate) fn wanted_of<'b, S: Service>(
     let Some((kind, tenant)) = place_of(service, head.target) else {
         return Err(404);
     };
-    let framing = framing_in(kind, head)?;
-    let Some(token) = token_in(head.lines.find(b"Authorization")) else {
+    let fields = head.lines.known_fields();
+    let framing = framing_of(kind, head.minor, fields.coding, fields.length)?;
+    let Some(token) = token_in(fields.credentials) else {
         return Err(401);
     };
     Ok(Wanted {
@@ -197,6 +204,8 @@ pub(crate) fn wanted_of<'b, S: Service>(
         tenant,
         token,
         framing,
+        waits: head.minor == 1 && fields.waits,
+        closes: head.minor == 0 || fields.closes,
     })
 }
 
@@ -205,11 +214,4 @@ pub(crate) fn waits(head: &RequestHead) -> bool
     ensures { result ≡ waits (head_at head.now) }
 {
     head.minor == 1 && head.lines.says(b"Expect", b"100-continue")
-}
-
-/// Whether the connection is closed after the answer. (RFC 9112, 9.3 and 9.6)
-pub(crate) fn closes(head: &RequestHead) -> bool
-    ensures { result ≡ closes (head_at head.now) }
-{
-    head.minor == 0 || head.lines.lists(b"Connection", b"close")
 }

@@ -11,7 +11,7 @@ ghost use Rattle.http_link.specs.Bodies.{IsBody, cut, most_of, body_status};
 ghost use Rattle.http_link.specs.BodyReading.{LiesBehind, ReadsNoFurther};
 ghost use Rattle.http_link.specs.Heads.{BeginsWith, head_of};
 ghost use Rattle.http_link.specs.Lines.{head_at, head_in, wanted_at};
-ghost use Rattle.http_link.specs.Requests.{closes, wanted_of};
+ghost use Rattle.http_link.specs.Requests.{closes, waits, wanted_of};
 ghost use Rattle.http_link.specs.Answers.{refusal_text, continue_text, answer_text, told_body};
 ghost use Rattle.http_link.specs.Serving.{IsServed, IsAskedOnly, AsksAtMostOnce, WritesNothingOr400};
 ghost use Rattle.http_link.specs.Serving.{asking, kept_unless, traces_of};
@@ -26,7 +26,7 @@ use crate::grammar::Offered;
 use crate::head::{MAX_HEAD, MAX_LINES, find_head};
 use crate::intake::{Intake, Manner, NOTHING, Reach};
 use crate::line_buffer::write_message;
-use crate::request::{RequestHead, RequestKind, Wanted, closes, waits, wanted_of};
+use crate::request::{RequestHead, RequestKind, Wanted, wanted_of};
 use crate::service::Service;
 use crate::streams::{LinkFault, write_all};
 use httparse::spans::{EMPTY_HEADER_SPAN, HeaderSpan, RequestSpans};
@@ -66,7 +66,7 @@ impl Before {
     }
 }
 
-/// A request that nothing refuses: its head, and what it asks for.
+/// A request that nothing refuses: what it asks for, and its head, of which contracts speak.
 #[derive(Clone, Copy)]
 struct Request<'b> {
     head: RequestHead<'b>,
@@ -228,6 +228,8 @@ fn serve_wanted<R: Source, W: Sink, S: Service>(
     before: Before,
 ) -> Result<Served, LinkFault>
     requires size { most_of request.wanted.framing ≤ length room.old }
+    requires waits { request.wanted.waits ≡ waits (head_at request.head) }
+    requires closes { request.wanted.closes ≡ closes (head_at request.head) }
     requires lies { LiesBehind 0 room.old intake.old.held }
     requires reads { R.failure_count r.old ≤ before.manner.before }
     requires writes { W.failure_count w.old ≤ before.writes }
@@ -246,36 +248,34 @@ fn serve_wanted<R: Source, W: Sink, S: Service>(
     ensures turns { result ≡ Err LinkFault.Turns
         → Spends R.was_read r.old r.new intake.old.turns 0 ⊎ MadeAll W.was_written w.old w.new }
 {
-    let Request { head, wanted } = request;
-    write_all(w, continue_text(waits(&head)), before.writes)?;
+    let wanted = request.wanted;
+    write_all(w, continue_text(wanted.waits), before.writes)?;
     match read_body(r, room, intake, wanted.framing, before.manner)? {
-        BodyRead::Whole(size) => answer(w, service, &head, &wanted, &room[..size], before.writes),
+        BodyRead::Whole(size) => answer(w, service, &wanted, &room[..size], before.writes),
         BodyRead::Cut => Ok(Served::Ended),
         BodyRead::Bad(fault) => refuse(w, refusal_of(fault), before.writes),
     }
 }
 
-// Asks the service the request of a head with its body, and writes the answer.
+// Asks the service the request with its body, and writes the answer.
 fn answer<W: Sink, S: Service>(
     w: &mut W,
     service: &mut S,
-    head: &RequestHead,
     wanted: &Wanted,
     body: &[u8],
     before: u64,
 ) -> Result<Served, LinkFault>
     requires unfailed { W.failure_count w.old ≤ before }
-    ensures answered { IfOk result (λ served. (served ≡ kept_unless (closes (head_at head.now)))
+    ensures answered { IfOk result (λ served. (served ≡ kept_unless wanted.now.closes)
         × ((status : ℕ) × S.asks service.old (asking (wanted_at wanted.now) body.now status) service.new
         × Appends (W.contents w.old) (W.contents w.new)
-        (answer_text wanted.now.kind status (S.answer service.new) (closes (head_at head.now))))) }
+        (answer_text wanted.now.kind status (S.answer service.new) wanted.now.closes))) }
     ensures asked { (status : ℕ) × S.asks service.old (asking (wanted_at wanted.now) body.now status) service.new }
     ensures told { TellsWrites W.failure_count W.was_written before w.old w.new result }
 {
     let status = ask(service, wanted, body);
-    let closed = closes(head);
-    write_answer(w, wanted.kind, status, service.body(), closed, before)?;
-    Ok(kept_unless(closed))
+    write_answer(w, wanted, status, service.body(), before)?;
+    Ok(kept_unless(wanted.closes))
 }
 
 /// The status that refuses a body.
@@ -318,19 +318,18 @@ fn ask<S: Service>(service: &mut S, wanted: &Wanted, body: &[u8]) -> u16
 // Writes the answer with a service's status.
 fn write_answer<W: Sink>(
     w: &mut W,
-    kind: RequestKind,
+    wanted: &Wanted,
     status: u16,
     body: &[u8],
-    closes: bool,
     before: u64,
 ) -> Result<(), LinkFault>
     requires unfailed { W.failure_count w.old ≤ before }
     ensures whole { OnOk result (Appends (W.contents w.old) (W.contents w.new)
-        (answer_text kind status body.now closes)) }
+        (answer_text wanted.now.kind status body.now wanted.now.closes)) }
     ensures told { TellsWrites W.failure_count W.was_written before w.old w.new result }
 {
     let shown = told_body(status, body);
-    let head = answer_head(kind, status_told(status), shown.len(), closes);
+    let head = answer_head(wanted.kind, status_told(status), shown.len(), wanted.closes);
     write_message(w, head, shown, before)
 }
 

@@ -1,5 +1,5 @@
 use Rattle.std.proofs.Common.{rules, ◌≡◌, ◌++◌, ℕ, List, take, drop, length-take, take-take, refl, sym, subst, arith, Err, Result}
-use Rattle.http_link.specs.declared.grammar.Offered.TheVariants.{Malformed, Partial, Whole}
+use Rattle.http_link.specs.declared.grammar.Offered.TheVariants.{Whole}
 use Rattle.http_link.specs.declared.posting.AnswerFraming.{AnswerFraming}
 use Rattle.http_link.specs.declared.posting.PostFault.{PostFault}
 use Rattle.http_link.specs.declared.posting.PostFault.TheVariants.{Head, Cut}

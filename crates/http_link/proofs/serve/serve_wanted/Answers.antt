@@ -15,15 +15,15 @@ returns-in-Whole-clause-runs g c =
     let read : ReadsAs (held_in c.args.room.now c.args.intake.now.held) (g.R.Read.remaining c.args.r.now) (g.R.Read.remaining c.read_body.new.r) (held_in c.read_body.new.room c.read_body.new.intake.held) c.read_body.new.room (IsBody c.args.request.wanted.framing) (Whole c.in-Whole.size) =
     rw c.in-Whole.is at c.in_ok-size.ensures.reads in
     let interim : Appends (g.W.Write.contents c.args.w.now) (g.W.Write.contents c.write_all.new.w) (continue_text (waits (head_at c.args.request.head))) =
-    rw (← c.waits.ensures, ← c.continue_text.ensures) c.in_ok-write_all.ensures.whole in
-    whole_runs c.answer.result (wanted_at c.args.request.wanted) (head_at c.args.request.head) _ _ _ _ c.read_body.new.room c.in-Whole.size _ _ _ _ _ _ read interim c.answer.ensures.answered
+    rw (← c.requires.waits, ← c.continue_text.ensures) c.in_ok-write_all.ensures.whole in
+    whole_runs c.answer.result (wanted_at c.args.request.wanted) (head_at c.args.request.head) _ _ _ _ c.read_body.new.room c.in-Whole.size _ _ _ _ _ _ read interim (rw c.requires.closes at c.answer.ensures.answered)
 
 pub returns-in-Cut-clause-runs : goal.returns-in-Cut-clause-runs
 returns-in-Cut-clause-runs g c =
     let read : ReadsAs (held_in c.args.room.now c.args.intake.now.held) (g.R.Read.remaining c.args.r.now) (g.R.Read.remaining c.read_body.new.r) (held_in c.read_body.new.room c.read_body.new.intake.held) c.read_body.new.room (IsBody c.args.request.wanted.framing) Cut =
     rw c.in-Cut.is at c.in_ok-size.ensures.reads in
     let interim : Appends (g.W.Write.contents c.args.w.now) (g.W.Write.contents c.write_all.new.w) (continue_text (waits (head_at c.args.request.head))) =
-    rw (← c.waits.ensures, ← c.continue_text.ensures) c.in_ok-write_all.ensures.whole in
+    rw (← c.requires.waits, ← c.continue_text.ensures) c.in_ok-write_all.ensures.whole in
     cut_runs (wanted_at c.args.request.wanted) (head_at c.args.request.head) _ _ _ _ c.read_body.new.room _ _ _ _ _ read interim refl
 
 pub returns-in-Bad-clause-runs : goal.returns-in-Bad-clause-runs
@@ -31,7 +31,7 @@ returns-in-Bad-clause-runs g c =
     let read : ReadsAs (held_in c.args.room.now c.args.intake.now.held) (g.R.Read.remaining c.args.r.now) (g.R.Read.remaining c.read_body.new.r) (held_in c.read_body.new.room c.read_body.new.intake.held) c.read_body.new.room (IsBody c.args.request.wanted.framing) (Bad c.in-Bad.fault) =
     rw c.in-Bad.is at c.in_ok-size.ensures.reads in
     let interim : Appends (g.W.Write.contents c.args.w.now) (g.W.Write.contents c.write_all.new.w) (continue_text (waits (head_at c.args.request.head))) =
-    rw (← c.waits.ensures, ← c.continue_text.ensures) c.in_ok-write_all.ensures.whole in
+    rw (← c.requires.waits, ← c.continue_text.ensures) c.in_ok-write_all.ensures.whole in
     bad_runs c.refuse.result (wanted_at c.args.request.wanted) (head_at c.args.request.head) c.in-Bad.fault _ _ _ _ c.read_body.new.room _ _ _ _ _ _ read interim refl
     (rw (← c.refusal_of.ensures) c.refuse.ensures.refused)
 
