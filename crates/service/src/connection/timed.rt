@@ -80,6 +80,11 @@ impl<H: Clock> Side<'_, H> {
         Ok(left)
     }
 
+    // Whether it waits for a request: the first bytes that come end that.
+    fn is_idle(&self) -> bool {
+        matches!(self.limit, Limit::Paced(_, Activity::Idle, _))
+    }
+
     // Takes off the time that has gone by since then, in such a hurry.
     fn spend(&mut self, begun: Instant, rush: Rush) -> io::Result<()> {
         if let Limit::Until(_) = self.limit {
@@ -114,7 +119,7 @@ impl<H: Clock> Side<'_, H> {
         Ok(())
     }
 
-    // Reads once.
+    // Reads once. The clock is not read again once an idle connection has sent something.
     fn read_once(&mut self, buf: &mut [u8]) -> io::Result<usize>
         ensures bound { ReadsAtMost result buf.new }
         ensures len { length buf.new ≡ length buf.old }
@@ -124,11 +129,13 @@ impl<H: Clock> Side<'_, H> {
         self.set_read_wait(left)?;
         let mut stream = self.stream;
         let result = stream.read(buf);
-        self.spend(begun, rush)?;
+        if result.is_err() || !self.is_idle() {
+            self.spend(begun, rush)?;
+        }
         result
     }
 
-    // Writes once.
+    // Writes once. The clock is not read again if all was taken: that took a slice at most.
     fn write_once(&mut self, buf: &[u8]) -> io::Result<usize>
         ensures { WritesAtMost result buf.now }
     {
@@ -137,9 +144,16 @@ impl<H: Clock> Side<'_, H> {
         self.set_write_wait(left)?;
         let mut stream = self.stream;
         let result = stream.write(buf);
-        self.spend(begun, rush)?;
+        if !is_whole(&result, buf) {
+            self.spend(begun, rush)?;
+        }
         result
     }
+}
+
+// Whether a write took all that it was given.
+fn is_whole(written: &io::Result<usize>, buf: &[u8]) -> bool {
+    matches!(written, Ok(n) if *n == buf.len())
 }
 
 // What was spent once some time more has gone by in such a hurry.
