@@ -1,15 +1,16 @@
 -- Heads of which a front is known, by whichever grammar.
-use Rattle.std.proofs.Common.{zero, suc, ◌≡◌, ◌==◌, ◌⊎◌, inl, inr, Bool, true, false, ◌||◌, eqb, ltb, ltb-true, ltb-false, ℕ, ◌<◌, ◌≤◌, List, [], ◌∷◌, ◌++◌, length, take, drop, ◌+◌, ◌-◌}
-use Rattle.std.proofs.Common.{refl, sym, ap, subst, ◌∙◌, arith, append_assoc, append-nil, length-append, length-take, take-append-drop, take-take, take_all, Option, Some, None}
+use Rattle.std.proofs.Common.{zero, suc, ◌≡◌, ◌==◌, ◌⊎◌, inl, inr, Bool, true, false, ◌&&◌, ◌||◌, eqb, ltb, ltb-true, ltb-false, ℕ, ◌<◌, ◌≤◌, List, [], ◌∷◌, ◌++◌, length, take, drop, ◌+◌, ◌-◌}
+use Rattle.std.proofs.Common.{refl, sym, ap, subst, ◌∙◌, arith, append_assoc, append-nil, length-append, length-take, take-add, take-append-drop, take-take, take_all, Option, Some, None}
 use Rattle.std.proofs.lemmas.Bool.Decides.{Decides-eqb}
 use Rattle.std.proofs.lemmas.Grind.{common_steps}
+use Rattle.std.proofs.lemmas.List.Folds.{list_all-append}
 use Rattle.std.proofs.lemmas.Slice.Eq.{ends_is}
 use Rattle.std.specs.Prelude.{slice_index}
-use Rattle.std.specs.List.{ends_with}
+use Rattle.std.specs.List.{ends_with, list_all}
 use Rattle.std.specs.Io.KnownBytes.{Consumes}
 use Rattle.httparse.specs.declared.spans.HeaderSpan.{HeaderSpan}
 use Rattle.http_link.specs.Limits.{max_head}
-use Rattle.http_link.specs.Grammars.{Grammar, IsGrammar, ends_empty_line}
+use Rattle.http_link.specs.Grammars.{Grammar, IsGrammar, ends_empty_line, is_line_end}
 use Rattle.http_link.specs.Reading.{BeginsNever, BeginsNone, BeginsNot, IsHeadBegun, Sees, StandsIn}
 use Rattle.http_link.specs.declared.grammar.Offered.{Offered}
 use Rattle.http_link.specs.declared.grammar.Offered.TheVariants.{Partial, Whole}
@@ -71,6 +72,29 @@ last_same (x ∷ xs) (y ∷ ys) a b e =
     let tail : xs ++ a ∷ [] ≡ ys ++ b ∷ [] = cc in
     last_same xs ys a b tail
 
+-- among bytes of empty lines there is no space
+no_space : (xs ys : List ℕ) (place : ℕ) → place < length xs → list_all is_line_end (xs ++ ys) ≡ true → slice_index xs place ≡ 32 → ⊥
+no_space [] ys place within all is = absurd (omega arith)
+no_space (x ∷ xs) ys zero within all is = not_line_end x is (and_left (is_line_end x) (list_all is_line_end (xs ++ ys)) all)
+  where
+    and_left : (a b : Bool) → a && b ≡ true → a ≡ true
+    and_left true b e = refl
+    and_left false b e = e
+
+    not_line_end : (x : ℕ) → x ≡ 32 → is_line_end x ≡ true → ⊥
+    not_line_end x same e = not_both (is_line_end 32) (ap is_line_end (sym same) ∙ e) refl
+no_space (x ∷ xs) ys (suc place) within all is = no_space xs ys place (omega arith) (and_right (is_line_end x) (list_all is_line_end (xs ++ ys)) all) is
+  where
+    and_right : (a b : Bool) → a && b ≡ true → b ≡ true
+    and_right true b e = e
+    and_right false b e = absurd (not_both false e refl)
+
+-- empty lines and one more
+pub lines_join : (text : List ℕ) (seen n : ℕ) → list_all is_line_end (take seen text) ≡ true → list_all is_line_end (take n (drop seen text)) ≡ true → list_all is_line_end (take (seen + n) text) ≡ true
+lines_join text seen n front line =
+    ap (list_all is_line_end) (take-add seen n text) ∙ list_all-append is_line_end (take seen text) (take n (drop seen text))
+    ∙ ap (λ b. b && list_all is_line_end (take n (drop seen text))) front ∙ line
+
 -- a byte that is no line feed ends no line
 ends_no_line : (front both : List ℕ) (b : ℕ) → both ≡ front ++ b ∷ [] → (b == 10) ≡ false → ends_with eqb both (10 ∷ []) ≡ false
 ends_no_line front both b grows other = by_test (ends_with eqb both (10 ∷ [])) refl
@@ -115,6 +139,18 @@ module _ {S : Type 0} (grammar : Grammar S) where
           let none : whole.0 ≡ [] = nothing_left whole.0 (omega (arith, length-append text (b ∷ []), length-append head whole.0)) in
           let same : both ≡ head = whole.1 ∙ ap (λ (w : List ℕ). head ++ w) none ∙ append-nil head in
           absurd (not_both (ends_empty_line both) (ap ends_empty_line same ∙ laws.ended head room is) inside)
+
+  -- empty lines go on in each head
+  pub blank_goes_on : IsGrammar grammar → (text : List ℕ) (room : ℕ) → list_all is_line_end text ≡ true → IsHeadBegun grammar text room
+  blank_goes_on laws text room blank head more rest is parts = by_length (lt_or_ge (length text) (length head))
+    where
+      by_length : (length text < length head) ⊎ (length head ≤ length text) → length text < length head
+      by_length (inl lt) = lt
+      by_length (inr le) =
+          let whole = goes_on head rest text more (sym parts) le in
+          let space = laws.spaced head room is in
+          let all : list_all is_line_end (head ++ whole.0) ≡ true = ap (list_all is_line_end) (sym whole.1) ∙ blank in
+          absurd (no_space head whole.0 space.0 space.1 all space.2)
 
   -- what goes on goes on behind bytes none of which is a line feed
   goes_on_along : IsGrammar grammar → (text : List ℕ) (n from room : ℕ) → from + n ≤ length text

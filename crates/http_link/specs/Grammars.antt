@@ -1,5 +1,5 @@
 -- The grammars of heads: which texts are heads, and what spans are of one.
-use Rattle.std.specs.Prelude.{◌≡◌, ℕ, ◌≤◌, List, [], ◌∷◌, length, take, Bool, true, ◌||◌, ◌==◌}
+use Rattle.std.specs.Prelude.{◌≡◌, ℕ, ◌<◌, ◌≤◌, List, [], ◌∷◌, length, slice_index, take, Bool, true, ◌||◌, ◌==◌}
 use Rattle.std.specs.List.{ends_with}
 use Rattle.httparse.specs.declared.spans.HeaderSpan.{HeaderSpan}
 use Rattle.httparse.specs.declared.spans.RequestSpans.{RequestSpans}
@@ -12,6 +12,10 @@ abbrev pub ends_empty_line : List ℕ → Bool
 ends_empty_line text =
     ends_with (λ a b. a == b) text (10 ∷ 10 ∷ []) || ends_with (λ a b. a == b) text (10 ∷ 13 ∷ 10 ∷ [])
 
+-- a byte of which empty lines consist
+abbrev pub is_line_end : ℕ → Bool
+is_line_end b = b == 10 || b == 13
+
 -- Which texts are heads with so many field lines at most; when spans, with those of the field lines, are the spans of a head
 -- that a text begins with; and how many bytes that head has.
 pub record Grammar (Spans : Type 0) : Type 1 where
@@ -19,13 +23,18 @@ pub record Grammar (Spans : Type 0) : Type 1 where
   pub Covers : List ℕ → List HeaderSpan → Spans → Type 0
   pub len : Spans → ℕ
 
--- each head ends with an empty line; and if spans are those of a head, that head is at the front of the text
+-- each head has a space, and ends with an empty line; and if spans are those of a head, that head is at the front of the text, and
+-- they are its spans also in the head alone
 pub record IsGrammar {Spans : Type 0} (grammar : Grammar Spans) : Type 0 where
   pub ended : (head : List ℕ) (lines : ℕ) → grammar.IsHead head lines → ends_empty_line head ≡ true
+  pub spaced : (head : List ℕ) (lines : ℕ) → grammar.IsHead head lines
+      → (place : ℕ) × (place < length head) × (slice_index head place ≡ 32)
   pub within : (text : List ℕ) (lines : List HeaderSpan) (spans : Spans) → grammar.Covers text lines spans
       → grammar.len spans ≤ length text
   pub covered : (text : List ℕ) (lines : List HeaderSpan) (spans : Spans) → grammar.Covers text lines spans
       → grammar.IsHead (take (grammar.len spans) text) (length lines)
+  pub cut : (text : List ℕ) (lines : List HeaderSpan) (spans : Spans) → grammar.Covers text lines spans
+      → grammar.Covers (take (grammar.len spans) text) lines spans
 
 -- ---- requests
 

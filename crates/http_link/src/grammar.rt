@@ -29,6 +29,10 @@ pub(crate) trait HeadSpans: Copy {
         ensures lines { length lines.new ≡ length lines.old }
         ensures decides { Decides grammar text.now (length lines.old) lines.new result };
 
+    /// How many bytes the head has.
+    fn len(self) -> usize
+        ensures { result ≡ grammar.len self };
+
     /// What holds of all its heads, and of each that was parsed.
     ghost laws: { IsGrammar grammar };
 }
@@ -45,6 +49,10 @@ impl HeadSpans for RequestSpans {
             Err(_) => Offered::Malformed,
         }
     }
+
+    fn len(self) -> usize {
+        self.len
+    }
 }
 
 impl HeadSpans for ResponseSpans {
@@ -58,5 +66,9 @@ impl HeadSpans for ResponseSpans {
             Ok(Status::Partial) => Offered::Partial,
             Err(_) => Offered::Malformed,
         }
+    }
+
+    fn len(self) -> usize {
+        self.len
     }
 }

@@ -1,8 +1,9 @@
 //! The reader of heads.
 
-ghost use Rattle.std.specs.Prelude.{◌≡◌, ◌≢◌, ◌↔◌, ◌⊎◌, ◌+◌, ◌-◌, ◌<◌, ◌≤◌, ◌==◌, ℕ, length, slice_index, take, false, Err, IfOk, IsTrue};
+ghost use Rattle.std.specs.Prelude.{◌≡◌, ◌≢◌, ◌↔◌, ◌⊎◌, ◌+◌, ◌-◌, ◌<◌, ◌≤◌, ◌==◌, ℕ, length, slice_index, take, true, false, Err, IfOk, IfSome, IsTrue};
+ghost use Rattle.std.specs.List.{list_all};
 ghost use Rattle.http_link.specs.Telling.{TellsReads};
-ghost use Rattle.http_link.specs.Grammars.{ends_empty_line};
+ghost use Rattle.http_link.specs.Grammars.{ends_empty_line, is_line_end};
 ghost use Rattle.http_link.specs.Reading.{BeginsNone, BeginsNot, Decides, EndsAt, IsHeadBegun, HeadIsFound, Sees, SeesFurther};
 ghost use Rattle.http_link.specs.Limits.{max_head};
 
@@ -57,6 +58,18 @@ fn is_malformed<H: HeadSpans>(text: &[u8], parsed: &mut usize, lines: &mut [Head
     matches!(offered, Offered::Malformed)
 }
 
+// Parses a text of which nothing was looked at, and gives the head at its front, if one has come whole. Nothing else is
+// decided here, so the answer does not depend on how the stream is cut into reads.
+fn whole_at_once<H: HeadSpans>(text: &[u8], lines: &mut [HeaderSpan]) -> Option<H>
+    ensures lines { length lines.new ≡ length lines.old }
+    ensures covers { IfSome result (H.grammar.Covers text.now lines.new) }
+{
+    match H::parse(text, lines) {
+        Offered::Whole(spans) => Some(spans),
+        Offered::Partial | Offered::Malformed => None,
+    }
+}
+
 // How long the first line of a text is, with its end: all of the text if no line ends in it.
 fn line_len(text: &[u8]) -> usize
     requires { 0 < length text.now }
@@ -70,22 +83,46 @@ fn line_len(text: &[u8]) -> usize
     }
 }
 
-// Looks for the end of a head in a text, of which so many bytes were looked at before, and so many parsed.
+// Whether a line is empty.
+fn is_empty_line(line: &[u8]) -> bool
+    ensures { IsTrue result → list_all is_line_end line.now ≡ true }
+{
+    line == b"\n".as_slice() || line == b"\r\n".as_slice()
+}
+
+// Looks for the end of a head in a text, of which so many bytes were looked at before, so many parsed, and so many are those of
+// empty lines. However many empty lines come first, none of them is parsed.
 fn scan<H: HeadSpans>(
     text: &[u8],
     seen: &mut usize,
     parsed: &mut usize,
+    blank: &mut usize,
     lines: &mut [HeaderSpan],
 ) -> Offered<H>
     requires seen { seen.old ≤ length text.now }
+    requires blank { blank.old ≤ seen.old }
+    requires empty { list_all is_line_end (take blank.old text.now) ≡ true }
     requires inside { IsHeadBegun H.grammar (take seen.old text.now) (length lines.old) }
     ensures lines { length lines.new ≡ length lines.old }
     ensures seen { seen.new ≤ length text.now }
+    ensures blank { blank.new ≤ seen.new }
+    ensures empty { list_all is_line_end (take blank.new text.now) ≡ true }
     ensures further { SeesFurther seen.old seen.new result }
     ensures sees { Sees H.grammar text.now seen.new (length lines.old) lines.new result }
 {
+    if *seen == 0 {
+        if let Some(spans) = whole_at_once::<H>(text, lines) {
+            *seen = spans.len();
+            return Offered::Whole(spans);
+        }
+    }
     while *seen < text.len() {
-        *seen += line_len(&text[*seen..]);
+        let begin = *seen;
+        *seen += line_len(&text[begin..]);
+        if *blank == begin && is_empty_line(&text[begin..*seen]) {
+            *blank = *seen;
+            continue;
+        }
         match examine(&text[..*seen], lines) {
             Offered::Partial => {}
             Offered::Whole(spans) => return Offered::Whole(spans),
@@ -126,9 +163,10 @@ pub(crate) fn find_head<H: HeadSpans, R: Source>(
 {
     let mut seen = 0;
     let mut parsed = 0;
+    let mut blank = 0;
     loop {
         let end = intake.held.to.min(MAX_HEAD);
-        match scan(&room[..end], &mut seen, &mut parsed, lines) {
+        match scan(&room[..end], &mut seen, &mut parsed, &mut blank, lines) {
             Offered::Partial => {}
             Offered::Whole(spans) => return Ok(Offered::Whole(spans)),
             Offered::Malformed => return Ok(Offered::Malformed),

@@ -1,5 +1,7 @@
 use Rattle.std.proofs.Common.{rules, inl, inr, ◌≡◌, ◌+◌, ◌≤◌, ◌++◌, [], List, ℕ, length, take, drop, refl, sym, ap, subst, ◌∙◌, arith, append-nil, length-take, take-take, take_all}
 use Rattle.std.proofs.KnownBytes.{Consumes-nil}
+use Rattle.std.specs.List.{list_all}
+use Rattle.http_link.specs.Grammars.{is_line_end}
 use Rattle.http_link.specs.Limits.{max_head}
 use Rattle.http_link.specs.Reading.{IsHeadBegun, Sees, SeesFurther}
 use Rattle.http_link.specs.declared.grammar.Offered.TheVariants.{Malformed, Partial, Whole}
@@ -7,6 +9,11 @@ use Rattle.std.proofs.lemmas.List.{take-append-le}
 use Rattle.http_link.proofs.Heads.{all_goes_on, looked_at, none_begins_all, none_yet, nothing_goes_on, stands_whole, too_long}
 use Rattle.http_link.proofs.Known.{came_more}
 use Rattle.http_link.proofs.head.find_head.Goals as goal
+
+-- a front of a front that stayed has stayed
+front_kept : (room out : List ℕ) (end seen blank : ℕ) → blank ≤ seen → take seen out ≡ take seen (take end room) → take blank out ≡ take blank (take end room)
+front_kept room out end seen blank within same =
+    sym (take-take blank seen out within) ∙ ap (take blank) same ∙ take-take blank seen (take end room) within
 
 pub loop-spans-init : goal.loop-spans-init
 loop-spans-init g c = record {
@@ -17,6 +24,8 @@ loop-spans-init g c = record {
   came = ([], sym (append-nil (take c.args.intake.now.held.to c.args.room.now)), Consumes-nil (g.R.Read.remaining c.args.r.now));
   seen = omega arith;
   few = omega arith;
+  blank = omega arith;
+  empty = refl;
   exact = λ needed none. omega arith;
   goes_on = nothing_goes_on g.H.HeadSpans.grammar g.met.H.HeadSpans.laws (length c.args.lines.now);
   at_once = inl (refl, refl);
@@ -116,6 +125,8 @@ loop-spans-preserved g c =
       came = came_more (g.R.Read.remaining c.args.r.now) (g.R.Read.remaining c.loop-spans.r) (g.R.Read.remaining c.fetch.new.r) (take c.args.intake.now.held.to c.args.room.now) room out had end c.in_ok-n.n whole c.loop-spans.invariant.came read.2;
       seen = omega arith;
       few = omega arith;
+      blank = c.scan.ensures.blank;
+      empty = ap (list_all is_line_end) (front_kept room out end seen c.scan.new.blank c.scan.ensures.blank same) ∙ c.scan.ensures.empty;
       exact = λ needed none.
           let limit = c.limit-limit.ensures.exact needed in
           let all = sees.1 in
@@ -146,3 +157,16 @@ pub returns-then-n-eq0-clause-at_once : goal.returns-then-n-eq0-clause-at_once
 returns-then-n-eq0-clause-at_once g c =
     inr (none_yet g.H.HeadSpans.grammar c.args.r.now c.loop-spans.r c.loop-spans.room (take c.args.intake.now.held.to c.args.room.now) c.loop-spans.intake.held.to c.min-end.result c.scan.new.seen (length c.loop-spans.lines) (length c.args.lines.now) (length c.scan.new.lines) c.scan.new.lines c.scan.result
     (omega arith) (omega arith) (omega arith) c.in-Partial.is c.scan.ensures.sees c.loop-spans.invariant.at_once)
+
+pub scan-requires-clause-blank : goal.scan-requires-clause-blank
+scan-requires-clause-blank g c = c.loop-spans.invariant.blank
+
+pub scan-requires-clause-empty : goal.scan-requires-clause-empty
+scan-requires-clause-empty g c =
+    let room : List ℕ = c.loop-spans.room in
+    let end = c.min-end.result in
+    let blank = c.loop-spans.blank in
+    let within = c.loop-spans.invariant.blank in
+    let seen = c.loop-spans.invariant.seen in
+    let few = c.loop-spans.invariant.few in
+    ap (list_all is_line_end) (take-take blank end room (omega arith)) ∙ c.loop-spans.invariant.empty

@@ -1,7 +1,9 @@
 use Rattle.std.proofs.Common.{◌≡◌, ◌+◌, ◌-◌, List, ℕ, length, drop, take, ap, sym, subst, ◌∙◌, arith, length-take, take-take, take_all, refl}
+use Rattle.std.specs.List.{list_all}
 use Rattle.httparse.specs.declared.spans.HeaderSpan.{HeaderSpan}
+use Rattle.http_link.specs.Grammars.{is_line_end}
 use Rattle.http_link.specs.Reading.{BeginsNone, IsHeadBegun}
-use Rattle.http_link.proofs.Heads.{ends_there, goes_on_line}
+use Rattle.http_link.proofs.Heads.{blank_goes_on, ends_there, goes_on_line, lines_join}
 use Rattle.http_link.proofs.head.scan.Goals as goal
 
 pub examine-requires-clause-inside : goal.examine-requires-clause-inside
@@ -32,6 +34,8 @@ returns-in-Whole g c =
     record {
       lines = omega arith;
       seen = omega (arith, length-take (length text - seen) (drop seen text));
+      blank = let within = c.loop-seen.invariant.blank in omega arith;
+      empty = c.loop-seen.invariant.empty;
       further = let so_far = c.loop-seen.invariant.further in omega arith;
       sees = (c.in-Whole.ensures.decides, there ∙ sym whole);
     }
@@ -50,3 +54,21 @@ returns-else-is_malformed-clause-sees g c =
       subst (λ (room : ℕ). IsHeadBegun g.H.HeadSpans.grammar (take c.loop-seen.seen c.args.text.now) room) same c.loop-seen.invariant.goes_on,
       omega arith,
     )
+
+pub loop-seen-preserved-then-is_empty_line : goal.loop-seen-preserved-then-is_empty_line
+loop-seen-preserved-then-is_empty_line g c =
+    let text : List ℕ = c.args.text.now in
+    let seen = c.loop-seen.seen in
+    let n = c.line_len.result in
+    let whole : n ≡ seen + n - seen = omega arith in
+    let front = ap (λ k. list_all is_line_end (take k text)) (sym c.if-blank-begin.true) ∙ c.loop-seen.invariant.empty in
+    let line = ap (λ k. list_all is_line_end (take k (drop seen text))) whole ∙ c.is_empty_line.ensures c.if-is_empty_line.true in
+    let empty = lines_join text seen n front line in
+    record {
+      further = let so_far = c.loop-seen.invariant.further in omega arith;
+      bound = omega (arith, length-take (length text - seen) (drop seen text));
+      lines = c.loop-seen.invariant.lines;
+      blank = omega arith;
+      empty = empty;
+      goes_on = blank_goes_on g.H.HeadSpans.grammar g.met.H.HeadSpans.laws (take (seen + n) text) (length c.loop-seen.lines) empty;
+    }
