@@ -34,10 +34,14 @@ status_line kind status =
 abbrev pub close_line : Bool → List ℕ
 close_line closes = if closes then line (codes "Connection: close") else []
 
+-- the first line of an answer
+abbrev pub first_line : ℕ → List ℕ
+first_line status = line (codes "HTTP/1.1 " ++ decimal status ++ codes " " ++ reason_of status)
+
 -- the head of an answer with a line of its own, whose body has that length
 abbrev pub head_with : List ℕ → ℕ → ℕ → Bool → List ℕ
 head_with own status size closes =
-    line (codes "HTTP/1.1 " ++ decimal status ++ codes " " ++ reason_of status)
+    first_line status
     ++ own
     ++ line (codes "Content-Length: " ++ decimal size)
     ++ close_line closes

@@ -1,7 +1,7 @@
 //! The texts of answers.
 
-ghost use Rattle.std.specs.Prelude.{◌≡◌, ◌≤◌, length};
-ghost use Rattle.http_link.specs.Answers.{reason_of, status_told, answer_head, head_with, status_line, close_line};
+ghost use Rattle.std.specs.Prelude.{◌≡◌, ◌≤◌, ◌++◌, [], codes, length};
+ghost use Rattle.http_link.specs.Answers.{reason_of, status_told, answer_head, first_line, head_with, line, status_line, close_line};
 
 use crate::line_buffer::LineBuffer;
 use crate::request::RequestKind;
@@ -35,14 +35,15 @@ fn status_line(kind: RequestKind, status: u16) -> &'static [u8]
     }
 }
 
-fn close_line(closes: bool) -> &'static [u8]
-    ensures line { result.now ≡ close_line closes }
-    ensures short { length result.now ≤ 19 }
+// What follows the length in a head.
+fn head_end(closes: bool) -> &'static [u8]
+    ensures end { result.now ≡ line [] ++ close_line closes ++ codes "\r\n" }
+    ensures short { length result.now ≤ 23 }
 {
     if closes {
-        b"Connection: close\r\n"
+        b"\r\nConnection: close\r\n\r\n"
     } else {
-        b""
+        b"\r\n\r\n"
     }
 }
 
@@ -56,27 +57,46 @@ pub(crate) fn status_told(status: u16) -> u16
     }
 }
 
-/// The head of an answer whose body has that length. (RFC 9112, 4)
-pub(crate) fn answer_head(kind: RequestKind, status: u16, size: usize, closes: bool) -> LineBuffer
-    ensures { result ≡ answer_head kind status size closes }
+// The first line of an answer.
+fn put_status(head: &mut LineBuffer, status: u16)
+    requires empty { head.old ≡ [] }
+    ensures line { head.new ≡ first_line status }
+    ensures short { length head.new ≤ 60 }
 {
-    head_with(status_line(kind, status), status, size, closes)
-}
-
-/// The head of an answer with a line of its own, whose body has that length. (RFC 9112, 4)
-pub(crate) fn head_with(own: &[u8], status: u16, size: usize, closes: bool) -> LineBuffer
-    requires { length own.now ≤ 50 }
-    ensures { result ≡ head_with own.now status size closes }
-{
-    let mut head = LineBuffer::new();
+    if status == 200 {
+        head.push(b"HTTP/1.1 200 OK\r\n");
+        return;
+    }
     head.push(b"HTTP/1.1 ");
     head.push_number(status as usize);
     head.push(b" ");
     head.push(reason_of(status));
     head.push(b"\r\n");
+}
+
+/// Writes the head of an answer whose body has that length. (RFC 9112, 4)
+pub(crate) fn put_answer_head(
+    head: &mut LineBuffer,
+    kind: RequestKind,
+    status: u16,
+    size: usize,
+    closes: bool,
+)
+    requires empty { head.old ≡ [] }
+    ensures { head.new ≡ answer_head kind status size closes }
+{
+    put_head(head, status_line(kind, status), status, size, closes);
+}
+
+/// Writes the head of an answer with a line of its own, whose body has that length. (RFC 9112, 4)
+pub(crate) fn put_head(head: &mut LineBuffer, own: &[u8], status: u16, size: usize, closes: bool)
+    requires empty { head.old ≡ [] }
+    requires short { length own.now ≤ 50 }
+    ensures { head.new ≡ head_with own.now status size closes }
+{
+    put_status(head, status);
     head.push(own);
-    head.push_stated(b"Content-Length: ", size);
-    head.push(close_line(closes));
-    head.push(b"\r\n");
-    head
+    head.push(b"Content-Length: ");
+    head.push_number(size);
+    head.push(head_end(closes));
 }

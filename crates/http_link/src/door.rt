@@ -9,12 +9,12 @@ ghost use Rattle.http_link.specs.Heads.{BeginsWith, Head, head_of};
 ghost use Rattle.http_link.specs.Doors.{IsAnswerWritten, IsServedAtDoor, closing_text};
 ghost use Rattle.http_link.specs.Serving.{WritesNothingOr400};
 
-use crate::answer::head_with;
+use crate::answer::put_head;
 use crate::devices::{Sink, Source};
 use crate::grammar::Offered;
 use crate::head::{MAX_HEAD, MAX_LINES, find_head};
 use crate::intake::NOTHING;
-use crate::line_buffer::write_message;
+use crate::line_buffer::{LineBuffer, write_message};
 use crate::request::RequestHead;
 use crate::serve::{Before, Served, head_in, refuse};
 use crate::streams::LinkFault;
@@ -105,6 +105,8 @@ pub(crate) fn write_closing<W: Sink>(
         × Appends (W.contents w.old) (W.contents w.new) (closing_text own.now status body.now)) }
     ensures told { TellsWrites W.failure_count W.was_written before w.old w.new result }
 {
-    write_message(w, head_with(own, status, body.len(), true), body, before)?;
+    let mut head = LineBuffer::new();
+    put_head(&mut head, own, status, body.len(), true);
+    write_message(w, &mut head, body, before)?;
     Ok(Served::Closed)
 }

@@ -95,15 +95,15 @@ impl LineBuffer {
 }
 
 /// Writes a head and the body after it: in one text if both fit into 1,024 bytes, otherwise one after the
-/// other.
+/// other. Afterwards the body may be in the buffer too.
 pub(crate) fn write_message<W: Sink>(
     w: &mut W,
-    mut head: LineBuffer,
+    head: &mut LineBuffer,
     body: &[u8],
     before: u64,
 ) -> Result<(), LinkFault>
     requires unfailed { W.failure_count w.old ≤ before }
-    ensures whole { OnOk result (Appends (W.contents w.old) (W.contents w.new) (head ++ body.now)) }
+    ensures whole { OnOk result (Appends (W.contents w.old) (W.contents w.new) (head.old ++ body.now)) }
     ensures told { TellsWrites W.failure_count W.was_written before w.old w.new result }
 {
     if body.len() <= head.room() {

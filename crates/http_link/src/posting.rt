@@ -119,7 +119,8 @@ pub fn post<R: Source, W: Sink>(
         → MadeAll R.was_read r.old r.new ⊎ MadeAll W.was_written w.old w.new }
 {
     let (before, writes) = (r.failures(), w.failures());
-    write_message(w, post_head(target, frame.len()), frame, writes)?;
+    let mut head = post_head(target, frame.len());
+    write_message(w, &mut head, frame, writes)?;
     let manner = Manner {
         reach: Reach::Ahead,
         before,

@@ -18,14 +18,14 @@ ghost use Rattle.http_link.specs.Serving.{asking, kept_unless, traces_of};
 ghost use Rattle.http_link.specs.Running.{RunsOnHead, AsksWanted, held_in};
 ghost use Rattle.http_link.specs.Limits.{max_body};
 
-use crate::answer::{answer_head, status_told};
+use crate::answer::{put_answer_head, status_told};
 use crate::bodies::{BodyFault, BodyRead, read_body};
 use crate::devices::{Sink, Source};
 use crate::fields::Lines;
 use crate::grammar::Offered;
 use crate::head::{MAX_HEAD, MAX_LINES, find_head};
 use crate::intake::{Intake, Manner, NOTHING, Reach};
-use crate::line_buffer::write_message;
+use crate::line_buffer::{LineBuffer, write_message};
 use crate::request::{RequestHead, RequestKind, Wanted, wanted_of};
 use crate::service::Service;
 use crate::streams::{LinkFault, write_all};
@@ -169,7 +169,8 @@ pub(crate) fn refuse<W: Sink>(w: &mut W, status: u16, before: u64) -> Result<Ser
         × Appends (W.contents w.old) (W.contents w.new) (refusal_text status)) }
     ensures told { TellsWrites W.failure_count W.was_written before w.old w.new result }
 {
-    let answer = answer_head(RequestKind::Ilp, status, 0, true);
+    let mut answer = LineBuffer::new();
+    put_answer_head(&mut answer, RequestKind::Ilp, status, 0, true);
     write_all(w, answer.as_slice(), before)?;
     Ok(Served::Closed)
 }
@@ -329,8 +330,10 @@ fn write_answer<W: Sink>(
     ensures told { TellsWrites W.failure_count W.was_written before w.old w.new result }
 {
     let shown = told_body(status, body);
-    let head = answer_head(wanted.kind, status_told(status), shown.len(), wanted.closes);
-    write_message(w, head, shown, before)
+    let (kind, told) = (wanted.kind, status_told(status));
+    let mut head = LineBuffer::new();
+    put_answer_head(&mut head, kind, told, shown.len(), wanted.closes);
+    write_message(w, &mut head, shown, before)
 }
 
 // The body of an answer; only 200 has one.
