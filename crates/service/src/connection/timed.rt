@@ -64,33 +64,24 @@ impl<H: Clock> Side<'_, H> {
         }
     }
 
-    // How much time is left in such a hurry.
-    fn left(&self, now: Instant, rush: Rush) -> io::Result<Duration> {
+    // How long a read or a write may wait in such a hurry: as long as time is left, a slice at most.
+    fn wait(&self, rush: Rush) -> io::Result<Duration> {
         let left = match self.limit {
-            Limit::Until(end) => end.saturating_duration_since(now),
+            Limit::Until(end) => end.saturating_duration_since(Instant::now(self.clock)?),
             Limit::Within(left) => left,
             Limit::Paced(_, activity, spent) => {
                 let (all, stopping) = (millis_of(spent.all), millis_of(spent.stopping));
-                Duration::from_millis(left_of(activity, rush, all, stopping))
+                Duration::from_millis(left_of(activity, rush, all, stopping).min(SLICE))
             }
         };
         if left.is_zero() {
             return Err(Error::from(ErrorKind::TimedOut));
         }
-        Ok(left)
+        Ok(left.min(Duration::from_millis(SLICE)))
     }
 
-    // Whether it waits for a request: the first bytes that come end that.
-    fn is_idle(&self) -> bool {
-        matches!(self.limit, Limit::Paced(_, Activity::Idle, _))
-    }
-
-    // Takes off the time that has gone by since then, in such a hurry.
-    fn spend(&mut self, begun: Instant, rush: Rush) -> io::Result<()> {
-        if let Limit::Until(_) = self.limit {
-            return Ok(());
-        }
-        let gone = Instant::now(self.clock)?.saturating_duration_since(begun);
+    // Takes off so much time, which went by in such a hurry.
+    fn spend(&mut self, gone: Duration, rush: Rush) {
         self.limit = match self.limit {
             Limit::Until(end) => Limit::Until(end),
             Limit::Within(left) => Limit::Within(left.saturating_sub(gone)),
@@ -98,11 +89,9 @@ impl<H: Clock> Side<'_, H> {
                 Limit::Paced(door, activity, spent_also(spent, gone, rush))
             }
         };
-        Ok(())
     }
 
-    fn set_read_wait(&mut self, left: Duration) -> io::Result<()> {
-        let wait = left.min(Duration::from_millis(SLICE));
+    fn set_read_wait(&mut self, wait: Duration) -> io::Result<()> {
         if self.read_wait != wait {
             self.stream.set_read_timeout(Some(wait))?;
             self.read_wait = wait;
@@ -110,8 +99,7 @@ impl<H: Clock> Side<'_, H> {
         Ok(())
     }
 
-    fn set_write_wait(&mut self, left: Duration) -> io::Result<()> {
-        let wait = left.min(Duration::from_millis(SLICE));
+    fn set_write_wait(&mut self, wait: Duration) -> io::Result<()> {
         if self.write_wait != wait {
             self.stream.set_write_timeout(Some(wait))?;
             self.write_wait = wait;
@@ -119,34 +107,60 @@ impl<H: Clock> Side<'_, H> {
         Ok(())
     }
 
-    // Reads once. The clock is not read again once an idle connection has sent something.
-    fn read_once(&mut self, buf: &mut [u8]) -> io::Result<usize>
+    // When it is, if the time from then on must be measured.
+    fn begun(&self, is_measured: bool) -> io::Result<Option<Instant>> {
+        if is_measured {
+            Ok(Some(Instant::now(self.clock)?))
+        } else {
+            Ok(None)
+        }
+    }
+
+    // Takes off the time since then. What was not measured took its whole wait if it ended with that, and else no time.
+    fn settle(
+        &mut self,
+        begun: Option<Instant>,
+        is_waited_out: bool,
+        wait: Duration,
+        rush: Rush,
+    ) -> io::Result<()> {
+        match begun {
+            Some(begun) => {
+                let gone = Instant::now(self.clock)?.saturating_duration_since(begun);
+                self.spend(gone, rush);
+            }
+            None if is_waited_out => self.spend(wait, rush),
+            None => {}
+        }
+        Ok(())
+    }
+
+    // Reads once.
+    fn read_once(&mut self, buf: &mut [u8], is_measured: bool) -> io::Result<usize>
         ensures bound { ReadsAtMost result buf.new }
         ensures len { length buf.new ≡ length buf.old }
     {
-        let (begun, rush) = (Instant::now(self.clock)?, self.rush());
-        let left = self.left(begun, rush)?;
-        self.set_read_wait(left)?;
+        let rush = self.rush();
+        let wait = self.wait(rush)?;
+        self.set_read_wait(wait)?;
+        let begun = self.begun(is_measured)?;
         let mut stream = self.stream;
         let result = stream.read(buf);
-        if result.is_err() || !self.is_idle() {
-            self.spend(begun, rush)?;
-        }
+        self.settle(begun, result.is_err(), wait, rush)?;
         result
     }
 
-    // Writes once. The clock is not read again if all was taken: that took a slice at most.
-    fn write_once(&mut self, buf: &[u8]) -> io::Result<usize>
+    // Writes once.
+    fn write_once(&mut self, buf: &[u8], is_measured: bool) -> io::Result<usize>
         ensures { WritesAtMost result buf.now }
     {
-        let (begun, rush) = (Instant::now(self.clock)?, self.rush());
-        let left = self.left(begun, rush)?;
-        self.set_write_wait(left)?;
+        let rush = self.rush();
+        let wait = self.wait(rush)?;
+        self.set_write_wait(wait)?;
+        let begun = self.begun(is_measured)?;
         let mut stream = self.stream;
         let result = stream.write(buf);
-        if !is_whole(&result, buf) {
-            self.spend(begun, rush)?;
-        }
+        self.settle(begun, !is_whole(&result, buf), wait, rush)?;
         result
     }
 }
@@ -169,6 +183,9 @@ fn spent_also(spent: Spent, gone: Duration, rush: Rush) -> Spent {
 
 /// A time in milliseconds, as far as they can be counted.
 pub fn millis_of(time: Duration) -> u64 {
+    if time.is_zero() {
+        return 0;
+    }
     time.as_millis().min(u128::from(u64::MAX)) as u64
 }
 
@@ -181,29 +198,40 @@ pub fn is_pause(error: &Error) -> bool {
 }
 
 impl<H: Wait + Clock> Side<'_, H> {
-    // Reads what comes in time.
+    // Whether each read is measured. Until a moment none has to be, nor what ends the wait for a request.
+    fn measures_reads(&self) -> bool {
+        match self.limit {
+            Limit::Until(_) | Limit::Paced(_, Activity::Idle, _) => false,
+            Limit::Within(_) | Limit::Paced(_, Activity::Busy, _) => true,
+        }
+    }
+
+    // Reads what comes in time. After a pause it is measured, since a wait may be longer than it was set.
     fn receive(&mut self, buf: &mut [u8]) -> io::Result<usize>
         ensures bound { ReadsAtMost result buf.new }
         ensures len { length buf.new ≡ length buf.old }
     {
         let clock = self.clock;
+        let mut is_measured = self.measures_reads();
         for _ in clock.forever() {
-            match self.read_once(buf) {
-                Err(error) if is_pause(&error) => {}
+            match self.read_once(buf, is_measured) {
+                Err(error) if is_pause(&error) => is_measured = true,
                 result => return result,
             }
         }
         unreachable!()
     }
 
-    // Writes what can be written in time.
+    // Writes what can be written in time. A write that takes all at once is not measured. One that takes less took its
+    // whole wait.
     fn send(&mut self, buf: &[u8]) -> io::Result<usize>
         ensures { WritesAtMost result buf.now }
     {
         let clock = self.clock;
+        let mut is_measured = false;
         for _ in clock.forever() {
-            match self.write_once(buf) {
-                Err(error) if is_pause(&error) => {}
+            match self.write_once(buf, is_measured) {
+                Err(error) if is_pause(&error) => is_measured = true,
                 result => return result,
             }
         }
