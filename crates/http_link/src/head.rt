@@ -91,7 +91,7 @@ fn is_empty_line(line: &[u8]) -> bool
 }
 
 // Looks for the end of a head in a text, of which so many bytes were looked at before, so many parsed, and so many are those of
-// empty lines. However many empty lines come first, none of them is parsed.
+// empty lines. Empty lines that come first are not parsed one by one.
 fn scan<H: HeadSpans>(
     text: &[u8],
     seen: &mut usize,
