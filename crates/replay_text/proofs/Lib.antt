@@ -17,3 +17,5 @@ pub mod Putting
 pub mod Takings
 pub mod Starts
 pub mod Begun
+pub mod Lanes
+pub mod Chunks

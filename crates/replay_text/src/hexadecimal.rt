@@ -1,15 +1,22 @@
-//! Hexadecimal text. No branch hangs on a digit, so that the compiler works on many at a time.
+//! Hexadecimal text. No branch depends on a digit, so that many are tested, read and written at a time.
 
-ghost use Rattle.std.specs.Prelude.{◌≡◌, ◌*◌, ◌<◌, ◌++◌, ◌==◌, length, Ok, Some, OnOk, IfOk, if◌then◌else◌, slice_index, codes, IsTrue, ℕ, is_some, option_copied};
+ghost use Rattle.std.specs.Prelude.{◌≡◌, ◌+◌, ◌*◌, ◌/◌, ◌%◌, ◌<◌, ◌≤◌, ◌++◌, ◌==◌, length, Ok, Some, OnOk, IfOk, if◌then◌else◌, slice_index, codes, IsTrue, ℕ, is_some, option_copied};
 ghost use Rattle.std.specs.List.{list_all};
 ghost use Rattle.std.specs.Result.{result_ok};
 ghost use Rattle.replay_text.specs.Printed.{Puts};
-ghost use Rattle.hex.specs.Hex.{decode_pairs, decode_of, encode_lower, hex_digit_value, is_hex_digit, pair_value};
+ghost use Rattle.hex.specs.Hex.{decode_pairs, decode_of, encode_lower, hex_digit_value, is_hex_digit, lower_digits, pair_value};
 
 use std::alloc::AllocError;
+use std::simd::prelude::*;
 
-/// So many bytes are tested at once.
+/// So many digits are tested at once.
 const CHUNK: usize = 32;
+
+/// So many bytes are read or written as digits at once.
+const BYTES: usize = 8;
+
+/// So many digits these have.
+const DIGITS: usize = 16;
 
 // 0 of a digit in either case, and more of any other byte.
 fn past_digits(byte: u8) -> u8
@@ -78,8 +85,8 @@ fn byte_of(pair: [u8; 2]) -> u8
     (high * 16 + low) as u8
 }
 
-// Puts the bytes that digits spell into room for them.
-fn decode_into(text: &[u8], out: &mut [u8])
+// Puts the bytes that a few digits spell into room for them.
+fn decode_few(text: &[u8], out: &mut [u8])
     requires digits { IsTrue (is_some (result_ok (decode_of text.now))) }
     requires room { length text.now ≡ 2 * length out.old }
     ensures { decode_of text.now ≡ Ok out.new }
@@ -88,6 +95,59 @@ fn decode_into(text: &[u8], out: &mut [u8])
     for i in 0..out.len() {
         out[i] = byte_of(pairs[i]);
     }
+}
+
+// The values of sixteen digits, in either case.
+fn values_of(digits: u8x16) -> u8x16
+    requires { (i : ℕ) → i < 16 → IsTrue (is_hex_digit (slice_index digits i)) }
+    ensures values { (i : ℕ) → i < 16 → hex_digit_value (slice_index digits i) ≡ Some (slice_index result i) }
+    ensures small { (i : ℕ) → i < 16 → slice_index result i < 16 }
+{
+    let is_letter = digits.simd_ge(u8x16::splat(b'A' - 1));
+    let more = is_letter.select(u8x16::splat(9), u8x16::splat(0));
+    (digits & u8x16::splat(15)) + more
+}
+
+// Each two values as one byte, the high four bits first.
+fn joined(values: u8x16) -> u8x8
+    requires { (i : ℕ) → i < 16 → slice_index values i < 16 }
+    ensures { (i : ℕ) → i < 8 → slice_index result i ≡ slice_index values (2 * i) * 16 + slice_index values (2 * i + 1) }
+{
+    let high = values.swizzle([0, 2, 4, 6, 8, 10, 12, 14]);
+    let low = values.swizzle([1, 3, 5, 7, 9, 11, 13, 15]);
+    high * u8x8::splat(16) + low
+}
+
+// Puts the bytes that sixteen digits spell at a place of the room.
+fn put_bytes_of(digits: &[u8; DIGITS], out: &mut [u8], at: usize)
+    requires digits { (i : ℕ) → i < 16 → IsTrue (is_hex_digit (slice_index digits.now i)) }
+    requires room { at + 8 ≤ length out.old }
+    ensures size { length out.new ≡ length out.old }
+    ensures bytes { (k : ℕ) → k < 8 → (i : ℕ)
+        → pair_value (slice_index digits.now (2 * k)) (slice_index digits.now (2 * k + 1)) i ≡ Ok (slice_index out.new (at + k)) }
+    ensures before { (k : ℕ) → k < at → slice_index out.new k ≡ slice_index out.old k }
+{
+    let bytes = joined(values_of(u8x16::from_array(*digits)));
+    bytes.copy_to_slice(&mut out[at..]);
+}
+
+// Puts the bytes that digits spell into room for them, eight at a time. The last eight may overlap those before them, so that
+// no few are left over.
+fn decode_into(text: &[u8], out: &mut [u8])
+    requires digits { IsTrue (is_some (result_ok (decode_of text.now))) }
+    requires room { length text.now ≡ 2 * length out.old }
+    ensures { decode_of text.now ≡ Ok out.new }
+{
+    let Some(last) = text.last_chunk::<DIGITS>() else {
+        decode_few(text, out);
+        return;
+    };
+    let (chunks, _) = text.as_chunks::<DIGITS>();
+    for i in 0..chunks.len() {
+        put_bytes_of(&chunks[i], out, BYTES * i);
+    }
+    let end = out.len() - BYTES;
+    put_bytes_of(last, out, end);
 }
 
 /// The bytes that a text spells, in the room. `None` if the number of digits is odd, or if a byte is not a digit.
@@ -117,7 +177,8 @@ fn digit_of(value: u8) -> u8
     }
 }
 
-fn encode_into(bytes: &[u8], out: &mut [u8])
+// Puts the digits of a few bytes into room for them.
+fn encode_few(bytes: &[u8], out: &mut [u8])
     requires { length out.old ≡ 2 * length bytes.now }
     ensures { out.new ≡ encode_lower bytes.now }
 {
@@ -126,6 +187,54 @@ fn encode_into(bytes: &[u8], out: &mut [u8])
         out[2 * i] = digit_of(byte / 16);
         out[2 * i + 1] = digit_of(byte % 16);
     }
+}
+
+// The values of the two digits of each byte, the high four bits first.
+fn spread(bytes: u8x8) -> u8x16
+    ensures high { (i : ℕ) → i < 8 → slice_index result (2 * i) ≡ slice_index bytes i / 16 }
+    ensures low { (i : ℕ) → i < 8 → slice_index result (2 * i + 1) ≡ slice_index bytes i % 16 }
+{
+    let high = bytes >> u8x8::splat(4);
+    let low = bytes & u8x8::splat(15);
+    high.shuffle(low, [0, 8, 1, 9, 2, 10, 3, 11, 4, 12, 5, 13, 6, 14, 7, 15])
+}
+
+// The digits of sixteen values.
+fn digits_of(values: u8x16) -> u8x16
+    requires { (i : ℕ) → i < 16 → slice_index values i < 16 }
+    ensures { (i : ℕ) → i < 16 → slice_index result i ≡ slice_index lower_digits (slice_index values i) }
+{
+    let is_letter = values.simd_ge(u8x16::splat(10));
+    values + is_letter.select(u8x16::splat(b'a' - 10), u8x16::splat(b'0'))
+}
+
+// Puts the digits of eight bytes at a place of the room.
+fn put_digits_of(bytes: &[u8; BYTES], out: &mut [u8], at: usize)
+    requires room { at + 16 ≤ length out.old }
+    ensures size { length out.new ≡ length out.old }
+    ensures high { (k : ℕ) → k < 8 → slice_index out.new (at + 2 * k) ≡ slice_index lower_digits (slice_index bytes.now k / 16) }
+    ensures low { (k : ℕ) → k < 8 → slice_index out.new (at + (2 * k + 1)) ≡ slice_index lower_digits (slice_index bytes.now k % 16) }
+    ensures before { (k : ℕ) → k < at → slice_index out.new k ≡ slice_index out.old k }
+{
+    let digits = digits_of(spread(u8x8::from_array(*bytes)));
+    digits.copy_to_slice(&mut out[at..]);
+}
+
+// Puts the digits of bytes into room for them, those of eight bytes at a time. The last eight may overlap those before them.
+fn encode_into(bytes: &[u8], out: &mut [u8])
+    requires { length out.old ≡ 2 * length bytes.now }
+    ensures { out.new ≡ encode_lower bytes.now }
+{
+    let Some(last) = bytes.last_chunk::<BYTES>() else {
+        encode_few(bytes, out);
+        return;
+    };
+    let (chunks, _) = bytes.as_chunks::<BYTES>();
+    for i in 0..chunks.len() {
+        put_digits_of(&chunks[i], out, DIGITS * i);
+    }
+    let end = out.len() - DIGITS;
+    put_digits_of(last, out, end);
 }
 
 /// Appends the digits of some bytes to a text, in lower case.

@@ -1,7 +1,6 @@
-use Rattle.std.proofs.Common.{◌≡◌, ◌*◌, ◌++◌, take, drop}
-use Rattle.hex.specs.Hex.{encode_lower}
+use Rattle.std.proofs.Common.{◌≡◌, ◌*◌, length}
+use Rattle.replay_text.proofs.Chunks.{AreEncoded}
 use Rattle.replay_text.proofs.hexadecimal.encode_into.Given as goal
 
 abbrev pub invariant-loop-i : goal.invariant-loop-i
-invariant-loop-i l =
-    take (2 * l.i) l.out ++ encode_lower (drop l.i l.bytes) ≡ encode_lower l.bytes
+invariant-loop-i l = (length l.out ≡ length l.fn.out) × AreEncoded (8 * l.i) l.bytes l.out

@@ -1,0 +1,109 @@
+-- Texts of digits that are decoded in chunks.
+use Rattle.std.proofs.Common.{arith, refl, ap, sym, ◌∙◌, ◌≡◌, ◌+◌, ◌-◌, ◌*◌, ◌/◌, ◌%◌, ◌<◌, ◌≤◌, ◌⊎◌, inl, inr, ℕ, zero, suc, List, [], ◌∷◌, true, false, Ok, Result, length, take, drop, slice_index, slice_index_or}
+use Rattle.std.proofs.lemmas.Bool.Decides.{leb_tells}
+use lib.Dec.{leb}
+use Rattle.std.specs.Simd.{first_chunks}
+use Rattle.std.proofs.lemmas.List.{get_or-drop, get_or-take}
+use Rattle.hex.specs.Hex.{decode_pairs, encode_lower, encode_with, lower_digits, pair_value}
+use Rattle.hex.proofs.Pairs.{cons_byte, decode_pairs-ok_pair}
+
+-- the first n bytes are those of the first n pairs of digits
+abbrev pub AreDecoded : ℕ → List ℕ → List ℕ → Type 0
+AreDecoded n text out = (k : ℕ) → k < n → (i : ℕ) → pair_value (slice_index text (2 * k)) (slice_index text (2 * k + 1)) i ≡ Ok (slice_index out k)
+
+-- a byte of a chunk
+pub at_chunk : (size n : ℕ) (s : List ℕ) (i m : ℕ) → i < n → m < size → slice_index (slice_index_or (first_chunks size n s) i []) m ≡ slice_index s (size * i + m)
+at_chunk size zero s i m li lm = absurd (omega arith)
+at_chunk size (suc n) s zero m li lm = let none : size * 0 + m ≡ m = omega arith in rw none (get_or-take size s m 0 lm)
+at_chunk size (suc n) s (suc i) m li lm =
+    let next : size + (size * i + m) ≡ size * suc i + m = omega arith in
+    at_chunk size n (drop size s) i m (omega arith) lm ∙ get_or-drop size s (size * i + m) 0 ∙ ap (slice_index s) next
+
+-- where each byte is that of its pair, the text is decoded
+pub all_decoded : (s out : List ℕ) (j : ℕ) → length s ≡ 2 * length out → AreDecoded (length out) s out → decode_pairs j s ≡ Ok out
+unfolding decode_pairs
+all_decoded [] [] j size h = refl
+all_decoded [] (v ∷ out) j size h = absurd (omega arith)
+all_decoded (a ∷ []) out j size h = absurd (omega arith)
+all_decoded (a ∷ b ∷ s) [] j size h = absurd (omega arith)
+all_decoded (a ∷ b ∷ s) (v ∷ out) j size h =
+    decode_pairs-ok_pair j a b v s (h 0 (omega arith) j) ∙ ap (cons_byte v) (all_decoded s out (j + 2) (omega arith) (λ k lt i. later k lt i))
+  where
+    later : AreDecoded (length out) s out
+    later k lt i =
+        let three : 2 * suc k + 1 ≡ suc (suc (2 * k + 1)) = omega arith in
+        let two : 2 * suc k ≡ suc (suc (2 * k)) = omega arith in
+        rw (three, two) at (h (suc k) (omega arith) i)
+
+-- eight bytes more, which may overlap those before them
+pub eight_more : (text out new chunk : List ℕ) (at n : ℕ) → at ≤ n → ((m : ℕ) → m < 16 → slice_index chunk m ≡ slice_index text (2 * at + m))
+    → AreDecoded n text out
+    → ((k : ℕ) → k < 8 → (i : ℕ) → pair_value (slice_index chunk (2 * k)) (slice_index chunk (2 * k + 1)) i ≡ Ok (slice_index new (at + k)))
+    → ((k : ℕ) → k < at → slice_index new k ≡ slice_index out k)
+    → AreDecoded (at + 8) text new
+eight_more text out new chunk at n le same done bytes before k lt i = by (leb_tells (suc k) at)
+  where
+    by : ((leb (suc k) at ≡ true) × (suc k ≤ at)) ⊎ ((leb (suc k) at ≡ false) × (at < suc k))
+        → pair_value (slice_index text (2 * k)) (slice_index text (2 * k + 1)) i ≡ Ok (slice_index new k)
+    by (inl t) = done k (omega (arith, t.1)) i ∙ ap Ok (sym (before k t.1))
+    by (inr t) =
+        let m : ℕ = k - at in
+        let here : at + m ≡ k = omega (arith, t.1) in
+        let high : 2 * at + 2 * m ≡ 2 * k = omega (arith, t.1) in
+        let low : 2 * at + (2 * m + 1) ≡ 2 * k + 1 = omega (arith, t.1) in
+        let small : m < 8 = omega (arith, t.1, lt) in
+        let a : slice_index chunk (2 * m) ≡ slice_index text (2 * k) = same (2 * m) (omega (arith, small)) ∙ ap (slice_index text) high in
+        let b : slice_index chunk (2 * m + 1) ≡ slice_index text (2 * k + 1) = same (2 * m + 1) (omega (arith, small)) ∙ ap (slice_index text) low in
+        rw (a, b, here) at (bytes m small i)
+
+-- a text of digits, at the end of which a chunk begins
+pub at_end : (text last : List ℕ) (start : ℕ) → last ≡ drop start text → (m : ℕ) → slice_index last m ≡ slice_index text (start + m)
+at_end text last start e m = rw e (get_or-drop start text m 0)
+
+-- the first n bytes have their digits
+abbrev pub AreEncoded : ℕ → List ℕ → List ℕ → Type 0
+AreEncoded n bytes out = (k : ℕ) → k < n → (slice_index out (2 * k) ≡ slice_index lower_digits (slice_index bytes k / 16))
+    × (slice_index out (2 * k + 1) ≡ slice_index lower_digits (slice_index bytes k % 16))
+
+-- where each byte has its digits, the bytes are encoded
+pub all_encoded : (bytes out : List ℕ) → length out ≡ 2 * length bytes → AreEncoded (length bytes) bytes out → out ≡ encode_lower bytes
+unfolding encode_with
+all_encoded [] [] size h = refl
+all_encoded [] (x ∷ out) size h = absurd (omega arith)
+all_encoded (b ∷ bytes) [] size h = absurd (omega arith)
+all_encoded (b ∷ bytes) (x ∷ []) size h = absurd (omega arith)
+all_encoded (b ∷ bytes) (x ∷ y ∷ out) size h =
+    let first = h 0 (omega arith) in
+    ap (λ v. v ∷ y ∷ out) first.0 ∙ ap (λ v. slice_index lower_digits (b / 16) ∷ v ∷ out) first.1
+    ∙ ap (λ l. slice_index lower_digits (b / 16) ∷ slice_index lower_digits (b % 16) ∷ l) (all_encoded bytes out (omega arith) later)
+  where
+    later : AreEncoded (length bytes) bytes out
+    later k lt =
+        let three : 2 * suc k + 1 ≡ suc (suc (2 * k + 1)) = omega arith in
+        let two : 2 * suc k ≡ suc (suc (2 * k)) = omega arith in
+        let both = h (suc k) (omega arith) in
+        (rw two at both.0, rw three at both.1)
+
+-- the digits of eight bytes more, which may overlap those before them
+pub eight_more_digits : (bytes out new chunk : List ℕ) (at n : ℕ) → at ≤ n → ((m : ℕ) → m < 8 → slice_index chunk m ≡ slice_index bytes (at + m))
+    → AreEncoded n bytes out
+    → ((k : ℕ) → k < 8 → slice_index new (2 * at + 2 * k) ≡ slice_index lower_digits (slice_index chunk k / 16))
+    → ((k : ℕ) → k < 8 → slice_index new (2 * at + (2 * k + 1)) ≡ slice_index lower_digits (slice_index chunk k % 16))
+    → ((k : ℕ) → k < 2 * at → slice_index new k ≡ slice_index out k)
+    → AreEncoded (at + 8) bytes new
+eight_more_digits bytes out new chunk at n le same done high low before k lt = by (leb_tells (suc k) at)
+  where
+    by : ((leb (suc k) at ≡ true) × (suc k ≤ at)) ⊎ ((leb (suc k) at ≡ false) × (at < suc k))
+        → (slice_index new (2 * k) ≡ slice_index lower_digits (slice_index bytes k / 16))
+        × (slice_index new (2 * k + 1) ≡ slice_index lower_digits (slice_index bytes k % 16))
+    by (inl t) =
+        let was = done k (omega (arith, t.1)) in
+        (before (2 * k) (omega (arith, t.1)) ∙ was.0, before (2 * k + 1) (omega (arith, t.1)) ∙ was.1)
+    by (inr t) =
+        let m : ℕ = k - at in
+        let here : at + m ≡ k = omega (arith, t.1) in
+        let even : 2 * at + 2 * m ≡ 2 * k = omega (arith, t.1) in
+        let odd : 2 * at + (2 * m + 1) ≡ 2 * k + 1 = omega (arith, t.1) in
+        let small : m < 8 = omega (arith, t.1, lt) in
+        let byte : slice_index chunk m ≡ slice_index bytes k = same m small ∙ ap (slice_index bytes) here in
+        (rw (even, byte) at (high m small), rw (odd, byte) at (low m small))

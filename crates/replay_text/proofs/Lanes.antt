@@ -1,0 +1,139 @@
+-- Vectors of eight and of sixteen bytes, lane by lane.
+use Rattle.std.proofs.Common.{arith, refl, ap, sym, ◌∙◌, ◌≡◌, ◌+◌, ◌*◌, ◌-◌, ◌%◌, ◌<◌, ◌≤◌, ◌++◌, ◌⊎◌, ℕ, zero, suc, List, [], ◌∷◌, Bool, true, false, IsTrue, Some, Ok, length, slice_index, slice_index_or, bit_and}
+use Rattle.std.proofs.lemmas.Nat.{and_mask}
+use Rattle.std.proofs.lemmas.Bool.Decides.{leb_tells}
+use Rattle.hex.specs.Hex.{hex_digit_value, is_hex_digit, lower_digits, pair_value}
+use lib.Dec.{leb}
+use lib.Lanes.{zip2, sel_l}
+use lib.ListN.{replicate}
+use mathlib.Core.Bool.{cond}
+use mathlib.Core.List.{map}
+use Rattle.std.proofs.lemmas.List.{get_or_append_left, get_or-append_right, get_or-map, length-map}
+
+-- what holds of each of eight lanes
+pub eight : (P : ℕ → ℕ → Type 0) (a b c d e f g h : ℕ) → P 0 a → P 1 b → P 2 c → P 3 d → P 4 e → P 5 f → P 6 g → P 7 h
+    → (i : ℕ) → i < 8 → P i (slice_index (a ∷ b ∷ c ∷ d ∷ e ∷ f ∷ g ∷ h ∷ []) i)
+eight P a b c d e f g h p0 p1 p2 p3 p4 p5 p6 p7 zero lt = p0
+eight P a b c d e f g h p0 p1 p2 p3 p4 p5 p6 p7 (suc zero) lt = p1
+eight P a b c d e f g h p0 p1 p2 p3 p4 p5 p6 p7 (suc (suc zero)) lt = p2
+eight P a b c d e f g h p0 p1 p2 p3 p4 p5 p6 p7 (suc (suc (suc zero))) lt = p3
+eight P a b c d e f g h p0 p1 p2 p3 p4 p5 p6 p7 (suc (suc (suc (suc zero)))) lt = p4
+eight P a b c d e f g h p0 p1 p2 p3 p4 p5 p6 p7 (suc (suc (suc (suc (suc zero))))) lt = p5
+eight P a b c d e f g h p0 p1 p2 p3 p4 p5 p6 p7 (suc (suc (suc (suc (suc (suc zero)))))) lt = p6
+eight P a b c d e f g h p0 p1 p2 p3 p4 p5 p6 p7 (suc (suc (suc (suc (suc (suc (suc zero))))))) lt = p7
+eight P a b c d e f g h p0 p1 p2 p3 p4 p5 p6 p7 (suc (suc (suc (suc (suc (suc (suc (suc i)))))))) lt = absurd (omega arith)
+
+-- two values put together
+pub joined_at : (v : List ℕ) → length v ≡ 16 → ((i : ℕ) → i < 16 → slice_index v i < 16) → (a b : ℕ) → a < 16 → b < 16
+    → (slice_index_or (v ++ v) a 0 * 16 % 256 + slice_index_or (v ++ v) b 0) % 256 ≡ slice_index v a * 16 + slice_index v b
+joined_at v size small a b la lb =
+    let sa = small a la in
+    let sb = small b lb in
+    let ea : slice_index_or (v ++ v) a 0 ≡ slice_index v a = get_or_append_left v v 0 a (omega arith) in
+    let eb : slice_index_or (v ++ v) b 0 ≡ slice_index v b = get_or_append_left v v 0 b (omega arith) in
+    rw (ea, eb) (omega arith)
+
+-- one vector computed from the lanes of another, lane by lane
+pub lanes : (f g h : ℕ → ℕ → ℕ) (t : ℕ → Bool) (m k p q n : ℕ) (xs : List ℕ) → length xs ≡ n
+    → zip2 f (zip2 g xs (replicate n m)) (sel_l (map t (zip2 h (replicate n k) xs)) (replicate n p) (replicate n q))
+    ≡ map (λ x. f (g x m) (cond (t (h k x)) p q)) xs
+lanes f g h t m k p q zero [] e = refl
+lanes f g h t m k p q (suc n) (x ∷ xs) e = ap (λ l. f (g x m) (cond (t (h k x)) p q) ∷ l) (lanes f g h t m k p q n xs (omega arith))
+lanes f g h t m k p q zero (x ∷ xs) e = absurd (omega arith)
+lanes f g h t m k p q (suc n) [] e = absurd (omega arith)
+
+-- the low four bits of a digit, and 9 more of a letter
+abbrev pub lane : ℕ → ℕ
+lane d = (bit_and d 15 + cond (leb 128 (cond (leb 64 d) 255 0)) 9 0) % 256
+
+pub lane_value : (d : ℕ) → IsTrue (is_hex_digit d) → hex_digit_value d ≡ Some (lane d)
+lane_value d h =
+    let low : bit_and d 15 ≡ d % 16 = and_mask d 4 in
+    rw low (by d (leb 64 d) (leb_tells 64 d) h)
+  where
+    by : (d : ℕ) (b : Bool) → ((b ≡ true) × (64 ≤ d)) ⊎ ((b ≡ false) × (d < 64)) → IsTrue (is_hex_digit d)
+        → hex_digit_value d ≡ Some ((d % 16 + cond (leb 128 (cond b 255 0)) 9 0) % 256)
+    by d true t h = grind (arith)
+    by d false t h = grind (arith)
+
+pub lane_small : (d : ℕ) → IsTrue (is_hex_digit d) → lane d < 16
+lane_small d h =
+    let low : bit_and d 15 ≡ d % 16 = and_mask d 4 in
+    rw low (by d (leb 64 d) (leb_tells 64 d) h)
+  where
+    by : (d : ℕ) (b : Bool) → ((b ≡ true) × (64 ≤ d)) ⊎ ((b ≡ false) × (d < 64)) → IsTrue (is_hex_digit d)
+        → (d % 16 + cond (leb 128 (cond b 255 0)) 9 0) % 256 < 16
+    by d true t h = grind (arith)
+    by d false t h = grind (arith)
+
+-- the byte of two digits whose values are known
+pub pair_of : (a b x y i : ℕ) → hex_digit_value a ≡ Some x → hex_digit_value b ≡ Some y → pair_value a b i ≡ Ok (x * 16 + y)
+pair_of a b x y i ha hb = rw (ha, hb) refl
+
+-- what is added to each lane hangs on the lane
+pub lanes_added : (f h : ℕ → ℕ → ℕ) (t : ℕ → Bool) (k p q n : ℕ) (xs : List ℕ) → length xs ≡ n
+    → zip2 f xs (sel_l (map t (zip2 h (replicate n k) xs)) (replicate n p) (replicate n q))
+    ≡ map (λ x. f x (cond (t (h k x)) p q)) xs
+lanes_added f h t k p q zero [] e = refl
+lanes_added f h t k p q (suc n) (x ∷ xs) e = ap (λ l. f x (cond (t (h k x)) p q) ∷ l) (lanes_added f h t k p q n xs (omega arith))
+lanes_added f h t k p q zero (x ∷ xs) e = absurd (omega arith)
+lanes_added f h t k p q (suc n) [] e = absurd (omega arith)
+
+-- the digit of a value
+abbrev pub digit_lane : ℕ → ℕ
+digit_lane v = (v + cond (leb 128 (cond (leb 10 v) 255 0)) 87 48) % 256
+
+pub digit_is : (v : ℕ) → v < 16 → digit_lane v ≡ slice_index lower_digits v
+digit_is zero lt = refl
+digit_is (suc zero) lt = refl
+digit_is (suc (suc zero)) lt = refl
+digit_is (suc (suc (suc zero))) lt = refl
+digit_is (suc (suc (suc (suc zero)))) lt = refl
+digit_is (suc (suc (suc (suc (suc zero))))) lt = refl
+digit_is (suc (suc (suc (suc (suc (suc zero)))))) lt = refl
+digit_is (suc (suc (suc (suc (suc (suc (suc zero))))))) lt = refl
+digit_is (suc (suc (suc (suc (suc (suc (suc (suc zero)))))))) lt = refl
+digit_is (suc (suc (suc (suc (suc (suc (suc (suc (suc zero))))))))) lt = refl
+digit_is (suc (suc (suc (suc (suc (suc (suc (suc (suc (suc zero)))))))))) lt = refl
+digit_is (suc (suc (suc (suc (suc (suc (suc (suc (suc (suc (suc zero))))))))))) lt = refl
+digit_is (suc (suc (suc (suc (suc (suc (suc (suc (suc (suc (suc (suc zero)))))))))))) lt = refl
+digit_is (suc (suc (suc (suc (suc (suc (suc (suc (suc (suc (suc (suc (suc zero))))))))))))) lt = refl
+digit_is (suc (suc (suc (suc (suc (suc (suc (suc (suc (suc (suc (suc (suc (suc zero)))))))))))))) lt = refl
+digit_is (suc (suc (suc (suc (suc (suc (suc (suc (suc (suc (suc (suc (suc (suc (suc zero))))))))))))))) lt = refl
+digit_is (suc (suc (suc (suc (suc (suc (suc (suc (suc (suc (suc (suc (suc (suc (suc (suc v)))))))))))))))) lt = absurd (omega arith)
+
+-- two vectors computed from one, one after the other
+pub in_first : (f g : ℕ → ℕ) (xs : List ℕ) (i : ℕ) → i < length xs → slice_index_or (map f xs ++ map g xs) i 0 ≡ f (slice_index xs i)
+in_first f g xs i lt =
+    let size = length-map xs f in
+    get_or_append_left (map f xs) (map g xs) 0 i (omega (arith, size)) ∙ get_or-map f xs i 0 0 lt
+
+pub in_second : (f g : ℕ → ℕ) (xs : List ℕ) (n i : ℕ) → length xs ≡ n → i < n → slice_index_or (map f xs ++ map g xs) (n + i) 0 ≡ g (slice_index xs i)
+in_second f g xs n i size lt =
+    let over : n + i - n ≡ i = omega arith in
+    get_or-append_right (map f xs) (map g xs) n (n + i) 0 (length-map xs f ∙ size) (omega arith) ∙ ap (λ k. slice_index (map g xs) k) over ∙ get_or-map g xs i 0 0 (omega arith)
+
+-- what holds of the first lane and of the second of each of eight pairs
+pub eight_pairs : (P Q : ℕ → ℕ → Type 0) (a b c d e f g h a' b' c' d' e' f' g' h' : ℕ)
+    → P 0 a × Q 0 a' → P 1 b × Q 1 b' → P 2 c × Q 2 c' → P 3 d × Q 3 d' → P 4 e × Q 4 e' → P 5 f × Q 5 f' → P 6 g × Q 6 g' → P 7 h × Q 7 h'
+    → (i : ℕ) → i < 8 → P i (slice_index (a ∷ a' ∷ b ∷ b' ∷ c ∷ c' ∷ d ∷ d' ∷ e ∷ e' ∷ f ∷ f' ∷ g ∷ g' ∷ h ∷ h' ∷ []) (2 * i))
+    × Q i (slice_index (a ∷ a' ∷ b ∷ b' ∷ c ∷ c' ∷ d ∷ d' ∷ e ∷ e' ∷ f ∷ f' ∷ g ∷ g' ∷ h ∷ h' ∷ []) (2 * i + 1))
+eight_pairs P Q a b c d e f g h a' b' c' d' e' f' g' h' p0 p1 p2 p3 p4 p5 p6 p7 zero lt = p0
+eight_pairs P Q a b c d e f g h a' b' c' d' e' f' g' h' p0 p1 p2 p3 p4 p5 p6 p7 (suc zero) lt = p1
+eight_pairs P Q a b c d e f g h a' b' c' d' e' f' g' h' p0 p1 p2 p3 p4 p5 p6 p7 (suc (suc zero)) lt = p2
+eight_pairs P Q a b c d e f g h a' b' c' d' e' f' g' h' p0 p1 p2 p3 p4 p5 p6 p7 (suc (suc (suc zero))) lt = p3
+eight_pairs P Q a b c d e f g h a' b' c' d' e' f' g' h' p0 p1 p2 p3 p4 p5 p6 p7 (suc (suc (suc (suc zero)))) lt = p4
+eight_pairs P Q a b c d e f g h a' b' c' d' e' f' g' h' p0 p1 p2 p3 p4 p5 p6 p7 (suc (suc (suc (suc (suc zero))))) lt = p5
+eight_pairs P Q a b c d e f g h a' b' c' d' e' f' g' h' p0 p1 p2 p3 p4 p5 p6 p7 (suc (suc (suc (suc (suc (suc zero)))))) lt = p6
+eight_pairs P Q a b c d e f g h a' b' c' d' e' f' g' h' p0 p1 p2 p3 p4 p5 p6 p7 (suc (suc (suc (suc (suc (suc (suc zero))))))) lt = p7
+eight_pairs P Q a b c d e f g h a' b' c' d' e' f' g' h' p0 p1 p2 p3 p4 p5 p6 p7 (suc (suc (suc (suc (suc (suc (suc (suc i)))))))) lt = absurd (omega arith)
+
+-- two vectors computed from one, lane by lane in turns
+pub in_turns : (f g : ℕ → ℕ) (xs : List ℕ) → length xs ≡ 8
+    → let l : ℕ → ℕ = λ k. slice_index_or (map f xs ++ map g xs) k 0 in
+    let all : List ℕ = l 0 ∷ l 8 ∷ l 1 ∷ l 9 ∷ l 2 ∷ l 10 ∷ l 3 ∷ l 11 ∷ l 4 ∷ l 12 ∷ l 5 ∷ l 13 ∷ l 6 ∷ l 14 ∷ l 7 ∷ l 15 ∷ [] in
+    (i : ℕ) → i < 8 → (slice_index all (2 * i) ≡ f (slice_index xs i)) × (slice_index all (2 * i + 1) ≡ g (slice_index xs i))
+in_turns f g xs size =
+    let at : (i : ℕ) → i < 8 → (slice_index_or (map f xs ++ map g xs) i 0 ≡ f (slice_index xs i)) × (slice_index_or (map f xs ++ map g xs) (8 + i) 0 ≡ g (slice_index xs i)) = λ i lt. (in_first f g xs i (omega arith), in_second f g xs 8 i size lt) in
+    eight_pairs (λ i x. x ≡ f (slice_index xs i)) (λ i x. x ≡ g (slice_index xs i)) _ _ _ _ _ _ _ _ _ _ _ _ _ _ _ _
+    (at 0 (omega arith)) (at 1 (omega arith)) (at 2 (omega arith)) (at 3 (omega arith)) (at 4 (omega arith)) (at 5 (omega arith)) (at 6 (omega arith)) (at 7 (omega arith))
