@@ -1,5 +1,5 @@
 -- How long a connection may do what, and when it gives up its thread.
-use Rattle.std.specs.Prelude.{ℕ, ◌-◌, ◌==◌, ◌||◌, Bool, true, false, nat_le, if◌then◌else◌, Option, Some, None}
+use Rattle.std.specs.Prelude.{ℕ, ◌-◌, ◌==◌, ◌||◌, Bool, true, false, min, nat_le, if◌then◌else◌, Option, Some, None}
 use Rattle.service.specs.declared.connection.pace.Rush.{Rush}
 use Rattle.service.specs.declared.connection.pace.Rush.TheVariants.{Calm, Crowded, Stopping}
 use Rattle.service.specs.declared.connection.pace.Activity.{Activity}
@@ -25,6 +25,10 @@ abbrev pub time_left : Activity → Rush → (spent stopping : ℕ) → ℕ
 time_left activity Calm spent stopping = time_for activity Calm - spent
 time_left activity Crowded spent stopping = time_for activity Crowded - spent
 time_left activity Stopping spent stopping = time_for activity Stopping - stopping
+
+-- at once only for 250 milliseconds, or for what is left if that is less
+abbrev pub wait_of : Activity → Rush → (spent stopping : ℕ) → ℕ
+wait_of activity rush spent stopping = min (time_left activity rush spent stopping) 250
 
 -- only for others that wait: at once after an answer 400 or 401, and after a second in all
 abbrev pub yields : Rush → (status served : ℕ) → Bool

@@ -1,7 +1,10 @@
 //! How long a connection may do what, and when it gives up its thread.
 
 ghost use Rattle.std.specs.Prelude.{◌≡◌};
-ghost use Rattle.service.specs.Pace.{time_left, rush_of, time_for, yields};
+ghost use Rattle.service.specs.Pace.{time_left, rush_of, time_for, wait_of, yields};
+
+/// For how many milliseconds a read or write waits at most before it looks whether it may go on.
+pub const SLICE: u64 = 250;
 
 /// What a service's connections have to hurry for.
 #[derive(Clone, Copy, Debug, PartialEq, Eq)]
@@ -51,9 +54,9 @@ pub fn time_for(activity: Activity, rush: Rush) -> u64
     }
 }
 
-/// For how many more milliseconds a connection may do what it does. It has done it for `spent` milliseconds, the last
-/// `stopping` of them in a service that stops.
-pub fn left_of(activity: Activity, rush: Rush, spent: u64, stopping: u64) -> u64
+// For how many more milliseconds a connection may do what it does. It has done it for `spent` milliseconds, the last
+// `stopping` of them in a service that stops.
+fn left_of(activity: Activity, rush: Rush, spent: u64, stopping: u64) -> u64
     ensures { result ≡ time_left activity rush spent stopping }
 {
     let gone = if rush == Rush::Stopping {
@@ -62,6 +65,13 @@ pub fn left_of(activity: Activity, rush: Rush, spent: u64, stopping: u64) -> u64
         spent
     };
     time_for(activity, rush).saturating_sub(gone)
+}
+
+/// For how many milliseconds a connection waits at once for what it does: as long as it still may do that, a slice at most.
+pub fn wait_of(activity: Activity, rush: Rush, spent: u64, stopping: u64) -> u64
+    ensures { result ≡ wait_of activity rush spent stopping }
+{
+    left_of(activity, rush, spent, stopping).min(SLICE)
 }
 
 /// Whether a connection ends after an answer of that status, `served` milliseconds after it came, and gives its thread

@@ -6,7 +6,7 @@ ghost use Rattle.std.specs.Io.KnownBytes.{ReadConsumes, WriteAppends};
 ghost use Rattle.oer_core.specs.Devices.{count_after, takes_nothing};
 
 use crate::connection::door::Door;
-use crate::connection::pace::{Activity, Rush, left_of};
+use crate::connection::pace::{Activity, Rush, SLICE, wait_of};
 use http_link::{Sink, Source};
 use oer_core::Device;
 use std::io;
@@ -14,9 +14,6 @@ use std::io::{Error, ErrorKind, Read, Write};
 use std::net::TcpStream;
 use std::sync::Wait;
 use std::time::{Clock, Duration, Instant};
-
-/// For how many milliseconds a read or write waits at most before it looks whether it may go on.
-const SLICE: u64 = 250;
 
 /// How many milliseconds the host's or an operator's answer may take to be written.
 pub const PATIENCE: u64 = 5_000;
@@ -69,15 +66,12 @@ impl<H: Clock> Side<'_, H> {
         let left = match self.limit {
             Limit::Until(end) => end.saturating_duration_since(Instant::now(self.clock)?),
             Limit::Within(left) => left,
-            Limit::Paced(_, activity, spent) => {
-                let (all, stopping) = (millis_of(spent.all), millis_of(spent.stopping));
-                Duration::from_millis(left_of(activity, rush, all, stopping).min(SLICE))
-            }
+            Limit::Paced(_, activity, spent) => paced_wait(activity, rush, spent),
         };
         if left.is_zero() {
             return Err(Error::from(ErrorKind::TimedOut));
         }
-        Ok(left.min(Duration::from_millis(SLICE)))
+        Ok(left.min(longest_wait()))
     }
 
     // Takes off so much time, which went by in such a hurry.
@@ -162,6 +156,20 @@ impl<H: Clock> Side<'_, H> {
         let result = stream.write(buf);
         self.settle(begun, !is_whole(&result, buf), wait, rush)?;
         result
+    }
+}
+
+// How long a read or write waits at most before it looks whether it may go on.
+fn longest_wait() -> Duration {
+    Duration::from_millis(SLICE)
+}
+
+// How long a connection that has spent that may wait.
+fn paced_wait(activity: Activity, rush: Rush, spent: Spent) -> Duration {
+    let (all, stopping) = (millis_of(spent.all), millis_of(spent.stopping));
+    match wait_of(activity, rush, all, stopping) {
+        SLICE => longest_wait(),
+        millis => Duration::from_millis(millis),
     }
 }
 
