@@ -28,12 +28,15 @@ use tenant_core::{
 /// A tenant's book, how many entries its closed periods had, how many packets found its journal full, how many answers of peers
 /// were bad, and the tenant's part of the one list, counted. Contracts see it as a `LockedBook`.
 #[derive(Drop)]
+#[repr(C)]
 pub struct LockedBook<J: Run> {
     book: Book,
     closed: u64,
     full: u64,
     bad: u64,
     part: TenantLog<J>,
+    // It keeps what is written of two neighbours out of one cache line, and out of two that are fetched together.
+    padding: [u64; 16],
 }
 
 impl<J: Run> Model for LockedBook<J> {
@@ -81,6 +84,7 @@ impl<J: Run> LockedBook<J> {
             full: 0,
             bad: 0,
             part: TenantLog::new(part),
+            padding: [0; 16],
         }
     }
 

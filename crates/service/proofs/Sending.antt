@@ -119,7 +119,7 @@ pub worker_send : (κ : NamedLft) (H C J : RattleType) (r : Run.Ghosts J.Denot) 
     → IsSync (Office.the_row J r) → IsSend Network.the_row → IsSend MeterSeat.the_row → IsSend (Worker.the_row κ H C J r)
 worker_send κ H C J r h c office network seat =
     recorded_send _ _ _ (Worker.the_type κ H C J r).to_one (struct_send (shape (Worker.the_type κ H C J r))
-    (search (sendable, std.crosses, h) depth 40, (search (sendable, std.crosses) depth 40, (search (sendable, std.crosses, office) depth 40, (search (sendable, std.crosses, c) depth 40, (search (sendable, std.crosses) depth 40, (search (sendable, std.crosses) depth 40, (search (sendable, std.crosses) depth 40, (desk_send J r network seat, tt)))))))))
+    (search (sendable, std.crosses, h) depth 40, (search (sendable, std.crosses) depth 40, (search (sendable, std.crosses, office) depth 40, (search (sendable, std.crosses, c) depth 40, (search (sendable, std.crosses) depth 40, (search (sendable, std.crosses) depth 40, (search (sendable, std.crosses) depth 40, (desk_send J r network seat, (search (sendable, std.crosses) depth 40, tt))))))))))
 
 pub operators_send : (κ : NamedLft) (H C J : RattleType) (r : Run.Ghosts J.Denot) → IsSync H → IsSync C
     → IsSync (Office.the_row J r) → IsSend Network.the_row → IsSend MeterSeat.the_row → IsSend (Operators.the_row κ H C J r)

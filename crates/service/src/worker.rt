@@ -40,6 +40,7 @@ pub enum Over {
 /// accepted for a minute. It carries packets to the next peers, and does the commands of those who show the tenant's
 /// token for them.
 #[derive(Drop)]
+#[repr(C)]
 pub struct Worker<'a, H, C, J: Run> {
     handle: &'a H,
     alloc: Global,
@@ -50,6 +51,8 @@ pub struct Worker<'a, H, C, J: Run> {
     // The status of the last answer that a request had.
     status: u16,
     desk: Desk<J>,
+    // It keeps what two neighbours write out of one cache line, and out of two that are fetched together.
+    padding: [u64; 16],
     ghost seated: { desk.seat.meters ≡ office.now.meters.id },
 }
 
@@ -74,6 +77,7 @@ impl<'a, H, C, J: Run> Worker<'a, H, C, J> {
             failed: false,
             status: 0,
             desk,
+            padding: [0; 16],
         }
     }
 

@@ -48,10 +48,14 @@ struct Counter {
 /// Threads of one tenant that wait are woken in the order in which the system keeps those that sleep, which is that of their
 /// coming.
 #[derive(Drop)]
+#[repr(C)]
 pub struct Places {
-    counter: Mutex<Counter>,
     // A bell for each tenant, at which its threads sleep.
     bells: Vec<Condvar>,
+    // The padding keeps what is written with each packet out of the cache lines of what is only read.
+    before: [u64; 16],
+    counter: Mutex<Counter>,
+    after: [u64; 16],
 }
 
 impl Places {
@@ -76,8 +80,10 @@ impl Places {
             unanswered: vec![in alloc; 0; tenants]?,
         };
         Ok(Places {
-            counter: Mutex::new(counter),
             bells,
+            before: [0; 16],
+            counter: Mutex::new(counter),
+            after: [0; 16],
         })
     }
 
