@@ -23,6 +23,11 @@ none_unless : (o : Option (List ℕ)) → (is_some o ≡ true → ⊥) → is_so
 none_unless None h = refl
 none_unless (Some bytes) h = absurd (h refl)
 
+-- what is not there is none
+pub none_there : (o : Option (List ℕ)) → is_some o ≡ false → None ≡ o
+none_there None h = refl
+none_there (Some bytes) h = absurd cc
+
 -- an even number of digits spells bytes
 pub spells : (s : List ℕ) (b : Bool) → length s % 2 ≡ 0 → b ≡ list_all is_hex_digit s → b ≡ is_some (result_ok (decode_of s))
 spells s true even h =

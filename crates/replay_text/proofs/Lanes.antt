@@ -1,14 +1,15 @@
--- Vectors of eight and of sixteen bytes, lane by lane.
-use Rattle.std.proofs.Common.{arith, refl, ap, sym, ◌∙◌, ◌≡◌, ◌+◌, ◌*◌, ◌-◌, ◌%◌, ◌<◌, ◌≤◌, ◌++◌, ◌⊎◌, ℕ, zero, suc, List, [], ◌∷◌, Bool, true, false, IsTrue, Some, Ok, length, slice_index, slice_index_or, bit_and}
+-- Vectors lane by lane.
+use Rattle.std.proofs.Common.{arith, refl, ap, sym, ◌∙◌, ◌≡◌, ◌+◌, ◌*◌, ◌-◌, ◌%◌, ◌^◌, ◌<◌, ◌≤◌, ◌++◌, ◌⊎◌, ◌==◌, ◌||◌, ◌&&◌, ◌↔◌, eqb, ltb, not, eqb-true, eq-eqb, ltb-true, ltb-false, w8, Fits, ℕ, zero, suc, List, [], ◌∷◌, Bool, true, false, IsTrue, Some, Ok, length, slice_index, slice_index_or, bit_and}
 use Rattle.std.proofs.lemmas.Nat.{and_mask}
 use Rattle.std.proofs.lemmas.Bool.Decides.{leb_tells}
 use Rattle.hex.specs.Hex.{hex_digit_value, is_hex_digit, lower_digits, pair_value}
 use lib.Dec.{leb}
-use lib.Lanes.{zip2, sel_l}
+use lib.Lanes.{zip2, sel_l, mask_l, top, Each1}
 use lib.ListN.{replicate}
 use mathlib.Core.Bool.{cond}
 use mathlib.Core.List.{map}
 use Rattle.std.proofs.lemmas.List.{get_or_append_left, get_or-append_right, get_or-map, length-map}
+use Rattle.std.proofs.lemmas.Simd.{bitmask_splat}
 
 -- what holds of each of eight lanes
 pub eight : (P : ℕ → ℕ → Type 0) (a b c d e f g h : ℕ) → P 0 a → P 1 b → P 2 c → P 3 d → P 4 e → P 5 f → P 6 g → P 7 h
@@ -24,11 +25,9 @@ eight P a b c d e f g h p0 p1 p2 p3 p4 p5 p6 p7 (suc (suc (suc (suc (suc (suc (s
 eight P a b c d e f g h p0 p1 p2 p3 p4 p5 p6 p7 (suc (suc (suc (suc (suc (suc (suc (suc i)))))))) lt = absurd (omega arith)
 
 -- two values put together
-pub joined_at : (v : List ℕ) → length v ≡ 16 → ((i : ℕ) → i < 16 → slice_index v i < 16) → (a b : ℕ) → a < 16 → b < 16
+pub joined_at : (v : List ℕ) → length v ≡ 16 → (a b : ℕ) → a < 16 → b < 16 → slice_index v a < 16 → slice_index v b < 16
     → (slice_index_or (v ++ v) a 0 * 16 % 256 + slice_index_or (v ++ v) b 0) % 256 ≡ slice_index v a * 16 + slice_index v b
-joined_at v size small a b la lb =
-    let sa = small a la in
-    let sb = small b lb in
+joined_at v size a b la lb sa sb =
     let ea : slice_index_or (v ++ v) a 0 ≡ slice_index v a = get_or_append_left v v 0 a (omega arith) in
     let eb : slice_index_or (v ++ v) b 0 ≡ slice_index v b = get_or_append_left v v 0 b (omega arith) in
     rw (ea, eb) (omega arith)
@@ -137,3 +136,98 @@ in_turns f g xs size =
     let at : (i : ℕ) → i < 8 → (slice_index_or (map f xs ++ map g xs) i 0 ≡ f (slice_index xs i)) × (slice_index_or (map f xs ++ map g xs) (8 + i) 0 ≡ g (slice_index xs i)) = λ i lt. (in_first f g xs i (omega arith), in_second f g xs 8 i size lt) in
     eight_pairs (λ i x. x ≡ f (slice_index xs i)) (λ i x. x ≡ g (slice_index xs i)) _ _ _ _ _ _ _ _ _ _ _ _ _ _ _ _
     (at 0 (omega arith)) (at 1 (omega arith)) (at 2 (omega arith)) (at 3 (omega arith)) (at 4 (omega arith)) (at 5 (omega arith)) (at 6 (omega arith)) (at 7 (omega arith))
+
+-- ---- tests of lanes
+
+pub lane_fits : (xs : List ℕ) (i : ℕ) → Each1 (Fits w8) xs → slice_index xs i < 256
+lane_fits [] i h = omega arith
+lane_fits (x ∷ xs) zero h = h.0.fits
+lane_fits (x ∷ xs) (suc i) h = lane_fits xs i h.1
+
+-- one byte less another, which wraps
+abbrev pub less : ℕ → ℕ → ℕ
+less a b = (a + (256 - b)) % 256
+
+-- all bits, where one byte is below another
+abbrev pub below_mask : ℕ → ℕ → ℕ
+below_mask a b = cond (ltb a b) 255 0
+
+-- the larger of two bytes, less the second
+one_past : (a m : ℕ) → a < 256 → m < 256 → less (cond (top 7 (below_mask a m)) m a) m ≡ a - m
+one_past a m la lm = by (ltb a m) refl
+  where
+    by : (t : Bool) → ltb a m ≡ t → less (cond (top 7 (cond t 255 0)) m a) m ≡ a - m
+    by true e = omega (arith, ltb-true _ _ e)
+    by false e = omega (arith, ltb-false _ _ e)
+
+-- how much each byte less the first of a range is past the range's last
+pub past_at : (first more n : ℕ) (xs : List ℕ) (i : ℕ) → length xs ≡ n → i < n → more < 256
+    → slice_index (zip2 less (sel_l (map (top 7) (zip2 below_mask (zip2 less xs (replicate n first)) (replicate n more))) (replicate n more) (zip2 less xs (replicate n first))) (replicate n more)) i
+    ≡ less (slice_index xs i) first - more
+past_at first more zero xs i size lt small = absurd (omega arith)
+past_at first more (suc n) [] i size lt small = absurd (omega arith)
+past_at first more (suc n) (x ∷ xs) zero size lt small = one_past (less x first) more (omega arith) small
+past_at first more (suc n) (x ∷ xs) (suc i) size lt small = past_at first more n xs i (omega arith) (omega arith) small
+
+zero_of_smaller : (x y : ℕ) → (cond (top 7 (below_mask x y)) x y == 0) ≡ (x == 0 || y == 0)
+zero_of_smaller x y = by (ltb x y) refl
+  where
+    by : (t : Bool) → ltb x y ≡ t → (cond (top 7 (cond t 255 0)) x y == 0) ≡ (x == 0 || y == 0)
+    by true e = let lt = ltb-true _ _ e in grind arith
+    by false e = let le = ltb-false _ _ e in grind arith
+
+zero_of_larger : (x y : ℕ) → (cond (top 7 (below_mask x y)) y x == 0) ≡ (x == 0 && y == 0)
+zero_of_larger x y = by (ltb x y) refl
+  where
+    by : (t : Bool) → ltb x y ≡ t → (cond (top 7 (cond t 255 0)) y x == 0) ≡ (x == 0 && y == 0)
+    by true e = let lt = ltb-true _ _ e in grind arith
+    by false e = let le = ltb-false _ _ e in grind arith
+
+-- where the smaller of two lanes is 0
+pub zero_in_smaller : (xs ys : List ℕ) (i : ℕ) → i < length xs → i < length ys
+    → (slice_index (sel_l (map (top 7) (zip2 below_mask xs ys)) xs ys) i == 0) ≡ (slice_index xs i == 0 || slice_index ys i == 0)
+zero_in_smaller [] ys i lx ly = absurd (omega arith)
+zero_in_smaller (x ∷ xs) [] i lx ly = absurd (omega arith)
+zero_in_smaller (x ∷ xs) (y ∷ ys) zero lx ly = zero_of_smaller x y
+zero_in_smaller (x ∷ xs) (y ∷ ys) (suc i) lx ly = zero_in_smaller xs ys i (omega arith) (omega arith)
+
+-- where the larger of two lanes is 0
+pub zero_in_larger : (xs ys : List ℕ) (i : ℕ) → i < length xs → i < length ys
+    → (slice_index (sel_l (map (top 7) (zip2 below_mask xs ys)) ys xs) i == 0) ≡ (slice_index xs i == 0 && slice_index ys i == 0)
+zero_in_larger [] ys i lx ly = absurd (omega arith)
+zero_in_larger (x ∷ xs) [] i lx ly = absurd (omega arith)
+zero_in_larger (x ∷ xs) (y ∷ ys) zero lx ly = zero_of_larger x y
+zero_in_larger (x ∷ xs) (y ∷ ys) (suc i) lx ly = zero_in_larger xs ys i (omega arith) (omega arith)
+
+-- a byte that is in one of three ranges is a digit
+pub digit_tells : (d : ℕ) → d < 256
+    → ((less d 48 - 9 == 0 || less d 65 - 5 == 0) || less d 97 - 5 == 0) ≡ is_hex_digit d
+digit_tells d lt = grind arith
+
+abbrev pub is_more : ℕ → Bool
+is_more x = not (eqb x 0)
+
+no_more : (n x : ℕ) (xs : List ℕ) → (mask_l (map is_more xs) ≡ 0) ↔ ((i : ℕ) → i < n → slice_index xs i ≡ 0)
+    → (mask_l (map is_more (x ∷ xs)) ≡ 0) ↔ ((i : ℕ) → i < suc n → slice_index (x ∷ xs) i ≡ 0)
+no_more n x xs later = by (eqb x 0) refl
+  where
+    differ : false ≡ true → ⊥
+    differ e = cc
+
+    by : (t : Bool) → eqb x 0 ≡ t → (cond (not t) 1 0 + 2 * mask_l (map is_more xs) ≡ 0) ↔ ((i : ℕ) → i < suc n → slice_index (x ∷ xs) i ≡ 0)
+    by true e = (λ none. elim [ zero ↦ λ lt. eqb-true _ _ e | suc i ↦ λ lt. later.0 (omega arith) i (omega arith) ], λ h. omega (arith, later.1 (λ i lt. h (suc i) (omega arith))))
+    by false e = (λ none. absurd (omega arith), λ h. absurd (differ (sym e ∙ eq-eqb _ _ (h 0 (omega arith)))))
+
+no_bits : (n : ℕ) (xs : List ℕ) → length xs ≡ n → (mask_l (map is_more xs) ≡ 0) ↔ ((i : ℕ) → i < n → slice_index xs i ≡ 0)
+no_bits zero [] size = (λ e i lt. absurd (omega arith), λ h. refl)
+no_bits (suc n) [] size = absurd (omega arith)
+no_bits zero (x ∷ xs) size = absurd (omega arith)
+no_bits (suc n) (x ∷ xs) size = no_more n x xs (no_bits n xs (omega arith))
+
+-- no lane is more than 0
+pub none_more : (xs : List ℕ) → length xs ≡ 16
+    → (eqb (mask_l (map (top 7) (zip2 (λ a b. cond (not (eqb a b)) 255 0) xs (replicate 16 0))) % 2 ^ 64) 0 ≡ true) ↔ ((i : ℕ) → i < 16 → slice_index xs i ≡ 0)
+none_more xs size =
+    let mask = bitmask_splat w8 (λ a b. not (eqb a b)) xs 16 0 size (omega arith) in
+    let zeros = no_bits 16 xs size in
+    (λ e. zeros.0 (sym mask ∙ eqb-true _ _ e), λ h. eq-eqb _ _ (mask ∙ zeros.1 h))

@@ -1,6 +1,6 @@
 //! Hexadecimal text. No branch depends on a digit, so that many are tested, read and written at a time.
 
-ghost use Rattle.std.specs.Prelude.{◌≡◌, ◌+◌, ◌*◌, ◌/◌, ◌%◌, ◌<◌, ◌≤◌, ◌++◌, ◌==◌, length, Ok, Some, OnOk, IfOk, if◌then◌else◌, slice_index, codes, IsTrue, ℕ, is_some, option_copied};
+ghost use Rattle.std.specs.Prelude.{◌≡◌, ◌↔◌, ◌||◌, ◌&&◌, ◌+◌, ◌*◌, ◌/◌, ◌%◌, ◌<◌, ◌≤◌, ◌-◌, ◌++◌, ◌==◌, true, drop, length, Ok, Some, OnOk, IfOk, if◌then◌else◌, slice_index, codes, IsTrue, ℕ, is_some, option_copied};
 ghost use Rattle.std.specs.List.{list_all};
 ghost use Rattle.std.specs.Result.{result_ok};
 ghost use Rattle.replay_text.specs.Printed.{Puts};
@@ -97,64 +97,121 @@ fn decode_few(text: &[u8], out: &mut [u8])
     }
 }
 
-// The values of sixteen digits, in either case.
+// 0 at each of sixteen places where a byte is `first` or one of the next `more`, and more where another byte is.
+#[inline(always)]
+fn past_range(bytes: u8x16, first: u8, more: u8) -> u8x16
+    ensures { (i : ℕ) → i < 16 → slice_index result i ≡ (slice_index bytes i + (256 - first)) % 256 - more }
+{
+    (bytes - u8x16::splat(first)).saturating_sub(u8x16::splat(more))
+}
+
+// 0 where one of two lanes is 0.
+#[inline(always)]
+fn zero_in_one(a: u8x16, b: u8x16) -> u8x16
+    ensures { (i : ℕ) → i < 16 → (slice_index result i == 0) ≡ (slice_index a i == 0 || slice_index b i == 0) }
+{
+    a.simd_min(b)
+}
+
+// 0 where both of two lanes are 0.
+#[inline(always)]
+fn zero_in_both(a: u8x16, b: u8x16) -> u8x16
+    ensures { (i : ℕ) → i < 16 → (slice_index result i == 0) ≡ (slice_index a i == 0 && slice_index b i == 0) }
+{
+    a.simd_max(b)
+}
+
+// 0 at each of sixteen places where a digit is, in either case, and more where another byte is.
+fn non_digits(digits: u8x16) -> u8x16
+    ensures { (i : ℕ) → i < 16 → (slice_index result i == 0) ≡ is_hex_digit (slice_index digits i) }
+{
+    let decimal = past_range(digits, b'0', 9);
+    let capital = past_range(digits, b'A', 5);
+    let small = past_range(digits, b'a', 5);
+    zero_in_one(zero_in_one(decimal, capital), small)
+}
+
+// The values of sixteen digits, in either case. At another byte it is any value.
 fn values_of(digits: u8x16) -> u8x16
-    requires { (i : ℕ) → i < 16 → IsTrue (is_hex_digit (slice_index digits i)) }
-    ensures values { (i : ℕ) → i < 16 → hex_digit_value (slice_index digits i) ≡ Some (slice_index result i) }
-    ensures small { (i : ℕ) → i < 16 → slice_index result i < 16 }
+    ensures values { (i : ℕ) → i < 16 → IsTrue (is_hex_digit (slice_index digits i))
+        → (hex_digit_value (slice_index digits i) ≡ Some (slice_index result i)) × (slice_index result i < 16) }
 {
     let is_letter = digits.simd_ge(u8x16::splat(b'A' - 1));
     let more = is_letter.select(u8x16::splat(9), u8x16::splat(0));
     (digits & u8x16::splat(15)) + more
 }
 
-// Each two values as one byte, the high four bits first.
+// Each two values below 16 as one byte, the high four bits first.
 fn joined(values: u8x16) -> u8x8
-    requires { (i : ℕ) → i < 16 → slice_index values i < 16 }
-    ensures { (i : ℕ) → i < 8 → slice_index result i ≡ slice_index values (2 * i) * 16 + slice_index values (2 * i + 1) }
+    ensures { (i : ℕ) → i < 8 → slice_index values (2 * i) < 16 → slice_index values (2 * i + 1) < 16
+        → slice_index result i ≡ slice_index values (2 * i) * 16 + slice_index values (2 * i + 1) }
 {
     let high = values.swizzle([0, 2, 4, 6, 8, 10, 12, 14]);
     let low = values.swizzle([1, 3, 5, 7, 9, 11, 13, 15]);
     high * u8x8::splat(16) + low
 }
 
-// Puts the bytes that sixteen digits spell at a place of the room.
-fn put_bytes_of(digits: &[u8; DIGITS], out: &mut [u8], at: usize)
-    requires digits { (i : ℕ) → i < 16 → IsTrue (is_hex_digit (slice_index digits.now i)) }
+// Puts the bytes that sixteen digits spell at a place of the room. Of other bytes it puts any bytes.
+fn put_bytes_of(digits: u8x16, out: &mut [u8], at: usize)
     requires room { at + 8 ≤ length out.old }
     ensures size { length out.new ≡ length out.old }
-    ensures bytes { (k : ℕ) → k < 8 → (i : ℕ)
-        → pair_value (slice_index digits.now (2 * k)) (slice_index digits.now (2 * k + 1)) i ≡ Ok (slice_index out.new (at + k)) }
+    ensures bytes { (k : ℕ) → k < 8 → IsTrue (is_hex_digit (slice_index digits (2 * k))) → IsTrue (is_hex_digit (slice_index digits (2 * k + 1)))
+        → (i : ℕ) → pair_value (slice_index digits (2 * k)) (slice_index digits (2 * k + 1)) i ≡ Ok (slice_index out.new (at + k)) }
     ensures before { (k : ℕ) → k < at → slice_index out.new k ≡ slice_index out.old k }
 {
-    let bytes = joined(values_of(u8x16::from_array(*digits)));
-    bytes.copy_to_slice(&mut out[at..]);
+    joined(values_of(digits)).copy_to_slice(&mut out[at..]);
 }
 
-// Puts the bytes that digits spell into room for them, eight at a time. The last eight may overlap those before them, so that
-// no few are left over.
-fn decode_into(text: &[u8], out: &mut [u8])
-    requires digits { IsTrue (is_some (result_ok (decode_of text.now))) }
-    requires room { length text.now ≡ 2 * length out.old }
-    ensures { decode_of text.now ≡ Ok out.new }
+// Whether all lanes are 0.
+fn are_zeros(lanes: u8x16) -> bool
+    ensures { (result ≡ true) ↔ ((i : ℕ) → i < 16 → slice_index lanes i ≡ 0) }
 {
-    let Some(last) = text.last_chunk::<DIGITS>() else {
-        decode_few(text, out);
-        return;
-    };
+    lanes.simd_ne(u8x16::splat(0)).to_bitmask() == 0
+}
+
+// Whether a text of sixteen digits or more is digits. Then it puts the bytes that they spell into room for them, eight at a time.
+// The last eight may overlap those before them, so that no few are left over.
+fn decode_into(text: &[u8], last: &[u8; DIGITS], out: &mut [u8]) -> bool
+    requires last { last.now ≡ drop (length text.now - 16) text.now }
+    requires long { 16 ≤ length text.now }
+    requires room { length text.now ≡ 2 * length out.old }
+    ensures digits { result ≡ list_all is_hex_digit text.now }
+    ensures bytes { result ≡ true → decode_of text.now ≡ Ok out.new }
+{
     let (chunks, _) = text.as_chunks::<DIGITS>();
+    let mut others = u8x16::splat(0);
     for i in 0..chunks.len() {
-        put_bytes_of(&chunks[i], out, BYTES * i);
+        let digits = u8x16::from_array(chunks[i]);
+        others = zero_in_both(others, non_digits(digits));
+        put_bytes_of(digits, out, BYTES * i);
     }
     let end = out.len() - BYTES;
-    put_bytes_of(last, out, end);
+    let digits = u8x16::from_array(*last);
+    put_bytes_of(digits, out, end);
+    are_zeros(zero_in_both(others, non_digits(digits)))
+}
+
+// Whether a text of an even length is digits. Then it puts the bytes that they spell into room for them.
+fn decodes_into(text: &[u8], out: &mut [u8]) -> bool
+    requires room { length text.now ≡ 2 * length out.old }
+    ensures digits { result ≡ list_all is_hex_digit text.now }
+    ensures bytes { result ≡ true → decode_of text.now ≡ Ok out.new }
+{
+    if let Some(last) = text.last_chunk::<DIGITS>() {
+        return decode_into(text, last, out);
+    }
+    if !each_is_digit(text) {
+        return false;
+    }
+    decode_few(text, out);
+    true
 }
 
 /// The bytes that a text spells, in the room. `None` if the number of digits is odd, or if a byte is not a digit.
 pub(crate) fn decode<'a>(text: &[u8], room: &'a mut Vec<u8>) -> Result<Option<&'a [u8]>, AllocError>
     ensures { IfOk result (λ bytes. option_copied bytes ≡ result_ok (decode_of text.now)) }
 {
-    if !spells_bytes(text) {
+    if text.len() % 2 != 0 {
         return Ok(None);
     }
     let size = text.len() / 2;
@@ -162,8 +219,11 @@ pub(crate) fn decode<'a>(text: &[u8], room: &'a mut Vec<u8>) -> Result<Option<&'
         room.resize(size, 0)?;
     }
     let bytes = &mut room.as_mut_slice()[..size];
-    decode_into(text, bytes);
-    Ok(Some(bytes))
+    if decodes_into(text, bytes) {
+        Ok(Some(bytes))
+    } else {
+        Ok(None)
+    }
 }
 
 fn digit_of(value: u8) -> u8

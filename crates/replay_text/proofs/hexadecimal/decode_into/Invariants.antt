@@ -1,6 +1,10 @@
-use Rattle.std.proofs.Common.{◌≡◌, ◌*◌, length}
-use Rattle.replay_text.proofs.Chunks.{AreDecoded}
+use Rattle.std.proofs.Common.{◌≡◌, ◌*◌, ◌↔◌, length}
+use Rattle.replay_text.proofs.Chunks.{AreDecoded, AreDigits, AreZeros}
 use Rattle.replay_text.proofs.hexadecimal.decode_into.Given as goal
 
 abbrev pub invariant-loop-i : goal.invariant-loop-i
-invariant-loop-i l = (length l.out ≡ length l.fn.out) × AreDecoded (8 * l.i) l.text l.out
+invariant-loop-i l = record {
+  size : length l.out ≡ length l.fn.out;
+  digits : AreZeros l.others ↔ AreDigits (16 * l.i) l.text;
+  bytes : AreDecoded (8 * l.i) l.text l.out;
+}

@@ -1,4 +1,4 @@
-use Rattle.std.proofs.Common.{arith, ◌≡◌, ◌∙◌, slice_index}
+use Rattle.std.proofs.Common.{arith, slice_index}
 use Rattle.std.proofs.lemmas.List.{get_or-map}
 use Rattle.replay_text.proofs.Lanes.{digit_is, digit_lane, lanes_added}
 use Rattle.replay_text.proofs.hexadecimal.digits_of.Goals as goal

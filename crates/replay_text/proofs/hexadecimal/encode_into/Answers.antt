@@ -1,4 +1,4 @@
-use Rattle.std.proofs.Common.{arith, ◌≡◌, ◌*◌, ◌+◌, ◌-◌, ◌/◌, ◌∙◌, ap, sym, subst, ℕ, [], length, slice_index, slice_index_or}
+use Rattle.std.proofs.Common.{arith, ◌≡◌, ◌*◌, ◌+◌, ◌-◌, ◌/◌, ◌∙◌, subst, ℕ, [], length, slice_index_or}
 use Rattle.replay_text.proofs.Chunks.{AreEncoded, all_encoded, at_chunk, at_end, eight_more_digits}
 use Rattle.replay_text.proofs.hexadecimal.encode_into.Goals as goal
 

@@ -1,4 +1,4 @@
-use Rattle.std.proofs.Common.{arith, ◌≡◌, ◌*◌, ◌+◌, ◌/◌, ◌%◌, ◌∙◌, ap, slice_index}
+use Rattle.std.proofs.Common.{arith, ◌*◌, ◌+◌, ◌∙◌, ap, slice_index}
 use Rattle.std.proofs.lemmas.Simd.{get_or-put_chunk_at, get_or-put_chunk_below}
 use Rattle.hex.specs.Hex.{lower_digits}
 use Rattle.replay_text.proofs.hexadecimal.put_digits_of.Goals as goal

@@ -1,4 +1,4 @@
-use Rattle.std.proofs.Common.{arith, ◌≡◌, ◌*◌, ◌+◌, ◌/◌, ◌%◌, ◌∙◌, ℕ, bit_and, slice_index, slice_index_or}
+use Rattle.std.proofs.Common.{◌/◌, ◌∙◌, ℕ, bit_and, slice_index}
 use Rattle.std.proofs.lemmas.Nat.{and_mask}
 use Rattle.std.proofs.lemmas.Simd.{zip2_splat}
 use Rattle.replay_text.proofs.Lanes.{in_turns}
