@@ -1,8 +1,9 @@
 -- Known bytes that are written and taken in turn.
-use Rattle.std.proofs.Common.{◌≡◌, ◌≤◌, ℕ, ◌+◌, ◌-◌, List, [], ◌++◌, length, take, drop, Option, Some, None, Result, Ok, Err, OnOk, sym, ap, subst, ◌∙◌, append_assoc, append-nil, arith, length-append, length-take}
+use Rattle.std.proofs.Common.{◌≡◌, ◌≤◌, ℕ, ◌+◌, ◌-◌, List, [], ◌∷◌, ◌++◌, length, take, drop, min, suc, zero, Option, Some, None, Result, Ok, Err, OnOk, sym, ap, subst, ◌∙◌, append_assoc, append-nil, arith, length-append, length-take}
 use Rattle.std.proofs.KnownBytes.{Appends-trans, Consumes-nil, Consumes-trans}
+use Rattle.std.proofs.Math.Nat.{sub-zero, suc-sub-suc, zero-sub}
 use Rattle.std.proofs.Math.Seq.{take-add, take-append-add}
-use Rattle.std.proofs.lemmas.List.{take-append-le}
+use Rattle.std.proofs.lemmas.List.{take-append-le, take-append-drop, drop_min}
 use borrow.Rule.Slice.PartMut.{put_mid, post_of}
 use Rattle.std.specs.Io.KnownBytes.{Appends, Consumes}
 
@@ -15,6 +16,23 @@ pub Appends-then : {A E : Type 0} (r : Result A E) (old between new : Option (Li
     → OnOk r (Appends old new (front ++ back))
 Appends-then (Ok value) old between new front back a b = Appends-trans old between new front back a b
 Appends-then (Err fault) old between new front back a b = tt
+
+-- a front of two texts, and what it leaves of each
+pub front-and-rests : (first second : List ℕ) (n : ℕ) → take n (first ++ second) ++ (drop n first ++ drop (n - length first) second) ≡ first ++ second
+front-and-rests first second zero = simp zero-sub
+front-and-rests [] second (suc n) = simp sub-zero (take-append-drop (suc n) second)
+front-and-rests (b ∷ first) second (suc n) = simp suc-sub-suc (ap (λ (w : List ℕ). b ∷ w) (front-and-rests first second n))
+
+-- a front of two texts was written, then what it left of the first one, and then what it left of the second one where
+-- that went well
+pub Appends-both : {A E : Type 0} (r : Result A E) (old mid between new : Option (List ℕ)) (first second : List ℕ) (n i : ℕ) → i ≡ min n (length first)
+    → Appends old mid (take n (first ++ second)) → Appends mid between (drop i first) → OnOk r (Appends between new (drop (n - i) second))
+    → OnOk r (Appends old new (first ++ second))
+Appends-both (Ok value) old mid between new first second n i is a b c =
+    let left : n - i ≡ n - length first = omega arith in
+    let rests = Appends-trans mid between new _ _ (rw (is, drop_min n first) at b) (rw left at c) in
+    subst (Appends old new) (front-and-rests first second n) (Appends-trans old mid new _ _ a rests)
+Appends-both (Err fault) old mid between new first second n i is a b c = tt
 
 -- first some bytes were taken, and then more
 pub Consumes-more : (old between new : Option (List ℕ)) (front taken both : List ℕ) → both ≡ front ++ taken → Consumes old between front → Consumes between new taken → Consumes old new both

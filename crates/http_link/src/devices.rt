@@ -1,6 +1,6 @@
 //! Readers and writers whose reads and writes contracts count.
 
-ghost use Rattle.std.specs.Prelude.{ℕ, ◌+◌};
+ghost use Rattle.std.specs.Prelude.{ℕ, ◌+◌, ◌++◌};
 ghost use Rattle.std.specs.Io.{ReadsAtMost, WritesAtMost};
 ghost use Rattle.std.specs.Io.KnownBytes.{ReadConsumes, WriteAppends};
 
@@ -31,4 +31,16 @@ pub trait Sink: Write + Device {
         ensures bound { WritesAtMost result buf.now }
         ensures bytes { WriteAppends (Self.contents self.old) (Self.contents self.new) result buf.now }
         ensures counted { (n : ℕ) → was_written self.old n → was_written self.new (n + 1) };
+
+    /// Writes once from two texts, one after the other, as `write` does from both as one.
+    fn write_both(&mut self, first: &[u8], second: &[u8]) -> io::Result<usize>
+        ensures bound { WritesAtMost result (first.now ++ second.now) }
+        ensures bytes { WriteAppends (Self.contents self.old) (Self.contents self.new) result (first.now ++ second.now) }
+        ensures counted { (n : ℕ) → was_written self.old n → was_written self.new (n + 1) }
+    {
+        if first.is_empty() {
+            return self.write_once(second);
+        }
+        self.write_once(first)
+    }
 }

@@ -7,7 +7,7 @@ ghost use Rattle.http_link.specs.Answers.{line};
 ghost use Rattle.http_link.specs.Limits.{max_written};
 
 use crate::devices::Sink;
-use crate::streams::{LinkFault, write_all};
+use crate::streams::{LinkFault, write_all, write_all_of_both};
 use itoa::Buffer;
 use std::marker::Model;
 
@@ -94,8 +94,8 @@ impl LineBuffer {
     }
 }
 
-/// Writes a head and the body after it: in one text if both fit into 1,024 bytes, otherwise one after the
-/// other. Afterwards the body may be in the buffer too.
+/// Writes a head and the body after it: as one text if both fit into 1,024 bytes, otherwise as two that the first
+/// write gives together. Afterwards the body may be in the buffer too.
 pub(crate) fn write_message<W: Sink>(
     w: &mut W,
     head: &mut LineBuffer,
@@ -110,6 +110,5 @@ pub(crate) fn write_message<W: Sink>(
         head.push(body);
         return write_all(w, head.as_slice(), before);
     }
-    write_all(w, head.as_slice(), before)?;
-    write_all(w, body, before)
+    write_all_of_both(w, head.as_slice(), body, before)
 }

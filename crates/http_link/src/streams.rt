@@ -1,6 +1,6 @@
 //! Reads, and texts that are written.
 
-ghost use Rattle.std.specs.Prelude.{◌≡◌, ◌≢◌, ◌↔◌, ◌<◌, ◌≤◌, length, take, Some, Ok, Err, IfOk, OnOk};
+ghost use Rattle.std.specs.Prelude.{◌≡◌, ◌≢◌, ◌↔◌, ◌<◌, ◌≤◌, ◌++◌, length, take, Some, Ok, Err, IfOk, OnOk};
 ghost use Rattle.std.specs.Io.KnownBytes.{Appends};
 ghost use Rattle.http_link.specs.Counts.{MadeMore, NoFewer};
 ghost use Rattle.http_link.specs.Telling.{TellsReads, TellsWrites};
@@ -160,6 +160,31 @@ fn write_some<W: Sink>(w: &mut W, bytes: &[u8], before: u64) -> Result<usize, Li
     }
 }
 
+// Writes once from two texts, one after the other, and gives how many of their bytes were taken.
+fn write_some_of_both<W: Sink>(
+    w: &mut W,
+    first: &[u8],
+    second: &[u8],
+    before: u64,
+) -> Result<usize, LinkFault>
+    requires unfailed { W.failure_count w.old ≤ before }
+    ensures taken { IfOk result (λ n. (n ≤ length (first.now ++ second.now))
+        × Appends (W.contents w.old) (W.contents w.new) (take n (first.now ++ second.now))) }
+    ensures write { (result ≡ Err LinkFault.Write) ↔ (before < W.failure_count w.new) }
+    ensures read { result ≢ Err LinkFault.Read }
+    ensures turns { result ≢ Err LinkFault.Turns }
+    ensures one { MadeMore W.was_written w.old w.new 1 }
+{
+    let written = w.write_both(first, second);
+    if w.failures() > before {
+        return Err(LinkFault::Write);
+    }
+    match written {
+        Ok(n) => Ok(n),
+        Err(_) => Ok(0),
+    }
+}
+
 /// Writes all bytes, in at most 50,000 writes.
 pub(crate) fn write_all<W: Sink>(w: &mut W, bytes: &[u8], before: u64) -> Result<(), LinkFault>
     requires unfailed { W.failure_count w.old ≤ before }
@@ -179,4 +204,23 @@ pub(crate) fn write_all<W: Sink>(w: &mut W, bytes: &[u8], before: u64) -> Result
         done += write_some(w, rest, before)?;
     }
     Ok(())
+}
+
+/// Writes all bytes of two texts, one after the other. The first write gives them together.
+pub(crate) fn write_all_of_both<W: Sink>(
+    w: &mut W,
+    first: &[u8],
+    second: &[u8],
+    before: u64,
+) -> Result<(), LinkFault>
+    requires unfailed { W.failure_count w.old ≤ before }
+    ensures whole { OnOk result (Appends (W.contents w.old) (W.contents w.new) (first.now ++ second.now)) }
+    ensures told { TellsWrites W.failure_count W.was_written before w.old w.new result }
+{
+    let taken = write_some_of_both(w, first, second, before)?;
+    let of_first = taken.min(first.len());
+    let (_, first_rest) = first.split_at(of_first);
+    let (_, second_rest) = second.split_at(taken - of_first);
+    write_all(w, first_rest, before)?;
+    write_all(w, second_rest, before)
 }

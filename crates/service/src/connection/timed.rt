@@ -1,6 +1,6 @@
 //! Connections whose reads and writes end in time.
 
-ghost use Rattle.std.specs.Prelude.{◌≡◌, None, is_err, length};
+ghost use Rattle.std.specs.Prelude.{◌≡◌, ◌++◌, None, is_err, length};
 ghost use Rattle.std.specs.Io.{ReadsAtMost, WritesAtMost};
 ghost use Rattle.std.specs.Io.KnownBytes.{ReadConsumes, WriteAppends};
 ghost use Rattle.oer_core.specs.Devices.{count_after, takes_nothing};
@@ -10,7 +10,7 @@ use crate::connection::pace::{Activity, Rush, SLICE, wait_of};
 use http_link::{Sink, Source};
 use oer_core::Device;
 use std::io;
-use std::io::{Error, ErrorKind, Read, Write};
+use std::io::{Error, ErrorKind, IoSlice, Read, Write};
 use std::net::TcpStream;
 use std::sync::Wait;
 use std::time::{Clock, Duration, Instant};
@@ -144,17 +144,21 @@ impl<H: Clock> Side<'_, H> {
         result
     }
 
-    // Writes once.
-    fn write_once(&mut self, buf: &[u8], is_measured: bool) -> io::Result<usize>
-        ensures { WritesAtMost result buf.now }
+    // Writes once from two texts, one after the other. If the second is empty, that is a plain write.
+    fn write_once(&mut self, first: &[u8], second: &[u8], is_measured: bool) -> io::Result<usize>
+        ensures { WritesAtMost result (first.now ++ second.now) }
     {
         let rush = self.rush();
         let wait = self.wait(rush)?;
         self.set_write_wait(wait)?;
         let begun = self.begun(is_measured)?;
         let mut stream = self.stream;
-        let result = stream.write(buf);
-        self.settle(begun, !is_whole(&result, buf), wait, rush)?;
+        let result = if second.is_empty() {
+            stream.write(first)
+        } else {
+            stream.write_vectored(&[IoSlice::new(first), IoSlice::new(second)])
+        };
+        self.settle(begun, !is_whole(&result, first, second), wait, rush)?;
         result
     }
 }
@@ -173,9 +177,9 @@ fn paced_wait(activity: Activity, rush: Rush, spent: Spent) -> Duration {
     }
 }
 
-// Whether a write took all that it was given.
-fn is_whole(written: &io::Result<usize>, buf: &[u8]) -> bool {
-    matches!(written, Ok(n) if *n == buf.len())
+// Whether a write took all of two texts.
+fn is_whole(written: &io::Result<usize>, first: &[u8], second: &[u8]) -> bool {
+    matches!(written, Ok(n) if n.checked_sub(first.len()) == Some(second.len()))
 }
 
 // What was spent once some time more has gone by in such a hurry.
@@ -230,15 +234,15 @@ impl<H: Wait + Clock> Side<'_, H> {
         unreachable!()
     }
 
-    // Writes what can be written in time. A write that takes all at once is not measured. One that takes less took its
-    // whole wait.
-    fn send(&mut self, buf: &[u8]) -> io::Result<usize>
-        ensures { WritesAtMost result buf.now }
+    // Writes what can be written of two texts in time. A write that takes all at once is not measured. One that takes
+    // less took its whole wait.
+    fn send(&mut self, first: &[u8], second: &[u8]) -> io::Result<usize>
+        ensures { WritesAtMost result (first.now ++ second.now) }
     {
         let clock = self.clock;
         let mut is_measured = false;
         for _ in clock.forever() {
-            match self.write_once(buf, is_measured) {
+            match self.write_once(first, second, is_measured) {
                 Err(error) if is_pause(&error) => is_measured = true,
                 result => return result,
             }
@@ -313,6 +317,23 @@ impl<H> Timed<'_, H> {
     }
 }
 
+impl<H: Wait + Clock> Timed<'_, H> {
+    // Writes once from two texts, one after the other. An error is counted, and so is a write of some bytes
+    // that takes none.
+    fn write_counted(&mut self, first: &[u8], second: &[u8]) -> io::Result<usize>
+        ensures bound { WritesAtMost result (first.now ++ second.now) }
+        ensures counted { self.new.failures ≡ count_after (takes_nothing result (first.now ++ second.now)) self.old.failures }
+    {
+        let result = self.side.send(first, second);
+        let is_empty = first.is_empty() && second.is_empty();
+        self.count(match &result {
+            Ok(taken) => *taken == 0 && !is_empty,
+            Err(_) => true,
+        });
+        result
+    }
+}
+
 impl<H: Wait + Clock> Paced for Timed<'_, H> {
     fn begin(&mut self, activity: Activity, is_sparing: bool) {
         if let Limit::Paced(door, _, _) = self.side.limit {
@@ -356,12 +377,7 @@ impl<H: Wait + Clock> Write for Timed<'_, H> {
         // An error is counted, and so is a write of some bytes that takes none. Nothing else is counted.
         ensures counted { self.new.failures ≡ count_after (takes_nothing result buf.now) self.old.failures }
     {
-        let result = self.side.send(buf);
-        self.count(match &result {
-            Ok(taken) => *taken == 0 && !buf.is_empty(),
-            Err(_) => true,
-        });
-        result
+        self.write_counted(buf, &[])
     }
 
     fn flush(&mut self) -> io::Result<()> {
@@ -384,5 +400,14 @@ impl<H: Wait + Clock> Sink for Timed<'_, H> {
 
     fn write_once(&mut self, buf: &[u8]) -> io::Result<usize> {
         self.write(buf)
+    }
+
+    fn write_both(&mut self, first: &[u8], second: &[u8]) -> io::Result<usize>
+        ensures bound { WritesAtMost result (first.now ++ second.now) }
+        ensures bytes { WriteAppends None None result (first.now ++ second.now) }
+        // It counts as `write` does.
+        ensures failures { self.new.failures ≡ count_after (takes_nothing result (first.now ++ second.now)) self.old.failures }
+    {
+        self.write_counted(first, second)
     }
 }
