@@ -145,7 +145,8 @@ static void share_core(int core, int fd, unsigned char *room) {
         read_message(fd, room);
     }
     for (int i = 0; i < count; i++) {
-        threads[i].ran = ran(threads[i].id) - threads[i].ran;
+        uint64_t by_now = ran(threads[i].id);
+        threads[i].ran = by_now > threads[i].ran ? by_now - threads[i].ran : 0;
         if (threads[i].ran > threads[most].ran) most = i;
     }
     put_on(0, core);
