@@ -44,14 +44,14 @@ all_decoded (a ∷ b ∷ s) (v ∷ out) j size digits h =
         let two : 2 * suc k ≡ suc (suc (2 * k)) = omega arith in
         (rw (three, two) at (h (suc k) (omega arith))) high low i
 
--- eight bytes more, which may overlap those before them
-pub eight_more : (text out new chunk : List ℕ) (at n : ℕ) → at ≤ n → ((m : ℕ) → m < 16 → slice_index chunk m ≡ slice_index text (2 * at + m))
+-- sixteen bytes more, which may overlap those before them
+pub sixteen_more : (text out new chunk : List ℕ) (at n : ℕ) → at ≤ n → ((m : ℕ) → m < 32 → slice_index chunk m ≡ slice_index text (2 * at + m))
     → AreDecoded n text out
-    → ((k : ℕ) → k < 8 → IsTrue (is_hex_digit (slice_index chunk (2 * k))) → IsTrue (is_hex_digit (slice_index chunk (2 * k + 1)))
+    → ((k : ℕ) → k < 16 → IsTrue (is_hex_digit (slice_index chunk (2 * k))) → IsTrue (is_hex_digit (slice_index chunk (2 * k + 1)))
     → (i : ℕ) → pair_value (slice_index chunk (2 * k)) (slice_index chunk (2 * k + 1)) i ≡ Ok (slice_index new (at + k)))
     → ((k : ℕ) → k < at → slice_index new k ≡ slice_index out k)
-    → AreDecoded (at + 8) text new
-eight_more text out new chunk at n le same done bytes before k lt first second i = by (leb_tells (suc k) at)
+    → AreDecoded (at + 16) text new
+sixteen_more text out new chunk at n le same done bytes before k lt first second i = by (leb_tells (suc k) at)
   where
     by : ((leb (suc k) at ≡ true) × (suc k ≤ at)) ⊎ ((leb (suc k) at ≡ false) × (at < suc k))
         → pair_value (slice_index text (2 * k)) (slice_index text (2 * k + 1)) i ≡ Ok (slice_index new k)
@@ -61,31 +61,31 @@ eight_more text out new chunk at n le same done bytes before k lt first second i
         let here : at + m ≡ k = omega (arith, t.1) in
         let high : 2 * at + 2 * m ≡ 2 * k = omega (arith, t.1) in
         let low : 2 * at + (2 * m + 1) ≡ 2 * k + 1 = omega (arith, t.1) in
-        let small : m < 8 = omega (arith, t.1, lt) in
+        let small : m < 16 = omega (arith, t.1, lt) in
         let a : slice_index chunk (2 * m) ≡ slice_index text (2 * k) = same (2 * m) (omega (arith, small)) ∙ ap (slice_index text) high in
         let b : slice_index chunk (2 * m + 1) ≡ slice_index text (2 * k + 1) = same (2 * m + 1) (omega (arith, small)) ∙ ap (slice_index text) low in
         (rw (a, b, here) at (bytes m small)) first second i
 
--- all of sixteen lanes are 0
+-- all of 32 lanes are 0
 abbrev pub AreZeros : List ℕ → Type 0
-AreZeros lanes = (i : ℕ) → i < 16 → slice_index lanes i ≡ 0
+AreZeros lanes = (i : ℕ) → i < 32 → slice_index lanes i ≡ 0
 
--- the test of sixteen bytes more, which may overlap those before them
-pub sixteen_more : (text chunk was more now : List ℕ) (at n : ℕ) → at ≤ n → n ≤ at + 16 → ((m : ℕ) → m < 16 → slice_index chunk m ≡ slice_index text (at + m))
+-- the test of 32 bytes more, which may overlap those before them
+pub digits_more : (text chunk was more now : List ℕ) (at n : ℕ) → at ≤ n → n ≤ at + 32 → ((m : ℕ) → m < 32 → slice_index chunk m ≡ slice_index text (at + m))
     → (AreZeros was ↔ AreDigits n text)
-    → ((i : ℕ) → i < 16 → (slice_index more i == 0) ≡ is_hex_digit (slice_index chunk i))
-    → ((i : ℕ) → i < 16 → (slice_index now i == 0) ≡ (slice_index was i == 0 && slice_index more i == 0))
-    → AreZeros now ↔ AreDigits (at + 16) text
-sixteen_more text chunk was more now at n le most same tested others both = (to, from)
+    → ((i : ℕ) → i < 32 → (slice_index more i == 0) ≡ is_hex_digit (slice_index chunk i))
+    → ((i : ℕ) → i < 32 → (slice_index now i == 0) ≡ (slice_index was i == 0 && slice_index more i == 0))
+    → AreZeros now ↔ AreDigits (at + 32) text
+digits_more text chunk was more now at n le most same tested others both = (to, from)
   where
     parts : (a b : Bool) → (a && b) ≡ true → (a ≡ true) × (b ≡ true)
     parts true b e = (refl, e)
     parts false b e = absurd cc
 
-    each : AreZeros now → (i : ℕ) → i < 16 → ((slice_index was i == 0) ≡ true) × ((slice_index more i == 0) ≡ true)
+    each : AreZeros now → (i : ℕ) → i < 32 → ((slice_index was i == 0) ≡ true) × ((slice_index more i == 0) ≡ true)
     each zeros i lt = parts _ _ (sym (both i lt) ∙ eq-eqb _ _ (zeros i lt))
 
-    to : AreZeros now → AreDigits (at + 16) text
+    to : AreZeros now → AreDigits (at + 32) text
     to zeros k lt = by (leb_tells (suc k) at)
       where
         by : ((leb (suc k) at ≡ true) × (suc k ≤ at)) ⊎ ((leb (suc k) at ≡ false) × (at < suc k)) → IsTrue (is_hex_digit (slice_index text k))
@@ -93,11 +93,11 @@ sixteen_more text chunk was more now at n le most same tested others both = (to,
         by (inr t) =
             let m : ℕ = k - at in
             let here : at + m ≡ k = omega (arith, t.1) in
-            let small : m < 16 = omega (arith, t.1, lt) in
+            let small : m < 32 = omega (arith, t.1, lt) in
             let byte : slice_index chunk m ≡ slice_index text k = same m small ∙ ap (slice_index text) here in
             ap is_hex_digit (sym byte) ∙ sym (others m small) ∙ (each zeros m small).1
 
-    from : AreDigits (at + 16) text → AreZeros now
+    from : AreDigits (at + 32) text → AreZeros now
     from digits i lt =
         let a : (slice_index was i == 0) ≡ true = eq-eqb _ _ (tested.1 (λ k small. digits k (omega arith)) i lt) in
         let b : (slice_index more i == 0) ≡ true = others i lt ∙ ap is_hex_digit (same i lt) ∙ digits (at + i) (omega arith) in
@@ -140,14 +140,14 @@ all_encoded (b ∷ bytes) (x ∷ y ∷ out) size h =
         let both = h (suc k) (omega arith) in
         (rw two at both.0, rw three at both.1)
 
--- the digits of eight bytes more, which may overlap those before them
-pub eight_more_digits : (bytes out new chunk : List ℕ) (at n : ℕ) → at ≤ n → ((m : ℕ) → m < 8 → slice_index chunk m ≡ slice_index bytes (at + m))
+-- the digits of sixteen bytes more, which may overlap those before them
+pub sixteen_more_digits : (bytes out new chunk : List ℕ) (at n : ℕ) → at ≤ n → ((m : ℕ) → m < 16 → slice_index chunk m ≡ slice_index bytes (at + m))
     → AreEncoded n bytes out
-    → ((k : ℕ) → k < 8 → slice_index new (2 * at + 2 * k) ≡ slice_index lower_digits (slice_index chunk k / 16))
-    → ((k : ℕ) → k < 8 → slice_index new (2 * at + (2 * k + 1)) ≡ slice_index lower_digits (slice_index chunk k % 16))
+    → ((k : ℕ) → k < 16 → slice_index new (2 * at + 2 * k) ≡ slice_index lower_digits (slice_index chunk k / 16))
+    → ((k : ℕ) → k < 16 → slice_index new (2 * at + (2 * k + 1)) ≡ slice_index lower_digits (slice_index chunk k % 16))
     → ((k : ℕ) → k < 2 * at → slice_index new k ≡ slice_index out k)
-    → AreEncoded (at + 8) bytes new
-eight_more_digits bytes out new chunk at n le same done high low before k lt = by (leb_tells (suc k) at)
+    → AreEncoded (at + 16) bytes new
+sixteen_more_digits bytes out new chunk at n le same done high low before k lt = by (leb_tells (suc k) at)
   where
     by : ((leb (suc k) at ≡ true) × (suc k ≤ at)) ⊎ ((leb (suc k) at ≡ false) × (at < suc k))
         → (slice_index new (2 * k) ≡ slice_index lower_digits (slice_index bytes k / 16))
@@ -160,6 +160,6 @@ eight_more_digits bytes out new chunk at n le same done high low before k lt = b
         let here : at + m ≡ k = omega (arith, t.1) in
         let even : 2 * at + 2 * m ≡ 2 * k = omega (arith, t.1) in
         let odd : 2 * at + (2 * m + 1) ≡ 2 * k + 1 = omega (arith, t.1) in
-        let small : m < 8 = omega (arith, t.1, lt) in
+        let small : m < 16 = omega (arith, t.1, lt) in
         let byte : slice_index chunk m ≡ slice_index bytes k = same m small ∙ ap (slice_index bytes) here in
         (rw (even, byte) at (high m small), rw (odd, byte) at (low m small))

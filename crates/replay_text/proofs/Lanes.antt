@@ -1,5 +1,5 @@
 -- Vectors lane by lane.
-use Rattle.std.proofs.Common.{arith, refl, ap, sym, ◌∙◌, ◌≡◌, ◌+◌, ◌*◌, ◌-◌, ◌%◌, ◌^◌, ◌<◌, ◌≤◌, ◌++◌, ◌⊎◌, ◌==◌, ◌||◌, ◌&&◌, ◌↔◌, eqb, ltb, not, eqb-true, eq-eqb, ltb-true, ltb-false, w8, Fits, ℕ, zero, suc, List, [], ◌∷◌, Bool, true, false, IsTrue, Some, Ok, length, slice_index, slice_index_or, bit_and}
+use Rattle.std.proofs.Common.{arith, refl, subst, ap, sym, ◌∙◌, ◌≡◌, ◌+◌, ◌*◌, ◌-◌, ◌/◌, ◌%◌, ◌^◌, ◌<◌, ◌≤◌, ◌++◌, ◌⊎◌, ◌==◌, ◌||◌, ◌&&◌, ◌↔◌, eqb, ltb, not, eqb-true, eq-eqb, ltb-true, ltb-false, w8, Fits, ℕ, zero, suc, List, [], ◌∷◌, Bool, true, false, IsTrue, Some, Ok, length, slice_index, slice_index_or, bit_and}
 use Rattle.std.proofs.lemmas.Nat.{and_mask}
 use Rattle.std.proofs.lemmas.Bool.Decides.{leb_tells}
 use Rattle.hex.specs.Hex.{hex_digit_value, is_hex_digit, lower_digits, pair_value}
@@ -11,21 +11,35 @@ use mathlib.Core.List.{map}
 use Rattle.std.proofs.lemmas.List.{get_or_append_left, get_or-append_right, get_or-map, length-map}
 use Rattle.std.proofs.lemmas.Simd.{bitmask_splat}
 
--- what holds of each of eight lanes
-pub eight : (P : ℕ → ℕ → Type 0) (a b c d e f g h : ℕ) → P 0 a → P 1 b → P 2 c → P 3 d → P 4 e → P 5 f → P 6 g → P 7 h
-    → (i : ℕ) → i < 8 → P i (slice_index (a ∷ b ∷ c ∷ d ∷ e ∷ f ∷ g ∷ h ∷ []) i)
-eight P a b c d e f g h p0 p1 p2 p3 p4 p5 p6 p7 zero lt = p0
-eight P a b c d e f g h p0 p1 p2 p3 p4 p5 p6 p7 (suc zero) lt = p1
-eight P a b c d e f g h p0 p1 p2 p3 p4 p5 p6 p7 (suc (suc zero)) lt = p2
-eight P a b c d e f g h p0 p1 p2 p3 p4 p5 p6 p7 (suc (suc (suc zero))) lt = p3
-eight P a b c d e f g h p0 p1 p2 p3 p4 p5 p6 p7 (suc (suc (suc (suc zero)))) lt = p4
-eight P a b c d e f g h p0 p1 p2 p3 p4 p5 p6 p7 (suc (suc (suc (suc (suc zero))))) lt = p5
-eight P a b c d e f g h p0 p1 p2 p3 p4 p5 p6 p7 (suc (suc (suc (suc (suc (suc zero)))))) lt = p6
-eight P a b c d e f g h p0 p1 p2 p3 p4 p5 p6 p7 (suc (suc (suc (suc (suc (suc (suc zero))))))) lt = p7
-eight P a b c d e f g h p0 p1 p2 p3 p4 p5 p6 p7 (suc (suc (suc (suc (suc (suc (suc (suc i)))))))) lt = absurd (omega arith)
+-- so many lanes by their numbers, from that number on
+unfoldable pub lanes_from : (ℕ → ℕ) → ℕ → ℕ → List ℕ
+lanes_from f n zero = []
+lanes_from f n (suc count) = f n ∷ lanes_from f (suc n) count
+
+pub lane_at : (f : ℕ → ℕ) (count n i : ℕ) → i < count → slice_index (lanes_from f n count) i ≡ f (n + i)
+unfolding lanes_from
+lane_at f zero n i lt = absurd (omega arith)
+lane_at f (suc count) n zero lt = ap f (omega arith)
+lane_at f (suc count) n (suc i) lt = lane_at f count (suc n) i (omega arith) ∙ ap f (omega arith)
+
+-- so many pairs of lanes by their numbers, from that number on
+unfoldable pub pairs_from : (f g : ℕ → ℕ) → ℕ → ℕ → List ℕ
+pairs_from f g n zero = []
+pairs_from f g n (suc count) = f n ∷ g n ∷ pairs_from f g (suc n) count
+
+pub pair_at : (f g : ℕ → ℕ) (count n i : ℕ) → i < count
+    → (slice_index (pairs_from f g n count) (2 * i) ≡ f (n + i)) × (slice_index (pairs_from f g n count) (2 * i + 1) ≡ g (n + i))
+unfolding pairs_from
+pair_at f g zero n i lt = absurd (omega arith)
+pair_at f g (suc count) n zero lt = (ap f (omega arith), ap g (omega arith))
+pair_at f g (suc count) n (suc i) lt =
+    let three : 2 * suc i + 1 ≡ suc (suc (2 * i + 1)) = omega arith in
+    let two : 2 * suc i ≡ suc (suc (2 * i)) = omega arith in
+    let later = pair_at f g count (suc n) i (omega arith) in
+    rw (three, two) (later.0 ∙ ap f (omega arith), later.1 ∙ ap g (omega arith))
 
 -- two values put together
-pub joined_at : (v : List ℕ) → length v ≡ 16 → (a b : ℕ) → a < 16 → b < 16 → slice_index v a < 16 → slice_index v b < 16
+pub joined_at : (v : List ℕ) → length v ≡ 32 → (a b : ℕ) → a < 32 → b < 32 → slice_index v a < 16 → slice_index v b < 16
     → (slice_index_or (v ++ v) a 0 * 16 % 256 + slice_index_or (v ++ v) b 0) % 256 ≡ slice_index v a * 16 + slice_index v b
 joined_at v size a b la lb sa sb =
     let ea : slice_index_or (v ++ v) a 0 ≡ slice_index v a = get_or_append_left v v 0 a (omega arith) in
@@ -112,30 +126,24 @@ in_second f g xs n i size lt =
     let over : n + i - n ≡ i = omega arith in
     get_or-append_right (map f xs) (map g xs) n (n + i) 0 (length-map xs f ∙ size) (omega arith) ∙ ap (λ k. slice_index (map g xs) k) over ∙ get_or-map g xs i 0 0 (omega arith)
 
--- what holds of the first lane and of the second of each of eight pairs
-pub eight_pairs : (P Q : ℕ → ℕ → Type 0) (a b c d e f g h a' b' c' d' e' f' g' h' : ℕ)
-    → P 0 a × Q 0 a' → P 1 b × Q 1 b' → P 2 c × Q 2 c' → P 3 d × Q 3 d' → P 4 e × Q 4 e' → P 5 f × Q 5 f' → P 6 g × Q 6 g' → P 7 h × Q 7 h'
-    → (i : ℕ) → i < 8 → P i (slice_index (a ∷ a' ∷ b ∷ b' ∷ c ∷ c' ∷ d ∷ d' ∷ e ∷ e' ∷ f ∷ f' ∷ g ∷ g' ∷ h ∷ h' ∷ []) (2 * i))
-    × Q i (slice_index (a ∷ a' ∷ b ∷ b' ∷ c ∷ c' ∷ d ∷ d' ∷ e ∷ e' ∷ f ∷ f' ∷ g ∷ g' ∷ h ∷ h' ∷ []) (2 * i + 1))
-eight_pairs P Q a b c d e f g h a' b' c' d' e' f' g' h' p0 p1 p2 p3 p4 p5 p6 p7 zero lt = p0
-eight_pairs P Q a b c d e f g h a' b' c' d' e' f' g' h' p0 p1 p2 p3 p4 p5 p6 p7 (suc zero) lt = p1
-eight_pairs P Q a b c d e f g h a' b' c' d' e' f' g' h' p0 p1 p2 p3 p4 p5 p6 p7 (suc (suc zero)) lt = p2
-eight_pairs P Q a b c d e f g h a' b' c' d' e' f' g' h' p0 p1 p2 p3 p4 p5 p6 p7 (suc (suc (suc zero))) lt = p3
-eight_pairs P Q a b c d e f g h a' b' c' d' e' f' g' h' p0 p1 p2 p3 p4 p5 p6 p7 (suc (suc (suc (suc zero)))) lt = p4
-eight_pairs P Q a b c d e f g h a' b' c' d' e' f' g' h' p0 p1 p2 p3 p4 p5 p6 p7 (suc (suc (suc (suc (suc zero))))) lt = p5
-eight_pairs P Q a b c d e f g h a' b' c' d' e' f' g' h' p0 p1 p2 p3 p4 p5 p6 p7 (suc (suc (suc (suc (suc (suc zero)))))) lt = p6
-eight_pairs P Q a b c d e f g h a' b' c' d' e' f' g' h' p0 p1 p2 p3 p4 p5 p6 p7 (suc (suc (suc (suc (suc (suc (suc zero))))))) lt = p7
-eight_pairs P Q a b c d e f g h a' b' c' d' e' f' g' h' p0 p1 p2 p3 p4 p5 p6 p7 (suc (suc (suc (suc (suc (suc (suc (suc i)))))))) lt = absurd (omega arith)
-
 -- two vectors computed from one, lane by lane in turns
-pub in_turns : (f g : ℕ → ℕ) (xs : List ℕ) → length xs ≡ 8
+pub in_turns : (f g : ℕ → ℕ) (xs : List ℕ) → length xs ≡ 16
     → let l : ℕ → ℕ = λ k. slice_index_or (map f xs ++ map g xs) k 0 in
-    let all : List ℕ = l 0 ∷ l 8 ∷ l 1 ∷ l 9 ∷ l 2 ∷ l 10 ∷ l 3 ∷ l 11 ∷ l 4 ∷ l 12 ∷ l 5 ∷ l 13 ∷ l 6 ∷ l 14 ∷ l 7 ∷ l 15 ∷ [] in
-    (i : ℕ) → i < 8 → (slice_index all (2 * i) ≡ f (slice_index xs i)) × (slice_index all (2 * i + 1) ≡ g (slice_index xs i))
-in_turns f g xs size =
-    let at : (i : ℕ) → i < 8 → (slice_index_or (map f xs ++ map g xs) i 0 ≡ f (slice_index xs i)) × (slice_index_or (map f xs ++ map g xs) (8 + i) 0 ≡ g (slice_index xs i)) = λ i lt. (in_first f g xs i (omega arith), in_second f g xs 8 i size lt) in
-    eight_pairs (λ i x. x ≡ f (slice_index xs i)) (λ i x. x ≡ g (slice_index xs i)) _ _ _ _ _ _ _ _ _ _ _ _ _ _ _ _
-    (at 0 (omega arith)) (at 1 (omega arith)) (at 2 (omega arith)) (at 3 (omega arith)) (at 4 (omega arith)) (at 5 (omega arith)) (at 6 (omega arith)) (at 7 (omega arith))
+    let all : List ℕ = pairs_from l (λ k. l (16 + k)) 0 16 in
+    (i : ℕ) → i < 16 → (slice_index all (2 * i) ≡ f (slice_index xs i)) × (slice_index all (2 * i + 1) ≡ g (slice_index xs i))
+in_turns f g xs size i lt =
+    let l : ℕ → ℕ = λ k. slice_index_or (map f xs ++ map g xs) k 0 in
+    let both = pair_at l (λ k. l (16 + k)) 16 0 i lt in
+    (both.0 ∙ ap l (omega arith) ∙ in_first f g xs i (omega arith), both.1 ∙ ap l (omega arith) ∙ in_second f g xs 16 i size lt)
+
+-- what holds of each lane with an even number, and of each with an odd one
+pub even_and_odd : (P : ℕ → Type 0) → ((k : ℕ) → k < 16 → P (2 * k)) → ((k : ℕ) → k < 16 → P (2 * k + 1)) → (i : ℕ) → i < 32 → P i
+even_and_odd P even odd i lt = by (i % 2) refl
+  where
+    by : (r : ℕ) → i % 2 ≡ r → P i
+    by zero e = subst P (omega (arith, e)) (even (i / 2) (omega arith))
+    by (suc zero) e = subst P (omega (arith, e)) (odd (i / 2) (omega arith))
+    by (suc (suc r)) e = absurd (omega (arith, e))
 
 -- ---- tests of lanes
 
@@ -225,9 +233,9 @@ no_bits zero (x ∷ xs) size = absurd (omega arith)
 no_bits (suc n) (x ∷ xs) size = no_more n x xs (no_bits n xs (omega arith))
 
 -- no lane is more than 0
-pub none_more : (xs : List ℕ) → length xs ≡ 16
-    → (eqb (mask_l (map (top 7) (zip2 (λ a b. cond (not (eqb a b)) 255 0) xs (replicate 16 0))) % 2 ^ 64) 0 ≡ true) ↔ ((i : ℕ) → i < 16 → slice_index xs i ≡ 0)
+pub none_more : (xs : List ℕ) → length xs ≡ 32
+    → (eqb (mask_l (map (top 7) (zip2 (λ a b. cond (not (eqb a b)) 255 0) xs (replicate 32 0))) % 2 ^ 64) 0 ≡ true) ↔ ((i : ℕ) → i < 32 → slice_index xs i ≡ 0)
 none_more xs size =
-    let mask = bitmask_splat w8 (λ a b. not (eqb a b)) xs 16 0 size (omega arith) in
-    let zeros = no_bits 16 xs size in
+    let mask = bitmask_splat w8 (λ a b. not (eqb a b)) xs 32 0 size (omega arith) in
+    let zeros = no_bits 32 xs size in
     (λ e. zeros.0 (sym mask ∙ eqb-true _ _ e), λ h. eq-eqb _ _ (mask ∙ zeros.1 h))

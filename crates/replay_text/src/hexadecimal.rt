@@ -13,10 +13,10 @@ use std::simd::prelude::*;
 const CHUNK: usize = 32;
 
 /// So many bytes are read or written as digits at once.
-const BYTES: usize = 8;
+const BYTES: usize = 16;
 
 /// So many digits these have.
-const DIGITS: usize = 16;
+const DIGITS: usize = 32;
 
 // 0 of a digit in either case, and more of any other byte.
 fn past_digits(byte: u8) -> u8
@@ -97,33 +97,33 @@ fn decode_few(text: &[u8], out: &mut [u8])
     }
 }
 
-// 0 at each of sixteen places where a byte is `first` or one of the next `more`, and more where another byte is.
+// 0 at each of 32 places where a byte is `first` or one of the next `more`, and more where another byte is.
 #[inline(always)]
-fn past_range(bytes: u8x16, first: u8, more: u8) -> u8x16
-    ensures { (i : ℕ) → i < 16 → slice_index result i ≡ (slice_index bytes i + (256 - first)) % 256 - more }
+fn past_range(bytes: u8x32, first: u8, more: u8) -> u8x32
+    ensures { (i : ℕ) → i < 32 → slice_index result i ≡ (slice_index bytes i + (256 - first)) % 256 - more }
 {
-    (bytes - u8x16::splat(first)).saturating_sub(u8x16::splat(more))
+    (bytes - u8x32::splat(first)).saturating_sub(u8x32::splat(more))
 }
 
 // 0 where one of two lanes is 0.
 #[inline(always)]
-fn zero_in_one(a: u8x16, b: u8x16) -> u8x16
-    ensures { (i : ℕ) → i < 16 → (slice_index result i == 0) ≡ (slice_index a i == 0 || slice_index b i == 0) }
+fn zero_in_one(a: u8x32, b: u8x32) -> u8x32
+    ensures { (i : ℕ) → i < 32 → (slice_index result i == 0) ≡ (slice_index a i == 0 || slice_index b i == 0) }
 {
     a.simd_min(b)
 }
 
 // 0 where both of two lanes are 0.
 #[inline(always)]
-fn zero_in_both(a: u8x16, b: u8x16) -> u8x16
-    ensures { (i : ℕ) → i < 16 → (slice_index result i == 0) ≡ (slice_index a i == 0 && slice_index b i == 0) }
+fn zero_in_both(a: u8x32, b: u8x32) -> u8x32
+    ensures { (i : ℕ) → i < 32 → (slice_index result i == 0) ≡ (slice_index a i == 0 && slice_index b i == 0) }
 {
     a.simd_max(b)
 }
 
-// 0 at each of sixteen places where a digit is, in either case, and more where another byte is.
-fn non_digits(digits: u8x16) -> u8x16
-    ensures { (i : ℕ) → i < 16 → (slice_index result i == 0) ≡ is_hex_digit (slice_index digits i) }
+// 0 at each of 32 places where a digit is, in either case, and more where another byte is.
+fn non_digits(digits: u8x32) -> u8x32
+    ensures { (i : ℕ) → i < 32 → (slice_index result i == 0) ≡ is_hex_digit (slice_index digits i) }
 {
     let decimal = past_range(digits, b'0', 9);
     let capital = past_range(digits, b'A', 5);
@@ -131,31 +131,31 @@ fn non_digits(digits: u8x16) -> u8x16
     zero_in_one(zero_in_one(decimal, capital), small)
 }
 
-// The values of sixteen digits, in either case. At another byte it is any value.
-fn values_of(digits: u8x16) -> u8x16
-    ensures values { (i : ℕ) → i < 16 → IsTrue (is_hex_digit (slice_index digits i))
+// The values of 32 digits, in either case. At another byte it is any value.
+fn values_of(digits: u8x32) -> u8x32
+    ensures values { (i : ℕ) → i < 32 → IsTrue (is_hex_digit (slice_index digits i))
         → (hex_digit_value (slice_index digits i) ≡ Some (slice_index result i)) × (slice_index result i < 16) }
 {
-    let is_letter = digits.simd_ge(u8x16::splat(b'A' - 1));
-    let more = is_letter.select(u8x16::splat(9), u8x16::splat(0));
-    (digits & u8x16::splat(15)) + more
+    let is_letter = digits.simd_ge(u8x32::splat(b'A' - 1));
+    let more = is_letter.select(u8x32::splat(9), u8x32::splat(0));
+    (digits & u8x32::splat(15)) + more
 }
 
 // Each two values below 16 as one byte, the high four bits first.
-fn joined(values: u8x16) -> u8x8
-    ensures { (i : ℕ) → i < 8 → slice_index values (2 * i) < 16 → slice_index values (2 * i + 1) < 16
+fn joined(values: u8x32) -> u8x16
+    ensures { (i : ℕ) → i < 16 → slice_index values (2 * i) < 16 → slice_index values (2 * i + 1) < 16
         → slice_index result i ≡ slice_index values (2 * i) * 16 + slice_index values (2 * i + 1) }
 {
-    let high = values.swizzle([0, 2, 4, 6, 8, 10, 12, 14]);
-    let low = values.swizzle([1, 3, 5, 7, 9, 11, 13, 15]);
-    high * u8x8::splat(16) + low
+    let high = values.swizzle([0, 2, 4, 6, 8, 10, 12, 14, 16, 18, 20, 22, 24, 26, 28, 30]);
+    let low = values.swizzle([1, 3, 5, 7, 9, 11, 13, 15, 17, 19, 21, 23, 25, 27, 29, 31]);
+    high * u8x16::splat(16) + low
 }
 
-// Puts the bytes that sixteen digits spell at a place of the room. Of other bytes it puts any bytes.
-fn put_bytes_of(digits: u8x16, out: &mut [u8], at: usize)
-    requires room { at + 8 ≤ length out.old }
+// Puts the bytes that 32 digits spell at a place of the room. Of other bytes it puts any bytes.
+fn put_bytes_of(digits: u8x32, out: &mut [u8], at: usize)
+    requires room { at + 16 ≤ length out.old }
     ensures size { length out.new ≡ length out.old }
-    ensures bytes { (k : ℕ) → k < 8 → IsTrue (is_hex_digit (slice_index digits (2 * k))) → IsTrue (is_hex_digit (slice_index digits (2 * k + 1)))
+    ensures bytes { (k : ℕ) → k < 16 → IsTrue (is_hex_digit (slice_index digits (2 * k))) → IsTrue (is_hex_digit (slice_index digits (2 * k + 1)))
         → (i : ℕ) → pair_value (slice_index digits (2 * k)) (slice_index digits (2 * k + 1)) i ≡ Ok (slice_index out.new (at + k)) }
     ensures before { (k : ℕ) → k < at → slice_index out.new k ≡ slice_index out.old k }
 {
@@ -163,30 +163,30 @@ fn put_bytes_of(digits: u8x16, out: &mut [u8], at: usize)
 }
 
 // Whether all lanes are 0.
-fn are_zeros(lanes: u8x16) -> bool
-    ensures { (result ≡ true) ↔ ((i : ℕ) → i < 16 → slice_index lanes i ≡ 0) }
+fn are_zeros(lanes: u8x32) -> bool
+    ensures { (result ≡ true) ↔ ((i : ℕ) → i < 32 → slice_index lanes i ≡ 0) }
 {
-    lanes.simd_ne(u8x16::splat(0)).to_bitmask() == 0
+    lanes.simd_ne(u8x32::splat(0)).to_bitmask() == 0
 }
 
-// Whether a text of sixteen digits or more is digits. Then it puts the bytes that they spell into room for them, eight at a time.
-// The last eight may overlap those before them, so that no few are left over.
+// Whether a text of 32 digits or more is digits. Then it puts the bytes that they spell into room for them, sixteen at a time.
+// The last sixteen may overlap those before them, so that no few are left over.
 fn decode_into(text: &[u8], last: &[u8; DIGITS], out: &mut [u8]) -> bool
-    requires last { last.now ≡ drop (length text.now - 16) text.now }
-    requires long { 16 ≤ length text.now }
+    requires last { last.now ≡ drop (length text.now - 32) text.now }
+    requires long { 32 ≤ length text.now }
     requires room { length text.now ≡ 2 * length out.old }
     ensures digits { result ≡ list_all is_hex_digit text.now }
     ensures bytes { result ≡ true → decode_of text.now ≡ Ok out.new }
 {
     let (chunks, _) = text.as_chunks::<DIGITS>();
-    let mut others = u8x16::splat(0);
+    let mut others = u8x32::splat(0);
     for i in 0..chunks.len() {
-        let digits = u8x16::from_array(chunks[i]);
+        let digits = u8x32::from_array(chunks[i]);
         others = zero_in_both(others, non_digits(digits));
         put_bytes_of(digits, out, BYTES * i);
     }
     let end = out.len() - BYTES;
-    let digits = u8x16::from_array(*last);
+    let digits = u8x32::from_array(*last);
     put_bytes_of(digits, out, end);
     are_zeros(zero_in_both(others, non_digits(digits)))
 }
@@ -250,37 +250,43 @@ fn encode_few(bytes: &[u8], out: &mut [u8])
 }
 
 // The values of the two digits of each byte, the high four bits first.
-fn spread(bytes: u8x8) -> u8x16
-    ensures high { (i : ℕ) → i < 8 → slice_index result (2 * i) ≡ slice_index bytes i / 16 }
-    ensures low { (i : ℕ) → i < 8 → slice_index result (2 * i + 1) ≡ slice_index bytes i % 16 }
+fn spread(bytes: u8x16) -> u8x32
+    ensures high { (i : ℕ) → i < 16 → slice_index result (2 * i) ≡ slice_index bytes i / 16 }
+    ensures low { (i : ℕ) → i < 16 → slice_index result (2 * i + 1) ≡ slice_index bytes i % 16 }
 {
-    let high = bytes >> u8x8::splat(4);
-    let low = bytes & u8x8::splat(15);
-    high.shuffle(low, [0, 8, 1, 9, 2, 10, 3, 11, 4, 12, 5, 13, 6, 14, 7, 15])
+    let high = bytes >> u8x16::splat(4);
+    let low = bytes & u8x16::splat(15);
+    high.shuffle(
+        low,
+        [
+            0, 16, 1, 17, 2, 18, 3, 19, 4, 20, 5, 21, 6, 22, 7, 23, 8, 24, 9, 25, 10, 26, 11, 27,
+            12, 28, 13, 29, 14, 30, 15, 31,
+        ],
+    )
 }
 
-// The digits of sixteen values.
-fn digits_of(values: u8x16) -> u8x16
-    requires { (i : ℕ) → i < 16 → slice_index values i < 16 }
-    ensures { (i : ℕ) → i < 16 → slice_index result i ≡ slice_index lower_digits (slice_index values i) }
+// The digits of 32 values.
+fn digits_of(values: u8x32) -> u8x32
+    requires { (i : ℕ) → i < 32 → slice_index values i < 16 }
+    ensures { (i : ℕ) → i < 32 → slice_index result i ≡ slice_index lower_digits (slice_index values i) }
 {
-    let is_letter = values.simd_ge(u8x16::splat(10));
-    values + is_letter.select(u8x16::splat(b'a' - 10), u8x16::splat(b'0'))
+    let is_letter = values.simd_ge(u8x32::splat(10));
+    values + is_letter.select(u8x32::splat(b'a' - 10), u8x32::splat(b'0'))
 }
 
-// Puts the digits of eight bytes at a place of the room.
+// Puts the digits of sixteen bytes at a place of the room.
 fn put_digits_of(bytes: &[u8; BYTES], out: &mut [u8], at: usize)
-    requires room { at + 16 ≤ length out.old }
+    requires room { at + 32 ≤ length out.old }
     ensures size { length out.new ≡ length out.old }
-    ensures high { (k : ℕ) → k < 8 → slice_index out.new (at + 2 * k) ≡ slice_index lower_digits (slice_index bytes.now k / 16) }
-    ensures low { (k : ℕ) → k < 8 → slice_index out.new (at + (2 * k + 1)) ≡ slice_index lower_digits (slice_index bytes.now k % 16) }
+    ensures high { (k : ℕ) → k < 16 → slice_index out.new (at + 2 * k) ≡ slice_index lower_digits (slice_index bytes.now k / 16) }
+    ensures low { (k : ℕ) → k < 16 → slice_index out.new (at + (2 * k + 1)) ≡ slice_index lower_digits (slice_index bytes.now k % 16) }
     ensures before { (k : ℕ) → k < at → slice_index out.new k ≡ slice_index out.old k }
 {
-    let digits = digits_of(spread(u8x8::from_array(*bytes)));
+    let digits = digits_of(spread(u8x16::from_array(*bytes)));
     digits.copy_to_slice(&mut out[at..]);
 }
 
-// Puts the digits of bytes into room for them, those of eight bytes at a time. The last eight may overlap those before them.
+// Puts the digits of bytes into room for them, those of sixteen bytes at a time. The last sixteen may overlap those before them.
 fn encode_into(bytes: &[u8], out: &mut [u8])
     requires { length out.old ≡ 2 * length bytes.now }
     ensures { out.new ≡ encode_lower bytes.now }

@@ -15,7 +15,7 @@ use crate::operands::{
 };
 use crate::scans::is_ascii;
 use crate::script::MAX_LINE;
-use crate::words::{first_word, four_words, three_words, two_words};
+use crate::words::{first_word, four_words, is_word, three_words, two_words};
 use admin_text::{TextFault, parse_command};
 use common_types::{Boxed, Name, ReadError};
 use floor_core::{Octets, Step};
@@ -157,15 +157,15 @@ fn read_behind<'a>(
     ensures { option_and_then step_of_spelled (result_ok result)
         ≡ step_behind parties.entry.names.now parties.entry.workers verb.now (words_left (option_copied words.entry)) }
 {
-    if verb == b"load".as_slice() {
+    if is_word(verb, b"load") {
         read_load(parties, words)
-    } else if verb == b"decide".as_slice() {
+    } else if is_word(verb, b"decide") {
         read_decide(parties, words)
-    } else if verb == b"answer".as_slice() {
+    } else if is_word(verb, b"answer") {
         read_answer(parties, words)
-    } else if verb == b"tick".as_slice() {
+    } else if is_word(verb, b"tick") {
         read_tick(parties, words)
-    } else if verb == b"do".as_slice() {
+    } else if is_word(verb, b"do") {
         read_do(parties, words)
     } else {
         Err(LineFault::NoVerb(verb))
@@ -201,6 +201,7 @@ fn read_words<'a>(
 
 /// What a line spells, `None` if it is skipped; or why it is bad. A last word that takes room is not read yet.
 #[tactic(auto, unfolding(crate::specs::Script::meaning_of))]
+#[inline(always)]
 pub(crate) fn read_line<'a>(
     parties: Parties<'_>,
     line: &'a [u8],

@@ -12,6 +12,7 @@ use crate::causes::{LineFault, Operand, Verb};
 use crate::hexadecimal::{are_digits, decode, spells_bytes};
 use crate::numbers::number_below;
 use crate::scans::place_of;
+use crate::words::is_word;
 use common_types::{Name, is_numeral, is_token};
 use floor_core::{Octets, PeerAnswer};
 use ilp_addr::Moment;
@@ -34,6 +35,7 @@ fn number_fault(operand: Operand, word: &[u8], most: u64) -> LineFault<'_> {
 }
 
 /// The number of a worker.
+#[inline(always)]
 pub(crate) fn worker_of<'a>(parties: Parties<'_>, word: &'a [u8]) -> Result<usize, LineFault<'a>>
     ensures { result_ok result ≡ number_below parties.entry.workers word.now }
 {
@@ -57,6 +59,7 @@ fn place_of_name(names: &[Name], word: &[u8]) -> Option<usize>
 }
 
 /// The number of the first tenant of that name.
+#[inline(always)]
 pub(crate) fn tenant_of<'a>(parties: Parties<'_>, word: &'a [u8]) -> Result<usize, LineFault<'a>>
     ensures { result_ok result ≡ tenant_named parties.entry.names.now word.now }
 {
@@ -92,6 +95,7 @@ fn moment_spelled(word: &[u8]) -> Option<Moment>
 }
 
 /// The moment that a word spells.
+#[inline(always)]
 pub(crate) fn moment_of(verb: Verb, word: &[u8]) -> Result<Moment, LineFault<'_>>
     ensures { result_ok result ≡ moment_spelled word.now }
 {
@@ -118,7 +122,7 @@ fn bytes_fault(verb: Verb, operand: Operand, word: &[u8]) -> LineFault<'_> {
 fn digits_of(word: &[u8]) -> Option<&[u8]>
     ensures { frame_word word.now ≡ option_and_then (λ digits. result_ok (decode_of digits)) (option_copied result) }
 {
-    if word == b"-".as_slice() {
+    if is_word(word, b"-") {
         return Some(&[]);
     }
     (!word.is_empty()).then_some(word)

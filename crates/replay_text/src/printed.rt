@@ -166,6 +166,7 @@ pub fn put_answer(
 }
 
 // The tenant's name, and words after it.
+#[inline(always)]
 fn put_named(
     names: &[Name],
     tenant: usize,

@@ -31,6 +31,7 @@ fn place_among(byte: u8, bytes: &[u8; NEAR]) -> usize
 }
 
 /// The same as `place_of`, faster where that byte is among the first few of a longer text.
+#[inline(always)]
 pub(crate) fn near_place_of(byte: u8, bytes: &[u8]) -> Option<usize>
     ensures { result ≡ position (λ b. b == byte) bytes.now }
 {

@@ -1,10 +1,22 @@
 //! Lines and words, taken off the front of a text.
 
 ghost use Rattle.std.specs.Prelude.{◌≡◌, ◌≢◌, ◌<◌, ◌∷◌, ◌++◌, [], ℕ, List, length, option_copied, IfSome, MatchOption};
+ghost use Rattle.std.specs.Str.{bytes_eq};
 ghost use Rattle.common_types.specs.Words.{words_of, words_left};
 ghost use Rattle.replay_text.specs.Script.{lines_of};
 
 use crate::scans::{near_place_of, place_of};
+
+/// Whether a word is this one. Its length is known, so the bytes are compared at once.
+#[inline(always)]
+pub(crate) fn is_word<const N: usize>(word: &[u8], known: &[u8; N]) -> bool
+    ensures { result ≡ bytes_eq word.now known.now }
+{
+    match <&[u8; N]>::try_from(word) {
+        Ok(word) => word == known,
+        Err(_) => false,
+    }
+}
 
 /// The first line of a text that is not empty, without its end, and what follows it.
 pub(crate) fn first_line(text: &[u8]) -> (&[u8], &[u8])
@@ -30,6 +42,7 @@ pub(crate) fn ended_line(text: &[u8]) -> Option<(&[u8], &[u8])>
 }
 
 /// The first word of a text, and what follows the space after it.
+#[inline(always)]
 pub(crate) fn first_word(text: &[u8]) -> (&[u8], Option<&[u8]>)
     ensures value { words_of text.now ≡ result.0.now ∷ words_left (option_copied result.1) }
 {
@@ -40,6 +53,7 @@ pub(crate) fn first_word(text: &[u8]) -> (&[u8], Option<&[u8]>)
 }
 
 /// Two words: the second is all that follows the first.
+#[inline(always)]
 pub(crate) fn two_words(words: Option<&[u8]>) -> Option<(&[u8], &[u8])>
     ensures { MatchOption result (length (words_left (option_copied words.entry)) < 2)
         (λ w. words_left (option_copied words.entry) ≡ w.0.now ∷ words_of w.1.now) }
@@ -49,6 +63,7 @@ pub(crate) fn two_words(words: Option<&[u8]>) -> Option<(&[u8], &[u8])>
 }
 
 /// Three words: the third is all that follows the second.
+#[inline(always)]
 pub(crate) fn three_words(words: Option<&[u8]>) -> Option<(&[u8], &[u8], &[u8])>
     ensures { MatchOption result (length (words_left (option_copied words.entry)) < 3)
         (λ w. words_left (option_copied words.entry) ≡ w.0.now ∷ w.1.now ∷ words_of w.2.now) }
@@ -59,6 +74,7 @@ pub(crate) fn three_words(words: Option<&[u8]>) -> Option<(&[u8], &[u8], &[u8])>
 }
 
 /// Four words: the fourth is all that follows the third.
+#[inline(always)]
 pub(crate) fn four_words(words: Option<&[u8]>) -> Option<(&[u8], &[u8], &[u8], &[u8])>
     ensures { MatchOption result (length (words_left (option_copied words.entry)) < 4)
         (λ w. words_left (option_copied words.entry) ≡ w.0.now ∷ w.1.now ∷ w.2.now ∷ words_of w.3.now) }

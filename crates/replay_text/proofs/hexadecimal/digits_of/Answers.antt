@@ -5,4 +5,4 @@ use Rattle.replay_text.proofs.hexadecimal.digits_of.Goals as goal
 
 pub returns : goal.returns
 returns c i lt =
-    rw (lanes_added _ _ _ 10 87 48 16 c.args.values c.fits-values.0, get_or-map digit_lane c.args.values i 0 0 (omega arith)) (digit_is (slice_index c.args.values i) (c.requires i lt))
+    rw (lanes_added _ _ _ 10 87 48 32 c.args.values c.fits-values.0, get_or-map digit_lane c.args.values i 0 0 (omega arith)) (digit_is (slice_index c.args.values i) (c.requires i lt))

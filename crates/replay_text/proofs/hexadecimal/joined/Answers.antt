@@ -1,11 +1,10 @@
-use Rattle.std.proofs.Common.{arith, ◌≡◌, ◌*◌, ◌+◌, ◌<◌, slice_index}
-use Rattle.replay_text.proofs.Lanes.{eight, joined_at}
+use Rattle.std.proofs.Common.{arith, ap, ◌*◌, ◌+◌, ◌%◌, ◌++◌, ◌∙◌, ℕ, slice_index_or}
+use Rattle.replay_text.proofs.Lanes.{lane_at, lanes_from, joined_at}
 use Rattle.replay_text.proofs.hexadecimal.joined.Goals as goal
 
 pub returns : goal.returns
-returns c =
+unfolding lanes_from
+returns c i lt high low =
     let v = c.args.values in
-    let at = joined_at v c.fits-values.0 in
-    eight (λ i x. slice_index v (2 * i) < 16 → slice_index v (2 * i + 1) < 16 → x ≡ slice_index v (2 * i) * 16 + slice_index v (2 * i + 1)) _ _ _ _ _ _ _ _
-    (at 0 1 (omega arith) (omega arith)) (at 2 3 (omega arith) (omega arith)) (at 4 5 (omega arith) (omega arith)) (at 6 7 (omega arith) (omega arith))
-    (at 8 9 (omega arith) (omega arith)) (at 10 11 (omega arith) (omega arith)) (at 12 13 (omega arith) (omega arith)) (at 14 15 (omega arith) (omega arith))
+    let at : ℕ → ℕ = λ i. (slice_index_or (v ++ v) (2 * i) 0 * 16 % 256 + slice_index_or (v ++ v) (2 * i + 1) 0) % 256 in
+    lane_at at 16 0 i lt ∙ ap at (omega arith) ∙ joined_at v c.fits-values.0 (2 * i) (2 * i + 1) (omega arith) (omega arith) high low

@@ -1,7 +1,14 @@
-use Rattle.std.proofs.Common.{arith, ◌*◌, ◌+◌, ◌∙◌, ap, slice_index}
+use Rattle.std.proofs.Common.{arith, ◌*◌, ◌+◌, ◌<◌, ◌∙◌, ap, slice_index}
 use Rattle.std.proofs.lemmas.Simd.{get_or-put_chunk_at, get_or-put_chunk_below}
 use Rattle.hex.specs.Hex.{lower_digits}
+use Rattle.replay_text.proofs.Lanes.{even_and_odd}
 use Rattle.replay_text.proofs.hexadecimal.put_digits_of.Goals as goal
+
+pub digits_of-digits-requires : goal.digits_of-digits-requires
+digits_of-digits-requires c =
+    even_and_odd (λ i. slice_index c.spread.result i < 16)
+    (λ k lt. rw (c.spread.ensures.high k lt) (omega (arith, c.fits-bytes k)))
+    (λ k lt. rw (c.spread.ensures.low k lt) (omega arith))
 
 pub returns-clause-high : goal.returns-clause-high
 returns-clause-high c k lt =
