@@ -1,3 +1,5 @@
 pub mod Splits
 pub mod Decimals
 pub mod Tables
+pub mod BigEndian
+pub mod Ordered

@@ -15,6 +15,7 @@ mod listing;
 mod within;
 
 use crate::hop::{Hop, PeerNo};
+use common_types::order_of;
 use ilp_addr::Segments;
 use std::alloc::{AllocError, Global};
 use std::marker::Model;
@@ -243,7 +244,7 @@ fn search(children: &[Child], segment: &[u8]) -> Result<usize, usize>
     ensures position { IsBinarySearchResult (λ c. slice_cmp nat_cmp c.segment.items segment.now)
         children.now result }
 {
-    children.binary_search_by(|child| child.segment.as_slice().cmp(segment))
+    children.binary_search_by(|child| order_of(child.segment.as_slice(), segment))
 }
 
 // Most nodes have one child, so the first takes no more room than it needs.

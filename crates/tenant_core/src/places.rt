@@ -12,7 +12,7 @@ ghost use Rattle.tenant_core.specs.Places.{IsByToken, IsFreePlace, token_at, IsB
 
 use crate::peer::Peer;
 use crate::terms::{PeerTerms, RateTerms};
-use common_types::Name;
+use common_types::{Name, order_of};
 use route_table::PeerNo;
 use std::cmp::Ordering;
 
@@ -39,7 +39,7 @@ pub fn search_token(peers: &[Peer], order: &[u16], token: &[u8]) -> Result<usize
     ensures range { IsSearchInRange result (length order.now) }
     ensures position { IsBinarySearchResult (λ p. slice_cmp nat_cmp (token_at peers.now p) token.now) order.now result }
 {
-    order.binary_search_by(|place| token_at(peers, *place).cmp(token))
+    order.binary_search_by(|place| order_of(token_at(peers, *place), token))
 }
 
 fn has_name(peers: &[Peer], name: &Name) -> bool
