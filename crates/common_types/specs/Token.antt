@@ -3,12 +3,6 @@ use Rattle.std.specs.Prelude.{ℕ, List, length, Bool, ◌&&◌, ◌||◌, ◌==
 use Rattle.std.specs.List.{list_all, list_any}
 use Rattle.common_types.specs.Numbers.{is_between}
 
--- letters, digits and `-_~`
-abbrev pub is_plain_byte : ℕ → Bool
-is_plain_byte b =
-    is_between 97 122 b || is_between 65 90 b || is_between 48 57 b
-    || (b == 95) || (b == 126) || (b == 45)
-
 -- letters, digits and `-._~+/=`
 abbrev pub is_token_byte : ℕ → Bool
 is_token_byte b =

@@ -31,5 +31,5 @@ pub use order::order_of;
 pub use read_error::ReadError;
 pub use spare::Spare;
 pub use text::Text;
-pub use token::{MAX_TOKEN, is_plain_byte, is_token};
+pub use token::{MAX_TOKEN, is_token};
 pub use words::{Words, first_word};

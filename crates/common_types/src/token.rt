@@ -2,16 +2,15 @@
 
 ghost use Rattle.std.specs.Prelude.{◌≡◌};
 ghost use Rattle.std.specs.List.{list_all};
-ghost use Rattle.common_types.specs.Token.{is_plain_byte, is_token_byte, is_token};
+ghost use Rattle.common_types.specs.Token.{is_token_byte, is_token};
 
 /// The most bytes of a token.
 pub const MAX_TOKEN: usize = 64;
 
-// At the index of a letter, a digit, `-`, `_` or `~` is the byte itself, and at that of another byte that a token may have an
-// exclamation mark. Any other index has a comma.
+// At the index of a byte that a token may have is the byte itself. Any other index has a comma.
 static BYTE_MAP: [u8; 256] = *b"\
     ,,,,,,,,,,,,,,,,,,,,,,,,,,,,,,,,\
-    ,,,,,,,,,,,!,-!!0123456789,,,!,,\
+    ,,,,,,,,,,,+,-./0123456789,,,=,,\
     ,ABCDEFGHIJKLMNOPQRSTUVWXYZ,,,,_\
     ,abcdefghijklmnopqrstuvwxyz,,,~,\
     ,,,,,,,,,,,,,,,,,,,,,,,,,,,,,,,,\
@@ -23,13 +22,6 @@ fn is_token_byte(b: u8) -> bool
     ensures { result ≡ is_token_byte b }
 {
     BYTE_MAP[b as usize] != b','
-}
-
-/// Whether the byte is a letter, a digit, `-`, `_` or `~`.
-pub fn is_plain_byte(b: u8) -> bool
-    ensures { result ≡ is_plain_byte b }
-{
-    BYTE_MAP[b as usize] > b','
 }
 
 // It goes on after a byte that no token may have.

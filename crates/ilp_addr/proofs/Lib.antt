@@ -10,3 +10,4 @@ pub mod Ends
 pub mod Targets
 pub mod Addresses
 pub mod Runs
+pub mod Marks

@@ -1,12 +1,10 @@
 //! The parts of an address between its dots (RFC 0015).
 
-ghost use Rattle.std.specs.Prelude.{◌≡◌, ◌∷◌, [], MatchOption};
+ghost use Rattle.std.specs.Prelude.{◌≡◌, ◌==◌, ◌∷◌, [], MatchOption, if◌then◌else◌};
 ghost use Rattle.std.specs.List.{list_all};
 ghost use Rattle.std.specs.Iterator.{item_count};
 ghost use Rattle.ilp_addr.specs.Address as spec;
-ghost use Rattle.ilp_addr.specs.Address.{segments, prefix_segments, begins_with};
-
-use common_types::is_plain_byte;
+ghost use Rattle.ilp_addr.specs.Address.{segments, prefix_segments, begins_with, is_segment_byte};
 
 /// The parts of an address or of a prefix between its dots, the scheme first.
 #[derive(Debug, Drop)]
@@ -80,25 +78,42 @@ pub(crate) fn split_at_dot(bytes: &[u8]) -> Option<(&[u8], &[u8])>
     None
 }
 
-// One pass, without a branch for each byte.
+// At the index of a byte that a segment may have is `0`, at that of a dot `1`, and at any other `2`.
+static KINDS: [u8; 256] = *b"\
+    22222222222222222222222222222222\
+    22222222222220120000000000222222\
+    20000000000000000000000000022220\
+    20000000000000000000000000022202\
+    22222222222222222222222222222222\
+    22222222222222222222222222222222\
+    22222222222222222222222222222222\
+    22222222222222222222222222222222";
+
+/// The kind of a dot.
+const DOT: u8 = b'1';
+
+/// The kind of a byte that no address has.
+const NEITHER: u8 = b'2';
+
+fn kind_of(byte: u8) -> u8
+    ensures { result ≡ (if is_segment_byte byte then 48 else (if byte == 46 then 49 else 50)) }
+{
+    KINDS[byte as usize]
+}
+
+// One pass, without a branch for each byte. Bit 0 says that a dot came first or after a dot, bit 1 that some byte is neither a dot
+// nor one of a segment.
 pub(crate) fn are_segments(bytes: &[u8]) -> bool
     ensures { result ≡ list_all spec.is_segment (segments bytes.now) }
 {
-    let mut all = true;
-    let mut at_begin = true;
+    let mut wrong: u8 = 0;
+    let mut before = DOT;
     for byte in bytes {
-        let is_dot = *byte == b'.';
-        all &= is_segment_byte(*byte) | (is_dot & !at_begin);
-        at_begin = is_dot;
+        let kind = kind_of(*byte);
+        wrong |= kind & (before | NEITHER);
+        before = kind;
     }
-    all & !at_begin
-}
-
-#[tactic(auto, unfolding(crate::specs::Address::is_segment_byte))]
-fn is_segment_byte(byte: u8) -> bool
-    ensures { result ≡ spec.is_segment_byte byte }
-{
-    is_plain_byte(byte)
+    (wrong % 4 == 0) & (before != DOT)
 }
 
 #[tactic(auto, unfolding(crate::specs::Address::is_scheme))]

@@ -1,6 +1,6 @@
 //! The calendar text of a Prepare's expiry (RFC 0027, "ILP Prepare").
 
-ghost use Rattle.std.specs.Prelude.{◌≡◌, ◌≤◌, ◌<◌, ◌+◌, ◌/◌, ◌%◌, ℕ, All, is_some, IfOk, Ok, IfSome, length};
+ghost use Rattle.std.specs.Prelude.{◌≡◌, ◌==◌, ◌≤◌, ◌<◌, ◌+◌, ◌/◌, ◌%◌, ℕ, All, is_some, IfOk, Ok, IfSome, length};
 ghost use Rattle.std.specs.Char.{IsAsciiDigit, is_ascii_digit};
 ghost use Rattle.std.specs.List.{list_all};
 ghost use Rattle.ilp_addr.specs.Timestamp as spec;
@@ -99,10 +99,22 @@ fn ones(number: u32) -> u8
     b'0' + (number % 10) as u8
 }
 
+// 0 of a digit, and more of any other byte.
+fn past_digits(byte: u8) -> u8
+    ensures { (result == 0) ≡ is_ascii_digit byte }
+{
+    byte.wrapping_sub(b'0').saturating_sub(9)
+}
+
+// It goes on after a byte that is no digit, so that many are tested at a time.
 fn are_digits(text: &[u8; 17]) -> bool
     ensures { result ≡ list_all is_ascii_digit text.now }
 {
-    text.iter().all(|byte| byte.is_ascii_digit())
+    let mut worst: u8 = 0;
+    for byte in text {
+        worst = worst.max(past_digits(*byte));
+    }
+    worst == 0
 }
 
 fn digit(text: &[u8], place: usize) -> u8
