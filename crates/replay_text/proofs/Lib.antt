@@ -19,3 +19,4 @@ pub mod Starts
 pub mod Begun
 pub mod Lanes
 pub mod Chunks
+pub mod Eight
