@@ -13,7 +13,7 @@ use Rattle.http_link.specs.Heads.{Head, head_of}
 use Rattle.http_link.specs.Limits.{max_lines}
 use Rattle.http_link.specs.Lines.{head_in}
 use Rattle.http_link.specs.OperatorDoor.{AsksOperatorCame, AsksOperatorSought, IsOperatorAskedOnly, IsOperatorServed, OperatorAsked, OperatorSought, OperatorTraces, RunsOnOperatorHead, ServesOperatorBody}
-use Rattle.http_link.specs.OperatorDoor.{operator_asking, operator_interim, operator_refusal_text, operator_sought_of, operator_text, operator_traces_of}
+use Rattle.http_link.specs.OperatorDoor.{OperatorWanted, admitted, operator_asking, operator_interim, operator_refusal_text, operator_sought_of, operator_text, operator_traces_of}
 use Rattle.http_link.specs.Reading.{HeadIsFound}
 use Rattle.http_link.specs.Running.{held_in}
 use Rattle.http_link.specs.declared.bodies.BodyFault.{BodyFault}
@@ -71,14 +71,14 @@ runs_served (Ok sought) head rest left traces served none runs = by_body runs.so
     )
 
 -- what is done with the head that was found is what serving the stream does
-pub operator_served : (result : Result Served LinkFault) (said : Head) (new left : Option (List ℕ)) (traces : OperatorTraces) (head : RequestHead) (rest : List ℕ)
-    → traces.left ≡ Some [] → (said ≡ head_of head) × (new ≡ Some rest) → IfOk result (RunsOnOperatorHead (operator_sought_of said) said new left traces)
-    → IfOk result (IsOperatorServed (operator_sought_of (head_of head)) (head_of head) rest (leaving left traces))
-operator_served (Ok served) said new left traces head rest none is runs =
-    runs_served (operator_sought_of (head_of head)) (head_of head) rest left traces served none
-    (subst (λ (known : Option (List ℕ)). RunsOnOperatorHead (operator_sought_of (head_of head)) (head_of head) known left traces served) is.1
-    (subst (λ (h : Head). RunsOnOperatorHead (operator_sought_of h) h new left traces served) is.0 runs))
-operator_served (Err fault) said new left traces head rest none is runs = tt
+pub operator_served : (refuses : OperatorWanted → Option ℕ) (result : Result Served LinkFault) (said : Head) (new left : Option (List ℕ)) (traces : OperatorTraces) (head : RequestHead) (rest : List ℕ)
+    → traces.left ≡ Some [] → (said ≡ head_of head) × (new ≡ Some rest) → IfOk result (RunsOnOperatorHead (admitted refuses (operator_sought_of said)) said new left traces)
+    → IfOk result (IsOperatorServed (admitted refuses (operator_sought_of (head_of head))) (head_of head) rest (leaving left traces))
+operator_served refuses (Ok served) said new left traces head rest none is runs =
+    runs_served (admitted refuses (operator_sought_of (head_of head))) (head_of head) rest left traces served none
+    (subst (λ (known : Option (List ℕ)). RunsOnOperatorHead (admitted refuses (operator_sought_of (head_of head))) (head_of head) known left traces served) is.1
+    (subst (λ (h : Head). RunsOnOperatorHead (admitted refuses (operator_sought_of h)) h new left traces served) is.0 runs))
+operator_served refuses (Err fault) said new left traces head rest none is runs = tt
 
 -- only what is wanted is asked
 asks_only : (want : Result OperatorSought OperatorRefusal) (rest : List ℕ) (left : Option (List ℕ)) (Unasked : Type 0) (Asks : OperatorAsked → Type 0)
@@ -101,29 +101,29 @@ unasked_only (Ok sought) rest Unasked Asks none = inl none
 unasked_only (Err refusal) rest Unasked Asks none = none
 
 -- what is asked for the head that was found is what the stream's head wants
-pub operator_only : (said : Head) (new left : Option (List ℕ)) (Unasked : Type 0) (Asks : OperatorAsked → Type 0) (head : RequestHead) (rest : List ℕ)
-    → (said ≡ head_of head) × (new ≡ Some rest) → AsksOperatorSought (operator_sought_of said) new left Unasked Asks
-    → IsOperatorAskedOnly (operator_sought_of (head_of head)) rest Unasked Asks
-operator_only said new left Unasked Asks head rest is asks =
-    asks_only (operator_sought_of (head_of head)) rest left Unasked Asks
-    (subst (λ (known : Option (List ℕ)). AsksOperatorSought (operator_sought_of (head_of head)) known left Unasked Asks) is.1
-    (subst (λ (h : Head). AsksOperatorSought (operator_sought_of h) new left Unasked Asks) is.0 asks))
+pub operator_only : (refuses : OperatorWanted → Option ℕ) (said : Head) (new left : Option (List ℕ)) (Unasked : Type 0) (Asks : OperatorAsked → Type 0) (head : RequestHead) (rest : List ℕ)
+    → (said ≡ head_of head) × (new ≡ Some rest) → AsksOperatorSought (admitted refuses (operator_sought_of said)) new left Unasked Asks
+    → IsOperatorAskedOnly (admitted refuses (operator_sought_of (head_of head))) rest Unasked Asks
+operator_only refuses said new left Unasked Asks head rest is asks =
+    asks_only (admitted refuses (operator_sought_of (head_of head))) rest left Unasked Asks
+    (subst (λ (known : Option (List ℕ)). AsksOperatorSought (admitted refuses (operator_sought_of (head_of head))) known left Unasked Asks) is.1
+    (subst (λ (h : Head). AsksOperatorSought (admitted refuses (operator_sought_of h)) new left Unasked Asks) is.0 asks))
 
 -- and it is what the request asks that came
-pub operator_came : (said : Head) (old mid new : Option (List ℕ)) (room : List ℕ) (there : ℕ) (lines : List HeaderSpan) (spans : RequestSpans)
+pub operator_came : (refuses : OperatorWanted → Option ℕ) (said : Head) (old mid new : Option (List ℕ)) (room : List ℕ) (there : ℕ) (lines : List HeaderSpan) (spans : RequestSpans)
     (Unasked : Type 0) (Asks : OperatorAsked → Type 0) → length lines ≡ max_lines → there ≤ length room → spans.len ≡ there
     → (found : HeadIsFound requests [] old mid (take there room) lines (offered.Whole spans)) → said ≡ head_in (take spans.len room) lines spans
-    → AsksOperatorSought (operator_sought_of said) mid new Unasked Asks → Unasked ⊎ AsksOperatorCame old new Asks
-operator_came said old mid new room there lines spans Unasked Asks lined within ends found says (inl none) = inl none
-operator_came said old mid new room there lines spans Unasked Asks lined within ends found says (inr once) =
-    inr (by_sought (operator_sought_of (head_of found.stands.2.head)) refl
-    (subst (λ (h : Head). IsOperatorAskedOnly (operator_sought_of h) once.0 ⊥ Asks) (says ∙ found_says [] old mid room there lines spans found) once.2))
+    → AsksOperatorSought (admitted refuses (operator_sought_of said)) mid new Unasked Asks → Unasked ⊎ AsksOperatorCame refuses old new Asks
+operator_came refuses said old mid new room there lines spans Unasked Asks lined within ends found says (inl none) = inl none
+operator_came refuses said old mid new room there lines spans Unasked Asks lined within ends found says (inr once) =
+    inr (by_sought (admitted refuses (operator_sought_of (head_of found.stands.2.head))) refl
+    (subst (λ (h : Head). IsOperatorAskedOnly (admitted refuses (operator_sought_of h)) once.0 ⊥ Asks) (says ∙ found_says [] old mid room there lines spans found) once.2))
   where
     none_after : drop spans.len (take there room) ≡ []
     none_after = nothing_left (drop spans.len (take there room)) (omega (arith, length-drop spans.len (take there room), length-take there room))
 
-    by_sought : (want : Result OperatorSought OperatorRefusal) → operator_sought_of (head_of found.stands.2.head) ≡ want
-        → IsOperatorAskedOnly want once.0 ⊥ Asks → AsksOperatorCame old new Asks
+    by_sought : (want : Result OperatorSought OperatorRefusal) → admitted refuses (operator_sought_of (head_of found.stands.2.head)) ≡ want
+        → IsOperatorAskedOnly want once.0 ⊥ Asks → AsksOperatorCame refuses old new Asks
     by_sought (Err refusal) is asks = absurd asks
     by_sought (Ok sought) is (inl none) = absurd none
     by_sought (Ok sought) is (inr (body, after, frames, asks)) = record {

@@ -8,6 +8,7 @@ pub mod BodyReading
 pub mod Requests
 pub mod Lines
 pub mod Answers
+pub mod Arrivals
 pub mod Streams
 pub mod Grammars
 pub mod GrammarLaws

@@ -96,6 +96,16 @@ operator_sought_of head = do
   token ← or_refused (Status 401) (token_in (occurrence (codes "Authorization") head.lines))
   Ok (record { wanted = record { tenant = place.0; request = place.1; words = place.2; token = token }; framing = framing })
 
+-- the status that turns a request away by its head, if there is one: then the request is refused with it
+abbrev pub admitted_unless : OperatorSought → Option ℕ → Result OperatorSought OperatorRefusal
+admitted_unless sought None = Ok sought
+admitted_unless sought (Some status) = Err (Status status)
+
+-- what a head asks for where a service does not turn it away (RFC 9110, 15.5.2 and 15.5.5)
+abbrev pub admitted : (OperatorWanted → Option ℕ) → Result OperatorSought OperatorRefusal → Result OperatorSought OperatorRefusal
+admitted refuses (Err refusal) = Err refusal
+admitted refuses (Ok sought) = admitted_unless sought (refuses sought.wanted)
+
 -- ---- answers
 
 -- what an answer of status 200 is (RFC 9110, 8.3)
@@ -206,23 +216,23 @@ abbrev pub IsOperatorAskedOnly : Result OperatorSought OperatorRefusal → List 
 IsOperatorAskedOnly (Err refusal) rest Unasked Asks = Unasked
 IsOperatorAskedOnly (Ok sought) rest Unasked Asks = Unasked ⊎ AsksOperatorWhole sought rest Asks
 
--- bytes are a head within the limits and what follows it, and the request of the head asks this
-pub record IsOperatorAskedBy (bytes : List ℕ) (asked : OperatorAsked) : Type 0 where
+-- bytes are a head within the limits and what follows it, and the request of the head, which is not turned away, asks this
+pub record IsOperatorAskedBy (refuses : OperatorWanted → Option ℕ) (bytes : List ℕ) (asked : OperatorAsked) : Type 0 where
   pub head : RequestHead
   pub rest : List ℕ
   pub begins : BeginsWith bytes head rest
   pub sought : OperatorSought
-  pub wants : operator_sought_of (head_of head) ≡ Ok sought
+  pub wants : admitted refuses (operator_sought_of (head_of head)) ≡ Ok sought
   pub after : List ℕ
   pub frames : IsBody sought.framing rest (whole asked.body after)
   pub asks : asked ≡ operator_asking sought.wanted asked.body asked.status
 
 -- the request of the bytes that came was asked
-pub record AsksOperatorCame (old new : Option (List ℕ)) (Asks : OperatorAsked → Type 0) : Type 0 where
+pub record AsksOperatorCame (refuses : OperatorWanted → Option ℕ) (old new : Option (List ℕ)) (Asks : OperatorAsked → Type 0) : Type 0 where
   pub came : List ℕ
   pub taken : Consumes old new came
   pub asked : OperatorAsked
-  pub by : IsOperatorAskedBy came asked
+  pub by : IsOperatorAskedBy refuses came asked
   pub asks : Asks asked
 
 -- ---- after the head

@@ -9,6 +9,7 @@
 #![tactic(auto)]
 
 mod answer;
+mod arrival;
 mod bodies;
 mod chunks;
 mod devices;
@@ -33,6 +34,7 @@ mod serve;
 mod service;
 mod streams;
 
+pub use arrival::{OperatorArrival, OperatorList, host_arrival, operator_arrival};
 pub use devices::{Sink, Source};
 pub use host_request::HostRequest;
 pub use host_serve::serve_host;

@@ -3,6 +3,7 @@
 ghost use Rattle.std.specs.Prelude.{◌≡◌, ◌≢◌, ◌↔◌, ◌<◌, ◌≤◌, ◌⊎◌, [], ◌++◌, List, ℕ, length, codes, Some, Ok, Err, IfOk};
 ghost use Rattle.std.specs.Io.KnownBytes.{Appends};
 ghost use Rattle.httparse.specs.Grammar as grammar;
+ghost use Rattle.common_types.specs.Outcomes.{Gives};
 ghost use Rattle.http_link.specs.Bodies.{most_of};
 ghost use Rattle.http_link.specs.Answers.{line};
 ghost use Rattle.http_link.specs.Counts.{MadeAll, Spends};
@@ -11,7 +12,7 @@ ghost use Rattle.http_link.specs.Heads.{BeginsWith, head_of};
 ghost use Rattle.http_link.specs.Limits.{max_command};
 ghost use Rattle.http_link.specs.Lines.{head_at};
 ghost use Rattle.http_link.specs.OperatorDoor.{AsksOperatorCame, AsksOperatorSought, IsOperatorAskedOnly, IsOperatorServed, RunsOnOperatorHead};
-ghost use Rattle.http_link.specs.OperatorDoor.{operator_asking, operator_interim, operator_media, operator_media_line, operator_method, operator_refusal_text};
+ghost use Rattle.http_link.specs.OperatorDoor.{admitted, operator_asking, operator_interim, operator_media, operator_media_line, operator_method, operator_refusal_text};
 ghost use Rattle.http_link.specs.OperatorDoor.{operator_sought_at, operator_sought_of, operator_text, operator_traces_of, operator_wanted_at};
 ghost use Rattle.http_link.specs.Serving.{WritesNothingOr400};
 
@@ -45,8 +46,8 @@ struct OperatorAsks<'b> {
 /// before a whole request, nothing is asked, and the result is `Ended`.
 ///
 /// Otherwise the first check that fails decides: 400 for no head or one over the limits, 404 for another target, and 405 for
-/// another method. A command gets 411, 400 or 413 for a body of no length, a malformed or too long one. 401 is for no token. (RFC
-/// 9110, 15.5)
+/// another method. A command gets 411, 400 or 413 for a body of no length, a malformed or too long one. 401 is for no token. Then
+/// the service may turn the request away, before any of its body is read. (RFC 9110, 15.5)
 ///
 /// Errors: `Read` and `Write` where the device failed in this call, and `Turns` where 50,000 reads or writes did not
 /// suffice. Before a `Write` or a `Turns` the service may have been asked, before a `Read` not.
@@ -59,7 +60,7 @@ pub fn serve_operator<R: Source, W: Sink, S: OperatorService>(
     // reads.
     ensures exact { (stream : List ℕ) (head : grammar.RequestHead) (rest : List ℕ)
         → R.remaining r.old ≡ Some stream → BeginsWith stream head rest
-        → IfOk result (IsOperatorServed (operator_sought_of (head_of head)) (head_of head) rest
+        → IfOk result (IsOperatorServed (admitted (S.refusal service.old) (operator_sought_of (head_of head))) (head_of head) rest
         (record {
           Unasked = service.new ≡ service.old;
           Asks = λ question. S.asks service.old question service.new;
@@ -70,7 +71,7 @@ pub fn serve_operator<R: Source, W: Sink, S: OperatorService>(
     // Only the request of the head is asked, also on an error.
     ensures asked_only { (stream : List ℕ) (head : grammar.RequestHead) (rest : List ℕ)
         → R.remaining r.old ≡ Some stream → BeginsWith stream head rest
-        → IsOperatorAskedOnly (operator_sought_of (head_of head)) rest (service.new ≡ service.old)
+        → IsOperatorAskedOnly (admitted (S.refusal service.old) (operator_sought_of (head_of head))) rest (service.new ≡ service.old)
         (λ question. S.asks service.old question service.new) }
     // A stream that begins with no such head is turned away.
     ensures turned_away { (stream : List ℕ) → R.remaining r.old ≡ Some stream
@@ -79,7 +80,7 @@ pub fn serve_operator<R: Source, W: Sink, S: OperatorService>(
         × IfOk result (WritesNothingOr400 (λ text. Appends (W.contents w.old) (W.contents w.new) text)) }
     // At most one question is asked: that of the request that came.
     ensures asked_once { (service.new ≡ service.old)
-        ⊎ AsksOperatorCame (R.remaining r.old) (R.remaining r.new) (λ question. S.asks service.old question service.new) }
+        ⊎ AsksOperatorCame (S.refusal service.old) (R.remaining r.old) (R.remaining r.new) (λ question. S.asks service.old question service.new) }
     ensures unread { result ≡ Err LinkFault.Read → service.new ≡ service.old }
 
     // A device's fault is reported exactly where the device failed.
@@ -104,6 +105,21 @@ pub fn serve_operator<R: Source, W: Sink, S: OperatorService>(
     }
 }
 
+// What a head asks for where the service does not turn it away.
+fn sought_there<'b, S: OperatorService>(
+    service: &S,
+    head: &RequestHead<'b>,
+) -> Result<OperatorSought<'b>, OperatorRefusal>
+    ensures value { Gives operator_sought_at result (admitted (S.refusal service.now) (operator_sought_of (head_at head.now))) }
+    ensures bound { IfOk result (λ sought. most_of sought.framing ≤ max_command) }
+{
+    let sought = operator_sought_of(head)?;
+    match service.refuses(&sought.wanted) {
+        Some(status) => Err(OperatorRefusal::Status(status)),
+        None => Ok(sought),
+    }
+}
+
 // Serves a request after its head, of whose body nothing has come.
 fn serve_after_head<R: Source, W: Sink, S: OperatorService>(
     r: &mut R,
@@ -117,18 +133,18 @@ fn serve_after_head<R: Source, W: Sink, S: OperatorService>(
     requires needed { before.manner.reach ≡ Reach.Needed }
     requires reads { R.failure_count r.old ≤ before.manner.before }
     requires writes { W.failure_count w.old ≤ before.writes }
-    ensures runs { IfOk result (RunsOnOperatorHead (operator_sought_of (head_at head.now)) (head_at head.now)
+    ensures runs { IfOk result (RunsOnOperatorHead (admitted (S.refusal service.old) (operator_sought_of (head_at head.now))) (head_at head.now)
         (R.remaining r.old) (R.remaining r.new) (operator_traces_of (service.new ≡ service.old)
         (λ question. S.asks service.old question service.new) (S.answer service.new) (Some [])
         (λ text. Appends (W.contents w.old) (W.contents w.new) text))) }
-    ensures asks { AsksOperatorSought (operator_sought_of (head_at head.now)) (R.remaining r.old) (R.remaining r.new)
+    ensures asks { AsksOperatorSought (admitted (S.refusal service.old) (operator_sought_of (head_at head.now))) (R.remaining r.old) (R.remaining r.new)
         (service.new ≡ service.old) (λ question. S.asks service.old question service.new) }
     ensures unread { result ≡ Err LinkFault.Read → service.new ≡ service.old }
     ensures failed { TellsFailures (before.manner.before < R.failure_count r.new) (before.writes < W.failure_count w.new) result }
     ensures turns { result ≡ Err LinkFault.Turns
         → Spends R.was_read r.old r.new intake.old.turns 0 ⊎ MadeAll W.was_written w.old w.new }
 {
-    match operator_sought_of(head) {
+    match sought_there(service, head) {
         Ok(sought) => {
             let request = OperatorAsks {
                 head: *head,

@@ -1,5 +1,5 @@
 -- A command at the operators' door is a question that a desk answered.
-use Rattle.std.proofs.Common.{◌≡◌, ◌⊎◌, inl, inr, ℕ, Bool, true, false, nat_lt, List, Option, Some, None, refl, sym, ap, subst, arith, ◌∙◌}
+use Rattle.std.proofs.Common.{◌≡◌, ◌⊎◌, inl, inr, ℕ, Bool, true, false, nat_lt, List, Option, refl, sym, ap, subst, arith, ◌∙◌}
 use Rattle.std.specs.Prelude.{◌↔◌, Result, Ok, Err}
 use Rattle.std.specs.Str.{bytes_eq}
 use Rattle.one_list.specs.declared.run.Run.{Ghosts}
@@ -18,10 +18,9 @@ use Rattle.workers.specs.declared.governing.GovernFault.TheVariants.{Spent}
 use Rattle.workers.specs.declared.reply.Status.{Status}
 use Rattle.workers.specs.declared.reply.Status.TheVariants as status
 use Rattle.service.specs.Answering.{HasAnswered, WasAskedCommand, WasGoverned, WasObeyed, WasOrdered, command_line, operator_token}
-use Rattle.service.specs.Operating.{HasOperated, HasVisited, IsOperated, IsReported, command_fault_line, order_of, told_at}
+use Rattle.service.specs.Operating.{HasOperated, HasVisited, IsOperated, IsReported, command_fault_line, operator_refusal, order_of, told_at}
 use Rattle.service.specs.Rolling.{IsUntouched}
-use Rattle.service.specs.declared.operators.answering.LastAnswer.{LastAnswer}
-use Rattle.service.specs.declared.operators.answering.LastAnswer.TheVariants.{ByDesk, Line}
+use Rattle.service.specs.declared.operators.answering.LastAnswer.TheVariants.{ByDesk}
 use Rattle.service.specs.declared.worker.desk.Desk.{Desk}
 use Rattle.service.specs.declared.office.Office.{Office}
 use Rattle.service.proofs.Repeating.{none_repeated, once_repeated}
@@ -106,7 +105,7 @@ reported_fault asked after fault text code bad line = record {
 -- what one connection leaves: the request that came was answered, or none was asked
 pub visited_there : {A R C J : Type 0} {r : Ghosts J} (office : A → R) (at : R → Office J r) (clock : A → C) (gives : C → ℕ → Type 0) (desk : A → Desk J r) (told : A → List ℕ) (before after : A)
     (old new : Option (List ℕ))
-    → (after ≡ before) ⊎ AsksOperatorCame old new (λ asked. (office after ≡ office before) × (clock after ≡ clock before)
+    → (after ≡ before) ⊎ AsksOperatorCame (operator_refusal (at (office before))) old new (λ asked. (office after ≡ office before) × (clock after ≡ clock before)
     × IsOperated (gives (clock before)) (at (office before)) asked.wanted.request (desk before) asked (told after) (desk after))
     → (office after ≡ office before) × (clock after ≡ clock before) × HasOperated (gives (clock before)) (at (office before)) (desk before) (desk after)
 visited_there office at clock gives desk told before after old new (inl same) = (

@@ -1,5 +1,5 @@
 -- A desk whose seat was lent, and came back as it was.
-use Rattle.std.proofs.Common.{◌≡◌, false, ap}
+use Rattle.std.proofs.Common.{◌≡◌, false}
 use mathlib.Core.Path.{path_j}
 use Rattle.std.proofs.Props.{props}
 use Rattle.std.specs.Coded.{codes}
@@ -16,10 +16,10 @@ idle_prop : (w : Work) → IsProp (w.job ≡ NoJob)
 idle_prop w = hlevel (props, codes)
 
 pub same_desk : {J : Type 0} {r : Ghosts J} (d : Desk J r) (s : SeatState) (plain : s.first ≡ false) (idle : d.slot.job ≡ NoJob) → d.seat ≡ s
-    → record { share = d.share; seat = s; slot = d.slot; sent = d.sent; printed = d.printed; told = d.told; periods = d.periods; plain = plain; idle = idle } ≡ d
+    → record { share = d.share; seat = s; slot = d.slot; sent = d.sent; printed = d.printed; told = d.told; periods = d.periods; ticket = d.ticket; plain = plain; idle = idle } ≡ d
 same_desk {J} {r} d s plain idle same =
     path_j (λ (s' : SeatState) (p : d.seat ≡ s'). (q : s'.first ≡ false)
-    → record { share = d.share; seat = s'; slot = d.slot; sent = d.sent; printed = d.printed; told = d.told; periods = d.periods; plain = q; idle = idle } ≡ d)
+    → record { share = d.share; seat = s'; slot = d.slot; sent = d.sent; printed = d.printed; told = d.told; periods = d.periods; ticket = d.ticket; plain = q; idle = idle } ≡ d)
     (λ q i. record {
       share = d.share;
       seat = d.seat;
@@ -28,6 +28,7 @@ same_desk {J} {r} d s plain idle same =
       printed = d.printed;
       told = d.told;
       periods = d.periods;
+      ticket = d.ticket;
       plain = plain_prop d.seat q d.plain i;
       idle = idle_prop d.slot idle d.idle i;
     })

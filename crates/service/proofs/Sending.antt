@@ -30,6 +30,7 @@ use Rattle.workers.specs.contracts.places.Places as Places
 use Rattle.workers.specs.contracts.backlog.Backlog as Backlog
 use Rattle.workers.specs.contracts.backlog.Waiting as Waiting
 use Rattle.service.specs.contracts.filing.Filing as Filing
+use Rattle.service.specs.contracts.filing.scribe.Scribe as Scribe
 use Rattle.service.specs.contracts.operators.answering.Operators as Operators
 use Rattle.service.specs.contracts.host.callers.Porter as Porter
 
@@ -89,12 +90,12 @@ waiting_send : IsSend Network.the_row → IsSend Waiting.the_row
 waiting_send network =
     let period = period_send network in
     recorded_send _ _ _ Waiting.the_type.to_one (struct_send (shape Waiting.the_type)
-    (search (sendable, std.crosses, period) depth 40, (search (sendable, std.crosses) depth 40, tt)))
+    (search (sendable, std.crosses, period) depth 40, (search (sendable, std.crosses) depth 40, (search (sendable, std.crosses) depth 40, (search (sendable, std.crosses) depth 40, (search (sendable, std.crosses) depth 40, (search (sendable, std.crosses) depth 40, (search (sendable, std.crosses) depth 40, tt))))))))
 
 backlog_sync : IsSend Network.the_row → IsSync (Backlog.the_field).row
 backlog_sync network =
     let waiting = waiting_send network in
-    struct_sync (shape Backlog.the_type) (search (sendable, std.crosses, waiting) depth 40, tt)
+    struct_sync (shape Backlog.the_type) (search (sendable, std.crosses, waiting) depth 40, (search (sendable, std.crosses) depth 40, (search (sendable, std.crosses) depth 40, (search (sendable, std.crosses) depth 40, tt))))
 
 filing_sync : IsSend Network.the_row → IsSync Filing.the_row
 filing_sync network =
@@ -113,7 +114,7 @@ office_sync J r books meters network =
 
 pub desk_send : (J : RattleType) (r : Run.Ghosts J.Denot) → IsSend Network.the_row → IsSend MeterSeat.the_row → IsSend (Desk.the_field J r).row
 desk_send J r network seat = let period = period_send network in struct_send (shape (Desk.the_type J r))
-    (share_send J r, (seat, (slot_send, (search (sendable, std.crosses) depth 40, (search (sendable, std.crosses) depth 40, (search (sendable, std.crosses) depth 40, (search (sendable, std.crosses, period) depth 40, tt)))))))
+    (share_send J r, (seat, (slot_send, (search (sendable, std.crosses) depth 40, (search (sendable, std.crosses) depth 40, (search (sendable, std.crosses) depth 40, (search (sendable, std.crosses, period) depth 40, (search (sendable, std.crosses) depth 40, tt))))))))
 
 pub worker_send : (κ : NamedLft) (H C J : RattleType) (r : Run.Ghosts J.Denot) → IsSync H → IsSync C
     → IsSync (Office.the_row J r) → IsSend Network.the_row → IsSend MeterSeat.the_row → IsSend (Worker.the_row κ H C J r)
@@ -125,9 +126,16 @@ pub operators_send : (κ : NamedLft) (H C J : RattleType) (r : Run.Ghosts J.Deno
     → IsSync (Office.the_row J r) → IsSend Network.the_row → IsSend MeterSeat.the_row → IsSend (Operators.the_row κ H C J r)
 operators_send κ H C J r h c office network seat =
     recorded_send _ _ _ (Operators.the_type κ H C J r).to_one (struct_send (shape (Operators.the_type κ H C J r))
-    (search (sendable, std.crosses, h) depth 40, (search (sendable, std.crosses) depth 40, (search (sendable, std.crosses, c) depth 40, (search (sendable, std.crosses, office) depth 40, (desk_send J r network seat, (search (sendable, std.crosses) depth 40, tt)))))))
+    (search (sendable, std.crosses, h) depth 40, (search (sendable, std.crosses) depth 40, (search (sendable, std.crosses, c) depth 40, (search (sendable, std.crosses, office) depth 40, (desk_send J r network seat, (search (sendable, std.crosses) depth 40, (search (sendable, std.crosses) depth 40, tt))))))))
+
+pub scribe_send : (κ : NamedLft) (H J : RattleType) (r : Run.Ghosts J.Denot) → IsSync H
+    → IsSync (Office.the_row J r) → IsSend Network.the_row → IsSend (Scribe.the_row κ H J r)
+scribe_send κ H J r h office network =
+    let period = period_send network in
+    recorded_send _ _ _ (Scribe.the_type κ H J r).to_one (struct_send (shape (Scribe.the_type κ H J r))
+    (search (sendable, std.crosses, h) depth 40, (search (sendable, std.crosses) depth 40, (search (sendable, std.crosses, office) depth 40, (search (sendable, std.crosses) depth 40, (search (sendable, std.crosses, period) depth 40, tt))))))
 
 pub porter_send : (κ : NamedLft) (H K : RattleType) → IsSync H → IsSend K → IsSend (Porter.the_row κ H K)
 porter_send κ H K h k =
     recorded_send _ _ _ (Porter.the_type κ H K).to_one (struct_send (shape (Porter.the_type κ H K))
-    (search (sendable, std.crosses, h) depth 40, (search (sendable, std.crosses) depth 40, (search (sendable, std.crosses, door_sync) depth 40, (k, (search (sendable, std.crosses) depth 40, tt))))))
+    (search (sendable, std.crosses, h) depth 40, (search (sendable, std.crosses) depth 40, (search (sendable, std.crosses) depth 40, (search (sendable, std.crosses, door_sync) depth 40, (k, (search (sendable, std.crosses) depth 40, (search (sendable, std.crosses) depth 40, tt))))))))

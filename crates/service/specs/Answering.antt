@@ -1,24 +1,20 @@
 -- What a worker answers to a question, what it counts with it, and what connections leave of a worker.
-use Rattle.std.specs.Prelude.{ℕ, ◌≡◌, ◌≢◌, ◌+◌, ◌<◌, ◌-◌, ◌==◌, ◌⊎◌, ◌↔◌, true, false, Bool, List, [], ◌∷◌, ◌++◌, length, take, map, nat_lt}
-use Rattle.std.specs.Prelude.{slice_index_or, if◌then◌else◌, Option, None, Result, Ok, Err, IfOk, is_ok}
-use Rattle.std.specs.List.{flat_map, sum_by}
+use Rattle.std.specs.Prelude.{ℕ, ◌≡◌, ◌≢◌, ◌+◌, ◌-◌, ◌==◌, ◌⊎◌, ◌↔◌, true, false, Bool, List, [], ◌∷◌, length, take, map, nat_lt}
+use Rattle.std.specs.Prelude.{slice_index_or, if◌then◌else◌, Option, Some, None, Result, Ok, Err, IfOk, is_ok}
+use Rattle.std.specs.List.{flat_map}
 use Rattle.std.specs.Prelude.{All}
 use Rattle.std.specs.Str.{bytes_eq}
-use Rattle.std.specs.Io.KnownBytes.{Appends, Consumes}
-use Rattle.std.specs.declared.marker.Brand.{Brand}
+use Rattle.std.specs.Io.KnownBytes.{Consumes}
 use Rattle.common_types.specs.Token.{is_token}
 use Rattle.ilp_view.specs.Reading.{prepare_at}
-use Rattle.tenant_core.specs.State.{State}
 use Rattle.tenant_core.specs.declared.command.Answered.{Answered}
 use Rattle.tenant_core.specs.declared.command.Command.{Command}
 use Rattle.tenant_core.specs.declared.faults.CommandFault.{CommandFault}
 use Rattle.tenant_core.specs.declared.faults.CommandFault.TheVariants.{Memory}
-use Rattle.meters.specs.Seats.{TotalsState, count_of, total_of}
+use Rattle.meters.specs.Seats.{count_of}
 use Rattle.meters.specs.declared.kind.Kind as meter
-use Rattle.atomic_table.specs.Seated.{TableId}
 use Rattle.one_list.specs.declared.run.Run.{Ghosts}
 use Rattle.books_shared.specs.Shares.{ShareView, fresh, is_spent}
-use Rattle.books_shared.specs.Traced.{HaveListOf, openings_of}
 use Rattle.floor_core.specs.Work.{loaded}
 use Rattle.floor_core.specs.declared.parts.Got.{Got}
 use Rattle.workers.specs.Carrying.{IsCarried, IsDone, circumstances, growth}
@@ -44,12 +40,9 @@ use Rattle.http_link.specs.declared.serve.Served.TheVariants as served
 use Rattle.http_link.specs.declared.streams.LinkFault.{LinkFault}
 use Rattle.service.specs.declared.worker.desk.Desk.{Desk}
 use Rattle.service.specs.declared.office.Office.{Office}
-use Rattle.service.specs.Auditing.{HaveEnded, IsAudited}
-use Rattle.service.specs.declared.running.plan.Report.{Report}
 use Rattle.service.specs.declared.worker.Over.{Over}
 use Rattle.service.specs.declared.worker.Over.TheVariants.{Ended, Closed, Yielded}
-use Rattle.service.specs.Served.{lines_upto, tenant_named}
-use Rattle.service.specs.Balances.{balance_lines}
+use Rattle.service.specs.Served.{tenant_named}
 use Rattle.service.specs.Rolling.{IsTidied, IsUntouched}
 
 -- ---- a packet
@@ -133,6 +126,11 @@ WasObeyed Gives (Err fault) office before tenant told after =
 -- the token of a tenant's operator
 abbrev pub operator_token : {J : Type 0} {r : Ghosts J} → Office J r → ℕ → List ℕ
 operator_token office tenant = (slice_index_or office.terms.items tenant (record { admin = []; hold = 0 })).admin
+
+-- the tenant, if there is one and that is its operator's token
+abbrev pub operator_by : {J : Type 0} {r : Ghosts J} → Office J r → (shown : List ℕ) → Option ℕ → Option ℕ
+operator_by office shown None = None
+operator_by office shown (Some tenant) = if bytes_eq (operator_token office tenant) shown then Some tenant else None
 
 -- a packet of a tenant that is there is carried; then the tenant's period is closed if the service closes ripe ones and it is ripe
 abbrev pub WasAskedPacket : {J : Type 0} {r : Ghosts J} → (Gives : ℕ → Type 0) → Bool → Office J r → Asked → Desk J r → Status → Desk J r → Type 0

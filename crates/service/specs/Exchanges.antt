@@ -9,15 +9,16 @@ use Rattle.workers.specs.Replies.{Sending}
 use Rattle.workers.specs.declared.traits.Outgoing.{Outgoing}
 use Rattle.service.specs.declared.office.Terms.{Terms}
 
--- for how many milliseconds from now on: as long as the tenant holds a packet at most, and until the packet expires
-abbrev pub exchange_time : (hold expiry now : ℕ) → ℕ
-exchange_time hold expiry now = min hold (expiry - now)
+-- for how many milliseconds from now on: as long as the tenant holds a packet at most, which counts from the stop on in a service
+-- that stops, and until the packet expires
+abbrev pub exchange_time : (hold expiry now stopping : ℕ) → ℕ
+exchange_time hold expiry now stopping = min (hold - stopping) (expiry - now)
 
--- for so many milliseconds, by the terms of the packet's tenant and a moment that the clock gave
+-- for so many milliseconds, by the terms of the packet's tenant, a moment that the clock gave, and how long the service has stopped
 abbrev pub IsTimeFor : (Gives : ℕ → Type 0) → List Terms → (tenant expiry time : ℕ) → Type 0
 IsTimeFor Gives terms tenant expiry time =
-    (agreed : Terms) × (now : ℕ) × (slice_get terms tenant ≡ Some agreed) × Gives now
-    × (time ≡ exchange_time agreed.hold expiry now)
+    (agreed : Terms) × (now : ℕ) × (stopping : ℕ) × (slice_get terms tenant ≡ Some agreed) × Gives now
+    × (time ≡ exchange_time agreed.hold expiry now stopping)
 
 -- until that moment, so many milliseconds after another
 abbrev pub IsEndFor : (Gives : ℕ → Type 0) → List Terms → (tenant expiry : ℕ) → Instant → Type 0

@@ -1,8 +1,10 @@
 -- The statements of closed periods: which must be kept, and the lines for those that are not.
-use Rattle.std.specs.Prelude.{ℕ, ◌≡◌, ◌≢◌, ◌⊎◌, Bool, true, false, List, [], ◌∷◌, ◌++◌, Option, Some, codes}
+use Rattle.std.specs.Prelude.{ℕ, ◌≡◌, ◌≢◌, ◌⊎◌, Bool, true, false, List, [], ◌∷◌, ◌++◌, codes}
 use Rattle.std.specs.Fmt.{decimal}
 use Rattle.tenant_core.specs.declared.period.PeriodParts.{PeriodParts}
 use Rattle.statements.specs.Statement.{IsStatement}
+use Rattle.service.specs.declared.filing.Found.{Found}
+use Rattle.service.specs.declared.filing.Found.TheVariants.{Nothing, Same, Other, Unknown}
 
 -- a statement to keep: whose, of which period, and its text
 pub record StatementToKeep : Type 0 where
@@ -16,34 +18,46 @@ pub record IsStatedOf (p : PeriodParts) (s : StatementToKeep) : Type 0 where
   pub period : s.period ≡ p.opening.period
   pub text : IsStatement s.text p
 
--- what a store is asked: whether it has a statement of that tenant's period
+-- what a store is asked: what it has of the period of that statement
 abbrev pub Telling : Type 0 → Type 1
-Telling S = S → List ℕ → ℕ → Option Bool → S → Type 0
+Telling S = S → StatementToKeep → Found → S → Type 0
 
 -- what a store does: it keeps a statement, or does not
 abbrev pub Keeping : Type 0 → Type 1
 Keeping S = S → StatementToKeep → Bool → S → Type 0
 
--- the store said that it has no statement of the period; then that was handed to it
+-- the store said that it has nothing of the period; then the statement was handed to it
 pub record WasHanded {S : Type 0} (Tells : Telling S) (Keeps : Keeping S) (p : PeriodParts) (kept : Bool) (before after : S) : Type 0 where
   pub statement : StatementToKeep
   pub is_of : IsStatedOf p statement
   pub between : S
-  pub is_new : Tells before p.opening.name p.opening.period (Some false) between
+  pub is_new : Tells before statement Nothing between
   pub handed : Keeps between statement kept after
 
--- the store was asked, and did not say that it has none; nothing was handed to it
-pub record WasStatementAsked {S : Type 0} (Tells : Telling S) (p : PeriodParts) (before after : S) : Type 0 where
-  pub answer : Option Bool
-  pub is_known : answer ≢ Some false
-  pub told : Tells before p.opening.name p.opening.period answer after
+-- the store was asked for the statement, and gave an answer of this kind; nothing was handed to it
+pub record WasStatementAsked {S : Type 0} (Tells : Telling S) (Is : Found → Type 0) (p : PeriodParts) (before after : S) : Type 0 where
+  pub statement : StatementToKeep
+  pub is_of : IsStatedOf p statement
+  pub answer : Found
+  pub is_such : Is answer
+  pub told : Tells before statement answer after
 
--- A statement that is kept is new, and was handed to the store, which keeps it. Another one was not kept by the store,
--- or not handed to it: because it is not known to be new, or because memory ran out.
+-- the store did not keep the statement that was handed to it; then it was asked for it, and gave an answer of this kind
+pub record WasAskedAgain {S : Type 0} (Tells : Telling S) (Keeps : Keeping S) (Is : Found → Type 0) (p : PeriodParts) (before after : S) : Type 0 where
+  pub failed : S
+  pub handed : WasHanded Tells Keeps p false before failed
+  pub asked : WasStatementAsked Tells Is p failed after
+
+-- A statement that is kept was new, and handed to the store, which keeps it or has it after all; or the store had exactly that one.
+-- Another one was not kept by the store, or not handed to it: because another text is there or may be, or because memory ran out.
 abbrev pub IsFiled : {S : Type 0} → Telling S → Keeping S → PeriodParts → (kept : Bool) → (before after : S) → Type 0
-IsFiled Tells Keeps p true before after = WasHanded Tells Keeps p true before after
+IsFiled Tells Keeps p true before after =
+    WasHanded Tells Keeps p true before after
+    ⊎ (WasAskedAgain Tells Keeps (λ found. found ≡ Same) p before after
+    ⊎ WasStatementAsked Tells (λ found. found ≡ Same) p before after)
 IsFiled Tells Keeps p false before after =
-    WasHanded Tells Keeps p false before after ⊎ (WasStatementAsked Tells p before after ⊎ (after ≡ before))
+    WasAskedAgain Tells Keeps (λ found. found ≢ Same) p before after
+    ⊎ (WasStatementAsked Tells (λ found. (found ≡ Other) ⊎ (found ≡ Unknown)) p before after ⊎ (after ≡ before))
 
 -- the line of a period whose statement is not kept
 unfoldable pub missing_line : PeriodParts → List ℕ

@@ -20,3 +20,4 @@ pub mod Explaining
 pub mod Operating
 pub mod Counted
 pub mod PeerMetrics
+pub mod Callers

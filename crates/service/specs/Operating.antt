@@ -1,5 +1,5 @@
 -- The answers at the operators' door, and the commands that come there.
-use Rattle.std.specs.Prelude.{ℕ, ◌≡◌, ◌↔◌, ◌⊎◌, true, false, Bool, List, [], ◌∷◌, ◌++◌, codes, Option, Some, None, is_some, Result, Ok, Err}
+use Rattle.std.specs.Prelude.{ℕ, ◌≡◌, ◌↔◌, ◌⊎◌, true, false, Bool, if◌then◌else◌, List, [], ◌∷◌, ◌++◌, codes, Option, Some, None, is_some, Result, Ok, Err}
 use Rattle.std.specs.List.{slice_get}
 use Rattle.std.specs.Str.{bytes_eq}
 use Rattle.books_shared.specs.Traced.{IsLedTo}
@@ -7,7 +7,7 @@ use Rattle.common_types.specs.declared.numerals.NumberFault.{NumberFault}
 use Rattle.admin_text.specs.Commands.{command_in}
 use Rattle.admin_text.specs.declared.commands.TextFault.{TextFault}
 use Rattle.admin_text.specs.declared.commands.TextFault.TheVariants as text_fault
-use Rattle.http_link.specs.OperatorDoor.{IsOperatorAskedBy, OperatorAsked}
+use Rattle.http_link.specs.OperatorDoor.{IsOperatorAskedBy, OperatorAsked, OperatorWanted}
 use Rattle.http_link.specs.Serving.{Asked}
 use Rattle.http_link.specs.declared.operator_request.OperatorRequest.{OperatorRequest}
 use Rattle.http_link.specs.declared.operator_request.OperatorRequest.TheVariants.{Ask, Command}
@@ -124,6 +124,14 @@ pub record HasToldOperator {J : Type 0} {r : Ghosts J} (openings : List Opening)
       → (fault : QuestionFault) × (topic ≡ Explain) × (question_in asked.wanted.words ≡ Err fault)
       × (text ≡ fault_line fault)
 
+-- the status that turns a request away by its head: 404 for a name that is no tenant's, 401 for another token than its operator's
+abbrev pub refusal_at : {J : Type 0} {r : Ghosts J} → Office J r → OperatorWanted → Option ℕ → Option ℕ
+refusal_at office wanted None = Some 404
+refusal_at office wanted (Some tenant) = if bytes_eq (operator_token office tenant) wanted.token then None else Some 401
+
+abbrev pub operator_refusal : {J : Type 0} {r : Ghosts J} → Office J r → OperatorWanted → Option ℕ
+operator_refusal office wanted = refusal_at office wanted (tenant_named office.names.items wanted.tenant)
+
 -- ---- commands
 
 -- the line that says why a body is not a command
@@ -158,11 +166,11 @@ IsOperated Gives office Command before asked text after =
 IsOperated {J} {r} Gives office (Ask topic) before asked text after =
     (after ≡ before) × HasToldOperator r.openings Gives office topic asked text
 
--- bytes that came at the door are a whole request, and it was answered
+-- bytes that came at the door are a whole request, whose head is not turned away, and it was answered
 pub record HasVisited {J : Type 0} {r : Ghosts J} (Gives : ℕ → Type 0) (office : Office J r) (before after : Desk J r) : Type 0 where
   pub came : List ℕ
   pub asked : OperatorAsked
-  pub by : IsOperatorAskedBy came asked
+  pub by : IsOperatorAskedBy (operator_refusal office) came asked
   pub text : List ℕ
   pub told : IsOperated Gives office asked.wanted.request before asked text after
 

@@ -1,23 +1,27 @@
 -- How long a connection may do what, and when it gives up its thread.
-use Rattle.std.specs.Prelude.{ℕ, ◌-◌, ◌==◌, ◌||◌, Bool, true, false, min, nat_le, if◌then◌else◌, Option, Some, None}
+use Rattle.std.specs.Prelude.{ℕ, ◌-◌, ◌==◌, ◌||◌, Bool, true, false, min, nat_le, if◌then◌else◌}
 use Rattle.service.specs.declared.connection.pace.Rush.{Rush}
 use Rattle.service.specs.declared.connection.pace.Rush.TheVariants.{Calm, Crowded, Stopping}
 use Rattle.service.specs.declared.connection.pace.Activity.{Activity}
-use Rattle.service.specs.declared.connection.pace.Activity.TheVariants.{Idle, Busy}
+use Rattle.service.specs.declared.connection.pace.Activity.TheVariants.{Idle, First, Busy}
 
--- a stop comes first, then others that wait for a thread or are refused
-abbrev pub rush_of : (is_closed : Bool) → (waiting : ℕ) → (is_refused : Bool) → Rush
-rush_of true waiting is_refused = Stopping
-rush_of false waiting true = Crowded
-rush_of false waiting false = if waiting == 0 then Crowded else Calm
+-- a stop comes first, then a crowd: no further connection may be open, or the system refuses them
+abbrev pub rush_of : (is_closed : Bool) → (free : ℕ) → (is_refused : Bool) → Rush
+rush_of true free is_refused = Stopping
+rush_of false free true = Crowded
+rush_of false free false = if free == 0 then Crowded else Calm
 
--- for how many milliseconds in all: 30 seconds, and less if others wait or the service stops
+-- for how many milliseconds in all: 30 seconds, twice that for a first request with the wait for it, and less in a crowd or if the
+-- service stops
 abbrev pub time_for : Activity → Rush → ℕ
 time_for Idle Calm = 30000
+time_for First Calm = 60000
 time_for Busy Calm = 30000
 time_for Idle Crowded = 250
+time_for First Crowded = 250
 time_for Busy Crowded = 1000
 time_for Idle Stopping = 1
+time_for First Stopping = 5000
 time_for Busy Stopping = 5000
 
 -- what is left of that; in a service that stops, only the milliseconds since the stop count
@@ -35,9 +39,3 @@ abbrev pub yields : Rush → (status served : ℕ) → Bool
 yields Calm status served = false
 yields Crowded status served = status == 400 || status == 401 || nat_le 1000 served
 yields Stopping status served = false
-
--- for how many milliseconds a request at the host's door may be read now: 500 once it has come whole; 20 if it has not
--- come after 500
-abbrev pub reading_time : (has_come : Bool) → (waited : ℕ) → Option ℕ
-reading_time true waited = Some 500
-reading_time false waited = if nat_le 500 waited then Some 20 else None

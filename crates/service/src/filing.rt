@@ -1,12 +1,13 @@
 //! The statements of closed periods: where they are kept, and which could not be written.
 
-ghost use Rattle.std.specs.Prelude.{◌≡◌, ◌++◌, Bool, List, Option, OnOk, ℕ};
+ghost use Rattle.std.specs.Prelude.{◌≡◌, ◌++◌, Bool, List, OnOk, ℕ};
 ghost use Rattle.std.specs.Fmt.{decimal};
 ghost use Rattle.service.specs.Filing.{AreFiled, IsFiled, StatementToKeep, line_unless, missing_line};
 
 pub mod disk;
 pub mod folder;
 pub mod receipt_store;
+pub mod scribe;
 
 use common_types::Name;
 use statements::write_statement;
@@ -21,25 +22,42 @@ pub struct Filing {
     pub backlog: Backlog,
 }
 
+/// What a store has of a period.
+#[derive(Clone, Copy, Debug, PartialEq, Eq)]
+pub enum Found {
+    /// Nothing.
+    Nothing,
+    /// Exactly that statement.
+    Same,
+    /// Another text.
+    Other,
+    /// It is not known what it has.
+    Unknown,
+}
+
 /// A store of statements.
 pub trait StatementStore {
-    /// What a question does: the store before, whose period was asked for, the answer, and the store after.
-    ghost tells: { Self → List ℕ → ℕ → Option Bool → Self → Type 0 };
+    ghost use Rattle.std.specs.Prelude.{Bool};
+    ghost use Rattle.service.specs.Filing.{StatementToKeep};
+    ghost use Rattle.service.specs.declared.filing.Found.{Found};
+
+    /// What a question does: the store before, the statement that was asked for, the answer, and the store after.
+    ghost tells: { Self → StatementToKeep → Found → Self → Type 0 };
 
     /// What keeping does: the store before, the statement, whether it is kept now, and the store after.
     ghost keeps: { Self → StatementToKeep → Bool → Self → Type 0 };
 
-    /// Whether there is a statement of a tenant's period; `None` if that is not known.
-    fn has(&mut self, name: &Name, period: u64) -> Option<bool>
-        ensures { tells self.old name.now period result self.new };
+    /// What there is of a tenant's period, whose statement is that text. The same text is on the disk if it is answered so.
+    fn find(&mut self, name: &Name, period: u64, text: &[u8]) -> Found
+        ensures { tells self.old (record { name = name.now; period = period; text = text.now }) result self.new };
 
     /// Keeps the statement of a tenant's period for good. There is none yet. Returns whether it is kept now.
     fn keep(&mut self, name: &Name, period: u64, text: &[u8]) -> bool
         ensures { keeps self.old (record { name = name.now; period = period; text = text.now }) result self.new };
 }
 
-/// Writes the statement of a closed period, unless there is one of that period. Returns whether it is kept now. It is
-/// not if it is out of memory.
+/// Writes the statement of a closed period, unless there is a text of that period. Returns whether it is kept now: also if exactly
+/// that text was there already, or is there after all. It is not if it is out of memory.
 pub fn file<S: StatementStore>(alloc: Global, store: &mut S, period: &Period) -> bool
     ensures { IsFiled S.tells S.keeps period.now result store.old store.new }
 {
@@ -47,7 +65,14 @@ pub fn file<S: StatementStore>(alloc: Global, store: &mut S, period: &Period) ->
         return false;
     };
     let (name, number) = (&period.opening().name, period.number());
-    store.has(name, number) == Some(false) && store.keep(name, number, text.as_slice())
+    let text = text.as_slice();
+    match store.find(name, number, text) {
+        Found::Nothing => {
+            store.keep(name, number, text) || store.find(name, number, text) == Found::Same
+        }
+        Found::Same => true,
+        Found::Other | Found::Unknown => false,
+    }
 }
 
 /// Writes the statements of closed periods, one after another, and a line for each that is not kept now. Fails only if

@@ -3,5 +3,6 @@
 pub mod asking;
 pub mod callers;
 pub mod hosting;
+pub mod letters;
 pub mod metrics;
 pub mod presence;

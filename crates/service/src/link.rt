@@ -5,6 +5,7 @@ ghost use Rattle.http_link.specs.Limits.{max_peer_answer};
 ghost use Rattle.workers.specs.Replies.{Sending};
 ghost use Rattle.service.specs.Exchanges.{IsEndFor, IsOneExchange, IsTimeFor, exchange_time, sending_of};
 
+use crate::connection::door::Door;
 use crate::connection::timed::Timed;
 use crate::office::Terms;
 use floor_core::Got;
@@ -60,13 +61,16 @@ pub struct Sockets<'a, H> {
 
 /// A link that makes one exchange for each packet, in one of the places that the tenants share. An exchange waits for
 /// a place, connects, reads and writes within the tenant's longest hold, or within the time until the packet expires
-/// if that is less. None of these begins after that time, and the exchange ends a little later.
+/// if that is less. Once the service stops, the hold counts from the stop on. None of these begins after that time, and the
+/// exchange ends a little later.
 #[derive(Drop)]
 pub struct PeerLink<'a, H, C, P> {
     handle: &'a H,
     clock: &'a C,
     terms: &'a [Terms],
     places: &'a Places,
+    // The service stops once it is closed.
+    door: &'a Door,
     peers: P,
     sent: u64,
 }
@@ -78,6 +82,7 @@ impl<'a, H, C, P> PeerLink<'a, H, C, P> {
         clock: &'a C,
         terms: &'a [Terms],
         places: &'a Places,
+        door: &'a Door,
         peers: P,
         sent: u64,
     ) -> PeerLink<'a, H, C, P>
@@ -88,17 +93,19 @@ impl<'a, H, C, P> PeerLink<'a, H, C, P> {
             clock,
             terms,
             places,
+            door,
             peers,
             sent,
         }
     }
 }
 
-// For how many milliseconds an exchange may last that begins now.
-fn exchange_time(hold: u64, expiry: u64, now: u64) -> u64
-    ensures { result ≡ exchange_time hold expiry now }
+// For how many milliseconds an exchange may last that begins now, in a service that has stopped for so many.
+fn exchange_time(hold: u64, expiry: u64, now: u64, stopping: u64) -> u64
+    ensures { result ≡ exchange_time hold expiry now stopping }
 {
-    hold.min(expiry.saturating_sub(now))
+    hold.saturating_sub(stopping)
+        .min(expiry.saturating_sub(now))
 }
 
 impl<H: Net<Stream = TcpStream> + Clock> Sockets<'_, H> {
@@ -155,7 +162,8 @@ impl<H: Wait + Clock, C: workers::Clock, P: Peers> PeerLink<'_, H, C, P> {
     {
         let terms = self.terms.get(packet.tenant)?;
         let now = self.clock.now().millis();
-        Some(exchange_time(terms.hold, packet.expiry, now))
+        let stopping = self.door.closed_for(self.handle);
+        Some(exchange_time(terms.hold, packet.expiry, now, stopping))
     }
 
     // Until when an exchange of that packet may last that begins now.

@@ -11,7 +11,6 @@ pub mod desk;
 
 use crate::connection::pace::{Activity, Rush, yields};
 use crate::connection::timed::{Paced, Timed};
-use crate::filing::disk::Disk;
 use crate::office::Office;
 use crate::system::System;
 use crate::worker::desk::Desk;
@@ -36,8 +35,8 @@ pub enum Over {
     Yielded,
 }
 
-/// A worker that serves connections, one after another, as long as more may come. It ends early if none can be
-/// accepted for a minute. It carries packets to the next peers, and does the commands of those who show the tenant's
+/// A worker that serves connections, one after another, as long as more may come. If only so many are served, it ends early once
+/// none can be accepted for a minute. It carries packets to the next peers, and does the commands of those who show the tenant's
 /// token for them.
 #[derive(Drop)]
 #[repr(C)]
@@ -100,7 +99,7 @@ impl<'a, H, C, J: Run> Worker<'a, H, C, J> {
     }
 }
 
-impl<H: Wait + Net<Stream = TcpStream> + std::time::Clock + Disk, C: Clock, J: Run> Service
+impl<H: Wait + Net<Stream = TcpStream> + std::time::Clock, C: Clock, J: Run> Service
     for Worker<'_, H, C, J> {
     ghost asks = { λ before asked after. (after.office ≡ before.office) × (after.clock ≡ before.clock)
         × HasAnswered (C.gives before.clock.now) before.office.now before.desk asked after.desk };
@@ -146,18 +145,16 @@ impl<H: Wait + Net<Stream = TcpStream> + std::time::Clock + Disk, C: Clock, J: R
     }
 }
 
-/// How often in a row a worker tries to accept a connection.
+/// How often in a row a worker tries to accept a connection, if only so many are served.
 const MAX_TRIES: u32 = 600;
 
 /// How many milliseconds it waits before it tries again.
 const PAUSE: u64 = 100;
 
-impl<H: Wait + Net<Stream = TcpStream> + std::time::Clock + Disk, C: Clock, J: Run> Worker<
-    '_,
-    H,
-    C,
-    J,
-> {
+/// For how many milliseconds the answer to a roll waits for the statement.
+const STATEMENT_PATIENCE: u64 = 30_000;
+
+impl<H: Wait + Net<Stream = TcpStream> + std::time::Clock, C: Clock, J: Run> Worker<'_, H, C, J> {
     // Does a command under the token of the tenant's operator.
     fn ordered(&mut self, tenant: usize, token: &[u8], body: &[u8]) -> Status
         ensures office { self.new.office ≡ self.old.office }
@@ -175,8 +172,27 @@ impl<H: Wait + Net<Stream = TcpStream> + std::time::Clock + Disk, C: Clock, J: R
         }
         let system = self.system();
         match self.desk.obey(&system, office, tenant, body) {
-            Ok(status) => status,
+            Ok(status) => {
+                self.await_statement(tenant);
+                status
+            }
             Err(_) => Status::Malformed,
+        }
+    }
+
+    // Waits until the statement of the period that the last command closed is written, or could not be, if statements are kept;
+    // but at most half a minute.
+    fn await_statement(&self, tenant: usize) {
+        let (Some(filing), Some(ticket)) = (&self.office.filing, self.desk.ticket) else {
+            return;
+        };
+        let Ok(now) = Instant::now(self.handle) else {
+            return;
+        };
+        if let Some(until) = now.checked_add(Duration::from_millis(STATEMENT_PATIENCE)) {
+            filing
+                .backlog
+                .await_settled(self.handle, tenant, ticket, until);
         }
     }
 
@@ -188,7 +204,12 @@ impl<H: Wait + Net<Stream = TcpStream> + std::time::Clock + Disk, C: Clock, J: R
         ensures desk { self.new.desk ≡ self.old.desk }
     {
         let door = &self.office.door;
-        for _ in 0..MAX_TRIES {
+        let tries = if door.is_endless() {
+            u32::MAX
+        } else {
+            MAX_TRIES
+        };
+        for _ in 0..tries {
             door.set_refused(false);
             let accepted = self.listener.accept();
             if let Ok((stream, _)) = accepted {
@@ -257,6 +278,7 @@ impl<H: Wait + Net<Stream = TcpStream> + std::time::Clock + Disk, C: Clock, J: R
     {
         http_link::laws::more_may_come();
         let came = Instant::now(self.handle).ok();
+        let mut activity = Activity::First;
         let mut is_last = false;
         for _ in self.handle.forever() {
             if is_last && inbox.is_empty() {
@@ -268,10 +290,10 @@ impl<H: Wait + Net<Stream = TcpStream> + std::time::Clock + Disk, C: Clock, J: R
                 return Ok(Over::Ended);
             }
             is_last |= is_stopping;
-            reader.begin(Activity::Busy, is_last);
+            reader.begin(activity, is_last);
             writer.begin(Activity::Busy, is_last);
             match serve_next(reader, writer, self, inbox)? {
-                Served::Kept => {}
+                Served::Kept => activity = Activity::Busy,
                 Served::Closed => return Ok(Over::Closed),
                 Served::Ended => return Ok(Over::Ended),
             }
@@ -299,7 +321,7 @@ impl<H: Wait + Net<Stream = TcpStream> + std::time::Clock + Disk, C: Clock, J: R
 }
 
 impl<
-    H: Wait + Net<Stream = TcpStream> + std::time::Clock + Disk + Sync,
+    H: Wait + Net<Stream = TcpStream> + std::time::Clock + Sync,
     C: Clock + Sync,
     J: Run + Send + Sync,
 > Lane for Worker<'_, H, C, J> {

@@ -5,11 +5,13 @@ ghost use Rattle.allotment.specs.Loans.{max_places};
 ghost use Rattle.books_shared.specs.Gathers.{max_workers};
 
 mod crowd;
+mod edges;
 mod host;
 mod hurry;
 mod neighbours;
 mod operators;
 mod patience;
+mod periods;
 pub mod wire;
 
 use admin_text::read_setup;

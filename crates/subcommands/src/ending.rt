@@ -17,7 +17,7 @@ pub enum Ending {
     Fault(ReplayFault),
     /// A service ended so.
     Served(ServeFault),
-    /// The file of the host's token has no token, as a line has said.
+    /// The file of the host's token has no token, or others may write it, as a line has said.
     NoToken,
     /// A statement is not good, or does not go on from the one before it, or a text is not one of receipts. Lines have
     /// said so.

@@ -13,6 +13,7 @@ use common_types::{ReadError, Token};
 use replay_text::ReplayFault;
 use std::alloc::Global;
 use std::io::ErrorKind;
+use std::os::unix::fs::PermissionsExt;
 use std::rt::Files;
 use std::{fs, io};
 
@@ -47,8 +48,18 @@ pub fn read_setup_file(
     }
 }
 
-/// The token that a file holds.
+/// The bit of a file's mode by which others may write it.
+const WRITTEN_BY_OTHERS: u32 = 0o002;
+
+/// The token that a file holds. One that others may write is refused: they could stop the service.
 pub fn token_in(rt: &(impl Files + Print + AllocGlobal), file: &str) -> Result<Token, Ending> {
+    let found = fs::metadata(rt, file).map_err(|error| cannot(rt, "read", file, &error))?;
+    if found.permissions().mode() & WRITTEN_BY_OTHERS != 0 {
+        let _ = println!(rt;
+            "ilpd: others may write {file}, which has the host's token: chmod o-w {file}"
+        );
+        return Err(Ending::NoToken);
+    }
     let text = read_file(rt, file)?;
     let Some(token) = token_of(text.as_slice()) else {
         let _ = println!(rt; "ilpd: {file} holds no token: 1 to 64 of A-Z a-z 0-9 - . _ ~ + / =");

@@ -31,18 +31,44 @@ fn check_folder(
         return Err(FolderFault::Wrong("not a folder"));
     }
     let folder = Folder::new(rt, rt.alloc(), path);
-    for tenant in setup.tenants.as_slice() {
-        let name = &tenant.terms().name;
-        if folder.has_file(name, 0).map_err(FolderFault::Unseen)? {
+    let names = folder.names().map_err(FolderFault::Unseen)?;
+    for name in names.as_slice().split(|byte| *byte == 0) {
+        if is_statement(setup, name) {
             return Err(FolderFault::Wrong(
                 "it has statements of a tenant already: each start needs a new folder",
             ));
         }
-    }
-    if has_receipts && folder.has_receipts_file().map_err(FolderFault::Unseen)? {
-        return Err(FolderFault::Wrong("it has receipts already: each start needs a new folder"));
+        if has_receipts && name == b"receipts".as_slice() {
+            return Err(FolderFault::Wrong(
+                "it has receipts already: each start needs a new folder",
+            ));
+        }
     }
     Ok(())
+}
+
+// Whether that is the name of the file of a statement of one of these tenants.
+fn is_statement(setup: &Setup, file: &[u8]) -> bool {
+    for tenant in setup.tenants.as_slice() {
+        if is_statement_of(tenant.terms().name.as_bytes(), file) {
+            return true;
+        }
+    }
+    false
+}
+
+// Whether that is the name of the file of a statement of the tenant of that name: NAME.PERIOD.statement.
+fn is_statement_of(name: &[u8], file: &[u8]) -> bool {
+    let Some(rest) = file.strip_prefix(name) else {
+        return false;
+    };
+    let Some(rest) = rest.strip_prefix(b".".as_slice()) else {
+        return false;
+    };
+    match rest.strip_suffix(b".statement".as_slice()) {
+        Some(period) => !period.is_empty() && period.iter().all(|byte| byte.is_ascii_digit()),
+        None => false,
+    }
 }
 
 /// Checks that a service can keep statements in that folder, and receipts if it has them. A line on standard output says why not.

@@ -5,7 +5,7 @@ use crate::checking::{Script, check};
 use crate::ending::Ending;
 use crate::files::read_file;
 use crate::verifying::{
-    TextFile, begin, good_in, join, memory_refused, name_in, take, tell, tenant_of,
+    TextFile, begin, good_in, join, memory_refused, name_in, refuse, take, tell, tenant_of,
 };
 use replay_text::ReplayFault;
 use statements::Chain;
@@ -45,6 +45,10 @@ struct Named<'a> {
 fn is_setup(file: &str) -> bool {
     file.ends_with(".toml")
 }
+
+/// What is said if no file is a statement.
+const NO_STATEMENT: &[u8] =
+    b"no statement is among these files: one that ends in .toml is a setup\n";
 
 // A run of `verify`: the chain so far, the setups that wait for the first statement, which names their tenant, and where
 // lines are written.
@@ -121,6 +125,9 @@ impl<'a, W: Write> Verification<'a, W> {
         }
         for file in files {
             self.take_file(rt, file)?;
+        }
+        if tenant_of(&self.chain).is_none() {
+            return refuse(&mut self.writer, NO_STATEMENT);
         }
         tell(rt.alloc(), &self.chain, &mut self.writer)
     }

@@ -24,11 +24,36 @@ pub fn memory_refused(_: AllocError) -> Ending {
     Ending::Fault(ReplayFault::Memory)
 }
 
+// A digit of a byte's number, in base 16.
+fn digit_of(value: u8) -> u8 {
+    let value = value % 16;
+    if value < 10 {
+        b'0' + value
+    } else {
+        b'a' + (value - 10)
+    }
+}
+
+// The bytes of a text that somebody else has written, as far as they can be printed; the others by their numbers, as \x1b.
+fn put_shown(out: &mut Vec<u8>, text: &[u8]) -> Result<(), AllocError> {
+    for byte in text {
+        match *byte {
+            b' '..=b'~' => out.push(*byte)?,
+            other => {
+                out.extend_from_slice(b"\\x")?;
+                out.push(digit_of(other / 16))?;
+                out.push(digit_of(other))?;
+            }
+        }
+    }
+    Ok(())
+}
+
 // A line of a text after these words; the text may have ended before it.
 fn put_line(out: &mut Vec<u8>, words: &str, text: &[u8], line: usize) -> Result<(), AllocError> {
     out.extend_from_slice(words.as_bytes())?;
     match line_at(text, line) {
-        Some(bytes) => out.extend_from_slice(bytes)?,
+        Some(bytes) => put_shown(out, bytes)?,
         None => out.extend_from_slice(b"(nothing)")?,
     }
     out.extend_from_slice(b"\n")

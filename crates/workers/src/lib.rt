@@ -11,8 +11,9 @@ mod reply;
 mod rolling;
 mod tools;
 mod traits;
+mod until;
 
-pub use backlog::{Backlog, BacklogRoom};
+pub use backlog::{Backlog, BacklogRoom, BeingWritten};
 pub use carrying::{Job, carry};
 pub use governing::{GovernFault, govern};
 pub use lanes::{Lane, StartFault, run_workers};

@@ -6,10 +6,11 @@ ghost use Rattle.allotment.specs.Waits.{IsPlaceBack, asked_for, waiting_of};
 ghost use Rattle.workers.specs.PlaceCounts.{missed_by, raised_at, unless_answered};
 ghost use Rattle.workers.specs.Places.{IsAdmitted, after_look, has_place, has_tenant, is_kept_for, without_one};
 
+use crate::until::left_until;
 use allotment::{Admission, Lending};
 use std::alloc::{AllocError, Global};
 use std::sync::{Condvar, CondvarTimeouts, Mutex, MutexGuard, Wait};
-use std::time::{Clock, Duration, Instant};
+use std::time::{Clock, Instant};
 
 /// How many places a tenant uses and waits for, at one moment, and how many of its packets got no answer since the places were
 /// made.
@@ -133,14 +134,6 @@ impl Places {
         {
             bell.notify_one();
         }
-    }
-}
-
-// How much time is left until that moment; none if the clock can't be read.
-fn left_until(clock: &impl Clock, until: Instant) -> Duration {
-    match Instant::now(clock) {
-        Ok(now) => until.saturating_duration_since(now),
-        Err(_) => Duration::ZERO,
     }
 }
 

@@ -39,11 +39,25 @@ impl Question {
 
 impl OperatorService for OperatorDesk {
     ghost use Rattle.std.specs.Prelude.{◌≡◌, ◌+◌, ◌-◌, ◌^◌, min, codes};
+    ghost use Rattle.connector_tests.specs.Tenants.{refused_by};
 
     ghost asks = { λ old question new. (question.status ≡ old.question.status) × (new.question ≡ old.question)
         × (new.questions ≡ min (old.questions + 1) (2 ^ 32 - 1)) };
 
     ghost answer = { λ _. codes "reply" };
+
+    ghost refusal = { λ _ wanted. refused_by wanted.token };
+
+    // The status that turns a request away by its token.
+    fn refuses(&self, wanted: &OperatorWanted<'_>) -> Option<u16> {
+        if wanted.token == b"tok-Eve".as_slice() {
+            Some(401)
+        } else if wanted.token == b"tok-Nil".as_slice() {
+            Some(404)
+        } else {
+            None
+        }
+    }
 
     fn operator(&mut self, wanted: &OperatorWanted<'_>, body: &[u8]) -> u16 {
         self.questions = self.questions.saturating_add(1);
@@ -106,7 +120,14 @@ POST /acme/stop HTTP/1.1|Authorization: Bearer tok-Ann|404 Not Found\r\n
 POST /acme/setup HTTP/1.1|Authorization: Bearer tok-Ann|405 Method Not Allowed\r\nAllow: GET\r\n
 HEAD /acme/metrics HTTP/1.1|X: y|405 Method Not Allowed\r\nAllow: GET\r\n
 GET /acme/setup HTTP/1.1|X: y|401 Unauthorized\r\nWWW-Authenticate: Bearer\r\n
-GET /acme/setup HTTP/1.1|Authorization: Basic tok-Ann|401 Unauthorized\r\nWWW-Authenticate: Bearer\r\n";
+GET /acme/setup HTTP/1.1|Authorization: Basic tok-Ann|401 Unauthorized\r\nWWW-Authenticate: Bearer\r\n
+GET /acme/setup HTTP/1.1|Authorization: Bearer tok-Eve|401 Unauthorized\r\nWWW-Authenticate: Bearer\r\n";
+
+// Lines of the head of a command to acme whose body does not come, and what the answer begins with.
+static TURNED_AWAY: &str =
+    r"Content-Length: 4\r\nAuthorization: Bearer tok-Eve|401 Unauthorized\r\nWWW-Authenticate: Bearer\r\n
+Transfer-Encoding: chunked\r\nAuthorization: Bearer tok-Eve|401 Unauthorized\r\nWWW-Authenticate: Bearer\r\n
+Expect: 100-continue\r\nContent-Length: 4\r\nAuthorization: Bearer tok-Nil|404 Not Found\r\n";
 
 fn request_of(name: &str) -> Result<OperatorRequest, Fail> {
     match name {
@@ -228,6 +249,21 @@ fn is_row_commanded(alloc: Global, row: &'static str) -> Result<bool, Fail> {
     Ok(true)
 }
 
+fn is_row_turned_away(alloc: Global, row: &'static str) -> Result<bool, Fail> {
+    let (fields, begin) = first_cell(row)?;
+    let mut stream = Vec::from_slice(alloc, b"POST /acme HTTP/1.1\r\n")?;
+    stream.extend_from_slice(bytes_of(alloc, fields)?.as_slice())?;
+    stream.extend_from_slice(b"\r\n\r\n")?;
+    let (question, _) = question_of("acme|setup||200|")?;
+    for cut in 0..=stream.len() {
+        let outcome = serve(alloc, stream.as_slice(), cut, question);
+        if outcome.questions != 0 || !begins(alloc, &outcome, begin)? {
+            return Ok(false);
+        }
+    }
+    Ok(true)
+}
+
 fn is_row_misframed(alloc: Global, row: &'static str) -> Result<bool, Fail> {
     let (stream, begin) = posted(alloc, row)?;
     let (question, _) = question_of("acme|setup||200|")?;
@@ -244,6 +280,9 @@ fn is_row_misframed(alloc: Global, row: &'static str) -> Result<bool, Fail> {
 fn commands(rt: HostRuntime) -> Result<(), Fail> {
     for row in COMMANDED.lines() {
         assert!(rt; is_row_commanded(rt.alloc(), row)?, "{row}");
+    }
+    for row in TURNED_AWAY.lines() {
+        assert!(rt; is_row_turned_away(rt.alloc(), row)?, "{row}");
     }
     for row in MISFRAMED.lines() {
         assert!(rt; is_row_misframed(rt.alloc(), row)?, "{row}");

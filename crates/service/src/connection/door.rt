@@ -1,15 +1,21 @@
 //! Which connections may still come, how many are there, and whether others wait for the thread of one.
 
 use crate::connection::pace::{Rush, rush_of};
+use crate::connection::timed::millis_of;
 use crate::running::ended::Ended;
 use std::sync::Wait;
 use std::sync::atomic::{AtomicBool, AtomicU64, Ordering};
+use std::time::{Clock, Instant};
 
-/// How many connections may still be served, how many are open, how many threads wait for one, and whether the system refuses
-/// them. A door that is closed lets no connection in any more, and presses those that are open to end.
+/// How many connections may still be served, how many are open and may be, how many threads wait for one, and whether the system
+/// refuses them. A door that is closed lets no connection in any more, and presses those that are open to end.
 #[derive(Drop)]
 pub struct Door {
+    // When the service began, and how many milliseconds later the door was closed.
+    begun: Instant,
+    closed_at: AtomicU64,
     left: AtomicU64,
+    most: AtomicU64,
     open: AtomicU64,
     waiting: AtomicU64,
     refused: AtomicBool,
@@ -24,10 +30,13 @@ pub struct Door {
 pub struct Deserted(());
 
 impl Door {
-    /// A door for so many connections.
-    pub fn new(connections: u64) -> Door {
+    /// A door for so many connections in all, of a service that begins now.
+    pub fn new(begun: Instant, connections: u64) -> Door {
         Door {
+            begun,
+            closed_at: AtomicU64::new(0),
             left: AtomicU64::new(connections),
+            most: AtomicU64::new(u64::MAX),
             open: AtomicU64::new(0),
             waiting: AtomicU64::new(0),
             refused: AtomicBool::new(false),
@@ -52,6 +61,11 @@ impl Door {
             }
         }
         unreachable!()
+    }
+
+    /// Whether connections are served without end.
+    pub fn is_endless(&self) -> bool {
+        self.left.load(Ordering::SeqCst) > u64::MAX / 2
     }
 
     /// Another connection may be served in place of one that was idle or did not come.
@@ -79,9 +93,35 @@ impl Door {
         self.waiting.load(Ordering::SeqCst)
     }
 
+    /// So many connections may be open at once: each has a thread.
+    pub fn set_most(&self, most: u64) {
+        self.most.store(most, Ordering::SeqCst);
+    }
+
+    // For how many milliseconds the service has run; none if the clock can't be read.
+    fn age(&self, clock: &impl Clock) -> u64 {
+        match Instant::now(clock) {
+            Ok(now) => millis_of(now.saturating_duration_since(self.begun)),
+            Err(_) => 0,
+        }
+    }
+
     /// Lets nobody in any more.
-    pub fn close(&self) {
+    pub fn close(&self, clock: &impl Clock) {
+        if self.is_closed() {
+            return;
+        }
+        self.closed_at.store(self.age(clock), Ordering::SeqCst);
         self.closed.store(true, Ordering::SeqCst);
+    }
+
+    /// For how many milliseconds it has been closed; none if it is open.
+    pub fn closed_for(&self, clock: &impl Clock) -> u64 {
+        if !self.is_closed() {
+            return 0;
+        }
+        self.age(clock)
+            .saturating_sub(self.closed_at.load(Ordering::SeqCst))
     }
 
     pub fn is_closed(&self) -> bool {
@@ -148,8 +188,13 @@ impl Door {
         self.refused.store(refused, Ordering::SeqCst);
     }
 
+    // How many connections more may be open.
+    fn free(&self) -> u64 {
+        self.most.load(Ordering::SeqCst).saturating_sub(self.open())
+    }
+
     /// What connections that are open have to hurry for.
     pub fn rush(&self) -> Rush {
-        rush_of(self.is_closed(), self.waiting(), self.is_refused())
+        rush_of(self.is_closed(), self.free(), self.is_refused())
     }
 }

@@ -1,7 +1,7 @@
 //! How long a connection may do what, and when it gives up its thread.
 
 ghost use Rattle.std.specs.Prelude.{◌≡◌};
-ghost use Rattle.service.specs.Pace.{time_left, rush_of, time_for, wait_of, yields};
+ghost use Rattle.service.specs.Pace.{rush_of, time_for, time_left, wait_of, yields};
 
 /// For how many milliseconds a read or write waits at most before it looks whether it may go on.
 pub const SLICE: u64 = 250;
@@ -22,35 +22,39 @@ pub enum Rush {
 pub enum Activity {
     /// Its next request has not begun to come.
     Idle,
+    /// Its first request comes: the time that it waited for that counts too.
+    First,
     /// A request comes, or an answer goes.
     Busy,
 }
 
-/// What to hurry for: first the end of a service that is closed, then others, if no thread waits for a connection or
-/// the system has just refused one.
-pub fn rush_of(is_closed: bool, waiting: u64, is_refused: bool) -> Rush
-    ensures { result ≡ rush_of is_closed waiting is_refused }
+/// What to hurry for: first the end of a service that is closed, then others, if as many connections are open as may be or the
+/// system has just refused one.
+pub fn rush_of(is_closed: bool, free: u64, is_refused: bool) -> Rush
+    ensures { result ≡ rush_of is_closed free is_refused }
 {
     if is_closed {
         Rush::Stopping
-    } else if waiting == 0 || is_refused {
+    } else if free == 0 || is_refused {
         Rush::Crowded
     } else {
         Rush::Calm
     }
 }
 
-/// For how many milliseconds in all a connection may do that. If the service stops, these count from the stop on. Then
-/// bytes that an idle connection has sent by the stop are read, and a request that has begun has five seconds.
+/// For how many milliseconds in all a connection may do that. In a crowd a connection has a quarter of a second for all of its first
+/// request, and each later one a second. If the service stops, these count from the stop on. Then bytes that an idle connection has
+/// sent by the stop are read, and a request that has begun has five seconds.
 pub fn time_for(activity: Activity, rush: Rush) -> u64
     ensures { result ≡ time_for activity rush }
 {
     match (activity, rush) {
-        (_, Rush::Calm) => 30_000,
-        (Activity::Idle, Rush::Crowded) => 250,
+        (Activity::First, Rush::Calm) => 60_000,
+        (Activity::Idle | Activity::Busy, Rush::Calm) => 30_000,
+        (Activity::Idle | Activity::First, Rush::Crowded) => 250,
         (Activity::Busy, Rush::Crowded) => 1_000,
         (Activity::Idle, Rush::Stopping) => 1,
-        (Activity::Busy, Rush::Stopping) => 5_000,
+        (Activity::First | Activity::Busy, Rush::Stopping) => 5_000,
     }
 }
 

@@ -15,9 +15,6 @@ use std::net::TcpStream;
 use std::sync::Wait;
 use std::time::{Clock, Duration, Instant};
 
-/// How many milliseconds the host's or an operator's answer may take to be written.
-pub const PATIENCE: u64 = 5_000;
-
 /// For how long something was done, and for how much of that the service was to stop.
 #[derive(Clone, Copy)]
 struct Spent {
@@ -214,7 +211,7 @@ impl<H: Wait + Clock> Side<'_, H> {
     fn measures_reads(&self) -> bool {
         match self.limit {
             Limit::Until(_) | Limit::Paced(_, Activity::Idle, _) => false,
-            Limit::Within(_) | Limit::Paced(_, Activity::Busy, _) => true,
+            Limit::Within(_) | Limit::Paced(_, Activity::First | Activity::Busy, _) => true,
         }
     }
 
@@ -253,8 +250,8 @@ impl<H: Wait + Clock> Side<'_, H> {
 
 /// A side of a connection that has only so long for what it does.
 pub trait Paced: Source + Sink {
-    /// It does that from now on, and has spent no time on it yet. If `is_sparing`, it reads a byte at a time, so that
-    /// it takes no byte that comes after what is read.
+    /// It does that from now on, and has spent no time on it yet; but a first request goes on with the time that was spent. If
+    /// `is_sparing`, it reads a byte at a time, so that it takes no byte that comes after what is read.
     fn begin(&mut self, activity: Activity, is_sparing: bool)
         ensures reads { Self.remaining self.new ≡ Self.remaining self.old }
         ensures writes { Self.contents self.new ≡ Self.contents self.old }
@@ -336,8 +333,12 @@ impl<H: Wait + Clock> Timed<'_, H> {
 
 impl<H: Wait + Clock> Paced for Timed<'_, H> {
     fn begin(&mut self, activity: Activity, is_sparing: bool) {
-        if let Limit::Paced(door, _, _) = self.side.limit {
-            self.side.limit = Limit::Paced(door, activity, NO_TIME);
+        if let Limit::Paced(door, _, spent) = self.side.limit {
+            let spent = match activity {
+                Activity::First => spent,
+                Activity::Idle | Activity::Busy => NO_TIME,
+            };
+            self.side.limit = Limit::Paced(door, activity, spent);
         }
         self.is_sparing = is_sparing;
     }

@@ -11,7 +11,10 @@ pub trait Disk {
     /// Whether there is a file at that path.
     fn has(&self, path: &str) -> io::Result<bool>;
 
-    /// The bytes of the file at that path.
+    /// The names of what is in a folder, a zero byte after each.
+    fn names(&self, alloc: Global, folder: &str) -> io::Result<Vec<u8>>;
+
+    /// The bytes of the file at that path. A symbolic link is not followed: it is an error.
     fn read_file(&self, alloc: Global, path: &str) -> io::Result<Vec<u8>>;
 
     /// Writes a text to a new file at that path, which only its owner may read, and on to the disk. A file that was
@@ -20,6 +23,9 @@ pub trait Disk {
 
     /// Gives a file of a folder another path in it, and writes the folder on to the disk.
     fn rename(&self, folder: &str, from: &str, to: &str) -> io::Result<()>;
+
+    /// Writes the names of a folder's files on to the disk.
+    fn sync_folder(&self, folder: &str) -> io::Result<()>;
 }
 
 /// The mode of a file that only its owner may read and write.
@@ -38,7 +44,16 @@ impl<R: Files> Disk for R {
         fs::exists(self, path)
     }
 
+    fn names(&self, alloc: Global, folder: &str) -> io::Result<Vec<u8>> {
+        let mut names = Vec::new(alloc);
+        self.open_dir(folder)?.read_to_end(&mut names)?;
+        Ok(names)
+    }
+
     fn read_file(&self, alloc: Global, path: &str) -> io::Result<Vec<u8>> {
+        if fs::symlink_metadata(self, path)?.is_symlink() {
+            return Err(io::Error::from(ErrorKind::InvalidInput));
+        }
         let mut text = Vec::new(alloc);
         File::open(self, path)?.read_to_end(&mut text)?;
         Ok(text)
@@ -55,6 +70,10 @@ impl<R: Files> Disk for R {
 
     fn rename(&self, folder: &str, from: &str, to: &str) -> io::Result<()> {
         fs::rename(self, from, to)?;
+        self.sync_folder(folder)
+    }
+
+    fn sync_folder(&self, folder: &str) -> io::Result<()> {
         File::open(self, folder)?.sync_all()
     }
 }

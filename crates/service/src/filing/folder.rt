@@ -1,8 +1,8 @@
 //! A folder of statements, and of receipts.
 
-use crate::filing::StatementStore;
 use crate::filing::disk::Disk;
 use crate::filing::receipt_store::ReceiptStore;
+use crate::filing::{Found, StatementStore};
 use common_types::Name;
 use std::alloc::Global;
 use std::io;
@@ -51,10 +51,25 @@ impl<D: Disk> Folder<'_, D> {
         Ok(file)
     }
 
-    /// Whether there is a file for a statement.
-    pub fn has_file(&self, name: &Name, period: u64) -> io::Result<bool> {
+    // What the file of a statement has, whose text that is. If it has that text, its name is written on to the disk, since that may
+    // have failed before.
+    fn found(&self, name: &Name, period: u64, text: &[u8]) -> io::Result<Found> {
         let file = self.file_of(name, period)?;
-        self.disk.has(self.path_of(file.as_slice(), b"")?.as_str())
+        let path = self.path_of(file.as_slice(), b"")?;
+        if !self.disk.has(path.as_str())? {
+            return Ok(Found::Nothing);
+        }
+        let there = self.disk.read_file(self.alloc, path.as_str())?;
+        if there.as_slice() != text {
+            return Ok(Found::Other);
+        }
+        self.disk.sync_folder(self.path)?;
+        Ok(Found::Same)
+    }
+
+    /// The names of what is in it, a zero byte after each.
+    pub fn names(&self) -> io::Result<Vec<u8>> {
+        self.disk.names(self.alloc, self.path)
     }
 
     /// The bytes of the file of a statement.
@@ -64,8 +79,8 @@ impl<D: Disk> Folder<'_, D> {
         self.disk.read_file(self.alloc, path.as_str())
     }
 
-    /// Whether there is a file for receipts.
-    pub fn has_receipts_file(&self) -> io::Result<bool> {
+    // Whether there is a file for receipts.
+    fn has_receipts_file(&self) -> io::Result<bool> {
         self.disk.has(self.path_of(RECEIPTS, b"")?.as_str())
     }
 
@@ -85,12 +100,12 @@ impl<D: Disk> Folder<'_, D> {
 
 impl<D: Disk> StatementStore for Folder<'_, D> {
     // No clause can say what a file system keeps.
-    ghost tells = { λ _ _ _ _ _. Unit {0} };
+    ghost tells = { λ _ _ _ _. Unit {0} };
 
     ghost keeps = { λ _ _ _ _. Unit {0} };
 
-    fn has(&mut self, name: &Name, period: u64) -> Option<bool> {
-        self.has_file(name, period).ok()
+    fn find(&mut self, name: &Name, period: u64, text: &[u8]) -> Found {
+        self.found(name, period, text).unwrap_or(Found::Unknown)
     }
 
     fn keep(&mut self, name: &Name, period: u64, text: &[u8]) -> bool {

@@ -5,17 +5,18 @@ ghost use Rattle.service.specs.Hosting.{HasTold, IsToldOf};
 ghost use Rattle.service.specs.Metrics.{ArePacketsOf, IsBookOf, IsMetricsOf};
 ghost use Rattle.service.specs.Presence.{IsPresentText};
 
-use crate::connection::door::Deserted;
-use crate::connection::timed::{PATIENCE, Timed};
+use crate::connection::door::{Deserted, Door};
+use crate::connection::timed::Timed;
 use crate::host::asking::{Hosted, Untold, told_to_host};
-use crate::host::callers::Answering;
+use crate::host::callers::{Answering, Due};
+use crate::host::letters::Letter;
 use crate::host::metrics::{
     BookFigures, Gauges, PacketFigures, ServiceCounts, all_counts, figures_of, metrics_text,
 };
 use crate::host::presence::present_text;
 use crate::office::Office;
 use common_types::Token;
-use http_link::{HostRequest, HostService, serve_host};
+use http_link::{HostRequest, HostService, host_arrival, serve_host};
 use meters::{Kind, MeterSeat};
 use one_list::Run;
 use std::alloc::{AllocError, Global};
@@ -66,6 +67,9 @@ impl<'a> HostDoor<'a> {
 
 /// How many milliseconds lie between two looks whether all threads have ended.
 const PAUSE: u64 = 20;
+
+/// How many milliseconds the answer to a stop has to leave once the service has ended.
+const PATIENCE: u64 = 5_000;
 
 const NO_PLACES: PlaceUse = PlaceUse {
     share: 0,
@@ -190,6 +194,14 @@ impl<H: Wait, J: Run> Gauges for Gauged<'_, H, J> {
     }
 }
 
+// Lets nobody in any more, if the service does not stop already.
+fn begin_stop(clock: &impl Clock, packets: &Door, door: &HostDoor<'_>) {
+    if !packets.is_closed() {
+        packets.close(clock);
+        door.shut();
+    }
+}
+
 impl<H: Wait + Clock, J: Run> Hosted for Inspected<'_, H, J> {
     // The door may be closed or opened the next moment.
     ghost admits = { λ _ _. Unit {0} };
@@ -232,8 +244,7 @@ impl<H: Wait + Clock, J: Run> Hosted for Inspected<'_, H, J> {
 
     fn stop(&self) -> Deserted {
         let door = &self.office.door;
-        door.close();
-        self.door.shut();
+        begin_stop(self.handle, door, self.door);
         for _ in self.handle.forever() {
             if let Some(deserted) = door.deserted() {
                 return deserted;
@@ -275,11 +286,53 @@ impl<H: Wait + Net<Stream = TcpStream> + Clock, J: Run> Host<'_, H, J> {
 impl<H: Wait + Net<Stream = TcpStream> + Clock, J: Run> Answering for Host<'_, H, J> {
     ghost serves = { λ before after. after.seat ≡ before.seat };
 
-    fn serve_connection(&mut self, stream: &TcpStream, time: Duration) {
-        let mut reader = Timed::within(stream, self.handle, time);
-        let mut writer = Timed::within(stream, self.handle, Duration::from_millis(PATIENCE));
-        let _ = serve_host(&mut reader, &mut writer, self);
+    // A stop begins as soon as its request has come, and is answered once nobody serves packets any more. Meanwhile others are
+    // answered.
+    fn due(&self, came: &[u8]) -> Due {
+        let packets = &self.office.door;
+        if host_arrival(came, self.door.token.as_bytes()) == Some(HostRequest::Stop) {
+            begin_stop(self.handle, packets, &self.door);
+            return match packets.deserted() {
+                Some(_) => Due::Now(0),
+                None => Due::AtTheEnd,
+            };
+        }
+        if has_head(came) {
+            Due::Now(0)
+        } else {
+            Due::Later
+        }
     }
+
+    fn serve_connection(&mut self, stream: &TcpStream, time: Duration, letter: &mut Letter) {
+        let mut reader = Timed::within(stream, self.handle, time);
+        let _ = serve_host(&mut reader, letter, self);
+    }
+
+    fn may_leave(&self, _letter: &Letter) -> bool {
+        true
+    }
+
+    fn patience(&self) -> u64 {
+        PATIENCE
+    }
+}
+
+// Whether an empty line follows the first line that is not empty.
+fn has_head(bytes: &[u8]) -> bool {
+    let (mut has_begun, mut is_empty) = (false, true);
+    for byte in bytes {
+        match byte {
+            b'\n' if has_begun && is_empty => return true,
+            b'\n' => is_empty = true,
+            b'\r' => {}
+            _ => {
+                has_begun = true;
+                is_empty = false;
+            }
+        }
+    }
+    false
 }
 
 impl<H: Wait + Net<Stream = TcpStream> + Clock, J: Run> HostService for Host<'_, H, J> {

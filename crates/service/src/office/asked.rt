@@ -2,7 +2,8 @@
 
 ghost use Rattle.std.specs.Prelude.{◌≡◌, ◌<◌};
 ghost use Rattle.std.specs.Str.{bytes_eq};
-ghost use Rattle.service.specs.Answering.{operator_token, tenants_of};
+ghost use Rattle.service.specs.Answering.{operator_by, operator_token, tenants_of};
+ghost use Rattle.service.specs.Served.{tenant_named};
 
 use crate::office::Office;
 use http_link::RequestKind;
@@ -29,5 +30,17 @@ impl<J: Run> Office<J> {
             self.refuse_token(tenant);
         }
         is_operator
+    }
+
+    /// The number of the tenant of that name, if that is the token of its operator. Nothing is counted.
+    pub fn operator_of(&self, name: &[u8], shown: &[u8]) -> Option<usize>
+        ensures { result ≡ operator_by self.now shown.now (tenant_named self.now.names.items name.now) }
+    {
+        let tenant = self.tenant_named(name)?;
+        if self.terms[tenant].admin.as_bytes() == shown {
+            Some(tenant)
+        } else {
+            None
+        }
     }
 }

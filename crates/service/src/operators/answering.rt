@@ -7,18 +7,19 @@ ghost use Rattle.http_link.specs.declared.request.RequestKind.TheVariants.{Admin
 ghost use Rattle.service.specs.Explaining.{explanation, finding_asked};
 ghost use Rattle.service.specs.Questions.{question_at};
 ghost use Rattle.service.specs.Operating.{HasOperated, HasToldOperator, IsCommanded, IsExplained, IsHiddenSetup, IsKept, IsOperated, IsTenantMetrics};
-ghost use Rattle.service.specs.Operating.{command_fault_line, told_at};
+ghost use Rattle.service.specs.Operating.{command_fault_line, operator_refusal, told_at};
 ghost use Rattle.service.specs.Answering.{WasAskedCommand, command_line, obeyed_status, operator_token};
 ghost use Rattle.service.specs.Served.{tenant_named};
 ghost use Rattle.workers.specs.Replies.{http_code};
 ghost use Rattle.std.specs.List.{slice_get};
 ghost use Rattle.std.specs.Str.{bytes_eq};
 
-use crate::connection::timed::{PATIENCE, Timed};
+use crate::connection::timed::Timed;
 use crate::filing::disk::Disk;
 use crate::filing::folder::Folder;
-use crate::host::callers::Answering;
+use crate::host::callers::{Answering, Due};
 use crate::host::hosting::Gauged;
+use crate::host::letters::{Filed, Letter};
 use crate::host::metrics::{counts_of, tenant_metrics_text};
 use crate::host::presence::tenant_text;
 use crate::office::Office;
@@ -31,7 +32,8 @@ use crate::system::System;
 use crate::worker::desk::Desk;
 use admin_text::TextFault;
 use http_link::{
-    OperatorRequest, OperatorService, OperatorWanted, RequestKind, Topic, serve_operator,
+    OperatorArrival, OperatorList, OperatorRequest, OperatorService, OperatorWanted, RequestKind,
+    Topic, operator_arrival, serve_operator,
 };
 use ilp_addr::Moment;
 use meters::MeterSeat;
@@ -85,6 +87,8 @@ pub struct Operators<'a, H, C, J: Run> {
     office: &'a Office<J>,
     desk: Desk<J>,
     told: LastAnswer,
+    // The period that the last command closed, if its statement is still to be written.
+    filed: Option<Filed>,
     ghost seated: { desk.seat.meters ≡ office.now.meters.id },
 }
 
@@ -107,6 +111,7 @@ impl<'a, H, C, J: Run> Operators<'a, H, C, J> {
             office,
             desk,
             told: LastAnswer::ByDesk,
+            filed: None,
         }
     }
 
@@ -323,15 +328,41 @@ impl<H: Wait + Disk, C: Clock, J: Run> Operators<'_, H, C, J> {
         let system = self.system();
         let obeyed = self.desk.obey(&system, office, tenant, body);
         office.door.command_ends();
+        self.filed = match self.desk.ticket {
+            Some(ticket) => Some(Filed { tenant, ticket }),
+            None => None,
+        };
         obeyed
     }
 }
 
+/// How many milliseconds an answer has to leave once the service has ended.
+const PATIENCE: u64 = 500;
+
+impl<H, C, J: Run> OperatorList for Operators<'_, H, C, J> {
+    fn operator_of(&self, wanted: &OperatorWanted<'_>) -> Option<usize> {
+        self.office.operator_of(wanted.tenant, wanted.token)
+    }
+}
+
 impl<H: Wait + Disk, C: Clock, J: Run> OperatorService for Operators<'_, H, C, J> {
+    ghost refusal = { λ o wanted. operator_refusal o.office.now wanted };
+
     ghost asks = { λ before asked after. (after.office ≡ before.office) × (after.clock ≡ before.clock)
         × IsOperated (C.gives before.clock.now) before.office.now asked.wanted.request before.desk asked (told_at after.told after.desk) after.desk };
 
     ghost answer = { λ o. told_at o.told o.desk };
+
+    fn refuses(&self, wanted: &OperatorWanted<'_>) -> Option<u16> {
+        let Some(tenant) = self.office.tenant_named(wanted.tenant) else {
+            return Some(404);
+        };
+        if self.office.is_operator(tenant, wanted.token) {
+            None
+        } else {
+            Some(401)
+        }
+    }
 
     fn operator(&mut self, wanted: &OperatorWanted<'_>, body: &[u8]) -> u16 {
         match wanted.request {
@@ -354,9 +385,35 @@ impl<H: Wait + Net<Stream = TcpStream> + std::time::Clock + Disk, C: Clock, J: R
     ghost serves = { λ before after. (after.office ≡ before.office) × (after.clock ≡ before.clock)
         × HasOperated (C.gives before.clock.now) before.office.now before.desk after.desk };
 
-    fn serve_connection(&mut self, stream: &TcpStream, time: Duration) {
+    fn due(&self, came: &[u8]) -> Due {
+        match operator_arrival(came, self) {
+            OperatorArrival::Begun | OperatorArrival::Headed(_) => Due::Later,
+            OperatorArrival::Waiting(_) => Due::Invited,
+            OperatorArrival::Refused => Due::Now(0),
+            OperatorArrival::Whole(tenant) => Due::Now(tenant),
+        }
+    }
+
+    fn serve_connection(&mut self, stream: &TcpStream, time: Duration, letter: &mut Letter) {
         let mut reader = Timed::within(stream, self.handle, time);
-        let mut writer = Timed::within(stream, self.handle, Duration::from_millis(PATIENCE));
-        let _ = serve_operator(&mut reader, &mut writer, self);
+        let _ = serve_operator(&mut reader, letter, self);
+        letter.after = self.filed;
+        self.filed = None;
+    }
+
+    // A roll is answered once the statement of the period that it closed is written, or could not be.
+    fn may_leave(&self, letter: &Letter) -> bool {
+        match (&self.office.filing, letter.after) {
+            (Some(filing), Some(filed)) => {
+                filing
+                    .backlog
+                    .is_settled(self.handle, filed.tenant, filed.ticket)
+            }
+            _ => true,
+        }
+    }
+
+    fn patience(&self) -> u64 {
+        PATIENCE
     }
 }

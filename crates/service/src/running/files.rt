@@ -6,6 +6,7 @@ ghost use Rattle.books_shared.specs.Gathers.{max_workers};
 ghost use Rattle.service.specs.Files.{files_of};
 
 use crate::host::callers::MAX_CALLERS;
+use crate::host::letters::MAX_LETTERS;
 use crate::running::plan::Extent;
 use std::alloc::{AllocError, Global};
 use std::net::TcpListener;
@@ -17,13 +18,13 @@ const OTHERS: usize = 8;
 const BEFORE: usize = 6;
 
 /// The most files that a process with this extent has open at once. There is one for each connection, each exchange
-/// with a peer, and each of 16 callers at each door beside that of the packets. Eight more are for the rest.
+/// with a peer, and each of 16 connections at each door beside that of the packets. Eight more are for the rest.
 pub fn files_of(extent: Extent, doors: u8) -> usize
     requires workers { extent.workers ≤ max_places }
     requires connections { extent.connections ≤ max_workers }
     ensures { result ≡ files_of extent.connections extent.workers doors }
 {
-    let callers = MAX_CALLERS * doors as usize;
+    let callers = (MAX_CALLERS + MAX_LETTERS) * doors as usize;
     extent.connections + extent.workers + callers + OTHERS
 }
 

@@ -51,10 +51,10 @@ fn waiting_periods<J: Run, H: Wait, C>(
     for tenant in 0..office.books.tenants() {
         for _ in 0..filing.backlog.len(system.handle, tenant) {
             all.reserve(1)?;
-            let Some((period, room)) = filing.backlog.take(system.handle, tenant) else {
+            let Some((period, written)) = filing.backlog.take(system.handle, tenant) else {
                 break;
             };
-            room.give_up(system.handle);
+            written.set_written(system.handle);
             all.push_reserved(period);
         }
     }

@@ -19,6 +19,7 @@ use meters::{MeterSeat, Meters};
 use one_list::{Opened, Run};
 use std::alloc::{AllocError, Global};
 use std::sync::atomic::AtomicU64;
+use std::time::Instant;
 use tenant_core::TenantSetup;
 use workers::{Backlog, Places};
 
@@ -32,10 +33,11 @@ pub struct Begun<J: Run> {
     pub shares: Vec<Share<J>>,
 }
 
-/// The office of the tenants of a setup, to whom nothing has happened, for this plan. So many desks count in its books, and
+/// The office of the tenants of a setup, to whom nothing has happened, for this plan, of a service that begins at that moment. So many desks count in its books, and
 /// keep receipts if the run is audited. The list of what is done to their books was just opened, for so many tenants and desks.
 pub fn open_office<J: Run>(
     alloc: Global,
+    begun: Instant,
     opened: Opened,
     setup: &Setup,
     plan: Plan<'_>,
@@ -70,7 +72,7 @@ pub fn open_office<J: Run>(
         books,
         meters,
         places: places_of(alloc, extent, tenants.len())?,
-        door: Door::new(total_of(extent)),
+        door: Door::new(begun, total_of(extent)),
         filing: filing_of(alloc, statements, tenants.len())?,
         refused_tokens: counters(alloc, tenants.len())?,
         start,

@@ -21,8 +21,10 @@ ghost use Rattle.service.specs.Served.{served_line, lines_upto};
 
 use crate::connection::door::Door;
 use crate::filing::disk::Disk;
+use crate::filing::scribe::Scribe;
 use crate::host::callers::{Beside, Callers, Porter};
 use crate::host::hosting::{Host, HostDoor};
+use crate::host::letters::Letters;
 use crate::office::Office;
 use crate::operators::answering::{OperatorDoor, Operators};
 use crate::running::auditing::audit_told;
@@ -49,6 +51,7 @@ use std::net::{Net, TcpListener, TcpStream};
 use std::sync::Wait;
 use std::thread;
 use std::thread::{Threads, join_mut};
+use std::time::Instant;
 use tenant_core::Period;
 use workers::{Lane, StartFault, run_workers};
 
@@ -144,14 +147,34 @@ fn dismissed<H, C, J: Run>(
     }
 }
 
-// What who answered operators leaves, if anyone did, its share in that room: what its seat has counted is the first one's from
-// then on.
+// Who writes the statements, if they are kept.
+fn scribe_at<'a, H, C, J: Run>(
+    system: &'a System<'_, H, C>,
+    office: &'a Office<J>,
+    is_audited: bool,
+) -> Option<Scribe<'a, H, J>> {
+    if office.filing.is_none() {
+        return None;
+    }
+    Some(Scribe::new(system.handle, system.alloc, office, is_audited))
+}
+
+// The periods that the one who writes statements has kept for the audit.
+fn written_by<H, J: Run>(alloc: Global, scribe: Option<Scribe<'_, H, J>>) -> Vec<Period> {
+    match scribe {
+        Some(scribe) => scribe.into_periods(),
+        None => Vec::new(alloc),
+    }
+}
+
+// What who answered operators leaves, if anyone did, its share in that room, with these periods: what its seat has counted is the
+// first one's from then on.
 fn relieved<H, C, J: Run>(
-    alloc: Global,
     office: &Office<J>,
     first: &mut MeterSeat,
     operators: Option<Porter<'_, H, Operators<'_, H, C, J>>>,
     room: Vec<Share<J>>,
+    written: Vec<Period>,
 ) -> Done<J>
     requires here { first.old.meters ≡ office.now.meters.id }
     requires same { IfSome operators (λ porter. porter.answering.office.now ≡ office.now) }
@@ -169,7 +192,7 @@ fn relieved<H, C, J: Run>(
         + sum_by (λ porter. count_of tenant kind porter.answering.desk.seat) (option_to_list operators.entry) }
 {
     let mut shares = room;
-    let mut periods = Vec::new(alloc);
+    let mut periods = Some(written);
     if let Some(porter) = operators {
         let Porter { answering, .. } = porter;
         let Desk {
@@ -180,11 +203,11 @@ fn relieved<H, C, J: Run>(
         } = answering.into_desk();
         office.meters.join(first, seat);
         shares.push_reserved(share);
-        periods = closed;
+        periods = with_more(periods, closed);
     }
     Done {
         shares,
-        periods: Some(periods),
+        periods,
         failed: false,
     }
 }
@@ -210,15 +233,18 @@ fn host_at<'a, H, C, J: Run>(
         return Ok(None);
     };
     let (handle, alloc) = (system.handle, system.alloc);
-    let (listener, callers) = (door.listener(), Callers::new(alloc)?);
+    let (callers, letters) = (Callers::new(alloc)?, Letters::new(alloc)?);
+    let listener = door.listener();
     let seat = office.meters.split(first);
     let answering = Host::new(handle, alloc, office, door, seat);
     Ok(Some(Porter {
         handle,
+        alloc,
         listener,
         packets: &office.door,
         answering,
         callers,
+        letters,
     }))
 }
 
@@ -262,15 +288,18 @@ fn operators_at<'a, H, C: workers::Clock, J: Run>(
         return Ok(None);
     };
     let (handle, alloc) = (system.handle, system.alloc);
-    let (callers, slot) = (Callers::new(alloc)?, Slot::new(alloc)?);
+    let (callers, letters) = (Callers::new(alloc)?, Letters::new(alloc)?);
+    let slot = Slot::new(alloc)?;
     let desk = Desk::new(alloc, share, office.meters.split(first), slot);
     let answering = Operators::new(system, office, desk);
     Ok(Some(Porter {
         handle,
+        alloc,
         listener: door.listener(),
         packets: &office.door,
         answering,
         callers,
+        letters,
     }))
 }
 
@@ -312,22 +341,30 @@ fn stay<B: Beside>(other: &mut Option<B>)
     }
 }
 
-// Lets each lane work on its own thread, and up to two others stay beside them, each on its own thread, until all lanes have
-// ended. None of them works if there is no thread for the others. If there is only one, the second stays after the first.
-fn run_beside<H: Threads + Wait + std::time::Clock + Sync, W: Lane, A: Beside, B: Beside + Send>(
+// Lets each lane work on its own thread, and up to three others stay beside them, each on its own thread, until all lanes have
+// ended. None of them works if there is no thread for the others. If there are too few, one of these stays after another.
+fn run_beside<
+    H: Threads + Wait + std::time::Clock + Sync,
+    W: Lane,
+    A: Beside,
+    B: Beside + Send,
+    C: Beside + Send,
+>(
     handle: &H,
     door: &Door,
     lanes: &mut [W],
     one: &mut Option<A>,
     other: &mut Option<B>,
+    third: &mut Option<C>,
 ) -> Result<(), StartFault>
     ensures ok { OnOk result ((i : ℕ) (d : W) → i < length lanes.old
         → W.works (slice_index_or lanes.old i d) (slice_index_or lanes.new i d)) }
     ensures err { OnErr result (lanes.new ≡ lanes.old) }
     ensures one { HasStayed A.stays one.old one.new ⊎ (one.new ≡ one.old) }
     ensures other { HasStayed B.stays other.old other.new ⊎ (other.new ≡ other.old) }
+    ensures third { HasStayed C.stays third.old third.new ⊎ (third.new ≡ third.old) }
 {
-    if one.is_none() && other.is_none() {
+    if one.is_none() && other.is_none() && third.is_none() {
         return run_workers(handle, lanes);
     }
     if !can_start(handle) {
@@ -345,7 +382,10 @@ fn run_beside<H: Threads + Wait + std::time::Clock + Sync, W: Lane, A: Beside, B
             if let Err(missed) = meeting.attend(handle) {
                 door.desert(Ended::before_it_began(missed));
             }
-            join_mut(handle, &mut || stay(other), &mut || stay(one));
+            let mut rest = || {
+                join_mut(handle, &mut || stay(third), &mut || stay(one));
+            };
+            join_mut(handle, &mut || stay(other), &mut rest);
         },
     );
     started
@@ -362,28 +402,28 @@ fn work_all<
         + Sync,
     C: workers::Clock + Sync,
 >(
-    handle: &H,
+    system: &System<'_, H, C>,
     office: &Office<J>,
-    clock: &C,
     lanes: &mut [Worker<'_, H, C, J>],
     host: &mut Option<Porter<'_, H, Host<'_, H, J>>>,
     operators: &mut Option<Porter<'_, H, Operators<'_, H, C, J>>>,
+    scribe: &mut Option<Scribe<'_, H, J>>,
 ) -> Result<(), ServeFault>
     requires new { All (λ lane. IsNewDesk lane.desk) lanes.old }
     requires office { All (λ lane. lane.office.now ≡ office.now) lanes.old }
-    requires clock { All (λ lane. lane.clock.now ≡ clock.now) lanes.old }
-    requires seated { IfSome operators.old (λ porter. (porter.answering.office.now ≡ office.now) × (porter.answering.clock.now ≡ clock.now)) }
+    requires clock { All (λ lane. lane.clock.now ≡ system.now.clock.now) lanes.old }
+    requires seated { IfSome operators.old (λ porter. (porter.answering.office.now ≡ office.now) × (porter.answering.clock.now ≡ system.now.clock.now)) }
     ensures office { All (λ lane. lane.office.now ≡ office.now) lanes.new }
-    ensures worked { OnOk result (All (λ lane. HasWorked (C.gives clock.now) office.now lane.desk) lanes.new) }
+    ensures worked { OnOk result (All (λ lane. HasWorked (C.gives system.now.clock.now) office.now lane.desk) lanes.new) }
     ensures host { option_map (λ porter. porter.answering.seat) host.new ≡ option_map (λ porter. porter.answering.seat) host.old }
-    ensures operated { HaveOperated (C.gives clock.now) office.now (option_map (λ porter. porter.answering.desk) operators.old)
+    ensures operated { HaveOperated (C.gives system.now.clock.now) office.now (option_map (λ porter. porter.answering.desk) operators.old)
         (option_map (λ porter. porter.answering.desk) operators.new) }
     ensures seated { IfSome operators.new (λ porter. porter.answering.office.now ≡ office.now) }
 {
     meters::laws::meters_are_shared();
     books_shared::laws::books_are_shared::<J>();
     books_shared::laws::networks_cross();
-    match run_beside(handle, &office.door, lanes, host, operators) {
+    match run_beside(system.handle, &office.door, lanes, host, operators, scribe) {
         Ok(()) => Ok(()),
         Err(_) => Err(ServeFault::Device),
     }
@@ -407,6 +447,7 @@ pub fn run_all<
     first: &mut MeterSeat,
     mut shares: Vec<Share<J>>,
     doors: Doors<'a>,
+    is_audited: bool,
 ) -> Result<Done<J>, ServeFault>
     requires here { first.old.meters ≡ office.now.meters.id }
     requires first { first.old.first ≡ true }
@@ -424,26 +465,25 @@ pub fn run_all<
         (without_door (is_some doors.entry.operators) (vec_len shares)) (is_some doors.entry.operators) done.shares.items
         (λ tenant kind. count_of tenant kind first.new)) }
 {
-    let System {
-        handle,
-        alloc,
-        clock,
-    } = *system;
+    let alloc = system.alloc;
     let room = Vec::with_capacity(alloc, shares.len())?;
     let seated = seated_at(doors.operators, &mut shares);
     let mut lanes = hired(system, office, first, shares, doors.packets)?;
     let mut host = host_at(system, office, first, doors.host)?;
     let mut operators = operators_at(system, office, first, seated)?;
+    let mut scribe = scribe_at(system, office, is_audited);
+    office.door.set_most(lanes.len() as u64);
     work_all(
-        handle,
+        system,
         office,
-        clock,
         lanes.as_mut_slice(),
         &mut host,
         &mut operators,
+        &mut scribe,
     )?;
     leaves(office, first, host);
-    let others = relieved(alloc, office, first, operators, room);
+    let written = written_by(alloc, scribe);
+    let others = relieved(office, first, operators, room, written);
     Ok(dismissed(office, first, lanes, others))
 }
 
@@ -618,12 +658,13 @@ fn serve_run<
 {
     let (alloc, report) = (system.alloc, plan.report);
     let desks = desk_count(plan.extent, doors.operators.is_some());
+    let begun = Instant::now(system.handle)?;
     let Begun {
         office,
         mut first,
         shares,
-    } = open_office::<J>(alloc, opened, setup, plan, desks)?;
-    let done = run_all(&system, &office, &mut first, shares, doors)?;
+    } = open_office::<J>(alloc, begun, opened, setup, plan, desks)?;
+    let done = run_all(&system, &office, &mut first, shares, doors, report.audit)?;
     let Done {
         mut shares,
         periods,

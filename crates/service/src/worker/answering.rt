@@ -5,9 +5,6 @@ ghost use Rattle.admin_text.specs.Commands.{command_in};
 ghost use Rattle.service.specs.Answering.{IsPrinted, IsCommandAnswer, WasCarried, WasGoverned, WasObeyed, command_line, obeyed_status};
 ghost use Rattle.service.specs.Rolling.{IsTidied, IsUntouched, WasRolledRipe};
 
-use crate::filing::disk::Disk;
-use crate::filing::file;
-use crate::filing::folder::Folder;
 use crate::link::{PeerLink, Sockets};
 use crate::office::Office;
 use crate::system::System;
@@ -48,8 +45,9 @@ impl<J: Run> Desk<J> {
         ensures told { self.new.told ≡ self.old.told }
     {
         let (handle, clock) = (system.handle, system.clock);
-        let (terms, places) = (office.terms.as_slice(), &office.places);
-        let mut link = PeerLink::new(handle, clock, terms, places, Sockets { handle }, self.sent);
+        let (terms, places, door) = (office.terms.as_slice(), &office.places, &office.door);
+        let peers = Sockets { handle };
+        let mut link = PeerLink::new(handle, clock, terms, places, door, peers, self.sent);
         let reply = carry(
             system.handle,
             system.alloc,
@@ -91,67 +89,23 @@ impl<J: Run> Desk<J> {
         }
     }
 
-    // Writes the statement of a period that a command closed, if statements are kept, and those that wait. Then keeps
-    // the period.
-    fn close<H: Wait + Disk, C: Clock>(
-        &mut self,
-        system: &System<'_, H, C>,
-        office: &Office<J>,
-        closed: Option<Period>,
-        room: Option<BacklogRoom<'_>>,
-    )
+    // Hands a period that was closed to the one who writes statements, if they are kept. Otherwise keeps it.
+    fn close<H: Wait>(&mut self, handle: &H, closed: Option<Period>, room: Option<BacklogRoom<'_>>)
         ensures untouched { IsUntouched self.old self.new }
         ensures told { self.new.told ≡ self.old.told }
         ensures printed { self.new.printed ≡ self.old.printed }
     {
         match (closed, room) {
-            (Some(period), Some(room)) => {
-                let tenant = period.tenant();
-                room.put(system.handle, period);
-                self.file_waiting(system, office, tenant);
-            }
-            (None, Some(room)) => room.give_up(system.handle),
+            (Some(period), Some(room)) => self.ticket = Some(room.put(handle, period)),
+            (None, Some(room)) => room.give_up(handle),
             (Some(period), None) => self.keep(period),
             (None, None) => {}
         }
     }
 
-    // Tries once to write each statement of the tenant that waits. The periods of those that are written are kept for
-    // the audit, if the run is audited.
-    fn file_waiting<H: Wait + Disk, C: Clock>(
-        &mut self,
-        system: &System<'_, H, C>,
-        office: &Office<J>,
-        tenant: usize,
-    )
-        ensures untouched { IsUntouched self.old self.new }
-        ensures told { self.new.told ≡ self.old.told }
-        ensures printed { self.new.printed ≡ self.old.printed }
-    {
-        let (handle, alloc) = (system.handle, system.alloc);
-        let Some(filing) = &office.filing else {
-            return;
-        };
-        let mut folder = Folder::new(handle, alloc, filing.folder.as_str());
-        for _ in 0..filing.backlog.len(handle, tenant) {
-            if self.make_room().is_err() {
-                return;
-            }
-            let Some((period, room)) = filing.backlog.take(handle, tenant) else {
-                return;
-            };
-            if file(alloc, &mut folder, &period) {
-                room.give_up(handle);
-                self.keep(period);
-            } else {
-                room.put(handle, period);
-            }
-        }
-    }
-
     /// Does the command in a body, if it is one, for a tenant of the office, and returns the status of the answer. The error is
     /// what is wrong with a body that is not a command.
-    pub fn obey<H: Wait + Disk, C: Clock>(
+    pub fn obey<H: Wait, C: Clock>(
         &mut self,
         system: &System<'_, H, C>,
         office: &Office<J>,
@@ -166,6 +120,7 @@ impl<J: Run> Desk<J> {
         ensures same_meters { self.new.seat.meters ≡ self.old.seat.meters }
         ensures told { self.new.told ≡ self.old.told }
     {
+        self.ticket = None;
         let command = match parse_command(system.alloc, without_line_feed(body)) {
             Ok(command) => command,
             Err(ReadError::Fault(fault)) => return Err(fault),
@@ -178,13 +133,13 @@ impl<J: Run> Desk<J> {
             return Ok(Status::Unavailable);
         };
         let (status, closed) = self.govern(system, office, tenant, &command);
-        self.close(system, office, closed, room);
+        self.close(system.handle, closed, room);
         Ok(status)
     }
 
-    /// Closes the running period of a tenant of the office if it is ripe and the service closes ripe ones, and has its statement
-    /// written where statements are kept.
-    pub fn tidy<H: Wait + Disk, C: Clock>(
+    /// Closes the running period of a tenant of the office if it is ripe and the service closes ripe ones, and hands it to the one
+    /// who writes statements where they are kept. A period stays open while too many statements of the tenant wait.
+    pub fn tidy<H: Wait, C: Clock>(
         &mut self,
         system: &System<'_, H, C>,
         office: &Office<J>,
@@ -207,7 +162,7 @@ impl<J: Run> Desk<J> {
             return;
         };
         let closed = self.roll(system, office, tenant, percent);
-        self.close(system, office, closed, room);
+        self.close(system.handle, closed, room);
     }
 
     // Closes the period of a tenant of the office if it is ripe, and gives it.
@@ -265,7 +220,8 @@ impl<J: Run> Desk<J> {
     }
 }
 
-// Room for the period that a roll may close, if statements are kept. Fails only if it is out of memory.
+// Room for the period that a roll may close, if statements are kept. Fails only if it is out of memory, or if too many statements of
+// the tenant wait.
 fn backlog_room<'a, H: Wait, J: Run>(
     handle: &H,
     office: &'a Office<J>,

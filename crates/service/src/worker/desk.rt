@@ -24,8 +24,10 @@ pub struct Desk<J: Run> {
     pub printed: Vec<u8>,
     /// Whether it was a packet or a command that was answered last.
     pub told: RequestKind,
-    /// The periods that its commands closed, if the run is audited.
+    /// The periods that its commands closed, if the run is audited and statements are not kept.
     pub periods: Vec<Period>,
+    /// The number of the period that the last command closed, among those of its tenant whose statements wait to be written.
+    pub ticket: Option<u64>,
     ghost plain: { seat.first ≡ false },
     ghost idle: { slot.job ≡ NoJob },
 }
@@ -46,6 +48,7 @@ impl<J: Run> Desk<J> {
             printed: Vec::new(alloc),
             told: RequestKind::Ilp,
             periods: Vec::new(alloc),
+            ticket: None,
         }
     }
 

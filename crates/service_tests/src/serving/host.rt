@@ -36,12 +36,18 @@ const UNAUTHORIZED_HEAD: &[u8] = b"HTTP/1.1 401 Unauthorized\r\n";
 pub const HEALTHY: &[u8] =
     b"HTTP/1.1 200 OK\r\nContent-Type: text/plain\r\nContent-Length: 3\r\nConnection: close\r\n\r\nok\n";
 
-/// Whether commands come where packets come, whether operators have a door, and what is printed at the end.
+/// Where statements are kept, if they are.
+pub const KEPT: &str = "kept";
+
+/// Whether commands come where packets come, whether operators have a door, what is printed at the end, whether statements are kept,
+/// and when periods close by themselves.
 #[derive(Clone, Copy)]
 pub struct Manner {
     pub admin: bool,
     pub has_operators: bool,
     pub report: Report,
+    pub keeps: bool,
+    pub roll_at: Option<u8>,
 }
 
 /// Without a door of operators.
@@ -49,6 +55,8 @@ pub const DOORLESS: Manner = Manner {
     admin: true,
     has_operators: false,
     report: NOTHING_MORE,
+    keeps: false,
+    roll_at: None,
 };
 
 /// The doors of packets, of the host, and of operators, if they have one.
@@ -91,8 +99,8 @@ where
     let plan = Plan {
         extent,
         report: manner.report,
-        statements: None,
-        roll_at: None,
+        statements: if manner.keeps { Some(KEPT) } else { None },
+        roll_at: manner.roll_at,
         admin: manner.admin,
     };
     let doors = Doors {

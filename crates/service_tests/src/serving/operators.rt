@@ -2,7 +2,7 @@
 
 use super::crowd::setup_text;
 use super::host::{
-    Addresses, ENOUGH, Manner, STOP, UNAUTHORIZED, has_line, served_with_host, stopped,
+    Addresses, DOORLESS, ENOUGH, Manner, STOP, UNAUTHORIZED, has_line, served_with_host, stopped,
 };
 use super::{AUDITED, asked};
 use service::Disk;
@@ -244,9 +244,9 @@ const LINES: &[u8] = b"acme 200 4 4xx 0 503 0 link 0\nbeta 200 0 4xx 0 503 0 lin
 
 // Where packets come, too, and with an audit at the end.
 const OPERATED: Manner = Manner {
-    admin: true,
     has_operators: true,
     report: AUDITED,
+    ..DOORLESS
 };
 
 // The bytes of a row's request.

@@ -2,7 +2,7 @@ use Rattle.std.proofs.Common.{refl, arith, rules, inl, inr}
 use Rattle.http_link.specs.Limits.{max_turns}
 use Rattle.http_link.specs.Heads.{head_of}
 use Rattle.http_link.specs.Lines.{head_at}
-use Rattle.http_link.specs.OperatorDoor.{operator_sought_of}
+use Rattle.http_link.specs.OperatorDoor.{admitted, operator_sought_of}
 use Rattle.http_link.proofs.Counting.{spent_all, spent_in_two}
 use Rattle.http_link.proofs.OperatorServing.{operator_came, operator_only, operator_served, unasked_only}
 use Rattle.http_link.proofs.Serving.{found_here, malformed_first, none_here, partial_first}
@@ -18,14 +18,14 @@ returns-in-Malformed-clause-exact g c stream head rest e begins =
 
 pub returns-in-Whole-clause-exact : goal.returns-in-Whole-clause-exact
 returns-in-Whole-clause-exact g c stream head rest e begins =
-    operator_served c.serve_after_head.result (head_at c.head_in-head.result) (g.R.Read.remaining c.find_head.new.r) (g.R.Read.remaining c.serve_after_head.new.r) _ head rest refl
+    operator_served (g.S.OperatorService.refusal c.args.service.now) c.serve_after_head.result (head_at c.head_in-head.result) (g.R.Read.remaining c.find_head.new.r) (g.R.Read.remaining c.serve_after_head.new.r) _ head rest refl
     (found_here (head_at c.head_in-head.result) _ _ c.find_head.new.room stream c.find_head.new.intake.held.to c.find_head.new.lines c.in-Whole.spans head rest (omega arith) c.find_head.ensures.there
     (rw c.in-Whole.is at c.in_ok-find_head.ensures.exact c.one-before.ensures.reach refl) (rw c.in-Whole.is at c.in_ok-find_head.ensures.found)
     c.head_in-head.ensures e begins) c.serve_after_head.ensures.runs
 
 pub returns-in-Whole-clause-asked_only : goal.returns-in-Whole-clause-asked_only
 returns-in-Whole-clause-asked_only g c stream head rest e begins =
-    operator_only (head_at c.head_in-head.result) (g.R.Read.remaining c.find_head.new.r) (g.R.Read.remaining c.serve_after_head.new.r) _ _ head rest
+    operator_only (g.S.OperatorService.refusal c.args.service.now) (head_at c.head_in-head.result) (g.R.Read.remaining c.find_head.new.r) (g.R.Read.remaining c.serve_after_head.new.r) _ _ head rest
     (found_here (head_at c.head_in-head.result) _ _ c.find_head.new.room stream c.find_head.new.intake.held.to c.find_head.new.lines c.in-Whole.spans head rest (omega arith) c.find_head.ensures.there
     (rw c.in-Whole.is at c.in_ok-find_head.ensures.exact c.one-before.ensures.reach refl) (rw c.in-Whole.is at c.in_ok-find_head.ensures.found)
     c.head_in-head.ensures e begins) c.serve_after_head.ensures.asks
@@ -37,7 +37,7 @@ returns-in-Whole-clause-turned_away g c stream e none =
 
 pub returns-in-Whole-clause-asked_once : goal.returns-in-Whole-clause-asked_once
 returns-in-Whole-clause-asked_once g c =
-    operator_came (head_at c.head_in-head.result) _ _ _ c.find_head.new.room c.find_head.new.intake.held.to c.find_head.new.lines c.in-Whole.spans _ _ (omega arith) c.find_head.ensures.there
+    operator_came (g.S.OperatorService.refusal c.args.service.now) (head_at c.head_in-head.result) _ _ _ c.find_head.new.room c.find_head.new.intake.held.to c.find_head.new.lines c.in-Whole.spans _ _ (omega arith) c.find_head.ensures.there
     (rw c.in-Whole.is at c.in_ok-find_head.ensures.exact c.one-before.ensures.reach refl) (rw c.in-Whole.is at c.in_ok-find_head.ensures.found)
     c.head_in-head.ensures c.serve_after_head.ensures.asks
 
@@ -54,7 +54,7 @@ pub returns-in-Malformed-clause-turns : goal.returns-in-Malformed-clause-turns
 returns-in-Malformed-clause-turns g c told = inr (c.refuse.ensures.told.turns told)
 
 pub returns-in-Partial-clause-asked_only : goal.returns-in-Partial-clause-asked_only
-returns-in-Partial-clause-asked_only g c stream head rest e begins = unasked_only (operator_sought_of (head_of head)) rest _ _ refl
+returns-in-Partial-clause-asked_only g c stream head rest e begins = unasked_only (admitted (g.S.OperatorService.refusal c.args.service.now) (operator_sought_of (head_of head))) rest _ _ refl
 
 pub returns-in-Malformed-clause-asked_only : goal.returns-in-Malformed-clause-asked_only
-returns-in-Malformed-clause-asked_only g c stream head rest e begins = unasked_only (operator_sought_of (head_of head)) rest _ _ refl
+returns-in-Malformed-clause-asked_only g c stream head rest e begins = unasked_only (admitted (g.S.OperatorService.refusal c.args.service.now) (operator_sought_of (head_of head))) rest _ _ refl

@@ -1,4 +1,4 @@
-use Rattle.std.proofs.Common.{rules, ◌≡◌, Some, subst, sym}
+use Rattle.std.proofs.Common.{rules, ◌≡◌, subst, sym}
 use Rattle.service.specs.Operating.{Explains}
 use Rattle.service.specs.Questions.{question_in}
 use Rattle.service.proofs.Desks.{same_desk}

@@ -1,4 +1,4 @@
-use Rattle.std.proofs.Common.{◌≡◌, ◌++◌, ◌+◌, length, map, take, drop, vec_len, rules, arith, All, refl, sym, subst, ap, ◌∙◌}
+use Rattle.std.proofs.Common.{◌≡◌, ◌++◌, ◌+◌, length, map, take, drop, vec_len, rules, arith, All, sym, subst, ap, ◌∙◌}
 use Rattle.std.specs.Prelude.{is_some, option_map}
 use Rattle.std.specs.List.{sum_by}
 use Rattle.std.specs.Option.{option_to_list}
@@ -29,6 +29,22 @@ dismissed-requires-clause-same g c =
     let whole : take c.in_ok-lanes.lanes.len (c.work_all.new.lanes ++ rest) ≡ c.work_all.new.lanes
     = search (rules, take-append_seam) in
     subst (λ lanes. All (λ lane. lane.office.now ≡ c.args.office.now) lanes) (sym whole) c.work_all.ensures.office
+
+pub returns-clause-each : goal.returns-clause-each
+returns-clause-each g c =
+    let lanes = c.work_all.new.lanes in
+    let operators = c.work_all.new.operators in
+    let rest = drop (length lanes) c.in_ok-lanes.lanes.items in
+    let whole : take c.in_ok-lanes.lanes.len (lanes ++ rest) ≡ lanes
+    = search (rules, take-append_seam) in
+    let left : length lanes ≡ vec_len c.seated_at-seated.new.shares = search rules in
+    let seated : is_some operators ≡ is_some c.seated_at-seated.result
+    = sym (some_map (λ porter. porter.answering.desk) operators) ∙ operated_some _ _ _ _ c.in_ok-work_all.ensures.operated
+    ∙ some_map (λ porter. porter.answering.desk) c.in_ok-operators.operators ∙ c.in_ok-operators.ensures.there in
+    let many : length (option_to_list operators) ≡ length (option_to_list c.seated_at-seated.result) = as_many operators c.seated_at-seated.result seated in
+    let each : vec_len c.dismissed.result.shares ≡ vec_len c.relieved-others.result.shares + length lanes
+    = c.dismissed.ensures.each ∙ ap (λ ls. vec_len c.relieved-others.result.shares + length ls) whole in
+    omega (arith, each, c.relieved-others.ensures.each, many, left, c.seated_at-seated.ensures.many)
 
 pub returns-clause-counted : goal.returns-clause-counted
 returns-clause-counted g c =

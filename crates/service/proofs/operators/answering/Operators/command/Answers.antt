@@ -1,4 +1,4 @@
-use Rattle.std.proofs.Common.{◌≡◌, Bool, true, nat_lt, refl, sym, ap, subst, ℕ, Option, rules, tests}
+use Rattle.std.proofs.Common.{◌≡◌, true, nat_lt, refl, ap, subst, ℕ, Option, rules, tests}
 use Rattle.std.specs.Prelude.{Ok}
 use Rattle.http_link.specs.OperatorDoor.{operator_asking, operator_wanted_at}
 use Rattle.workers.specs.declared.reply.Status.TheVariants.{Malformed}
