@@ -188,8 +188,11 @@ impl Door {
         self.refused.store(refused, Ordering::SeqCst);
     }
 
-    // How many connections more may be open.
+    // How many connections more may be open. If none may begin any more, only threads that wait already serve another.
     fn free(&self) -> u64 {
+        if self.left.load(Ordering::SeqCst) == 0 {
+            return self.waiting();
+        }
         self.most.load(Ordering::SeqCst).saturating_sub(self.open())
     }
 
