@@ -1,5 +1,8 @@
 -- Eight bytes, each 0 if it was a digit, read as one number.
-use Rattle.std.proofs.Common.{◌≡◌, ◌≤◌, ◌<◌, ◌+◌, ◌-◌, ◌*◌, ◌%◌, ◌&&◌, ◌∙◌, ℕ, zero, suc, List, [], ◌∷◌, length, get_or, map, true, refl, sym, ap, ap₂, arith, eqb}
+use Rattle.std.proofs.Common.{◌≡◌, ◌<◌, ◌+◌, ◌-◌, ◌*◌, ◌%◌, ◌&&◌, ◌∙◌, ℕ, zero, suc, List, [], ◌∷◌, length, get_or, map, Bool, true, false, refl, sym, ap, ap₂, arith, eqb, ltb, ltb-true, ltb-false}
+use lib.Lanes.{zip2, sel_l, top}
+use lib.ListN.{replicate}
+use mathlib.Core.Bool.{cond}
 use Rattle.std.specs.Int.{w64, from_le_bytes}
 use Rattle.std.specs.List.{list_all}
 use Rattle.std.proofs.lemmas.Bool.{ne_eqb}
@@ -8,6 +11,31 @@ use Rattle.common_types.specs.Numerals.{is_digit}
 -- how far a byte is past the digits, as a number of 8 bits
 abbrev pub past : ℕ → ℕ
 past b = (b + (256 - 48)) % 256 - 9
+
+-- one byte less another, which wraps
+abbrev pub less : ℕ → ℕ → ℕ
+less a b = (a + (256 - b)) % 256
+
+-- all bits, where one byte is below another
+abbrev pub below_mask : ℕ → ℕ → ℕ
+below_mask a b = cond (ltb a b) 255 0
+
+-- the larger of a byte and 9, less 9
+past_nine : (a : ℕ) → a < 256 → less (cond (top 7 (below_mask a 9)) 9 a) 9 ≡ a - 9
+past_nine a lt = by (ltb a 9) refl
+  where
+    by : (t : Bool) → ltb a 9 ≡ t → less (cond (top 7 (cond t 255 0)) 9 a) 9 ≡ a - 9
+    by true e = omega (arith, ltb-true _ _ e)
+    by false e = omega (arith, ltb-false _ _ e)
+
+-- how far each byte of some lanes is past the digits
+pub past_at : (n : ℕ) (bytes : List ℕ) (i : ℕ) → length bytes ≡ n → i < n
+    → get_or (zip2 less (sel_l (map (top 7) (zip2 below_mask (zip2 less bytes (replicate n 48)) (replicate n 9))) (replicate n 9) (zip2 less bytes (replicate n 48))) (replicate n 9)) i 0
+    ≡ past (get_or bytes i 0)
+past_at zero bytes i size lt = absurd (omega arith)
+past_at (suc n) [] i size lt = absurd (omega arith)
+past_at (suc n) (b ∷ bytes) zero size lt = past_nine (less b 48) (omega arith)
+past_at (suc n) (b ∷ bytes) (suc i) size lt = past_at n bytes i (omega arith) (omega arith)
 
 abbrev number : List ℕ → ℕ
 number [] = 0

@@ -1,6 +1,6 @@
 -- The last word of a line's step, where it is looked at with all that stands behind it: a space makes it no number and
 -- no bytes, and so there are more words than the step has.
-use Rattle.std.proofs.Common.{ap, arith, refl, sym, subst, ◌≡◌, ◌+◌, ◌<◌, ◌&&◌, ℕ, List, [], ◌∷◌, Bool, true, false, not, cond, eqb, length, take, drop, is_some, Option, Some, None, ◌∙◌}
+use Rattle.std.proofs.Common.{ap, arith, refl, sym, subst, ◌≡◌, ◌+◌, ◌<◌, ◌&&◌, ℕ, List, [], ◌∷◌, Bool, true, false, not, cond, eqb, length, take, drop, is_some, Option, Some, None, Result, Ok, Err, ◌∙◌}
 use Rattle.std.specs.Prelude.{codes, nat_lt, option_and_then, option_map, Decides}
 use Rattle.std.specs.List.{AllPass, list_all, position, slice_split}
 use Rattle.std.specs.Result.{result_ok}
@@ -12,6 +12,8 @@ use Rattle.std.proofs.lemmas.List.Splits.{length-slice_split}
 use Rattle.std.proofs.lemmas.List.Sums.{AllPass-from_list_all}
 use Rattle.std.proofs.lemmas.Slice.Eq.{bytes_eq-Decides}
 use Rattle.hex.specs.Hex.{decode_of, is_hex_digit}
+use Rattle.hex.specs.declared.error.FromHexError.{FromHexError}
+use Rattle.hex.proofs.HexLemmas.{decode_of-ok}
 use Rattle.common_types.specs.OptionChain.{◌>>=◌}
 use Rattle.common_types.specs.Numerals.{is_digit, is_numeral, value_of}
 use Rattle.common_types.specs.Words.{words_of}
@@ -22,7 +24,6 @@ use Rattle.floor_core.specs.declared.step.Step.TheVariants.{Load, Decide, Answer
 use Rattle.ilp_addr.specs.Timestamp.{last_moment}
 use Rattle.replay_text.specs.Script.{answer_of, decide_step, frame_word, given_of, is_empty, load_of, moment_spelled, number_below, tenant_named, tick_of, token_word}
 use Rattle.replay_text.specs.Words.{two_of, three_of, four_of}
-use Rattle.replay_text.proofs.Decoding.{digits_of}
 use Rattle.replay_text.proofs.Splits.{split_found, split_none}
 use Rattle.replay_text.proofs.Values.{are_digits}
 
@@ -40,6 +41,14 @@ none_either_way false o h = h
 
 not_both : false ≡ true → ⊥
 not_both e = cc
+
+-- what spells bytes is digits
+spelled_digits : (word : List ℕ) → is_some (result_ok (decode_of word)) ≡ true → AllPass is_hex_digit word
+spelled_digits word some = by (decode_of word) refl some
+  where
+    by : (read : Result (List ℕ) FromHexError) → decode_of word ≡ read → is_some (result_ok read) ≡ true → AllPass is_hex_digit word
+    by (Ok bytes) e some = (decode_of-ok word bytes e).1
+    by (Err fault) e some = absurd cc
 
 -- ---- a word with a space
 
@@ -65,7 +74,7 @@ no_number bound word i e = none_if_never (number_below bound word) (λ n is.
 
 no_frame : (word : List ℕ) (i : ℕ) → position (λ b. eqb b 32) word ≡ Some i → frame_word word ≡ None
 no_frame word i e =
-    let none : result_ok (decode_of word) ≡ None = none_unless (result_ok (decode_of word)) (λ some. spaced is_hex_digit word i refl e (digits_of word some).1) in
+    let none : result_ok (decode_of word) ≡ None = none_unless (result_ok (decode_of word)) (λ some. spaced is_hex_digit word i refl e (spelled_digits word some)) in
     rw (other_word (codes "-") word i refl e) (none_either_way (is_empty word) (result_ok (decode_of word)) none)
 
 no_given : (word : List ℕ) (i : ℕ) → position (λ b. eqb b 32) word ≡ Some i → given_of word ≡ None

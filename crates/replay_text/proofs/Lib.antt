@@ -9,14 +9,10 @@ pub mod Fits
 pub mod Composition
 pub mod OneText
 pub mod Places
-pub mod Decoding
-pub mod Overlaps
 pub mod Values
 pub mod LastWords
-pub mod Putting
 pub mod Takings
 pub mod Starts
 pub mod Begun
-pub mod Lanes
-pub mod Chunks
 pub mod Eight
+pub mod Recordings

@@ -1,7 +1,7 @@
 -- A setup and a script leave no choice of what is written.
 use Rattle.std.proofs.Common.{◌≡◌, ℕ, List, Result, Ok, sym, ap, subst, ◌∙◌}
 use Rattle.replay_text.specs.Replay.{IsReplayed, names_in, world_of_setup}
-use Rattle.replay_text.specs.Printed.{printed_lines}
+use Rattle.output_text.specs.Printed.{printed_lines}
 use Rattle.replay_text.specs.Script.{steps_of_script}
 use Rattle.floor_core.specs.World.{World, AreOutputs}
 use Rattle.admin_text.specs.declared.setup.Setup.{Setup}

@@ -11,7 +11,7 @@ use Rattle.floor_core.specs.World.{World, AreOutputs, IsLeft}
 use Rattle.floor_core.specs.Worlds.{reply, world_after, replies, after_all}
 use Rattle.floor_core.specs.declared.step.Output.{Output}
 use Rattle.floor_core.specs.declared.step.Step.{Step}
-use Rattle.replay_text.specs.Printed.{output_line, printed_lines}
+use Rattle.output_text.specs.Printed.{output_line, printed_lines}
 use Rattle.replay_text.specs.Replay.{ArePrinted, HasLong, Prints, WritesDone, WritesLines, WritesSome}
 use Rattle.replay_text.specs.Script.{lines_of, meaning_of, steps_in}
 use Rattle.replay_text.specs.SoFar.{AreSoFar}

@@ -28,7 +28,7 @@ from_start Takes names workers script rest same f g setup text k l run new is =
     (subst (λ (w : World). AreSoFar names w (world_of g) (steps_in names workers (lines_of script)) (steps_in names workers (lines_of rest)) text) new run.printed)
 
 -- the names are those of the setup
-parsed_for : (names : List (List ℕ)) (workers : ℕ) (setup : Setup) (script : List ℕ) (read : Result (List Step) ScriptFault) → names ≡ names_in setup → steps_of_script names workers script ≡ read
+pub parsed_for : (names : List (List ℕ)) (workers : ℕ) (setup : Setup) (script : List ℕ) (read : Result (List Step) ScriptFault) → names ≡ names_in setup → steps_of_script names workers script ≡ read
     → steps_of_script (names_in setup) workers script ≡ read
 parsed_for names workers setup script read same parsed = subst (λ (ns : List (List ℕ)). steps_of_script ns workers script ≡ read) same parsed
 

@@ -11,7 +11,7 @@ use Rattle.floor_core.specs.declared.step.Step.{Step}
 use Rattle.admin_text.specs.Setup.{setup_of}
 use Rattle.admin_text.specs.declared.setup.Setup.{Setup}
 use Rattle.replay_text.specs.Closed.{Closes, ClosesAll, HasTakenPeriods, Taking, TakesClosed, TakesClosedFor, closed_by, closed_in}
-use Rattle.replay_text.specs.Printed.{printed_lines}
+use Rattle.output_text.specs.Printed.{printed_lines}
 use Rattle.replay_text.specs.Replay.{IsReplayed, names_in}
 use Rattle.replay_text.specs.SoFar.{AreTaken}
 use Rattle.replay_text.specs.Script.{lines_of, meaning_of, steps_in}

@@ -9,13 +9,13 @@ ghost use Rattle.replay_text.specs.Spelled.{given_spelled};
 ghost use Rattle.replay_text.specs.Script.{frame_word, moment_spelled, number_below, tenant_named, token_word};
 
 use crate::causes::{LineFault, Operand, Verb};
-use crate::hexadecimal::{are_digits, decode, spells_bytes};
 use crate::numbers::number_below;
 use crate::scans::place_of;
 use crate::words::is_word;
 use common_types::{Name, is_numeral, is_token};
 use floor_core::{Octets, PeerAnswer};
 use ilp_addr::Moment;
+use output_text::hexadecimal::{are_digits, decode, spells_bytes};
 use std::alloc::AllocError;
 
 /// Whom a script may name: the tenants by their names, numbered from 0, and so many workers.

@@ -31,7 +31,7 @@ use Rattle.workers.specs.declared.reply.Status.TheVariants as status
 use Rattle.admin_text.specs.Commands.{command_in}
 use Rattle.admin_text.specs.declared.setup.Setup.{Setup}
 use Rattle.admin_text.specs.declared.commands.TextFault.{TextFault}
-use Rattle.replay_text.specs.Printed.{answer_lines, tenant_name}
+use Rattle.output_text.specs.Printed.{answer_lines, tenant_name}
 use Rattle.http_link.specs.Connections.{AreAskedBy, IsConnectionOver}
 use Rattle.http_link.specs.Serving.{Asked}
 use Rattle.http_link.specs.declared.request.RequestKind.{RequestKind}

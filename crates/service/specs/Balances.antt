@@ -6,7 +6,7 @@ use Rattle.tenant_core.specs.Governed.{command_answer}
 use Rattle.tenant_core.specs.declared.command.Command.TheVariants.{Balances}
 use Rattle.floor_core.specs.declared.step.Output.{Output}
 use Rattle.floor_core.specs.declared.step.Output.TheVariants.{Governed}
-use Rattle.replay_text.specs.Printed.{output_line}
+use Rattle.output_text.specs.Printed.{output_line}
 
 -- the answer of a book to the command `balances`
 abbrev pub balances_told : State → Output

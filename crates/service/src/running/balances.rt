@@ -2,12 +2,12 @@
 
 ghost use Rattle.std.specs.Prelude.{◌≡◌, [], ◌++◌, if◌then◌else◌, IfOk, OnOk};
 ghost use Rattle.std.specs.List.{flat_map};
-ghost use Rattle.replay_text.specs.Printed.{output_line};
+ghost use Rattle.output_text.specs.Printed.{output_line};
 ghost use Rattle.service.specs.Balances.{balance_lines, balances_told};
 
 use common_types::Name;
 use ilp_addr::Moment;
-use replay_text::put_answer;
+use output_text::put_answer;
 use std::alloc::{AllocError, Global};
 use tenant_core::{Book, Command};
 
@@ -42,7 +42,7 @@ fn put_all(
     Ok(())
 }
 
-#[tactic(auto, unfolding(replay_text::specs::Printed::output_line))]
+#[tactic(auto, unfolding(output_text::specs::Printed::output_line))]
 fn put_balances(
     alloc: Global,
     names: &[Name],

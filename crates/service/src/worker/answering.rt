@@ -12,7 +12,7 @@ use crate::worker::desk::Desk;
 use admin_text::{TextFault, parse_command};
 use common_types::ReadError;
 use one_list::Run;
-use replay_text::put_answer;
+use output_text::put_answer;
 use std::alloc::{AllocError, Global};
 use std::net::{Net, TcpStream};
 use std::sync::Wait;

@@ -1,5 +1,0 @@
-use Rattle.replay_text.proofs.Lanes.{none_more}
-use Rattle.replay_text.proofs.hexadecimal.are_zeros.Goals as goal
-
-pub returns : goal.returns
-returns c = none_more c.args.lanes c.fits-lanes.0

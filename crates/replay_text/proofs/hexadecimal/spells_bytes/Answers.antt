@@ -1,6 +1,0 @@
-use Rattle.std.proofs.Common.{arith}
-use Rattle.replay_text.proofs.Decoding.{spells}
-use Rattle.replay_text.proofs.hexadecimal.spells_bytes.Goals as goal
-
-pub returns-then-text-eq0 : goal.returns-then-text-eq0
-returns-then-text-eq0 c = spells c.args.text.now c.are_digits.result (omega arith) c.are_digits.ensures

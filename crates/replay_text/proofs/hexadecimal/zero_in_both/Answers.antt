@@ -1,6 +1,0 @@
-use Rattle.std.proofs.Common.{arith}
-use Rattle.replay_text.proofs.Lanes.{zero_in_larger}
-use Rattle.replay_text.proofs.hexadecimal.zero_in_both.Goals as goal
-
-pub returns : goal.returns
-returns c i lt = zero_in_larger c.args.a c.args.b i (omega arith) (omega arith)
