@@ -113,7 +113,7 @@ fn ignored_key(
 {
     let place = spot.table();
     let why = reason(place, name);
-    let beside = Beside(ShownValue::at(name, Some(value)));
+    let beside = Beside(ShownValue::at_ignored(name, value));
     let words = format!(in alloc; "{spot}{}{beside}: {why}", Named(name))?;
     Ok(IgnoredKey {
         place,

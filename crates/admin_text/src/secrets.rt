@@ -3,7 +3,7 @@
 ghost use Rattle.std.specs.Prelude.{◌≡◌, codes, option_map};
 ghost use Rattle.toml.specs.View.{view};
 ghost use Rattle.admin_text.specs.Secrets.{begins_with_word, has_word, is_secret};
-ghost use Rattle.admin_text.specs.Shown.{value_shown, value_to_show};
+ghost use Rattle.admin_text.specs.Shown.{ignored_to_show, value_shown, value_to_show};
 
 use crate::expected::Shown;
 use common_types::{MAX_TOKEN, is_token};
@@ -110,6 +110,16 @@ impl<'a> ShownValue<'a> {
             None => ShownValue::Nothing,
             Some(value) if is_secret(name) => ShownValue::Hidden(Hidden::of(value)),
             Some(value) => ShownValue::Plain(value),
+        }
+    }
+
+    /// What may be shown of the value at an ignored key of that name. A text is never shown: its key may be a misspelled token's.
+    pub(crate) fn at_ignored(name: &str, value: &'a Value) -> ShownValue<'a>
+        ensures { value_shown result ≡ ignored_to_show name.now (view value.now) }
+    {
+        match value {
+            Value::String(_) => ShownValue::Nothing,
+            _ => ShownValue::at(name, Some(value)),
         }
     }
 }

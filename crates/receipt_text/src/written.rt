@@ -1,49 +1,13 @@
 //! Receipts, as they are written.
 
 ghost use Rattle.std.specs.Prelude.{◌≡◌, ◌++◌, IfOk, OnOk, map};
-ghost use Rattle.std.specs.Fmt.{decimal};
 ghost use Rattle.std.specs.List.{flat_map};
 ghost use Rattle.receipt_text.specs.ReceiptText.{receipt_line, receipts_text, receipts_version_line, worker_line, worker_text};
-ghost use Rattle.tenant_core.specs.Views.{decide_of, entry_of};
 
-use itoa::Buffer;
 use receipts::Receipt;
-use statements::{put_number, put_record};
+use statements::{put_decimal, put_number, put_record, view_of};
 use std::alloc::{AllocError, Global};
-use tenant_core::{DecideEntry, DecideView, Entry, EntryView, RecordView};
-
-fn decide_view(decide: &DecideEntry) -> DecideView<'_>
-    ensures { decide_of result ≡ decide.entry.now }
-{
-    DecideView {
-        peer: decide.peer,
-        amount: decide.amount,
-        expiry: decide.expiry,
-        condition: &decide.condition,
-        destination: decide.destination.as_slice(),
-        now: decide.now,
-    }
-}
-
-// An entry, as a journal would lend it.
-fn view_of(entry: &Entry) -> EntryView<'_>
-    ensures { entry_of result ≡ entry.now }
-{
-    match entry {
-        Entry::Decide(decide) => EntryView::Decide(decide_view(decide)),
-        Entry::Answer(answer) => EntryView::Answer(answer),
-        Entry::Tick(tick) => EntryView::Tick(*tick),
-        Entry::Change(change) => EntryView::Change(change),
-        Entry::Roll(roll) => EntryView::Roll(*roll),
-    }
-}
-
-fn put_decimal(out: &mut Vec<u8>, value: u64) -> Result<(), AllocError>
-    ensures { OnOk result (out.new.items ≡ out.old.items ++ decimal value) }
-{
-    let mut digits = Buffer::new();
-    out.extend_from_slice(digits.format(value).as_bytes())
-}
+use tenant_core::RecordView;
 
 #[tactic(auto, unfolding(crate::specs::ReceiptText::receipt_line))]
 fn put_receipt(out: &mut Vec<u8>, receipt: &Receipt) -> Result<(), AllocError>

@@ -1,5 +1,5 @@
 -- The statements of closed periods: which must be kept, and the lines for those that are not.
-use Rattle.std.specs.Prelude.{ℕ, ◌≡◌, ◌≢◌, ◌⊎◌, Bool, true, false, List, [], ◌∷◌, ◌++◌, codes}
+use Rattle.std.specs.Prelude.{ℕ, ◌*◌, ◌≡◌, ◌≢◌, ◌⊎◌, min, max, Bool, true, false, List, [], ◌∷◌, ◌++◌, codes}
 use Rattle.std.specs.Fmt.{decimal}
 use Rattle.tenant_core.specs.declared.period.PeriodParts.{PeriodParts}
 use Rattle.statements.specs.Statement.{IsStatement}
@@ -74,3 +74,7 @@ AreFiled Tells Keeps [] before after lines = (after ≡ before) × (lines ≡ []
 AreFiled {S} Tells Keeps (p ∷ ps) before after lines =
     (kept : Bool) × (between : S) × (rest : List ℕ) × IsFiled Tells Keeps p kept before between
     × AreFiled Tells Keeps ps between after rest × (lines ≡ line_unless kept p ++ rest)
+
+-- for how many milliseconds nothing is tried after tries that failed and took so many
+abbrev pub pause_after : ℕ → ℕ
+pause_after spent = max (min spent 2_000 * 4) 500

@@ -2,7 +2,7 @@
 
 ghost use Rattle.std.specs.Prelude.{◌≡◌, ◌++◌, OnOk};
 ghost use Rattle.hex.specs.Hex.{encode_lower};
-ghost use Rattle.std.specs.Fmt.{signed_decimal};
+ghost use Rattle.std.specs.Fmt.{decimal, signed_decimal};
 ghost use Rattle.statements.specs.Statement.{word, spaced, number, role_word, prefix_word, limits_words, bucket_words, terms_words, hop_words};
 ghost use Rattle.statements.specs.Statement.{rate_words, verdict_words, outcome_words, answer_words, change_verb, change_parts, change_words};
 
@@ -14,11 +14,20 @@ use tenant_core::{
     Verdict,
 };
 
+/// Appends a space and a word to a text. Fails only if it is out of memory.
 pub fn put_word(out: &mut Vec<u8>, text: &[u8]) -> Result<(), AllocError>
     ensures { OnOk result (out.new.items ≡ out.old.items ++ word text.now) }
 {
     out.push(b' ')?;
     out.extend_from_slice(text)
+}
+
+/// Appends a number in decimal digits to a text. Fails only if it is out of memory.
+pub fn put_decimal(out: &mut Vec<u8>, value: u64) -> Result<(), AllocError>
+    ensures { OnOk result (out.new.items ≡ out.old.items ++ decimal value) }
+{
+    let mut digits = Buffer::new();
+    out.extend_from_slice(digits.format(value).as_bytes())
 }
 
 /// Appends a space and a number to a text. Fails only if it is out of memory.

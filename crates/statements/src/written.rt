@@ -5,19 +5,46 @@ ghost use Rattle.std.specs.List.{flat_map, slice_get};
 ghost use Rattle.statements.specs.Statement.{spaced, decide_words, entry_words, record_line, tenant_line, period_line, peer_line, route_line, rate_line};
 ghost use Rattle.statements.specs.Statement.{tenant_words, period_words, peer_words};
 ghost use Rattle.statements.specs.Statement.{opening_text, version_line, head_text, ending_text, statement_text, IsHead, IsStatement};
-ghost use Rattle.std.specs.Fmt.{decimal};
 ghost use Rattle.tenant_core.specs.State.{entered_at};
 ghost use Rattle.tenant_core.specs.declared.journal.Record.{Record};
 ghost use Rattle.tenant_core.specs.Views.{decide_of, entry_of, record_of};
 
 use crate::put::{
-    put_answer, put_change, put_hash, put_hop, put_number, put_outcome, put_rate, put_signed,
-    put_terms, put_word,
+    put_answer, put_change, put_decimal, put_hash, put_hop, put_number, put_outcome, put_rate,
+    put_signed, put_terms, put_word,
 };
-use itoa::Buffer;
 use route_table::Route;
 use std::alloc::{AllocError, Global};
-use tenant_core::{DecideView, EntryView, Opening, Peer, Period, RateTerms, RecordView, Records};
+use tenant_core::{
+    DecideEntry, DecideView, Entry, EntryView, Opening, Peer, Period, RateTerms, RecordView,
+    Records,
+};
+
+fn decide_view(decide: &DecideEntry) -> DecideView<'_>
+    ensures { decide_of result ≡ decide.entry.now }
+{
+    DecideView {
+        peer: decide.peer,
+        amount: decide.amount,
+        expiry: decide.expiry,
+        condition: &decide.condition,
+        destination: decide.destination.as_slice(),
+        now: decide.now,
+    }
+}
+
+/// An entry, as a journal would lend it.
+pub fn view_of(entry: &Entry) -> EntryView<'_>
+    ensures { entry_of result ≡ entry.now }
+{
+    match entry {
+        Entry::Decide(decide) => EntryView::Decide(decide_view(decide)),
+        Entry::Answer(answer) => EntryView::Answer(answer),
+        Entry::Tick(tick) => EntryView::Tick(*tick),
+        Entry::Change(change) => EntryView::Change(change),
+        Entry::Roll(roll) => EntryView::Roll(*roll),
+    }
+}
 
 #[tactic(auto, unfolding(crate::specs::Statement::decide_words))]
 fn put_decide(out: &mut Vec<u8>, decide: &DecideView<'_>) -> Result<(), AllocError>
@@ -55,19 +82,12 @@ fn moment_of(entry: &EntryView<'_>) -> u64
     }
 }
 
-fn put_moment(out: &mut Vec<u8>, moment: u64) -> Result<(), AllocError>
-    ensures { OnOk result (out.new.items ≡ out.old.items ++ decimal moment) }
-{
-    let mut digits = Buffer::new();
-    out.extend_from_slice(digits.format(moment).as_bytes())
-}
-
 /// Appends the line of a record to a text. Fails only if it is out of memory.
 #[tactic(auto, unfolding(crate::specs::Statement::record_line))]
 pub fn put_record(out: &mut Vec<u8>, view: &RecordView<'_>) -> Result<(), AllocError>
     ensures { OnOk result (out.new.items ≡ out.old.items ++ record_line (record_of view.now)) }
 {
-    put_moment(out, moment_of(&view.entry))?;
+    put_decimal(out, moment_of(&view.entry))?;
     put_entry(out, &view.entry)?;
     put_outcome(out, view.outcome)?;
     Ok(out.push(b'\n')?)
@@ -195,8 +215,9 @@ fn put_rates(out: &mut Vec<u8>, rates: &[RateTerms]) -> Result<(), AllocError>
     Ok(())
 }
 
+/// Appends the lines of an opening to a text, with these routes. Fails only if it is out of memory.
 #[tactic(auto, unfolding(crate::specs::Statement::opening_text))]
-fn put_opening(out: &mut Vec<u8>, routes: &[Route], opening: &Opening) -> Result<(), AllocError>
+pub fn put_opening(out: &mut Vec<u8>, routes: &[Route], opening: &Opening) -> Result<(), AllocError>
     ensures { OnOk result (out.new.items ≡ out.old.items ++ opening_text routes.now opening.now) }
 {
     put_tenant(out, opening)?;

@@ -1,5 +1,9 @@
 //! Who writes the statements of closed periods, on a thread of its own: no disk is between an answer and its client.
 
+ghost use Rattle.std.specs.Prelude.{◌≡◌};
+ghost use Rattle.service.specs.Filing.{pause_after};
+
+use crate::connection::timed::millis_of;
 use crate::filing::disk::Disk;
 use crate::filing::folder::Folder;
 use crate::filing::{Filing, StatementStore, file};
@@ -9,14 +13,19 @@ use one_list::Run;
 use std::alloc::Global;
 use std::sync::Wait;
 use std::thread;
-use std::time::{Clock, Duration};
+use std::time::{Clock, Duration, Instant};
 use tenant_core::Period;
 
 /// For how many milliseconds it waits for a period at most before it looks again.
 const PATIENCE: u64 = 250;
 
-/// How many milliseconds after a failure it tries again.
-const PAUSE: u64 = 500;
+// For how many milliseconds it pauses after tries that failed and took so many: four times as many, from 500 to 8,000. So a full
+// disk costs a fifth of a processor at most.
+fn pause_after(spent: u64) -> u64
+    ensures { result ≡ pause_after spent }
+{
+    (spent.min(2_000) * 4).max(500)
+}
 
 /// One who writes statements. The periods of those that are written are kept for the audit, if the run is audited.
 #[derive(Drop)]
@@ -106,6 +115,29 @@ impl<H: Wait + Disk, J: Run> Scribe<'_, H, J> {
     }
 }
 
+impl<H: Wait + Clock + Disk, J: Run> Scribe<'_, H, J> {
+    // Waits for a period once all are written, and otherwise pauses before what can't be written is tried again, until nobody serves
+    // packets any more.
+    fn rest(&self, filing: &Filing, begun: Option<Instant>, are_written: bool) {
+        if are_written {
+            filing
+                .backlog
+                .await_call(self.handle, Duration::from_millis(PATIENCE));
+            return;
+        }
+        let spent = match (begun, Instant::now(self.handle)) {
+            (Some(begun), Ok(now)) => millis_of(now.saturating_duration_since(begun)),
+            _ => 0,
+        };
+        for _ in 0..pause_after(spent) / PATIENCE {
+            if self.office.door.is_deserted() {
+                return;
+            }
+            thread::sleep(self.handle, Duration::from_millis(PATIENCE));
+        }
+    }
+}
+
 impl<H: Wait + Clock + Disk, J: Run> Beside for Scribe<'_, H, J> {
     // No clause can say what a file system keeps.
     ghost stays = { λ _ _. Unit {0} };
@@ -120,13 +152,9 @@ impl<H: Wait + Clock + Disk, J: Run> Beside for Scribe<'_, H, J> {
             if office.door.is_deserted() {
                 return;
             }
-            if self.write_all(filing) {
-                filing
-                    .backlog
-                    .await_call(handle, Duration::from_millis(PATIENCE));
-            } else {
-                thread::sleep(handle, Duration::from_millis(PAUSE));
-            }
+            let begun = Instant::now(handle).ok();
+            let are_written = self.write_all(filing);
+            self.rest(filing, begun, are_written);
         }
     }
 }

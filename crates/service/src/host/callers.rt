@@ -86,7 +86,7 @@ struct Caller {
     came: Instant,
     // Whether it was asked for the rest of its request.
     is_invited: bool,
-    // Whether it waits for the end of the service.
+    // Whether it has waited for the end of the service.
     is_bound: bool,
 }
 
@@ -100,7 +100,7 @@ impl Caller {
             Err(error) if is_pause(&error) => Due::Later,
             Err(_) => Due::Now(0),
         };
-        self.is_bound = due == Due::AtTheEnd;
+        self.is_bound |= due == Due::AtTheEnd;
         due
     }
 
@@ -225,7 +225,7 @@ impl Callers {
     }
 
     // Takes out one whose request has come. Those whose time is over are sent away.
-    fn next_due<K: Answering>(&mut self, now: Instant, answering: &K) -> Option<TcpStream> {
+    fn next_due<K: Answering>(&mut self, now: Instant, answering: &K) -> Option<Caller> {
         for _ in 0..MAX_CALLERS + 1 {
             match self.next(now, answering) {
                 Next::Nothing => return None,
@@ -237,7 +237,7 @@ impl Callers {
                 Next::Answer(at, tenant) => {
                     if at < self.waiting.len() {
                         self.last = tenant;
-                        return Some(self.waiting.remove(at).stream);
+                        return Some(self.waiting.remove(at));
                     }
                 }
             }
@@ -296,11 +296,16 @@ pub struct Porter<'a, H, K> {
 }
 
 impl<H: Wait + Net<Stream = TcpStream> + Clock, K: Answering> Porter<'_, H, K> {
-    // Answers the request of a connection. The answer leaves as the connection takes it.
+    // Answers the request of a caller. The answer leaves as the connection takes it.
     #[tactic(auto, using(crate::proofs::Repeating::none_repeated, crate::proofs::Repeating::once_repeated))]
-    fn answer(&mut self, stream: TcpStream, now: Instant)
+    fn answer(&mut self, caller: Caller, now: Instant)
         ensures { Repeats K.serves self.old.answering self.new.answering }
     {
+        let Caller {
+            stream,
+            is_bound,
+            ..
+        } = caller;
         if stream.set_nonblocking(false).is_err() {
             return;
         }
@@ -308,7 +313,7 @@ impl<H: Wait + Net<Stream = TcpStream> + Clock, K: Answering> Porter<'_, H, K> {
         let time = Duration::from_millis(READING);
         self.answering.serve_connection(&stream, time, &mut letter);
         if stream.set_nonblocking(true).is_ok() {
-            self.letters.admit(stream, letter, now);
+            self.letters.admit(stream, letter, is_bound, now);
         }
     }
 
@@ -337,10 +342,10 @@ impl<H: Wait + Net<Stream = TcpStream> + Clock, K: Answering> Porter<'_, H, K> {
         let Ok(now) = Instant::now(self.handle) else {
             return false;
         };
-        let Some(stream) = self.callers.next_due(now, &self.answering) else {
+        let Some(caller) = self.callers.next_due(now, &self.answering) else {
             return false;
         };
-        self.answer(stream, now);
+        self.answer(caller, now);
         true
     }
 
@@ -353,9 +358,10 @@ impl<H: Wait + Net<Stream = TcpStream> + Clock, K: Answering> Porter<'_, H, K> {
         }
     }
 
-    // Whether someone still waits for an answer once nobody serves packets: for the end, or for the rest of an answer.
+    // Whether someone still waits for an answer once nobody serves packets: for the end and its setup, as long as the connection takes
+    // it, or for the rest of another answer.
     fn is_bound(&self, since: Option<Instant>) -> bool {
-        if self.callers.has_bound() {
+        if self.callers.has_bound() || self.letters.has_bound() {
             return true;
         }
         let waited = match (since, Instant::now(self.handle)) {

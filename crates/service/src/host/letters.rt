@@ -103,6 +103,8 @@ struct Leaving {
     stream: TcpStream,
     letter: Letter,
     sent: usize,
+    // Whether its client has waited for the end of the service.
+    is_bound: bool,
     since: Instant,
     // When the connection last took some of it; at first, when it first could.
     moved: Option<Instant>,
@@ -149,13 +151,13 @@ impl Leaving {
         millis_of(now.saturating_duration_since(self.since))
     }
 
-    // Whether the connection may still take it.
+    // Whether the connection may still take it: for a minute in all, and the answer to a stop as long as it takes some of it.
     fn has_time(&self, now: Instant) -> bool {
         let stalled = match self.moved {
             Some(moved) => millis_of(now.saturating_duration_since(moved)),
             None => 0,
         };
-        self.waited(now) < 2 * PATIENCE && stalled < STALL
+        stalled < STALL && (self.is_bound || self.waited(now) < 2 * PATIENCE)
     }
 
     // Sends on, and says whether it stays.
@@ -200,21 +202,19 @@ impl Letters {
         })
     }
 
-    // Gives up the first that has left, or else the first.
+    // Gives up the first that has left, or else the first that nobody waited for until the end, or else the first.
     fn give_up_one(&mut self) {
-        let sent = self
-            .leaving
-            .as_slice()
-            .iter()
-            .position(|leaving| leaving.is_sent());
-        let at = sent.unwrap_or(0);
+        let leaving = self.leaving.as_slice();
+        let sent = leaving.iter().position(|leaving| leaving.is_sent());
+        let free = leaving.iter().position(|leaving| !leaving.is_bound);
+        let at = sent.or(free).unwrap_or(0);
         if at < self.leaving.len() {
             let _ = self.leaving.remove(at);
         }
     }
 
     /// Lets an answer leave.
-    pub fn admit(&mut self, stream: TcpStream, letter: Letter, now: Instant) {
+    pub fn admit(&mut self, stream: TcpStream, letter: Letter, is_bound: bool, now: Instant) {
         if self.leaving.len() >= MAX_LETTERS {
             self.give_up_one();
         }
@@ -223,6 +223,7 @@ impl Letters {
             stream,
             letter,
             sent: 0,
+            is_bound,
             since: now,
             moved: None,
             done: None,
@@ -251,6 +252,14 @@ impl Letters {
                 let _ = self.leaving.remove(at);
             }
         }
+    }
+
+    /// Whether one has not left whose client has waited for the end of the service.
+    pub fn has_bound(&self) -> bool {
+        self.leaving
+            .as_slice()
+            .iter()
+            .any(|leaving| leaving.is_bound && !leaving.is_sent())
     }
 
     /// Whether one has not left.

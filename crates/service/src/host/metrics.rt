@@ -249,7 +249,7 @@ impl Family {
             Family::Packets => b"Packets that the tenant decided, by what became of them.",
             Family::Unanswered => b"Packets that went on and got no usable answer, by the cause.",
             Family::LinkFaults =>
-                b"Packets for which a peer gave no usable answer, or for which no place was free in time.",
+                b"Packets that no peer answered with status 200, or for which no place was free in time. A bad answer is not counted.",
             Family::RefusedTokens =>
                 b"Commands and questions under a token that is not the operator's.",
             Family::PlacesShare => b"Places of which the tenant is sure.",
