@@ -411,6 +411,13 @@ impl Floor {
         }
     }
 
+    /// The books of the tenants, by their numbers.
+    pub fn books(&self) -> &[Book]
+        ensures { result.now ≡ self.now.books }
+    {
+        &self.parts.books
+    }
+
     // The output of a step, with its bytes copied into a buffer that was allocated for them.
     fn output(&self, told: StepOutput, room: Vec<u8>) -> Output
         requires empty { room.items ≡ [] }
