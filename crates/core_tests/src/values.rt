@@ -1,10 +1,11 @@
 //! Single values through public functions: lengths, addresses, targets, packets, configurations, prices, purses, buckets,
-//! routes and counts.
+//! routes, counts and logs of lines.
 
 mod addresses;
 mod buckets;
 mod ildcp;
 mod lengths;
+mod logs;
 mod packets;
 mod prices;
 mod purses;
