@@ -1,0 +1,9 @@
+pub mod BaseLines
+pub mod Commits
+pub mod EachItem
+pub mod LinesBack
+pub mod OneBase
+pub mod OneEnd
+pub mod Splits
+pub mod Taken
+pub mod WrittenTexts
