@@ -1,0 +1,7 @@
+//! The journal of books on disk while it is written: a line for each record, and many by one sync.
+#![tactic(auto)]
+
+mod journal;
+mod lines;
+
+pub use journal::{CommitFault, Journal};
