@@ -9,7 +9,7 @@ use Rattle.floor_core.specs.declared.step.Step.{Step}
 use Rattle.admin_text.specs.Setup.{setup_of}
 use Rattle.admin_text.specs.declared.setup.Setup.{Setup}
 use Rattle.admin_text.specs.declared.setup.SetupFault.{SetupFault}
-use Rattle.replay_text.specs.Printed.{printed_lines}
+use Rattle.output_text.specs.Printed.{printed_lines}
 use Rattle.replay_text.specs.Script.{steps_of_script}
 use Rattle.replay_text.specs.Streams.{AppendsFront}
 use Rattle.replay_text.specs.declared.replays.ReplayFault.{ReplayFault}

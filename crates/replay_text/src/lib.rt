@@ -3,13 +3,12 @@
 #![tactic(auto)]
 
 mod causes;
-mod hexadecimal;
 mod keeping;
 pub mod laws;
 mod lines;
 mod numbers;
 mod operands;
-mod printed;
+mod recording;
 mod replays;
 mod scans;
 mod script;
@@ -19,7 +18,8 @@ mod words;
 pub use causes::{LineFault, Operand, Verb};
 pub use keeping::PeriodKeeper;
 pub use lines::line_fault;
-pub use printed::{print_lines, put_answer};
+pub use output_text::{print_lines, put_answer};
+pub use recording::{NotRecorded, RecordedFault, Recorder, replay_recorded};
 pub use replays::{ReplayFault, replay, replay_keeping};
 pub use script::{
     MAX_LINE, MAX_SCRIPT, Meaning, ScriptFault, ScriptWrong, check_script, explain_script,

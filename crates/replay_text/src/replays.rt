@@ -13,7 +13,6 @@ ghost use Rattle.replay_text.specs.Streams.{AppendsFront, ConsumesAtMost, Writes
 ghost use Rattle.replay_text.specs.Closed.{Closes, ClosesAll, TakesClosed, TakesClosedFor};
 
 use crate::keeping::{LetGo, PeriodKeeper, hand_over};
-use crate::printed::put_told;
 use crate::script::{MAX_LINE, MAX_SCRIPT, Meaning, ScriptFault, lines_checked, meaning_of};
 use crate::streams::{CHUNK, StreamFault, read_rest, read_some, write_text};
 use crate::words::{ended_line, first_line};
@@ -21,13 +20,14 @@ use admin_text::{Setup, SetupFault, read_setup};
 use common_types::{Name, ReadError};
 use floor_core::{Floor, Step};
 use oer_core::Device;
+use output_text::put_told;
 use std::alloc::{AllocError, Global};
 use std::io::{Read, Write};
 use std::mem;
 use thiserror::Error;
 
 /// How many bytes of lines are written as soon as there are so many.
-const LONG: usize = 65_536;
+pub(crate) const LONG: usize = 65_536;
 
 /// As long as fewer bytes of lines than this are held, the lines of a script are run as they are read, and nothing is
 /// written. So most scripts are read once. What is left of another is checked before the first byte is written, and then
@@ -39,7 +39,7 @@ const MOST_HELD: usize = 16_777_216;
 const MOST_READ: usize = MAX_LINE + CHUNK;
 
 /// Room for the lines of any step: a frame of 34,000 bytes in digits, or 256 balances, and some words beside.
-const STEP_ROOM: usize = 70_000;
+pub(crate) const STEP_ROOM: usize = 70_000;
 
 /// How far a list of steps went.
 #[derive(Clone, Copy, Debug, PartialEq, Eq)]
@@ -52,7 +52,7 @@ enum Course {
 
 /// Why a line was not run to its end.
 #[derive(Clone, Copy, Debug, PartialEq, Eq)]
-enum Refusal {
+pub(crate) enum Refusal {
     /// Out of memory before its step: nothing of it has happened.
     Before,
     /// Out of memory after the step, for its lines.
@@ -95,9 +95,9 @@ impl ReplayFault {
 
 /// Whom the lines of a script may name: the tenants, and so many workers.
 #[derive(Clone, Copy)]
-struct Cast<'a> {
-    names: &'a [Name],
-    workers: usize,
+pub(crate) struct Cast<'a> {
+    pub(crate) names: &'a [Name],
+    pub(crate) workers: usize,
 }
 
 /// What lines of a script printed, and the number of the line after them. Rooms are used again: for the bytes of a frame,
@@ -158,7 +158,7 @@ fn run_step<K: PeriodKeeper>(
 
 // Reads a line and does what it says, appends the lines of its output to a text, and hands the keeper the period that it
 // closed.
-fn run_line<K: PeriodKeeper>(
+pub(crate) fn run_line<K: PeriodKeeper>(
     alloc: Global,
     floor: &mut Floor,
     cast: &Cast<'_>,
