@@ -1,0 +1,9 @@
+pub mod Events
+pub mod Following
+pub mod Fronts
+pub mod Leading
+pub mod NewLines
+pub mod Noting
+pub mod Scripts
+pub mod Starts
+pub mod Sums

@@ -1,0 +1,4 @@
+//! What is in a journal that a replay keeps.
+#![tactic(auto)]
+
+pub mod laws;
