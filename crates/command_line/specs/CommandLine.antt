@@ -3,7 +3,7 @@ use Rattle.std.specs.Prelude.{ℕ, ◌≤◌, IfSome}
 use Rattle.books_shared.specs.Gathers.{max_workers}
 use Rattle.command_line.specs.declared.usage.Task.{Task}
 use Rattle.command_line.specs.declared.usage.TheConstants.{MAX_ROUNDS}
-use Rattle.command_line.specs.declared.usage.Task.TheVariants.{Replay, Check, Verify, Serve}
+use Rattle.command_line.specs.declared.usage.Task.TheVariants.{Replay, Check, Verify, Recover, Serve}
 
 -- a service has 1 to 4,096 connections at once; if it ends by itself, it has served 1 to 1,000,000 for each
 -- worker
@@ -11,5 +11,6 @@ abbrev pub IsBounded : Task → Type 0
 IsBounded Replay = Unit {0}
 IsBounded Check = Unit {0}
 IsBounded Verify = Unit {0}
+IsBounded Recover = Unit {0}
 IsBounded (Serve connections rounds balances audit) =
     (1 ≤ connections) × (connections ≤ max_workers) × IfSome rounds (λ n. (1 ≤ n) × (n ≤ MAX_ROUNDS))

@@ -18,8 +18,10 @@ pub enum Task {
     Replay,
     /// To say whether it is good, and whether a script for it is.
     Check,
-    /// To say whether statements are good and continue one another, and their sums.
+    /// To say whether statements are good and continue one another, and their sums; or whether a journal is good.
     Verify,
+    /// To say with what the books of a journal go on after a crash.
+    Recover,
     /// To serve so many connections at once, each on a thread of its own, and to end once as many were served for each worker,
     /// if it is to end. Then it may print what each peer owes, and audit receipts.
     Serve {
@@ -71,6 +73,10 @@ pub struct CommandLine<'a> {
     pub receipts: Option<&'a str>,
     /// At how many hundredths of its entries, 1 to 100, a service closes a tenant's period by itself, if it does.
     pub roll_at: Option<u8>,
+    /// The folder of the journal that a replay writes, or that is verified or recovered.
+    pub journal: Option<&'a str>,
+    /// The file that gets the setup with which recovered books go on.
+    pub recovered: Option<&'a str>,
 }
 
 /// The address that a service listens on where the command line names none.
@@ -80,13 +86,17 @@ const ADDRESS: &str = "127.0.0.1:7768";
 const VERSION: &str = "0.1.0";
 
 const USAGE: &str =
-    "ilpd replay SETUP [--workers W] [--statements DIR] < SCRIPT\n       ilpd check SETUP [SCRIPT [--workers W]]\n       \
-ilpd verify [--setup SETUP] [--receipts FILE] FILE..\n       \
+    "ilpd replay SETUP [--workers W] [--statements DIR] [--journal DIR] < SCRIPT\n       ilpd check SETUP [SCRIPT [--workers W]]\n       \
+ilpd verify [--setup SETUP] [--receipts FILE] FILE..\n       ilpd verify --journal DIR\n       \
+ilpd recover DIR [--setup FILE] [--statements DIR]\n       \
 ilpd serve SETUP --workers W [--connections C] [--rounds N] [--balances] [--audit] [--listen ADDR]\n                  \
 [--host ADDR --host-token FILE] [--operators ADDR [--no-admin]] [--statements DIR] [--roll-at PERCENT]";
 
 const WHERE: &str =
     "docs/FORMATS.md describes setups, scripts and what is printed; examples/ has some of each";
+
+/// The subcommands, as help lists them.
+const SUBCOMMANDS: [&str; 5] = ["replay", "check", "verify", "recover", "serve"];
 
 fn setup_of<'a>(alloc: Global) -> Arg<'a> {
     Arg::new(alloc, "SETUP")
@@ -126,20 +136,35 @@ fn number_of<'a>(
     named(alloc, name, value, help).value_parser(value_parser!(u64))
 }
 
+// Puts an item at the end of a list.
+fn put<T: Drop>(list: &mut Vec<T>, item: T) -> Result<(), AllocError> {
+    list.push(item)?;
+    Ok(())
+}
+
 // How many workers a script has.
 fn script_workers<'a>(alloc: Global) -> Arg<'a> {
     let help = "How many workers the script has, 1 to 64";
     number_of(alloc, "workers", "W", help).default_value("1")
 }
 
+fn put_replay<'a>(alloc: Global, words: &mut Vec<Arg<'a>>) -> Result<(), AllocError> {
+    put(words, setup_of(alloc))?;
+    put(words, script_workers(alloc))?;
+    put(words, script_folder(alloc))?;
+    put(words, script_journal(alloc))
+}
+
 fn replay_of<'a>(alloc: Global) -> Result<Command<'a>, AllocError> {
+    let mut words = Vec::new(alloc);
+    put_replay(alloc, &mut words)?;
     Command::new(alloc, "replay")
         .about("Runs the script on standard input, and prints what each of its steps gives")
-        .override_usage("ilpd replay SETUP [--workers W] [--statements DIR] < SCRIPT")
+        .override_usage(
+            "ilpd replay SETUP [--workers W] [--statements DIR] [--journal DIR] < SCRIPT",
+        )
         .after_help("Example: ilpd replay examples/s1.toml < examples/forward.script")
-        .arg(setup_of(alloc))?
-        .arg(script_workers(alloc))?
-        .arg(script_folder(alloc))
+        .args(words)
 }
 
 fn script_folder<'a>(alloc: Global) -> Arg<'a> {
@@ -148,14 +173,25 @@ fn script_folder<'a>(alloc: Global) -> Arg<'a> {
     text_of(alloc, "statements", "DIR", help)
 }
 
+fn script_journal<'a>(alloc: Global) -> Arg<'a> {
+    let help = "The folder that gets the journal of what the script does, and has none yet";
+    text_of(alloc, "journal", "DIR", help)
+}
+
+fn put_check<'a>(alloc: Global, words: &mut Vec<Arg<'a>>) -> Result<(), AllocError> {
+    put(words, setup_of(alloc))?;
+    put(words, script_of(alloc))?;
+    put(words, script_workers(alloc).requires_arg("SCRIPT")?)
+}
+
 fn check_of<'a>(alloc: Global) -> Result<Command<'a>, AllocError> {
+    let mut words = Vec::new(alloc);
+    put_check(alloc, &mut words)?;
     Command::new(alloc, "check")
         .about("Says whether a setup is good, and a script for it, and else what is wrong")
         .override_usage("ilpd check SETUP [SCRIPT [--workers W]]")
         .after_help("Example: ilpd check examples/s1.toml examples/forward.script")
-        .arg(setup_of(alloc))?
-        .arg(script_of(alloc))?
-        .arg(script_workers(alloc).requires_arg("SCRIPT")?)
+        .args(words)
 }
 
 fn script_of<'a>(alloc: Global) -> Arg<'a> {
@@ -164,18 +200,27 @@ fn script_of<'a>(alloc: Global) -> Arg<'a> {
         .action(ArgAction::Set)
 }
 
+fn put_verify<'a>(alloc: Global, words: &mut Vec<Arg<'a>>) -> Result<(), AllocError> {
+    put(words, first_setup(alloc))?;
+    put(words, receipts_of(alloc))?;
+    put(words, journal_of(alloc))?;
+    put(words, statements_of(alloc)?)
+}
+
 fn verify_of<'a>(alloc: Global) -> Result<Command<'a>, AllocError> {
+    let mut words = Vec::new(alloc);
+    put_verify(alloc, &mut words)?;
     Command::new(alloc, "verify")
         .about(
             "Says whether statements are good and go on, and what they come to, or what is wrong",
         )
-        .override_usage("ilpd verify [--setup SETUP] [--receipts FILE] FILE..")
+        .override_usage(
+            "ilpd verify [--setup SETUP] [--receipts FILE] FILE..\n       ilpd verify --journal DIR",
+        )
         .after_help(
             "Example: ilpd verify --setup examples/fees.toml examples/acme.0.statement examples/acme.1.statement",
         )
-        .arg(first_setup(alloc))?
-        .arg(receipts_of(alloc))?
-        .arg(statements_of(alloc))
+        .args(words)
 }
 
 fn receipts_of<'a>(alloc: Global) -> Arg<'a> {
@@ -184,19 +229,25 @@ fn receipts_of<'a>(alloc: Global) -> Arg<'a> {
     text_of(alloc, "receipts", "FILE", help)
 }
 
+// The journal to verify, in the place of statements.
+fn journal_of<'a>(alloc: Global) -> Arg<'a> {
+    let help = "The folder of a journal that is to be verified, and no statements: it is only read";
+    text_of(alloc, "journal", "DIR", help).exclusive(true)
+}
+
 fn first_setup<'a>(alloc: Global) -> Arg<'a> {
     let help = "The file of the setup that the first statement is to begin with";
     text_of(alloc, "setup", "SETUP", help)
 }
 
-fn statements_of<'a>(alloc: Global) -> Arg<'a> {
+fn statements_of<'a>(alloc: Global) -> Result<Arg<'a>, AllocError> {
     Arg::new(alloc, "FILE")
         .help(
             "The files of a tenant's statements, one period after another, and .toml files: the setups that the service started with again",
         )
-        .required(true)
         .num_args(1..)
         .action(ArgAction::Append)
+        .required_unless_present("journal")
 }
 
 // The files of the statements that the words of `verify` name.
@@ -211,6 +262,38 @@ fn files_of<'a>(
         Some(files) => Ok(Some(Vec::from_slice(alloc, files)?)),
         None => Ok(None),
     }
+}
+
+fn crashed_journal<'a>(alloc: Global) -> Arg<'a> {
+    Arg::new(alloc, "DIR")
+        .help("The folder of the journal, which is only read")
+        .required(true)
+        .action(ArgAction::Set)
+}
+
+// What a recovery writes.
+fn put_recovered<'a>(alloc: Global, words: &mut Vec<Arg<'a>>) -> Result<(), AllocError> {
+    let setup = "The new file that gets the setup with which the books go on, in TOML";
+    let statements = "The folder that gets the statement of each period that is closed";
+    put(words, text_of(alloc, "setup", "FILE", setup))?;
+    put(words, text_of(alloc, "statements", "DIR", statements))
+}
+
+fn put_recover<'a>(alloc: Global, words: &mut Vec<Arg<'a>>) -> Result<(), AllocError> {
+    put(words, crashed_journal(alloc))?;
+    put_recovered(alloc, words)
+}
+
+fn recover_of<'a>(alloc: Global) -> Result<Command<'a>, AllocError> {
+    let mut words = Vec::new(alloc);
+    put_recover(alloc, &mut words)?;
+    Command::new(alloc, "recover")
+        .about(
+            "Says with what the books of a journal go on after a crash, and which packets were held then",
+        )
+        .override_usage("ilpd recover DIR [--setup FILE] [--statements DIR]")
+        .after_help("Example: ilpd recover journal --setup next.toml --statements kept")
+        .args(words)
 }
 
 fn service_workers<'a>(alloc: Global) -> Arg<'a> {
@@ -241,21 +324,19 @@ fn listen_of<'a>(alloc: Global) -> Arg<'a> {
 }
 
 // How many there are of what a service has.
-fn with_extent<'a>(alloc: Global, serve: Command<'a>) -> Result<Command<'a>, AllocError> {
-    serve
-        .arg(setup_of(alloc))?
-        .arg(service_workers(alloc))?
-        .arg(service_connections(alloc))?
-        .arg(service_rounds(alloc))
+fn put_extent<'a>(alloc: Global, words: &mut Vec<Arg<'a>>) -> Result<(), AllocError> {
+    put(words, setup_of(alloc))?;
+    put(words, service_workers(alloc))?;
+    put(words, service_connections(alloc))?;
+    put(words, service_rounds(alloc))
 }
 
 // What a service prints at the end.
-fn with_reports<'a>(alloc: Global, serve: Command<'a>) -> Result<Command<'a>, AllocError> {
+fn put_reports<'a>(alloc: Global, words: &mut Vec<Arg<'a>>) -> Result<(), AllocError> {
     let balances = "To print in the end what each peer owes, as the command balances does";
     let audit = "To keep a receipt of all that is done, and to audit the receipts in the end";
-    serve
-        .arg(flag_of(alloc, "balances", balances))?
-        .arg(flag_of(alloc, "audit", audit))
+    put(words, flag_of(alloc, "balances", balances))?;
+    put(words, flag_of(alloc, "audit", audit))
 }
 
 fn host_address<'a>(alloc: Global) -> Result<Arg<'a>, AllocError> {
@@ -270,8 +351,9 @@ fn host_token<'a>(alloc: Global) -> Result<Arg<'a>, AllocError> {
 }
 
 // The words of the host's door, each of which needs the other.
-fn with_host<'a>(alloc: Global, serve: Command<'a>) -> Result<Command<'a>, AllocError> {
-    serve.arg(host_address(alloc)?)?.arg(host_token(alloc)?)
+fn put_host<'a>(alloc: Global, words: &mut Vec<Arg<'a>>) -> Result<(), AllocError> {
+    put(words, host_address(alloc)?)?;
+    put(words, host_token(alloc)?)
 }
 
 fn operators_address<'a>(alloc: Global) -> Arg<'a> {
@@ -298,16 +380,29 @@ fn roll_at<'a>(alloc: Global) -> Arg<'a> {
 }
 
 // The words of the operators' door.
-fn with_operators<'a>(alloc: Global, serve: Command<'a>) -> Result<Command<'a>, AllocError> {
-    serve.arg(operators_address(alloc))?.arg(no_admin(alloc)?)
+fn put_operators<'a>(alloc: Global, words: &mut Vec<Arg<'a>>) -> Result<(), AllocError> {
+    put(words, operators_address(alloc))?;
+    put(words, no_admin(alloc)?)
 }
 
 // What happens to closed periods, and when they close.
-fn with_periods<'a>(alloc: Global, serve: Command<'a>) -> Result<Command<'a>, AllocError> {
-    serve.arg(folder_of(alloc))?.arg(roll_at(alloc))
+fn put_periods<'a>(alloc: Global, words: &mut Vec<Arg<'a>>) -> Result<(), AllocError> {
+    put(words, folder_of(alloc))?;
+    put(words, roll_at(alloc))
 }
 
-fn serve_itself<'a>(alloc: Global) -> Command<'a> {
+fn put_serve<'a>(alloc: Global, words: &mut Vec<Arg<'a>>) -> Result<(), AllocError> {
+    put_extent(alloc, words)?;
+    put_reports(alloc, words)?;
+    put(words, listen_of(alloc))?;
+    put_host(alloc, words)?;
+    put_operators(alloc, words)?;
+    put_periods(alloc, words)
+}
+
+fn serve_of<'a>(alloc: Global) -> Result<Command<'a>, AllocError> {
+    let mut words = Vec::new(alloc);
+    put_serve(alloc, &mut words)?;
     Command::new(alloc, "serve")
         .about(
             "Serves packets and commands over HTTP, and prints in the end how many were answered how",
@@ -316,13 +411,18 @@ fn serve_itself<'a>(alloc: Global) -> Command<'a> {
             "ilpd serve SETUP --workers W [--connections C] [--rounds N] [--balances] [--audit] [--listen ADDR]\n                  [--host ADDR --host-token FILE] [--operators ADDR [--no-admin]] [--statements DIR] [--roll-at PERCENT]",
         )
         .after_help("Example: ilpd serve examples/serve.toml --workers 4")
+        .args(words)
 }
 
-fn serve_of<'a>(alloc: Global) -> Result<Command<'a>, AllocError> {
-    let serve = with_extent(alloc, serve_itself(alloc))?;
-    let serve = with_reports(alloc, serve)?.arg(listen_of(alloc))?;
-    let serve = with_operators(alloc, with_host(alloc, serve)?)?;
-    with_periods(alloc, serve)
+// The subcommand of one of these names.
+fn subcommand_of<'a>(alloc: Global, name: &str) -> Result<Command<'a>, AllocError> {
+    match name {
+        "check" => check_of(alloc),
+        "verify" => verify_of(alloc),
+        "recover" => recover_of(alloc),
+        "serve" => serve_of(alloc),
+        _ => replay_of(alloc),
+    }
 }
 
 // How many workers there are, 1 where nothing is said.
@@ -399,6 +499,8 @@ fn line_of<'a>(
         first: words.get_str("setup"),
         receipts: words.get_str("receipts"),
         roll_at: None,
+        journal: words.get_str("journal"),
+        recovered: None,
     }
 }
 
@@ -411,6 +513,13 @@ fn line_in<'a>(matches: &ArgMatches<'a>) -> CommandLine<'a>
     match matches.subcommand() {
         Some(("check", check)) => line_of(Task::Check, check, workers_of(check), ADDRESS),
         Some(("verify", verify)) => line_of(Task::Verify, verify, 1, ADDRESS),
+        Some(("recover", recover)) => CommandLine {
+            folder: recover.get_str("statements"),
+            first: None,
+            journal: recover.get_str("DIR"),
+            recovered: recover.get_str("setup"),
+            ..line_of(Task::Recover, recover, 1, ADDRESS)
+        },
         Some(("serve", serve)) => {
             let task = Task::Serve {
                 connections: connections_of(serve),
@@ -489,17 +598,18 @@ impl Limited {
     }
 }
 
+// The error of a subcommand with this text.
+fn error_of(alloc: Global, name: &str, said: &str) -> Result<Error, AllocError> {
+    subcommand_of(alloc, name)?.error(ErrorKind::ValueValidation, said)
+}
+
 // That each number which the words of a subcommand have is within its limits.
-fn within_limits(
-    alloc: Global,
-    mut command: Command<'_>,
-    words: &ArgMatches<'_>,
-) -> Result<(), Error> {
+fn within_limits(alloc: Global, name: &str, words: &ArgMatches<'_>) -> Result<(), Error> {
     for limited in &LIMITED {
         if limited.is_passed(words) {
             let given = words.get_str(limited.name).unwrap_or("");
             let said = limited.refusal(alloc, given)?;
-            return Err(command.error(ErrorKind::ValueValidation, said.as_str())?);
+            return Err(error_of(alloc, name, said.as_str())?);
         }
     }
     Ok(())
@@ -508,26 +618,32 @@ fn within_limits(
 // That each number is within its limits.
 fn all_within_limits(alloc: Global, matches: &ArgMatches<'_>) -> Result<(), Error> {
     match matches.subcommand() {
-        Some(("check", words)) => within_limits(alloc, check_of(alloc)?, words),
-        Some(("verify", _)) => Ok(()),
-        Some(("serve", words)) => within_limits(alloc, serve_of(alloc)?, words),
-        Some((_, words)) => within_limits(alloc, replay_of(alloc)?, words),
+        Some((name, words)) => within_limits(alloc, name, words),
         None => Ok(()),
     }
 }
 
+fn put_subcommands<'a>(
+    alloc: Global,
+    subcommands: &mut Vec<Command<'a>>,
+) -> Result<(), AllocError> {
+    for name in &SUBCOMMANDS {
+        put(subcommands, subcommand_of(alloc, name)?)?;
+    }
+    Ok(())
+}
+
 // The command line, with all that may be in it.
 fn program_of<'a>(alloc: Global) -> Result<Command<'a>, AllocError> {
+    let mut subcommands = Vec::new(alloc);
+    put_subcommands(alloc, &mut subcommands)?;
     Command::new(alloc, "ilpd")
         .version(VERSION)
         .about("A connector of the Interledger Protocol v4 for many operators")
         .override_usage(USAGE)
         .after_help(WHERE)
         .subcommand_required(true)
-        .subcommand(replay_of(alloc)?)?
-        .subcommand(check_of(alloc)?)?
-        .subcommand(verify_of(alloc)?)?
-        .subcommand(serve_of(alloc)?)
+        .subcommands(subcommands)
 }
 
 // What the words say, each number within its limits.
@@ -543,8 +659,9 @@ fn checked_line<'a>(alloc: Global, matches: &ArgMatches<'a>) -> Result<CommandLi
     Ok(line)
 }
 
-/// Reads the words of `ilpd replay SETUP [--workers W] [--statements DIR]`, `ilpd check SETUP [SCRIPT [--workers W]]`,
-/// `ilpd verify [--setup SETUP] [--receipts FILE] FILE..` or
+/// Reads the words of `ilpd replay SETUP [--workers W] [--statements DIR] [--journal DIR]`,
+/// `ilpd check SETUP [SCRIPT [--workers W]]`, `ilpd verify [--setup SETUP] [--receipts FILE] FILE..`,
+/// `ilpd verify --journal DIR`, `ilpd recover DIR [--setup FILE] [--statements DIR]` or
 /// `ilpd serve SETUP --workers W [--connections C] [--rounds N] [--balances] [--audit] [--listen ADDR] [--host ADDR
 /// --host-token FILE] [--operators ADDR [--no-admin]] [--statements DIR] [--roll-at PERCENT]`, the program's name first.
 ///

@@ -5,3 +5,4 @@ pub mod Reasons
 pub mod Verifying
 pub mod Filing
 pub mod Auditing
+pub mod Journalling

@@ -5,9 +5,50 @@ ghost use Rattle.clap.specs.Values.{kind_of};
 ghost use Rattle.clap.specs.declared.error.kind.ErrorKind.TheVariants.{DisplayVersion, OutOfMemory};
 ghost use Rattle.subcommands.specs.Endings.{exit_status};
 
+use book_journal::CommitFault;
 use clap::error::ErrorKind;
+use log_folder::FolderFault;
 use replay_text::ReplayFault;
 use service::ServeFault;
+use std::alloc::{AllocError, AllocFailed};
+use thiserror::Error;
+
+/// Why a journal is not kept, or can't be read.
+#[derive(Clone, Copy, Debug, PartialEq, Eq, Error)]
+pub enum JournalEnding {
+    #[error("journal: out of memory")]
+    Memory,
+    #[error("journal: {0}")]
+    Folder(FolderFault),
+    /// A replay begins a journal, and there is one already.
+    #[error("journal: the folder has a journal already: a replay needs one without")]
+    Taken,
+    #[error("journal: the folder has no journal")]
+    Missing,
+    #[error("journal: {0}")]
+    Commit(CommitFault),
+}
+
+impl From<AllocError> for JournalEnding {
+    fn from(_: AllocError) -> Self {
+        JournalEnding::Memory
+    }
+}
+
+impl<T: Drop> From<AllocFailed<T>> for JournalEnding {
+    fn from(_: AllocFailed<T>) -> Self {
+        JournalEnding::Memory
+    }
+}
+
+impl From<FolderFault> for JournalEnding {
+    fn from(fault: FolderFault) -> Self {
+        match fault {
+            FolderFault::Memory => JournalEnding::Memory,
+            fault => JournalEnding::Folder(fault),
+        }
+    }
+}
 
 /// Why the program ended early.
 #[derive(Drop)]
@@ -24,6 +65,17 @@ pub enum Ending {
     NotGood,
     /// An audit of receipts found a fault, as a line has said.
     Audit,
+    /// A journal is not kept, or can't be read.
+    Journal(JournalEnding),
+}
+
+impl Ending {
+    /// How a run ends for that reason.
+    pub fn of_journal(why: JournalEnding) -> Ending
+        ensures { result ≡ Ending.Journal why }
+    {
+        Ending::Journal(why)
+    }
 }
 
 /// How a run ends whose words were not accepted: out of memory if that is the error's kind, otherwise with the text
@@ -54,7 +106,8 @@ pub fn exit_status(ended: &Result<(), Ending>) -> u8
         Err(Ending::Usage(_) | Ending::NoToken) => 2,
         Err(Ending::NotGood) => 4,
         Err(Ending::Fault(fault)) => fault.status(),
-        Err(Ending::Served(ServeFault::Memory)) => 1,
+        Err(Ending::Served(ServeFault::Memory) | Ending::Journal(JournalEnding::Memory)) => 1,
+        Err(Ending::Journal(_)) => 5,
         Err(Ending::Served(ServeFault::Device)) => 5,
         Err(Ending::Served(ServeFault::Differs | ServeFault::Audit) | Ending::Audit) => 6,
     }

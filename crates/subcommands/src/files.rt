@@ -44,7 +44,7 @@ pub fn read_setup_file(
 ) -> Result<Vec<u8>, Ending> {
     match task {
         Task::Replay => fs::read(rt, file).map_err(printing),
-        Task::Check | Task::Verify | Task::Serve { .. } => read_file(rt, file),
+        Task::Check | Task::Verify | Task::Recover | Task::Serve { .. } => read_file(rt, file),
     }
 }
 

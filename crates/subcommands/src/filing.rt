@@ -4,6 +4,7 @@ ghost use Rattle.std.specs.Prelude.{◌≡◌, ◌≤◌, IfSome, OnOk};
 ghost use Rattle.floor_core.specs.FloorView.{max_seats};
 ghost use Rattle.subcommands.specs.Filing.{KeepsClosed};
 
+use crate::ending::Ending;
 use oer_core::Device;
 use replay_text::{PeriodKeeper, ReplayFault, replay_keeping};
 use service::{StatementStore, file};
@@ -20,7 +21,7 @@ pub struct Filer<S> {
 }
 
 impl<S> Filer<S> {
-    ghost use Rattle.std.specs.Prelude.{◌≡◌, true};
+    ghost use Rattle.std.specs.Prelude.{◌≡◌, true, OnOk};
 
     /// No statements yet, with that store.
     pub fn new(alloc: Global, store: S) -> Filer<S>
@@ -31,6 +32,17 @@ impl<S> Filer<S> {
             alloc,
             store,
             are_kept: true,
+        }
+    }
+
+    /// How a replay ends that has kept statements: `Device` if one of them is not kept.
+    pub fn ended(&self) -> Result<(), Ending>
+        ensures { OnOk result (self.now.are_kept ≡ true) }
+    {
+        if self.are_kept {
+            Ok(())
+        } else {
+            Err(Ending::Fault(ReplayFault::Device))
         }
     }
 }

@@ -5,7 +5,8 @@
 //! - `files`, `folder`: what the command line names, and what is said of it.
 //! - `checking`: what `check` says of a setup and a script.
 //! - `verifying`, `auditing`: what `verify` says of statements, and of receipts.
-//! - `filing`: a replay that keeps statements.
+//! - `filing`, `journalling`: a replay that keeps statements, and one that keeps a journal.
+//! - `recovering`: what `recover` and `verify` say of a journal.
 //! - `ending`, `reasons`: how a run ends, and why a file or a socket failed.
 //! - `clock`, `token`: what time it is; the token that a file holds.
 #![tactic(auto)]
@@ -17,9 +18,11 @@ mod ending;
 mod files;
 mod filing;
 mod folder;
+mod journalling;
 mod judging;
 mod program;
 mod reasons;
+mod recovering;
 mod replaying;
 mod serving;
 mod token;
@@ -28,10 +31,12 @@ mod verifying;
 pub use auditing::{Statements, tell_audit};
 pub use checking::{Script, check, ending_of, printing};
 pub use clock::SystemClock;
-pub use ending::{Ending, asks_version, exit_status, words_refused};
+pub use ending::{Ending, JournalEnding, asks_version, exit_status, words_refused};
 pub use filing::{Filer, replay_filing};
+pub use journalling::{Journalist, NoPeriods, replay_journalled, starts_of};
 pub use program::run;
 pub use reasons::reason_of;
+pub use recovering::{end_period, reopened};
 pub use token::token_of;
 pub use verifying::{
     TextFile, begin, good_in, join, memory_refused, name_in, take, tell, tenant_of,

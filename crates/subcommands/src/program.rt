@@ -4,12 +4,14 @@ use crate::checking::printing;
 use crate::ending::{Ending, asks_version, exit_status, words_refused};
 use crate::files::read_setup_file;
 use crate::judging::{audit_at, check_at, verify_at};
+use crate::recovering::{Recovery, recover_at, verify_journal_at};
 use crate::replaying::replay_at;
 use crate::serving::serve_at;
 use command_line::{Task, arguments};
 use replay_text::ReplayFault;
 use service::{Disk, Extent, Plan, Report, ServeFault};
 use std::env;
+use std::fs::File;
 use std::net::{Net, TcpListener, TcpStream};
 use std::rt::{Env, Files};
 use std::sync::Wait;
@@ -19,7 +21,7 @@ use std::time::Clock;
 // Does what the words of the command line ask for.
 fn perform<
     R: Env
-        + Files
+        + Files<File = File>
         + Disk
         + Input
         + Print
@@ -48,9 +50,21 @@ fn perform<
             None => verify_at(rt, first, files.as_slice()),
         };
     }
+    match (line.task, line.journal) {
+        (Task::Verify, Some(journal)) => return verify_journal_at(rt, journal),
+        (Task::Recover, Some(journal)) => {
+            let recovery = Recovery {
+                journal,
+                setup: line.recovered,
+                statements: line.folder,
+            };
+            return recover_at(rt, recovery);
+        }
+        _ => {}
+    }
     let setup = read_setup_file(rt, line.task, line.setup)?;
     match line.task {
-        Task::Verify => Ok(()),
+        Task::Verify | Task::Recover => Ok(()),
         Task::Check => check_at(rt, setup.as_slice(), line.script, line.workers),
         Task::Serve {
             connections,
@@ -72,7 +86,13 @@ fn perform<
             };
             serve_at(rt, setup.as_slice(), plan, &line)
         }
-        Task::Replay => replay_at(rt, setup.as_slice(), line.workers, line.folder),
+        Task::Replay => replay_at(
+            rt,
+            setup.as_slice(),
+            line.workers,
+            line.folder,
+            line.journal,
+        ),
     }
 }
 
@@ -92,13 +112,16 @@ fn say_ending(rt: &impl Eprint, ended: &Result<(), Ending>) {
         Err(Ending::Served(fault)) => {
             let _ = rt.eprintln(*fault);
         }
+        Err(Ending::Journal(why)) => {
+            let _ = rt.eprintln(*why);
+        }
     }
 }
 
 /// Does what the words of the command line ask for, says on standard error what went wrong, and returns the exit status.
 pub fn run<
     R: Env
-        + Files
+        + Files<File = File>
         + Disk
         + Input
         + Print
