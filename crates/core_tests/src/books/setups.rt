@@ -259,7 +259,7 @@ pub fn begun(
     Ok(Book::new(alloc, number, setup, start)?)
 }
 
-fn setup_of(alloc: Global, journal: u64, agreed: Agreed) -> Result<TenantSetup, Fail> {
+pub fn setup_of(alloc: Global, journal: u64, agreed: Agreed) -> Result<TenantSetup, Fail> {
     let setup = tenant(alloc, journal, 1_000, 30_000, agreed)?;
     Ok(setup.ok_or("a setup")?)
 }

@@ -28,6 +28,7 @@ burst = 1
 per_second = 1
 balence = 5
 Out_Token = \"s3cret\"
+tokn = \"s3cret\"
 [[tenant.peer]]
 name = \"bob\"
 role = \"child\"
@@ -68,13 +69,14 @@ peers = []
 01234567890123456789012345678901234567890123456789012345678901234 = 1
 ";
 
-const COLOUR: &str = "colour = \"red\": an unknown key, ignored\n";
+const COLOUR: &str = "colour: an unknown key, ignored\n";
 
 const IN_TENANTS: &str = "tenant 0 acme: admin-old: an unknown key, ignored
 tenant 0 acme: jurnal = 64: an unknown key, ignored
 tenant 0 acme: \"two words\" = true: an unknown key, ignored
 tenant 0 acme: peer 1 alice: Out_Token: an unknown key, ignored
 tenant 0 acme: peer 1 alice: balence = 5: an unknown key, ignored
+tenant 0 acme: peer 1 alice: tokn: an unknown key, ignored
 ";
 
 const BEHIND: &str = "tenant 0 acme: route 2 g.acme.bob: fees is a table: an unknown key, ignored

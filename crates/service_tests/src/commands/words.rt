@@ -75,6 +75,14 @@ verify -> error:
 verify --setup s1.toml -> error:
 verify a.statement b.statement ->  1 verify
 verify --help -> Says whether statements
+verify --journal kept ->  1 verify
+verify --journal kept a.statement -> error:
+recover -> error:
+recover kept ->  1 recover
+recover kept --setup next.toml --statements closed ->  1 recover
+recover --help -> Says with what the books
+replay s1.toml --journal kept -> s1.toml 1 replay
+check s1.toml --journal kept -> error:
 help -> A connector
 replay --help -> Runs the script
 ";
@@ -105,6 +113,7 @@ fn task_told(alloc: Global, task: Task) -> Result<String, Fail> {
         Task::Replay => Ok(String::from_str(alloc, "replay")?),
         Task::Check => Ok(String::from_str(alloc, "check")?),
         Task::Verify => Ok(String::from_str(alloc, "verify")?),
+        Task::Recover => Ok(String::from_str(alloc, "recover")?),
         Task::Serve {
             connections,
             rounds,
@@ -216,7 +225,7 @@ fn the_version(rt: HostRuntime) -> Result<(), Fail> {
 
 const WORKERS_REFUSED: &str = "error: invalid value '65' for '--workers <W>': 1 to 64
 
-Usage: ilpd replay SETUP [--workers W] [--statements DIR] < SCRIPT
+Usage: ilpd replay SETUP [--workers W] [--statements DIR] [--journal DIR] < SCRIPT
 
 For more information, try '--help'.
 ";
@@ -255,6 +264,29 @@ fn scripts_to_check(rt: HostRuntime) -> Result<(), Fail> {
     let alloc = rt.alloc();
     assert!(rt; names_script(alloc, "check s1.toml a.script", Some("a.script"))?);
     assert!(rt; names_script(alloc, "check s1.toml", None)?);
+    Ok(())
+}
+
+// Whether the words name that journal, and that file for the setup of what is recovered.
+fn names_journal(
+    alloc: Global,
+    words: &str,
+    wanted: (Option<&str>, Option<&str>),
+) -> Result<bool, Fail> {
+    let line = line_of(alloc, words)?;
+    let found = arguments(alloc, line.as_slice())?;
+    Ok((found.journal, found.recovered) == wanted)
+}
+
+#[test]
+fn journals(rt: HostRuntime) -> Result<(), Fail> {
+    let alloc = rt.alloc();
+    assert!(rt; names_journal(alloc, "replay s1.toml", (None, None))?);
+    assert!(rt; names_journal(alloc, "replay s1.toml --journal kept", (Some("kept"), None))?);
+    assert!(rt; names_journal(alloc, "verify --journal kept", (Some("kept"), None))?);
+    assert!(rt; names_journal(alloc, "recover kept", (Some("kept"), None))?);
+    let words = "recover kept --setup next.toml";
+    assert!(rt; names_journal(alloc, words, (Some("kept"), Some("next.toml")))?);
     Ok(())
 }
 
