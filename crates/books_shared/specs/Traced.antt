@@ -69,8 +69,8 @@ entered_by e = record { tenant = e.tenant; made = e.made }
 -- order. It has no other steps.
 --
 -- What a worker has met of a tenant is how the tenant's steps in the list begin. The books are those of all tenants,
--- in order. The list is a run: steps of a floor, from the openings on, make just its records in its order and leave
--- these books
+-- in order. The list is a run: steps of some number of workers, from the openings on, make just its records in its
+-- order and leave these books
 pub record IsListOf (size : Size) (openings : List Opening) (books : List (State × ℕ)) (shares : List ShareView) (log : List Done) : Type 0 where
   pub tenants : All (λ b. IsLedTo openings b.0 (of_tenant b.0.opening.tenant log)) books
   pub workers : All (λ s. of_worker s.worker log ≡ s.steps) shares

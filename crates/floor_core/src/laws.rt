@@ -60,8 +60,8 @@ pub fn two_worlds()
 {}
 
 /// Take records of many tenants in one order, where a cause made each record in its tenant's book as the records
-/// before it left the book. They are the records of a run of at most as many workers as there are packets. Its steps
-/// start from the tenants' openings, make just these records in this order, and leave the books that the records
+/// before it left the book. They are the records of a run of some number of workers, which may be more than a floor has. Its
+/// steps start from the tenants' openings, make just these records in this order, and leave the books that the records
 /// leave.
 ///
 /// Each tenant sees in this run what the one-tenant connector says to the tenant's own steps alone. Each frame that

@@ -48,8 +48,8 @@ pub record HaveCounted {J : Type 0} {r : Ghosts J} (Gives : ℕ → Type 0) (off
 -- operators, at moments that the clock gave. Commands came with packets only if the plan says so.
 --
 -- If the last periods are closed, one worker has rolled each tenant. There is one list of all that was done to the
--- tenants' books. Each share has its part of it. It is a run of a floor from the openings of the setup to the books at
--- the end.
+-- tenants' books. Each share has its part of it. It is a run, of some number of workers, from the openings of the setup to
+-- the books at the end.
 pub record HasToldCountsIn {J : Type 0} (run : Ghosts J) (Gives : ℕ → Type 0) (setup : Setup) (plan : Plan) (operated : Bool) (old new : Option (List ℕ)) : Type 0 where
   pub office : Office J run
   pub known : IsOfficeOf setup office

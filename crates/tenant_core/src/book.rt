@@ -83,8 +83,8 @@ impl Book {
     ghost use Rattle.tenant_core.specs.Standing.{state_shown, IsShown};
 
     /// The book of a tenant's first period, in which nothing has happened. `tenant` is the tenant's place among all,
-    /// below 64, and `start` its first clock. It allocates all that the period needs: the calls that change the book
-    /// allocate nothing. Fails only if it is out of memory.
+    /// below 64, and `start` its first clock. It allocates all that packets, answers and ticks of the period
+    /// need: these allocate nothing. Fails only if it is out of memory.
     pub fn new(
         alloc: Global,
         tenant: usize,
