@@ -8,6 +8,7 @@ pub mod Traced
 pub mod Tracing
 pub mod Faults
 pub mod ShareKept
+pub mod Begun
 pub mod BooksKept
 pub mod Complete
 pub mod PeerOutcomes

@@ -1,19 +1,23 @@
 //! The books of all tenants.
 
-ghost use Rattle.std.specs.Prelude.{◌≡◌, ◌≤◌, length, vec_len, IfOk};
+ghost use Rattle.std.specs.Prelude.{◌≡◌, ◌≤◌, ◌↔◌, length, vec_len, IfOk, IsErrOf, IsTrue, Some};
 ghost use Rattle.tenant_core.specs.Limits.{max_tenants};
+ghost use Rattle.tenant_core.specs.Reopening.{opening_fault};
+ghost use Rattle.tenant_core.specs.State.{opened};
 ghost use Rattle.books_shared.specs.Shares.{fresh_shares};
+ghost use Rattle.books_shared.specs.Begun.{AreNumbered, HasFault};
 ghost use Rattle.books_shared.specs.Traced.{openings_of};
 
 use crate::guard::Guard;
 use crate::kept::LockedBook;
 use crate::share::Share;
+use common_types::ReadError;
 use ilp_addr::Moment;
 use one_list::{Chronicle, Opened, Run, Unclaimed};
 use std::alloc::{AllocError, Global};
 use std::marker::Model;
 use std::sync::{Mutex, Wait};
-use tenant_core::{Book, TenantSetup};
+use tenant_core::{Book, Opening, OpeningFault, TenantSetup};
 
 /// The most workers.
 pub const MAX_WORKERS: usize = 4_096;
@@ -46,12 +50,25 @@ impl<J: Run> Model for Books<J> {
     ghost invariant = { λ b. AreFew J.size J.openings (vec_len b.locks) b.workers };
 }
 
+/// Whether each opening is that of the tenant at its place.
+pub fn are_numbered(openings: &[Opening]) -> bool
+    ensures { IsTrue result ↔ AreNumbered openings.now }
+{
+    for (place, opening) in openings.iter().enumerate() {
+        if opening.tenant != place {
+            return false;
+        }
+    }
+    true
+}
+
 impl<J: Run> Books<J> {
-    ghost use Rattle.std.specs.Prelude.{◌≡◌, ◌<◌, ◌≤◌, length, true, IfOk, IfSome};
+    ghost use Rattle.std.specs.Prelude.{◌≡◌, ◌<◌, ◌≤◌, length, true, IfOk, IfSome, IsErrOf};
     ghost use Rattle.tenant_core.specs.Limits.{max_tenants};
     ghost use Rattle.books_shared.specs.Gathers.{max_workers};
     ghost use Rattle.books_shared.specs.Kept.{LockInvariant};
     ghost use Rattle.books_shared.specs.Shares.{fresh_shares};
+    ghost use Rattle.books_shared.specs.Begun.{AreNumbered, HasFault};
     ghost use Rattle.books_shared.specs.Traced.{IsLedTo, openings_of};
     ghost use Rattle.one_list.specs.Holds.{AreOwnAnswers};
 
@@ -82,6 +99,38 @@ impl<J: Run> Books<J> {
     {
         let (chronicle, mut unclaimed) = opened.named::<J>();
         let locks = locks_of(alloc, &chronicle, &mut unclaimed, setups, start)?;
+        let shares = fresh_shares(alloc, &chronicle, &mut unclaimed, workers, audited)?;
+        let books = Books {
+            chronicle,
+            locks,
+            workers,
+        };
+        Ok((books, shares))
+    }
+
+    /// The books of tenants that go on: their periods begin with these openings, the tenant of each at its place among them
+    /// (`are_numbered`). So books go on where others ended, with their periods, clocks, balances and buckets. All else is as for `new`.
+    ///
+    /// Fails with the first limit that an opening breaks, or if it is out of memory.
+    pub fn begun(
+        alloc: Global,
+        opened: Opened,
+        openings: &[Opening],
+        workers: usize,
+        audited: bool,
+    ) -> Result<(Books<J>, Vec<Share<J>>), ReadError<OpeningFault>>
+        requires list { (opened.table ≡ J.table) × (opened.size ≡ J.size) }
+        requires size { J.size ≡ record { tenants = length openings.now; workers = workers } }
+        requires openings { J.openings ≡ openings.now }
+        requires numbers { AreNumbered openings.now }
+        requires tenants { (1 ≤ length openings.now) × (length openings.now ≤ max_tenants) }
+        requires workers { (1 ≤ workers) × (workers ≤ max_workers) }
+        ensures books { IfOk result (λ made. made.0 ≡ record { tenants = length openings.now; workers = workers }) }
+        ensures shares { IfOk result (λ made. made.1.items ≡ fresh_shares audited workers) }
+        ensures refused { (fault : OpeningFault) → IsErrOf result (ReadError.Fault fault) → HasFault openings.now fault }
+    {
+        let (chronicle, mut unclaimed) = opened.named::<J>();
+        let locks = begun_locks(alloc, &chronicle, &mut unclaimed, openings)?;
         let shares = fresh_shares(alloc, &chronicle, &mut unclaimed, workers, audited)?;
         let books = Books {
             chronicle,
@@ -167,6 +216,38 @@ fn locks_of<J: Run>(
         locks.push_reserved(Mutex::new(LockedBook::new(book, part)));
     }
     Ok(locks)
+}
+
+fn begun_locks<J: Run>(
+    alloc: Global,
+    chronicle: &Chronicle<J>,
+    unclaimed: &mut Unclaimed<J>,
+    openings: &[Opening],
+) -> Result<Vec<Mutex<LockedBook<J>>>, ReadError<OpeningFault>>
+    requires few { length openings.now ≤ max_tenants }
+    requires none { unclaimed.old.tenants ≡ 0 }
+    requires many { J.size.tenants ≡ length openings.now }
+    requires openings { J.openings ≡ openings.now }
+    requires numbers { AreNumbered openings.now }
+    ensures locks { IfOk result (λ locks. vec_len locks ≡ length openings.now) }
+    ensures workers { unclaimed.new.workers ≡ unclaimed.old.workers }
+    ensures refused { (fault : OpeningFault) → IsErrOf result (ReadError.Fault fault) → HasFault openings.now fault }
+{
+    one_list::laws::histories();
+    let mut locks: Vec<Mutex<LockedBook<J>>> = Vec::with_capacity(alloc, openings.len())?;
+    for opening in openings {
+        let book = begun_book(alloc, opening)?;
+        let part = chronicle.tenant_part(unclaimed);
+        locks.push_reserved(Mutex::new(LockedBook::new(book, part)));
+    }
+    Ok(locks)
+}
+
+fn begun_book(alloc: Global, opening: &Opening) -> Result<Book, ReadError<OpeningFault>>
+    ensures begun { IfOk result (λ book. book ≡ opened opening.now) }
+    ensures refused { (fault : OpeningFault) → IsErrOf result (ReadError.Fault fault) → opening_fault opening.now ≡ Some fault }
+{
+    Book::reopened(alloc, opening.copy(alloc)?)
 }
 
 fn fresh_shares<J: Run>(

@@ -11,7 +11,7 @@ mod peer_outcomes;
 mod rise;
 mod share;
 
-pub use books::{Books, MAX_WORKERS};
+pub use books::{Books, MAX_WORKERS, are_numbered};
 pub use gather::GatherFault;
 pub use guard::Guard;
 pub use outcomes::{PacketCounts, PacketOutcome};
