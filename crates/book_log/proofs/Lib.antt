@@ -5,5 +5,6 @@ pub mod LinesBack
 pub mod OneBase
 pub mod OneEnd
 pub mod Splits
+pub mod Stops
 pub mod Taken
 pub mod WrittenTexts

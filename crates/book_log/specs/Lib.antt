@@ -5,3 +5,4 @@ pub mod Written
 pub mod Laws
 pub mod Base
 pub mod OneBase
+pub mod Faults

@@ -1,5 +1,5 @@
 -- The text of a log: the lines of each commit, and a sum after them.
-use Rattle.std.specs.Prelude.{ℕ, ◌≡◌, Bool, List, [], ◌∷◌, ◌++◌, take, codes, map, Option, Some, None, option_map, if◌then◌else◌}
+use Rattle.std.specs.Prelude.{ℕ, ◌≡◌, Bool, true, List, [], ◌∷◌, ◌++◌, take, codes, map, Option, Some, None, option_map, if◌then◌else◌}
 use Rattle.std.specs.Str.{bytes_eq}
 use Rattle.hex.specs.Hex.{encode_lower}
 use Rattle.line_log.specs.Log.{all_of, lines}
@@ -57,3 +57,6 @@ pub record IsCommit (parts : List (List ℕ)) (text stated rest : List ℕ) : Ty
   pub read : commit_read parts ≡ Some (record { lines = each; sum = sum; rest = text_lines rest })
   pub are_lines : text ≡ lines each
   pub is_stated : stated ≡ sum ++ 10 ∷ []
+  -- it is one line, whatever follows, and states a sum
+  pub one_line : (text : List ℕ) → text_lines (sum ++ 10 ∷ text) ≡ sum ∷ text_lines text
+  pub marked : is_sum sum ≡ true

@@ -1,6 +1,6 @@
 //! What the types of a tenant's parts keep, and what holds of them when a period begins.
 
-ghost use Rattle.std.specs.Prelude.{◌≡◌, true, IsTrue};
+ghost use Rattle.std.specs.Prelude.{◌≡◌, ◌↔◌, true, IsTrue};
 ghost use Rattle.std.specs.List.{All};
 ghost use Rattle.statements.specs.ReadBack.{AreNumbersWritable, AreWritable, IsOwnWritable, IsPeerWritable, IsRate, IsRouteWritable};
 ghost use Rattle.tenant_core.specs.Terms.{are_limits_within, is_bucket_within};
@@ -50,14 +50,14 @@ fn peer_is_kept(peer: &Peer)
 }
 
 fn is_peer_start(clock: u64, peer: &Peer) -> bool
-    ensures { IsTrue result → IsPeerStart clock peer.now }
+    ensures { IsTrue result ↔ IsPeerStart clock peer.now }
 {
     peer_is_kept(peer);
     peer.bucket.clock == clock && peer.bucket.entries == 0
 }
 
 fn are_peer_starts(clock: u64, peers: &[Peer]) -> bool
-    ensures { IsTrue result → All (IsPeerStart clock) peers.now }
+    ensures { IsTrue result ↔ All (IsPeerStart clock) peers.now }
 {
     for peer in peers {
         if !is_peer_start(clock, peer) {
@@ -122,7 +122,7 @@ fn numbers_are_kept(opening: &Opening)
 
 /// Whether a tenant is at the beginning of a period: its peers' buckets are as they are at its clock, before the first entry.
 pub fn is_start(opening: &Opening, admin: &Token) -> bool
-    ensures { IsTrue result → IsStart (record { opening = opening.now; admin = admin.now }) }
+    ensures { IsTrue result ↔ IsStart (record { opening = opening.now; admin = admin.now }) }
 {
     own_is_kept(opening);
     numbers_are_kept(opening);

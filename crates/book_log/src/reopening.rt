@@ -2,6 +2,7 @@
 
 ghost use Rattle.std.specs.Prelude.{◌≡◌, List, ℕ, IfOk, OnOk};
 ghost use Rattle.book_log.specs.Base.{AreReopened, HasLogFault, admins_of, states_of};
+ghost use Rattle.book_log.specs.Faults.{IsFaultAt, IsLimit, IsLogFault, IsReopening, OnFault, Opens};
 ghost use Rattle.book_log.specs.OneBase.{IsJournal};
 ghost use Rattle.book_log.specs.Sums.{IsTextTaken};
 ghost use Rattle.book_log.specs.Written.{IsNotWritten, IsOnlyEnd};
@@ -43,6 +44,8 @@ fn begun_one(
 ) -> Result<Book, ReadError<JournalFault>>
     ensures begun { IfOk result (λ book. book ≡ opened start.now.opening) }
     ensures fault { HasLogFault result → ⊥ }
+    ensures opens { IfOk result (λ book. Opens start.now) }
+    ensures limit { OnFault result (IsLimit tenant start.now.opening) }
 {
     match Book::reopened(alloc, start.opening.copy(alloc)?) {
         Ok(book) => Ok(book),
@@ -84,6 +87,7 @@ fn take_log(
     ensures taken { OnOk result (IsTextTaken first.now log.now books.old.items books.new.items) }
     ensures written { OnOk result (IsOnlyEnd first.now log.now books.old.items books.new.items) }
     ensures refused { HasLogFault result → IsNotWritten first.now log.now books.old.items }
+    ensures fault { OnFault result (IsLogFault first.now log.now books.old.items) }
 {
     match take_text(alloc, books, log, first) {
         Ok(()) => Ok(()),
@@ -101,6 +105,8 @@ pub fn reopen(alloc: Global, base: &[u8], log: &[u8]) -> Result<Reopened, ReadEr
     ensures written { IfOk result (λ r. (books : List State) (admins : List (List ℕ)) → IsJournal base.now log.now books admins
         → (r.books.items ≡ books) × (r.admins.items ≡ admins)) }
     ensures refused { HasLogFault result → (books : List State) (admins : List (List ℕ)) → IsJournal base.now log.now books admins → ⊥ }
+    ensures left { IfOk result (λ r. IsReopening base.now log.now r.books.items r.admins.items) }
+    ensures fault { OnFault result (IsFaultAt base.now log.now) }
 {
     one_base();
     let (starts, first) = match read_base(alloc, base) {

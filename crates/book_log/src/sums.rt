@@ -28,6 +28,7 @@ pub fn first_line(text: &[u8]) -> Option<(&[u8], &[u8])>
     ensures parts { IfSome result (λ r. text.now ≡ r.0.now ++ 10 ∷ r.1.now) }
     ensures shorter { IfSome result (λ r. length r.1.now < length text.now) }
     ensures first { MatchOption result (text_lines text.now ≡ text.now ∷ []) (λ r. text_lines text.now ≡ r.0.now ∷ text_lines r.1.now) }
+    ensures line { IfSome result (λ r. (others : List ℕ) → text_lines (r.0.now ++ 10 ∷ others) ≡ r.0.now ∷ text_lines others) }
 {
     let end = memchr(b'\n', text)?;
     Some((&text[..end], &text[end + 1..]))

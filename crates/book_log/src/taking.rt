@@ -1,10 +1,11 @@
 //! Books that take up the lines of a log.
 
-ghost use Rattle.std.specs.Prelude.{◌≡◌, ◌++◌, ◌∷◌, [], ◌↔◌, List, ℕ, IfOk, OnOk, IsTrue, length, None, Some};
+ghost use Rattle.std.specs.Prelude.{◌≡◌, ◌++◌, ◌∷◌, [], ◌↔◌, List, ℕ, IfOk, IfSome, OnOk, IsTrue, length, None, Some};
 ghost use Rattle.line_log.specs.Log.{lines};
 ghost use Rattle.tenant_core.specs.Replay.{outcome_of};
 ghost use Rattle.tenant_core.specs.State.{State};
 ghost use Rattle.tenant_core.specs.declared.journal.Outcome.{Outcome};
+ghost use Rattle.book_log.specs.Faults.{IsFaultOf, OnFault, StopsAt, feeds};
 ghost use Rattle.book_log.specs.Lines.{AreLinesTaken, IsNext, IsTaken, log_line, place_of};
 ghost use Rattle.book_log.specs.Reading.{line_said};
 ghost use Rattle.book_log.specs.Sums.{IsTextTaken};
@@ -100,6 +101,7 @@ fn take_lines(
     ensures written { IfOk result (λ breaks. (each : List (List ℕ)) (after : List State) → text.now ≡ lines each
         → AreWritten each books.old after → (breaks ≡ None) × (books.new ≡ after)) }
     ensures as_many { length books.new ≡ length books.old }
+    ensures stops { IfOk result (λ breaks. IfSome breaks (StopsAt text.now books.old)) }
 {
     lines_are_read_back();
     let mut rest = text;
@@ -129,7 +131,9 @@ pub enum LineFault {
 }
 
 // How many lines a text has.
-fn count_lines(text: &[u8]) -> usize {
+fn count_lines(text: &[u8]) -> usize
+    ensures { result ≡ feeds text.now }
+{
     text.iter().filter(|byte| **byte == b'\n').count()
 }
 
@@ -148,6 +152,7 @@ pub fn take_text(
     ensures written { OnOk result (IsOnlyEnd first.now text.now books.old books.new) }
     ensures refused { HasFault result → IsNotWritten first.now text.now books.old }
     ensures as_many { length books.new ≡ length books.old }
+    ensures fault { OnFault result (IsFaultOf first.now text.now books.old) }
 {
     lines_are_read_back();
     let mut written = Vec::new(alloc);

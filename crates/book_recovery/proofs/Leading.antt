@@ -39,6 +39,13 @@ opened_by (Some fault) o s is = absurd (cc is)
 pub opened_so : (o : Opening) (s : State) → reopened o ≡ Ok s → s ≡ opened o
 opened_so o s is = opened_by (opening_fault o) o s is
 
+begun_by : (f : Option OpeningFault) (o : Opening) (s : State) → opened_unless o f ≡ Ok s → f ≡ None
+begun_by None o s is = refl
+begun_by (Some fault) o s is = absurd (cc is)
+
+pub begins_so : (o : Opening) (s : State) → reopened o ≡ Ok s → opening_fault o ≡ None
+begins_so o s is = begun_by (opening_fault o) o s is
+
 pub fronts : FrontLaw
 fronts s t records zero leads = (s, refl)
 fronts s t [] (suc n) leads = (s, refl)

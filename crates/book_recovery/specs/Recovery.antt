@@ -75,9 +75,10 @@ IsClosed (Some period) before after now =
     × (after ≡ opened (next_opening before (max (clock_of before) now)))
 IsClosed None before after now = (roll_refusal before ≢ None) × (after ≡ before)
 
--- A crash is to a tenant as if none of its next peers had answered any more, and it had rolled: the records lead to a state, all
--- that it holds has no answer, and the period is closed.
+-- A crash is to a tenant as if none of its next peers had answered any more, and it had rolled. A period begins with the opening,
+-- and the records lead to a state. All that it holds has no answer, and the period is closed.
 pub record IsRecovered (first : Opening) (records : List Record) (now : ℕ) (closes : Option PeriodParts) (book : State) : Type 0 where
+  pub begins : opening_fault first ≡ None
   pub state : State
   pub leads : LeadTo (opened first) records state
   pub closes_so : IsClosed closes (all_given_up now state) book now
@@ -87,7 +88,7 @@ abbrev pub IsRecovery : Result Recovered (ReadError LogFault) → Opening → Li
 IsRecovery (Ok recovered) first records now = IsRecovered first records now (Some recovered.period) recovered.book
 IsRecovery (Err Memory) first records now = Unit {0}
 IsRecovery (Err (Faulty (Limit fault))) first records now = opening_fault first ≡ Some fault
-IsRecovery (Err (Faulty (Differs place))) first records now = BreaksAt (opened first) records place
+IsRecovery (Err (Faulty (Differs place))) first records now = (opening_fault first ≡ None) × BreaksAt (opened first) records place
 IsRecovery (Err (Faulty Last)) first records now = (book : State) × IsRecovered first records now None book
 
 -- ---- laws

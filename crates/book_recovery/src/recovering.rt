@@ -1,7 +1,7 @@
 ghost use Rattle.std.specs.Prelude.{◌≡◌, ◌↔◌, IfOk, OnOk, OnErr, IsTrue, Some, map};
 ghost use Rattle.tenant_core.specs.Holds.{holds_of};
 ghost use Rattle.tenant_core.specs.Replay.{outcome_of};
-ghost use Rattle.book_recovery.specs.Recovery.{IsClosed, IsDoneAgain, IsRecovery, after_record, all_given_up, given_up};
+ghost use Rattle.book_recovery.specs.Recovery.{IsClosed, IsDoneAgain, IsRecovery, after_outcome, after_record, all_given_up, given_up};
 ghost use Rattle.book_recovery.specs.Recovery.{IsFollowedTo, FrontLaw, NoBreakLaw, NothingHeldLaw, OneEndLaw};
 
 use common_types::ReadError;
@@ -87,6 +87,7 @@ fn is_same(one: Outcome, other: Outcome) -> bool
 pub fn follow_record(alloc: Global, book: &mut Book, logged: &Record) -> Result<bool, AllocError>
     ensures led { IfOk result (λ led. IsTrue led ↔ (outcome_of book.old logged.now.entry ≡ Some logged.now.outcome)) }
     ensures next { IfOk result (λ led. IsTrue led → book.new ≡ after_record book.old logged.now) }
+    ensures rules { IfOk result (λ led. book.new ≡ after_outcome book.old logged.now.entry (outcome_of book.old logged.now.entry)) }
     ensures err { OnErr result (book.new ≡ book.old) }
 {
     match follow(alloc, book, &logged.entry)? {

@@ -35,6 +35,8 @@ returns-then-is_sum-clause-first c =
           ∙ ap (λ (ls : List (List ℕ)). let read : CommitRead = record { lines = ls; sum = line; rest = text_lines others } in Some read) (append-nil so_far.each);
       are_lines = c.before-then-is_sum.ensures (lines so_far.each) so_far.parts;
       is_stated = c.before-then-is_sum-2.ensures (line ++ 10 ∷ []) (c.in-Some.ensures.parts ∙ sym (append_assoc line (10 ∷ []) others));
+      one_line = c.in-Some.ensures.line;
+      marked = is;
     }
 
 pub loop-line-preserved : goal.loop-line-preserved

@@ -19,3 +19,10 @@ returns-clause-first c =
     rw (take_rest text (end + 1))
     (ap text_lines (first_parts text end found.0.high found.1)
     ∙ free_line (take end text) (drop (end + 1) text) (free_before text end (omega (arith, found.0.high)) found.0.before))
+
+pub returns-clause-line : goal.returns-clause-line
+returns-clause-line c others =
+    let text = c.args.text.now in
+    let end = c.in_ok-end.end in
+    let found = subst (λ (o : Option ℕ). IsFirstByte (is_byte 10) text o) c.in_ok-end.was c.memchr.ensures in
+    free_line (take end text) others (free_before text end (omega (arith, found.0.high)) found.0.before)
