@@ -1,1 +1,5 @@
+mod Addressed
+mod AllSound
 mod Putting
+mod SpoiltStays
+mod Visited

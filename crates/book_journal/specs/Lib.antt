@@ -1,1 +1,2 @@
+pub mod Loggable
 pub mod Written

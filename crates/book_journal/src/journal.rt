@@ -1,14 +1,17 @@
 //! The journal of tenants' books on disk.
 
-ghost use Rattle.std.specs.Prelude.{◌≡◌, ◌++◌, ◌⊎◌, [], drop, false, true, fold, length, map, slice_index_or, slice_set, Err, IfOk, OnErr, OnOk};
-ghost use Rattle.book_journal.specs.Written.{IsCommitted, closed_state, commit_text, first_place, lines_from, noted, place_in};
+ghost use Rattle.std.specs.Prelude.{◌≡◌, ◌≢◌, ◌≤◌, ◌+◌, ◌↔◌, ◌++◌, ◌⊎◌, [], drop, false, true, fold, length, map, All, slice_index_or, slice_set, Err, IfOk, OnErr, OnOk};
+ghost use Rattle.book_journal.specs.Written.{HasNoRoom, IsCommitted, closed_state, commit_text, first_place, lines_from, new_records, noted, place_in};
 ghost use Rattle.book_journal.specs.declared.journal.CommitFault.TheVariants.{Memory};
 ghost use Rattle.book_log.specs.Lines.{place_of};
 ghost use Rattle.book_log.specs.Sums.{sum_line};
+ghost use Rattle.book_log.specs.Written.{IsLoggable};
 ghost use Rattle.line_log.specs.File.{LeavesOnly};
-ghost use Rattle.line_log.specs.Log.{IsSettled, IsWithSome, recovered};
+ghost use Rattle.line_log.specs.Log.{IsLines, IsSettled, IsWithSome, recovered};
+ghost use Rattle.tenant_core.specs.Sound.{IsSound};
 
 use crate::lines::put_lines;
+use crate::loggable::{book_is_loggable, books_are_loggable, period_is_loggable};
 use book_log::{LinePlace, TenantStart, place_of, put_sum};
 use line_log::{Log, LogError, LogFile, next_sum, whole_lines};
 use std::alloc::{AllocError, Global};
@@ -132,6 +135,16 @@ impl<D: LogFile + Drop> Journal<D> {
     /// journal is spoilt.
     pub fn note(&mut self, book: &Book) -> Result<(), AllocError>
         ensures noted { OnOk result (self.new ≡ noted self.old book.now) }
+        ensures loggable { All IsLoggable (new_records self.old.places book.now) }
+        ensures spoilt { OnErr result (self.new.spoilt ≡ true) }
+        ensures log { self.new.log ≡ self.old.log }
+    {
+        book_is_loggable(&self.places, book);
+        self.note_book(book)
+    }
+
+    fn note_book(&mut self, book: &Book) -> Result<(), AllocError>
+        ensures noted { OnOk result (self.new ≡ noted self.old book.now) }
         ensures spoilt { OnErr result (self.new.spoilt ≡ true) }
         ensures log { self.new.log ≡ self.old.log }
     {
@@ -143,9 +156,11 @@ impl<D: LogFile + Drop> Journal<D> {
     /// spoilt.
     pub fn note_closed(&mut self, period: &Period) -> Result<(), AllocError>
         ensures noted { OnOk result (self.new ≡ noted self.old (closed_state period.now)) }
+        ensures loggable { All IsLoggable (new_records self.old.places (closed_state period.now)) }
         ensures spoilt { OnErr result (self.new.spoilt ≡ true) }
         ensures log { self.new.log ≡ self.old.log }
     {
+        period_is_loggable(&self.places, period);
         let records = period.records();
         let next = LinePlace {
             tenant: period.tenant(),
@@ -184,14 +199,29 @@ impl<D: LogFile + Drop> Journal<D> {
     }
 
     /// Notes what the books of all tenants have got since they were noted last, and commits it.
+    ///
+    /// `Tenants` if there are not as many books as tenants: nothing has changed then. Any other error is one of `commit` after the
+    /// books were noted, or `Memory` for that, after which the journal is spoilt.
     pub fn keep(&mut self, books: &[Book]) -> Result<(), CommitFault>
         ensures tenants { OnOk result (length books.now ≡ length self.old.places) }
+        ensures strangers { result ≡ Err CommitFault.Tenants → length books.now ≢ length self.old.places }
+        ensures untouched { result ≡ Err CommitFault.Tenants → self.new ≡ self.old }
+        ensures sound { All IsSound books.now }
+        ensures loggable { All (λ b. All IsLoggable (new_records self.old.places b)) books.now }
         ensures kept { OnOk result (IsCommitted D.seen (fold noted self.old books.now) self.new) }
         ensures any_moment { self.old.log.broken ≡ false → (self.new.log ≡ self.old.log)
             ⊎ LeavesOnly D.moment D.left_since self.old.log.file self.new.log.file
             (IsWithSome (recovered (D.seen self.old.log.file))
             (recovered (commit_text (fold noted self.old books.now).sum (fold noted self.old books.now).pending))) }
+        ensures unbroken { OnOk result ((self.new.log ≡ self.old.log) ⊎ (self.old.log.broken ≡ false)) }
+        ensures full { result ≡ Err (CommitFault.Log LogError.Full)
+            → HasNoRoom (fold noted self.old books.now) × (self.new ≡ fold noted self.old books.now) }
+        ensures was_spoilt { result ≡ Err CommitFault.Spoilt → self.old.spoilt ≡ true }
+        ensures spoilt { OnErr result ((result ≡ Err CommitFault.Tenants) ⊎ (result ≡ Err (CommitFault.Log LogError.Full))
+            ⊎ (self.new.spoilt ≡ true)) }
     {
+        are_sound(books);
+        books_are_loggable(&self.places, books);
         if books.len() != self.places.len() {
             return Err(CommitFault::Tenants);
         }
@@ -201,10 +231,11 @@ impl<D: LogFile + Drop> Journal<D> {
 
     fn note_all(&mut self, books: &[Book]) -> Result<(), AllocError>
         ensures noted { OnOk result (self.new ≡ fold noted self.old books.now) }
+        ensures spoilt { OnErr result (self.new.spoilt ≡ true) }
         ensures log { self.new.log ≡ self.old.log }
     {
         for book in books {
-            self.note(book)?;
+            self.note_book(book)?;
         }
         Ok(())
     }
@@ -215,14 +246,21 @@ impl<D: LogFile + Drop> Journal<D> {
     /// At `Ok` they are acknowledged: each crash from then on leaves a file that has them. A crash at any moment of the
     /// call leaves the records from before it and the first ones of these, in their order.
     ///
-    /// `Full` if they have no room: nothing has changed then. After any other error the journal is spoilt.
+    /// `Full` if they have no room: nothing has changed then. After any other error the journal is spoilt: `Spoilt` exactly if it
+    /// was, `Line` only if they are not whole lines, `Failed` and `Broken` of the log, and `Memory`.
     pub fn commit(&mut self) -> Result<(), CommitFault>
         ensures acknowledged { OnOk result (IsCommitted D.seen self.old self.new) }
         ensures settled { OnOk result ((self.old.pending ≡ []) ⊎ IsSettled D.seen D.may_leave self.new.log) }
         ensures any_moment { self.old.log.broken ≡ false → (self.new.log ≡ self.old.log)
             ⊎ LeavesOnly D.moment D.left_since self.old.log.file self.new.log.file
             (IsWithSome (recovered (D.seen self.old.log.file)) (recovered (commit_text self.old.sum self.old.pending))) }
-        ensures full { result ≡ Err (CommitFault.Log LogError.Full) → self.new ≡ self.old }
+        ensures unbroken { OnOk result ((self.new.log ≡ self.old.log) ⊎ (self.old.log.broken ≡ false)) }
+        ensures full { result ≡ Err (CommitFault.Log LogError.Full) → HasNoRoom self.old × (self.new ≡ self.old) }
+        ensures was_spoilt { result ≡ Err CommitFault.Spoilt ↔ self.old.spoilt ≡ true }
+        ensures no_lines { result ≡ Err CommitFault.Line → IsLines (commit_text self.old.sum self.old.pending) → ⊥ }
+        ensures failed { result ≡ Err (CommitFault.Log LogError.Failed) → D.has_failed self.new.log.file ≡ true }
+        ensures broken { result ≡ Err (CommitFault.Log LogError.Broken) → self.old.log.broken ≡ true }
+        ensures own_books { result ≢ Err CommitFault.Tenants }
         ensures spoilt { OnErr result ((result ≡ Err (CommitFault.Log LogError.Full)) ⊎ (self.new.spoilt ≡ true)) }
     {
         if self.spoilt {
@@ -248,6 +286,15 @@ impl<D: LogFile + Drop> Journal<D> {
     }
 }
 
+// Each of the books is sound, as its type keeps it.
+fn are_sound(books: &[Book])
+    ensures { All IsSound books.now }
+{
+    for book in books {
+        tenant_core::laws::book_is_sound(book);
+    }
+}
+
 // Writes lines after the records of a log, with that sum, and syncs them.
 fn write_summed<D: LogFile>(
     log: &mut Log<D>,
@@ -255,11 +302,19 @@ fn write_summed<D: LogFile>(
     sum: &[u8; 32],
 ) -> Result<(), CommitFault>
     ensures acknowledged { OnOk result (IsSettled D.seen D.may_leave log.new
-        × (recovered (D.seen log.new.file) ≡ recovered (D.seen log.old.file) ++ recovered (lines.old.items ++ sum_line sum.now))) }
+        × (recovered (D.seen log.new.file) ≡ recovered (D.seen log.old.file) ++ recovered (lines.old.items ++ sum_line sum.now))
+        × IsLines (lines.old.items ++ sum_line sum.now)) }
     ensures any_moment { log.old.broken ≡ false → (log.new ≡ log.old)
         ⊎ LeavesOnly D.moment D.left_since log.old.file log.new.file
         (IsWithSome (recovered (D.seen log.old.file)) (recovered (lines.old.items ++ sum_line sum.now))) }
-    ensures full { result ≡ Err (CommitFault.Log LogError.Full) → (log.new ≡ log.old) × (lines.new.items ≡ lines.old.items) }
+    ensures unbroken { OnOk result (log.old.broken ≡ false) }
+    ensures full { result ≡ Err (CommitFault.Log LogError.Full)
+        → (log.old.broken ≡ false) × (log.old.size ≤ log.old.end + length (lines.old.items ++ sum_line sum.now)) }
+    ensures untouched { result ≡ Err (CommitFault.Log LogError.Full) → (log.new ≡ log.old) × (lines.new.items ≡ lines.old.items) }
+    ensures no_lines { result ≡ Err CommitFault.Line → IsLines (lines.old.items ++ sum_line sum.now) → ⊥ }
+    ensures failed { result ≡ Err (CommitFault.Log LogError.Failed) → D.has_failed log.new.file ≡ true }
+    ensures broken { result ≡ Err (CommitFault.Log LogError.Broken) → log.old.broken ≡ true }
+    ensures others { (result ≢ Err CommitFault.Tenants) × (result ≢ Err CommitFault.Spoilt) }
 {
     let length = lines.len();
     put_sum(lines, sum)?;

@@ -3,5 +3,6 @@
 
 mod journal;
 mod lines;
+mod loggable;
 
 pub use journal::{CommitFault, Journal};
