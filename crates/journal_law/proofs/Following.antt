@@ -1,13 +1,13 @@
 -- A journal that is kept while steps are done.
-use Rattle.std.proofs.Common.{◌≡◌, ◌⊎◌, ◌<◌, ◌+◌, ℕ, zero, suc, true, false, List, [], ◌∷◌, ◌++◌, length, map, append_assoc, append-nil, refl, sym, ap, subst, ◌∙◌, inl, inr, arith}
+use Rattle.std.proofs.Common.{◌≡◌, ◌⊎◌, ◌≢◌, ◌<◌, ◌≤◌, ◌+◌, ℕ, zero, suc, true, false, List, [], ◌∷◌, ◌++◌, length, drop, map, append_assoc, append-nil, refl, sym, ap, subst, ◌∙◌, inl, inr, arith}
 use Rattle.std.specs.List.{AllByRecursion, slice_get}
 use Rattle.std.specs.Prelude.{All, Option, Some, fold, max, option_map, slice_index_or, slice_set}
 use Rattle.std.proofs.lemmas.Bool.{eq-eqb, ne_eqb}
 use Rattle.std.proofs.lemmas.Bool.Decides.{eqb_tells}
-use Rattle.std.proofs.lemmas.List.{length-append, length-map}
+use Rattle.std.proofs.lemmas.List.{get_or-set_other, length-append, length-map}
 use Rattle.std.proofs.lemmas.List.Elements.{All-append, All-from_recursion, recursion_from_All}
 use Rattle.std.proofs.lemmas.Option.{get_or_from_slice_get, slice_get-get_or, slice_get_within}
-use Rattle.book_journal.specs.Written.{Written, closed_state, first_place, noted}
+use Rattle.book_journal.specs.Written.{Written, closed_state, first_place, new_records, noted, place_in}
 use Rattle.book_log.specs.Base.{states_of}
 use Rattle.book_log.specs.Lines.{place_of}
 use Rattle.book_log.specs.Sums.{summed}
@@ -29,6 +29,7 @@ use Rattle.tenant_core.specs.Closing.{IsPeriod}
 use Rattle.tenant_core.specs.Sound.{IsSound}
 use Rattle.tenant_core.specs.State.{State, clock_of, opened}
 use Rattle.tenant_core.specs.declared.journal.Record.{Record}
+use Rattle.tenant_core.specs.declared.opening.Opening.{Opening}
 use Rattle.tenant_core.specs.declared.period.PeriodParts.{PeriodParts}
 use Rattle.journal_law.specs.Growth.{HasGrown, Rolls, is_roll}
 use Rattle.journal_law.specs.Kept.{AreLed, HasAllRecords, HasAllWritten, HaveBegun, IsNewJournal, JournalKeeps, JournalTakes, KeepsJournal}
@@ -156,8 +157,8 @@ is_along_rolled P seen sum begun books after j later t output within far rolls o
             let own : slice_get along.0 t ≡ Some (slice_index_or along.0 t no_book) = slice_get-get_or along.0 t no_book one in
             let period : IsPeriod (closed (books t) rolls.now) =
             subst (λ (p : PeriodParts). IsPeriod p) rolls.rolled.closed takes.period in
-            let fit : All P (closed (books t) rolls.now).records =
-            subst (λ (p : PeriodParts). All P p.records) rolls.rolled.closed takes.records in
+            let fit : All P (new_records j.places (closed_state (closed (books t) rolls.now))) =
+            subst (λ (p : PeriodParts). All P (new_records j.places (closed_state p))) rolls.rolled.closed takes.records in
             let noted_so : later ≡ noted j (closed_state (closed (books t) rolls.now)) =
             was ∙ ap (λ (p : PeriodParts). noted j (closed_state p)) rolls.rolled.closed in
             let last : List State = slice_set along.0 t (opened (next_opening (books t) (max (clock_of (books t)) rolls.now))) in
@@ -244,21 +245,42 @@ steps_go_on P seen sum begun R journal workers (step ∷ steps) w k l by fit tak
 
 -- ---- what is kept
 
--- these are the books from that number on, each within its limits and of such records
-abbrev AreFrom : (Record → Type 0) → ℕ → List State → (ℕ → State) → Type 0
-AreFrom P n [] books = Unit {0}
-AreFrom P n (b ∷ bs) books = (books n ≡ b) × IsSound b × All P b.records × AreFrom P (suc n) bs books
+-- these are the books from that number on, each within its limits; P holds of the records that have no line by these places
+abbrev AreFrom : (Record → Type 0) → List LinePlace → ℕ → List State → (ℕ → State) → Type 0
+AreFrom P places n [] books = Unit {0}
+AreFrom P places n (b ∷ bs) books = (books n ≡ b) × IsSound b × All P (new_records places b) × AreFrom P places (suc n) bs books
 
-are_from : (P : Record → Type 0) (bs : List State) (n : ℕ) (books : ℕ → State)
+are_from : (P : Record → Type 0) (places : List LinePlace) (bs : List State) (n : ℕ) (books : ℕ → State)
     → ((k : ℕ) → k < length bs → books (k + n) ≡ slice_index_or bs k no_book) → AllByRecursion IsSound bs
-    → AllByRecursion (λ b. All P b.records) bs → AreFrom P n bs books
-are_from P [] n books are sound fit = tt
-are_from P (b ∷ bs) n books are sound fit = (
+    → AllByRecursion (λ b. All P (new_records places b)) bs → AreFrom P places n bs books
+are_from P places [] n books are sound fit = tt
+are_from P places (b ∷ bs) n books are sound fit = (
   ap books (omega arith) ∙ are 0 (omega arith),
   sound.0,
   fit.0,
-  are_from P bs (suc n) books (λ k within. ap books (omega arith) ∙ are (suc k) (omega arith)) sound.1 fit.1,
+  are_from P places bs (suc n) books (λ k within. ap books (omega arith) ∙ are (suc k) (omega arith)) sound.1 fit.1,
 )
+
+-- from that tenant on the places are the same
+abbrev SameFrom : ℕ → List LinePlace → List LinePlace → Type 0
+SameFrom n places others = (k : ℕ) (d : LinePlace) → n ≤ k → slice_index_or places k d ≡ slice_index_or others k d
+
+-- a book has the number of its tenant
+number_is : (t : ℕ) (s u b : State) → IsFrom t s u → u ≡ b → b.opening.tenant ≡ t
+number_is t s u b from is = ap (λ (x : State). x.opening.tenant) (sym is) ∙ ap (λ (o : Opening). o.tenant) from.grown.opening ∙ from.number
+
+-- a book's records without a line are the same by places that are the same from its tenant on
+same_new : (n : ℕ) (places others : List LinePlace) (b : State) → SameFrom n places others → b.opening.tenant ≡ n
+    → new_records places b ≡ new_records others b
+same_new n places others b same number =
+    ap (λ (p : LinePlace). drop (place_in p b.opening.period).number b.records) (same b.opening.tenant (place_of b) (omega arith))
+
+-- the place of one tenant was set
+same_after_one : (n next : ℕ) (places others : List LinePlace) (t : ℕ) (p : LinePlace) → SameFrom n places others → t ≡ n → suc n ≡ next
+    → SameFrom next (slice_set places t p) others
+same_after_one n next places others t p same is step k d h =
+    let other : k ≢ t = λ e. omega arith in
+    get_or-set_other places t k p d other ∙ same k d (omega arith)
 
 get_middle : (done rest : List State) (s : State) → slice_get (done ++ s ∷ rest) (length done) ≡ Some s
 get_middle [] rest s = refl
@@ -268,18 +290,24 @@ set_middle : (done rest : List State) (s u : State) → slice_set (done ++ s ∷
 set_middle [] rest s u = refl
 set_middle (x ∷ done) rest s u = ap (λ (xs : List State). x ∷ xs) (set_middle done rest s u)
 
-all_noted : {D : Type 0} (P : Record → Type 0) (seen : D → List ℕ) (sum : List ℕ) (begun : List State) (books : ℕ → State) (bs rest done : List State) (j : Written D)
-    → length bs ≡ length rest → AreFrom P (length done) bs books → Along P seen sum begun books j (done ++ rest)
+all_noted : {D : Type 0} (P : Record → Type 0) (seen : D → List ℕ) (sum : List ℕ) (begun : List State) (books : ℕ → State) (first : List LinePlace)
+    (bs rest done : List State) (j : Written D) → length bs ≡ length rest → AreFrom P first (length done) bs books
+    → SameFrom (length done) j.places first → Along P seen sum begun books j (done ++ rest)
     → Along P seen sum begun books (fold noted j bs) (done ++ bs)
-all_noted P seen sum begun books [] [] done j same are far = far
-all_noted P seen sum begun books [] (s ∷ rest) done j same are far = absurd (omega arith)
-all_noted P seen sum begun books (b ∷ bs) [] done j same are far = absurd (omega arith)
-all_noted P seen sum begun books (b ∷ bs) (s ∷ rest) done j same are far =
-    let one = note_book P seen sum begun books j (done ++ s ∷ rest) (length done) s b far (get_middle done rest s) are.0 are.1 are.2 in
+all_noted P seen sum begun books first [] [] done j same are places far = far
+all_noted P seen sum begun books first [] (s ∷ rest) done j same are places far = absurd (omega arith)
+all_noted P seen sum begun books first (b ∷ bs) [] done j same are places far = absurd (omega arith)
+all_noted P seen sum begun books first (b ∷ bs) (s ∷ rest) done j same are places far =
+    let own : slice_get (done ++ s ∷ rest) (length done) ≡ Some s = get_middle done rest s in
+    let number : b.opening.tenant ≡ length done = number_is (length done) s (books (length done)) b (far.from (length done) s own) are.0 in
+    let fit : All P (new_records j.places b) =
+    subst (λ (rs : List Record). All P rs) (sym (same_new (length done) j.places first b places number)) are.2 in
+    let one = note_book P seen sum begun books j (done ++ s ∷ rest) (length done) s b far own are.0 are.1 fit in
     let next : suc (length done) ≡ length (done ++ b ∷ []) = omega (arith, length-append done (b ∷ [])) in
     subst (λ (xs : List State). Along P seen sum begun books (fold noted (noted j b) bs) xs) (append_assoc done (b ∷ []) bs)
-    (all_noted P seen sum begun books bs rest (done ++ b ∷ []) (noted j b) (omega arith)
-    (subst (λ n. AreFrom P n bs books) next are.3)
+    (all_noted P seen sum begun books first bs rest (done ++ b ∷ []) (noted j b) (omega arith)
+    (subst (λ n. AreFrom P first n bs books) next are.3)
+    (same_after_one (length done) (length (done ++ b ∷ [])) j.places first b.opening.tenant (place_of b) places number next)
     (subst (λ (xs : List State). Along P seen sum begun books (noted j b) xs) (set_middle done rest s b) one))
 
 noted_spoilt : {D : Type 0} (bs : List State) (j : Written D) → (fold noted j bs).spoilt ≡ j.spoilt
@@ -292,11 +320,12 @@ keep P seen sum begun w j after keeps (inl spoilt) =
     absurd (cc (sym spoilt ∙ sym (noted_spoilt keeps.books j) ∙ keeps.committed.was_sound))
 keep P seen sum begun w j after keeps (inr far) =
     let many : length keeps.books ≡ length far.0 = keeps.all ∙ far.1.as_many ∙ sym far.1.many in
-    let are : AreFrom P 0 keeps.books (books_in w) =
-    are_from P keeps.books 0 (books_in w) (λ k within. ap (books_in w) (omega arith) ∙ keeps.are k within)
-    (recursion_from_All IsSound keeps.books keeps.sound) (recursion_from_All (λ b. All P b.records) keeps.books keeps.records) in
+    let are : AreFrom P j.places 0 keeps.books (books_in w) =
+    are_from P j.places keeps.books 0 (books_in w) (λ k within. ap (books_in w) (omega arith) ∙ keeps.are k within)
+    (recursion_from_All IsSound keeps.books keeps.sound)
+    (recursion_from_All (λ b. All P (new_records j.places b)) keeps.books keeps.records) in
     commit P seen sum begun (books_in w) (fold noted j keeps.books) after keeps.books
-    (all_noted P seen sum begun (books_in w) keeps.books far.0 [] j many are far.1) keeps.committed keeps.whole
+    (all_noted P seen sum begun (books_in w) j.places keeps.books far.0 [] j many are (λ k d h. refl) far.1) keeps.committed keeps.whole
 
 -- ---- all of it
 

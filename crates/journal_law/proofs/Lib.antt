@@ -1,3 +1,4 @@
+pub mod Crashes
 pub mod Events
 pub mod Following
 pub mod Fronts

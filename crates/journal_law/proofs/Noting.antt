@@ -8,7 +8,7 @@ use Rattle.std.proofs.lemmas.Bool.Decides.{eqb_tells}
 use Rattle.std.proofs.lemmas.List.{length-append, length-set, map-append}
 use Rattle.std.proofs.lemmas.List.Elements.{recursion_from_All}
 use Rattle.std.proofs.lemmas.Option.{get_or_from_slice_get, same_Some}
-use Rattle.book_journal.specs.Written.{IsCommitted, Written, closed_state, commit_text, lines_from, lines_of_new, noted, place_for, place_in}
+use Rattle.book_journal.specs.Written.{IsCommitted, Written, closed_state, commit_text, lines_from, lines_of_new, new_records, noted, place_for, place_in}
 use Rattle.book_log.specs.Lines.{place_of}
 use Rattle.book_log.specs.Sums.{sum_line, summed}
 use Rattle.book_log.specs.Written.{IsPlace}
@@ -70,17 +70,27 @@ same_place n p is = rw (eq-eqb p.period n is) refl
 
 -- ---- what is noted
 
+-- where the first record without a line is, of a book that has grown from a state
+place_is : (places : List LinePlace) (t : ℕ) (s u : State) → IsPlaced places t s → s.opening.tenant ≡ t → u.opening ≡ s.opening
+    → place_for places u ≡ place_of s
+place_is places t s u at number same =
+    let tenant : u.opening.tenant ≡ t = ap (λ (o : Opening). o.tenant) same ∙ number in
+    let kept : slice_get places u.opening.tenant ≡ Some at.place = ap (slice_get places) tenant ∙ at.kept in
+    ap (λ (p : LinePlace). place_in p u.opening.period) (get_or_from_slice_get places u.opening.tenant at.place (place_of u) kept)
+    ∙ ap (λ (o : Opening). place_in at.place o.period) same ∙ at.is
+
+-- its records without a line are those that it got since
+more_are_new : (places : List LinePlace) (t : ℕ) (s u : State) (more : List Record) → IsPlaced places t s → s.opening.tenant ≡ t
+    → u.opening ≡ s.opening → u.records ≡ s.records ++ more → new_records places u ≡ more
+more_are_new places t s u more at number same longer =
+    ap (λ (p : LinePlace). drop p.number u.records) (place_is places t s u at number same)
+    ∙ ap (λ (rs : List Record). drop (length s.records) rs) longer ∙ drop-append_seam s.records more
+
 new_lines : (places : List LinePlace) (t : ℕ) (s u : State) (more : List Record) → IsPlaced places t s → s.opening.tenant ≡ t
     → u.opening ≡ s.opening → u.records ≡ s.records ++ more → lines_of_new places u ≡ lines_from (place_of s) more
 new_lines places t s u more at number same longer =
-    let tenant : u.opening.tenant ≡ t = ap (λ (o : Opening). o.tenant) same ∙ number in
-    let kept : slice_get places u.opening.tenant ≡ Some at.place = ap (slice_get places) tenant ∙ at.kept in
-    let place : place_for places u ≡ place_of s =
-    ap (λ (p : LinePlace). place_in p u.opening.period) (get_or_from_slice_get places u.opening.tenant at.place (place_of u) kept)
-    ∙ ap (λ (o : Opening). place_in at.place o.period) same ∙ at.is in
-    ap (λ (p : LinePlace). lines_from p (drop p.number u.records)) place
-    ∙ ap (λ (rs : List Record). lines_from (place_of s) (drop (length s.records) rs)) longer
-    ∙ ap (lines_from (place_of s)) (drop-append_seam s.records more)
+    ap (λ (p : LinePlace). lines_from p (new_records places u)) (place_is places t s u at number same)
+    ∙ ap (lines_from (place_of s)) (more_are_new places t s u more at number same longer)
 
 -- the book of that number is such, and the others are the same
 abbrev pub SameButFor : ℕ → (ℕ → State) → (ℕ → State) → Type 0
@@ -150,9 +160,8 @@ pub all_in_two : {X : Type 0} (P : X → Type 0) (xs ys : List X) → AllByRecur
 all_in_two P [] ys all = (tt, all)
 all_in_two P (x ∷ xs) ys all = let rest = all_in_two P xs ys all.1 in ((all.0, rest.0), rest.1)
 
-fits_more : (P : Record → Type 0) (few more all : List Record) → all ≡ few ++ more → All P all → AllByRecursion P more
-fits_more P few more all is fit =
-    (all_in_two P few more (recursion_from_All P (few ++ more) (subst (λ (rs : List Record). All P rs) is fit))).1
+fits_more : (P : Record → Type 0) (all more : List Record) → all ≡ more → All P all → AllByRecursion P more
+fits_more P all more is fit = recursion_from_All P more (subst (λ (rs : List Record). All P rs) is fit)
 
 -- a book within its limits has a place for its next record
 place_within : (s : State) → IsSound s → IsPlace (place_of s)
@@ -177,7 +186,8 @@ place_in_period s now period = record {
 
 -- the book of a tenant is noted
 pub note_book : {D : Type 0} (P : Record → Type 0) (seen : D → List ℕ) (sum : List ℕ) (begun : List State) (books : ℕ → State) (j : Written D) (last : List State)
-    (t : ℕ) (s u : State) → Along P seen sum begun books j last → slice_get last t ≡ Some s → books t ≡ u → IsSound u → All P u.records
+    (t : ℕ) (s u : State) → Along P seen sum begun books j last → slice_get last t ≡ Some s → books t ≡ u → IsSound u
+    → All P (new_records j.places u)
     → Along P seen sum begun books (noted j u) (slice_set last t u)
 note_book P seen sum begun books j last t s u far own is sound fit =
     let was = far.from t s own in
@@ -185,8 +195,10 @@ note_book P seen sum begun books j last t s u far own is sound fit =
     let leads : LeadWithin s was.more u = led_on s u was.more sound.replay grown.opening grown.records in
     let number : u.opening.tenant ≡ t = ap (λ (o : Opening). o.tenant) grown.opening ∙ was.number in
     let lines_are = new_lines j.places t s u was.more (far.placed t s own) was.number grown.opening grown.records in
+    let fits : AllByRecursion P was.more =
+    fits_more P (new_records j.places u) was.more (more_are_new j.places t s u was.more (far.placed t s own) was.number grown.opening grown.records) fit in
     let added : AddLines P last t (lines_of_new j.places u) u =
-    subst (λ (l : List ℕ). AddLines P last t l u) (sym lines_are) (grown_lines P was.more last t s u own was.number grown.running leads (place_within u sound) (fits_more P s.records was.more u.records grown.records fit)) in
+    subst (λ (l : List ℕ). AddLines P last t l u) (sym lines_are) (grown_lines P was.more last t s u own was.number grown.running leads (place_within u sound) fits) in
     note P seen sum begun books books j last t s u u far own added number number (same_place u.opening.period (place_of u) refl) (sym is) (λ k other. refl)
 
 -- the next period is not that period
@@ -200,7 +212,7 @@ next_place_is s rs clock =
 -- a period that a roll closed is noted
 pub note_closed : {D : Type 0} (P : Record → Type 0) (seen : D → List ℕ) (sum : List ℕ) (begun : List State) (books after : ℕ → State) (j : Written D) (last : List State)
     (t now : ℕ) (s : State) → Along P seen sum begun books j last → slice_get last t ≡ Some s → IsPeriod (closed (books t) now)
-    → All P (closed (books t) now).records
+    → All P (new_records j.places (closed_state (closed (books t) now)))
     → after t ≡ opened (next_opening (books t) (max (clock_of (books t)) now)) → SameButFor t books after
     → Along P seen sum begun after (noted j (closed_state (closed (books t) now)))
     (slice_set last t (opened (next_opening (books t) (max (clock_of (books t)) now))))
@@ -219,7 +231,8 @@ note_closed P seen sum begun books after j last t now s far own period fit is ot
     let first : LeadWithin s was.more b = subst (λ (x : State). LeadWithin s was.more x) same two.1 in
     let made : outcome_of b roll.entry ≡ Some roll.outcome =
     subst (λ (x : State). outcome_of x roll.entry ≡ Some roll.outcome) same two.2.0 in
-    let fits = all_in_two P was.more (roll ∷ []) (fits_more P s.records (was.more ++ roll ∷ []) u.records longer fit) in
+    let fits = all_in_two P was.more (roll ∷ []) (fits_more P (new_records j.places u) (was.more ++ roll ∷ [])
+    (more_are_new j.places t s u (was.more ++ roll ∷ []) (far.placed t s own) was.number was.grown.opening longer) fit) in
     let number : b.opening.tenant ≡ t = ap (λ (o : Opening). o.tenant) was.grown.opening ∙ was.number in
     let lines_are : lines_of_new j.places u ≡ lines_from (place_of s) (was.more ++ roll ∷ []) =
     new_lines j.places t s u (was.more ++ roll ∷ []) (far.placed t s own) was.number was.grown.opening longer in

@@ -1,7 +1,7 @@
 -- A journal that is kept of the books of tenants, and the lines that are in it.
 use Rattle.std.specs.Prelude.{ℕ, ◌≡◌, ◌⊎◌, ◌<◌, true, false, List, [], ◌∷◌, ◌++◌, All, fold, length, map, slice_index_or, slice_set, Some}
 use Rattle.std.specs.List.{slice_get}
-use Rattle.book_journal.specs.Written.{IsCommitted, Written, closed_state, commit_text, first_place, noted}
+use Rattle.book_journal.specs.Written.{IsCommitted, Written, closed_state, commit_text, first_place, new_records, noted}
 use Rattle.book_log.specs.Base.{states_of}
 use Rattle.book_log.specs.Lines.{log_line, place_of}
 use Rattle.book_log.specs.Sums.{summed}
@@ -25,24 +25,24 @@ use Rattle.tenant_core.specs.declared.terms.TenantTerms.{TenantTerms}
 abbrev pub AreBooks : World → List State → Type 0
 AreBooks world books = (t : ℕ) → t < length books → (world.tenants t).book ≡ slice_index_or books t no_book
 
--- a closed period was noted, or the journal is spoilt; P holds of its records
+-- a closed period was noted, or the journal is spoilt; P holds of each record that had no line
 pub record JournalTakes {D : Type 0} (P : Record → Type 0) (before : Written D) (p : PeriodParts) (after : Written D) : Type 0 where
   pub noted : (after ≡ noted before (closed_state p)) ⊎ (after.spoilt ≡ true)
   pub period : IsPeriod p
-  pub records : All P p.records
+  pub records : All P (new_records before.places (closed_state p))
 
--- the books of all tenants were noted, and then committed; what was written is whole lines; P holds of the books' records
+-- the books of all tenants were noted, and then committed; what was written is whole lines; P holds of each record that had no line
 pub record JournalKeeps {D : Type 0} (P : Record → Type 0) (seen : D → List ℕ) (before : Written D) (world : World) (after : Written D)
     : Type 0 where
   pub books : List State
   pub are : AreBooks world books
   pub all : length books ≡ length before.places
   pub sound : All IsSound books
-  pub records : All (λ b. All P b.records) books
+  pub records : All (λ b. All P (new_records before.places b)) books
   pub committed : IsCommitted seen (fold noted before books) after
   pub whole : IsLines (commit_text (fold noted before books).sum (fold noted before books).pending)
 
--- the recorder keeps that journal; P holds of all records
+-- the recorder keeps that journal; P holds of each record when it is new
 pub record KeepsJournal {D K : Type 0} (P : Record → Type 0) (seen : D → List ℕ) (R : Recording K) (journal : K → Written D) : Type 0 where
   pub takes : (before : K) (p : PeriodParts) (after : K) → R.takes before p after → JournalTakes P (journal before) p (journal after)
   pub keeps : (before : K) (world : World) (after : K) → R.keeps before world after

@@ -6,8 +6,10 @@ ghost use Rattle.book_log.specs.declared.base.TenantStart.{TenantStart};
 ghost use Rattle.book_log.specs.Written.{IsLoggable, IsTextWritten};
 ghost use Rattle.floor_core.specs.World.{Event, FitsIn, Tenant, World, effect_of, world_at_start};
 ghost use Rattle.floor_core.specs.declared.step.Step.{Step};
+ghost use Rattle.journal_law.specs.Crashes.{AddsToLog, HasAdded};
 ghost use Rattle.journal_law.specs.Growth.{GoesOnOrRolls};
 ghost use Rattle.journal_law.specs.Kept.{AreFirstStarts, HasAllRecords, HasAllWritten, HaveBegun, IsNewJournal, KeepsJournal};
+ghost use Rattle.line_log.specs.File.{Only};
 ghost use Rattle.line_log.specs.Log.{lines, recovered};
 ghost use Rattle.replay_text.specs.Recorded.{HasRecorded, by_recorder};
 ghost use Rattle.replay_text.specs.Script.{steps_of_script};
@@ -48,6 +50,15 @@ pub fn kept_log_is_written<D: LogFile, K: PeriodKeeper + Recorder>()
     floor_core::laws::one_list_of_outputs();
     floor_core::laws::outputs_are_there();
 }
+
+/// A recorder adds records to the file of a log, and leaves it as it is otherwise. Whenever a crash comes while steps are done, it
+/// leaves the records that were there at first, and the first of those that were added.
+pub fn crashes_leave_the_first_records<D: LogFile, K: PeriodKeeper + Recorder>()
+    ensures { (file : K → D) (world left : World) (steps : List Step) (first last : K)
+        → AddsToLog D.seen D.moment D.left_since (by_recorder K.takes K.keeps) file
+        → Only (D.seen (file first)) (D.may_leave (file first)) → HasRecorded (by_recorder K.takes K.keeps) world steps left first last
+        → HasAdded D.seen D.moment D.left_since (file first) (file last) }
+{}
 
 /// A front of the records of a written log, as a crash leaves it, is a written log.
 pub fn fronts_are_written()
