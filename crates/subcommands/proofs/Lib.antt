@@ -1,1 +1,3 @@
 pub mod AllKept
+pub mod LogKept
+pub mod Zeros
