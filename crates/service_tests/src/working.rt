@@ -6,6 +6,7 @@ ghost use Rattle.books_shared.specs.Traced.{openings_of};
 mod audits;
 mod commands;
 mod locks;
+mod openings;
 mod packets;
 mod places;
 mod seats;
